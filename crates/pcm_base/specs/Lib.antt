@@ -1,0 +1,10 @@
+pub mod Arithmetic
+pub mod Causes
+pub mod Cells
+pub mod Edits
+pub mod Form
+pub mod History
+pub mod Run
+pub mod State
+pub mod Step
+pub mod Tests

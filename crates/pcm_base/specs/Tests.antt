@@ -1,0 +1,97 @@
+-- What refuses a call: its own tests in their order, and then the counters. The first test that fails is the reason.
+use Rattle.std.specs.Prelude.{ℕ, ◌+◌, ◌^◌, nat_lt, nat_le, ◌==◌, ◌&&◌, not, List, [], ◌∷◌, length, Bool, true, false, Option, Some, None, max}
+use Rattle.pcm_base.specs.declared.command.Command.{Command}
+use Rattle.pcm_base.specs.declared.command.Command.TheVariants as command
+use Rattle.pcm_base.specs.declared.command.Call.{Call}
+use Rattle.pcm_base.specs.declared.command.Call.TheVariants as call
+use Rattle.pcm_base.specs.declared.refusal.Refusal.{Refusal}
+use Rattle.pcm_base.specs.declared.refusal.Refusal.TheVariants.{NoTrack, BadRange, TrackLimit, LengthLimit, NothingToUndo, NothingToRedo, SpaceSpent}
+use Rattle.pcm_base.specs.Cells.{tracks_from, cells_at}
+use Rattle.pcm_base.specs.State.{State, current}
+
+-- the first of two refusals
+infixr 6 ◌otherwise◌
+abbrev pub ◌otherwise◌ : Option Refusal → Option Refusal → Option Refusal
+(Some r) otherwise other = Some r
+None otherwise other = other
+
+abbrev pub refused_if : Bool → Refusal → Option Refusal
+refused_if true r = Some r
+refused_if false r = None
+
+abbrev pub is_empty : {A : Type 0} → List A → Bool
+is_empty [] = true
+is_empty (x ∷ xs) = false
+
+-- no track of this id stands in the current project
+abbrev pub no_track : State → ℕ → Option Refusal
+no_track s id = refused_if (is_empty (tracks_from id (current s))) (NoTrack id)
+
+-- a range is valid where FROM < TO ≤ L
+abbrev pub bad_range : ℕ → ℕ → ℕ → Option Refusal
+bad_range from to len = refused_if (not (nat_lt from to && nat_le to len)) BadRange
+
+-- a range to be shown is valid where FROM < TO ≤ FROM + 4096
+abbrev pub bad_view : ℕ → ℕ → Option Refusal
+bad_view from to = bad_range from to (from + 4096)
+
+-- more tracks than a project holds, after so many new ones
+abbrev pub track_limit : State → ℕ → Option Refusal
+track_limit s n = refused_if (nat_lt 64 (length (current s) + n)) TrackLimit
+
+-- the first length beyond 2 ^ 32 cells
+abbrev pub length_limit : List ℕ → Option Refusal
+length_limit [] = None
+length_limit (len ∷ lens) = (refused_if (nat_lt (2 ^ 32) len) (LengthLimit len)) otherwise (length_limit lens)
+
+-- what n cells that are inserted at a place make of a length, before the gaps at the end are dropped
+abbrev pub inserted_length : ℕ → ℕ → ℕ → ℕ
+inserted_length at n len = max len at + n
+
+-- a range of one track
+abbrev pub range_tests : State → ℕ → ℕ → ℕ → Option Refusal
+range_tests s id from to = (no_track s id) otherwise (bad_range from to (length (cells_at id (current s))))
+
+-- n cells at a place of one track
+abbrev pub insert_tests : State → ℕ → ℕ → ℕ → Option Refusal
+insert_tests s id at n =
+    (no_track s id) otherwise (length_limit (inserted_length at n (length (cells_at id (current s))) ∷ []))
+
+-- the own tests of a line
+abbrev pub own_tests : State → Command → Option Refusal
+own_tests s command.Track = track_limit s 1
+own_tests s (command.Put id at samples) = insert_tests s id at (length samples)
+own_tests s (command.Delete id from to) = range_tests s id from to
+own_tests s command.Undo = refused_if (s.history.cursor == 0) NothingToUndo
+own_tests s command.Redo = refused_if (s.history.cursor + 1 == length s.history.points) NothingToRedo
+own_tests s (command.Show id from to) = (no_track s id) otherwise (bad_view from to)
+
+-- a counter has no room for what is needed of it
+abbrev pub no_room : ℕ → ℕ → Option Refusal
+no_room have need = refused_if (nat_lt (2 ^ 62) (have + need)) (SpaceSpent have need)
+
+-- how many track ids a line needs
+abbrev pub tracks_needed : Command → ℕ
+tracks_needed command.Track = 1
+tracks_needed (command.Put id at samples) = 0
+tracks_needed (command.Delete id from to) = 0
+tracks_needed command.Undo = 0
+tracks_needed command.Redo = 0
+tracks_needed (command.Show id from to) = 0
+
+-- how many commit numbers a line needs: each but those that only look is a commit
+abbrev pub commits_needed : Command → ℕ
+commits_needed command.Track = 1
+commits_needed (command.Put id at samples) = 1
+commits_needed (command.Delete id from to) = 1
+commits_needed command.Undo = 1
+commits_needed command.Redo = 1
+commits_needed (command.Show id from to) = 0
+
+-- the counters, in the order in which they are tested
+abbrev pub space_tests : State → Command → Option Refusal
+space_tests s c = (no_room s.next_track (tracks_needed c)) otherwise (no_room s.commit (commits_needed c))
+
+-- all that refuses a call, want of memory aside
+abbrev pub tests_of : State → Call → Option Refusal
+tests_of s (call.Line c) = (own_tests s c) otherwise (space_tests s c)

@@ -1,0 +1,21 @@
+// What a line is answered.
+use super::lists::CellList;
+use super::refusal::Refusal;
+
+/// What stands in an answer beside its commit number.
+#[derive(Debug, Drop)]
+pub enum Reply {
+    /// The line was carried out.
+    Done,
+    /// The cells that were asked for.
+    Cells { cells: CellList },
+    /// The line was refused, and has changed nothing.
+    Refused { reason: Refusal },
+}
+
+/// An answer: the commit number after the line, and the reply.
+#[derive(Debug, Drop)]
+pub struct Answer {
+    pub commit: u64,
+    pub reply: Reply,
+}

@@ -1,0 +1,38 @@
+// What the editor is asked for.
+use super::lists::Samples;
+
+/// A line of the script. Places and lengths are counted in cells, from 0; a range has its first cell and not its last.
+#[derive(Debug, Drop)]
+pub enum Command {
+    /// Adds an empty track with the next id.
+    Track,
+    /// Inserts samples. Beyond the track's end the space between is filled with gaps.
+    Put {
+        track: u64,
+        at: u64,
+        samples: Samples,
+    },
+    /// Takes a range out, so that what is behind it moves up.
+    Delete {
+        track: u64,
+        from: u64,
+        to: u64,
+    },
+    /// Goes back to the point before.
+    Undo,
+    /// Goes on to the point that was undone last.
+    Redo,
+    /// Tells the cells of a range, none beyond the track's end.
+    Show {
+        track: u64,
+        from: u64,
+        to: u64,
+    },
+}
+
+/// What one turn may ask of an editor.
+#[derive(Debug, Drop)]
+pub enum Call {
+    /// A line of the script.
+    Line { command: Command },
+}

@@ -1,0 +1,22 @@
+//! The types that the crates of the editor share, its exact arithmetic on samples, and in `specs/` the model
+//! that every editor is proved against: cells and tracks, the edits, the history, the state, and the step.
+//!
+//! The layers above use the types, the three formulas and the definitions. No state is kept here and nothing
+//! is carried out: what does that is `plain_editor`.
+#![tactic(auto)]
+
+mod answer;
+mod arithmetic;
+mod command;
+mod failed;
+mod lists;
+mod refusal;
+mod sound;
+
+pub use answer::{Answer, Reply};
+pub use arithmetic::{clamped, isqrt, scaled};
+pub use command::{Call, Command};
+pub use failed::{Failed, NoMemory};
+pub use lists::{CellList, Numbers, Samples};
+pub use refusal::Refusal;
+pub use sound::{Cell, Side};

@@ -1,0 +1,96 @@
+// Lists that commands, answers and devices carry. Contracts see each as the list of its members.
+ghost use Rattle.std.specs.Prelude.{◌≡◌};
+
+use super::sound::Cell;
+use std::marker::Model;
+
+/// The samples of a command, in order.
+#[derive(Debug, Drop)]
+pub struct Samples {
+    items: Vec<i16>,
+}
+
+impl Model for Samples {
+    ghost use Rattle.std.specs.Prelude.{List, ℤ};
+
+    ghost Value = { List ℤ };
+
+    ghost view = { λ s. s.items.items };
+}
+
+impl Samples {
+    /// The samples of a vector, which is taken over as it is.
+    pub fn new(items: Vec<i16>) -> Samples
+        ensures { result ≡ items.items }
+    {
+        Samples { items }
+    }
+
+    /// The samples as a slice.
+    pub fn as_slice(&self) -> &[i16]
+        ensures { result.now ≡ self.now }
+    {
+        self.items.as_slice()
+    }
+}
+
+/// The cells of an answer, in order.
+#[derive(Debug, Drop)]
+pub struct CellList {
+    items: Vec<Cell>,
+}
+
+impl Model for CellList {
+    ghost use Rattle.std.specs.Prelude.{List};
+    ghost use Rattle.pcm_base.specs.declared.sound.Cell.{Cell};
+
+    ghost Value = { List Cell };
+
+    ghost view = { λ s. s.items.items };
+}
+
+impl CellList {
+    /// The cells of a vector, which is taken over as it is.
+    pub fn new(items: Vec<Cell>) -> CellList
+        ensures { result ≡ items.items }
+    {
+        CellList { items }
+    }
+
+    /// The cells as a slice.
+    pub fn as_slice(&self) -> &[Cell]
+        ensures { result.now ≡ self.now }
+    {
+        self.items.as_slice()
+    }
+}
+
+/// Numbers, in order: of the calls of a device that are to fail, or of commits.
+#[derive(Debug, Drop)]
+pub struct Numbers {
+    items: Vec<u64>,
+}
+
+impl Model for Numbers {
+    ghost use Rattle.std.specs.Prelude.{List, ℕ};
+
+    ghost Value = { List ℕ };
+
+    ghost view = { λ n. n.items.items };
+}
+
+impl Numbers {
+    /// The numbers of a vector, which is taken over as it is.
+    pub fn new(items: Vec<u64>) -> Numbers
+        ensures { result ≡ items.items }
+    {
+        Numbers { items }
+    }
+
+    /// The numbers as a slice.
+    pub fn as_slice(&self) -> &[u64]
+        ensures { result.now ≡ self.now }
+    {
+        self.items.as_slice()
+    }
+}

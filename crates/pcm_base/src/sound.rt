@@ -1,0 +1,18 @@
+// What a track is made of, and where it is heard.
+
+/// What a track has at a place: a gap, or a sample of 16 bits.
+#[derive(Clone, Copy, Debug, PartialEq, Eq)]
+pub enum Cell {
+    /// Nothing is there. It is heard as silence, but is not the sample 0.
+    Gap,
+    /// A sample, from -32,768 to 32,767.
+    Sample(i16),
+}
+
+/// The sides of the mix on which a track is heard.
+#[derive(Clone, Copy, Debug, PartialEq, Eq)]
+pub enum Side {
+    Both,
+    Left,
+    Right,
+}

@@ -1,0 +1,94 @@
+-- Trimming, and the place of a track.
+use Rattle.std.proofs.Common.{◌≡◌, ◌==◌, ℕ, zero, suc, ℤ, ◌+◌, ◌-◌, ◌<◌, ◌≤◌, min, List, [], ◌∷◌, ◌++◌, length, take, drop, get_or, replicate, true, inl, inr, ◌⊎◌, subst, refl, sym, ap, ◌∙◌, arith}
+use Rattle.std.proofs.Math.Seq.{take-append_seam}
+use Rattle.std.proofs.lemmas.Bool.{cases_lt}
+use Rattle.std.proofs.lemmas.Bool.Decides.{nat_tests}
+use Rattle.std.proofs.lemmas.List.{append-nil, drop_more, take-map, take_all, drop_all, length-append, length-replicate, length-map, take_more, length_push, length-take-le}
+use Rattle.pcm_base.specs.declared.sound.Cell.{Cell}
+use Rattle.pcm_base.specs.declared.sound.Cell.TheVariants.{Gap, Sample}
+use Rattle.pcm_base.specs.Cells.{trimmed, joined, continued, tracks_from, run_edited}
+use Rattle.plain_editor.specs.declared.tracks.PlainTrack.{PlainTrack}
+use Rattle.plain_editor.specs.View.{track_of, project_of}
+use Rattle.plain_editor.specs.Places.{Place}
+
+-- a gap at the end goes
+pub trimmed-gap : (xs : List Cell) → trimmed (xs ++ Gap ∷ []) ≡ trimmed xs
+trimmed-gap [] = refl
+trimmed-gap (x ∷ xs) = ap (joined x) (trimmed-gap xs)
+
+-- a sample at the end stays, with all before it
+pub trimmed-sample : (xs : List Cell) (s : ℤ) → trimmed (xs ++ Sample s ∷ []) ≡ xs ++ Sample s ∷ []
+trimmed-sample [] s = refl
+trimmed-sample (x ∷ xs) s = rw (trimmed-sample xs s) (kept x xs)
+  where
+    kept : (y : Cell) (ys : List Cell) → joined y (ys ++ Sample s ∷ []) ≡ y ∷ ys ++ Sample s ∷ []
+    kept Gap [] = refl
+    kept Gap (z ∷ zs) = refl
+    kept (Sample r) ys = refl
+
+drop_project : (i : ℕ) (tracks : List PlainTrack) → drop i (project_of tracks) ≡ project_of (drop i tracks)
+drop_project zero tracks = refl
+drop_project (suc i) [] = refl
+drop_project (suc i) (t ∷ ts) = drop_project i ts
+
+-- the first track with an id is here
+pub found_here : (tracks : List PlainTrack) (i id : ℕ) (t : PlainTrack) → i < length tracks → t ≡ get_or tracks i t → t.id ≡ id →
+    tracks_from id (project_of tracks) ≡ tracks_from id (project_of (drop i tracks)) →
+    ((fs : List (List Cell → List Cell)) → run_edited id fs (project_of tracks) ≡ project_of (take i tracks) ++ run_edited id fs (project_of (drop i tracks))) →
+    Place id (project_of tracks) i
+found_here tracks i id t below at is from edits =
+    let here : drop i tracks ≡ t ∷ drop (i + 1) tracks = drop_more tracks i t below ∙ ap (λ x. x ∷ drop (i + 1) tracks) (sym at) in
+    let same : (t.id == id) ≡ true = grind (arith, nat_tests) in
+    record {
+      within = omega (arith, length-map tracks track_of);
+      from = from ∙ rw (drop_project i tracks, here, same);
+      edits = λ fs. edits fs ∙ rw (take-map track_of i tracks, drop_project i tracks, here, same);
+    }
+
+last_split : (xs : List Cell) → 0 < length xs → xs ≡ take (length xs - 1) xs ++ get_or xs (length xs - 1) Gap ∷ []
+last_split xs h =
+    let below : length xs - 1 < length xs = omega arith in
+    let e : length xs - 1 + 1 ≡ length xs = omega arith in
+    let m = rw e at (take_more xs (length xs - 1) Gap below) in
+    sym (take_all (length xs) xs (omega arith)) ∙ m
+
+pub ends_in_sample : (xs : List Cell) (s : ℤ) → 0 < length xs → get_or xs (length xs - 1) Gap ≡ Sample s → trimmed xs ≡ xs
+ends_in_sample xs s h is =
+    let e = rw is at (last_split xs h) in
+    subst (λ (l : List Cell). trimmed l ≡ l) (sym e) (trimmed-sample (take (length xs - 1) xs) s)
+
+-- the cells of an insertion: those before the place, and gaps up to it
+pub insertion : (cells front : List Cell) (at len : ℕ) → front ≡ take (min at (length cells)) cells → len ≡ length front → take at front ++ replicate (at - len) Gap ≡ take at (continued at cells)
+insertion cells front at len is long = by (cases_lt (length cells) at)
+  where
+    by : ((length cells < at) ⊎ (at ≤ length cells)) → take at front ++ replicate (at - len) Gap ≡ take at (continued at cells)
+    by (inl past) =
+        let m : min at (length cells) ≡ length cells = omega arith in
+        let whole : front ≡ cells = is ∙ rw (m, take_all (length cells) cells (omega arith)) in
+        let n : len ≡ length cells = long ∙ ap length whole in
+        let l : length (cells ++ replicate (at - length cells) Gap) ≤ at = omega (arith, length-append cells (replicate (at - length cells) Gap), length-replicate (at - length cells) Gap) in
+        rw (whole, n, take_all at cells (omega arith), take_all at (cells ++ replicate (at - length cells) Gap) l)
+    by (inr within) =
+        let m : min at (length cells) ≡ at = omega arith in
+        let part : front ≡ take at cells = is ∙ ap (λ k. take k cells) m in
+        let n : len ≡ at = long ∙ ap length part ∙ length-take-le at cells within in
+        let z : at - length cells ≡ 0 = omega arith in
+        let y : at - at ≡ 0 = omega arith in
+        let same : take at (take at cells) ≡ take at cells = take_all at (take at cells) (omega (arith, length-take-le at cells within)) in
+        rw (part, n, y, z, same, append-nil (take at cells), append-nil cells)
+
+-- the cells behind an insertion
+pub behind : (cells : List Cell) (at : ℕ) → drop (min at (length cells)) cells ≡ drop at cells
+behind cells at = by (cases_lt (length cells) at)
+  where
+    by : ((length cells < at) ⊎ (at ≤ length cells)) → drop (min at (length cells)) cells ≡ drop at cells
+    by (inl past) =
+        let m : min at (length cells) ≡ length cells = omega arith in
+        rw m (drop_all (length cells) cells (omega arith) ∙ sym (drop_all at cells (omega arith)))
+    by (inr within) = let m : min at (length cells) ≡ at = omega arith in rw m refl
+
+pub trim_step : (xs front ys : List Cell) (n : ℕ) → xs ≡ front ++ Gap ∷ [] → n ≡ length xs → ys ≡ take (n - 1) xs → trimmed ys ≡ trimmed xs
+trim_step xs front ys n is long left =
+    let k : length (front ++ Gap ∷ []) ≡ length front + 1 = length_push front Gap in
+    let m : n - 1 ≡ length front = omega (arith, k, ap length is) in
+    rw (left, m, is, trimmed-gap front, take-append_seam front (Gap ∷ [])) refl

@@ -1,0 +1,5 @@
+pub mod Gathering
+pub mod Grammar
+pub mod Lines
+pub mod Text
+pub mod Words

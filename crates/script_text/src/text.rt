@@ -1,0 +1,112 @@
+// What is printed: each function adds the piece of text that its definition gives.
+ghost use Rattle.std.specs.Prelude.{◌≡◌, ◌∷◌, ◌++◌, flat_map, decimal};
+ghost use Rattle.pcm_base.specs.Causes.{HasCause};
+ghost use Rattle.edit_ports.specs.Told.{Writes};
+ghost use Rattle.script_text.specs.Gathering.{Adds, Counts};
+ghost use Rattle.script_text.specs.Text.{with_number, with_cell, cell_text, reason_text, reply_text, text_of, end_text};
+
+use super::gathered::Gathered;
+use edit_ports::Sink;
+use itoa::Buffer;
+use pcm_base::{Answer, Cell, Failed, Refusal, Reply};
+
+fn put_number<O: Sink>(text: &mut Gathered, out: &mut O, n: u64)
+    ensures bytes { Adds text.old (O.written out.old) text.new (O.written out.new) (with_number n) }
+    ensures cause { Counts text.old (O.fault_count out.old) text.new (O.fault_count out.new) }
+{
+    let mut buffer = Buffer::new();
+    text.put(out, b" ");
+    text.put(out, buffer.format(n).as_bytes());
+}
+
+fn put_cell<O: Sink>(text: &mut Gathered, out: &mut O, cell: Cell)
+    ensures bytes { Adds text.old (O.written out.old) text.new (O.written out.new) (with_cell cell) }
+    ensures cause { Counts text.old (O.fault_count out.old) text.new (O.fault_count out.new) }
+{
+    text.put(out, b" ");
+    match cell {
+        Cell::Gap => text.put(out, b"."),
+        Cell::Sample(s) => {
+            let mut buffer = Buffer::new();
+            text.put(out, buffer.format(s).as_bytes());
+        }
+    }
+}
+
+fn put_cells<O: Sink>(text: &mut Gathered, out: &mut O, cells: &[Cell])
+    ensures bytes { Adds text.old (O.written out.old) text.new (O.written out.new) (flat_map with_cell cells.now) }
+    ensures cause { Counts text.old (O.fault_count out.old) text.new (O.fault_count out.new) }
+{
+    for cell in cells {
+        put_cell(text, out, *cell);
+    }
+}
+
+// A word and a number.
+fn put_named<O: Sink>(text: &mut Gathered, out: &mut O, word: &[u8], n: u64)
+    ensures bytes { Adds text.old (O.written out.old) text.new (O.written out.new) (word.now ++ with_number n) }
+    ensures cause { Counts text.old (O.fault_count out.old) text.new (O.fault_count out.new) }
+{
+    text.put(out, word);
+    put_number(text, out, n);
+}
+
+fn put_reason<O: Sink>(text: &mut Gathered, out: &mut O, reason: &Refusal)
+    ensures bytes { Adds text.old (O.written out.old) text.new (O.written out.new) (reason_text reason.now) }
+    ensures cause { Counts text.old (O.fault_count out.old) text.new (O.fault_count out.new) }
+{
+    match reason {
+        Refusal::BadLine { column } => put_named(text, out, b"BadLine", *column),
+        Refusal::NoTrack { id } => put_named(text, out, b"NoTrack", *id),
+        Refusal::BadRange => text.put(out, b"BadRange"),
+        Refusal::TrackLimit => text.put(out, b"TrackLimit"),
+        Refusal::LengthLimit { len } => put_named(text, out, b"LengthLimit", *len),
+        Refusal::NothingToUndo => text.put(out, b"NothingToUndo"),
+        Refusal::NothingToRedo => text.put(out, b"NothingToRedo"),
+        Refusal::SpaceSpent { have, need } => {
+            put_named(text, out, b"SpaceSpent", *have);
+            put_number(text, out, *need);
+        }
+        Refusal::NoMemory => text.put(out, b"NoMemory"),
+    }
+}
+
+fn put_reply<O: Sink>(text: &mut Gathered, out: &mut O, commit: u64, reply: &Reply)
+    ensures bytes { Adds text.old (O.written out.old) text.new (O.written out.new) (reply_text commit reply.now) }
+    ensures cause { Counts text.old (O.fault_count out.old) text.new (O.fault_count out.new) }
+{
+    match reply {
+        Reply::Done => put_named(text, out, b"ok", commit),
+        Reply::Cells { cells } => {
+            put_named(text, out, b"cells", commit);
+            put_cells(text, out, cells.as_slice());
+        }
+        Reply::Refused { reason } => {
+            put_named(text, out, b"no", commit);
+            text.put(out, b" ");
+            put_reason(text, out, reason);
+        }
+    }
+}
+
+/// Writes the line of an answer, in pieces of up to 4,096 bytes. After a fault a part of it, from its front, is written.
+pub fn write_answer<O: Sink>(out: &mut O, answer: &Answer) -> Result<(), Failed>
+    ensures bytes { Writes result (O.written out.old) (O.written out.new) (text_of answer.now) }
+    ensures cause { HasCause (O.fault_count out.old) (O.fault_count out.new) result }
+{
+    let mut text = Gathered::new();
+    put_reply(&mut text, out, answer.commit, &answer.reply);
+    text.put(out, b"\n");
+    text.finish(out)
+}
+
+/// Writes the last line of a session, which tells its commit number. After a fault a part of it, from its front, is written.
+pub fn write_end<O: Sink>(out: &mut O, commit: u64) -> Result<(), Failed>
+    ensures bytes { Writes result (O.written out.old) (O.written out.new) (end_text commit) }
+    ensures cause { HasCause (O.fault_count out.old) (O.fault_count out.new) result }
+{
+    let mut text = Gathered::new();
+    put_named(&mut text, out, b"end", commit);
+    text.put(out, b"\n");
+    text.finish(out)
+}

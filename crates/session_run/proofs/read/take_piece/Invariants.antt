@@ -1,0 +1,17 @@
+-- The bytes of the piece so far stand behind those that were read before.
+use Rattle.std.proofs.Common.{◌≡◌, ◌≤◌, ◌-◌, ℕ, ◌++◌, List, Option, take, length}
+use Rattle.pcm_base.specs.State.{State}
+use Rattle.session_run.specs.Progress.{Going}
+use Rattle.session_run.proofs.read.take_piece.Given as goal
+
+abbrev pub invariant-loop-len : goal.invariant-loop-len
+invariant-loop-len g l = record {
+  bound : l.at ≤ length l.piece;
+  goes : (s : State) (start : Option (List ℕ)) (read : List ℕ) →
+      Going s (g.E.Editor.state l.fn.session.editor) start (g.O.Sink.written l.fn.out) l.fn.session.line l.fn.session.refused read →
+      Going s (g.E.Editor.state l.session.editor) start (g.O.Sink.written l.out) l.session.line l.session.refused (read ++ take l.at l.piece);
+  count : g.O.Sink.fault_count l.out ≡ g.O.Sink.fault_count l.fn.out;
+}
+
+abbrev pub decreases-loop-len : goal.decreases-loop-len
+decreases-loop-len g l = length l.piece - l.at
