@@ -1,4 +1,8 @@
-//! The text of the script: its lines, and the answers to them.
+//! The text of a script and of its answers: a line to its command by `parse`, an answer to its line by `write_answer`.
+//!
+//! The layer above uses that `parse` gives the command, or the column of the first bad word, that the grammar of
+//! `specs/Grammar.antt` says, and that what is written is the text of `specs/Text.antt`. Lines are cut out of the
+//! script by the layer above, and nothing is carried out here.
 #![tactic(auto)]
 
 ghost use Rattle.std.specs.Prelude.{◌≡◌, ◌<◌, MatchResult};
@@ -17,7 +21,9 @@ pub use words::is_silent;
 /// Why a line gives no command.
 #[derive(Clone, Copy, Debug, PartialEq, Eq)]
 pub enum LineFault {
+    /// It is not in the grammar: its first bad word begins in this column, counted from 1.
     BadLine { column: u64 },
+    /// There was no memory for its samples.
     NoMemory,
 }
 
