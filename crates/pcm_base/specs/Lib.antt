@@ -1,9 +1,11 @@
 pub mod Arithmetic
+pub mod Blocks
 pub mod Causes
 pub mod Cells
 pub mod Edits
 pub mod Form
 pub mod History
+pub mod Pieces
 pub mod Run
 pub mod State
 pub mod Step

@@ -7,16 +7,20 @@
 
 mod answer;
 mod arithmetic;
+mod block;
 mod command;
 mod failed;
 mod lists;
+mod piece;
 mod refusal;
 mod sound;
 
 pub use answer::{Answer, Reply};
 pub use arithmetic::{clamped, isqrt, scaled};
+pub use block::BlockRef;
 pub use command::{Call, Command};
 pub use failed::{Failed, NoMemory};
 pub use lists::{CellList, Numbers, Samples};
+pub use piece::Piece;
 pub use refusal::Refusal;
 pub use sound::{Cell, Side};

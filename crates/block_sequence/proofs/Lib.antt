@@ -1,0 +1,10 @@
+pub mod Clip
+pub mod Count
+pub mod HalfFull
+pub mod Out
+pub mod Rest
+pub mod Rule
+pub mod Sizes
+mod Table
+pub mod TestRows
+pub mod Whole

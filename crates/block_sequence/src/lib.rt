@@ -1,0 +1,20 @@
+//! The sound of one clip: a sequence of block references that is half full, and `fuse`, which says how the pieces
+//! of a clip are laid out in blocks, some kept and some new.
+//!
+//! The layers above use `fuse`'s clauses `samples`, `half_full` and `rule`, and the sequence's `samples`, by which
+//! its calls mean take, drop and length. Nothing is read or written here: blocks are named and never opened, and the
+//! new ones have no ids yet.
+#![tactic(auto)]
+
+mod cutting;
+mod fusing;
+mod parts;
+mod seq;
+#[cfg(test)]
+mod tests;
+mod types;
+
+pub use fusing::fuse;
+pub use parts::{part_of, piece_len};
+pub use seq::Sequence;
+pub use types::{Laid, Pieces};

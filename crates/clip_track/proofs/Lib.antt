@@ -1,0 +1,4 @@
+pub mod Layouts
+pub mod RoughStrips
+pub mod StripClips
+pub mod Strips

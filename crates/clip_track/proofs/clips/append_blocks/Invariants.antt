@@ -1,0 +1,7 @@
+-- What the loop of `append_blocks` keeps.
+use Rattle.std.proofs.Common.{◌≡◌, ◌++◌, take}
+use Rattle.clip_track.specs.Clips.{sound_items}
+use Rattle.clip_track.proofs.clips.append_blocks.Given as goal
+
+abbrev pub invariant-loop-block : goal.invariant-loop-block
+invariant-loop-block l = l.out.items ≡ l.fn.out.items ++ sound_items (take l.block-index l.blocks)

@@ -1,0 +1,34 @@
+-- The goals of `append_items` that the search leaves open.
+use Rattle.std.proofs.Common.{◌≡◌, ℕ, ◌+◌, ◌-◌, ◌++◌, min, List, get_or, drop, sym, ap, ◌∙◌, append_assoc, arith}
+use Rattle.std.proofs.lemmas.List.{drop_more}
+use Rattle.clip_track.specs.declared.items.Item.{Item}
+use Rattle.clip_track.specs.declared.items.Item.TheVariants.{Gap}
+use Rattle.clip_track.specs.Items.{item_len, part_items}
+use Rattle.clip_track.proofs.Strips.{part_none, part_past, part_within}
+use Rattle.clip_track.proofs.items.append_items.Goals as goal
+use Rattle.clip_track.proofs.items.append_items.Goals.{then-left-gt0+then-len-skip, then-left-gt0+else-len-skip+in_ok-push, else-left-gt0}
+
+pub loop-item-preserved : goal.loop-item-preserved
+loop-item-preserved c =
+    let xs = c.args.items.now in
+    let i = c.loop-item.item-index in
+    let x = get_or xs i (Gap 0) in
+    let rest = drop (i + 1) xs in
+    let out = c.loop-item.out.items in
+    let skip = c.loop-item.skip in
+    let left = c.loop-item.left in
+    let d = ap (part_items skip left) (drop_more xs i (Gap 0) c.loop-item-test.true) in
+    elim c.if-left-gt0.branch [
+      | then-left-gt0+then-len-skip w ↦ rw (w.out-is, w.skip-is, w.left-is, w.item_len-len.ensures) (
+          ap (λ (ys : List Item). out ++ ys) (sym (d ∙ part_past skip left x rest (omega arith) (omega arith))) ∙ c.loop-item.invariant)
+      | then-left-gt0+else-len-skip+in_ok-push w ↦
+          let k : w.min-size.result ≡ min left (item_len x - skip) = omega arith in
+          rw (w.out-is, w.skip-is, w.left-is, w.in_ok-push.ensures.items, w.part_of_item.ensures, k) (
+          append_assoc out _ _
+          ∙ ap (λ (ys : List Item). out ++ ys) (sym (d ∙ part_within skip left x rest (omega arith) (omega arith)))
+          ∙ c.loop-item.invariant)
+      | else-left-gt0 w ↦
+          let z : left ≡ 0 = omega arith in
+          rw (w.out-is, w.skip-is, w.left-is, z) (
+          ap (λ (ys : List Item). out ++ ys) (part_none skip rest ∙ sym (part_none skip (drop i xs)) ∙ ap (λ (n : ℕ). part_items skip n (drop i xs)) (sym z)) ∙ c.loop-item.invariant)
+    ]

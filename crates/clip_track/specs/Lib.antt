@@ -1,0 +1,4 @@
+pub mod Clips
+pub mod Items
+pub mod Rough
+pub mod StripClips

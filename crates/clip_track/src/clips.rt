@@ -1,0 +1,196 @@
+// A track's layout in clips.
+ghost use Rattle.std.specs.Prelude.{◌≡◌, ℕ, ◌+◌, ◌-◌, ◌≤◌, ◌<◌, ◌^◌, ◌++◌, length, take, drop, [], true, IfOk, OnOk};
+ghost use Rattle.pcm_base.specs.Pieces.{Sources};
+ghost use Rattle.clip_track.specs.Items as strip;
+ghost use Rattle.clip_track.specs.Clips as layout;
+ghost use Rattle.clip_track.specs.Rough.{rough_items, ItemsShort};
+
+use super::items::{Item, Strip, append_part, push_gap};
+use block_sequence::Sequence;
+use pcm_base::{BlockRef, NoMemory, Piece};
+use std::alloc::{AllocError, Global};
+use std::marker::Model;
+
+/// The samples of some blocks, from a place of the track on.
+#[derive(Drop)]
+pub struct Clip {
+    pub start: u64,
+    pub blocks: Sequence,
+}
+
+/// The clips of a track, at most 2^32 cells long, each of at least one sample and half full, and each at least one
+/// gap after the one before. Contracts see them as a list.
+#[derive(Drop)]
+pub struct Layout {
+    clips: Vec<Clip>,
+}
+
+impl Model for Layout {
+    ghost use Rattle.std.specs.Prelude.{List};
+    ghost use Rattle.clip_track.specs.declared.clips.Clip.{Clip};
+
+    ghost Value = { List Clip };
+
+    ghost use Rattle.clip_track.specs.Clips.{IsLayout};
+
+    ghost view = { λ l. l.clips.items };
+
+    ghost invariant = { λ l. IsLayout l.clips.items };
+}
+
+fn append_blocks(out: &mut Vec<Item>, blocks: &[BlockRef]) -> Result<(), AllocError>
+    ensures { OnOk result (out.new.items ≡ out.old.items ++ layout.sound_items blocks.now) }
+{
+    for block in blocks {
+        let block = *block;
+        let to = block.len;
+        let piece = Piece::Old { block, from: 0, to };
+        out.push(Item::Sound { piece })?;
+    }
+    Ok(())
+}
+
+fn append_clip(out: &mut Vec<Item>, clip: &Clip, at: u64) -> Result<u64, AllocError>
+    requires later { at ≤ clip.now.start }
+    requires few { layout.clip_end clip.now ≤ 2 ^ 32 }
+    ensures items { OnOk result (out.new.items ≡ out.old.items ++ (strip.gap_items (clip.now.start - at) ++ layout.sound_items clip.now.blocks)) }
+    ensures end { IfOk result (λ end. end ≡ layout.clip_end clip.now) }
+{
+    push_gap(out, clip.start - at)?;
+    append_blocks(out, clip.blocks.as_slice())?;
+    Ok(clip.start + clip.blocks.len())
+}
+
+fn clip_items(alloc: Global, clips: &[Clip]) -> Result<Vec<Item>, AllocError>
+    requires { layout.IsLayout clips.now }
+    ensures { IfOk result (λ v. v.items ≡ layout.items_from 0 clips.now) }
+{
+    let mut out = Vec::new(alloc);
+    let mut at = 0;
+    for clip in clips {
+        at = append_clip(&mut out, clip, at)?;
+    }
+    Ok(out)
+}
+
+fn copy_clips(alloc: Global, clips: &[Clip]) -> Result<Vec<Clip>, NoMemory>
+    ensures { IfOk result (λ v. v.items ≡ clips.now) }
+{
+    let mut out = Vec::new(alloc);
+    for clip in clips {
+        let start = clip.start;
+        let blocks = clip.blocks.copy()?;
+        out.push(Clip { start, blocks })?;
+    }
+    Ok(out)
+}
+
+/// Where the last clip ends.
+fn end_of(clips: &[Clip]) -> u64
+    requires { layout.IsLayout clips.now }
+    ensures { result ≡ layout.end_of 0 clips.now }
+{
+    match clips {
+        [.., last] => last.start + last.blocks.len(),
+        [] => 0,
+    }
+}
+
+impl Layout {
+    /// The layout of no cells. It takes no memory.
+    pub fn new(alloc: Global) -> Layout
+        ensures { result ≡ [] }
+    {
+        Layout {
+            clips: Vec::new(alloc),
+        }
+    }
+
+    /// The layout of some clips, which are taken over as they are.
+    pub fn from_clips(clips: Vec<Clip>) -> Layout
+        requires { layout.IsLayout clips.items }
+        ensures { result ≡ clips.items }
+    {
+        Layout { clips }
+    }
+
+    /// How many cells there are.
+    pub fn len(&self) -> u64
+        ensures value { result ≡ layout.end_of 0 self.now }
+        ensures cells { (src : Sources) → length (layout.layout_cells src self.now) ≡ result }
+        ensures few { result ≤ 2 ^ 32 }
+    {
+        end_of(self.clips.as_slice())
+    }
+
+    /// Another layout of the same clips; block references are copied, and no sample.
+    ///
+    /// # Errors
+    ///
+    /// There is no memory for the copy.
+    pub fn copy(&self) -> Result<Layout, NoMemory>
+        ensures { IfOk result (λ l. l ≡ self.now) }
+    {
+        let clips = copy_clips(*self.clips.allocator(), self.clips.as_slice())?;
+        Ok(Layout { clips })
+    }
+
+    /// The layout as a strip of its whole blocks.
+    ///
+    /// # Errors
+    ///
+    /// There is no memory for the strip.
+    pub fn to_strip(&self) -> Result<Strip, NoMemory>
+        ensures items { IfOk result (λ s. s ≡ layout.items_from 0 self.now) }
+        ensures cells { IfOk result (λ s. (src : Sources) → strip.strip_cells src s ≡ layout.layout_cells src self.now) }
+        ensures len { IfOk result (λ s. strip.strip_len s ≡ layout.end_of 0 self.now) }
+        ensures fit { IfOk result (λ s. (m : ℕ) → layout.AllHalfFull m self.now → strip.ItemsFit m s) }
+        ensures smooth { IfOk result (λ s. (m : ℕ) → layout.AllHalfFull m self.now → rough_items m true true s ≡ 0) }
+        ensures short { IfOk result (λ s. (m : ℕ) → layout.AllHalfFull m self.now → ItemsShort m s) }
+    {
+        let items = clip_items(*self.clips.allocator(), self.clips.as_slice())?;
+        Ok(Strip::from_items(items))
+    }
+
+    /// The cells from one place up to another.
+    ///
+    /// # Errors
+    ///
+    /// There is no memory for the strip.
+    pub fn slice(&self, from: u64, to: u64) -> Result<Strip, NoMemory>
+        requires rising { from ≤ to }
+        requires within { to ≤ layout.end_of 0 self.now }
+        ensures items { IfOk result (λ s. s ≡ strip.part_items from (to - from) (layout.items_from 0 self.now)) }
+        ensures cells { IfOk result (λ s. (src : Sources) → strip.strip_cells src s ≡ take (to - from) (drop from (layout.layout_cells src self.now))) }
+        ensures len { IfOk result (λ s. strip.strip_len s ≡ to - from) }
+        ensures fit { IfOk result (λ s. (m : ℕ) → layout.AllHalfFull m self.now → strip.ItemsFit m s) }
+    {
+        let whole = self.to_strip()?;
+        let mut out = Vec::new(*self.clips.allocator());
+        append_part(&mut out, whole.as_slice(), from, to - from)?;
+        Ok(Strip::from_items(out))
+    }
+
+    /// The whole track's strip, with the cells from one place up to another replaced by those of a strip. The layout
+    /// itself stays as it is.
+    ///
+    /// # Errors
+    ///
+    /// There is no memory for the strip.
+    pub fn replace(&self, from: u64, to: u64, middle: &Strip) -> Result<Strip, NoMemory>
+        requires rising { from ≤ to }
+        requires within { to ≤ layout.end_of 0 self.now }
+        requires room { layout.end_of 0 self.now + strip.strip_len middle.now < 2 ^ 64 }
+        ensures cells { IfOk result (λ s. (src : Sources) →
+            strip.strip_cells src s ≡ take from (layout.layout_cells src self.now) ++ strip.strip_cells src middle.now ++ drop to (layout.layout_cells src self.now)) }
+        ensures len { IfOk result (λ s. strip.strip_len s ≡ layout.end_of 0 self.now - (to - from) + strip.strip_len middle.now) }
+        ensures fit { IfOk result (λ s. (m : ℕ) → layout.AllHalfFull m self.now → strip.ItemsFit m middle.now → strip.ItemsFit m s) }
+    {
+        let whole = self.to_strip()?;
+        let mut out = Vec::new(*self.clips.allocator());
+        append_part(&mut out, whole.as_slice(), 0, from)?;
+        append_part(&mut out, middle.as_slice(), 0, middle.len())?;
+        append_part(&mut out, whole.as_slice(), to, whole.len() - to)?;
+        Ok(Strip::from_items(out))
+    }
+}
