@@ -1,0 +1,12 @@
+pub mod Moments
+pub mod Pairs
+pub mod Writes
+mod CallsLemmas
+mod Windows
+mod Listings
+mod Images
+mod LeftFiles
+mod LeftCalls
+mod Rising
+mod Builds
+mod Names

@@ -1,0 +1,22 @@
+-- What the choices leave.
+use Rattle.std.proofs.Common.{ℕ, sym, ◌∙◌, ap, subst}
+use Rattle.disk_model.specs.Disk.{Files}
+use Rattle.disk_model.specs.History.{IsImage}
+use Rattle.disk_model.specs.Images.{image_of}
+use Rattle.disk_model.specs.Ram.{Ram}
+use Rattle.disk_model.proofs.LeftFiles.{image_0, image_1, image_is_image}
+use Rattle.disk_model.proofs.ram.RamStore.image.Goals as goal
+
+pub returns-clause-all : goal.returns-clause-all
+returns-clause-all c = λ zero.
+    c.in_ok-log.ensures.reads ∙ ap (λ (r : Ram). image_of c.args.choice r.log.history) c.self.view_is
+    ∙ ap (λ (k : ℕ). image_of k c.args.self.now.log.history) zero ∙ image_0 c.args.self.now.log.history
+
+pub returns-clause-nothing : goal.returns-clause-nothing
+returns-clause-nothing c = λ one.
+    c.in_ok-log.ensures.reads ∙ ap (λ (r : Ram). image_of c.args.choice r.log.history) c.self.view_is
+    ∙ ap (λ (k : ℕ). image_of k c.args.self.now.log.history) one ∙ image_1 c.args.self.now.log.history
+
+pub returns-clause-left : goal.returns-clause-left
+returns-clause-left c = subst (λ (f : Files). IsImage c.args.self.now.log.history f)
+    (sym (c.in_ok-log.ensures.reads ∙ ap (λ (r : Ram). image_of c.args.choice r.log.history) c.self.view_is)) (image_is_image c.args.choice c.args.self.now.log.history)

@@ -1,0 +1,10 @@
+pub mod Disk
+pub mod History
+pub mod Calls
+pub mod Ram
+pub mod Histories
+pub mod Images
+pub mod Faults
+pub mod Settled
+pub mod Moment
+pub mod MomentLaws

@@ -1,0 +1,90 @@
+-- What a store in memory is, as its callers see it, and what each call makes of it.
+use Rattle.std.specs.Prelude.{◌≡◌, ◌⊎◌, ◌<◌, ◌+◌, ◌-◌, ◌^◌, min, ℕ, List, ◌∷◌, Option, None, Some, Contains, length}
+use Rattle.disk_model.specs.History.{Step, Wrote, Synced, Removed, reads_of}
+
+-- the calls that changed the disk, the newest first, and the room: how many files may still be made, how many bytes
+-- written, how many changing calls served
+pub record Log : Type 0 where
+  pub history : List Step
+  pub files_left : ℕ
+  pub bytes_left : ℕ
+  pub calls_left : ℕ
+
+-- how many calls there have been, the numbers of those that fail, the last that is served where the store stops, and
+-- how many failed and how many were to change the disk
+pub record Tally : Type 0 where
+  pub made : ℕ
+  pub fails : List ℕ
+  pub last : Option ℕ
+  pub read_faults : ℕ
+  pub change_faults : ℕ
+  pub change_calls : ℕ
+
+pub record Ram : Type 0 where
+  pub log : Log
+  pub tally : Tally
+
+-- one more; a u64 counts no further than to its end
+abbrev pub counted : ℕ → ℕ
+counted n = min (n + 1) (2 ^ 64 - 1)
+
+-- the store has stopped before a call of this number
+abbrev pub IsPast : Option ℕ → ℕ → Type 0
+IsPast None n = ⊥
+IsPast (Some last) n = last < n
+
+-- a tally of no call
+abbrev pub fresh_tally : List ℕ → Tally
+fresh_tally fails = record { made = 0; fails = fails; last = None; read_faults = 0; change_faults = 0; change_calls = 0 }
+
+-- the next call is listed, or comes after the stop
+abbrev pub IsDue : Tally → Type 0
+IsDue tally = Contains tally.fails (counted tally.made) ⊎ IsPast tally.last (counted tally.made)
+
+-- after a call that reads, and after one that changes
+abbrev pub with_read : Tally → Tally
+with_read tally = record tally { made = counted tally.made }
+
+abbrev pub with_change : Tally → Tally
+with_change tally = record tally { made = counted tally.made; change_calls = counted tally.change_calls }
+
+-- and with its fault
+abbrev pub with_read_fault : Tally → Tally
+with_read_fault tally = record tally { read_faults = counted tally.read_faults }
+
+abbrev pub with_change_fault : Tally → Tally
+with_change_fault tally = record tally { change_faults = counted tally.change_faults }
+
+-- there is no room for a write of so many bytes to the file
+abbrev pub IsFull : Log → ℕ → ℕ → Type 0
+IsFull log file n = (log.calls_left ≡ 0) ⊎ (log.bytes_left < n) ⊎ ((log.files_left ≡ 0) × (reads_of log.history file ≡ None))
+
+-- how many files may still be made after a write to this one
+abbrev pub files_after : ℕ → Option (List ℕ) → ℕ
+files_after left None = left - 1
+files_after left (Some bytes) = left
+
+-- after a write that is served, a sync and a removal
+abbrev pub with_write : Log → ℕ → ℕ → List ℕ → Log
+with_write log file at bytes = record {
+  history = Wrote file at bytes ∷ log.history;
+  files_left = files_after log.files_left (reads_of log.history file);
+  bytes_left = log.bytes_left - length bytes;
+  calls_left = log.calls_left - 1;
+}
+
+abbrev pub with_sync : Log → ℕ → Log
+with_sync log file = record log { history = Synced file ∷ log.history; calls_left = log.calls_left - 1 }
+
+abbrev pub with_removal : Log → ℕ → Log
+with_removal log file = record log { history = Removed file ∷ log.history; calls_left = log.calls_left - 1 }
+
+-- after a call that changes nothing on the disk
+abbrev pub after_read : Ram → Ram
+after_read ram = record ram { tally = with_read ram.tally }
+
+abbrev pub after_failed_read : Ram → Ram
+after_failed_read ram = record ram { tally = with_read_fault (with_read ram.tally) }
+
+abbrev pub after_failed_change : Ram → Ram
+after_failed_change ram = record ram { tally = with_change_fault (with_change ram.tally) }

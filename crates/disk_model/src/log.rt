@@ -1,0 +1,178 @@
+// The calls that changed a store in memory, with the room that was taken for them.
+ghost use Rattle.std.specs.Prelude.{◌≡◌, ◌+◌, ◌-◌, ◌^◌, ◌≤◌, ◌↔◌, ◌++◌, [], ℕ, min, length, take, drop, vec_len, vec_capacity, IsErr, IfOk, IfSome, IsSome, None, OnOk, OnErr, Contains, is_some};
+ghost use Rattle.std.specs.List.Sorted.{IsStrictlyIncreasing};
+ghost use Rattle.std.specs.Option.{option_map};
+ghost use Rattle.disk_model.specs.Disk.{bytes_of};
+ghost use Rattle.disk_model.specs.History.{reads_of};
+ghost use Rattle.disk_model.specs.Images.{image_of};
+ghost use Rattle.disk_model.specs.Settled.{IsSettled};
+ghost use Rattle.disk_model.specs.Calls.{history_of, AllHeld};
+ghost use Rattle.disk_model.specs.Ram.{IsFull, files_after, with_write, with_sync, with_removal};
+
+use crate::build::build;
+use crate::call::{Call, Kind};
+use crate::listing::list_files;
+use crate::record::{note_mark, note_write};
+use crate::replay::{read_part, size_of};
+use std::alloc::{AllocError, Global};
+use std::marker::Model;
+
+/// There is no room for the call.
+#[derive(Clone, Copy, Debug)]
+pub(crate) struct Full;
+
+/// A write's bytes stand in the row.
+#[derive(Drop)]
+pub(crate) struct CallLog {
+    calls: Vec<Call>,
+    row: Vec<u8>,
+    files_left: usize,
+    bytes_left: usize,
+    calls_left: usize,
+}
+
+impl Model for CallLog {
+    ghost use Rattle.std.specs.Prelude.{◌+◌, ◌≤◌, length, vec_len, vec_capacity};
+    ghost use Rattle.disk_model.specs.Calls.{history_of, AllHeld};
+    ghost use Rattle.disk_model.specs.Ram.{Log};
+
+    ghost Value = { Log };
+
+    ghost view = { λ s. record {
+      history = history_of s.row.items s.calls.items;
+      files_left = s.files_left;
+      bytes_left = s.bytes_left;
+      calls_left = s.calls_left;
+    } };
+
+    ghost invariant = { λ s. record {
+      held : AllHeld (length s.row.items) s.calls.items;
+      bytes : vec_len s.row + s.bytes_left ≤ vec_capacity s.row;
+      calls : vec_len s.calls + s.calls_left ≤ vec_capacity s.calls;
+    } };
+}
+
+impl CallLog {
+    // No call, with room for so many files, bytes and calls.
+    pub(crate) fn new(
+        alloc: Global,
+        files: usize,
+        bytes: usize,
+        calls: usize,
+    ) -> Result<CallLog, AllocError>
+        ensures { IfOk result (λ log. log ≡ record { history = []; files_left = files; bytes_left = bytes; calls_left = calls }) }
+    {
+        Ok(CallLog {
+            calls: Vec::with_capacity(alloc, calls)?,
+            row: Vec::with_capacity(alloc, bytes)?,
+            files_left: files,
+            bytes_left: bytes,
+            calls_left: calls,
+        })
+    }
+
+    // The file's size, None where it is absent.
+    pub(crate) fn size(&self, file: u64) -> Option<u64>
+        ensures size { result ≡ option_map length (reads_of self.now.history file) }
+        ensures bound { IfSome result (λ n. n ≤ 2 ^ 62) }
+    {
+        size_of(&self.calls, &self.row, file)
+    }
+
+    // Fills the buffer from an offset on, less only at the file's end.
+    pub(crate) fn read(&self, file: u64, at: u64, buf: &mut [u8]) -> usize
+        requires { at + length buf.old ≤ 2 ^ 62 }
+        ensures read { buf.new ≡ take result (drop at (bytes_of (reads_of self.now.history file))) ++ drop result buf.old }
+        ensures count { result ≡ min (length buf.old) (length (bytes_of (reads_of self.now.history file)) - at) }
+    {
+        read_part(&self.calls, &self.row, file, at, buf)
+    }
+
+    // Lists the files that are there, rising.
+    pub(crate) fn list(&self, out: &mut Vec<u64>) -> Result<(), AllocError>
+        ensures listed { OnOk result ((n : ℕ) → Contains out.new.items n ↔ IsSome (reads_of self.now.history n)) }
+        ensures rising { OnOk result (IsStrictlyIncreasing out.new.items) }
+    {
+        list_files(*self.calls.allocator(), &self.calls, &self.row, out)
+    }
+
+    // Notes a write, where there is room for it.
+    pub(crate) fn write(&mut self, file: u64, at: u64, bytes: &[u8]) -> Result<(), Full>
+        requires { at + length bytes.now ≤ 2 ^ 62 }
+        ensures full { IsErr result ↔ IsFull self.old file (length bytes.now) }
+        ensures ok { OnOk result (self.new ≡ with_write self.old file at bytes.now) }
+        ensures err { OnErr result (self.new ≡ self.old) }
+    {
+        if self.calls_left == 0 || self.bytes_left < bytes.len() {
+            return Err(Full);
+        }
+        take_place(&self.calls, &self.row, file, &mut self.files_left)?;
+        let _ = note_write(&mut self.calls, &mut self.row, file, at, bytes);
+        self.calls_left -= 1;
+        self.bytes_left -= bytes.len();
+        Ok(())
+    }
+
+    // Notes a sync.
+    pub(crate) fn sync(&mut self, file: u64) -> Result<(), Full>
+        ensures full { IsErr result ↔ (self.old.calls_left ≡ 0) }
+        ensures ok { OnOk result (self.new ≡ with_sync self.old file) }
+        ensures err { OnErr result (self.new ≡ self.old) }
+    {
+        if self.calls_left == 0 {
+            return Err(Full);
+        }
+        let _ = note_mark(&mut self.calls, &self.row, Kind::Sync, file);
+        self.calls_left -= 1;
+        Ok(())
+    }
+
+    // Notes a removal.
+    pub(crate) fn remove(&mut self, file: u64) -> Result<(), Full>
+        ensures full { IsErr result ↔ (self.old.calls_left ≡ 0) }
+        ensures ok { OnOk result (self.new ≡ with_removal self.old file) }
+        ensures err { OnErr result (self.new ≡ self.old) }
+    {
+        if self.calls_left == 0 {
+            return Err(Full);
+        }
+        let _ = note_mark(&mut self.calls, &self.row, Kind::Remove, file);
+        self.calls_left -= 1;
+        Ok(())
+    }
+
+    // The disk that a choice leaves, with nothing pending and the room that this one has left.
+    pub(crate) fn image(&self, alloc: Global, choice: u64) -> Result<CallLog, AllocError>
+        ensures reads { IfOk result (λ log. reads_of log.history ≡ image_of choice self.now.history) }
+        ensures settled { IfOk result (λ log. IsSettled log.history) }
+        ensures room { IfOk result (λ log. log ≡ record self.now { history = log.history }) }
+    {
+        let mut parts = build(alloc, &self.calls, &self.row, choice)?;
+        parts.calls.reserve_exact(self.calls_left)?;
+        parts.row.reserve_exact(self.bytes_left)?;
+        Ok(CallLog {
+            calls: parts.calls,
+            row: parts.row,
+            files_left: self.files_left,
+            bytes_left: self.bytes_left,
+            calls_left: self.calls_left,
+        })
+    }
+}
+
+// Takes one of the files that may still be made, where the file is absent.
+fn take_place(calls: &[Call], row: &[u8], file: u64, files_left: &mut usize) -> Result<(), Full>
+    requires { AllHeld (length row.now) calls.now }
+    ensures full { IsErr result ↔ (files_left.old ≡ 0) × (reads_of (history_of row.now calls.now) file ≡ None) }
+    ensures ok { OnOk result (files_left.new ≡ files_after files_left.old (reads_of (history_of row.now calls.now) file)) }
+    ensures err { OnErr result (files_left.new ≡ files_left.old) }
+{
+    if size_of(calls, row, file).is_some() {
+        return Ok(());
+    }
+    if *files_left == 0 {
+        return Err(Full);
+    }
+    *files_left -= 1;
+    Ok(())
+}

@@ -1,0 +1,262 @@
+// A disk in memory.
+ghost use Rattle.std.specs.Prelude.{◌≡◌, ◌⊎◌, ◌+◌, ◌-◌, ◌^◌, ◌≤◌, ◌↔◌, ◌++◌, min, ℕ, IsTrue, IfSome, IsErr, IsErrOf, OnErr, OnOk, [], None, Some, length, take, drop, true, refl, IfOk, Contains, IsSome};
+ghost use Rattle.std.specs.List.Sorted.{IsStrictlyIncreasing};
+ghost use Rattle.std.specs.Option.{option_map};
+ghost use Rattle.pcm_base.specs.Causes.{HasCause};
+ghost use Rattle.disk_model.specs.Disk.{Files, bytes_of, written, TornFile, SameElsewhere, WriteStep, RemoveStep, StaysStep, Follows};
+ghost use Rattle.disk_model.specs.Faults.{HasListCause};
+ghost use Rattle.disk_model.specs.History.{SinceMoment, IsImage, reads_of};
+ghost use Rattle.disk_model.specs.Histories.{image_since, reads_is_image, fewer_moment};
+ghost use Rattle.disk_model.specs.Images.{image_of, synced_of};
+ghost use Rattle.disk_model.specs.Moment.{At};
+ghost use Rattle.disk_model.specs.Settled.{IsSettled};
+ghost use Rattle.disk_model.specs.Ram.{IsDue, IsFull, counted, fresh_tally, with_write, with_sync, with_removal, with_change, after_read, after_failed_read, after_failed_change};
+
+use crate::log::CallLog;
+use crate::store::{ListFault, Store};
+use crate::tally::Tally;
+use pcm_base::{Failed, NoMemory, Numbers};
+use std::alloc::Global;
+use std::marker::Model;
+
+/// A disk in memory. It keeps each call that changed it, so that a stop at any moment may leave all that a disk may.
+#[derive(Drop)]
+pub struct RamStore {
+    log: CallLog,
+    tally: Tally,
+}
+
+impl Model for RamStore {
+    ghost use Rattle.disk_model.specs.Ram.{Ram};
+
+    ghost Value = { Ram };
+
+    ghost view = { λ s. record { log = s.log; tally = s.tally } };
+}
+
+impl RamStore {
+    /// An empty disk with room for so many files that are made, bytes that are written and changing calls that are
+    /// served; room that is used is not given back. Calls are counted from 1, and those of the numbers that it is given
+    /// fail.
+    pub fn new(
+        alloc: Global,
+        files: usize,
+        bytes: usize,
+        calls: usize,
+        fails: Numbers,
+    ) -> Result<RamStore, NoMemory>
+        ensures log { IfOk result (λ s. s.log ≡ record { history = []; files_left = files; bytes_left = bytes; calls_left = calls }) }
+        ensures tally { IfOk result (λ s. s.tally ≡ fresh_tally fails) }
+        // It may be left empty alone.
+        ensures empty { IfOk result (λ s. (c : Files) → SinceMoment s.log.history (At 0) c → c ≡ (λ _. None)) }
+    {
+        let log = CallLog::new(alloc, files, bytes, calls)?;
+        Ok(RamStore {
+            log,
+            tally: Tally::new(fails),
+        })
+    }
+
+    /// The disk that a stop at this moment leaves, by a choice: 0 leaves it as it reads, 1 leaves nothing of what is
+    /// pending, and any other number draws what has reached the disk: for the files rising and in each in order of
+    /// making two draws for a pending write, of its bytes and of its length, and one for a pending removal.
+    /// It has nothing pending, the room that is left here, and a new count of calls, of which none fails.
+    pub fn image(&self, alloc: Global, choice: u64) -> Result<RamStore, NoMemory>
+        ensures reads { IfOk result (λ s. reads_of s.log.history ≡ image_of choice self.now.log.history) }
+        ensures all { choice ≡ 0 → IfOk result (λ s. reads_of s.log.history ≡ reads_of self.now.log.history) }
+        ensures nothing { choice ≡ 1 → IfOk result (λ s. reads_of s.log.history ≡ synced_of self.now.log.history) }
+        ensures left { IfOk result (λ s. IsImage self.now.log.history (reads_of s.log.history)) }
+        ensures settled { IfOk result (λ s. IsSettled s.log.history) }
+        ensures room { IfOk result (λ s. s.log ≡ record self.now.log { history = s.log.history }) }
+        ensures tally { IfOk result (λ s. s.tally ≡ fresh_tally []) }
+    {
+        let log = self.log.image(alloc, choice)?;
+        Ok(RamStore {
+            log,
+            tally: Tally::new(Numbers::new(Vec::new(alloc))),
+        })
+    }
+
+    /// Lets the next `n` calls be served, and each call after them fail.
+    pub fn stop_after(&mut self, n: u64)
+        ensures log { self.new.log ≡ self.old.log }
+        ensures tally { self.new.tally ≡ record self.old.tally { last = Some (min (self.old.tally.made + n) (2 ^ 64 - 1)) } }
+    {
+        self.tally.stop_after(n);
+    }
+}
+
+impl Store for RamStore {
+    ghost tells = { λ _. true };
+
+    ghost reads = { λ s. reads_of s.log.history };
+
+    ghost keeps_model = { λ _. true };
+
+    ghost clock = { λ s. At (length s.log.history) };
+
+    ghost may_leave = { λ s. SinceMoment s.log.history };
+
+    ghost read_fault_count = { λ s. s.tally.read_faults };
+
+    ghost change_fault_count = { λ s. s.tally.change_faults };
+
+    ghost change_calls = { λ s. s.tally.change_calls };
+
+    ghost may_stay = { λ s _. (refl, image_since s.log.history (length s.log.history) (reads_of s.log.history) (reads_is_image s.log.history)) };
+
+    ghost may_fewer = { λ s t u c le now since. fewer_moment s.log.history t u c le since };
+
+    fn faults(&self) -> u64 {
+        self.tally.faults()
+    }
+
+    fn change_faults(&self) -> u64 {
+        self.tally.change_faults()
+    }
+
+    #[tactic(auto, using(crate::specs::Histories::follows_same))]
+    fn size(&mut self, file: u64) -> Result<Option<u64>, Failed>
+        ensures size { IsTrue true → IfOk result (λ n. n ≡ option_map length (reads_of self.old.log.history file)) }
+        ensures bound { IfOk result (λ n. IfSome n (λ n. n ≤ 2 ^ 62)) }
+        ensures tells { true ≡ true }
+        ensures reads { reads_of self.new.log.history ≡ reads_of self.old.log.history }
+        ensures model { true ≡ true }
+        ensures calls { self.new.tally.change_calls ≡ self.old.tally.change_calls }
+        ensures clock { At (length self.new.log.history) ≡ At (length self.old.log.history) }
+        ensures images { Follows StaysStep (At (length self.old.log.history)) (At (length self.new.log.history)) (SinceMoment self.old.log.history) (SinceMoment self.new.log.history) }
+        ensures faults { HasCause self.old.tally.read_faults self.new.tally.read_faults result }
+        ensures changes { self.new.tally.change_faults ≡ self.old.tally.change_faults }
+        // It fails exactly at the calls that are listed and after the stop.
+        ensures due { IsErr result ↔ IsDue self.old.tally }
+        ensures served { OnOk result (self.new ≡ after_read self.old) }
+        ensures failed { OnErr result (self.new ≡ after_failed_read self.old) }
+    {
+        if self.tally.count_read() {
+            return Err(self.tally.fail_read());
+        }
+        Ok(self.log.size(file))
+    }
+
+    #[tactic(auto, using(crate::specs::Histories::follows_same))]
+    fn read_at(&mut self, file: u64, at: u64, buf: &mut [u8]) -> Result<usize, Failed>
+        requires { at + length buf.old ≤ 2 ^ 62 }
+        ensures read { IsTrue true → IfOk result (λ n. buf.new ≡ take n (drop at (bytes_of (reads_of self.old.log.history file))) ++ drop n buf.old) }
+        ensures count { IsTrue true → IfOk result (λ n. n ≡ min (length buf.old) (length (bytes_of (reads_of self.old.log.history file)) - at)) }
+        ensures within { IfOk result (λ n. n ≤ length buf.old) }
+        ensures tells { true ≡ true }
+        ensures reads { reads_of self.new.log.history ≡ reads_of self.old.log.history }
+        ensures model { true ≡ true }
+        ensures calls { self.new.tally.change_calls ≡ self.old.tally.change_calls }
+        ensures clock { At (length self.new.log.history) ≡ At (length self.old.log.history) }
+        ensures images { Follows StaysStep (At (length self.old.log.history)) (At (length self.new.log.history)) (SinceMoment self.old.log.history) (SinceMoment self.new.log.history) }
+        ensures faults { HasCause self.old.tally.read_faults self.new.tally.read_faults result }
+        ensures changes { self.new.tally.change_faults ≡ self.old.tally.change_faults }
+        ensures due { IsErr result ↔ IsDue self.old.tally }
+        ensures served { OnOk result (self.new ≡ after_read self.old) }
+        ensures failed { OnErr result (self.new ≡ after_failed_read self.old) }
+    {
+        if self.tally.count_read() {
+            return Err(self.tally.fail_read());
+        }
+        Ok(self.log.read(file, at, buf))
+    }
+
+    #[tactic(auto, using(crate::specs::Histories::write_same, crate::specs::Histories::write_more))]
+    fn write_at(&mut self, file: u64, at: u64, bytes: &[u8]) -> Result<(), Failed>
+        requires { at + length bytes.now ≤ 2 ^ 62 }
+        ensures written { IsTrue true → OnOk result (reads_of self.new.log.history file ≡ Some (written (bytes_of (reads_of self.old.log.history file)) at bytes.now)) }
+        ensures torn { IsTrue true → OnErr result (TornFile at (length bytes.now) (reads_of self.old.log.history file) (reads_of self.new.log.history file)) }
+        ensures others { IsTrue true → SameElsewhere file (reads_of self.old.log.history) (reads_of self.new.log.history) }
+        ensures tells { true ≡ true }
+        ensures model { true ≡ true }
+        ensures calls { self.new.tally.change_calls ≡ counted self.old.tally.change_calls }
+        ensures images { Follows (WriteStep file at (length bytes.now)) (At (length self.old.log.history)) (At (length self.new.log.history)) (SinceMoment self.old.log.history) (SinceMoment self.new.log.history) }
+        ensures faults { HasCause self.old.tally.change_faults self.new.tally.change_faults result }
+        ensures read_faults { self.new.tally.read_faults ≡ self.old.tally.read_faults }
+        // It fails exactly at the calls that are listed, after the stop and where there is no room, and then does nothing.
+        ensures due { IsErr result ↔ (IsDue self.old.tally ⊎ IsFull self.old.log file (length bytes.now)) }
+        ensures served { OnOk result (self.new ≡ record { log = with_write self.old.log file at bytes.now; tally = with_change self.old.tally }) }
+        ensures failed { OnErr result (self.new ≡ after_failed_change self.old) }
+    {
+        if self.tally.count_change() {
+            return Err(self.tally.fail_change());
+        }
+        match self.log.write(file, at, bytes) {
+            Ok(()) => Ok(()),
+            Err(_) => Err(self.tally.fail_change()),
+        }
+    }
+
+    #[tactic(auto, using(crate::specs::Histories::follows_same, crate::specs::Histories::sync_more))]
+    fn sync(&mut self, file: u64) -> Result<(), Failed>
+        ensures durable { OnOk result ((c : Files) → SinceMoment self.new.log.history (At (length self.new.log.history)) c → c file ≡ reads_of self.old.log.history file) }
+        ensures tells { true ≡ true }
+        ensures reads { reads_of self.new.log.history ≡ reads_of self.old.log.history }
+        ensures model { true ≡ true }
+        ensures calls { self.new.tally.change_calls ≡ counted self.old.tally.change_calls }
+        ensures images { Follows StaysStep (At (length self.old.log.history)) (At (length self.new.log.history)) (SinceMoment self.old.log.history) (SinceMoment self.new.log.history) }
+        ensures faults { HasCause self.old.tally.change_faults self.new.tally.change_faults result }
+        ensures read_faults { self.new.tally.read_faults ≡ self.old.tally.read_faults }
+        ensures due { IsErr result ↔ (IsDue self.old.tally ⊎ (self.old.log.calls_left ≡ 0)) }
+        ensures served { OnOk result (self.new ≡ record { log = with_sync self.old.log file; tally = with_change self.old.tally }) }
+        ensures failed { OnErr result (self.new ≡ after_failed_change self.old) }
+    {
+        if self.tally.count_change() {
+            return Err(self.tally.fail_change());
+        }
+        match self.log.sync(file) {
+            Ok(()) => Ok(()),
+            Err(_) => Err(self.tally.fail_change()),
+        }
+    }
+
+    #[tactic(auto, using(crate::specs::Histories::remove_same, crate::specs::Histories::remove_more))]
+    fn remove(&mut self, file: u64) -> Result<(), Failed>
+        ensures removed { IsTrue true → OnOk result (reads_of self.new.log.history file ≡ None) }
+        ensures part { IsTrue true → RemoveStep file (reads_of self.old.log.history) (reads_of self.new.log.history) }
+        ensures tells { true ≡ true }
+        ensures model { true ≡ true }
+        ensures calls { self.new.tally.change_calls ≡ counted self.old.tally.change_calls }
+        ensures images { Follows (RemoveStep file) (At (length self.old.log.history)) (At (length self.new.log.history)) (SinceMoment self.old.log.history) (SinceMoment self.new.log.history) }
+        ensures faults { HasCause self.old.tally.change_faults self.new.tally.change_faults result }
+        ensures read_faults { self.new.tally.read_faults ≡ self.old.tally.read_faults }
+        ensures due { IsErr result ↔ (IsDue self.old.tally ⊎ (self.old.log.calls_left ≡ 0)) }
+        ensures served { OnOk result (self.new ≡ record { log = with_removal self.old.log file; tally = with_change self.old.tally }) }
+        ensures failed { OnErr result (self.new ≡ after_failed_change self.old) }
+    {
+        if self.tally.count_change() {
+            return Err(self.tally.fail_change());
+        }
+        match self.log.remove(file) {
+            Ok(()) => Ok(()),
+            Err(_) => Err(self.tally.fail_change()),
+        }
+    }
+
+    #[tactic(auto, using(crate::specs::Histories::follows_same))]
+    fn files(&mut self, out: &mut Vec<u64>) -> Result<(), ListFault>
+        ensures listed { IsTrue true → OnOk result ((n : ℕ) → Contains out.new.items n ↔ IsSome (reads_of self.old.log.history n)) }
+        ensures rising { OnOk result (IsStrictlyIncreasing out.new.items) }
+        ensures tells { true ≡ true }
+        ensures reads { reads_of self.new.log.history ≡ reads_of self.old.log.history }
+        ensures model { true ≡ true }
+        ensures calls { self.new.tally.change_calls ≡ self.old.tally.change_calls }
+        ensures clock { At (length self.new.log.history) ≡ At (length self.old.log.history) }
+        ensures images { Follows StaysStep (At (length self.old.log.history)) (At (length self.new.log.history)) (SinceMoment self.old.log.history) (SinceMoment self.new.log.history) }
+        ensures faults { HasListCause self.old.tally.read_faults self.new.tally.read_faults result }
+        ensures changes { self.new.tally.change_faults ≡ self.old.tally.change_faults }
+        ensures due { IsErrOf result ListFault.Failed ↔ IsDue self.old.tally }
+        ensures served { (IsErrOf result ListFault.Failed → ⊥) → self.new ≡ after_read self.old }
+        ensures failed { IsErrOf result ListFault.Failed → self.new ≡ after_failed_read self.old }
+    {
+        if self.tally.count_read() {
+            let _ = self.tally.fail_read();
+            return Err(ListFault::Failed);
+        }
+        match self.log.list(out) {
+            Ok(()) => Ok(()),
+            Err(_) => Err(ListFault::NoMemory),
+        }
+    }
+}

@@ -1,0 +1,124 @@
+// What a stop leaves, worked out by hand, and each call once.
+use super::*;
+use pcm_base::Numbers;
+use std::alloc::Global;
+use std::test::*;
+
+fn disk(alloc: Global, fails: Vec<u64>) -> Result<RamStore, Fail> {
+    let store = RamStore::new(alloc, 4, 64, 16, Numbers::new(fails))
+        .ok()
+        .ok_or("no memory")?;
+    Ok(store)
+}
+
+// Adds the file's bytes as they read, and `-` where it is absent.
+fn add_content(store: &mut RamStore, file: u64, text: &mut Vec<u8>) -> Result<(), Fail> {
+    if store.size(file).ok().ok_or("size")?.is_none() {
+        text.push(b'-')?;
+        return Ok(());
+    }
+    let mut buf = [0; 16];
+    let count = store.read_at(file, 0, &mut buf).ok().ok_or("read")?;
+    text.extend_from_slice(buf.get(..count).ok_or("too long")?)?;
+    Ok(())
+}
+
+// The files 3 and 5 in the images of the choices 0 to 9.
+fn images(alloc: Global, store: &RamStore) -> Result<Vec<u8>, Fail> {
+    let mut text = Vec::new(alloc);
+    for choice in 0..10 {
+        let mut left = store.image(alloc, choice).ok().ok_or("no memory")?;
+        add_content(&mut left, 3, &mut text)?;
+        text.push(b'/')?;
+        add_content(&mut left, 5, &mut text)?;
+        text.push(b' ')?;
+    }
+    Ok(text)
+}
+
+fn written(alloc: Global) -> Result<RamStore, Fail> {
+    let mut store = disk(alloc, Vec::new(alloc))?;
+    store.write_at(3, 0, b"abcd").ok().ok_or("write")?;
+    Ok(store)
+}
+
+fn synced(alloc: Global) -> Result<RamStore, Fail> {
+    let mut store = written(alloc)?;
+    store.sync(3).ok().ok_or("sync")?;
+    Ok(store)
+}
+
+fn rewritten(alloc: Global) -> Result<RamStore, Fail> {
+    let mut store = synced(alloc)?;
+    store.write_at(3, 2, b"WXYZ").ok().ok_or("write")?;
+    store.write_at(5, 1, b"q").ok().ok_or("write")?;
+    Ok(store)
+}
+
+fn removed(alloc: Global) -> Result<RamStore, Fail> {
+    let mut store = rewritten(alloc)?;
+    store.remove(3).ok().ok_or("remove")?;
+    Ok(store)
+}
+
+// The generator draws from 2: 0 0 0 0 1, from 3: 1 1 1 0 0, from 4: 0 0 0 1 1, from 5: 0 1 0 1 1, from 6: 1 0 1 1 0,
+// from 7: 0 1 1 1 1, from 8: 0 0 0 1 0, from 9: 1 1 0 0 1.
+#[test]
+fn a_new_file(rt: HostRuntime) -> Result<(), Fail> {
+    let left = images(rt.alloc(), &written(rt.alloc())?)?;
+    let want = b"abcd/- -/- -/- abcd/- -/- \0\0\0\0/- /- \0\0\0\0/- -/- abcd/- ";
+    assert!(rt; left.as_slice() == want.as_slice());
+    Ok(())
+}
+
+#[test]
+fn nothing_pending(rt: HostRuntime) -> Result<(), Fail> {
+    let left = images(rt.alloc(), &synced(rt.alloc())?)?;
+    let want = b"abcd/- abcd/- abcd/- abcd/- abcd/- abcd/- abcd/- abcd/- abcd/- abcd/- ";
+    assert!(rt; left.as_slice() == want.as_slice());
+    Ok(())
+}
+
+#[test]
+fn two_files(rt: HostRuntime) -> Result<(), Fail> {
+    let left = images(rt.alloc(), &rewritten(rt.alloc())?)?;
+    let want =
+        b"abWXYZ/\0q abcd/- abcd/- abWXYZ/ abcd/\0\0 abcd\0\0/\0\0 abWX/\0q abcd\0\0/\0q abcd/\0\0 abWXYZ/- ";
+    assert!(rt; left.as_slice() == want.as_slice());
+    Ok(())
+}
+
+#[test]
+fn a_removal(rt: HostRuntime) -> Result<(), Fail> {
+    let left = images(rt.alloc(), &removed(rt.alloc())?)?;
+    let want = b"-/\0q abcd/- abcd/\0\0 -/- abcd/\0q abcd\0\0/\0q -/ -/\0q abcd/ abWXYZ/\0\0 ";
+    assert!(rt; left.as_slice() == want.as_slice());
+    Ok(())
+}
+
+#[test]
+fn a_removal_and_a_sync_of_the_other(rt: HostRuntime) -> Result<(), Fail> {
+    let mut store = removed(rt.alloc())?;
+    store.sync(5).ok().ok_or("sync")?;
+    let left = images(rt.alloc(), &store)?;
+    let want =
+        b"-/\0q abcd/\0q abcd/\0q -/\0q abcd/\0q abcd\0\0/\0q -/\0q -/\0q abcd/\0q abWXYZ/\0q ";
+    assert!(rt; left.as_slice() == want.as_slice());
+    Ok(())
+}
+
+// The second call fails, and those after the fourth.
+#[test]
+fn faults_are_counted(rt: HostRuntime) -> Result<(), Fail> {
+    let mut store = disk(rt.alloc(), vec![in rt.alloc(); 2]?)?;
+    let mut numbers = Vec::new(rt.alloc());
+    store.stop_after(4);
+    assert!(rt; store.write_at(7, 0, b"ab").is_ok());
+    assert!(rt; store.write_at(6, 0, b"c").is_err());
+    assert!(rt; store.write_at(6, 0, b"c").is_ok());
+    assert!(rt; store.files(&mut numbers).is_ok());
+    assert!(rt; numbers.as_slice() == [6, 7].as_slice());
+    assert!(rt; store.size(6).is_err());
+    assert!(rt; store.faults() == 2 && store.change_faults() == 1);
+    Ok(())
+}
