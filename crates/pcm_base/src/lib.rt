@@ -17,6 +17,6 @@ pub use answer::{Answer, Reply};
 pub use arithmetic::{clamped, isqrt, scaled};
 pub use command::{Call, Command};
 pub use failed::{Failed, NoMemory};
-pub use lists::{CellList, Numbers, Samples};
+pub use lists::{CellList, Numbers, Samples, TrackLines};
 pub use refusal::Refusal;
-pub use sound::{Cell, Side};
+pub use sound::{Cell, Side, TrackLine};
