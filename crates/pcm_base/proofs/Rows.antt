@@ -1,15 +1,17 @@
 -- Worked examples of the definitions, computed.
-use Rattle.std.proofs.Common.{◌≡◌, refl, List, [], ◌∷◌, pos, negsuc, Some, None}
+use Rattle.std.proofs.Common.{◌≡◌, refl, List, [], ◌∷◌, pos, negsuc, true, false, Some, None}
 use Rattle.pcm_base.specs.declared.sound.Cell.{Cell}
 use Rattle.pcm_base.specs.declared.sound.Cell.TheVariants.{Gap, Sample}
+use Rattle.pcm_base.specs.declared.sound.Side.TheVariants.{Both, Left}
 use Rattle.pcm_base.specs.declared.command.Command.TheVariants as command
+use Rattle.pcm_base.specs.declared.answer.Reply.TheVariants as reply
 use Rattle.pcm_base.specs.declared.command.Call.TheVariants as call
 use Rattle.pcm_base.specs.declared.refusal.Refusal.TheVariants.{NoTrack, BadRange, LengthLimit, NothingToUndo, NothingToRedo, SpaceSpent}
 use Rattle.pcm_base.specs.Arithmetic.{scaled, clamped}
 use Rattle.pcm_base.specs.Cells.{cells_at}
 use Rattle.pcm_base.specs.Edits.{deleted, inserted}
 use Rattle.pcm_base.specs.State.{State, fresh, current}
-use Rattle.pcm_base.specs.Step.{after_line}
+use Rattle.pcm_base.specs.Step.{after_line, MayReply}
 use Rattle.pcm_base.specs.Tests.{tests_of}
 
 abbrev five : List Cell
@@ -52,3 +54,17 @@ refusals = refl
 
 spent : tests_of (record fresh { next_track = 4611686018427387904 }) (call.Line command.Track) ≡ Some (SpaceSpent 4611686018427387904 1)
 spent = refl
+
+-- two tracks, one on the left, muted and at half its gain, after a third was dropped
+abbrev with_two : State
+with_two = after_line (after_line (after_line (after_line (after_line (after_line with_five command.Track) command.Track) (command.Side 3 Left)) (command.Mute 3 true)) (command.Level 3 32768)) (command.Drop 2)
+
+told : MayReply with_two command.Tracks (reply.Tracks (record { id = 1; gain = 65536; side = Both; mute = false; len = 5 } ∷ record { id = 3; gain = 32768; side = Left; mute = true; len = 0 } ∷ []))
+told = refl
+
+-- the current point stays, and what is older cannot come back
+purged_twice : (tests_of with_two (call.Line (command.Purge 0)) ∷ tests_of with_two (call.Line (command.Purge 9)) ∷ tests_of with_two (call.Line (command.Purge 8)) ∷ tests_of (after_line with_two (command.Purge 8)) (call.Line command.Undo) ∷ []) ≡ Some BadRange ∷ Some BadRange ∷ None ∷ Some NothingToUndo ∷ []
+purged_twice = refl
+
+purge_keeps : current (after_line with_two (command.Purge 3)) ≡ current with_two
+purge_keeps = refl

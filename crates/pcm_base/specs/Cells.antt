@@ -54,6 +54,19 @@ each_edited [] ts = ts
 each_edited (f ∷ fs) [] = []
 each_edited (f ∷ fs) (t ∷ ts) = with_cells f t ∷ each_edited fs ts
 
+-- some tracks in the place of the one with this id
+abbrev pub replaced_at : ℕ → (Track → Project) → Project → Project
+replaced_at id f [] = []
+replaced_at id f (t ∷ ts) = if t.id == id then f t ++ ts else t ∷ replaced_at id f ts
+
+-- without the track with this id
+abbrev pub dropped : ℕ → Project → Project
+dropped id p = replaced_at id (λ _. []) p
+
+-- the track with this id changed
+abbrev pub changed_at : ℕ → (Track → Track) → Project → Project
+changed_at id f p = replaced_at id (λ t. f t ∷ []) p
+
 -- the tracks from the one with this id on edited, one function for each
 abbrev pub run_edited : ℕ → List (List Cell → List Cell) → Project → Project
 run_edited id fs [] = []

@@ -29,3 +29,7 @@ edited h p tag = ending_with h (kept h) (p, tag)
 -- the same points, another of them current
 abbrev pub at_cursor : {P : Type 0} → History P → ℕ → History P
 at_cursor h cursor = record h { cursor = cursor }
+
+-- without the n oldest points, the same one current
+abbrev pub purged : {P : Type 0} → History P → ℕ → History P
+purged h n = record { points = drop n h.points; cursor = h.cursor - n; depth = h.depth }

@@ -1,16 +1,17 @@
 -- One step of the editor: what a call that nothing refuses leaves, and what it answers.
-use Rattle.std.specs.Prelude.{◌≡◌, ℕ, ◌+◌, ◌-◌, List, [], ◌∷◌, ◌++◌, false}
+use Rattle.std.specs.Prelude.{◌≡◌, ℕ, ◌+◌, ◌-◌, List, [], ◌∷◌, ◌++◌, length, map, false}
 use Rattle.pcm_base.specs.declared.sound.Cell.{Cell}
 use Rattle.pcm_base.specs.declared.sound.Side.TheVariants.{Both}
+use Rattle.pcm_base.specs.declared.sound.TrackLine.{TrackLine}
 use Rattle.pcm_base.specs.declared.command.Command.{Command}
 use Rattle.pcm_base.specs.declared.command.Command.TheVariants as command
 use Rattle.pcm_base.specs.declared.command.Call.{Call}
 use Rattle.pcm_base.specs.declared.command.Call.TheVariants as call
 use Rattle.pcm_base.specs.declared.answer.Reply.{Reply}
 use Rattle.pcm_base.specs.declared.answer.Reply.TheVariants as reply
-use Rattle.pcm_base.specs.Cells.{Track, Project, cells_at, edited_at}
+use Rattle.pcm_base.specs.Cells.{Track, Project, cells_at, edited_at, dropped, changed_at}
 use Rattle.pcm_base.specs.Edits.{as_cells, part, inserted, deleted}
-use Rattle.pcm_base.specs.History.{edited, at_cursor}
+use Rattle.pcm_base.specs.History.{edited, at_cursor, purged}
 use Rattle.pcm_base.specs.State.{State, current}
 
 -- a new track: unity gain, on both sides, not muted
@@ -25,14 +26,24 @@ with_project s p = record s { history = edited s.history p 0; commit = s.commit 
 abbrev pub moved_to : State → ℕ → State
 moved_to s cursor = record s { history = at_cursor s.history cursor; commit = s.commit + 1 }
 
+-- what is told of a track
+abbrev pub line_of_track : Track → TrackLine
+line_of_track t = record { id = t.id; gain = t.gain; side = t.side; mute = t.mute; len = length t.cells }
+
 -- the state after a line
 abbrev pub after_line : State → Command → State
 after_line s command.Track = record (with_project s (current s ++ new_track s.next_track [] ∷ [])) { next_track = s.next_track + 1 }
+after_line s (command.Drop id) = with_project s (dropped id (current s))
+after_line s (command.Level id gain) = with_project s (changed_at id (λ t. record t { gain = gain }) (current s))
+after_line s (command.Side id side) = with_project s (changed_at id (λ t. record t { side = side }) (current s))
+after_line s (command.Mute id mute) = with_project s (changed_at id (λ t. record t { mute = mute }) (current s))
 after_line s (command.Put id at samples) = with_project s (edited_at id (inserted at (as_cells samples)) (current s))
 after_line s (command.Delete id from to) = with_project s (edited_at id (deleted from to) (current s))
 after_line s command.Undo = moved_to s (s.history.cursor - 1)
 after_line s command.Redo = moved_to s (s.history.cursor + 1)
+after_line s (command.Purge n) = record s { history = purged s.history n; commit = s.commit + 1 }
 after_line s (command.Show id from to) = s
+after_line s command.Tracks = s
 
 -- the state after a call
 abbrev pub after : State → Call → State
@@ -41,11 +52,17 @@ after s (call.Line c) = after_line s c
 -- what a line may answer
 abbrev pub MayReply : State → Command → Reply → Type 0
 MayReply s command.Track r = r ≡ reply.Done
+MayReply s (command.Drop id) r = r ≡ reply.Done
+MayReply s (command.Level id gain) r = r ≡ reply.Done
+MayReply s (command.Side id side) r = r ≡ reply.Done
+MayReply s (command.Mute id mute) r = r ≡ reply.Done
 MayReply s (command.Put id at samples) r = r ≡ reply.Done
 MayReply s (command.Delete id from to) r = r ≡ reply.Done
 MayReply s command.Undo r = r ≡ reply.Done
 MayReply s command.Redo r = r ≡ reply.Done
+MayReply s (command.Purge n) r = r ≡ reply.Done
 MayReply s (command.Show id from to) r = r ≡ reply.Cells (part from to (cells_at id (current s)))
+MayReply s command.Tracks r = r ≡ reply.Tracks (map line_of_track (current s))
 
 -- what a call may answer
 abbrev pub MayAnswer : State → Call → Reply → Type 0

@@ -60,11 +60,17 @@ insert_tests s id at n =
 -- the own tests of a line
 abbrev pub own_tests : State → Command → Option Refusal
 own_tests s command.Track = track_limit s 1
+own_tests s (command.Drop id) = no_track s id
+own_tests s (command.Level id gain) = no_track s id
+own_tests s (command.Side id side) = no_track s id
+own_tests s (command.Mute id mute) = no_track s id
 own_tests s (command.Put id at samples) = insert_tests s id at (length samples)
 own_tests s (command.Delete id from to) = range_tests s id from to
 own_tests s command.Undo = refused_if (s.history.cursor == 0) NothingToUndo
 own_tests s command.Redo = refused_if (s.history.cursor + 1 == length s.history.points) NothingToRedo
+own_tests s (command.Purge n) = bad_range 0 n s.history.cursor
 own_tests s (command.Show id from to) = (no_track s id) otherwise (bad_view from to)
+own_tests s command.Tracks = None
 
 -- a counter has no room for what is needed of it
 abbrev pub no_room : ℕ → ℕ → Option Refusal
@@ -73,20 +79,32 @@ no_room have need = refused_if (nat_lt (2 ^ 62) (have + need)) (SpaceSpent have 
 -- how many track ids a line needs
 abbrev pub tracks_needed : Command → ℕ
 tracks_needed command.Track = 1
+tracks_needed (command.Drop id) = 0
+tracks_needed (command.Level id gain) = 0
+tracks_needed (command.Side id side) = 0
+tracks_needed (command.Mute id mute) = 0
 tracks_needed (command.Put id at samples) = 0
 tracks_needed (command.Delete id from to) = 0
 tracks_needed command.Undo = 0
 tracks_needed command.Redo = 0
+tracks_needed (command.Purge n) = 0
 tracks_needed (command.Show id from to) = 0
+tracks_needed command.Tracks = 0
 
 -- how many commit numbers a line needs: each but those that only look is a commit
 abbrev pub commits_needed : Command → ℕ
 commits_needed command.Track = 1
+commits_needed (command.Drop id) = 1
+commits_needed (command.Level id gain) = 1
+commits_needed (command.Side id side) = 1
+commits_needed (command.Mute id mute) = 1
 commits_needed (command.Put id at samples) = 1
 commits_needed (command.Delete id from to) = 1
 commits_needed command.Undo = 1
 commits_needed command.Redo = 1
+commits_needed (command.Purge n) = 1
 commits_needed (command.Show id from to) = 0
+commits_needed command.Tracks = 0
 
 -- the counters, in the order in which they are tested
 abbrev pub space_tests : State → Command → Option Refusal

@@ -1,5 +1,5 @@
 // What a line is answered.
-use super::lists::CellList;
+use super::lists::{CellList, TrackLines};
 use super::refusal::Refusal;
 
 /// What stands in an answer beside its commit number.
@@ -9,6 +9,8 @@ pub enum Reply {
     Done,
     /// The cells that were asked for.
     Cells { cells: CellList },
+    /// The tracks of the project, in its order.
+    Tracks { tracks: TrackLines },
     /// The line was refused, and has changed nothing.
     Refused { reason: Refusal },
 }

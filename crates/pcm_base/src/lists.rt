@@ -1,7 +1,7 @@
 // Lists that commands, answers and devices carry. Contracts see each as the list of its members.
 ghost use Rattle.std.specs.Prelude.{◌≡◌};
 
-use super::sound::Cell;
+use super::sound::{Cell, TrackLine};
 use std::marker::Model;
 
 /// The samples of a command, in order.
@@ -59,6 +59,37 @@ impl CellList {
 
     /// The cells as a slice.
     pub fn as_slice(&self) -> &[Cell]
+        ensures { result.now ≡ self.now }
+    {
+        self.items.as_slice()
+    }
+}
+
+/// What is told of tracks, in their order.
+#[derive(Debug, Drop)]
+pub struct TrackLines {
+    items: Vec<TrackLine>,
+}
+
+impl Model for TrackLines {
+    ghost use Rattle.std.specs.Prelude.{List};
+    ghost use Rattle.pcm_base.specs.declared.sound.TrackLine.{TrackLine};
+
+    ghost Value = { List TrackLine };
+
+    ghost view = { λ s. s.items.items };
+}
+
+impl TrackLines {
+    /// The lines of a vector, which is taken over as it is.
+    pub fn new(items: Vec<TrackLine>) -> TrackLines
+        ensures { result ≡ items.items }
+    {
+        TrackLines { items }
+    }
+
+    /// The lines as a slice.
+    pub fn as_slice(&self) -> &[TrackLine]
         ensures { result.now ≡ self.now }
     {
         self.items.as_slice()

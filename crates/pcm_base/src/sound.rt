@@ -16,3 +16,15 @@ pub enum Side {
     Left,
     Right,
 }
+
+/// What is told of a track.
+#[derive(Clone, Copy, Debug, PartialEq, Eq)]
+pub struct TrackLine {
+    pub id: u64,
+    /// From 0 to 1,048,576; 65,536 is unity.
+    pub gain: u32,
+    pub side: Side,
+    pub mute: bool,
+    /// The number of its cells.
+    pub len: u64,
+}

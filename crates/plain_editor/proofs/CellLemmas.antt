@@ -6,7 +6,7 @@ use Rattle.std.proofs.lemmas.Bool.Decides.{nat_tests}
 use Rattle.std.proofs.lemmas.List.{append-nil, drop_more, take-map, take_all, drop_all, length-append, length-replicate, length-map, take_more, length_push, length-take-le}
 use Rattle.pcm_base.specs.declared.sound.Cell.{Cell}
 use Rattle.pcm_base.specs.declared.sound.Cell.TheVariants.{Gap, Sample}
-use Rattle.pcm_base.specs.Cells.{trimmed, joined, continued, tracks_from, run_edited}
+use Rattle.pcm_base.specs.Cells.{Track, Project, trimmed, joined, continued, tracks_from, run_edited, replaced_at}
 use Rattle.plain_editor.specs.declared.tracks.PlainTrack.{PlainTrack}
 use Rattle.plain_editor.specs.View.{track_of, project_of}
 use Rattle.plain_editor.specs.Places.{Place}
@@ -35,14 +35,16 @@ drop_project (suc i) (t ∷ ts) = drop_project i ts
 pub found_here : (tracks : List PlainTrack) (i id : ℕ) (t : PlainTrack) → i < length tracks → t ≡ get_or tracks i t → t.id ≡ id →
     tracks_from id (project_of tracks) ≡ tracks_from id (project_of (drop i tracks)) →
     ((fs : List (List Cell → List Cell)) → run_edited id fs (project_of tracks) ≡ project_of (take i tracks) ++ run_edited id fs (project_of (drop i tracks))) →
+    ((f : Track → Project) → replaced_at id f (project_of tracks) ≡ project_of (take i tracks) ++ replaced_at id f (project_of (drop i tracks))) →
     Place id (project_of tracks) i
-found_here tracks i id t below at is from edits =
+found_here tracks i id t below at is from edits replaces =
     let here : drop i tracks ≡ t ∷ drop (i + 1) tracks = drop_more tracks i t below ∙ ap (λ x. x ∷ drop (i + 1) tracks) (sym at) in
     let same : (t.id == id) ≡ true = grind (arith, nat_tests) in
     record {
       within = omega (arith, length-map tracks track_of);
       from = from ∙ rw (drop_project i tracks, here, same);
       edits = λ fs. edits fs ∙ rw (take-map track_of i tracks, drop_project i tracks, here, same);
+      replaces = λ f. replaces f ∙ rw (take-map track_of i tracks, drop_project i tracks, here, same);
     }
 
 last_split : (xs : List Cell) → 0 < length xs → xs ≡ take (length xs - 1) xs ++ get_or xs (length xs - 1) Gap ∷ []

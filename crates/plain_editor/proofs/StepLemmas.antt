@@ -16,11 +16,11 @@ use Rattle.plain_editor.specs.Takes.{Takes, Pushed}
 use Rattle.pcm_base.specs.History.{newest}
 use Rattle.plain_editor.specs.declared.points.Point.{Point}
 use Rattle.plain_editor.specs.View.{point_of, project_of, track_of}
-use Rattle.plain_editor.specs.Places.{Place, IsHere, with_cells_at}
+use Rattle.plain_editor.specs.Places.{Place, IsHere, with_cells_at, replaced_in}
 use Rattle.plain_editor.specs.declared.tracks.PlainTrack.{PlainTrack}
 use Rattle.pcm_base.specs.declared.sound.Cell.{Cell}
 use Rattle.pcm_base.specs.declared.refusal.Refusal.TheVariants.{NoTrack}
-use Rattle.pcm_base.specs.Cells.{Track, Project, tracks_from}
+use Rattle.pcm_base.specs.Cells.{Track, Project, tracks_from, changed_at, dropped}
 
 newest-map : (n : ℕ) (ps : List Point) → map point_of (newest n ps) ≡ newest n (map point_of ps)
 newest-map n ps = sym (drop-map point_of (length ps - n) ps) ∙ ap (λ k. drop (k - n) (map point_of ps)) (sym (length-map ps point_of))
@@ -52,6 +52,7 @@ is_here s id i t rest place is = record {
   found = rw (place.from, is);
   cells_are = rw (place.from, is);
   edits = λ f made e. sym (place.edits (f ∷ []) ∙ rw (is, e));
+  replaces = place.replaces;
 }
 
 pub no_such_track : (s : State) (id : ℕ) → tracks_from id (current s) ≡ [] → no_track s id ≡ Some (NoTrack id)
@@ -63,6 +64,34 @@ pub set_view : (tracks : List PlainTrack) (i : ℕ) (x y : PlainTrack) (cs : Lis
 set_view tracks i x y cs within is changed =
     let here = place_is tracks i x within is in
     rw (set_split tracks i y within, map-append, changed, take-map track_of i tracks, here, add-one i)
+
+-- another track at a place of the tracks
+pub changed_view : (tracks : List PlainTrack) (i : ℕ) (x y : PlainTrack) (f : Track → Track) → i < length tracks → x ≡ get_or tracks i x → track_of y ≡ f (track_of x) →
+    project_of (set tracks i y) ≡ replaced_in i (λ t. f t ∷ []) (project_of tracks)
+changed_view tracks i x y f within is changed =
+    let here = place_is tracks i x within is in
+    rw (set_split tracks i y within, map-append, changed, take-map track_of i tracks, here, add-one i)
+
+-- no track at a place of the tracks
+pub dropped_view : (tracks : List PlainTrack) (i : ℕ) (x : PlainTrack) → i < length tracks → x ≡ get_or tracks i x →
+    project_of (take i tracks ++ drop (i + 1) tracks) ≡ replaced_in i (λ _. []) (project_of tracks)
+dropped_view tracks i x within is =
+    let here = place_is tracks i x within is in
+    rw (map-append, take-map track_of i tracks, here)
+
+-- the track that was found, changed in a copy of the tracks
+pub changed_here : (s : State) (id i : ℕ) (cs : List Cell) (tracks : List PlainTrack) (x y : PlainTrack) (f : Track → Track) → IsHere s id i cs → project_of tracks ≡ current s → x ≡ get_or tracks i x → track_of y ≡ f (track_of x) →
+    project_of (set tracks i y) ≡ changed_at id f (current s)
+changed_here s id i cs tracks x y f here same is changed =
+    let within : i < length tracks = omega (arith, length-map tracks track_of, ap length same, here.within) in
+    changed_view tracks i x y f within is changed ∙ ap (replaced_in i (λ t. f t ∷ [])) same ∙ sym (here.replaces (λ t. f t ∷ []))
+
+-- the track that was found, taken out of a copy of the tracks
+pub dropped_here : (s : State) (id i : ℕ) (cs : List Cell) (tracks : List PlainTrack) (x : PlainTrack) → IsHere s id i cs → project_of tracks ≡ current s → x ≡ get_or tracks i x →
+    project_of (take i tracks ++ drop (i + 1) tracks) ≡ dropped id (current s)
+dropped_here s id i cs tracks x here same is =
+    let within : i < length tracks = omega (arith, length-map tracks track_of, ap length same, here.within) in
+    dropped_view tracks i x within is ∙ ap (replaced_in i (λ _. [])) same ∙ sym (here.replaces (λ _. []))
 
 -- an edit whose project was pushed, or for which memory was wanting
 pub edit_taken : (result : Result Reply Refusal) (s t : State) (c : Command) (p : Project) → tests_of s (call.Line c) ≡ None → MayAnswer s (call.Line c) Done → after s (call.Line c) ≡ with_project s p →

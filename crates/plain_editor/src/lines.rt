@@ -10,7 +10,7 @@ use super::editor::PlainEditor;
 use super::points::{self, Point};
 use super::tracks::{self, PlainTrack};
 use super::{cells, tests};
-use pcm_base::{Cell, CellList, Command, NoMemory, Refusal, Reply, Samples};
+use pcm_base::{Cell, CellList, Command, NoMemory, Refusal, Reply, Samples, Side, TrackLines};
 use std::alloc::Global;
 use std::rc::RcSlice;
 
@@ -54,11 +54,17 @@ impl PlainEditor {
     {
         match command {
             Command::Track => self.track(alloc),
+            Command::Drop { track } => self.drop_track(alloc, *track),
+            Command::Level { track, gain } => self.level(alloc, *track, *gain),
+            Command::Side { track, side } => self.side(alloc, *track, *side),
+            Command::Mute { track, mute } => self.mute(alloc, *track, *mute),
             Command::Put { track, at, samples } => self.put(alloc, *track, *at, samples),
             Command::Delete { track, from, to } => self.delete(alloc, *track, *from, *to),
             Command::Undo => self.undo(),
             Command::Redo => self.redo(),
+            Command::Purge { count } => self.purge(*count),
             Command::Show { track, from, to } => self.show(alloc, *track, *from, *to),
+            Command::Tracks => self.tracks(alloc),
         }
     }
 
@@ -129,6 +135,53 @@ impl PlainEditor {
         Ok(reply)
     }
 
+    fn drop_track(&mut self, alloc: Global, id: u64) -> Result<Reply, Refusal>
+        ensures { Takes (Command.Drop id) (state_of self.old) result (state_of self.new) }
+    {
+        let here = self.locate(id)?;
+        tests::room(self.commit)?;
+        let place = here.place;
+        let mut tracks = tracks::share_tracks(alloc, self.current())?;
+        let _ = tracks.remove(place);
+        self.push_point(tracks)
+    }
+
+    fn level(&mut self, alloc: Global, id: u64, gain: u32) -> Result<Reply, Refusal>
+        ensures { Takes (Command.Level id gain) (state_of self.old) result (state_of self.new) }
+    {
+        let here = self.locate(id)?;
+        tests::room(self.commit)?;
+        let place = here.place;
+        let mut tracks = tracks::share_tracks(alloc, self.current())?;
+        let track = &mut tracks[place];
+        track.gain = gain;
+        self.push_point(tracks)
+    }
+
+    fn side(&mut self, alloc: Global, id: u64, side: Side) -> Result<Reply, Refusal>
+        ensures { Takes (Command.Side id side) (state_of self.old) result (state_of self.new) }
+    {
+        let here = self.locate(id)?;
+        tests::room(self.commit)?;
+        let place = here.place;
+        let mut tracks = tracks::share_tracks(alloc, self.current())?;
+        let track = &mut tracks[place];
+        track.side = side;
+        self.push_point(tracks)
+    }
+
+    fn mute(&mut self, alloc: Global, id: u64, mute: bool) -> Result<Reply, Refusal>
+        ensures { Takes (Command.Mute id mute) (state_of self.old) result (state_of self.new) }
+    {
+        let here = self.locate(id)?;
+        tests::room(self.commit)?;
+        let place = here.place;
+        let mut tracks = tracks::share_tracks(alloc, self.current())?;
+        let track = &mut tracks[place];
+        track.mute = mute;
+        self.push_point(tracks)
+    }
+
     fn put(&mut self, alloc: Global, id: u64, at: u64, samples: &Samples) -> Result<Reply, Refusal>
         requires { at < 2 ^ 63 }
         ensures { Takes (Command.Put id at samples.now) (state_of self.old) result (state_of self.new) }
@@ -177,6 +230,17 @@ impl PlainEditor {
         Ok(Reply::Done)
     }
 
+    fn purge(&mut self, count: u64) -> Result<Reply, Refusal>
+        ensures { Takes (Command.Purge count) (state_of self.old) result (state_of self.new) }
+    {
+        tests::range(0, count, self.cursor as u64)?;
+        tests::room(self.commit)?;
+        points::drop_oldest(&mut self.points, count as usize);
+        self.cursor -= count as usize;
+        self.commit += 1;
+        Ok(Reply::Done)
+    }
+
     fn show(&self, alloc: Global, id: u64, from: u64, to: u64) -> Result<Reply, Refusal>
         ensures { Takes (Command.Show id from to) (state_of self.now) result (state_of self.now) }
     {
@@ -185,6 +249,15 @@ impl PlainEditor {
         let made = cells::part(alloc, here.cells, from, to)?;
         Ok(Reply::Cells {
             cells: CellList::new(made),
+        })
+    }
+
+    fn tracks(&self, alloc: Global) -> Result<Reply, Refusal>
+        ensures { Takes Command.Tracks (state_of self.now) result (state_of self.now) }
+    {
+        let lines = tracks::lines(alloc, self.current())?;
+        Ok(Reply::Tracks {
+            tracks: TrackLines::new(lines),
         })
     }
 }

@@ -1,5 +1,5 @@
 // The points of the history.
-ghost use Rattle.std.specs.Prelude.{◌≡◌, ◌≤◌, [], ◌∷◌, ◌++◌, OnOk, OnErr, length, take};
+ghost use Rattle.std.specs.Prelude.{◌≡◌, ◌≤◌, [], ◌∷◌, ◌++◌, OnOk, OnErr, length, take, drop};
 ghost use Rattle.pcm_base.specs.History.{newest};
 
 use super::tracks::PlainTrack;
@@ -26,4 +26,12 @@ pub fn add_point(points: &mut Vec<Point>, kept: usize, point: Point) -> Result<(
         let _ = points.remove(0);
     }
     Ok(())
+}
+
+/// Drops the oldest points, so many.
+pub fn drop_oldest(points: &mut Vec<Point>, count: usize)
+    requires { count ≤ length points.old.items }
+    ensures { points.new.items ≡ drop count points.old.items }
+{
+    let _ = points.drain(..count);
 }

@@ -1,11 +1,11 @@
 // The tracks of a project.
-ghost use Rattle.std.specs.Prelude.{◌≡◌, ◌≤◌, [], ◌∷◌, ◌++◌, IfOk, MatchOption, length};
+ghost use Rattle.std.specs.Prelude.{◌≡◌, ◌≤◌, [], ◌∷◌, ◌++◌, map, IfOk, MatchOption, length};
 ghost use Rattle.pcm_base.specs.Cells.{tracks_from};
-ghost use Rattle.pcm_base.specs.Step.{new_track};
+ghost use Rattle.pcm_base.specs.Step.{new_track, line_of_track};
 ghost use Rattle.plain_editor.specs.View.{track_of, project_of};
 ghost use Rattle.plain_editor.specs.Places.{Place};
 
-use pcm_base::{Cell, Side};
+use pcm_base::{Cell, Side, TrackLine};
 use std::alloc::{AllocError, Global};
 use std::rc::RcSlice;
 
@@ -56,6 +56,30 @@ pub fn empty_track(alloc: Global, id: u64) -> Result<PlainTrack, AllocError>
         mute: false,
         cells,
     })
+}
+
+// What is told of a track.
+fn line(track: &PlainTrack) -> TrackLine
+    ensures { result ≡ line_of_track (track_of track.now) }
+{
+    TrackLine {
+        id: track.id,
+        gain: track.gain,
+        side: track.side,
+        mute: track.mute,
+        len: track.cells.as_slice().len() as u64,
+    }
+}
+
+/// What is told of the tracks.
+pub fn lines(alloc: Global, tracks: &[PlainTrack]) -> Result<Vec<TrackLine>, AllocError>
+    ensures { IfOk result (λ lines. lines.items ≡ map line_of_track (project_of tracks.now)) }
+{
+    let mut lines = Vec::with_capacity(alloc, tracks.len())?;
+    for track in tracks {
+        lines.push(line(track))?;
+    }
+    Ok(lines)
 }
 
 /// The place of the track with an id, none where there is no such track.

@@ -1,8 +1,11 @@
 -- What is printed: the line of each answer, and the last line.
-use Rattle.std.specs.Prelude.{ℕ, ◌++◌, List, ◌∷◌, codes, decimal, flat_map}
+use Rattle.std.specs.Prelude.{ℕ, ◌++◌, List, ◌∷◌, length, Bool, true, false, codes, decimal, flat_map}
 use Rattle.std.specs.Fmt.{signed_decimal}
 use Rattle.pcm_base.specs.declared.sound.Cell.{Cell}
 use Rattle.pcm_base.specs.declared.sound.Cell.TheVariants.{Gap, Sample}
+use Rattle.pcm_base.specs.declared.sound.Side.{Side}
+use Rattle.pcm_base.specs.declared.sound.Side.TheVariants.{Both, Left, Right}
+use Rattle.pcm_base.specs.declared.sound.TrackLine.{TrackLine}
 use Rattle.pcm_base.specs.declared.refusal.Refusal.{Refusal}
 use Rattle.pcm_base.specs.declared.refusal.Refusal.TheVariants as refusal
 use Rattle.pcm_base.specs.declared.answer.Reply.{Reply}
@@ -22,6 +25,21 @@ cell_text (Sample s) = signed_decimal s
 abbrev pub with_cell : Cell → List ℕ
 with_cell cell = 32 ∷ cell_text cell
 
+-- a side after a space
+abbrev pub with_side : Side → List ℕ
+with_side Both = codes " both"
+with_side Left = codes " left"
+with_side Right = codes " right"
+
+-- 0 for no, 1 for yes, after a space
+abbrev pub with_switch : Bool → List ℕ
+with_switch false = codes " 0"
+with_switch true = codes " 1"
+
+-- a track on a line of its own, which begins behind the end of another
+abbrev pub track_text : TrackLine → List ℕ
+track_text t = codes "\ntrack" ++ with_number t.id ++ with_number t.gain ++ with_side t.side ++ with_switch t.mute ++ with_number t.len
+
 -- a reason by its name, and its numbers
 abbrev pub reason_text : Refusal → List ℕ
 reason_text (refusal.BadLine column) = codes "BadLine" ++ with_number column
@@ -38,6 +56,7 @@ reason_text refusal.NoMemory = codes "NoMemory"
 abbrev pub reply_text : ℕ → Reply → List ℕ
 reply_text commit reply.Done = codes "ok" ++ with_number commit
 reply_text commit (reply.Cells cells) = codes "cells" ++ with_number commit ++ flat_map with_cell cells
+reply_text commit (reply.Tracks tracks) = codes "tracks" ++ with_number commit ++ with_number (length tracks) ++ flat_map track_text tracks
 reply_text commit (reply.Refused reason) = codes "no" ++ with_number commit ++ codes " " ++ reason_text reason
 
 -- the line of an answer, ended by LF

@@ -1,14 +1,14 @@
 // What is printed: each function adds the piece of text that its definition gives.
-ghost use Rattle.std.specs.Prelude.{◌≡◌, ◌∷◌, ◌++◌, flat_map, decimal};
+ghost use Rattle.std.specs.Prelude.{◌≡◌, ◌∷◌, ◌++◌, length, flat_map, decimal};
 ghost use Rattle.pcm_base.specs.Causes.{HasCause};
 ghost use Rattle.edit_ports.specs.Told.{Writes};
 ghost use Rattle.script_text.specs.Gathering.{Adds, Counts};
-ghost use Rattle.script_text.specs.Text.{with_number, with_cell, cell_text, reason_text, reply_text, text_of, end_text};
+ghost use Rattle.script_text.specs.Text.{with_number, with_cell, cell_text, with_side, with_switch, track_text, reason_text, reply_text, text_of, end_text};
 
 use super::gathered::Gathered;
 use edit_ports::Sink;
 use itoa::Buffer;
-use pcm_base::{Answer, Cell, Failed, Refusal, Reply};
+use pcm_base::{Answer, Cell, Failed, Refusal, Reply, Side, TrackLine};
 
 fn put_number<O: Sink>(text: &mut Gathered, out: &mut O, n: u64)
     ensures bytes { Adds text.old (O.written out.old) text.new (O.written out.new) (with_number n) }
@@ -51,6 +51,48 @@ fn put_named<O: Sink>(text: &mut Gathered, out: &mut O, word: &[u8], n: u64)
     put_number(text, out, n);
 }
 
+fn put_side<O: Sink>(text: &mut Gathered, out: &mut O, side: Side)
+    ensures bytes { Adds text.old (O.written out.old) text.new (O.written out.new) (with_side side) }
+    ensures cause { Counts text.old (O.fault_count out.old) text.new (O.fault_count out.new) }
+{
+    match side {
+        Side::Both => text.put(out, b" both"),
+        Side::Left => text.put(out, b" left"),
+        Side::Right => text.put(out, b" right"),
+    }
+}
+
+fn put_switch<O: Sink>(text: &mut Gathered, out: &mut O, on: bool)
+    ensures bytes { Adds text.old (O.written out.old) text.new (O.written out.new) (with_switch on) }
+    ensures cause { Counts text.old (O.fault_count out.old) text.new (O.fault_count out.new) }
+{
+    if on {
+        text.put(out, b" 1")
+    } else {
+        text.put(out, b" 0")
+    }
+}
+
+fn put_track<O: Sink>(text: &mut Gathered, out: &mut O, track: &TrackLine)
+    ensures bytes { Adds text.old (O.written out.old) text.new (O.written out.new) (track_text track.now) }
+    ensures cause { Counts text.old (O.fault_count out.old) text.new (O.fault_count out.new) }
+{
+    put_named(text, out, b"\ntrack", track.id);
+    put_number(text, out, u64::from(track.gain));
+    put_side(text, out, track.side);
+    put_switch(text, out, track.mute);
+    put_number(text, out, track.len);
+}
+
+fn put_tracks<O: Sink>(text: &mut Gathered, out: &mut O, tracks: &[TrackLine])
+    ensures bytes { Adds text.old (O.written out.old) text.new (O.written out.new) (flat_map track_text tracks.now) }
+    ensures cause { Counts text.old (O.fault_count out.old) text.new (O.fault_count out.new) }
+{
+    for track in tracks {
+        put_track(text, out, track);
+    }
+}
+
 fn put_reason<O: Sink>(text: &mut Gathered, out: &mut O, reason: &Refusal)
     ensures bytes { Adds text.old (O.written out.old) text.new (O.written out.new) (reason_text reason.now) }
     ensures cause { Counts text.old (O.fault_count out.old) text.new (O.fault_count out.new) }
@@ -80,6 +122,12 @@ fn put_reply<O: Sink>(text: &mut Gathered, out: &mut O, commit: u64, reply: &Rep
         Reply::Cells { cells } => {
             put_named(text, out, b"cells", commit);
             put_cells(text, out, cells.as_slice());
+        }
+        Reply::Tracks { tracks } => {
+            let tracks = tracks.as_slice();
+            put_named(text, out, b"tracks", commit);
+            put_number(text, out, tracks.len() as u64);
+            put_tracks(text, out, tracks);
         }
         Reply::Refused { reason } => {
             put_named(text, out, b"no", commit);

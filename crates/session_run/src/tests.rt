@@ -11,7 +11,7 @@ struct Case {
     status: u8,
 }
 
-const CASES: [Case; 16] = [
+const CASES: [Case; 20] = [
     // Nothing at all, and lines without an answer.
     Case {
         script: b"",
@@ -97,6 +97,30 @@ const CASES: [Case; 16] = [
     Case {
         script: b"\xff\x00\xfe\ntrack\x00\nput 1 0 \xc3\xa4\nreclaim\ncut 1 1 0 2\n",
         text: b"no 0 BadLine 1\nno 0 BadLine 1\nno 0 BadLine 9\nno 0 BadLine 1\nno 0 BadLine 1\nend 0\n",
+        status: 1,
+    },
+    // Tracks, told as they are set.
+    Case {
+        script: b"tracks\ntrack\ntrack\nput 1 0 30000\nput 2 0 10000\nside 2 left\ntracks\nlevel 1 0\nlevel 2 1048576\nmute 1 1\nside 1 right\nside 2 both\nmute 1 0\nmute 2 1\ntracks\n",
+        text: b"tracks 0 0\nok 1\nok 2\nok 3\nok 4\nok 5\ntracks 5 2\ntrack 1 65536 both 0 1\ntrack 2 65536 left 0 1\nok 6\nok 7\nok 8\nok 9\nok 10\nok 11\nok 12\ntracks 12 2\ntrack 1 0 right 0 1\ntrack 2 1048576 both 1 1\nend 12\n",
+        status: 0,
+    },
+    // A track that is dropped from between others comes back by undo; its id is not used again.
+    Case {
+        script: b"track\ntrack\ntrack\nput 2 1 5\ndrop 2\ntracks\nput 2 0 1\nundo\nshow 2 0 9\nredo\ntrack\ntracks\ndrop 9\n",
+        text: b"ok 1\nok 2\nok 3\nok 4\nok 5\ntracks 5 2\ntrack 1 65536 both 0 0\ntrack 3 65536 both 0 0\nno 5 NoTrack 2\nok 6\ncells 6 . 5\nok 7\nok 8\ntracks 8 3\ntrack 1 65536 both 0 0\ntrack 3 65536 both 0 0\ntrack 4 65536 both 0 0\nno 8 NoTrack 9\nend 8\n",
+        status: 1,
+    },
+    // After five changes, one of them undone, the cursor is 4: a purge of 3 leaves one change to undo, and the redo.
+    Case {
+        script: b"track\nput 1 0 1\nput 1 0 2\nput 1 0 3\nput 1 0 4\nundo\npurge 0\npurge 5\npurge 3\nshow 1 0 9\nundo\nundo\nredo\nredo\nshow 1 0 9\npurge 2\nundo\npurge 1\n",
+        text: b"ok 1\nok 2\nok 3\nok 4\nok 5\nok 6\nno 6 BadRange\nno 6 BadRange\nok 7\ncells 7 3 2 1\nok 8\nno 8 NothingToUndo\nok 9\nok 10\ncells 10 4 3 2 1\nok 11\nno 11 NothingToUndo\nno 11 BadRange\nend 11\n",
+        status: 1,
+    },
+    // Gains, sides and switches out of their bounds.
+    Case {
+        script: b"track\nlevel 1 1048577\nlevel 1 -1\nlevel 1\nside 1 up\nside 1 both left\nmute 1 2\nmute 1 00\nmute x 0\ndrop\ntracks 1\npurge -1\nlevel 1 0001048576\n",
+        text: b"ok 1\nno 1 BadLine 9\nno 1 BadLine 9\nno 1 BadLine 8\nno 1 BadLine 8\nno 1 BadLine 13\nno 1 BadLine 8\nno 1 BadLine 8\nno 1 BadLine 6\nno 1 BadLine 5\nno 1 BadLine 8\nno 1 BadLine 7\nok 2\nend 2\n",
         status: 1,
     },
     // Every line is answered, also behind a bad one that ends the script without an LF.
