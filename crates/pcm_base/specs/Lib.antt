@@ -3,8 +3,10 @@ pub mod Blocks
 pub mod Causes
 pub mod Cells
 pub mod Edits
+pub mod Envelope
 pub mod Form
 pub mod History
+pub mod Mix
 pub mod Pieces
 pub mod Run
 pub mod State

@@ -1,6 +1,6 @@
 // Exact arithmetic on samples.
 ghost use Rattle.std.specs.Prelude.{◌≡◌};
-ghost use Rattle.pcm_base.specs.Arithmetic.{scaled, clamped, IsIntegerRoot};
+ghost use Rattle.pcm_base.specs.Arithmetic.{scaled, clamped, integer_root};
 
 /// A sample under a gain, where 65,536 is unity: rounded to the nearest, halves up, and not yet limited.
 pub fn scaled(gain: u32, sample: i16) -> i64
@@ -18,7 +18,7 @@ pub fn clamped(value: i64) -> i16
 
 /// The integer square root: the greatest number whose square is at most `n`.
 pub fn isqrt(n: u64) -> u64
-    ensures { IsIntegerRoot n result }
+    ensures { result ≡ integer_root n }
 {
     n.isqrt()
 }

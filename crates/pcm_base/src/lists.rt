@@ -1,7 +1,7 @@
 // Lists that commands, answers and devices carry. Contracts see each as the list of its members.
 ghost use Rattle.std.specs.Prelude.{◌≡◌};
 
-use super::sound::{Cell, TrackLine};
+use super::sound::{Cell, Frame, Scan, TrackLine};
 use std::marker::Model;
 
 /// The samples of a command, in order.
@@ -59,6 +59,68 @@ impl CellList {
 
     /// The cells as a slice.
     pub fn as_slice(&self) -> &[Cell]
+        ensures { result.now ≡ self.now }
+    {
+        self.items.as_slice()
+    }
+}
+
+/// The frames of an answer, in order.
+#[derive(Debug, Drop)]
+pub struct Frames {
+    items: Vec<Frame>,
+}
+
+impl Model for Frames {
+    ghost use Rattle.std.specs.Prelude.{List};
+    ghost use Rattle.pcm_base.specs.declared.sound.Frame.{Frame};
+
+    ghost Value = { List Frame };
+
+    ghost view = { λ s. s.items.items };
+}
+
+impl Frames {
+    /// The frames of a vector, which is taken over as it is.
+    pub fn new(items: Vec<Frame>) -> Frames
+        ensures { result ≡ items.items }
+    {
+        Frames { items }
+    }
+
+    /// The frames as a slice.
+    pub fn as_slice(&self) -> &[Frame]
+        ensures { result.now ≡ self.now }
+    {
+        self.items.as_slice()
+    }
+}
+
+/// What a scan of each column of an envelope finds, in order: nothing where all its cells are gaps.
+#[derive(Debug, Drop)]
+pub struct Columns {
+    items: Vec<Option<Scan>>,
+}
+
+impl Model for Columns {
+    ghost use Rattle.std.specs.Prelude.{List, Option};
+    ghost use Rattle.pcm_base.specs.declared.sound.Scan.{Scan};
+
+    ghost Value = { List (Option Scan) };
+
+    ghost view = { λ s. s.items.items };
+}
+
+impl Columns {
+    /// The columns of a vector, which is taken over as it is.
+    pub fn new(items: Vec<Option<Scan>>) -> Columns
+        ensures { result ≡ items.items }
+    {
+        Columns { items }
+    }
+
+    /// The columns as a slice.
+    pub fn as_slice(&self) -> &[Option<Scan>]
         ensures { result.now ≡ self.now }
     {
         self.items.as_slice()

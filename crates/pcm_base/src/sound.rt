@@ -28,3 +28,23 @@ pub struct TrackLine {
     /// The number of its cells.
     pub len: u64,
 }
+
+/// A frame of the mix: what is heard on each side.
+#[derive(Clone, Copy, Debug, PartialEq, Eq)]
+pub struct Frame {
+    pub left: i16,
+    pub right: i16,
+}
+
+/// What a scan of cells finds, where at least one is a sample.
+#[derive(Clone, Copy, Debug, PartialEq, Eq)]
+pub struct Scan {
+    /// The least sample.
+    pub min: i16,
+    /// The greatest sample.
+    pub max: i16,
+    /// The sum of the squares of the samples.
+    pub squares: u64,
+    /// The number of samples.
+    pub count: u64,
+}

@@ -1,0 +1,44 @@
+-- The mix of a project, frame by frame.
+use Rattle.std.specs.Prelude.{ℕ, ℤ, pos, ◌+ℤ◌, List, [], ◌∷◌, map, filter, not, Bool, true, false, slice_index_or}
+use Rattle.pcm_base.specs.declared.sound.Cell.{Cell}
+use Rattle.pcm_base.specs.declared.sound.Cell.TheVariants.{Gap, Sample}
+use Rattle.pcm_base.specs.declared.sound.Side.{Side}
+use Rattle.pcm_base.specs.declared.sound.Side.TheVariants.{Both, Left, Right}
+use Rattle.pcm_base.specs.declared.sound.Frame.{Frame}
+use Rattle.pcm_base.specs.Arithmetic.{scaled, clamped, counted_from}
+use Rattle.pcm_base.specs.Cells.{Track, Project, longest}
+
+-- the tracks that are heard
+abbrev pub unmuted : Project → Project
+unmuted p = filter (λ t. not t.mute) p
+
+abbrev pub is_on_left : Side → Bool
+is_on_left Both = true
+is_on_left Left = true
+is_on_left Right = false
+
+abbrev pub is_on_right : Side → Bool
+is_on_right Both = true
+is_on_right Left = false
+is_on_right Right = true
+
+-- what a cell adds under a gain; a gap counts 0
+abbrev pub weight : ℕ → Cell → ℤ
+weight gain Gap = pos 0
+weight gain (Sample s) = scaled gain s
+
+-- the sum at a place over some tracks, each by its gain; a track counts 0 past its end
+abbrev pub sum_at : ℕ → List Track → ℤ
+sum_at i [] = pos 0
+sum_at i (t ∷ ts) = weight t.gain (slice_index_or t.cells i Gap) +ℤ sum_at i ts
+
+-- each side is the sum of its tracks, limited once
+abbrev pub frame_at : Project → ℕ → Frame
+frame_at p i = record {
+  left = clamped (sum_at i (filter (λ t. is_on_left t.side) (unmuted p)));
+  right = clamped (sum_at i (filter (λ t. is_on_right t.side) (unmuted p)));
+}
+
+-- as long as the longest track that is heard
+abbrev pub mix_of : Project → List Frame
+mix_of p = map (frame_at p) (counted_from 0 (longest (unmuted p)))
