@@ -32,11 +32,18 @@ abbrev pub sum_at : ℕ → List Track → ℤ
 sum_at i [] = pos 0
 sum_at i (t ∷ ts) = weight t.gain (slice_index_or t.cells i Gap) +ℤ sum_at i ts
 
+-- the tracks that are heard on each side
+abbrev pub on_left : Project → Project
+on_left p = filter (λ t. is_on_left t.side) (unmuted p)
+
+abbrev pub on_right : Project → Project
+on_right p = filter (λ t. is_on_right t.side) (unmuted p)
+
 -- each side is the sum of its tracks, limited once
 abbrev pub frame_at : Project → ℕ → Frame
 frame_at p i = record {
-  left = clamped (sum_at i (filter (λ t. is_on_left t.side) (unmuted p)));
-  right = clamped (sum_at i (filter (λ t. is_on_right t.side) (unmuted p)));
+  left = clamped (sum_at i (on_left p));
+  right = clamped (sum_at i (on_right p));
 }
 
 -- as long as the longest track that is heard

@@ -1,5 +1,5 @@
 -- The state of the editor: all that a script can see of it, and nothing of the device that keeps it.
-use Rattle.std.specs.Prelude.{ℕ, List, [], ◌∷◌, Option, None, drop}
+use Rattle.std.specs.Prelude.{ℕ, List, [], ◌∷◌, Option, None, unwrap_or, drop}
 use Rattle.pcm_base.specs.declared.sound.Cell.{Cell}
 use Rattle.pcm_base.specs.Cells.{Project}
 use Rattle.pcm_base.specs.History.{History}
@@ -22,6 +22,10 @@ first_point (x ∷ xs) = x.0
 -- the project at the cursor
 abbrev pub current : State → Project
 current s = first_point (drop s.history.cursor s.history.points)
+
+-- the lists of the clipboard, none where nothing was copied
+abbrev pub clip_of : State → List (List Cell)
+clip_of s = unwrap_or s.clipboard []
 
 -- a project without tracks, nothing to undo, and room for 256 points
 abbrev pub fresh : State

@@ -1,13 +1,14 @@
 -- What refuses a call: its own tests in their order, and then the counters. The first test that fails is the reason.
-use Rattle.std.specs.Prelude.{ℕ, ◌+◌, ◌^◌, nat_lt, nat_le, ◌==◌, ◌&&◌, not, List, [], ◌∷◌, length, Bool, true, false, Option, Some, None, max}
+use Rattle.std.specs.Prelude.{ℕ, ◌+◌, ◌-◌, ◌^◌, nat_lt, nat_le, ◌==◌, ◌&&◌, ◌||◌, not, List, [], ◌∷◌, length, map, take, zip, Bool, true, false, Option, Some, None, is_none, max}
+use Rattle.pcm_base.specs.declared.sound.Cell.{Cell}
 use Rattle.pcm_base.specs.declared.command.Command.{Command}
 use Rattle.pcm_base.specs.declared.command.Command.TheVariants as command
 use Rattle.pcm_base.specs.declared.command.Call.{Call}
 use Rattle.pcm_base.specs.declared.command.Call.TheVariants as call
 use Rattle.pcm_base.specs.declared.refusal.Refusal.{Refusal}
-use Rattle.pcm_base.specs.declared.refusal.Refusal.TheVariants.{NoTrack, BadRange, TrackLimit, LengthLimit, NothingToUndo, NothingToRedo, SpaceSpent}
-use Rattle.pcm_base.specs.Cells.{tracks_from, cells_at}
-use Rattle.pcm_base.specs.State.{State, current}
+use Rattle.pcm_base.specs.declared.refusal.Refusal.TheVariants.{NoTrack, BadRange, BadColumns, TrackLimit, LengthLimit, EmptyClipboard, TooNarrow, NothingToUndo, NothingToRedo, SpaceSpent}
+use Rattle.pcm_base.specs.Cells.{Track, tracks_from, cells_at, longest}
+use Rattle.pcm_base.specs.State.{State, current, clip_of}
 
 -- the first of two refusals
 infixr 6 ◌otherwise◌
@@ -48,6 +49,26 @@ length_limit (len ∷ lens) = (refused_if (nat_lt (2 ^ 32) len) (LengthLimit len
 abbrev pub inserted_length : ℕ → ℕ → ℕ → ℕ
 inserted_length at n len = max len at + n
 
+-- what n cells that replace others from a place on make of a length, before the gaps at the end are dropped
+abbrev pub covered_length : ℕ → ℕ → ℕ → ℕ
+covered_length at n len = max len (at + n)
+
+-- fewer tracks than are needed
+abbrev pub too_narrow : ℕ → ℕ → Option Refusal
+too_narrow have need = refused_if (nat_lt have need) (TooNarrow have need)
+
+-- nothing was copied
+abbrev pub empty_clipboard : State → Option Refusal
+empty_clipboard s = refused_if (is_none s.clipboard) EmptyClipboard
+
+-- what each list of the clipboard would make of the track that it goes to
+abbrev pub pasted_lengths : (ℕ → ℕ → ℕ) → List (List Cell) → List Track → List ℕ
+pasted_lengths f clip tracks = map (λ x. f (length x.0) (length x.1.cells)) (zip clip tracks)
+
+-- no range is cut into none, more than 4,096, or more columns than it has cells
+abbrev pub bad_columns : ℕ → ℕ → Option Refusal
+bad_columns columns len = refused_if (columns == 0 || nat_lt 4096 columns || nat_lt len columns) BadColumns
+
 -- a range of one track
 abbrev pub range_tests : State → ℕ → ℕ → ℕ → Option Refusal
 range_tests s id from to = (no_track s id) otherwise (bad_range from to (length (cells_at id (current s))))
@@ -57,6 +78,19 @@ abbrev pub insert_tests : State → ℕ → ℕ → ℕ → Option Refusal
 insert_tests s id at n =
     (no_track s id) otherwise (length_limit (inserted_length at n (length (cells_at id (current s))) ∷ []))
 
+-- a range of a run of n tracks, where it may end with the longest
+abbrev pub run_tests : State → ℕ → ℕ → ℕ → ℕ → Option Refusal
+run_tests s id n from to =
+    (no_track s id) otherwise (too_narrow (length (tracks_from id (current s))) n)
+    otherwise (bad_range from to (longest (take n (tracks_from id (current s)))))
+
+-- the clipboard on a run of as many tracks, each list making of a length what f says
+abbrev pub paste_tests : State → (ℕ → ℕ → ℕ) → ℕ → Option Refusal
+paste_tests s f id =
+    (no_track s id) otherwise (empty_clipboard s)
+    otherwise (too_narrow (length (tracks_from id (current s))) (length (clip_of s)))
+    otherwise (length_limit (pasted_lengths f (clip_of s) (tracks_from id (current s))))
+
 -- the own tests of a line
 abbrev pub own_tests : State → Command → Option Refusal
 own_tests s command.Track = track_limit s 1
@@ -65,11 +99,23 @@ own_tests s (command.Level id gain) = no_track s id
 own_tests s (command.Side id side) = no_track s id
 own_tests s (command.Mute id mute) = no_track s id
 own_tests s (command.Put id at samples) = insert_tests s id at (length samples)
+own_tests s (command.Ramp id at n start step) = insert_tests s id at n
 own_tests s (command.Delete id from to) = range_tests s id from to
+own_tests s (command.SplitDelete id from to) = range_tests s id from to
+own_tests s (command.Silence id from to) = range_tests s id from to
+own_tests s (command.Trim id from to) = range_tests s id from to
+own_tests s (command.Gain id from to gain) = range_tests s id from to
+own_tests s (command.Cut id n from to) = run_tests s id n from to
+own_tests s (command.SplitCut id n from to) = run_tests s id n from to
+own_tests s (command.Copy id n from to) = run_tests s id n from to
+own_tests s (command.Paste id at) = paste_tests s (inserted_length at) id
+own_tests s (command.PasteOver id at) = paste_tests s (covered_length at) id
 own_tests s command.Undo = refused_if (s.history.cursor == 0) NothingToUndo
 own_tests s command.Redo = refused_if (s.history.cursor + 1 == length s.history.points) NothingToRedo
 own_tests s (command.Purge n) = bad_range 0 n s.history.cursor
 own_tests s (command.Show id from to) = (no_track s id) otherwise (bad_view from to)
+own_tests s (command.Mix from to) = bad_view from to
+own_tests s (command.Envelope id from to columns) = (range_tests s id from to) otherwise (bad_columns columns (to - from))
 own_tests s command.Tracks = None
 
 -- a counter has no room for what is needed of it
@@ -84,11 +130,23 @@ tracks_needed (command.Level id gain) = 0
 tracks_needed (command.Side id side) = 0
 tracks_needed (command.Mute id mute) = 0
 tracks_needed (command.Put id at samples) = 0
+tracks_needed (command.Ramp id at n start step) = 0
 tracks_needed (command.Delete id from to) = 0
+tracks_needed (command.SplitDelete id from to) = 0
+tracks_needed (command.Silence id from to) = 0
+tracks_needed (command.Trim id from to) = 0
+tracks_needed (command.Gain id from to gain) = 0
+tracks_needed (command.Cut id n from to) = 0
+tracks_needed (command.SplitCut id n from to) = 0
+tracks_needed (command.Copy id n from to) = 0
+tracks_needed (command.Paste id at) = 0
+tracks_needed (command.PasteOver id at) = 0
 tracks_needed command.Undo = 0
 tracks_needed command.Redo = 0
 tracks_needed (command.Purge n) = 0
 tracks_needed (command.Show id from to) = 0
+tracks_needed (command.Mix from to) = 0
+tracks_needed (command.Envelope id from to columns) = 0
 tracks_needed command.Tracks = 0
 
 -- how many commit numbers a line needs: each but those that only look is a commit
@@ -99,11 +157,23 @@ commits_needed (command.Level id gain) = 1
 commits_needed (command.Side id side) = 1
 commits_needed (command.Mute id mute) = 1
 commits_needed (command.Put id at samples) = 1
+commits_needed (command.Ramp id at n start step) = 1
 commits_needed (command.Delete id from to) = 1
+commits_needed (command.SplitDelete id from to) = 1
+commits_needed (command.Silence id from to) = 1
+commits_needed (command.Trim id from to) = 1
+commits_needed (command.Gain id from to gain) = 1
+commits_needed (command.Cut id n from to) = 1
+commits_needed (command.SplitCut id n from to) = 1
+commits_needed (command.Copy id n from to) = 0
+commits_needed (command.Paste id at) = 1
+commits_needed (command.PasteOver id at) = 1
 commits_needed command.Undo = 1
 commits_needed command.Redo = 1
 commits_needed (command.Purge n) = 1
 commits_needed (command.Show id from to) = 0
+commits_needed (command.Mix from to) = 0
+commits_needed (command.Envelope id from to columns) = 0
 commits_needed command.Tracks = 0
 
 -- the counters, in the order in which they are tested

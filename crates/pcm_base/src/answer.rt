@@ -1,5 +1,5 @@
 // What a line is answered.
-use super::lists::{CellList, TrackLines};
+use super::lists::{CellList, Columns, Frames, TrackLines};
 use super::refusal::Refusal;
 
 /// What stands in an answer beside its commit number.
@@ -7,8 +7,14 @@ use super::refusal::Refusal;
 pub enum Reply {
     /// The line was carried out.
     Done,
+    /// The range was copied.
+    Copied,
     /// The cells that were asked for.
     Cells { cells: CellList },
+    /// The frames that were asked for.
+    Frames { frames: Frames },
+    /// What a scan of each column finds.
+    Columns { columns: Columns },
     /// The tracks of the project, in its order.
     Tracks { tracks: TrackLines },
     /// The line was refused, and has changed nothing.

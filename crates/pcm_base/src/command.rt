@@ -32,11 +32,75 @@ pub enum Command {
         at: u64,
         samples: Samples,
     },
+    /// Inserts samples from `start` on in steps of `step`, each limited to what a sample can be; 1 to 1,048,576 of them.
+    Ramp {
+        track: u64,
+        at: u64,
+        count: u32,
+        start: i16,
+        step: i16,
+    },
     /// Takes a range out, so that what is behind it moves up.
     Delete {
         track: u64,
         from: u64,
         to: u64,
+    },
+    /// Makes gaps of a range.
+    SplitDelete {
+        track: u64,
+        from: u64,
+        to: u64,
+    },
+    /// Makes the samples of a range 0, and leaves its gaps.
+    Silence {
+        track: u64,
+        from: u64,
+        to: u64,
+    },
+    /// Makes gaps of all of a track outside a range.
+    Trim {
+        track: u64,
+        from: u64,
+        to: u64,
+    },
+    /// Scales the samples of a range by a gain, from 0 to 1,048,576; 65,536 is unity.
+    Gain {
+        track: u64,
+        from: u64,
+        to: u64,
+        gain: u32,
+    },
+    /// Copies a range of as many tracks as `count`, from a track on, and takes it out of each.
+    Cut {
+        track: u64,
+        count: u64,
+        from: u64,
+        to: u64,
+    },
+    /// Copies a range of as many tracks as `count`, from a track on, and makes gaps of it in each.
+    SplitCut {
+        track: u64,
+        count: u64,
+        from: u64,
+        to: u64,
+    },
+    /// Copies a range of as many tracks as `count`, from a track on.
+    Copy {
+        track: u64,
+        count: u64,
+        from: u64,
+        to: u64,
+    },
+    /// Inserts what was copied, from a track on.
+    Paste {
+        track: u64,
+        at: u64,
+    },
+    /// Puts what was copied in the place of what is there, from a track on.
+    PasteOver {
+        track: u64,
+        at: u64,
     },
     /// Goes back to the point before.
     Undo,
@@ -51,6 +115,18 @@ pub enum Command {
         track: u64,
         from: u64,
         to: u64,
+    },
+    /// Tells the frames of a range of the mix, none beyond its end.
+    Mix {
+        from: u64,
+        to: u64,
+    },
+    /// Cuts a range into columns, and tells what a scan of each finds.
+    Envelope {
+        track: u64,
+        from: u64,
+        to: u64,
+        columns: u64,
     },
     /// Tells the tracks.
     Tracks,

@@ -13,10 +13,16 @@ pub enum Refusal {
     NoTrack { id: u64 },
     /// The range is empty or backwards, ends beyond the track, or is too long to be shown.
     BadRange,
+    /// The range is to be cut into no columns, into more than 4,096, or into more than it has cells.
+    BadColumns,
     /// The project would have more than 64 tracks.
     TrackLimit,
     /// A track would have this many cells, which are more than 2^32.
     LengthLimit { len: u64 },
+    /// Nothing was copied or cut yet.
+    EmptyClipboard,
+    /// From the track on there are `have` tracks, and `need` are needed.
+    TooNarrow { have: u64, need: u64 },
     /// There is no point before the current one.
     NothingToUndo,
     /// There is no point behind the current one.

@@ -1,13 +1,12 @@
 -- Trimming, and the place of a track.
-use Rattle.std.proofs.Common.{◌≡◌, ◌==◌, ℕ, zero, suc, ℤ, ◌+◌, ◌-◌, ◌<◌, ◌≤◌, min, List, [], ◌∷◌, ◌++◌, length, take, drop, get_or, replicate, true, inl, inr, ◌⊎◌, subst, refl, sym, ap, ◌∙◌, arith}
+use Rattle.std.proofs.Common.{◌≡◌, ◌==◌, ℕ, zero, suc, ℤ, ◌+◌, ◌-◌, ◌<◌, List, [], ◌∷◌, ◌++◌, length, take, drop, get_or, true, subst, refl, sym, ap, ◌∙◌, arith}
 use Rattle.std.proofs.Math.Seq.{take-append_seam}
-use Rattle.std.proofs.lemmas.Bool.{cases_lt}
 use Rattle.std.proofs.lemmas.Bool.Decides.{nat_tests}
-use Rattle.std.proofs.lemmas.List.{append-nil, drop_more, take-map, take_all, drop_all, length-append, length-replicate, length-map, take_more, length_push, length-take-le}
+use Rattle.std.proofs.lemmas.List.{drop_more, take-map, take_all, length-map, take_more, length_push}
 use Rattle.pcm_base.specs.declared.sound.Cell.{Cell}
 use Rattle.pcm_base.specs.declared.sound.Cell.TheVariants.{Gap, Sample}
-use Rattle.pcm_base.specs.Cells.{Track, Project, trimmed, joined, continued, tracks_from, run_edited, replaced_at}
-use Rattle.plain_editor.specs.declared.tracks.PlainTrack.{PlainTrack}
+use Rattle.pcm_base.specs.Cells.{Track, Project, trimmed, joined, tracks_from, run_edited, replaced_at}
+use Rattle.plain_editor.specs.declared.track.PlainTrack.{PlainTrack}
 use Rattle.plain_editor.specs.View.{track_of, project_of}
 use Rattle.plain_editor.specs.Places.{Place}
 
@@ -58,36 +57,6 @@ pub ends_in_sample : (xs : List Cell) (s : ℤ) → 0 < length xs → get_or xs 
 ends_in_sample xs s h is =
     let e = rw is at (last_split xs h) in
     subst (λ (l : List Cell). trimmed l ≡ l) (sym e) (trimmed-sample (take (length xs - 1) xs) s)
-
--- the cells of an insertion: those before the place, and gaps up to it
-pub insertion : (cells front : List Cell) (at len : ℕ) → front ≡ take (min at (length cells)) cells → len ≡ length front → take at front ++ replicate (at - len) Gap ≡ take at (continued at cells)
-insertion cells front at len is long = by (cases_lt (length cells) at)
-  where
-    by : ((length cells < at) ⊎ (at ≤ length cells)) → take at front ++ replicate (at - len) Gap ≡ take at (continued at cells)
-    by (inl past) =
-        let m : min at (length cells) ≡ length cells = omega arith in
-        let whole : front ≡ cells = is ∙ rw (m, take_all (length cells) cells (omega arith)) in
-        let n : len ≡ length cells = long ∙ ap length whole in
-        let l : length (cells ++ replicate (at - length cells) Gap) ≤ at = omega (arith, length-append cells (replicate (at - length cells) Gap), length-replicate (at - length cells) Gap) in
-        rw (whole, n, take_all at cells (omega arith), take_all at (cells ++ replicate (at - length cells) Gap) l)
-    by (inr within) =
-        let m : min at (length cells) ≡ at = omega arith in
-        let part : front ≡ take at cells = is ∙ ap (λ k. take k cells) m in
-        let n : len ≡ at = long ∙ ap length part ∙ length-take-le at cells within in
-        let z : at - length cells ≡ 0 = omega arith in
-        let y : at - at ≡ 0 = omega arith in
-        let same : take at (take at cells) ≡ take at cells = take_all at (take at cells) (omega (arith, length-take-le at cells within)) in
-        rw (part, n, y, z, same, append-nil (take at cells), append-nil cells)
-
--- the cells behind an insertion
-pub behind : (cells : List Cell) (at : ℕ) → drop (min at (length cells)) cells ≡ drop at cells
-behind cells at = by (cases_lt (length cells) at)
-  where
-    by : ((length cells < at) ⊎ (at ≤ length cells)) → drop (min at (length cells)) cells ≡ drop at cells
-    by (inl past) =
-        let m : min at (length cells) ≡ length cells = omega arith in
-        rw m (drop_all (length cells) cells (omega arith) ∙ sym (drop_all at cells (omega arith)))
-    by (inr within) = let m : min at (length cells) ≡ at = omega arith in rw m refl
 
 pub trim_step : (xs front ys : List Cell) (n : ℕ) → xs ≡ front ++ Gap ∷ [] → n ≡ length xs → ys ≡ take (n - 1) xs → trimmed ys ≡ trimmed xs
 trim_step xs front ys n is long left =

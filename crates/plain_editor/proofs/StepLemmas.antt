@@ -17,7 +17,7 @@ use Rattle.pcm_base.specs.History.{newest}
 use Rattle.plain_editor.specs.declared.points.Point.{Point}
 use Rattle.plain_editor.specs.View.{point_of, project_of, track_of}
 use Rattle.plain_editor.specs.Places.{Place, IsHere, with_cells_at, replaced_in}
-use Rattle.plain_editor.specs.declared.tracks.PlainTrack.{PlainTrack}
+use Rattle.plain_editor.specs.declared.track.PlainTrack.{PlainTrack}
 use Rattle.pcm_base.specs.declared.sound.Cell.{Cell}
 use Rattle.pcm_base.specs.declared.refusal.Refusal.TheVariants.{NoTrack}
 use Rattle.pcm_base.specs.Cells.{Track, Project, tracks_from, changed_at, dropped}
@@ -46,13 +46,13 @@ place_is tracks i x within is =
     let here : drop i tracks ≡ x ∷ drop (i + 1) tracks = drop_more tracks i x within ∙ ap (λ y. y ∷ drop (i + 1) tracks) (sym is) in
     rw (drop-map track_of i tracks, here)
 
-pub is_here : (s : State) (id i : ℕ) (t : Track) (rest : Project) → Place id (current s) i → drop i (current s) ≡ t ∷ rest → IsHere s id i t.cells
-is_here s id i t rest place is = record {
-  within = place.within;
+pub is_here : (s : State) (id i : ℕ) (t : Track) (rest : Project) → Place id (current s) i → drop i (current s) ≡ t ∷ rest → length t.cells ≤ 2 ^ 32 → IsHere s id i t.cells
+is_here s id i t rest place is short = record {
+  place = place;
   found = rw (place.from, is);
   cells_are = rw (place.from, is);
   edits = λ f made e. sym (place.edits (f ∷ []) ∙ rw (is, e));
-  replaces = place.replaces;
+  short = short;
 }
 
 pub no_such_track : (s : State) (id : ℕ) → tracks_from id (current s) ≡ [] → no_track s id ≡ Some (NoTrack id)
@@ -83,15 +83,15 @@ dropped_view tracks i x within is =
 pub changed_here : (s : State) (id i : ℕ) (cs : List Cell) (tracks : List PlainTrack) (x y : PlainTrack) (f : Track → Track) → IsHere s id i cs → project_of tracks ≡ current s → x ≡ get_or tracks i x → track_of y ≡ f (track_of x) →
     project_of (set tracks i y) ≡ changed_at id f (current s)
 changed_here s id i cs tracks x y f here same is changed =
-    let within : i < length tracks = omega (arith, length-map tracks track_of, ap length same, here.within) in
-    changed_view tracks i x y f within is changed ∙ ap (replaced_in i (λ t. f t ∷ [])) same ∙ sym (here.replaces (λ t. f t ∷ []))
+    let within : i < length tracks = omega (arith, length-map tracks track_of, ap length same, here.place.within) in
+    changed_view tracks i x y f within is changed ∙ ap (replaced_in i (λ t. f t ∷ [])) same ∙ sym (here.place.replaces (λ t. f t ∷ []))
 
 -- the track that was found, taken out of a copy of the tracks
 pub dropped_here : (s : State) (id i : ℕ) (cs : List Cell) (tracks : List PlainTrack) (x : PlainTrack) → IsHere s id i cs → project_of tracks ≡ current s → x ≡ get_or tracks i x →
     project_of (take i tracks ++ drop (i + 1) tracks) ≡ dropped id (current s)
 dropped_here s id i cs tracks x here same is =
-    let within : i < length tracks = omega (arith, length-map tracks track_of, ap length same, here.within) in
-    dropped_view tracks i x within is ∙ ap (replaced_in i (λ _. [])) same ∙ sym (here.replaces (λ _. []))
+    let within : i < length tracks = omega (arith, length-map tracks track_of, ap length same, here.place.within) in
+    dropped_view tracks i x within is ∙ ap (replaced_in i (λ _. [])) same ∙ sym (here.place.replaces (λ _. []))
 
 -- an edit whose project was pushed, or for which memory was wanting
 pub edit_taken : (result : Result Reply Refusal) (s t : State) (c : Command) (p : Project) → tests_of s (call.Line c) ≡ None → MayAnswer s (call.Line c) Done → after s (call.Line c) ≡ with_project s p →

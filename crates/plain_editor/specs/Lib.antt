@@ -1,3 +1,5 @@
 pub mod Places
+pub mod Runs
+pub mod Scans
 pub mod Takes
 pub mod View

@@ -1,5 +1,5 @@
 -- Where a track stands in a project, and what an edit there makes.
-use Rattle.std.specs.Prelude.{◌≡◌, ℕ, ◌<◌, List, [], ◌∷◌, ◌++◌, length, take, drop, Result, MatchResult, Some, None}
+use Rattle.std.specs.Prelude.{◌≡◌, ℕ, ◌<◌, ◌≤◌, ◌^◌, List, [], ◌∷◌, ◌++◌, length, take, drop, Result, MatchResult, Some, None}
 use Rattle.pcm_base.specs.declared.sound.Cell.{Cell}
 use Rattle.pcm_base.specs.declared.refusal.Refusal.{Refusal}
 use Rattle.pcm_base.specs.Cells.{Track, Project, tracks_from, cells_at, replaced_at, run_edited, each_edited, edited_at}
@@ -28,11 +28,11 @@ with_cells_at i cells p = take i p ++ each_edited ((λ _. cells) ∷ []) (drop i
 
 -- a track with an id stands at a place and has these cells: what its tests read, and what an edit of it makes
 pub record IsHere (s : State) (id i : ℕ) (cells : List Cell) : Type 0 where
-  pub within : i < length (current s)
+  pub place : Place id (current s) i
   pub found : no_track s id ≡ None
   pub cells_are : cells_at id (current s) ≡ cells
   pub edits : (f : List Cell → List Cell) (made : List Cell) → made ≡ f cells → with_cells_at i made (current s) ≡ edited_at id f (current s)
-  pub replaces : (f : Track → Project) → replaced_at id f (current s) ≡ replaced_in i f (current s)
+  pub short : length cells ≤ 2 ^ 32
 
 -- a track is found, or the test that it is there refuses
 abbrev pub Locates : {H : Type 0} → State → ℕ → Result H Refusal → (H → ℕ) → (H → List Cell) → Type 0

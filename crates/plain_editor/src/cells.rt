@@ -1,43 +1,19 @@
 // Edits of the cells of a track: a few moves of whole slices into a new list.
-ghost use Rattle.std.specs.Prelude.{◌≡◌, ◌+◌, ◌^◌, ◌<◌, ◌≤◌, [], ◌∷◌, ◌++◌, List, MatchBool, OnOk, IfOk, length};
-ghost use Rattle.pcm_base.specs.declared.sound.Cell.{Cell};
-ghost use Rattle.pcm_base.specs.declared.sound.Cell.TheVariants.{Gap};
-ghost use Rattle.pcm_base.specs.Cells.{trimmed};
-ghost use Rattle.pcm_base.specs.Edits.{as_cells, part, inserted, deleted};
+ghost use Rattle.std.specs.Prelude.{◌≡◌, ◌+◌, ◌^◌, ◌<◌, ◌≤◌, IfOk, length, max};
+ghost use Rattle.pcm_base.specs.Edits.{as_cells, ramp_of, part, range_of, inserted, deleted, changed, split_deleted, silenced, gained, kept_only, pasted_over};
 
+use super::moves;
 use pcm_base::Cell;
 use std::alloc::{AllocError, Global};
 
-// Whether the last cell is a gap.
-fn ends_with_gap(cells: &[Cell]) -> bool
-    ensures { MatchBool result
-        ((front : List Cell) × (cells.now ≡ front ++ Gap ∷ [])) (trimmed cells.now ≡ cells.now) }
+/// The cells of a range, as many as are there.
+pub fn part(cells: &[Cell], from: u64, to: u64) -> &[Cell]
+    ensures { result.now ≡ part from to cells.now }
 {
-    if cells.is_empty() {
-        return false;
-    }
-    match cells[cells.len() - 1] {
-        Cell::Gap => true,
-        Cell::Sample(_) => false,
-    }
-}
-
-// Drops the gaps at the end.
-fn trim(cells: &mut Vec<Cell>)
-    ensures { cells.new.items ≡ trimmed cells.old.items }
-{
-    while ends_with_gap(cells.as_slice()) {
-        let _ = cells.pop();
-    }
-}
-
-fn push_samples(cells: &mut Vec<Cell>, samples: &[i16]) -> Result<(), AllocError>
-    ensures { OnOk result (cells.new.items ≡ cells.old.items ++ as_cells samples.now) }
-{
-    for sample in samples {
-        cells.push(Cell::Sample(*sample))?;
-    }
-    Ok(())
+    let len = cells.len() as u64;
+    let start = from.min(len);
+    let end = to.min(len).max(start);
+    &cells[start as usize..end as usize]
 }
 
 /// The cells with samples inserted at a place.
@@ -48,15 +24,66 @@ pub fn inserted(
     samples: &[i16],
 ) -> Result<Vec<Cell>, AllocError>
     requires { at + length samples.now + length cells.now < 2 ^ 64 }
-    ensures { IfOk result (λ made. made.items ≡ inserted at (as_cells samples.now) cells.now) }
+    ensures items { IfOk result (λ made. made.items ≡ inserted at (as_cells samples.now) cells.now) }
+    ensures length { IfOk result (λ made. length made.items ≤ max (length cells.now) at + length samples.now) }
 {
-    let front = at.min(cells.len());
-    let mut made = Vec::with_capacity(alloc, at.max(cells.len()) + samples.len())?;
-    made.extend_from_slice(&cells[..front])?;
-    made.resize(at, Cell::Gap)?;
-    push_samples(&mut made, samples)?;
-    made.extend_from_slice(&cells[front..])?;
-    trim(&mut made);
+    let mut made = moves::opened(alloc, cells, at, at.max(cells.len()) + samples.len())?;
+    moves::push_samples(&mut made, samples)?;
+    moves::close(&mut made, moves::behind(cells, at))?;
+    Ok(made)
+}
+
+/// The cells with a ramp inserted at a place.
+pub fn inserted_ramp(
+    alloc: Global,
+    cells: &[Cell],
+    at: usize,
+    count: u32,
+    start: i16,
+    step: i16,
+) -> Result<Vec<Cell>, AllocError>
+    requires { at + count + length cells.now < 2 ^ 64 }
+    ensures items { IfOk result (λ made. made.items ≡ inserted at (ramp_of count start step) cells.now) }
+    ensures length { IfOk result (λ made. length made.items ≤ max (length cells.now) at + count) }
+{
+    let mut made = moves::opened(alloc, cells, at, at.max(cells.len()) + count as usize)?;
+    moves::push_ramp(&mut made, count, start, step)?;
+    moves::close(&mut made, moves::behind(cells, at))?;
+    Ok(made)
+}
+
+/// The cells with others inserted at a place.
+pub fn pasted(
+    alloc: Global,
+    cells: &[Cell],
+    at: usize,
+    clip: &[Cell],
+) -> Result<Vec<Cell>, AllocError>
+    requires { at + length clip.now + length cells.now < 2 ^ 64 }
+    ensures items { IfOk result (λ made. made.items ≡ inserted at clip.now cells.now) }
+    ensures length { IfOk result (λ made. length made.items ≤ max (length cells.now) at + length clip.now) }
+{
+    let mut made = moves::opened(alloc, cells, at, at.max(cells.len()) + clip.len())?;
+    made.extend_from_slice(clip)?;
+    moves::close(&mut made, moves::behind(cells, at))?;
+    Ok(made)
+}
+
+/// The cells with others in the place of as many.
+pub fn pasted_over(
+    alloc: Global,
+    cells: &[Cell],
+    at: usize,
+    clip: &[Cell],
+) -> Result<Vec<Cell>, AllocError>
+    requires { at + length clip.now < 2 ^ 64 }
+    ensures items { IfOk result (λ made. made.items ≡ pasted_over at clip.now cells.now) }
+    ensures length { IfOk result (λ made. length made.items ≤ max (length cells.now) (at + length clip.now)) }
+{
+    let end = at + clip.len();
+    let mut made = moves::opened(alloc, cells, at, end.max(cells.len()))?;
+    made.extend_from_slice(clip)?;
+    moves::close(&mut made, moves::behind(cells, end))?;
     Ok(made)
 }
 
@@ -67,23 +94,101 @@ pub fn deleted(
     from: usize,
     to: usize,
 ) -> Result<Vec<Cell>, AllocError>
-    requires order { from ≤ to }
-    requires within { to ≤ length cells.now }
-    ensures { IfOk result (λ made. made.items ≡ deleted from to cells.now) }
+    requires { from ≤ to }
+    ensures items { IfOk result (λ made. made.items ≡ deleted from to cells.now) }
+    ensures length { IfOk result (λ made. length made.items ≤ length cells.now) }
 {
-    let mut made = Vec::with_capacity(alloc, cells.len() - (to - from))?;
-    made.extend_from_slice(&cells[..from])?;
-    made.extend_from_slice(&cells[to..])?;
-    trim(&mut made);
+    let mut made = Vec::with_capacity(alloc, cells.len())?;
+    made.extend_from_slice(moves::before(cells, from))?;
+    moves::close(&mut made, moves::behind(cells, to))?;
     Ok(made)
 }
 
-/// The cells of a range, as many as are there.
-pub fn part(alloc: Global, cells: &[Cell], from: u64, to: u64) -> Result<Vec<Cell>, AllocError>
-    ensures { IfOk result (λ made. made.items ≡ part from to cells.now) }
+/// The cells with gaps in the place of a range.
+pub fn split_deleted(
+    alloc: Global,
+    cells: &[Cell],
+    from: usize,
+    to: usize,
+) -> Result<Vec<Cell>, AllocError>
+    requires { from ≤ to }
+    ensures items { IfOk result (λ made. made.items ≡ split_deleted from to cells.now) }
+    ensures length { IfOk result (λ made. length made.items ≤ length cells.now) }
 {
-    let len = cells.len() as u64;
-    let start = from.min(len);
-    let end = to.min(len).max(start);
-    Vec::from_slice(alloc, &cells[start as usize..end as usize])
+    let mut made = Vec::with_capacity(alloc, cells.len())?;
+    made.extend_from_slice(moves::before(cells, from))?;
+    made.resize(to.min(cells.len()), Cell::Gap)?;
+    moves::close(&mut made, moves::behind(cells, to))?;
+    Ok(made)
+}
+
+/// The cells with the samples of a range made 0.
+pub fn silenced(
+    alloc: Global,
+    cells: &[Cell],
+    from: usize,
+    to: usize,
+) -> Result<Vec<Cell>, AllocError>
+    requires { from ≤ to }
+    ensures items { IfOk result (λ made. made.items ≡ silenced from to cells.now) }
+    ensures length { IfOk result (λ made. length made.items ≤ length cells.now) }
+{
+    let mut made = Vec::with_capacity(alloc, cells.len())?;
+    made.extend_from_slice(moves::before(cells, from))?;
+    moves::push_quieted(&mut made, part(cells, from as u64, to as u64))?;
+    moves::close(&mut made, moves::behind(cells, to))?;
+    Ok(made)
+}
+
+/// The cells with the samples of a range under a gain.
+pub fn gained(
+    alloc: Global,
+    cells: &[Cell],
+    from: usize,
+    to: usize,
+    gain: u32,
+) -> Result<Vec<Cell>, AllocError>
+    requires { from ≤ to }
+    ensures items { IfOk result (λ made. made.items ≡ changed (gained gain) from to cells.now) }
+    ensures length { IfOk result (λ made. length made.items ≤ length cells.now) }
+{
+    let mut made = Vec::with_capacity(alloc, cells.len())?;
+    made.extend_from_slice(moves::before(cells, from))?;
+    moves::push_gained(&mut made, part(cells, from as u64, to as u64), gain)?;
+    moves::close(&mut made, moves::behind(cells, to))?;
+    Ok(made)
+}
+
+/// The cells of a range, with gaps in the place of all others.
+pub fn kept_only(
+    alloc: Global,
+    cells: &[Cell],
+    from: usize,
+    to: usize,
+) -> Result<Vec<Cell>, AllocError>
+    requires order { from ≤ to }
+    requires within { to ≤ length cells.now }
+    ensures items { IfOk result (λ made. made.items ≡ kept_only from to cells.now) }
+    ensures length { IfOk result (λ made. length made.items ≤ length cells.now) }
+{
+    let mut made = Vec::with_capacity(alloc, to)?;
+    made.resize(from, Cell::Gap)?;
+    moves::close(&mut made, part(cells, from as u64, to as u64))?;
+    Ok(made)
+}
+
+/// The cells of a range, all of them: gaps where there are fewer.
+pub fn range_of(
+    alloc: Global,
+    cells: &[Cell],
+    from: usize,
+    to: usize,
+) -> Result<Vec<Cell>, AllocError>
+    requires { from ≤ to }
+    ensures { IfOk result (λ made. made.items ≡ range_of from to cells.now) }
+{
+    let mut made = Vec::with_capacity(alloc, to - from)?;
+    made.extend_from_slice(part(cells, from as u64, to as u64))?;
+    made.resize(to - from, Cell::Gap)?;
+    Ok(made)
 }

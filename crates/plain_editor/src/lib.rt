@@ -6,11 +6,21 @@
 //! costs the cells of the track that it changes.
 #![tactic(auto)]
 
+mod apply;
 mod cells;
 mod editor;
-mod lines;
+mod edits;
+mod history;
+mod mixing;
+mod moves;
 mod points;
+mod runs;
+mod scanning;
+mod settings;
+mod steps;
 mod tests;
+mod track;
 mod tracks;
+mod views;
 
 pub use editor::PlainEditor;

@@ -2,7 +2,7 @@
 ghost use Rattle.std.specs.Prelude.{◌≡◌, ◌≤◌, [], ◌∷◌, ◌++◌, OnOk, OnErr, length, take, drop};
 ghost use Rattle.pcm_base.specs.History.{newest};
 
-use super::tracks::PlainTrack;
+use super::track::PlainTrack;
 use std::alloc::AllocError;
 
 /// A point of the history: a whole project, and its tag.

@@ -1,23 +1,14 @@
 // The tracks of a project.
-ghost use Rattle.std.specs.Prelude.{◌≡◌, ◌≤◌, [], ◌∷◌, ◌++◌, map, IfOk, MatchOption, length};
-ghost use Rattle.pcm_base.specs.Cells.{tracks_from};
+ghost use Rattle.std.specs.Prelude.{◌≡◌, ◌^◌, ◌≤◌, [], ◌∷◌, ◌++◌, map, IfOk, OnOk, MatchOption, length, take, drop};
+ghost use Rattle.pcm_base.specs.Cells.{tracks_from, longest};
 ghost use Rattle.pcm_base.specs.Step.{new_track, line_of_track};
 ghost use Rattle.plain_editor.specs.View.{track_of, project_of};
 ghost use Rattle.plain_editor.specs.Places.{Place};
 
+use super::track::PlainTrack;
 use pcm_base::{Cell, Side, TrackLine};
 use std::alloc::{AllocError, Global};
 use std::rc::RcSlice;
-
-/// A track. Points of the history share its cells as long as they are the same.
-#[derive(Drop)]
-pub struct PlainTrack {
-    pub id: u64,
-    pub gain: u32,
-    pub side: Side,
-    pub mute: bool,
-    pub cells: RcSlice<Cell, Global>,
-}
 
 // The same track, sharing its cells.
 fn share_track(track: &PlainTrack) -> Result<PlainTrack, AllocError>
@@ -33,15 +24,38 @@ fn share_track(track: &PlainTrack) -> Result<PlainTrack, AllocError>
     })
 }
 
+/// Adds the same tracks, sharing their cells.
+pub fn push_shared(made: &mut Vec<PlainTrack>, tracks: &[PlainTrack]) -> Result<(), AllocError>
+    ensures { OnOk result (project_of made.new.items ≡ project_of made.old.items ++ project_of tracks.now) }
+{
+    for track in tracks {
+        made.push(share_track(track)?)?;
+    }
+    Ok(())
+}
+
 /// The same tracks, sharing their cells, with room for one more.
 pub fn share_tracks(alloc: Global, tracks: &[PlainTrack]) -> Result<Vec<PlainTrack>, AllocError>
     ensures { IfOk result (λ copy. project_of copy.items ≡ project_of tracks.now) }
 {
     let mut copy = Vec::with_capacity(alloc, tracks.len() + 1)?;
-    for track in tracks {
-        copy.push(share_track(track)?)?;
-    }
+    push_shared(&mut copy, tracks)?;
     Ok(copy)
+}
+
+/// The same track with other cells.
+pub fn with_cells(track: &PlainTrack, cells: Vec<Cell>) -> Result<PlainTrack, AllocError>
+    requires { length cells.items ≤ 2 ^ 32 }
+    ensures { IfOk result (λ made. track_of made ≡ record (track_of track.now) { cells = cells.items }) }
+{
+    let shared = RcSlice::from_vec(cells)?;
+    Ok(PlainTrack {
+        id: track.id,
+        gain: track.gain,
+        side: track.side,
+        mute: track.mute,
+        cells: shared,
+    })
 }
 
 /// An empty track.
@@ -69,6 +83,35 @@ fn line(track: &PlainTrack) -> TrackLine
         mute: track.mute,
         len: track.cells.as_slice().len() as u64,
     }
+}
+
+/// The tracks from a place on.
+pub fn behind(tracks: &[PlainTrack], place: usize) -> &[PlainTrack]
+    requires { place ≤ length tracks.now }
+    ensures tracks { project_of result.now ≡ drop place (project_of tracks.now) }
+    ensures length { length result.now ≡ length (drop place (project_of tracks.now)) }
+{
+    &tracks[place..]
+}
+
+/// The first tracks, so many.
+pub fn first(tracks: &[PlainTrack], count: usize) -> &[PlainTrack]
+    requires { count ≤ length tracks.now }
+    ensures tracks { project_of result.now ≡ take count (project_of tracks.now) }
+    ensures length { length result.now ≡ count }
+{
+    &tracks[..count]
+}
+
+/// The greatest length of some tracks.
+pub fn longest(tracks: &[PlainTrack]) -> u64
+    ensures { result ≡ longest (project_of tracks.now) }
+{
+    let mut longest = 0;
+    for track in tracks {
+        longest = longest.max(track.cells.as_slice().len() as u64);
+    }
+    longest
 }
 
 /// What is told of the tracks.

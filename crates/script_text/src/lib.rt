@@ -10,10 +10,12 @@ ghost use Rattle.script_text.specs.declared.LineFault.TheVariants.{NoMemory};
 
 mod forms;
 mod gathered;
+mod kinds;
+mod parsing;
 mod text;
 mod words;
 
-pub use forms::parse;
+pub use parsing::parse;
 use std::alloc::AllocFailed;
 pub use text::{write_answer, write_end};
 pub use words::is_silent;

@@ -1,17 +1,27 @@
 // What is printed: each function adds the piece of text that its definition gives.
-ghost use Rattle.std.specs.Prelude.{◌≡◌, ◌∷◌, ◌++◌, length, flat_map, decimal};
+ghost use Rattle.std.specs.Prelude.{◌≡◌, ◌∷◌, ◌++◌, length, flat_map, decimal, Some};
 ghost use Rattle.pcm_base.specs.Causes.{HasCause};
+ghost use Rattle.pcm_base.specs.Envelope.{rms_of};
 ghost use Rattle.edit_ports.specs.Told.{Writes};
 ghost use Rattle.script_text.specs.Gathering.{Adds, Counts};
-ghost use Rattle.script_text.specs.Text.{with_number, with_cell, cell_text, with_side, with_switch, track_text, reason_text, reply_text, text_of, end_text};
+ghost use Rattle.script_text.specs.Text.{with_number, with_signed, with_cell, cell_text, with_frame, with_side, with_switch, track_text, column_text, reason_text, reply_text, text_of, end_text};
 
 use super::gathered::Gathered;
 use edit_ports::Sink;
 use itoa::Buffer;
-use pcm_base::{Answer, Cell, Failed, Refusal, Reply, Side, TrackLine};
+use pcm_base::{Answer, Cell, Failed, Frame, Refusal, Reply, Scan, Side, TrackLine, isqrt};
 
 fn put_number<O: Sink>(text: &mut Gathered, out: &mut O, n: u64)
     ensures bytes { Adds text.old (O.written out.old) text.new (O.written out.new) (with_number n) }
+    ensures cause { Counts text.old (O.fault_count out.old) text.new (O.fault_count out.new) }
+{
+    let mut buffer = Buffer::new();
+    text.put(out, b" ");
+    text.put(out, buffer.format(n).as_bytes());
+}
+
+fn put_signed<O: Sink>(text: &mut Gathered, out: &mut O, n: i16)
+    ensures bytes { Adds text.old (O.written out.old) text.new (O.written out.new) (with_signed n) }
     ensures cause { Counts text.old (O.fault_count out.old) text.new (O.fault_count out.new) }
 {
     let mut buffer = Buffer::new();
@@ -23,13 +33,9 @@ fn put_cell<O: Sink>(text: &mut Gathered, out: &mut O, cell: Cell)
     ensures bytes { Adds text.old (O.written out.old) text.new (O.written out.new) (with_cell cell) }
     ensures cause { Counts text.old (O.fault_count out.old) text.new (O.fault_count out.new) }
 {
-    text.put(out, b" ");
     match cell {
-        Cell::Gap => text.put(out, b"."),
-        Cell::Sample(s) => {
-            let mut buffer = Buffer::new();
-            text.put(out, buffer.format(s).as_bytes());
-        }
+        Cell::Gap => text.put(out, b" ."),
+        Cell::Sample(s) => put_signed(text, out, s),
     }
 }
 
@@ -42,6 +48,23 @@ fn put_cells<O: Sink>(text: &mut Gathered, out: &mut O, cells: &[Cell])
     }
 }
 
+fn put_frame<O: Sink>(text: &mut Gathered, out: &mut O, frame: Frame)
+    ensures bytes { Adds text.old (O.written out.old) text.new (O.written out.new) (with_frame frame) }
+    ensures cause { Counts text.old (O.fault_count out.old) text.new (O.fault_count out.new) }
+{
+    put_signed(text, out, frame.left);
+    put_signed(text, out, frame.right);
+}
+
+fn put_frames<O: Sink>(text: &mut Gathered, out: &mut O, frames: &[Frame])
+    ensures bytes { Adds text.old (O.written out.old) text.new (O.written out.new) (flat_map with_frame frames.now) }
+    ensures cause { Counts text.old (O.fault_count out.old) text.new (O.fault_count out.new) }
+{
+    for frame in frames {
+        put_frame(text, out, *frame);
+    }
+}
+
 // A word and a number.
 fn put_named<O: Sink>(text: &mut Gathered, out: &mut O, word: &[u8], n: u64)
     ensures bytes { Adds text.old (O.written out.old) text.new (O.written out.new) (word.now ++ with_number n) }
@@ -49,6 +72,16 @@ fn put_named<O: Sink>(text: &mut Gathered, out: &mut O, word: &[u8], n: u64)
 {
     text.put(out, word);
     put_number(text, out, n);
+}
+
+// A word and two numbers.
+fn put_pair<O: Sink>(text: &mut Gathered, out: &mut O, word: &[u8], first: u64, second: u64)
+    ensures bytes { Adds text.old (O.written out.old) text.new (O.written out.new) (word.now ++ with_number first ++ with_number second) }
+    ensures cause { Counts text.old (O.fault_count out.old) text.new (O.fault_count out.new) }
+{
+    text.put(out, word);
+    put_number(text, out, first);
+    put_number(text, out, second);
 }
 
 fn put_side<O: Sink>(text: &mut Gathered, out: &mut O, side: Side)
@@ -93,6 +126,44 @@ fn put_tracks<O: Sink>(text: &mut Gathered, out: &mut O, tracks: &[TrackLine])
     }
 }
 
+// The root of the mean of the squares, both rounded down.
+fn rms(scan: &Scan) -> u64
+    ensures { result ≡ rms_of scan.now }
+{
+    isqrt(scan.squares.checked_div(scan.count).unwrap_or(0))
+}
+
+fn put_scan<O: Sink>(text: &mut Gathered, out: &mut O, scan: &Scan)
+    ensures bytes { Adds text.old (O.written out.old) text.new (O.written out.new) (column_text (Some scan.now)) }
+    ensures cause { Counts text.old (O.fault_count out.old) text.new (O.fault_count out.new) }
+{
+    text.put(out, b"\ncol");
+    put_signed(text, out, scan.min);
+    put_signed(text, out, scan.max);
+    put_number(text, out, scan.squares);
+    put_number(text, out, scan.count);
+    put_number(text, out, rms(scan));
+}
+
+fn put_column<O: Sink>(text: &mut Gathered, out: &mut O, column: &Option<Scan>)
+    ensures bytes { Adds text.old (O.written out.old) text.new (O.written out.new) (column_text column.now) }
+    ensures cause { Counts text.old (O.fault_count out.old) text.new (O.fault_count out.new) }
+{
+    match column {
+        None => text.put(out, b"\ncol none"),
+        Some(scan) => put_scan(text, out, scan),
+    }
+}
+
+fn put_columns<O: Sink>(text: &mut Gathered, out: &mut O, columns: &[Option<Scan>])
+    ensures bytes { Adds text.old (O.written out.old) text.new (O.written out.new) (flat_map column_text columns.now) }
+    ensures cause { Counts text.old (O.fault_count out.old) text.new (O.fault_count out.new) }
+{
+    for column in columns {
+        put_column(text, out, column);
+    }
+}
+
 fn put_reason<O: Sink>(text: &mut Gathered, out: &mut O, reason: &Refusal)
     ensures bytes { Adds text.old (O.written out.old) text.new (O.written out.new) (reason_text reason.now) }
     ensures cause { Counts text.old (O.fault_count out.old) text.new (O.fault_count out.new) }
@@ -101,14 +172,14 @@ fn put_reason<O: Sink>(text: &mut Gathered, out: &mut O, reason: &Refusal)
         Refusal::BadLine { column } => put_named(text, out, b"BadLine", *column),
         Refusal::NoTrack { id } => put_named(text, out, b"NoTrack", *id),
         Refusal::BadRange => text.put(out, b"BadRange"),
+        Refusal::BadColumns => text.put(out, b"BadColumns"),
         Refusal::TrackLimit => text.put(out, b"TrackLimit"),
         Refusal::LengthLimit { len } => put_named(text, out, b"LengthLimit", *len),
+        Refusal::EmptyClipboard => text.put(out, b"EmptyClipboard"),
+        Refusal::TooNarrow { have, need } => put_pair(text, out, b"TooNarrow", *have, *need),
         Refusal::NothingToUndo => text.put(out, b"NothingToUndo"),
         Refusal::NothingToRedo => text.put(out, b"NothingToRedo"),
-        Refusal::SpaceSpent { have, need } => {
-            put_named(text, out, b"SpaceSpent", *have);
-            put_number(text, out, *need);
-        }
+        Refusal::SpaceSpent { have, need } => put_pair(text, out, b"SpaceSpent", *have, *need),
         Refusal::NoMemory => text.put(out, b"NoMemory"),
     }
 }
@@ -119,9 +190,20 @@ fn put_reply<O: Sink>(text: &mut Gathered, out: &mut O, commit: u64, reply: &Rep
 {
     match reply {
         Reply::Done => put_named(text, out, b"ok", commit),
+        Reply::Copied => put_named(text, out, b"copied", commit),
         Reply::Cells { cells } => {
             put_named(text, out, b"cells", commit);
             put_cells(text, out, cells.as_slice());
+        }
+        Reply::Frames { frames } => {
+            put_named(text, out, b"frames", commit);
+            put_frames(text, out, frames.as_slice());
+        }
+        Reply::Columns { columns } => {
+            let columns = columns.as_slice();
+            put_named(text, out, b"columns", commit);
+            put_number(text, out, columns.len() as u64);
+            put_columns(text, out, columns);
         }
         Reply::Tracks { tracks } => {
             let tracks = tracks.as_slice();

@@ -10,5 +10,5 @@ returns-in-Some c =
     let place = rw c.current-tracks.ensures at c.in-Some.ensures in
     let within : c.in-Some.place < length c.current-tracks.result.now = omega (arith, length-map c.current-tracks.result.now track_of, c.in-Some.ensures.within) in
     let here = ap (drop c.in-Some.place) (sym c.current-tracks.ensures) ∙ place_is c.current-tracks.result.now c.in-Some.place c.index-tracks-place.result within c.index-tracks-place.is in
-    let made = is_here (state_of c.args.self.now) c.args.id c.in-Some.place (track_of c.index-tracks-place.result) _ place here in
+    let made = is_here (state_of c.args.self.now) c.args.id c.in-Some.place (track_of c.index-tracks-place.result) _ place here c.index-tracks-place.result.short in
     rw (c.as_slice.ensures.value, ← c.index-tracks-place.is) made

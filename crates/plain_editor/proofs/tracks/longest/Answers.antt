@@ -1,0 +1,15 @@
+-- One track more.
+use Rattle.std.proofs.Common.{◌≡◌, ◌∷◌, [], take, max, length, arith}
+use Rattle.std.specs.Rc.{rc_slice_items}
+use Rattle.std.proofs.lemmas.Grind.{common_steps}
+use Rattle.plain_editor.specs.View.{project_of, track_of}
+use Rattle.plain_editor.proofs.MixLemmas.{longest-append, tracks_more}
+use Rattle.plain_editor.proofs.tracks.longest.Goals as goal
+
+pub loop-track-preserved : goal.loop-track-preserved
+loop-track-preserved c =
+    let i = c.loop-track.track-index in
+    let t = c.track-item.result in
+    let tracks = c.args.tracks.now in
+    let most : c.max-longest.result ≡ max c.loop-track.longest (max (length (rc_slice_items t.cells)) 0) = grind (arith, common_steps) in
+    rw (most, c.loop-track.invariant, tracks_more tracks i t c.loop-track-test.true c.track-item.is, longest-append (project_of (take i tracks)) (track_of t ∷ []))
