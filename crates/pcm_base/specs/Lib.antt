@@ -7,8 +7,11 @@ pub mod Envelope
 pub mod Form
 pub mod History
 pub mod Mix
+pub mod Parts
 pub mod Pieces
+pub mod Recordings
 pub mod Run
 pub mod State
 pub mod Step
 pub mod Tests
+pub mod Wave

@@ -8,19 +8,23 @@
 mod answer;
 mod arithmetic;
 mod block;
+mod chunk;
 mod command;
 mod failed;
 mod lists;
 mod piece;
 mod refusal;
+mod said;
 mod sound;
 
 pub use answer::{Answer, Reply};
 pub use arithmetic::{clamped, isqrt, scaled};
 pub use block::BlockRef;
+pub use chunk::{CHUNK_SAMPLES, Chunk};
 pub use command::{Call, Command};
 pub use failed::{Failed, NoMemory};
 pub use lists::{CellList, Columns, Frames, Numbers, Samples, TrackLines};
 pub use piece::Piece;
 pub use refusal::Refusal;
+pub use said::Said;
 pub use sound::{Cell, Frame, Scan, Side, TrackLine};
