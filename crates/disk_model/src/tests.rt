@@ -51,18 +51,28 @@ fn synced(alloc: Global) -> Result<RamStore, Fail> {
 fn rewritten(alloc: Global) -> Result<RamStore, Fail> {
     let mut store = synced(alloc)?;
     store.write_at(3, 2, b"WXYZ").ok().ok_or("write")?;
+    Ok(store)
+}
+
+fn both_written(alloc: Global) -> Result<RamStore, Fail> {
+    let mut store = rewritten(alloc)?;
     store.write_at(5, 1, b"q").ok().ok_or("write")?;
     Ok(store)
 }
 
 fn removed(alloc: Global) -> Result<RamStore, Fail> {
-    let mut store = rewritten(alloc)?;
+    let mut store = both_written(alloc)?;
     store.remove(3).ok().ok_or("remove")?;
     Ok(store)
 }
 
-// The generator draws from 2: 0 0 0 0 1, from 3: 1 1 1 0 0, from 4: 0 0 0 1 1, from 5: 0 1 0 1 1, from 6: 1 0 1 1 0,
-// from 7: 0 1 1 1 1, from 8: 0 0 0 1 0, from 9: 1 1 0 0 1.
+// The images of the choices 0 to 9 after each of six calls. Choice 0 has all that is pending and choice 1 nothing of it.
+// The others draw, state by state modulo 2^64: state * 6364136223846793005 + 1442695040888963407, and of it the bit 33.
+// That draws from 2: 0 0 0 0 1, from 3: 1 1 1 0 0, from 4: 0 0 0 1 1, from 5: 0 1 0 1 1, from 6: 1 0 1 1 0,
+// from 7: 0 1 1 1 1, from 8: 0 0 0 1 0, from 9: 1 1 0 0 1. A pending write takes two of these, whether its bytes and
+// whether its length have reached the disk, and a pending removal one.
+
+// One write is pending, to a new file: by 0 0 it is absent, by 0 1 it is there with 0, by 1 0 it is there and empty.
 #[test]
 fn a_new_file(rt: HostRuntime) -> Result<(), Fail> {
     let left = images(rt.alloc(), &written(rt.alloc())?)?;
@@ -71,6 +81,7 @@ fn a_new_file(rt: HostRuntime) -> Result<(), Fail> {
     Ok(())
 }
 
+// After the sync each image is the file as it reads.
 #[test]
 fn nothing_pending(rt: HostRuntime) -> Result<(), Fail> {
     let left = images(rt.alloc(), &synced(rt.alloc())?)?;
@@ -79,15 +90,28 @@ fn nothing_pending(rt: HostRuntime) -> Result<(), Fail> {
     Ok(())
 }
 
+// One write is pending, past the end: by 0 0 the file is as synced, by 0 1 it is longer by two 0, by 1 0 it has those of
+// the bytes that lie in it.
+#[test]
+fn a_file_written_again(rt: HostRuntime) -> Result<(), Fail> {
+    let left = images(rt.alloc(), &rewritten(rt.alloc())?)?;
+    let want =
+        b"abWXYZ/- abcd/- abcd/- abWXYZ/- abcd/- abcd\0\0/- abWX/- abcd\0\0/- abcd/- abWXYZ/- ";
+    assert!(rt; left.as_slice() == want.as_slice());
+    Ok(())
+}
+
+// The first two draws are of the write to 3, the next two of that to 5.
 #[test]
 fn two_files(rt: HostRuntime) -> Result<(), Fail> {
-    let left = images(rt.alloc(), &rewritten(rt.alloc())?)?;
+    let left = images(rt.alloc(), &both_written(rt.alloc())?)?;
     let want =
         b"abWXYZ/\0q abcd/- abcd/- abWXYZ/ abcd/\0\0 abcd\0\0/\0\0 abWX/\0q abcd\0\0/\0q abcd/\0\0 abWXYZ/- ";
     assert!(rt; left.as_slice() == want.as_slice());
     Ok(())
 }
 
+// The third draw is of the removal of 3, and the two after it are of the write to 5.
 #[test]
 fn a_removal(rt: HostRuntime) -> Result<(), Fail> {
     let left = images(rt.alloc(), &removed(rt.alloc())?)?;
@@ -96,6 +120,7 @@ fn a_removal(rt: HostRuntime) -> Result<(), Fail> {
     Ok(())
 }
 
+// Of 5 nothing is pending any more: it has no draw.
 #[test]
 fn a_removal_and_a_sync_of_the_other(rt: HostRuntime) -> Result<(), Fail> {
     let mut store = removed(rt.alloc())?;

@@ -8,3 +8,6 @@ mod put;
 
 pub use gate::{append, guard};
 pub use put::put_whole;
+
+#[cfg(test)]
+mod tests;
