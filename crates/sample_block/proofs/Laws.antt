@@ -1,6 +1,5 @@
 -- What has no difference is spelled so.
-use Rattle.std.proofs.Common.{subst, ◌≡◌, ℕ, zero, suc, ◌+◌, ◌*◌, ◌-◌, ◌^◌, ◌<◌, ◌≤◌, ℤ, List, [], ◌∷◌, ◌++◌, length, length-drop, take, drop, map, refl, sym, ap, ◌∙◌, arith, Option, Some, None, Bool, true, false, ◌==◌, if◌then◌else◌, get_or}
-use Rattle.peak_summary.specs.declared.stretch.Summary.{Summary}
+use Rattle.std.proofs.Common.{◌≡◌, ℕ, zero, suc, ◌+◌, ◌*◌, ◌-◌, ◌^◌, ◌<◌, ◌≤◌, ℤ, List, [], ◌∷◌, ◌++◌, length, length-drop, take, drop, map, refl, sym, ap, ◌∙◌, arith, Option, Some, None, Bool, true, false, ◌==◌, if◌then◌else◌, get_or}
 use Rattle.std.specs.List.{flat_map}
 use Rattle.std.specs.Int.{w16, cast_signed, cast_unsigned}
 use Rattle.std.proofs.lemmas.List.{drop-drop, drop-take, get_or-drop, get_or-take, length-take, same_lists, take_all}
@@ -208,25 +207,19 @@ spelled_back id n bytes fit none =
     let wide : widths (fields_of id xs) ≡ length bytes = omega (arith, body, size, ap size_of len) in
     (samples_fit bytes 16 n fit, sym (take_all (widths (fields_of id xs)) bytes (omega arith)) ∙ spelled_by bytes 0 (fields_of id xs) fit (omega arith) parts.1)
 
--- a frame among the first bytes of a part, as it stands in the whole
-pub frame_part : (bytes part : List ℕ) (at count : ℕ) (s : Summary) → part ≡ take 12 (drop at bytes)
-    → s.min ≡ cast_signed w16 (number_at part 0 2) → s.max ≡ cast_signed w16 (number_at part 2 2) → s.squares ≡ number_at part 4 8 → s.count ≡ count
-    → s ≡ frame_in bytes at count
-frame_part bytes part at count s e min max squares many =
-    let still : at + 0 ≡ at = omega arith in
-    let first : number_at part 0 2 ≡ number_at bytes (at + 0) 2 = number_part bytes part at 0 2 e (omega arith) in
-    let low : number_at part 0 2 ≡ number_at bytes at 2 = subst (λ (n : ℕ). number_at part 0 2 ≡ number_at bytes n 2) still first in
-    let high = number_part bytes part at 2 2 e (omega arith) in
-    let sum = number_part bytes part at 4 8 e (omega arith) in
-    summary_is s (cast_signed w16 (number_at bytes at 2)) (cast_signed w16 (number_at bytes (at + 2) 2)) (number_at bytes (at + 4) 8) count
-    (min ∙ ap (cast_signed w16) low) (max ∙ ap (cast_signed w16) high) (squares ∙ sum) many
-  where
-    number_part : (bytes part : List ℕ) (at k w : ℕ) → part ≡ take 12 (drop at bytes) → k + w ≤ 12 → number_at part k w ≡ number_at bytes (at + k) w
-    number_part bytes part at k w e le =
-        let parts : 12 ≡ k + (12 - k) = omega arith in
-        let cut : drop k (take 12 (drop at bytes)) ≡ take (12 - k) (drop (at + k) bytes) =
-        ap (λ (m : ℕ). drop k (take m (drop at bytes))) parts ∙ drop-take k (12 - k) (drop at bytes) ∙ ap (take (12 - k)) (drop-drop k at bytes) in
-        ap (λ (xs : List ℕ). little_number w (drop k xs)) e ∙ ap (little_number w) cut ∙ little_from-take 0 w (12 - k) (drop (at + k) bytes) (omega arith)
+-- a number and a frame in a part of the bytes, as they stand in the whole
+number_part : (bytes part : List ℕ) (at n k w : ℕ) → part ≡ take n (drop at bytes) → k + w ≤ n → number_at part k w ≡ number_at bytes (at + k) w
+number_part bytes part at n k w e le =
+    let parts : n ≡ k + (n - k) = omega arith in
+    let cut : drop k (take n (drop at bytes)) ≡ take (n - k) (drop (at + k) bytes) =
+    ap (λ (m : ℕ). drop k (take m (drop at bytes))) parts ∙ drop-take k (n - k) (drop at bytes) ∙ ap (take (n - k)) (drop-drop k at bytes) in
+    ap (λ (xs : List ℕ). little_number w (drop k xs)) e ∙ ap (little_number w) cut ∙ little_from-take 0 w (n - k) (drop (at + k) bytes) (omega arith)
 
-    summary_is : (s : Summary) (a b : ℤ) (c d : ℕ) → s.min ≡ a → s.max ≡ b → s.squares ≡ c → s.count ≡ d → s ≡ record { min = a; max = b; squares = c; count = d }
-    summary_is s a b c d ea eb ec ed = rw (← ea, ← eb, ← ec, ← ed) refl
+pub frame_part : (bytes part : List ℕ) (at n k count : ℕ) → part ≡ take n (drop at bytes) → k + 12 ≤ n → frame_in part k count ≡ frame_in bytes (at + k) count
+frame_part bytes part at n k count e le =
+    let low : number_at part k 2 ≡ number_at bytes (at + k) 2 = number_part bytes part at n k 2 e (omega arith) in
+    let high : number_at part (k + 2) 2 ≡ number_at bytes (at + k + 2) 2 =
+    number_part bytes part at n (k + 2) 2 e (omega arith) ∙ ap (λ (m : ℕ). number_at bytes m 2) (omega arith) in
+    let sum : number_at part (k + 4) 8 ≡ number_at bytes (at + k + 4) 8 =
+    number_part bytes part at n (k + 4) 8 e (omega arith) ∙ ap (λ (m : ℕ). number_at bytes m 8) (omega arith) in
+    rw (low, high, sum) refl

@@ -1,0 +1,47 @@
+-- Reads of a block of the disk give its samples, and find no fault in it.
+use Rattle.std.proofs.Common.{◌≡◌, ℕ, ◌+◌, ◌*◌, take, drop, ◌^◌, ◌<◌, ◌≤◌, ℤ, List, length, Option, Some, None, refl, sym, ap, ◌∙◌, arith, ⊎_elim, Result, Ok, Err}
+use Rattle.std.specs.Prelude.{IfErr, IsOkUnless, OnOk}
+use Rattle.disk_model.specs.Disk.{Files, bytes_of}
+use Rattle.sample_block.specs.Spelling.{header_fields, size_of}
+use Rattle.sample_block.specs.Faults.{difference, samples_in}
+use Rattle.sample_block.specs.Blocks.{blocks}
+use Rattle.sample_block.proofs.Spellings.{spelled_read, spelled_header, spelled_size}
+use Rattle.sample_block.proofs.Laws.{samples_stretch}
+use Rattle.sample_block.proofs.BlockLaws.{blocks_have}
+use Rattle.block_store.specs.declared.fault.BlockFault.{BlockFault}
+use Rattle.block_store.specs.declared.fault.BlockFault.TheVariants as fault
+use Rattle.block_store.specs.Reads.{IsFault}
+
+-- the samples of a block are those in its file
+pub block_samples : (files : Files) (id len : ℕ) (xs : List ℤ) → blocks files id ≡ Some xs → length xs ≡ len
+    → samples_in (bytes_of (files id)) 16 len ≡ xs
+block_samples files id len xs e size =
+    let has = blocks_have files id xs e in
+    let low : id < 2 ^ 64 = omega (arith, has.block.id_high) in
+    let few : length xs < 2 ^ 32 = omega (arith, has.block.few) in
+    ap (λ (o : Option (List ℕ)). samples_in (bytes_of o) 16 len) has.file ∙ ap (samples_in has.bytes 16) (sym size) ∙ (spelled_read id xs has.bytes low few has.spelled).1
+
+-- and it has no fault
+pub block_sound : (files : Files) (id len : ℕ) (xs : List ℤ) (why : BlockFault) → blocks files id ≡ Some xs → length xs ≡ len
+    → IsFault id len (bytes_of (files id)) why → why ≡ fault.DiskFault
+block_sound files id len xs (fault.Damaged file found) e size is =
+    let has = blocks_have files id xs e in
+    let low : id < 2 ^ 64 = omega (arith, has.block.id_high) in
+    let few : length xs < 2 ^ 32 = omega (arith, has.block.few) in
+    let bytes : bytes_of (files id) ≡ has.bytes = ap bytes_of has.file in
+    let none : difference (bytes_of (files id)) 0 (header_fields id len) ≡ None =
+    ap (λ (ys : List ℕ). difference ys 0 (header_fields id len)) bytes ∙ ap (λ (n : ℕ). difference has.bytes 0 (header_fields id n)) (sym size) ∙ spelled_header id xs has.bytes low few has.spelled in
+    let long : length (bytes_of (files id)) ≡ size_of len = ap length bytes ∙ spelled_size id xs has.bytes has.spelled ∙ ap size_of size in
+    ⊎_elim (λ some. absurd (let clash = sym none ∙ some in cc)) (λ other. absurd (other.1 long)) is.1
+block_sound files id len xs fault.DiskFault e size is = refl
+
+pub sound_result : {T : Type 0} (r : Result T BlockFault) (files : Files) (id len : ℕ) (xs : List ℤ) → blocks files id ≡ Some xs → length xs ≡ len
+    → IfErr r (λ e. IsFault id len (bytes_of (files id)) e) → IsOkUnless r fault.DiskFault
+sound_result (Ok x) files id len xs e size is = tt
+sound_result (Err why) files id len xs e size is = block_sound files id len xs why e size is
+
+pub read_result : {T : Type 0} (r : Result T BlockFault) (files : Files) (id len from n : ℕ) (xs out : List ℤ) → blocks files id ≡ Some xs → length xs ≡ len
+    → from + n ≤ len → OnOk r (out ≡ samples_in (bytes_of (files id)) (16 + 2 * from) n) → OnOk r (out ≡ take n (drop from xs))
+read_result (Ok x) files id len from n xs out e size le read =
+    read ∙ samples_stretch (bytes_of (files id)) len from n le ∙ ap (λ (ys : List ℤ). take n (drop from ys)) (block_samples files id len xs e size)
+read_result (Err why) files id len from n xs out e size le read = tt

@@ -1,0 +1,202 @@
+// Blocks that are put, stopped, read, damaged and dropped on a disk in memory.
+use super::{BlockFault, Level, drop_block, put, read_frames, read_samples};
+use disk_model::{RamStore, Store};
+use pcm_base::{BlockRef, Numbers};
+use peak_summary::{NOTHING, Summary};
+use sample_block::Damaged;
+use std::alloc::Global;
+use std::test::*;
+
+/// The file of the block of id 16 with the samples 1 and -2.
+const FILE: [u8; 44] = [
+    0x41, 0x42, 0x4B, 0x31, 0x10, 0, 0, 0, 0, 0, 0, 0, 2, 0, 0, 0, // magic, id, count
+    1, 0, 0xFE, 0xFF, // samples
+    0xFE, 0xFF, 1, 0, 5, 0, 0, 0, 0, 0, 0, 0, // the short frame
+    0xFE, 0xFF, 1, 0, 5, 0, 0, 0, 0, 0, 0, 0, // the long frame
+];
+
+const BLOCK: BlockRef = BlockRef { id: 16, len: 2 };
+
+fn disk(alloc: Global, fails: Vec<u64>) -> Result<RamStore, Fail> {
+    let store = RamStore::new(alloc, 4, 200_000, 16, Numbers::new(fails))
+        .ok()
+        .ok_or("no memory")?;
+    Ok(store)
+}
+
+fn put_two(alloc: Global, store: &mut RamStore) -> Result<Result<(), BlockFault>, Fail> {
+    let mut scratch = Vec::with_capacity(alloc, 44)?;
+    Ok(put(store, 16, &[1, -2], &mut scratch))
+}
+
+/// What the disk has of the block: all of it (W), its size in zeros (0), an empty file (e), no file (-), or else (?).
+fn found(store: &mut RamStore) -> Result<u8, Fail> {
+    let size = store.size(16).ok().ok_or("size")?;
+    let mut buf = [0; 44];
+    let _count = store.read_at(16, 0, &mut buf).ok().ok_or("read")?;
+    Ok(match size {
+        None => b'-',
+        Some(0) => b'e',
+        Some(44) if buf == FILE => b'W',
+        Some(44) if buf == [0; 44] => b'0',
+        Some(_) => b'?',
+    })
+}
+
+/// What the images of the choices 0 to 9 have of the block, and whether a read of it is answered Ok there (y, n).
+fn images(alloc: Global, store: &RamStore) -> Result<Vec<u8>, Fail> {
+    let mut text = Vec::new(alloc);
+    for choice in 0..10 {
+        let mut left = store.image(alloc, choice).ok().ok_or("no memory")?;
+        let mut out = [0; 2];
+        let read = read_samples(&mut left, BLOCK, 0, &mut out).is_ok() && out == [1, -2];
+        text.push(found(&mut left)?)?;
+        text.push(if read { b'y' } else { b'n' })?;
+    }
+    Ok(text)
+}
+
+// From the choices 2 to 9 the bytes and the length of a write are drawn so: neither, both, neither, length, bytes,
+// length, neither, both.
+#[test]
+fn a_stop_after_each_call(rt: HostRuntime) -> Result<(), Fail> {
+    for (calls, want) in [
+        (0, b"-n-n-n-n-n-n-n-n-n-n"),
+        (1, b"Wy-n-nWy-n0nen0n-nWy"),
+        (2, b"WyWyWyWyWyWyWyWyWyWy"),
+    ] {
+        let mut store = disk(rt.alloc(), Vec::new(rt.alloc()))?;
+        store.stop_after(calls);
+        let answer = put_two(rt.alloc(), &mut store)?;
+        assert_eq!(rt; answer.is_ok(), calls == 2);
+        let left = images(rt.alloc(), &store)?;
+        assert!(rt; left.as_slice() == want.as_slice());
+    }
+    Ok(())
+}
+
+#[test]
+fn the_file(rt: HostRuntime) -> Result<(), Fail> {
+    let mut store = disk(rt.alloc(), Vec::new(rt.alloc()))?;
+    assert_eq!(rt; put_two(rt.alloc(), &mut store)?, Ok(()));
+    assert_eq!(rt; found(&mut store)?, b'W');
+    let mut out = [0; 1];
+    assert_eq!(rt; read_samples(&mut store, BLOCK, 1, &mut out), Ok(()));
+    assert!(rt; out == [-2]);
+    assert_eq!(rt; drop_block(&mut store, 16), Ok(()));
+    assert_eq!(rt; found(&mut store)?, b'-');
+    let left = images(rt.alloc(), &store)?;
+    assert!(rt; left.as_slice() == b"-n-n-n-n-n-n-n-n-n-n".as_slice());
+    assert_eq!(rt; drop_block(&mut store, 16), Ok(()));
+    Ok(())
+}
+
+// 66,000 samples have 258 short frames, the last of 208 samples, and two long ones, of 65,536 and 464.
+#[test]
+fn more_than_one_piece(rt: HostRuntime) -> Result<(), Fail> {
+    let mut store = disk(rt.alloc(), Vec::new(rt.alloc()))?;
+    let mut samples = [3i16; 66_000];
+    samples[4095] = 7;
+    samples[65_999] = -4;
+    let mut scratch = Vec::with_capacity(rt.alloc(), 140_000)?;
+    assert_eq!(rt; put(&mut store, 17, &samples, &mut scratch), Ok(()));
+    let block = BlockRef {
+        id: 17,
+        len: 66_000,
+    };
+    let mut out = [0i16; 10_000];
+    assert_eq!(rt; read_samples(&mut store, block, 4095, &mut out), Ok(()));
+    assert!(rt; out[0] == 7 && out[1] == 3 && out[4095] == 3 && out[9999] == 3);
+    let mut short = [NOTHING; 258];
+    assert_eq!(rt;
+        read_frames(&mut store, block, Level::Short, 0, &mut short),
+        Ok(())
+    );
+    assert_eq!(rt; short[15], summary(3, 7, 2344, 256));
+    assert_eq!(rt; short[256], summary(3, 3, 2304, 256));
+    assert_eq!(rt; short[257], summary(-4, 3, 1879, 208));
+    let mut long = [NOTHING; 1];
+    assert_eq!(rt;
+        read_frames(&mut store, block, Level::Long, 1, &mut long),
+        Ok(())
+    );
+    assert_eq!(rt; long[0], summary(-4, 3, 4183, 464));
+    Ok(())
+}
+
+const fn summary(min: i16, max: i16, squares: u64, count: u64) -> Summary {
+    Summary {
+        min,
+        max,
+        squares,
+        count,
+    }
+}
+
+/// What a read of the block is told, after a byte of its file was changed.
+fn told(alloc: Global, place: u64, byte: u8) -> Result<Option<Damaged>, Fail> {
+    let mut store = disk(alloc, Vec::new(alloc))?;
+    let _answer = put_two(alloc, &mut store)?;
+    if place < 44 {
+        store.write_at(16, place, &[byte]).ok().ok_or("write")?;
+    }
+    Ok(damage(&mut store))
+}
+
+fn damage(store: &mut RamStore) -> Option<Damaged> {
+    let mut out = [0; 2];
+    match read_samples(store, BLOCK, 0, &mut out) {
+        Err(BlockFault::Damaged { file: 16, found }) => Some(found),
+        _ => None,
+    }
+}
+
+#[test]
+fn damaged_headers(rt: HostRuntime) -> Result<(), Fail> {
+    for (place, byte, at, want, have) in [
+        (0, 0, 0, 0x314B_4241, 0x314B_4200),
+        (4, 17, 4, 16, 17),
+        (12, 3, 12, 2, 3),
+    ] {
+        let fault = Damaged { at, want, have };
+        assert_eq!(rt; told(rt.alloc(), place, byte)?, Some(fault));
+    }
+    assert_eq!(rt; told(rt.alloc(), 36, 6)?, None);
+    Ok(())
+}
+
+#[test]
+fn files_that_end_early(rt: HostRuntime) -> Result<(), Fail> {
+    let mut store = disk(rt.alloc(), Vec::new(rt.alloc()))?;
+    let mut fault = Damaged {
+        at: 0,
+        want: 44,
+        have: 0,
+    };
+    assert_eq!(rt; damage(&mut store), Some(fault));
+    store.write_at(16, 0, &FILE[..19]).ok().ok_or("write")?;
+    fault.have = 19;
+    assert_eq!(rt; damage(&mut store), Some(fault));
+    Ok(())
+}
+
+#[test]
+fn a_disk_that_fails(rt: HostRuntime) -> Result<(), Fail> {
+    for call in [1, 2] {
+        let mut store = disk(rt.alloc(), vec![in rt.alloc(); call]?)?;
+        assert_eq!(rt;
+            put_two(rt.alloc(), &mut store)?,
+            Err(BlockFault::DiskFault)
+        );
+        assert_eq!(rt; store.change_faults(), 1);
+    }
+    let mut store = disk(rt.alloc(), vec![in rt.alloc(); 4]?)?;
+    assert_eq!(rt; put_two(rt.alloc(), &mut store)?, Ok(()));
+    let mut out = [0; 2];
+    assert_eq!(rt;
+        read_samples(&mut store, BLOCK, 0, &mut out),
+        Err(BlockFault::DiskFault)
+    );
+    assert_eq!(rt; read_samples(&mut store, BLOCK, 0, &mut out), Ok(()));
+    Ok(())
+}
