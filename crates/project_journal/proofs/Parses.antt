@@ -1,0 +1,131 @@
+-- The bytes of a file as a journal.
+use Rattle.std.proofs.Common.{◌≡◌, ℕ, zero, suc, ◌+◌, ◌-◌, ◌≤◌, Bool, true, false, cond, eqb, ltb, Option, Some, None, Result, Ok, Err, List, [], ◌∷◌, ◌++◌, length, map, take, drop, refl, sym, ◌∙◌, ap, subst, arith, length-append}
+use Rattle.std.specs.Prelude.{slice_index, IfOk}
+use Rattle.std.proofs.lemmas.Bool.{eqb-true}
+use Rattle.project_journal.specs.declared.records.Next.{Next}
+use Rattle.project_journal.specs.declared.records.Next.TheVariants.{Whole, Shut, Early}
+use Rattle.std.proofs.lemmas.List.{get_or-take, drop-take, length-take-le}
+use Rattle.std.specs.List.{flat_map}
+use Rattle.byteorder.specs.Endian.{little_number}
+use Rattle.byteorder.specs.Numbers.{little_from-take}
+use Rattle.disk_model.specs.Moment.{Moment}
+use Rattle.disk_model.specs.Disk.{Files, bytes_of}
+use Rattle.project_journal.specs.declared.fault.Damaged.{Damaged}
+use Rattle.project_journal.specs.declared.fault.JournalFault.{JournalFault}
+use Rattle.project_journal.specs.declared.fault.JournalFault.TheVariants.{Absent, Exists, Damaged as Fault, SpaceSpent, DiskFault, NoMemory}
+use Rattle.project_journal.specs.Fields.{field}
+use Rattle.project_journal.specs.Header.{Form, IsProject, header_tests, number_tests, the_zeros, zero_tests, first_failed}
+use Rattle.project_journal.specs.Gate.{IsShut, Each}
+use Rattle.project_journal.specs.Journal.{entry, body_of, placed, body_at, Contents, log_of, Ends, next_of, IsJournal, IsAt}
+use Rattle.project_journal.specs.Split.{IsSplit}
+use Rattle.project_journal.specs.Answer.{Reads, IsRefusal}
+
+-- a field within the first m bytes
+field_take : (at n m : ℕ) (bytes : List ℕ) → at + n ≤ m → field at n (take m bytes) ≡ field at n bytes
+field_take at n m bytes le =
+    let k : m ≡ at + (m - at) = omega arith in
+    let front : drop at (take m bytes) ≡ take (m - at) (drop at bytes) = ap (λ (i : ℕ). drop at (take i bytes)) k ∙ drop-take at (m - at) bytes in
+    ap (little_number n) front ∙ little_from-take 0 n (m - at) (drop at bytes) (omega arith)
+
+zeros_take : (n at m : ℕ) (bytes : List ℕ) → at + n ≤ m → zero_tests n at (take m bytes) ≡ zero_tests n at bytes
+zeros_take zero at m bytes le = refl
+zeros_take (suc n) at m bytes le =
+    let here : slice_index (take m bytes) at ≡ slice_index bytes at = get_or-take m bytes at 0 (omega arith) in
+    rw (here, zeros_take n (at + 1) m bytes (omega arith)) refl
+
+numbers_take : (bytes : List ℕ) → number_tests (take 32 bytes) ≡ number_tests bytes
+unfolding number_tests
+numbers_take bytes = rw (field_take 1 4 32 bytes (omega arith), field_take 5 4 32 bytes (omega arith), field_take 9 4 32 bytes (omega arith), field_take 13 4 32 bytes (omega arith), field_take 17 4 32 bytes (omega arith)) refl
+
+all_zeros_take : (bytes : List ℕ) → the_zeros (take 32 bytes) ≡ the_zeros bytes
+unfolding the_zeros
+all_zeros_take bytes = zeros_take 11 21 32 bytes (omega arith)
+
+pub tests_take : (bytes : List ℕ) → header_tests (take 32 bytes) ≡ header_tests bytes
+tests_take bytes = ap (λ (l : List Damaged). l ++ the_zeros (take 32 bytes)) (numbers_take bytes) ∙ ap (λ (l : List Damaged). number_tests bytes ++ l) (all_zeros_take bytes)
+
+bodies_placed : (p : ℕ) (bodies : List (List ℕ)) → map body_at (placed p bodies) ≡ bodies
+bodies_placed p [] = refl
+bodies_placed p (body ∷ bodies) = ap (λ (l : List (List ℕ)). body ∷ l) (bodies_placed (p + 5 + length body) bodies)
+
+pub is_journal : (form : Form) (bytes : List ℕ) (j : Contents) → 21 ≤ form.header_size → form.header_size ≤ length bytes → form.tests (take form.header_size bytes) ≡ form.tests bytes
+    → IsProject bytes → first_failed (form.tests bytes) ≡ None → j.rate ≡ field 9 4 bytes → j.block_size ≡ field 13 4 bytes → j.depth ≡ field 17 4 bytes
+    → IsSplit form.header_size bytes j.records j.end → Ends j.end (drop j.end bytes) j.early → IsJournal form bytes j
+is_journal form bytes j least long same project sound rate block_size depth split ends =
+    let n = form.header_size in
+    let head = take n bytes in
+    let all = flat_map entry split.entries in
+    let size : length head ≡ n = length-take-le n bytes long in
+    let bodies : map body_at j.records ≡ map body_of split.entries = ap (map body_at) split.told ∙ bodies_placed n (map body_of split.entries) in
+    let first : slice_index head 0 ≡ slice_index bytes 0 = get_or-take n bytes 0 0 (omega (arith, least)) in
+    record {
+      front = head ++ all;
+      rest = drop j.end bytes;
+      parts = split.parts;
+      spelled = record {
+        head = head;
+        entries = split.entries;
+        parts = refl;
+        header = record {
+          size = size;
+          gate = λ shut. project.1 (sym first ∙ shut);
+          sound = ap first_failed same ∙ sound;
+          rate = field_take 9 4 n bytes (omega (arith, least)) ∙ sym rate;
+          block_size = field_take 13 4 n bytes (omega (arith, least)) ∙ sym block_size;
+          depth = field_take 17 4 n bytes (omega (arith, least)) ∙ sym depth;
+        };
+        each = split.each;
+        bodies = sym bodies;
+      };
+      place = omega (arith, split.place, size, length-append head all);
+      records = split.told ∙ ap (placed n) (sym bodies);
+      ends = ends;
+    }
+
+pub refused : (form : Form) (bytes : List ℕ) (e : JournalFault) → IsRefusal e → Reads form bytes (Err e)
+refused form bytes DiskFault is = tt
+refused form bytes NoMemory is = tt
+refused form bytes Absent is = absurd is
+refused form bytes Exists is = absurd is
+refused form bytes (Fault file at want have) is = absurd is
+refused form bytes (SpaceSpent have need) is = absurd is
+
+none_shut : (b t : Bool) (x y : Damaged) (len : ℕ) → cond b (Early x) (cond t (Early y) (Whole len)) ≡ Shut → ⊥
+none_shut true t x y len e = absurd cc
+none_shut false true x y len e = absurd cc
+none_shut false false x y len e = absurd cc
+
+is_zero : (gate : ℕ) (t : Bool) (rest : Next) → (t ≡ true → gate ≡ 0) → (rest ≡ Shut → ⊥) → cond t Shut rest ≡ Shut → gate ≡ 0
+is_zero gate true rest same other e = same refl
+is_zero gate false rest same other e = absurd (other e)
+
+-- a gate that is 0 stands there
+shut_rest : (at : ℕ) (rest : List ℕ) → next_of at rest ≡ Shut → (y : List ℕ) × (rest ≡ 0 ∷ y)
+shut_rest at [] e = absurd cc
+shut_rest at (gate ∷ tail) e =
+    let zero_gate : gate ≡ 0 = is_zero gate (eqb gate 0) _ (eqb-true gate 0) (none_shut (ltb (length tail) 4) (ltb (length tail) (4 + little_number 4 tail)) _ _ _) e in
+    (tail, ap (λ (n : ℕ). n ∷ tail) zero_gate)
+
+there : (f : Option (List ℕ)) → IsProject (bytes_of f) → f ≡ Some (bytes_of f)
+there None project = absurd (omega (arith, project.0))
+there (Some bytes) project = refl
+
+is_at : (form : Form) {D : Type 0} (reads : D → Files) (clock : D → Moment) (may_leave : D → Moment → Files → Type 0) (store : D) (j : Contents) → IsProject (bytes_of (reads store form.file)) → IsJournal form (bytes_of (reads store form.file)) j
+    → Each (may_leave store (clock store)) (λ c. c form.file ≡ reads store form.file) → j.early ≡ None → IsAt form reads clock may_leave store j.end (log_of j)
+is_at form reads clock may_leave store j project is same whole =
+    let shut = shut_rest j.end is.rest (subst (Ends j.end is.rest) whole is.ends) in
+    let read : IsShut form.file is.front (reads store) = (shut.0, there (reads store form.file) project ∙ ap (λ (l : List ℕ). Some l) (is.parts ∙ ap (λ (l : List ℕ). is.front ++ l) shut.1)) in
+    record {
+      front = is.front;
+      place = sym is.place;
+      spelled = is.spelled;
+      read = read;
+      images = λ c now. (read.0, same c now ∙ read.1);
+    }
+
+pub at_rest : (form : Form) {D : Type 0} (reads : D → Files) (clock : D → Moment) (may_leave : D → Moment → Files → Type 0) (store : D) (bytes : List ℕ) (r : Result Contents JournalFault) → bytes ≡ bytes_of (reads store form.file) → Reads form bytes r
+    → Each (may_leave store (clock store)) (λ c. c form.file ≡ reads store form.file) → IfOk r (λ j. j.early ≡ None → IsAt form reads clock may_leave store j.end (log_of j))
+at_rest form reads clock may_leave store bytes (Ok j) is told same = λ whole.
+    let here = subst (λ (b : List ℕ). IsProject b × IsJournal form b j) is told in
+    is_at form reads clock may_leave store j here.0 here.1 same whole
+at_rest form reads clock may_leave store bytes (Err e) is told same = tt

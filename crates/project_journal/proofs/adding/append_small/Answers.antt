@@ -1,0 +1,27 @@
+-- The row is a record more.
+use Rattle.std.proofs.Common.{refl, arith, ◌<◌, ◌^◌, length}
+use Rattle.disk_model.proofs.Moments.{follows_nothing}
+use Rattle.project_journal.specs.Header.{version_1}
+use Rattle.project_journal.proofs.Logs.{one_of, at_next}
+use Rattle.project_journal.proofs.adding.append_small.Goals as goal
+
+pub returns-in_err-next-clause-images : goal.returns-in_err-next-clause-images
+returns-in_err-next-clause-images g c = follows_nothing (λ d o ne. refl) (g.met.S.Store.may_fewer _)
+
+pub returns-in_err-add-clause-any_moment : goal.returns-in_err-add-clause-any_moment
+returns-in_err-add-clause-any_moment g c = λ log tells here d s.
+    let fits : length c.args.body.now < 2 ^ 32 = omega arith in
+    one_of version_1 log here.front _ c.args.body.now d here.spelled fits c.fill_small.ensures
+    (c.add.ensures.any_moment here.front here.place tells here.read here.images d s)
+
+pub returns-clause-any_moment : goal.returns-clause-any_moment
+returns-clause-any_moment g c = λ log tells here d s.
+    let fits : length c.args.body.now < 2 ^ 32 = omega arith in
+    one_of version_1 log here.front _ c.args.body.now d here.spelled fits c.fill_small.ensures
+    (c.add.ensures.any_moment here.front here.place tells here.read here.images d s)
+
+pub returns-clause-done : goal.returns-clause-done
+returns-clause-done g c = λ log tells here.
+    let fits : length c.args.body.now < 2 ^ 32 = omega arith in
+    at_next version_1 g.S.Store.reads g.S.Store.clock g.S.Store.may_leave _ log here.front _ c.args.body.now c.args.at _ here.spelled here.place fits
+    c.fill_small.ensures c.in_ok-next.ensures.ok.0 (c.in_ok-add.ensures.done here.front here.place tells here.read) c.in_ok-add.ensures.durable

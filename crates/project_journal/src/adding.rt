@@ -1,0 +1,95 @@
+// One more record.
+ghost use Rattle.std.specs.Prelude.{◌≡◌, ◌+◌, ◌^◌, ◌<◌, ◌≤◌, length, IsTrue, OnErr, IfOk, IfErr, IsErrOf, vec_capacity};
+ghost use Rattle.disk_model.specs.Disk.{SameElsewhere, Follows};
+ghost use Rattle.project_journal.specs.Gate.{Each};
+ghost use Rattle.project_journal.specs.Header.{version_1};
+ghost use Rattle.project_journal.specs.Journal.{Log, IsAt, HasOneOf, with_body};
+ghost use Rattle.project_journal.specs.Answer.{Appends};
+
+use super::fault::JournalFault;
+use super::form::FILE;
+use super::gate::add;
+use super::rows::{fill_row, fill_small};
+use disk_model::Store;
+
+// Places of a file are below this.
+const LIMIT: u64 = 1 << 62;
+
+/// Adds a record behind the gate at `at`, the first that is 0, and answers the place of the next gate. The body has
+/// fewer than 2^32 bytes. It takes memory only where `scratch` has room for fewer than 5 bytes more than the body.
+///
+/// `SpaceSpent` where the journal would pass 2^62 bytes, and `NoMemory`, leave the store as it was. After `DiskFault`
+/// a stop leaves the records of before or of after.
+pub fn append<S: Store>(
+    store: &mut S,
+    at: u64,
+    body: &[u8],
+    scratch: &mut Vec<u8>,
+) -> Result<u64, JournalFault>
+    requires { length body.now < 2 ^ 32 }
+
+    // At any moment each image has the records of before or of after.
+    ensures any_moment { (log : Log) → IsTrue (S.tells store.old) → IsAt version_1 S.reads S.clock S.may_leave store.old at log
+        → Each (S.may_leave store.new (S.clock store.old)) (HasOneOf version_1 log (with_body log body.now)) }
+    // After it the store and each image have those of after.
+    ensures done { (log : Log) → IsTrue (S.tells store.old) → IsAt version_1 S.reads S.clock S.may_leave store.old at log
+        → IfOk result (λ next. IsAt version_1 S.reads S.clock S.may_leave store.new next (with_body log body.now)) }
+    ensures answer { Appends at (length body.now) (S.change_fault_count store.old) (S.change_fault_count store.new) result }
+
+    // It takes no memory where the scratch has room.
+    ensures room { IsErrOf result JournalFault.NoMemory → vec_capacity scratch.old < 5 + length body.now }
+    ensures capacity { vec_capacity scratch.old ≤ vec_capacity scratch.new }
+    // A refusal by anything but the disk leaves the store as it was.
+    ensures untouched { OnErr result ((IsErrOf result JournalFault.DiskFault → ⊥) → store.new ≡ store.old) }
+
+    ensures others { IsTrue (S.tells store.old) → SameElsewhere 0 (S.reads store.old) (S.reads store.new) }
+    ensures images { Follows (SameElsewhere 0) (S.clock store.old) (S.clock store.new) (S.may_leave store.old) (S.may_leave store.new) }
+    ensures tells { S.tells store.new ≡ S.tells store.old }
+    ensures model { S.keeps_model store.new ≡ S.keeps_model store.old }
+    ensures calls { S.change_calls store.new ≤ S.change_calls store.old + 4 }
+    ensures read_faults { S.read_fault_count store.new ≡ S.read_fault_count store.old }
+{
+    let next = next_gate(at, body.len())?;
+    fill_row(scratch, body)?;
+    add(store, FILE, at, scratch)?;
+    Ok(next)
+}
+
+/// The same as [`append`] for a body of at most 9 bytes. It takes no memory.
+pub fn append_small<S: Store>(store: &mut S, at: u64, body: &[u8]) -> Result<u64, JournalFault>
+    requires { length body.now ≤ 9 }
+
+    ensures any_moment { (log : Log) → IsTrue (S.tells store.old) → IsAt version_1 S.reads S.clock S.may_leave store.old at log
+        → Each (S.may_leave store.new (S.clock store.old)) (HasOneOf version_1 log (with_body log body.now)) }
+    ensures done { (log : Log) → IsTrue (S.tells store.old) → IsAt version_1 S.reads S.clock S.may_leave store.old at log
+        → IfOk result (λ next. IsAt version_1 S.reads S.clock S.may_leave store.new next (with_body log body.now)) }
+    ensures answer { Appends at (length body.now) (S.change_fault_count store.old) (S.change_fault_count store.new) result }
+    ensures memory { IsErrOf result JournalFault.NoMemory → ⊥ }
+    ensures untouched { OnErr result ((IsErrOf result JournalFault.DiskFault → ⊥) → store.new ≡ store.old) }
+
+    ensures others { IsTrue (S.tells store.old) → SameElsewhere 0 (S.reads store.old) (S.reads store.new) }
+    ensures images { Follows (SameElsewhere 0) (S.clock store.old) (S.clock store.new) (S.may_leave store.old) (S.may_leave store.new) }
+    ensures tells { S.tells store.new ≡ S.tells store.old }
+    ensures model { S.keeps_model store.new ≡ S.keeps_model store.old }
+    ensures calls { S.change_calls store.new ≤ S.change_calls store.old + 4 }
+    ensures read_faults { S.read_fault_count store.new ≡ S.read_fault_count store.old }
+{
+    let next = next_gate(at, body.len())?;
+    let mut row = [0u8; 14];
+    fill_small(&mut row, body);
+    add(store, FILE, at, &row[..body.len() + 5])?;
+    Ok(next)
+}
+
+// The place of the gate behind a record with a body of so many bytes.
+fn next_gate(at: u64, len: usize) -> Result<u64, JournalFault>
+    requires { len < 2 ^ 32 }
+    ensures ok { IfOk result (λ next. (next ≡ at + 5 + len) × (next + 1 ≤ 2 ^ 62)) }
+    ensures err { IfErr result (λ e. (e ≡ JournalFault.SpaceSpent at (6 + len)) × (2 ^ 62 < at + (6 + len))) }
+{
+    let need = len as u64 + 6;
+    if at > LIMIT || need > LIMIT - at {
+        return Err(JournalFault::SpaceSpent { have: at, need });
+    }
+    Ok(at + need - 1)
+}

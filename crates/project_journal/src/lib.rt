@@ -1,0 +1,28 @@
+//! The journal of a project: a header and records behind gates, in one file of a store.
+//!
+//! A record is a row of bytes, whose meaning this crate does not know. A stop of the machine at any moment of an
+//! append leaves the records of before, or those of before and the new one whole. `docs/FORMATS.md` has the format,
+//! byte by byte.
+#![tactic(auto)]
+
+mod adding;
+mod creating;
+mod fault;
+mod fields;
+mod form;
+mod gate;
+mod header;
+mod journal;
+mod reading;
+mod records;
+mod rows;
+
+pub use adding::{append, append_small};
+pub use creating::create;
+pub use fault::{Damaged, JournalFault};
+pub use fields::{u8_at, u32_at, u64_at};
+pub use journal::Journal;
+pub use reading::read_all;
+
+#[cfg(test)]
+mod tests;

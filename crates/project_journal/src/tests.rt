@@ -1,0 +1,240 @@
+// A journal byte by byte, journals that are damaged, and what a stop leaves after each call.
+use super::*;
+use disk_model::{RamStore, Store};
+use pcm_base::Numbers;
+use std::alloc::Global;
+use std::process::Abort;
+use std::test::*;
+
+// The journal of a new project with one record, that of a track added: as the format's tables spell it.
+const JOURNAL: [u8; 85] = [
+    1, 0x41, 0x4A, 0x4E, 0x31, 1, 0, 0, 0, 0x40, 0x1F, 0, 0, 4, 0, 0, 0, 0, 1, 0, 0, 0, 0, 0, 0, 0,
+    0, 0, 0, 0, 0, 0, 1, 0x2F, 0, 0, 0, 1, 0, 0, 0, 0, 0, 0, 0, 0, 0x10, 0, 0, 0, 0, 0, 0, 0, 2, 0,
+    0, 0, 0, 0, 0, 0, 1, 0, 0, 0, 1, 0, 0, 0, 0, 0, 0, 0, 0, 0, 1, 0, 0, 0, 0, 0, 0, 0, 0,
+];
+
+// The journal of a new project.
+const NEW: [u8; 33] = [
+    1, 0x41, 0x4A, 0x4E, 0x31, 1, 0, 0, 0, 0x40, 0x1F, 0, 0, 4, 0, 0, 0, 0, 1, 0, 0, 0, 0, 0, 0, 0,
+    0, 0, 0, 0, 0, 0, 0,
+];
+
+fn disk(alloc: Global) -> Result<RamStore, Fail> {
+    let fails = Numbers::new(Vec::new(alloc));
+    let store = RamStore::new(alloc, 4, 4096, 64, fails)
+        .ok()
+        .ok_or("no memory")?;
+    Ok(store)
+}
+
+// A disk whose file 0 has the first `count` bytes of the journal, and this byte at this place.
+fn hostile(alloc: Global, count: usize, at: usize, byte: u8) -> Result<RamStore, Fail> {
+    let mut bytes = JOURNAL;
+    if at < 85 {
+        bytes[at] = byte;
+    }
+    let mut store = disk(alloc)?;
+    let bytes = bytes.get(..count).ok_or("too many bytes")?;
+    store.write_at(0, 0, bytes).ok().ok_or("written")?;
+    Ok(store)
+}
+
+fn fault(rt: &impl Abort, alloc: Global, at: usize, byte: u8) -> Result<(u64, u128, u128), Fail> {
+    let mut store = hostile(alloc, 85, at, byte)?;
+    match read_all(alloc, &mut store) {
+        Err(
+            JournalFault::Damaged {
+                file,
+                at,
+                want,
+                have,
+            },
+        ) => {
+            assert_eq!(rt; file, 0);
+            Ok((at, want, have))
+        }
+        _ => Err("the header is damaged".into()),
+    }
+}
+
+#[test]
+fn one_record_byte_by_byte(rt: HostRuntime) -> Result<(), Fail> {
+    let alloc = rt.alloc();
+    let mut store = disk(alloc)?;
+    let mut head = [9u8; 33];
+    let mut whole = [9u8; 85];
+    assert!(rt; matches!(read_all(alloc, &mut store), Err(JournalFault::Absent)));
+    assert!(rt; create(&mut store, 8000, 4, 256).is_ok());
+    assert!(rt; matches!(create(&mut store, 8000, 4, 256), Err(JournalFault::Exists)));
+    assert!(rt; store.size(0) == Ok(Some(33)));
+    assert!(rt; store.read_at(0, 0, &mut head) == Ok(33));
+    assert_eq!(rt; head.as_slice(), NEW.as_slice());
+    let mut scratch = Vec::with_capacity(alloc, 52)?;
+    assert!(rt; append(&mut store, 32, &JOURNAL[37..84], &mut scratch) == Ok(84));
+    assert!(rt; store.size(0) == Ok(Some(85)));
+    assert!(rt; store.read_at(0, 0, &mut whole) == Ok(85));
+    assert_eq!(rt; whole.as_slice(), JOURNAL.as_slice());
+    assert!(rt; append_small(&mut store, 84, &[2]) == Ok(90));
+    let journal = read_all(alloc, &mut store).ok().ok_or("a journal")?;
+    assert_eq!(rt;
+        (journal.rate(), journal.block_size(), journal.depth()),
+        (8000, 4, 256)
+    );
+    assert_eq!(rt; (journal.len(), journal.end()), (2, 90));
+    assert_eq!(rt; journal.early(), None);
+    Ok(())
+}
+
+#[test]
+fn the_first_gate_decides(rt: HostRuntime) -> Result<(), Fail> {
+    let alloc = rt.alloc();
+    let mut shut = hostile(alloc, 85, 32, 0)?;
+    let mut odd = hostile(alloc, 85, 32, 7)?;
+    let none = read_all(alloc, &mut shut).ok().ok_or("a journal")?;
+    let one = read_all(alloc, &mut odd).ok().ok_or("a journal")?;
+    assert_eq!(rt; none.len(), 0);
+    assert_eq!(rt; one.len(), 1);
+    if one.len() == 1 {
+        let (place, body) = one.record(0);
+        assert_eq!(rt; place, 37);
+        assert_eq!(rt; body, &JOURNAL[37..84]);
+        // Kind 1, next block 16, one track.
+        if body.len() == 47 {
+            assert_eq!(rt;
+                (u8_at(body, 0), u64_at(body, 9), u32_at(body, 25)),
+                (1, 16, 1)
+            );
+        }
+    }
+    Ok(())
+}
+
+#[test]
+fn what_is_damaged(rt: HostRuntime) -> Result<(), Fail> {
+    let alloc = rt.alloc();
+    assert_eq!(rt; fault(&rt, alloc, 4, 0x32)?, (1, 827_214_401, 843_991_617));
+    assert_eq!(rt; fault(&rt, alloc, 5, 0)?, (5, 1, 0));
+    assert_eq!(rt; fault(&rt, alloc, 5, 2)?, (5, 1, 2));
+    assert_eq!(rt; fault(&rt, alloc, 13, 5)?, (13, 4, 5));
+    assert_eq!(rt; fault(&rt, alloc, 13, 3)?, (13, 4, 3));
+    assert_eq!(rt; fault(&rt, alloc, 13, 7)?, (13, 6, 7));
+    assert_eq!(rt; fault(&rt, alloc, 16, 1)?, (13, 262_144, 16_777_220));
+    assert_eq!(rt; fault(&rt, alloc, 18, 0)?, (17, 1, 0));
+    assert_eq!(rt; fault(&rt, alloc, 18, 0x20)?, (17, 4096, 8192));
+    assert_eq!(rt; fault(&rt, alloc, 31, 3)?, (31, 0, 3));
+    Ok(())
+}
+
+#[test]
+fn an_early_end(rt: HostRuntime) -> Result<(), Fail> {
+    let alloc = rt.alloc();
+    // The file's size, and place, want and have of the field that is not there.
+    for (count, at, want) in [
+        (33, 33, 37),
+        (36, 33, 37),
+        (37, 37, 84),
+        (83, 37, 84),
+        (84, 84, 85),
+    ] {
+        let mut store = hostile(alloc, count, 0, 1)?;
+        let journal = read_all(alloc, &mut store).ok().ok_or("a journal")?;
+        let early = journal.early().ok_or("an early end")?;
+        assert_eq!(rt;
+            (early.at, early.want, early.have),
+            (at, want, count as u128)
+        );
+    }
+    let mut short = hostile(alloc, 32, 0, 1)?;
+    assert!(rt; matches!(read_all(alloc, &mut short), Err(JournalFault::Absent)));
+    Ok(())
+}
+
+#[test]
+fn the_end_of_all_places(rt: HostRuntime) -> Result<(), Fail> {
+    let alloc = rt.alloc();
+    let mut store = disk(alloc)?;
+    let end = 1 << 62;
+    let spent = JournalFault::SpaceSpent {
+        have: end - 6,
+        need: 7,
+    };
+    assert!(rt; append_small(&mut store, end - 6, &[2]) == Err(spent));
+    assert!(rt; append(&mut store, end - 6, &[2], &mut Vec::new(alloc)) == Err(spent));
+    Ok(())
+}
+
+// A journal's creation and two appends on a disk that stops after so many calls.
+fn stopped(alloc: Global, calls: u64) -> Result<RamStore, Fail> {
+    let mut store = disk(alloc)?;
+    store.stop_after(calls);
+    let mut scratch = Vec::with_capacity(alloc, 52)?;
+    let _ = create(&mut store, 8000, 4, 256);
+    let _ = append(&mut store, 32, &JOURNAL[37..84], &mut scratch);
+    let _ = append_small(&mut store, 84, &[2]);
+    Ok(store)
+}
+
+// How far an image came: 0 without a project, else 1 more than it has records, which are the first of the two.
+fn progress(rt: &impl Abort, alloc: Global, store: &RamStore, choice: u64) -> Result<usize, Fail> {
+    let mut left = store.image(alloc, choice).ok().ok_or("no memory")?;
+    let journal = match read_all(alloc, &mut left) {
+        Ok(journal) => journal,
+        Err(JournalFault::Absent) => return Ok(0),
+        Err(_) => return Err("damaged".into()),
+    };
+    assert_eq!(rt; journal.early(), None);
+    let bodies = [&JOURNAL[37..84], &[2]];
+    for i in 0..journal.len().min(2) {
+        assert_eq!(rt; journal.record(i).1, bodies[i]);
+    }
+    Ok(1 + journal.len())
+}
+
+#[test]
+fn a_stop_after_each_call(rt: HostRuntime) -> Result<(), Fail> {
+    let alloc = rt.alloc();
+    // A creation makes 9 calls, two of them reads, and an append 4. With the last write of each a gate is pending: it
+    // is open in some images. For each number of calls, how far the images came: at least and at most.
+    let expected = [
+        (0, 0),
+        (0, 0),
+        (0, 0),
+        (0, 0),
+        (0, 0),
+        (0, 0),
+        (0, 0),
+        (0, 0),
+        (0, 1),
+        (1, 1),
+        (1, 1),
+        (1, 1),
+        (1, 2),
+        (2, 2),
+        (2, 2),
+        (2, 2),
+        (2, 3),
+        (3, 3),
+        (3, 3),
+    ];
+    for (calls, (least, most)) in expected.into_iter().enumerate() {
+        let store = stopped(alloc, calls as u64)?;
+        assert_eq!(rt;
+            progress(&rt, alloc, &store, 0)?,
+            most,
+            "as it reads after {calls} calls"
+        );
+        assert_eq!(rt;
+            progress(&rt, alloc, &store, 1)?,
+            least,
+            "at the last sync after {calls} calls"
+        );
+        for choice in 2..10 {
+            let came = progress(&rt, alloc, &store, choice)?;
+            assert!(rt;
+                least <= came && came <= most,
+                "after {calls} calls, choice {choice}"
+            );
+        }
+    }
+    Ok(())
+}
