@@ -1,0 +1,5 @@
+mod Trees
+mod Rising
+mod Lookups
+mod Leaves
+mod Searches

@@ -1,0 +1,26 @@
+-- At the place of the id, or in the place where it goes.
+use Rattle.std.proofs.Common.{◌∙◌, ⊎_elim, Some, IsSome, ap, subst, ℕ, Option}
+use mathlib.Core.Bool.{false≢true}
+use Rattle.block_ledger.specs.Counts.{one_more}
+use Rattle.block_ledger.proofs.Lookups.{absent_gap, read_count, put_count, add_count}
+use Rattle.block_ledger.proofs.ledger.Ledger.hold.Goals as goal
+
+pub add-requires-clause-room : goal.add-requires-clause-room
+add-requires-clause-room c = ⊎_elim
+    (λ there. absurd (false≢true (subst IsSome (absent_gap c.args.self.now.entries c.args.id c.in-Err.i c.in-Err.ensures.absent) there)))
+    (λ room. room)
+    c.requires
+
+pub returns-in-Ok-clause-counts : goal.returns-in-Ok-clause-counts
+returns-in-Ok-clause-counts c =
+    let entries = c.args.self.now.entries in
+    let here = c.in-Ok.ensures.found in
+    let rising = c.position.ensures.rising in
+    let read = c.raised.ensures ∙ ap (λ (o : Option ℕ). Some (one_more o)) (read_count entries c.args.id c.in-Ok.i c.count_at.result rising here c.count_at.ensures) in
+    put_count entries c.set_count.new.self.entries c.args.id c.in-Ok.i _ rising here (rw read at c.set_count.ensures.entries)
+
+pub returns-in-Err-clause-counts : goal.returns-in-Err-clause-counts
+returns-in-Err-clause-counts c = add_count c.args.self.now.entries c.add.new.self.entries c.args.id c.in-Err.i c.in-Err.ensures.absent c.add.ensures.entries
+
+pub returns-in-Err-clause-there : goal.returns-in-Err-clause-there
+returns-in-Err-clause-there c = λ there. absurd (false≢true (subst IsSome (absent_gap c.args.self.now.entries c.args.id c.in-Err.i c.in-Err.ensures.absent) there))

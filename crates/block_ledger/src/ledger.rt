@@ -1,0 +1,187 @@
+// Counts by id.
+ghost use Rattle.std.specs.Prelude.{◌≡◌, ◌⊎◌, ◌↔◌, ◌+◌, ◌^◌, ◌<◌, ◌≤◌, ℕ, None, Some, IsSome, IfSome, IfNone, IfOk, IfErr, OnOk, OnErr, Contains, length, map, slice_set, slice_index_or};
+ghost use Rattle.std.specs.List.{insert};
+ghost use Rattle.std.specs.List.Sorted.{IsStrictlyIncreasing};
+ghost use Rattle.block_ledger.specs.declared.entry.Entry.{Entry};
+ghost use Rattle.block_ledger.specs.Counts.{IsFirstFree, IsNamed, SetsCount, one_less, one_more};
+ghost use Rattle.block_ledger.specs.Entries.{IsAt, IsGap, IsLeaves, IsRising, count_of, free_of, id_at, with_count};
+
+use super::entry::{Entry, lowered, raised};
+use super::tree::LeastTree;
+use pcm_base::{NoMemory, Numbers};
+use std::alloc::Global;
+use std::marker::Model;
+
+// A tree has fewer than 2^62 leaves.
+const LEAVES_MOST: usize = (1 << 62) - 1;
+
+/// How often each id occurs. An id that occurs no more keeps its count of 0, until it is taken out.
+///
+/// Contracts see the count of each id, none where the ledger does not have it, and for how many more ids there is room.
+#[derive(Drop)]
+pub struct Ledger {
+    entries: Vec<Entry>,
+    free: LeastTree,
+}
+
+impl Model for Ledger {
+    ghost use Rattle.std.specs.Prelude.{◌-◌, length, vec_capacity};
+    ghost use Rattle.block_ledger.specs.Entries.{Kept, IsLedger};
+
+    ghost Value = { Kept };
+
+    ghost view = { λ l. record { entries = l.entries.items; spare = length l.free - length l.entries.items } };
+
+    ghost invariant = { λ l. IsLedger l.entries.items l.free (vec_capacity l.entries) };
+}
+
+impl Ledger {
+    /// A ledger without ids.
+    pub fn new(alloc: Global) -> Ledger
+        ensures { (id : ℕ) → count_of result id ≡ None }
+    {
+        Ledger {
+            entries: Vec::new(alloc),
+            free: LeastTree::new(alloc),
+        }
+    }
+
+    /// Makes room for so many ids that the ledger does not have. It takes memory only where there is too little.
+    pub fn reserve(&mut self, count: u64) -> Result<(), NoMemory>
+        ensures counts { (id : ℕ) → count_of self.new id ≡ count_of self.old id }
+        ensures ok { OnOk result (count ≤ self.new.spare) }
+        ensures full { OnErr result (self.old.spare < count) }
+        ensures spare { self.old.spare ≤ self.new.spare }
+    {
+        if count <= (self.free.len() - self.entries.len()) as u64 {
+            return Ok(());
+        }
+        let leaves = leaves_for(self.entries.len(), count)?;
+        let mut free = LeastTree::with_leaves(*self.entries.allocator(), leaves)?;
+        self.entries.reserve(leaves - self.entries.len())?;
+        self.entries.retain(|entry| entry.count.is_some());
+        refresh(&self.entries, &mut free, 0);
+        self.free = free;
+        Ok(())
+    }
+
+    /// Counts one occurrence more. The ledger has the id, or room for one.
+    pub fn hold(&mut self, id: u64)
+        requires { IsSome (count_of self.old id) ⊎ (0 < self.old.spare) }
+        ensures counts { SetsCount (count_of self.old) (count_of self.new) id (Some (one_more (count_of self.old id))) }
+        ensures spare { self.old.spare ≤ self.new.spare + 1 }
+        ensures there { IsSome (count_of self.old id) → self.new.spare ≡ self.old.spare }
+    {
+        match self.position(id) {
+            Ok(i) => self.set_count(i, raised(self.count_at(i))),
+            Err(i) => self.add(i, id),
+        }
+    }
+
+    /// Counts one occurrence less, of an id that has one.
+    pub fn drop_one(&mut self, id: u64)
+        requires { IsNamed (count_of self.old id) }
+        ensures counts { SetsCount (count_of self.old) (count_of self.new) id (Some (one_less (count_of self.old id))) }
+        ensures spare { self.new.spare ≡ self.old.spare }
+    {
+        if let Ok(i) = self.position(id) {
+            self.set_count(i, lowered(self.count_at(i)));
+        }
+    }
+
+    /// Takes out an id whose count is 0.
+    pub fn forget(&mut self, id: u64)
+        requires { count_of self.old id ≡ Some 0 }
+        ensures counts { SetsCount (count_of self.old) (count_of self.new) id None }
+        ensures spare { self.new.spare ≡ self.old.spare }
+    {
+        if let Ok(i) = self.position(id) {
+            self.set_count(i, None);
+        }
+    }
+
+    /// The least id whose count is 0.
+    pub fn first_free(&self) -> Option<u64>
+        ensures found { IfSome result (IsFirstFree (count_of self.now)) }
+        ensures none { IfNone result ((id : ℕ) → count_of self.now id ≡ Some 0 → ⊥) }
+    {
+        self.free.least()
+    }
+
+    /// The ids that occur, rising.
+    pub fn all_named(&self) -> Result<Numbers, NoMemory>
+        ensures rising { IfOk result IsStrictlyIncreasing }
+        ensures named { IfOk result (λ ids. (id : ℕ) → Contains ids id ↔ IsNamed (count_of self.now id)) }
+    {
+        let mut ids = Vec::new(*self.entries.allocator());
+        for entry in &self.entries {
+            if entry.is_named() {
+                ids.push(entry.id)?;
+            }
+        }
+        Ok(Numbers::new(ids))
+    }
+
+    // The place of an id among the entries, or the place to which it would go.
+    fn position(&self, id: u64) -> Result<usize, usize>
+        ensures rising { IsRising self.now.entries }
+        ensures found { IfOk result (IsAt self.now.entries id) }
+        ensures absent { IfErr result (IsGap self.now.entries id) }
+    {
+        self.entries.binary_search_by_key(&id, |entry| entry.id)
+    }
+
+    fn count_at(&self, i: usize) -> Option<u128>
+        requires { i < length self.now.entries }
+        ensures { (d : Entry) → result ≡ (slice_index_or self.now.entries i d).count }
+    {
+        self.entries[i].count
+    }
+
+    // Writes the count of an entry, and its leaf.
+    fn set_count(&mut self, i: usize, count: Option<u128>)
+        requires { i < length self.old.entries }
+        ensures entries { self.new.entries ≡ slice_set self.old.entries i (with_count self.old.entries i count) }
+        ensures spare { self.new.spare ≡ self.old.spare }
+    {
+        self.entries[i].count = count;
+        self.free.set(i, self.entries[i].free_id());
+    }
+
+    // Adds an id that occurs once, in its place.
+    fn add(&mut self, i: usize, id: u64)
+        requires gap { IsGap self.old.entries id i }
+        requires room { 0 < self.old.spare }
+        ensures entries { self.new.entries ≡ insert self.old.entries i (record { id = id; count = Some 1 }) }
+        ensures spare { self.new.spare + 1 ≡ self.old.spare }
+    {
+        let count = Some(1);
+        let _ = self.entries.insert(i, Entry { id, count });
+        refresh(&self.entries, &mut self.free, i);
+    }
+}
+
+// How many leaves are made for so many ids more: as many as there are entries at least, so that they are made seldom.
+fn leaves_for(entries: usize, count: u64) -> Result<usize, NoMemory>
+    requires { entries < 2 ^ 62 }
+    ensures { IfOk result (λ leaves. (entries + count ≤ leaves) × (leaves < 2 ^ 62)) }
+{
+    let room = LEAVES_MOST - entries;
+    if count > room as u64 || entries > room {
+        return Err(NoMemory);
+    }
+    Ok(entries + (count as usize).max(entries))
+}
+
+// Writes the leaves of the entries from a place on, where those before are as they have to be.
+fn refresh(entries: &[Entry], free: &mut LeastTree, from: usize)
+    requires few { length entries.now ≤ length free.old }
+    requires before { (i : ℕ) → i < from → slice_index_or free.old i None ≡ slice_index_or (map free_of entries.now) i None }
+    requires behind { (i : ℕ) → length entries.now ≤ i → slice_index_or free.old i None ≡ None }
+    ensures leaves { IsLeaves entries.now free.new }
+    ensures len { length free.new ≡ length free.old }
+{
+    for i in from..entries.len() {
+        free.set(i, entries[i].free_id());
+    }
+}

@@ -1,0 +1,59 @@
+// A ledger of a few ids, worked by hand.
+use super::*;
+use pcm_base::Numbers;
+use std::alloc::Global;
+use std::process::Abort;
+use std::test::*;
+
+fn named(ledger: &Ledger) -> Result<Numbers, Fail> {
+    let ids = ledger.all_named().ok().ok_or("no memory")?;
+    Ok(ids)
+}
+
+// A ledger in which each id occurs as often as it is listed, with room for two more.
+fn held(alloc: Global, rt: &impl Abort, ids: &[u64]) -> Result<Ledger, Fail> {
+    let mut ledger = Ledger::new(alloc);
+    for id in ids {
+        ledger.reserve(2).ok().ok_or("no memory")?;
+        assert!(rt; ledger.first_free().is_none());
+        ledger.hold(*id);
+    }
+    ledger.reserve(2).ok().ok_or("no memory")?;
+    Ok(ledger)
+}
+
+#[test]
+fn what_is_named(rt: HostRuntime) -> Result<(), Fail> {
+    let alloc = rt.alloc();
+    let none = Ledger::new(alloc);
+    assert_eq!(rt; named(&none)?.as_slice(), [].as_slice());
+    assert_eq!(rt; none.first_free(), None);
+    let some = held(alloc, &rt, &[18, 16, 18, 30, 17, 16])?;
+    assert_eq!(rt; named(&some)?.as_slice(), [16, 17, 18, 30].as_slice());
+    assert_eq!(rt; some.first_free(), None);
+    Ok(())
+}
+
+#[test]
+fn the_least_of_count_0(rt: HostRuntime) -> Result<(), Fail> {
+    let mut ledger = Ledger::new(rt.alloc());
+    ledger.reserve(3).ok().ok_or("no memory")?;
+    ledger.hold(20);
+    ledger.hold(16);
+    ledger.hold(16);
+    ledger.hold(18);
+    ledger.drop_one(20);
+    assert_eq!(rt; ledger.first_free(), Some(20));
+    ledger.drop_one(18);
+    ledger.drop_one(16);
+    assert_eq!(rt; ledger.first_free(), Some(18));
+    assert_eq!(rt; named(&ledger)?.as_slice(), [16].as_slice());
+    ledger.forget(18);
+    assert_eq!(rt; ledger.first_free(), Some(20));
+    ledger.hold(20);
+    assert_eq!(rt; ledger.first_free(), None);
+    ledger.drop_one(16);
+    assert_eq!(rt; ledger.first_free(), Some(16));
+    assert_eq!(rt; named(&ledger)?.as_slice(), [20].as_slice());
+    Ok(())
+}

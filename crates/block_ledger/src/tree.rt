@@ -1,0 +1,89 @@
+// The least of many ids, of which some come and go.
+ghost use Rattle.std.specs.Prelude.{◌≡◌, ◌+◌, ◌*◌, ◌^◌, ◌<◌, ◌≤◌, ℕ, None, Some, [], IfOk, IfSome, IsSomeAnd, Contains, length, replicate, slice_set, slice_index_or};
+ghost use Rattle.block_ledger.specs.Tree.{lesser};
+
+use std::alloc::{AllocError, Global};
+use std::marker::Model;
+
+// A row of leaves, each with an id or none, under a binary tree whose nodes have the lesser of their two children. Node
+// k has the children 2k and 2k + 1, the root is node 1, and the leaves are the last half. Contracts see the leaves.
+#[derive(Drop)]
+pub(crate) struct LeastTree {
+    nodes: Vec<Option<u64>>,
+    leaves: usize,
+}
+
+impl Model for LeastTree {
+    ghost use Rattle.std.specs.Prelude.{ℕ, List, Option, drop};
+    ghost use Rattle.block_ledger.specs.Tree.{IsTree};
+
+    ghost Value = { List (Option ℕ) };
+
+    ghost view = { λ t. drop t.leaves t.nodes.items };
+
+    ghost invariant = { λ t. IsTree t.leaves t.nodes.items };
+}
+
+impl LeastTree {
+    // A tree without leaves.
+    pub(crate) fn new(alloc: Global) -> LeastTree
+        ensures { result ≡ [] }
+    {
+        LeastTree {
+            nodes: Vec::new(alloc),
+            leaves: 0,
+        }
+    }
+
+    // A tree with so many leaves, all without an id.
+    pub(crate) fn with_leaves(alloc: Global, leaves: usize) -> Result<LeastTree, AllocError>
+        requires { leaves < 2 ^ 62 }
+        ensures { IfOk result (λ t. t ≡ replicate leaves None) }
+    {
+        let mut nodes = Vec::new(alloc);
+        nodes.resize(2 * leaves, None)?;
+        Ok(LeastTree { nodes, leaves })
+    }
+
+    // How many leaves there are.
+    pub(crate) fn len(&self) -> usize
+        ensures { result ≡ length self.now }
+    {
+        self.leaves
+    }
+
+    // Writes a leaf.
+    pub(crate) fn set(&mut self, leaf: usize, id: Option<u64>)
+        requires { leaf < length self.old }
+        ensures { self.new ≡ slice_set self.old leaf id }
+    {
+        let mut node = self.leaves + leaf;
+        self.nodes[node] = id;
+        while node > 1 {
+            node /= 2;
+            self.nodes[node] = lesser(self.nodes[2 * node], self.nodes[2 * node + 1]);
+        }
+    }
+
+    // The least id of the leaves.
+    pub(crate) fn least(&self) -> Option<u64>
+        ensures found { IfSome result (λ id. Contains self.now (Some id)) }
+        ensures least { (id : ℕ) → Contains self.now (Some id) → IsSomeAnd result (λ least. least ≤ id) }
+    {
+        if self.leaves == 0 {
+            return None;
+        }
+        self.nodes[1]
+    }
+}
+
+// The lesser of two ids, of which either may be missing.
+fn lesser(a: Option<u64>, b: Option<u64>) -> Option<u64>
+    ensures { result ≡ lesser a b }
+{
+    match (a, b) {
+        (Some(a), Some(b)) => Some(a.min(b)),
+        (Some(a), None) => Some(a),
+        (None, b) => b,
+    }
+}
