@@ -1,0 +1,3 @@
+pub mod LaidLaws
+pub mod PieceLaws
+pub mod SumLaws

@@ -1,0 +1,40 @@
+-- Sums of a piece of the frames, one list for each way to be heard.
+use Rattle.std.specs.Prelude.{◌≡◌, ◌≤◌, ◌<◌, ◌+◌, ◌^◌, ℕ, ℤ, pos, ◌+ℤ◌, nat_abs, List, length, Bool, if◌then◌else◌, slice_index_or}
+use Rattle.pcm_base.specs.declared.sound.Cell.{Cell}
+use Rattle.pcm_base.specs.declared.sound.Cell.TheVariants.{Gap}
+use Rattle.pcm_base.specs.declared.sound.Frame.{Frame}
+use Rattle.pcm_base.specs.Arithmetic.{clamped}
+use Rattle.pcm_base.specs.Mix.{weight}
+
+abbrev pub sum_in : List ℤ → ℕ → ℤ
+sum_in sums k = slice_index_or sums k (pos 0)
+
+-- what the cell at a place adds under a gain
+abbrev pub weight_in : ℕ → List Cell → ℕ → ℤ
+weight_in gain cells k = weight gain (slice_index_or cells k Gap)
+
+-- the first n sums are no greater than this in size
+abbrev pub AreWithin : ℕ → ℕ → List ℤ → Type 0
+AreWithin most n sums = (k : ℕ) → k < n → nat_abs (sum_in sums k) ≤ most
+
+-- the first n sums have grown in size by no more than what a cell can add
+abbrev pub Grows : ℕ → List ℤ → List ℤ → Type 0
+Grows n old new = (k : ℕ) → k < n → nat_abs (sum_in new k) ≤ nat_abs (sum_in old k) + 2 ^ 32
+
+-- the cells are added to the first sums, each at its place
+abbrev pub IsAdded : ℕ → List Cell → List ℤ → List ℤ → Type 0
+IsAdded gain cells old new = (k : ℕ) → k < length cells → sum_in new k ≡ sum_in old k +ℤ weight_in gain cells k
+
+-- what is heard on a side, on which two lists of sums are heard together, with the cells added if they are heard there
+abbrev pub IsHeard : Bool → ℕ → List Cell → (List ℤ × List ℤ) → (List ℤ × List ℤ) → Type 0
+IsHeard here gain cells old new =
+    (k : ℕ) → k < length cells
+    → sum_in new.0 k +ℤ sum_in new.1 k ≡ (sum_in old.0 k +ℤ sum_in old.1 k) +ℤ (if here then weight_in gain cells k else pos 0)
+
+-- the frame of what is heard on each side, limited once
+abbrev pub limited : ℤ → ℤ → Frame
+limited left right = record { left = clamped left; right = clamped right }
+
+-- the frame at a place of sums of the tracks that are heard on both sides, on the left and on the right alone
+abbrev pub frame_in : List ℤ → List ℤ → List ℤ → ℕ → Frame
+frame_in both left right k = limited (sum_in both k +ℤ sum_in left k) (sum_in both k +ℤ sum_in right k)

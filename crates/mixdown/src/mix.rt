@@ -1,0 +1,51 @@
+// The frames of a mix.
+ghost use Rattle.std.specs.Prelude.{◌≡◌, ◌≤◌, ◌+◌, ◌*◌, length, map};
+ghost use Rattle.std.specs.List.{range_with_len};
+ghost use Rattle.pcm_base.specs.Arithmetic.{counted_from};
+ghost use Rattle.pcm_base.specs.Mix.{frame_at};
+ghost use Rattle.mixdown.specs.Laid.{laid};
+
+use super::sums::{PIECE, Sums};
+use pcm_base::{Cell, Frame, Side};
+
+/// The frames from place `at` on, so few that their sums stand on the stack, of stretches of `len` cells each.
+fn mix_piece(
+    stretches: &[Cell],
+    gains: &[u32],
+    sides: &[Side],
+    len: usize,
+    at: usize,
+    out: &mut [Frame],
+)
+    requires few { length gains.now ≤ 64 }
+    requires sides { length sides.now ≡ length gains.now }
+    requires stretches { length stretches.now ≡ length gains.now * len }
+    requires piece { length out.old ≤ 256 }
+    requires within { at + length out.old ≤ len }
+    ensures { out.new ≡ map (frame_at (laid len stretches.now gains.now sides.now)) (range_with_len at (length out.old)) }
+{
+    let mut sums = Sums::new();
+    for t in 0..gains.len() {
+        let from = t * len + at;
+        sums.add(sides[t], gains[t], &stretches[from..from + out.len()]);
+    }
+    sums.limit(out);
+}
+
+/// The mix of stretches of at most 64 tracks that are heard: one for each gain and side, one after the other, each as
+/// long as the frames. A gain of 65,536 is unity. Each side of a frame is the sum of the scaled samples at its place,
+/// limited once; a gap adds nothing. It takes no memory, and goes over each stretch once.
+pub fn mix_into(stretches: &[Cell], gains: &[u32], sides: &[Side], out: &mut [Frame])
+    requires few { length gains.now ≤ 64 }
+    requires sides { length sides.now ≡ length gains.now }
+    requires stretches { length stretches.now ≡ length gains.now * length out.old }
+    ensures { out.new ≡ map (frame_at (laid (length out.old) stretches.now gains.now sides.now)) (counted_from 0 (length out.old)) }
+{
+    let len = out.len();
+    let mut done = 0;
+    'pieces: while done < len {
+        let next = done + PIECE.min(len - done);
+        mix_piece(stretches, gains, sides, len, done, &mut out[done..next]);
+        done = next;
+    }
+}

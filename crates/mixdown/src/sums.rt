@@ -1,0 +1,77 @@
+// The sums of a piece of the frames.
+ghost use Rattle.std.specs.Prelude.{◌≡◌, ◌≤◌, ◌<◌, ◌+◌, ◌^◌, length, map, replicate, pos};
+ghost use Rattle.std.specs.List.{range_with_len};
+ghost use Rattle.pcm_base.specs.Mix.{is_on_left, is_on_right};
+ghost use Rattle.mixdown.specs.Sums.{AreWithin, Grows, IsHeard, limited as limited_of, frame_in};
+
+use super::weights::{add, add_cells};
+use pcm_base::{Cell, Frame, Side, clamped};
+
+/// How many frames are summed at a time.
+pub(crate) const PIECE: usize = 256;
+
+/// What is heard of a piece, before it is limited. Each track is in one of the three, by the sides where it is heard.
+#[derive(Debug, Drop)]
+pub(crate) struct Sums {
+    both: [i64; PIECE],
+    left: [i64; PIECE],
+    right: [i64; PIECE],
+}
+
+impl Sums {
+    /// The sums of no track.
+    pub(crate) fn new() -> Sums
+        ensures both { result.both ≡ replicate 256 (pos 0) }
+        ensures left { result.left ≡ replicate 256 (pos 0) }
+        ensures right { result.right ≡ replicate 256 (pos 0) }
+    {
+        Sums {
+            both: [0; PIECE],
+            left: [0; PIECE],
+            right: [0; PIECE],
+        }
+    }
+
+    /// Adds the piece of one track.
+    pub(crate) fn add(&mut self, side: Side, gain: u32, cells: &[Cell])
+        requires few { length cells.now ≤ 256 }
+        requires both { AreWithin (2 ^ 39) (length cells.now) self.old.both }
+        requires left { AreWithin (2 ^ 39) (length cells.now) self.old.left }
+        requires right { AreWithin (2 ^ 39) (length cells.now) self.old.right }
+        ensures left { IsHeard (is_on_left side) gain cells.now (self.old.both, self.old.left) (self.new.both, self.new.left) }
+        ensures right { IsHeard (is_on_right side) gain cells.now (self.old.both, self.old.right) (self.new.both, self.new.right) }
+        ensures both_bound { Grows (length cells.now) self.old.both self.new.both }
+        ensures left_bound { Grows (length cells.now) self.old.left self.new.left }
+        ensures right_bound { Grows (length cells.now) self.old.right self.new.right }
+    {
+        match side {
+            Side::Both => add_cells(gain, cells, &mut self.both),
+            Side::Left => add_cells(gain, cells, &mut self.left),
+            Side::Right => add_cells(gain, cells, &mut self.right),
+        }
+    }
+
+    /// The first frames of the sums.
+    pub(crate) fn limit(&self, out: &mut [Frame])
+        requires few { length out.old ≤ 256 }
+        requires both { AreWithin (2 ^ 39) (length out.old) self.now.both }
+        requires left { AreWithin (2 ^ 39) (length out.old) self.now.left }
+        requires right { AreWithin (2 ^ 39) (length out.old) self.now.right }
+        ensures { out.new ≡ map (frame_in self.now.both self.now.left self.now.right) (range_with_len 0 (length out.old)) }
+    {
+        for k in 0..out.len() {
+            let both = self.both[k];
+            out[k] = limited(add(both, self.left[k]), add(both, self.right[k]));
+        }
+    }
+}
+
+/// A frame of what is heard on each side, limited to what a sample can be.
+fn limited(left: i64, right: i64) -> Frame
+    ensures { result ≡ limited_of left right }
+{
+    Frame {
+        left: clamped(left),
+        right: clamped(right),
+    }
+}

@@ -1,0 +1,127 @@
+// Files byte by byte: worked ones, each reason once, and files that other programs wrote.
+use super::{BadWav, Wav, read, write};
+use pcm_base::Frame;
+use std::alloc::Global;
+use std::test::*;
+
+/// One channel of the samples 1 and -1, at 8,000 frames in a second.
+const MONO: [u8; 48] = [
+    0x52, 0x49, 0x46, 0x46, 0x28, 0x00, 0x00, 0x00, 0x57, 0x41, 0x56, 0x45, 0x66, 0x6D, 0x74, 0x20,
+    0x10, 0x00, 0x00, 0x00, 0x01, 0x00, 0x01, 0x00, 0x40, 0x1F, 0x00, 0x00, 0x80, 0x3E, 0x00, 0x00,
+    0x02, 0x00, 0x10, 0x00, 0x64, 0x61, 0x74, 0x61, 0x04, 0x00, 0x00, 0x00, 0x01, 0x00, 0xFF, 0xFF,
+];
+
+/// Two channels, each of the samples 1 and -1.
+const TWO: [u8; 52] = [
+    0x52, 0x49, 0x46, 0x46, 0x2C, 0x00, 0x00, 0x00, 0x57, 0x41, 0x56, 0x45, 0x66, 0x6D, 0x74, 0x20,
+    0x10, 0x00, 0x00, 0x00, 0x01, 0x00, 0x02, 0x00, 0x40, 0x1F, 0x00, 0x00, 0x00, 0x7D, 0x00, 0x00,
+    0x04, 0x00, 0x10, 0x00, 0x64, 0x61, 0x74, 0x61, 0x08, 0x00, 0x00, 0x00, 0x01, 0x00, 0x01, 0x00,
+    0xFF, 0xFF, 0xFF, 0xFF,
+];
+
+/// The first with a `LIST` chunk of 3 bytes and its pad byte before `data`.
+const LISTED: [u8; 60] = [
+    0x52, 0x49, 0x46, 0x46, 0x28, 0x00, 0x00, 0x00, 0x57, 0x41, 0x56, 0x45, 0x66, 0x6D, 0x74, 0x20,
+    0x10, 0x00, 0x00, 0x00, 0x01, 0x00, 0x01, 0x00, 0x40, 0x1F, 0x00, 0x00, 0x80, 0x3E, 0x00, 0x00,
+    0x02, 0x00, 0x10, 0x00, 0x4C, 0x49, 0x53, 0x54, 0x03, 0x00, 0x00, 0x00, 0x61, 0x62, 0x63, 0x00,
+    0x64, 0x61, 0x74, 0x61, 0x04, 0x00, 0x00, 0x00, 0x01, 0x00, 0xFF, 0xFF,
+];
+
+pub(crate) fn refusal(alloc: Global, bytes: &[u8]) -> Option<BadWav> {
+    match read(alloc, bytes) {
+        Ok(_) => None,
+        Err(why) => Some(why),
+    }
+}
+
+pub(crate) fn has_channel(wav: &Wav, channel: usize, want: &[i16]) -> bool {
+    match wav.channels.as_slice().get(channel) {
+        Some(samples) => samples.as_slice() == want,
+        None => false,
+    }
+}
+
+pub(crate) fn is_mono(alloc: Global, bytes: &[u8], rate: u32, want: &[i16]) -> bool {
+    match read(alloc, bytes) {
+        Ok(wav) => {
+            wav.rate == rate && wav.channels.as_slice().len() == 1 && has_channel(&wav, 0, want)
+        }
+        Err(_) => false,
+    }
+}
+
+/// The refusal of the worked file with one byte changed.
+fn changed(alloc: Global, place: usize, byte: u8) -> Option<BadWav> {
+    let mut bytes = MONO;
+    if place < bytes.len() {
+        bytes[place] = byte;
+    }
+    refusal(alloc, &bytes)
+}
+
+#[test]
+fn worked_files(rt: HostRuntime) -> Result<(), Fail> {
+    let alloc = rt.alloc();
+    assert!(rt; is_mono(alloc, &MONO, 8000, &[1, -1]));
+    assert!(rt; is_mono(alloc, &LISTED, 8000, &[1, -1]));
+    let mut open = MONO;
+    open[40] = 0xFF;
+    open[41] = 0xFF;
+    open[42] = 0xFF;
+    open[43] = 0xFF;
+    assert!(rt; is_mono(alloc, &open, 8000, &[1, -1]));
+    let mut odd = MONO;
+    odd[40] = 3;
+    assert!(rt; is_mono(alloc, &odd, 8000, &[1]));
+    odd[40] = 0;
+    assert!(rt; is_mono(alloc, &odd, 8000, &[]));
+    Ok(())
+}
+
+#[test]
+fn each_reason(rt: HostRuntime) {
+    let alloc = rt.alloc();
+    let truncated = BadWav::Truncated { want: 4, have: 3 };
+    assert_eq!(rt; refusal(alloc, &[]), Some(BadWav::NotRiff));
+    assert_eq!(rt; refusal(alloc, &MONO[..11]), Some(BadWav::NotRiff));
+    assert_eq!(rt; changed(alloc, 11, b'e'), Some(BadWav::NotRiff));
+    assert_eq!(rt; refusal(alloc, &MONO[..12]), Some(BadWav::NoFmt));
+    assert_eq!(rt; changed(alloc, 12, b'F'), Some(BadWav::NoFmt));
+    assert_eq!(rt; refusal(alloc, &MONO[..36]), Some(BadWav::NoData));
+    assert_eq!(rt; changed(alloc, 16, 14), Some(BadWav::FmtShort));
+    assert_eq!(rt; changed(alloc, 20, 3), Some(BadWav::BadTag { tag: 3 }));
+    assert_eq!(rt; changed(alloc, 34, 24), Some(BadWav::BadBits { bits: 24 }));
+    assert_eq!(rt;
+        changed(alloc, 22, 0),
+        Some(BadWav::BadChannels { count: 0 })
+    );
+    assert_eq!(rt;
+        changed(alloc, 22, 9),
+        Some(BadWav::BadChannels { count: 9 })
+    );
+    assert_eq!(rt; changed(alloc, 32, 4), Some(BadWav::BadAlign { align: 4 }));
+    assert_eq!(rt; refusal(alloc, &MONO[..47]), Some(truncated));
+    let mut still = MONO;
+    still[24] = 0;
+    still[25] = 0;
+    assert_eq!(rt; refusal(alloc, &still), Some(BadWav::BadRate { rate: 0 }));
+}
+
+#[test]
+fn written(rt: HostRuntime) -> Result<(), Fail> {
+    let frames = [
+        Frame { left: 1, right: 1 },
+        Frame {
+            left: -1,
+            right: -1,
+        },
+    ];
+    let text = write(rt.alloc(), &frames, 8000).ok().ok_or("write")?;
+    assert!(rt; text.as_slice() == TWO.as_slice());
+    let wav = read(rt.alloc(), text.as_slice()).ok().ok_or("read")?;
+    assert!(rt; wav.rate == 8000 && wav.channels.as_slice().len() == 2);
+    assert!(rt; has_channel(&wav, 0, &[1, -1]) && has_channel(&wav, 1, &[1, -1]));
+    let none = write(rt.alloc(), &[], u32::MAX).ok().ok_or("write")?;
+    assert!(rt; none.as_slice()[24..32] == [0xFF, 0xFF, 0xFF, 0xFF, 0xFC, 0xFF, 0xFF, 0xFF]);
+    Ok(())
+}
