@@ -1,6 +1,7 @@
 pub mod Clip
 pub mod Count
 pub mod HalfFull
+pub mod Origins
 pub mod Out
 pub mod Rest
 pub mod Rule

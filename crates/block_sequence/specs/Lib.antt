@@ -1,5 +1,6 @@
 pub mod Fuse
 pub mod Laid
 pub mod Laying
+pub mod Origins
 pub mod Places
 pub mod Sequences

@@ -1,6 +1,8 @@
 // Pieces are cut off in front.
-ghost use Rattle.std.specs.Prelude.{◌≡◌, ℕ, ◌+◌, ◌≤◌, ◌<◌, ◌^◌, ◌++◌, drop, IfOk};
+ghost use Rattle.std.specs.Prelude.{◌≡◌, ℕ, List, ◌+◌, ◌≤◌, ◌<◌, ◌^◌, ◌++◌, drop, IfOk};
+ghost use Rattle.pcm_base.specs.declared.block.BlockRef.{BlockRef};
 ghost use Rattle.pcm_base.specs.Pieces.{Sources, all_samples, total, AllValid, AllFit};
+ghost use Rattle.block_sequence.specs.Origins.{AllFrom};
 ghost use Rattle.block_sequence.specs.Places.{samples_from, total_from};
 
 use super::parts::{part_of, piece_len};
@@ -28,6 +30,7 @@ pub fn cut_off(alloc: Global, pieces: &[Piece], place: Place, n: u64) -> Result<
     requires within { place.skip + n ≤ total (drop place.at pieces.now) }
     ensures valid { IfOk result (λ c. AllValid c.pieces.items) }
     ensures fit { IfOk result (λ c. (m : ℕ) → AllFit m pieces.now → AllFit m c.pieces.items) }
+    ensures from { IfOk result (λ c. (blocks : List BlockRef) (count : ℕ) → AllFrom blocks count pieces.now → AllFrom blocks count c.pieces.items) }
     ensures total { IfOk result (λ c. total c.pieces.items ≡ n) }
     ensures within { IfOk result (λ c. c.rest.skip ≤ total (drop c.rest.at pieces.now)) }
     ensures rest { IfOk result (λ c. total_from pieces.now c.rest.at c.rest.skip + n ≡ total_from pieces.now place.at place.skip) }

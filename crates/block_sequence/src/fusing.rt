@@ -5,6 +5,7 @@ ghost use Rattle.pcm_base.specs.Pieces.{Sources, whole, all_samples, total, IsVa
 ghost use Rattle.block_sequence.specs.Fuse as layout;
 ghost use Rattle.block_sequence.specs.Laying as laying;
 ghost use Rattle.pcm_base.specs.declared.block.BlockRef.{BlockRef};
+ghost use Rattle.block_sequence.specs.Origins.{AllFrom, AllLaidFrom};
 ghost use Rattle.block_sequence.specs.Laid.{no_piece, parts, sizes, all_laid_samples, AllMade};
 
 use super::cutting::{Place, cut_off};
@@ -92,6 +93,8 @@ fn lay_run(
     requires made { AllMade m out.old.items }
     ensures made { OnOk result (AllMade m out.new.items) }
     ensures parts { OnOk result (parts out.new.items ≡ parts out.old.items ++ laying.run_parts m run) }
+    ensures from { OnOk result ((blocks : List BlockRef) (count : ℕ) →
+        AllFrom blocks count pieces.now → AllLaidFrom blocks count out.old.items → AllLaidFrom blocks count out.new.items) }
     ensures samples { OnOk result ((src : Sources) → all_laid_samples src out.new.items ≡ all_laid_samples src out.old.items ++ all_samples src pieces.now) }
 {
     let mut place = Place { at: 0, skip: 0 };
@@ -147,6 +150,8 @@ fn lay_between(
     requires made { AllMade m out.old.items }
     ensures made { OnOk result (AllMade m out.new.items) }
     ensures parts { OnOk result (parts out.new.items ≡ parts out.old.items ++ laying.run_parts m run) }
+    ensures from { OnOk result ((blocks : List BlockRef) (count : ℕ) →
+        AllFrom blocks count pieces.now → AllLaidFrom blocks count out.old.items → AllLaidFrom blocks count out.new.items) }
     ensures samples { OnOk result ((src : Sources) →
         all_laid_samples src out.new.items ++ all_samples src (drop end pieces.now) ≡ all_laid_samples src out.old.items ++ all_samples src (drop start pieces.now)) }
 {
@@ -170,6 +175,7 @@ fn lay_clip(alloc: Global, pieces: &[Piece], m: u32) -> Result<Vec<Laid>, AllocE
     requires few { total pieces.now ≤ 2 ^ 32 }
     ensures made { IfOk result (λ v. AllMade m v.items) }
     ensures parts { IfOk result (λ v. parts v.items ≡ laying.laid_clip m pieces.now) }
+    ensures from { IfOk result (λ v. (blocks : List BlockRef) (count : ℕ) → AllFrom blocks count pieces.now → AllLaidFrom blocks count v.items) }
     ensures samples { IfOk result (λ v. (src : Sources) → all_laid_samples src v.items ≡ all_samples src pieces.now) }
 {
     let mut out = Vec::new(alloc);
@@ -233,6 +239,7 @@ fn lay_apart(alloc: Global, pieces: &[Piece], m: u32) -> Result<Vec<Laid>, Alloc
     requires few { total pieces.now ≤ 2 ^ 32 }
     ensures made { IfOk result (λ v. AllMade m v.items) }
     ensures parts { IfOk result (λ v. parts v.items ≡ laying.laid_apart m pieces.now) }
+    ensures from { IfOk result (λ v. (blocks : List BlockRef) (count : ℕ) → AllFrom blocks count pieces.now → AllLaidFrom blocks count v.items) }
     ensures samples { IfOk result (λ v. (src : Sources) → all_laid_samples src v.items ≡ all_samples src pieces.now) }
 {
     match pieces {
@@ -253,6 +260,7 @@ pub fn fuse(alloc: Global, pieces: &[Piece], m: u32) -> Result<Vec<Laid>, NoMemo
     requires fit { AllFit m pieces.now }
     requires few { total pieces.now ≤ 2 ^ 32 }
     ensures rule { IfOk result (λ v. layout.IsLaidOut m (filter layout.is_not_empty pieces.now) (parts v.items)) }
+    ensures from { IfOk result (λ v. (blocks : List BlockRef) (count : ℕ) → AllFrom blocks count pieces.now → AllLaidFrom blocks count v.items) }
     ensures samples { IfOk result (λ v. (src : Sources) → all_laid_samples src v.items ≡ all_samples src pieces.now) }
     ensures half_full { IfOk result (λ v. IsHalfFull m (sizes v.items)) }
     ensures made { IfOk result (λ v. AllMade m v.items) }

@@ -114,6 +114,14 @@ impl Layout {
         Layout { clips }
     }
 
+    /// The clips, in order.
+    pub fn as_slice(&self) -> &[Clip]
+        ensures value { result.now ≡ self.now }
+        ensures apart { layout.IsLayout self.now }
+    {
+        self.clips.as_slice()
+    }
+
     /// How many cells there are.
     pub fn len(&self) -> u64
         ensures value { result ≡ layout.end_of 0 self.now }
@@ -143,7 +151,9 @@ impl Layout {
     pub fn to_strip(&self) -> Result<Strip, NoMemory>
         ensures items { IfOk result (λ s. s ≡ layout.items_from 0 self.now) }
         ensures cells { IfOk result (λ s. (src : Sources) → strip.strip_cells src s ≡ layout.layout_cells src self.now) }
+        ensures ok { IfOk result (λ s. strip.AreItems s) }
         ensures len { IfOk result (λ s. strip.strip_len s ≡ layout.end_of 0 self.now) }
+        ensures few { IfOk result (λ s. strip.strip_len s ≤ 2 ^ 32) }
         ensures fit { IfOk result (λ s. (m : ℕ) → layout.AllHalfFull m self.now → strip.ItemsFit m s) }
         ensures smooth { IfOk result (λ s. (m : ℕ) → layout.AllHalfFull m self.now → rough_items m true true s ≡ 0) }
         ensures short { IfOk result (λ s. (m : ℕ) → layout.AllHalfFull m self.now → ItemsShort m s) }

@@ -1,5 +1,5 @@
 // Gaps and pieces, one after another.
-ghost use Rattle.std.specs.Prelude.{◌≡◌, ℕ, ◌+◌, ◌<◌, ◌≤◌, ◌^◌, ◌++◌, [], ◌∷◌, take, drop, map, replicate, OnOk};
+ghost use Rattle.std.specs.Prelude.{◌≡◌, ℕ, ◌+◌, ◌-◌, ◌<◌, ◌≤◌, ◌^◌, ◌++◌, [], ◌∷◌, length, take, drop, map, min, replicate, OnOk, OnErr};
 ghost use Rattle.pcm_base.specs.Pieces.{Sources, piece_len, samples_of, Fits};
 ghost use Rattle.pcm_base.specs.declared.sound.Cell.TheVariants as cell;
 ghost use Rattle.clip_track.specs.Items as strip;
@@ -64,7 +64,8 @@ fn part_of_item(item: Item, skip: u64, n: u64) -> Item
 #[tactic(auto, using(crate::proofs::Strips::item_at))]
 fn append_items(out: &mut Vec<Item>, items: &[Item], skip: u64, n: u64) -> Result<(), AllocError>
     requires { strip.AreItems items.now }
-    ensures { OnOk result (out.new.items ≡ out.old.items ++ strip.part_items skip n items.now) }
+    ensures items { OnOk result (out.new.items ≡ out.old.items ++ strip.part_items skip n items.now) }
+    ensures kept { OnErr result (take (length out.old.items) out.new.items ≡ out.old.items) }
 {
     let mut skip = skip;
     let mut left = n;
@@ -84,22 +85,43 @@ fn append_items(out: &mut Vec<Item>, items: &[Item], skip: u64, n: u64) -> Resul
     Ok(())
 }
 
-/// Adds `n` cells of some items, after `skip` of them. After an error a part of them may have been added.
+/// The same, but where memory runs out what was added is taken off again.
+fn append_all_items(
+    out: &mut Vec<Item>,
+    items: &[Item],
+    skip: u64,
+    n: u64,
+) -> Result<(), AllocError>
+    requires { strip.AreItems items.now }
+    ensures items { OnOk result (out.new.items ≡ out.old.items ++ strip.part_items skip n items.now) }
+    ensures unchanged { OnErr result (out.new.items ≡ out.old.items) }
+{
+    let len = out.len();
+    match append_items(out, items, skip, n) {
+        Ok(()) => Ok(()),
+        Err(error) => {
+            out.truncate(len);
+            Err(error)
+        }
+    }
+}
+
+/// Adds `n` cells of some items, after `skip` of them, or as many as there are.
 ///
 /// # Errors
 ///
-/// There is no memory for what is added.
+/// There is no memory for what is added, and nothing is.
 pub fn append_part(out: &mut Vec<Item>, items: &[Item], skip: u64, n: u64) -> Result<(), AllocError>
     requires ok { strip.AreItems items.now }
-    requires within { skip + n ≤ strip.strip_len items.now }
     requires old_ok { strip.AreItems out.old.items }
     ensures items { OnOk result (out.new.items ≡ out.old.items ++ strip.part_items skip n items.now) }
     ensures ok { OnOk result (strip.AreItems out.new.items) }
-    ensures len { OnOk result (strip.strip_len out.new.items ≡ strip.strip_len out.old.items + n) }
+    ensures len { OnOk result (strip.strip_len out.new.items ≡ strip.strip_len out.old.items + min n (strip.strip_len items.now - skip)) }
     ensures fit { OnOk result ((m : ℕ) → strip.ItemsFit m out.old.items → strip.ItemsFit m items.now → strip.ItemsFit m out.new.items) }
     ensures cells { OnOk result ((src : Sources) → strip.strip_cells src out.new.items ≡ strip.strip_cells src out.old.items ++ take n (drop skip (strip.strip_cells src items.now))) }
+    ensures unchanged { OnErr result (out.new.items ≡ out.old.items) }
 {
-    append_items(out, items, skip, n)
+    append_all_items(out, items, skip, n)
 }
 
 impl Strip {
@@ -122,7 +144,8 @@ impl Strip {
 }
 
 pub fn push_gap(out: &mut Vec<Item>, n: u64) -> Result<(), AllocError>
-    ensures { OnOk result (out.new.items ≡ out.old.items ++ strip.gap_items n) }
+    ensures items { OnOk result (out.new.items ≡ out.old.items ++ strip.gap_items n) }
+    ensures unchanged { OnErr result (out.new.items ≡ out.old.items) }
 {
     if n > 0 {
         out.push(Item::Gap { len: n })?;
@@ -134,7 +157,7 @@ pub fn push_gap(out: &mut Vec<Item>, n: u64) -> Result<(), AllocError>
 ///
 /// # Errors
 ///
-/// There is no memory for what is added.
+/// There is no memory for what is added, and nothing is.
 pub fn append_gap(out: &mut Vec<Item>, n: u64) -> Result<(), AllocError>
     requires old_ok { strip.AreItems out.old.items }
     ensures items { OnOk result (out.new.items ≡ out.old.items ++ strip.gap_items n) }
@@ -142,6 +165,7 @@ pub fn append_gap(out: &mut Vec<Item>, n: u64) -> Result<(), AllocError>
     ensures len { OnOk result (strip.strip_len out.new.items ≡ strip.strip_len out.old.items + n) }
     ensures fit { OnOk result ((m : ℕ) → strip.ItemsFit m out.old.items → strip.ItemsFit m out.new.items) }
     ensures cells { OnOk result ((src : Sources) → strip.strip_cells src out.new.items ≡ strip.strip_cells src out.old.items ++ replicate n cell.Gap) }
+    ensures unchanged { OnErr result (out.new.items ≡ out.old.items) }
 {
     push_gap(out, n)
 }
@@ -150,20 +174,23 @@ pub fn append_gap(out: &mut Vec<Item>, n: u64) -> Result<(), AllocError>
 ///
 /// # Errors
 ///
-/// There is no memory for what is added.
+/// There is no memory for what is added, and nothing is.
 pub fn append_piece(out: &mut Vec<Item>, piece: Piece) -> Result<(), AllocError>
     requires old_ok { strip.AreItems out.old.items }
     requires ok { strip.IsItem (Item.Sound piece) }
+    ensures items { OnOk result (out.new.items ≡ out.old.items ++ Item.Sound piece ∷ []) }
     ensures ok { OnOk result (strip.AreItems out.new.items) }
     ensures len { OnOk result (strip.strip_len out.new.items ≡ strip.strip_len out.old.items + piece_len piece) }
     ensures fit { OnOk result ((m : ℕ) → strip.ItemsFit m out.old.items → Fits m piece → strip.ItemsFit m out.new.items) }
     ensures cells { OnOk result ((src : Sources) → strip.strip_cells src out.new.items ≡ strip.strip_cells src out.old.items ++ map cell.Sample (samples_of src piece)) }
+    ensures unchanged { OnErr result (out.new.items ≡ out.old.items) }
 {
     push_piece(out, piece)
 }
 
 fn push_piece(out: &mut Vec<Item>, piece: Piece) -> Result<(), AllocError>
-    ensures { OnOk result (out.new.items ≡ out.old.items ++ Item.Sound piece ∷ []) }
+    ensures items { OnOk result (out.new.items ≡ out.old.items ++ Item.Sound piece ∷ []) }
+    ensures unchanged { OnErr result (out.new.items ≡ out.old.items) }
 {
     out.push(Item::Sound { piece })?;
     Ok(())

@@ -5,6 +5,7 @@ use Rattle.pcm_base.specs.declared.piece.Piece.TheVariants.{Old}
 use Rattle.pcm_base.specs.Pieces.{all_samples, piece_len, part_of}
 use Rattle.pcm_base.proofs.Pieces.{total-append, piece_len-part, IsValid-part, Fits-part, AllValid-append, AllFit-append}
 use Rattle.block_sequence.proofs.Rest.{valid_at, fits_at, below, total_next, samples_next, samples_part, samples_push}
+use Rattle.block_sequence.proofs.Origins.{IsFrom-part, from_at, AllFrom-append}
 use Rattle.block_sequence.proofs.cutting.cut_off.Goals as goal
 
 pub piece_len-len-requires : goal.piece_len-len-requires
@@ -30,6 +31,7 @@ loop-left-preserved-then-len-skip c =
     record {
       valid = c.loop-left.invariant.valid;
       fit = c.loop-left.invariant.fit;
+      origin = c.loop-left.invariant.origin;
       taken = c.loop-left.invariant.taken;
       within = omega (arith, t);
       rest = omega (arith, t);
@@ -52,6 +54,7 @@ loop-left-preserved c =
     rw (c.in_ok-push.ensures.items, part) (record {
       valid = AllValid-append _ _ c.loop-left.invariant.valid (IsValid-part _ _ p k v, tt);
       fit = λ m f. AllFit-append m _ _ (c.loop-left.invariant.fit m f) (Fits-part m _ _ p (fits_at m ps i nothing h f), tt);
+      origin = λ blocks count f. AllFrom-append blocks count _ _ (c.loop-left.invariant.origin blocks count f) (IsFrom-part blocks count _ _ p k v (from_at blocks count ps i nothing h f), tt);
       taken = omega (arith, total-append c.loop-left.out.items (part_of c.loop-left.skip c.min-size.result p ∷ []), n);
       within = omega arith;
       rest = omega (arith, total-append c.loop-left.out.items (part_of c.loop-left.skip c.min-size.result p ∷ []), n);

@@ -1,10 +1,13 @@
 -- The goals of `fuse` that the search leaves open.
-use Rattle.std.proofs.Common.{ap, ◌∙◌, filter}
+use Rattle.std.proofs.Common.{List, sym, subst, ap, ◌∙◌, filter}
 use Rattle.pcm_base.specs.Pieces.{all_samples}
 use Rattle.block_sequence.proofs.HalfFull.{AllValid-filter, AllFit-filter, total-filter, samples-filter, IsHalfFull-fused}
 use Rattle.block_sequence.proofs.Count.{count_fused}
 use Rattle.block_sequence.proofs.Rule.{laid_out}
 use Rattle.block_sequence.specs.Fuse.{is_not_empty}
+use Rattle.pcm_base.specs.declared.piece.Piece.{Piece}
+use Rattle.block_sequence.specs.Origins.{AllFrom}
+use Rattle.block_sequence.proofs.Origins.{AllFrom-filter}
 use Rattle.block_sequence.proofs.fusing.fuse.Goals as goal
 
 pub lay_apart-requires-clause-valid : goal.lay_apart-requires-clause-valid
@@ -30,3 +33,8 @@ returns-clause-few_made c s = rw (c.in_ok-lay_apart.ensures.parts, c.as_slice.en
 pub returns-clause-rule : goal.returns-clause-rule
 returns-clause-rule c = rw (c.in_ok-lay_apart.ensures.parts, c.as_slice.ensures.value, c.in_ok-kept.ensures) (
     laid_out c.args.m (filter is_not_empty c.args.pieces.now) c.requires.some)
+
+pub returns-clause-from : goal.returns-clause-from
+returns-clause-from c blocks count f =
+    let P : List Piece → Type 0 = AllFrom blocks count in
+    c.in_ok-lay_apart.ensures.from blocks count (subst P (sym (c.as_slice.ensures.value ∙ c.in_ok-kept.ensures)) (AllFrom-filter blocks count c.args.pieces.now f))

@@ -10,6 +10,7 @@ use Rattle.block_sequence.specs.declared.types.Laid.TheVariants.{Keep}
 use Rattle.block_sequence.proofs.Rest.{total_next, total_rest, valid_at, fits_at}
 use Rattle.block_sequence.proofs.Out.{AllMade-push}
 use Rattle.block_sequence.proofs.Clip.{laid_from, goes_on, stops, kept_parts, kept_samples, kept_is_made, sound_is_whole}
+use Rattle.block_sequence.proofs.Origins.{from_at, AllLaidFrom-push, block_from}
 use Rattle.block_sequence.proofs.fusing.lay_clip.Goals as goal
 use Rattle.block_sequence.proofs.fusing.lay_clip.Goals.{then-ends_run+in_ok-lay_between+in_ok-push, else-ends_run}
 
@@ -40,6 +41,8 @@ loop-i-preserved c =
           let f = fits_at c.args.m ps i no_piece h c.requires.fit in
           rw (w.out-is, w.start-is, w.run-is, w.first-is, w.in_ok-push.ensures.items) (record {
             new_blocks = AllMade-push c.args.m w.lay_between.new.out.items (Keep b) w.in_ok-lay_between.ensures.made (kept_is_made c.args.m p b whole_piece v f);
+            origin = λ blocks count g. AllLaidFrom-push blocks count w.lay_between.new.out.items (Keep b)
+                (w.in_ok-lay_between.ensures.from blocks count g (c.loop-i.invariant.origin blocks count g)) (block_from blocks count p b whole_piece (from_at blocks count ps i no_piece h g));
             before = omega arith;
             open_run = omega arith;
             sizes = kept_parts (parts c.loop-i.out.items) w.lay_between.new.out.items b (laying.run_parts c.args.m c.loop-i.run) (laid_from c.loop-i.first c.args.m 0 (drop (i + 1) ps)) _
@@ -58,6 +61,7 @@ loop-i-preserved c =
       | else-ends_run w ↦
           rw (w.out-is, w.start-is, w.run-is, w.first-is) (record {
             new_blocks = c.loop-i.invariant.new_blocks;
+            origin = c.loop-i.invariant.origin;
             before = omega arith;
             open_run = omega (arith, t, w.piece_len-run.ensures);
             sizes =
@@ -69,3 +73,6 @@ loop-i-preserved c =
             samples = c.loop-i.invariant.samples;
           })
     ]
+
+pub returns-clause-from : goal.returns-clause-from
+returns-clause-from c blocks count f = c.in_ok-lay_between-2.ensures.from blocks count f (c.loop-i.invariant.origin blocks count f)

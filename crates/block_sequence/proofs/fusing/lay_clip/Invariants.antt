@@ -1,6 +1,8 @@
 -- What the loop of `lay_clip` keeps.
-use Rattle.std.proofs.Common.{◌≡◌, ◌+◌, ◌≤◌, ◌++◌, drop}
+use Rattle.std.proofs.Common.{◌≡◌, ℕ, List, ◌+◌, ◌≤◌, ◌++◌, drop}
 use Rattle.pcm_base.specs.Pieces.{Sources, all_samples, total}
+use Rattle.pcm_base.specs.declared.block.BlockRef.{BlockRef}
+use Rattle.block_sequence.specs.Origins.{AllFrom, AllLaidFrom}
 use Rattle.block_sequence.specs.Laying as laying
 use Rattle.block_sequence.specs.Laid.{parts, all_laid_samples, AllMade}
 use Rattle.block_sequence.proofs.Clip.{laid_from}
@@ -9,6 +11,7 @@ use Rattle.block_sequence.proofs.fusing.lay_clip.Given as goal
 abbrev pub invariant-loop-i : goal.invariant-loop-i
 invariant-loop-i l = record {
   new_blocks : AllMade l.m l.out.items;
+  origin : (blocks : List BlockRef) (count : ℕ) → AllFrom blocks count l.pieces → AllLaidFrom blocks count l.out.items;
   before : l.start ≤ l.i;
   open_run : total (drop l.start l.pieces) ≡ l.run + total (drop l.i l.pieces);
   sizes : parts l.out.items ++ laid_from l.first l.m l.run (drop l.i l.pieces) ≡ laying.laid_clip l.m l.pieces;

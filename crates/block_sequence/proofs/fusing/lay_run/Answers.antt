@@ -8,6 +8,7 @@ use Rattle.block_sequence.specs.declared.types.Laid.TheVariants.{Make}
 use Rattle.block_sequence.proofs.Sizes.{made, made_next, added_next, added_sizes, added_all}
 use Rattle.block_sequence.proofs.Rest.{none_left}
 use Rattle.block_sequence.proofs.Out.{made_is_run, AllMade-push, parts_push, samples_push_laid}
+use Rattle.block_sequence.proofs.Origins.{AllLaidFrom-push}
 use Rattle.block_sequence.proofs.fusing.lay_run.Goals as goal
 
 pub loop-k-init : goal.loop-k-init
@@ -15,6 +16,7 @@ loop-k-init c = record {
   new_blocks = c.requires.made;
   sizes = ap (λ (ps : List layout.Part). parts c.args.out.now.items ++ ps) (made_is_run c.args.m c.args.run);
   samples = λ src. refl;
+  origin = λ blocks count f k. k;
   within = omega arith;
   left = omega (arith, added_sizes c.args.m c.args.run c.requires.some);
 }
@@ -39,6 +41,7 @@ loop-k-preserved c =
           samples_push_laid src c.loop-k.out.items l _
           ∙ ap (λ (xs : List ℤ). all_laid_samples src c.loop-k.out.items ++ xs) (c.in_ok-cut.ensures.samples src)
           ∙ c.loop-k.invariant.samples src;
+      origin = λ blocks count f g. AllLaidFrom-push blocks count c.loop-k.out.items l (c.loop-k.invariant.origin blocks count f g) (c.in_ok-cut.ensures.from blocks count f);
       within = c.in_ok-cut.ensures.within;
       left = omega (arith, next, c.in_ok-cut.ensures.rest);
     })

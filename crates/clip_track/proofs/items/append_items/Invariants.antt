@@ -1,7 +1,10 @@
 -- What the loop of `append_items` keeps.
-use Rattle.std.proofs.Common.{◌≡◌, ◌++◌, drop}
+use Rattle.std.proofs.Common.{◌≡◌, ◌++◌, length, take, drop}
 use Rattle.clip_track.specs.Items.{part_items}
 use Rattle.clip_track.proofs.items.append_items.Given as goal
 
 abbrev pub invariant-loop-item : goal.invariant-loop-item
-invariant-loop-item l = l.out.items ++ part_items l.skip l.left (drop l.item-index l.items) ≡ l.fn.out.items ++ part_items l.fn.skip l.fn.n l.items
+invariant-loop-item l = record {
+  all_items : l.out.items ++ part_items l.skip l.left (drop l.item-index l.items) ≡ l.fn.out.items ++ part_items l.fn.skip l.fn.n l.items;
+  front : take (length l.fn.out.items) l.out.items ≡ l.fn.out.items;
+}

@@ -34,3 +34,10 @@ returns-clause-smooth c m h =
 
 pub returns-clause-short : goal.returns-clause-short
 returns-clause-short c m h = rw (c.from_items.ensures, c.in_ok-items.ensures, c.as_slice.ensures.value, c.self.view_is) (short_layout m 0 c.args.self.now h)
+
+pub returns-clause-ok : goal.returns-clause-ok
+returns-clause-ok c = rw (c.from_items.ensures, c.in_ok-items.ensures, c.as_slice.ensures.value) (AreItems-items 0 0 c.self.inside.clips.items c.self.invariant.apart)
+
+pub returns-clause-few : goal.returns-clause-few
+returns-clause-few c = rw (c.from_items.ensures, c.in_ok-items.ensures, c.as_slice.ensures.value) (
+    omega (arith, strip_len-items 0 0 c.self.inside.clips.items (omega arith) c.self.invariant.apart, c.self.invariant.few))

@@ -1,0 +1,9 @@
+pub mod CellLists
+pub mod ChangedItems
+pub mod Copies
+pub mod LaidLists
+pub mod Named
+pub mod Pastes
+pub mod RunLists
+pub mod StripCells
+pub mod Tame

@@ -1,0 +1,39 @@
+-- The goals of `plan_placed` that the search leaves open.
+use Rattle.std.proofs.Common.{◌++◌, List, sym, ap, subst, ◌∙◌, arith}
+use Rattle.pcm_base.specs.Cells.{trimmed}
+use Rattle.clip_track.specs.declared.items.Item.{Item}
+use Rattle.clip_track.specs.Items.{strip_cells}
+use Rattle.edit_ops.specs.Placing.{placed}
+use Rattle.edit_ops.specs.Plans.{layout_blocks}
+use Rattle.edit_ops.specs.Strips.{strip_blocks}
+use Rattle.edit_ops.proofs.Pastes.{tame_placed, cells_placed}
+use Rattle.edit_ops.proofs.Tame.{Tame, tame_layout}
+use Rattle.edit_ops.proofs.placing.plan_placed.Goals as goal
+
+pub plan_strip-requires-clause-fit : goal.plan_strip-requires-clause-fit
+plan_strip-requires-clause-fit c =
+    let w = c.in_ok-whole.ensures in
+    let m = c.args.m in
+    let h = c.requires.half_full in
+    let t = tame_placed m _ c.args.placing c.args.at c.args.clip.now c.in_ok-whole.whole w.ok (tame_layout m c.args.t.now _ w.items (w.fit m h) (w.short m h) (w.smooth m h)) c.requires.clip in
+    rw c.in_ok-strip.ensures.items t.fit
+
+pub returns : goal.returns
+returns c =
+    let w = c.in_ok-whole.ensures in
+    let m = c.args.m in
+    let h = c.requires.half_full in
+    let clip = c.args.clip.now in
+    let old = layout_blocks c.args.t.now ++ strip_blocks clip in
+    let P : List Item → Type 0 = Tame m old 4 in
+    let t = subst P (sym c.in_ok-strip.ensures.items)
+    (tame_placed m _ c.args.placing c.args.at clip c.in_ok-whole.whole w.ok (tame_layout m c.args.t.now _ w.items (w.fit m h) (w.short m h) (w.smooth m h)) c.requires.clip) in
+    record {
+      plan = c.in_ok-plan_strip.ensures.plan old 0 t.origin;
+      cells = λ src k.
+          c.in_ok-plan_strip.ensures.cells src k
+          ∙ ap (λ (xs : List Item). trimmed (strip_cells src xs)) c.in_ok-strip.ensures.items
+          ∙ cells_placed src c.args.placing c.args.at clip c.in_ok-whole.whole
+          ∙ ap (placed c.args.placing c.args.at (strip_cells src clip)) (w.cells src);
+      few_made = omega (arith, c.in_ok-plan_strip.ensures.few_made t.short, t.few_rough);
+    }

@@ -1,0 +1,46 @@
+-- The goals of `plan_strip` that the search leaves open.
+use Rattle.std.proofs.Common.{◌+◌, List, [], length, sym, ap, subst, ◌∙◌, arith}
+use Rattle.pcm_base.specs.Cells.{trimmed}
+use Rattle.clip_track.specs.declared.items.Item.{Item}
+use Rattle.clip_track.specs.Items.{strip_cells}
+use Rattle.clip_track.specs.Clips.{layout_cells}
+use Rattle.clip_track.specs.Rough.{rough_from, ItemsShort}
+use Rattle.clip_track.proofs.RoughStrips.{rough_from_le}
+use Rattle.edit_ops.specs.declared.types.NewBlock.{NewBlock}
+use Rattle.edit_ops.specs.Plans.{AreWritten}
+use Rattle.edit_ops.specs.Strips.{ItemsFrom}
+use Rattle.edit_ops.proofs.Named.{AllHalfFull-named, cells_named, clips_next_counts, count_clips_new, AreNew-clips, AllNewFrom-clips, old_or_new_clips}
+use Rattle.edit_ops.proofs.planning.plan_strip.Goals as goal
+
+pub returns-clause-plan : goal.returns-clause-plan
+returns-clause-plan c old count h =
+    let clips = c.in_ok-clips.clips.items in
+    let next = c.args.next in
+    let m = c.args.m in
+    let T : List Item → Type 0 = ItemsFrom old count in
+    let f = c.in_ok-clips.ensures.origin old count (subst T (sym c.as_slice.ensures.value) h) in
+    let named = c.in_ok-name_clips.ensures in
+    record {
+      half_full = rw named.layout (AllHalfFull-named m 0 next clips c.in_ok-clips.ensures.apart);
+      new = rw named.makes (AreNew-clips m 0 next clips c.requires.some c.in_ok-clips.ensures.apart);
+      origin = rw named.makes (AllNewFrom-clips old count next clips f);
+      blocks = rw (named.makes, named.layout) (old_or_new_clips old count next clips f);
+      next_id = named.next ∙ clips_next_counts next clips ∙ ap (λ (ms : List NewBlock). next + length ms) (sym named.makes);
+    }
+
+pub returns-clause-cells : goal.returns-clause-cells
+returns-clause-cells c src w =
+    let clips = c.in_ok-clips.clips.items in
+    let P : List NewBlock → Type 0 = AreWritten src in
+    ap (layout_cells src) c.in_ok-name_clips.ensures.layout
+    ∙ cells_named src 0 c.args.next clips (subst P c.in_ok-name_clips.ensures.makes w)
+    ∙ c.in_ok-clips.ensures.cells src
+    ∙ ap (λ xs. trimmed (strip_cells src xs)) c.as_slice.ensures.value
+
+pub returns-clause-few_made : goal.returns-clause-few_made
+returns-clause-few_made c h =
+    let clips = c.in_ok-clips.clips.items in
+    let T : List Item → Type 0 = ItemsShort c.args.m in
+    let few = c.in_ok-clips.ensures.few_made (subst T (sym c.as_slice.ensures.value) h) in
+    let same = ap (rough_from c.args.m []) c.as_slice.ensures.value in
+    rw c.in_ok-name_clips.ensures.makes (omega (arith, count_clips_new c.args.next clips, few, same, rough_from_le c.args.m c.args.strip.now))

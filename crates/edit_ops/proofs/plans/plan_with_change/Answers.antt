@@ -1,0 +1,33 @@
+-- The goals of `plan_with_change` that the search leaves open.
+use Rattle.std.proofs.Common.{◌++◌, List, take, drop, map, sym, ap, subst, ◌∙◌}
+use Rattle.pcm_base.specs.declared.sound.Cell.{Cell}
+use Rattle.pcm_base.specs.Cells.{trimmed}
+use Rattle.pcm_base.specs.Edits.{part}
+use Rattle.clip_track.specs.declared.items.Item.{Item}
+use Rattle.clip_track.specs.Items.{strip_cells}
+use Rattle.edit_ops.specs.Changes.{cell_change}
+use Rattle.edit_ops.specs.Plans.{layout_blocks}
+use Rattle.edit_ops.specs.Strips.{AllOld, ItemsFrom}
+use Rattle.edit_ops.proofs.ChangedItems.{AllOld-items}
+use Rattle.edit_ops.proofs.StripCells.{cells_with_change}
+use Rattle.edit_ops.proofs.Tame.{fit_change, from_change, ItemsFrom-layout}
+use Rattle.edit_ops.proofs.plans.plan_with_change.Goals as goal
+
+pub plan_strip-requires-clause-fit : goal.plan_strip-requires-clause-fit
+plan_strip-requires-clause-fit c = rw c.in_ok-strip.ensures.items (fit_change c.args.m c.args.change c.args.from c.args.to _ (c.in_ok-whole.ensures.fit c.args.m c.requires.half_full))
+
+pub returns-clause-plan : goal.returns-clause-plan
+returns-clause-plan c =
+    let w = c.in_ok-whole.ensures in
+    let old = layout_blocks c.args.t.now in
+    let P : List Item → Type 0 = ItemsFrom old 0 in
+    let f = subst P (sym w.items) (ItemsFrom-layout 0 c.args.t.now) in
+    c.in_ok-plan_strip.ensures.plan old 0 (subst P (sym c.in_ok-strip.ensures.items) (from_change old 0 c.args.change c.args.from c.args.to c.in_ok-whole.whole w.ok f))
+
+pub returns-clause-cells : goal.returns-clause-cells
+returns-clause-cells c src w =
+    let o = subst AllOld (sym c.in_ok-whole.ensures.items) (AllOld-items 0 c.args.t.now) in
+    c.in_ok-plan_strip.ensures.cells src w
+    ∙ ap trimmed (ap (strip_cells src) c.in_ok-strip.ensures.items
+    ∙ cells_with_change src c.args.change c.args.from c.args.to c.in_ok-whole.whole o
+    ∙ ap (λ (cells : List Cell). take c.args.from cells ++ map (cell_change c.args.change) (part c.args.from c.args.to cells) ++ drop c.args.to cells) (c.in_ok-whole.ensures.cells src))

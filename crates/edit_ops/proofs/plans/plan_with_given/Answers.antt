@@ -1,0 +1,44 @@
+-- The goals of `plan_with_given` that the search leaves open.
+use Rattle.std.proofs.Common.{◌++◌, List, take, drop, sym, ap, ap₂, subst, ◌∙◌, arith}
+use Rattle.pcm_base.specs.declared.sound.Cell.{Cell}
+use Rattle.pcm_base.specs.Cells.{trimmed, continued}
+use Rattle.clip_track.specs.declared.items.Item.{Item}
+use Rattle.clip_track.specs.Items.{strip_cells, strip_len, ItemsFit}
+use Rattle.edit_ops.specs.Plans.{layout_blocks}
+use Rattle.edit_ops.specs.Strips.{ItemsFrom}
+use Rattle.edit_ops.proofs.StripCells.{cells_with_inserted, cells_given}
+use Rattle.edit_ops.proofs.Tame.{fit_inserted, from_inserted, given_fit, given_from, given_len, ItemsFrom-layout}
+use Rattle.edit_ops.proofs.plans.plan_with_given.Goals as goal
+
+pub with_inserted-requires : goal.with_inserted-requires
+with_inserted-requires c =
+    let n = ap strip_len c.in_ok-given.ensures ∙ given_len c.args.count in
+    omega (arith, n, c.in_ok-whole.ensures.len, c.requires.few)
+
+pub plan_strip-requires-clause-fit : goal.plan_strip-requires-clause-fit
+plan_strip-requires-clause-fit c =
+    let P : List Item → Type 0 = ItemsFit c.args.m in
+    rw c.in_ok-strip.ensures.items (fit_inserted c.args.m c.args.at _ _ (c.in_ok-whole.ensures.fit c.args.m c.requires.half_full) (subst P (sym c.in_ok-given.ensures) (given_fit c.args.m c.args.count)))
+
+pub plan_strip-requires-clause-few : goal.plan_strip-requires-clause-few
+plan_strip-requires-clause-few c =
+    let n = ap strip_len c.in_ok-given.ensures ∙ given_len c.args.count in
+    omega (arith, n, c.in_ok-whole.ensures.len, c.in_ok-strip.ensures.len, c.requires.few)
+
+pub returns-clause-plan : goal.returns-clause-plan
+returns-clause-plan c =
+    let w = c.in_ok-whole.ensures in
+    let old = layout_blocks c.args.t.now in
+    let P : List Item → Type 0 = ItemsFrom old c.args.count in
+    let f = subst P (sym w.items) (ItemsFrom-layout c.args.count c.args.t.now) in
+    let g = subst P (sym c.in_ok-given.ensures) (given_from old c.args.count) in
+    c.in_ok-plan_strip.ensures.plan old c.args.count (subst P (sym c.in_ok-strip.ensures.items) (from_inserted old c.args.count c.args.at _ c.in_ok-whole.whole w.ok f g))
+
+pub returns-clause-cells : goal.returns-clause-cells
+returns-clause-cells c src w =
+    c.in_ok-plan_strip.ensures.cells src w
+    ∙ ap trimmed (ap (strip_cells src) c.in_ok-strip.ensures.items
+    ∙ cells_with_inserted src c.args.at c.in_ok-given.given c.in_ok-whole.whole
+    ∙ ap₂ (λ (cells : List Cell) (ys : List Cell). take c.args.at (continued c.args.at cells) ++ ys ++ drop c.args.at cells)
+    (c.in_ok-whole.ensures.cells src)
+    (ap (strip_cells src) c.in_ok-given.ensures ∙ cells_given src c.args.count))

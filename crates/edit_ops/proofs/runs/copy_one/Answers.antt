@@ -1,0 +1,25 @@
+-- The goals of `copy_one` that the search leaves open.
+use Rattle.std.proofs.Common.{List, sym, ap, subst, ◌∙◌}
+use Rattle.pcm_base.specs.Edits.{range_of}
+use Rattle.clip_track.specs.declared.items.Item.{Item}
+use Rattle.clip_track.specs.Items.{strip_cells}
+use Rattle.edit_ops.specs.Plans.{layout_blocks}
+use Rattle.edit_ops.specs.Strips.{AllOld, ItemsFrom, IsClip}
+use Rattle.edit_ops.proofs.ChangedItems.{AllOld-items}
+use Rattle.edit_ops.proofs.Copies.{cells_range, clip_range, from_range}
+use Rattle.edit_ops.proofs.Tame.{ItemsFrom-layout}
+use Rattle.edit_ops.proofs.runs.copy_one.Goals as goal
+
+pub returns : goal.returns
+returns c =
+    let w = c.in_ok-whole.ensures in
+    let e = c.in_ok-range_part.ensures.items in
+    let old = subst AllOld (sym w.items) (AllOld-items 0 c.args.t.now) in
+    let P : List Item → Type 0 = ItemsFrom (layout_blocks c.args.t.now) 0 in
+    let f = subst P (sym w.items) (ItemsFrom-layout 0 c.args.t.now) in
+    record {
+      cells = λ src. ap (strip_cells src) e ∙ cells_range src c.args.from c.args.to c.in_ok-whole.whole ∙ ap (range_of c.args.from c.args.to) (w.cells src);
+      len = c.in_ok-range_part.ensures.len;
+      clip = λ m h. let Q : List Item → Type 0 = IsClip m in subst Q (sym e) (clip_range m c.args.from c.args.to c.in_ok-whole.whole w.ok old (w.fit m h) (w.short m h) (w.smooth m h));
+      origin = subst P (sym e) (from_range (layout_blocks c.args.t.now) c.args.from c.args.to c.in_ok-whole.whole w.ok f);
+    }

@@ -1,0 +1,38 @@
+-- The two ways in which a strip is put into a track.
+use Rattle.std.specs.Prelude.{ℕ, ◌+◌, ◌≤◌, ◌<◌, ◌^◌, List, [], ◌∷◌}
+use Rattle.pcm_base.specs.declared.sound.Cell.{Cell}
+use Rattle.pcm_base.specs.Edits.{inserted, pasted_over}
+use Rattle.pcm_base.specs.Tests.{inserted_length, covered_length}
+use Rattle.clip_track.specs.declared.items.Item.{Item}
+use Rattle.clip_track.specs.declared.clips.Clip.{Clip}
+use Rattle.clip_track.specs.Clips.{end_of}
+use Rattle.clip_track.specs.Items.{strip_len}
+use Rattle.edit_ops.specs.Strips.{with_inserted, with_covered}
+use Rattle.edit_ops.specs.declared.placing.Placing.{Placing}
+use Rattle.edit_ops.specs.declared.placing.Placing.TheVariants.{Insert, Cover}
+
+-- the model's edit, by the strip's cells and the track's
+abbrev pub placed : Placing → ℕ → List Cell → List Cell → List Cell
+placed Insert at = inserted at
+placed Cover at = pasted_over at
+
+-- what n cells make of a length
+abbrev pub placed_length : Placing → ℕ → ℕ → ℕ → ℕ
+placed_length Insert at = inserted_length at
+placed_length Cover at = covered_length at
+
+abbrev pub placed_items : Placing → ℕ → List Item → List Item → List Item
+placed_items Insert at = with_inserted at
+placed_items Cover at = with_covered at
+
+-- the place, each strip and the track that it goes to are together fewer than 2^64 cells
+abbrev pub SumsFit : ℕ → List (List Item) → List (List Clip) → Type 0
+SumsFit at [] ts = Unit {0}
+SumsFit at (c ∷ cs) [] = Unit {0}
+SumsFit at (c ∷ cs) (t ∷ ts) = (at + strip_len c + end_of 0 t < 2 ^ 64) × SumsFit at cs ts
+
+-- no track would have too many cells
+abbrev pub LengthsFit : Placing → ℕ → List (List Item) → List (List Clip) → Type 0
+LengthsFit placing at [] ts = Unit {0}
+LengthsFit placing at (c ∷ cs) [] = Unit {0}
+LengthsFit placing at (c ∷ cs) (t ∷ ts) = (placed_length placing at (strip_len c) (end_of 0 t) ≤ 2 ^ 32) × LengthsFit placing at cs ts

@@ -1,0 +1,63 @@
+-- What the plan of an edit promises.
+use Rattle.std.specs.Prelude.{◌≡◌, ℕ, ◌+◌, ◌<◌, ◌≤◌, ◌⊎◌, List, [], ◌∷◌, ◌++◌, length, Contains, Option, None, Some, Result, MatchResult}
+use Rattle.pcm_base.specs.declared.refusal.Refusal.{Refusal}
+use Rattle.pcm_base.specs.declared.refusal.Refusal.TheVariants.{NoMemory}
+use Rattle.pcm_base.specs.declared.block.BlockRef.{BlockRef}
+use Rattle.pcm_base.specs.declared.sound.Cell.{Cell}
+use Rattle.pcm_base.specs.Pieces.{Sources, stretch, total, all_samples, AllValid}
+use Rattle.block_sequence.specs.Origins.{AllFrom}
+use Rattle.clip_track.specs.declared.clips.Clip.{Clip}
+use Rattle.clip_track.specs.Clips.{layout_cells, AllHalfFull}
+use Rattle.edit_ops.specs.declared.types.NewBlock.{NewBlock}
+use Rattle.edit_ops.specs.declared.types.Plan.{Plan}
+
+-- what is written to the new blocks is what their pieces say
+abbrev pub AreWritten : Sources → List NewBlock → Type 0
+AreWritten src [] = Unit {0}
+AreWritten src (b ∷ bs) = (stretch (src.block b.id) 0 b.len ≡ all_samples src b.pieces) × AreWritten src bs
+
+-- new blocks have the ids from the next one on, 1 to m samples, and pieces of as many
+abbrev pub AreNew : ℕ → ℕ → List NewBlock → Type 0
+AreNew m next [] = Unit {0}
+AreNew m next (b ∷ bs) = (b.id ≡ next) × (0 < b.len) × (b.len ≤ m) × (total b.pieces ≡ b.len) × AllValid b.pieces × AreNew m (next + 1) bs
+
+-- their pieces are parts of these blocks, zeros, or parts of so many samples that the command brings
+abbrev pub AllNewFrom : List BlockRef → ℕ → List NewBlock → Type 0
+AllNewFrom blocks count [] = Unit {0}
+AllNewFrom blocks count (b ∷ bs) = AllFrom blocks count b.pieces × AllNewFrom blocks count bs
+
+-- the reference to a new block
+abbrev pub ref_of : NewBlock → BlockRef
+ref_of b = record { id = b.id; len = b.len }
+
+-- the blocks of a layout, clip by clip
+abbrev pub layout_blocks : List Clip → List BlockRef
+layout_blocks [] = []
+layout_blocks (c ∷ cs) = c.blocks ++ layout_blocks cs
+
+-- some blocks in order: each is an old one, or the next of the new ones, and all new ones come
+abbrev pub AreOldOrNew : List BlockRef → List BlockRef → List NewBlock → Type 0
+AreOldOrNew old [] [] = Unit {0}
+AreOldOrNew old [] (n ∷ ns) = ⊥
+AreOldOrNew old (b ∷ bs) [] = Contains old b × AreOldOrNew old bs []
+AreOldOrNew old (b ∷ bs) (n ∷ ns) = (Contains old b × AreOldOrNew old bs (n ∷ ns)) ⊎ ((b ≡ ref_of n) × AreOldOrNew old bs ns)
+
+-- the plan of an edit at block size m, of old blocks and so many samples that the command brings
+pub record IsPlan (m next : ℕ) (old : List BlockRef) (count : ℕ) (p : Plan) : Type 0 where
+  pub half_full : AllHalfFull m p.layout
+  pub new : AreNew m next p.makes
+  pub origin : AllNewFrom old count p.makes
+  pub blocks : AreOldOrNew old (layout_blocks p.layout) p.makes
+  pub next_id : p.next ≡ next + length p.makes
+
+-- once its new blocks hold what their pieces say, the new layout means the edit of what the old one meant
+abbrev pub Means : (Sources → List Cell → List Cell) → List Clip → Plan → Type 0
+Means edit old p = (src : Sources) → AreWritten src p.makes → layout_cells src p.layout ≡ edit src (layout_cells src old)
+
+-- a test is passed, or answers its reason
+abbrev pub Passes : Option Refusal → Result (Unit {0}) Refusal → Type 0
+Passes test result = MatchResult result (λ _. test ≡ None) (λ reason. test ≡ Some reason)
+
+-- an edit is answered where its test passes; else by the test's reason, or for want of memory where it passes
+abbrev pub AnswersTest : {A : Type 0} → Option Refusal → Result A Refusal → Type 0
+AnswersTest test result = MatchResult result (λ _. test ≡ None) (λ e. (test ≡ Some e) ⊎ ((test ≡ None) × (e ≡ NoMemory)))

@@ -1,0 +1,84 @@
+// A strip is laid out clip by clip.
+ghost use Rattle.std.specs.Prelude.{◌≡◌, ℕ, List, ◌+◌, ◌-◌, ◌≤◌, ◌<◌, ◌^◌, ◌++◌, ◌*◌, [], map, replicate, IfOk, OnOk};
+ghost use Rattle.pcm_base.specs.declared.sound.Cell.TheVariants as cell;
+ghost use Rattle.pcm_base.specs.Pieces.{Sources, total, all_samples, AllValid, AllFit};
+ghost use Rattle.pcm_base.specs.Cells.{trimmed};
+ghost use Rattle.clip_track.specs.Items.{ItemsFit, AreItems, strip_len, strip_cells};
+ghost use Rattle.block_sequence.specs.Fuse.{rough, AllShort};
+ghost use Rattle.clip_track.specs.Rough.{rough_from, ItemsShort};
+ghost use Rattle.pcm_base.specs.declared.block.BlockRef.{BlockRef};
+ghost use Rattle.block_sequence.specs.Origins.{AllFrom};
+ghost use Rattle.edit_ops.specs.Strips.{ItemsFrom};
+ghost use Rattle.edit_ops.specs.LaidClips as clips;
+
+use super::types::LaidClip;
+use block_sequence::{fuse, piece_len};
+use clip_track::Item;
+use pcm_base::{NoMemory, Piece};
+use std::alloc::{AllocError, Global};
+
+/// Lays out a clip of some pieces, if there are any.
+fn close(
+    alloc: Global,
+    out: &mut Vec<LaidClip>,
+    held: &[Piece],
+    size: u64,
+    start: u64,
+    m: u32,
+) -> Result<(), NoMemory>
+    requires some { 0 < m }
+    requires valid { AllValid held.now }
+    requires fit { AllFit m held.now }
+    requires size { size ≡ total held.now }
+    requires few { size ≤ 2 ^ 32 }
+    requires apart { clips.AreLaidClips m 0 out.old.items }
+    requires later { clips.laid_next 0 out.old.items ≤ start }
+    ensures apart { OnOk result (clips.AreLaidClips m 0 out.new.items) }
+    ensures later { OnOk result (clips.laid_next 0 out.new.items ≤ start + size + 1) }
+    ensures end { OnOk result (clips.laid_end 0 out.new.items ≤ start + size) }
+    ensures cells { OnOk result ((src : Sources) →
+        clips.laid_cells src 0 out.new.items ++ replicate (start + size - clips.laid_end 0 out.new.items) cell.Gap
+        ≡ clips.laid_cells src 0 out.old.items ++ replicate (start - clips.laid_end 0 out.old.items) cell.Gap ++ map cell.Sample (all_samples src held.now)) }
+    ensures origin { OnOk result ((old : List BlockRef) (count : ℕ) → AllFrom old count held.now → clips.ClipsFrom old count out.old.items → clips.ClipsFrom old count out.new.items) }
+    ensures few_made { OnOk result (AllShort m held.now → clips.made_clips out.new.items ≤ clips.made_clips out.old.items + 2 * rough m held.now) }
+{
+    if size > 0 {
+        let laid = fuse(alloc, held, m)?;
+        out.push(LaidClip { start, laid })?;
+    }
+    Ok(())
+}
+
+/// Lays out a strip clip by clip: what lies between two gaps is one clip.
+pub fn lay_strip(alloc: Global, items: &[Item], m: u32) -> Result<Vec<LaidClip>, NoMemory>
+    requires some { 0 < m }
+    requires ok { AreItems items.now }
+    requires fit { ItemsFit m items.now }
+    requires few { strip_len items.now ≤ 2 ^ 32 }
+    ensures apart { IfOk result (λ v. clips.AreLaidClips m 0 v.items) }
+    ensures end { IfOk result (λ v. clips.laid_end 0 v.items ≤ strip_len items.now) }
+    ensures cells { IfOk result (λ v. (src : Sources) → clips.laid_cells src 0 v.items ≡ trimmed (strip_cells src items.now)) }
+    ensures origin { IfOk result (λ v. (old : List BlockRef) (count : ℕ) → ItemsFrom old count items.now → clips.ClipsFrom old count v.items) }
+    ensures few_made { IfOk result (λ v. ItemsShort m items.now → clips.made_clips v.items ≤ 2 * rough_from m [] items.now) }
+{
+    let mut out = Vec::new(alloc);
+    let mut held = Vec::new(alloc);
+    let mut size = 0;
+    let mut start = 0;
+    for item in items {
+        match item {
+            Item::Gap { len } => {
+                close(alloc, &mut out, held.as_slice(), size, start, m)?;
+                start += size + *len;
+                size = 0;
+                held = Vec::new(alloc);
+            }
+            Item::Sound { piece } => {
+                size += piece_len(*piece);
+                held.push(*piece)?;
+            }
+        }
+    }
+    close(alloc, &mut out, held.as_slice(), size, start, m)?;
+    Ok(out)
+}

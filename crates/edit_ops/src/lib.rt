@@ -1,0 +1,26 @@
+//! Edits of tracks as plans: what a track's layout becomes, which blocks it keeps, and which new ones are to be
+//! written, of which pieces.
+//!
+//! The layers above use the clauses `cells`, by which a plan's layout means the model's edit of what the old layout
+//! meant, `plan`, which says what the new blocks are and where they come from, and `tests`, which says when an edit
+//! is refused. Nothing is read or written here, and no argument is changed.
+#![tactic(auto)]
+
+mod changing;
+mod laying;
+mod one_track;
+mod placing;
+mod planning;
+mod plans;
+mod removing;
+mod run_tests;
+mod runs;
+mod strips;
+#[cfg(test)]
+mod tests;
+mod tests_of_edits;
+mod types;
+
+pub use one_track::{delete, gain, insert, silence, split_delete, trim};
+pub use runs::{copy, cut, paste, paste_over, split_cut};
+pub use types::{NewBlock, NewBlocks, Plan, Plans, Strips};

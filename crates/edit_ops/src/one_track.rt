@@ -1,0 +1,185 @@
+// Edits of one track.
+ghost use Rattle.std.specs.Prelude.{◌≡◌, ◌+◌, ◌≤◌, ◌<◌, ◌^◌, [], ◌∷◌, ◌++◌, length, IfOk};
+ghost use Rattle.pcm_base.specs.Edits as edit;
+ghost use Rattle.pcm_base.specs.Pieces.{stretch};
+ghost use Rattle.pcm_base.specs.Tests.{bad_range, inserted_length, length_limit};
+ghost use Rattle.clip_track.specs.Clips.{end_of, AllHalfFull};
+ghost use Rattle.edit_ops.specs.Plans.{IsPlan, Means, AnswersTest, layout_blocks};
+
+use super::changing::Change;
+use super::plans::{
+    plan_only_part, plan_with_change, plan_with_gaps, plan_with_given, plan_without,
+};
+use super::tests_of_edits::{length, range};
+use super::types::Plan;
+use clip_track::Layout;
+use pcm_base::Refusal;
+use std::alloc::Global;
+
+/// Puts the `count` samples that the command brings in at a place; a track that is shorter is first continued by
+/// gaps.
+///
+/// # Errors
+///
+/// `LengthLimit` where the track would have more than 2^32 cells; else `NoMemory` where there is none for the plan.
+pub fn insert(
+    alloc: Global,
+    t: &Layout,
+    at: u64,
+    count: u64,
+    m: u32,
+    next: u64,
+) -> Result<Plan, Refusal>
+    requires some { 0 < m }
+    requires half_full { AllHalfFull m t.now }
+    requires room { next ≤ 2 ^ 62 }
+    requires sum { at + count + end_of 0 t.now < 2 ^ 64 }
+    ensures plan { IfOk result (λ p. IsPlan m next (layout_blocks t.now) count p) }
+    ensures cells { IfOk result (λ p. Means (λ src. edit.inserted at (edit.as_cells (stretch src.given 0 count))) t.now p) }
+    ensures tests { AnswersTest (length_limit (inserted_length at count (end_of 0 t.now) ∷ [])) result }
+{
+    length(t.len().max(at) + count)?;
+    match plan_with_given(alloc, t, at, count, m, next) {
+        Ok(plan) => Ok(plan),
+        Err(_) => Err(Refusal::NoMemory),
+    }
+}
+
+/// Takes the cells of a range out: those behind it move to its place.
+///
+/// # Errors
+///
+/// `BadRange` where not `from < to <= t.len()`; else `NoMemory` where there is none for the plan.
+pub fn delete(
+    alloc: Global,
+    t: &Layout,
+    from: u64,
+    to: u64,
+    m: u32,
+    next: u64,
+) -> Result<Plan, Refusal>
+    requires some { 0 < m }
+    requires half_full { AllHalfFull m t.now }
+    requires room { next ≤ 2 ^ 62 }
+    ensures plan { IfOk result (λ p. IsPlan m next (layout_blocks t.now) 0 p) }
+    ensures cells { IfOk result (λ p. Means (λ src. edit.deleted from to) t.now p) }
+    ensures few_made { IfOk result (λ p. length p.makes ≤ 8) }
+    ensures tests { AnswersTest (bad_range from to (end_of 0 t.now)) result }
+{
+    range(from, to, t.len())?;
+    match plan_without(alloc, t, from, to, m, next) {
+        Ok(plan) => Ok(plan),
+        Err(_) => Err(Refusal::NoMemory),
+    }
+}
+
+/// Makes the cells of a range gaps.
+///
+/// # Errors
+///
+/// `BadRange` where not `from < to <= t.len()`; else `NoMemory` where there is none for the plan.
+pub fn split_delete(
+    alloc: Global,
+    t: &Layout,
+    from: u64,
+    to: u64,
+    m: u32,
+    next: u64,
+) -> Result<Plan, Refusal>
+    requires some { 0 < m }
+    requires half_full { AllHalfFull m t.now }
+    requires room { next ≤ 2 ^ 62 }
+    ensures plan { IfOk result (λ p. IsPlan m next (layout_blocks t.now) 0 p) }
+    ensures cells { IfOk result (λ p. Means (λ src. edit.split_deleted from to) t.now p) }
+    ensures few_made { IfOk result (λ p. length p.makes ≤ 8) }
+    ensures tests { AnswersTest (bad_range from to (end_of 0 t.now)) result }
+{
+    range(from, to, t.len())?;
+    match plan_with_gaps(alloc, t, from, to, m, next) {
+        Ok(plan) => Ok(plan),
+        Err(_) => Err(Refusal::NoMemory),
+    }
+}
+
+/// Makes all cells but those of a range gaps.
+///
+/// # Errors
+///
+/// `BadRange` where not `from < to <= t.len()`; else `NoMemory` where there is none for the plan.
+pub fn trim(
+    alloc: Global,
+    t: &Layout,
+    from: u64,
+    to: u64,
+    m: u32,
+    next: u64,
+) -> Result<Plan, Refusal>
+    requires some { 0 < m }
+    requires half_full { AllHalfFull m t.now }
+    requires room { next ≤ 2 ^ 62 }
+    ensures plan { IfOk result (λ p. IsPlan m next (layout_blocks t.now) 0 p) }
+    ensures cells { IfOk result (λ p. Means (λ src. edit.kept_only from to) t.now p) }
+    ensures few_made { IfOk result (λ p. length p.makes ≤ 8) }
+    ensures tests { AnswersTest (bad_range from to (end_of 0 t.now)) result }
+{
+    range(from, to, t.len())?;
+    match plan_only_part(alloc, t, from, to, m, next) {
+        Ok(plan) => Ok(plan),
+        Err(_) => Err(Refusal::NoMemory),
+    }
+}
+
+/// Makes the samples of a range 0; its gaps stay.
+///
+/// # Errors
+///
+/// `BadRange` where not `from < to <= t.len()`; else `NoMemory` where there is none for the plan.
+pub fn silence(
+    alloc: Global,
+    t: &Layout,
+    from: u64,
+    to: u64,
+    m: u32,
+    next: u64,
+) -> Result<Plan, Refusal>
+    requires some { 0 < m }
+    requires half_full { AllHalfFull m t.now }
+    requires room { next ≤ 2 ^ 62 }
+    ensures plan { IfOk result (λ p. IsPlan m next (layout_blocks t.now) 0 p) }
+    ensures cells { IfOk result (λ p. Means (λ src. edit.silenced from to) t.now p) }
+    ensures tests { AnswersTest (bad_range from to (end_of 0 t.now)) result }
+{
+    range(from, to, t.len())?;
+    match plan_with_change(alloc, t, from, to, Change::Silence, m, next) {
+        Ok(plan) => Ok(plan),
+        Err(_) => Err(Refusal::NoMemory),
+    }
+}
+
+/// Puts the samples of a range under a gain, where 65,536 is unity; each is rounded and limited, gaps stay.
+///
+/// # Errors
+///
+/// `BadRange` where not `from < to <= t.len()`; else `NoMemory` where there is none for the plan.
+pub fn gain(
+    alloc: Global,
+    t: &Layout,
+    from: u64,
+    to: u64,
+    gain: u32,
+    m: u32,
+    next: u64,
+) -> Result<Plan, Refusal>
+    requires some { 0 < m }
+    requires half_full { AllHalfFull m t.now }
+    requires room { next ≤ 2 ^ 62 }
+    ensures plan { IfOk result (λ p. IsPlan m next (layout_blocks t.now) 0 p) }
+    ensures cells { IfOk result (λ p. Means (λ src. edit.changed (edit.gained gain) from to) t.now p) }
+    ensures tests { AnswersTest (bad_range from to (end_of 0 t.now)) result }
+{
+    range(from, to, t.len())?;
+    match plan_with_change(alloc, t, from, to, Change::Gain { gain }, m, next) {
+        Ok(plan) => Ok(plan),
+        Err(_) => Err(Refusal::NoMemory),
+    }
+}

@@ -1,0 +1,75 @@
+// The two ways in which a strip is put into a track.
+ghost use Rattle.std.specs.Prelude.{◌≡◌, ◌+◌, ◌≤◌, ◌<◌, ◌^◌, ◌++◌, length, IfOk};
+ghost use Rattle.clip_track.specs.Clips.{end_of, AllHalfFull};
+ghost use Rattle.clip_track.specs.Items.{strip_cells, strip_len};
+ghost use Rattle.edit_ops.specs.Placing.{placed, placed_items, placed_length};
+ghost use Rattle.edit_ops.specs.Runs.{IsPaste};
+ghost use Rattle.edit_ops.specs.Strips.{IsClip};
+
+use super::planning::plan_strip;
+use super::strips;
+use super::types::Plan;
+use clip_track::{Layout, Strip};
+use pcm_base::NoMemory;
+use std::alloc::Global;
+
+/// What becomes of the cells from the place on.
+#[derive(Clone, Copy, Debug)]
+pub enum Placing {
+    /// They move behind the strip's.
+    Insert,
+    /// The strip's take their place, as many as there are.
+    Cover,
+}
+
+impl Placing {
+    /// What a strip makes of a track's length.
+    pub fn length(self, at: u64, strip: u64, track: u64) -> u64
+        requires { at + strip + track < 2 ^ 64 }
+        ensures { result ≡ placed_length self at strip track }
+    {
+        match self {
+            Placing::Insert => track.max(at) + strip,
+            Placing::Cover => track.max(at + strip),
+        }
+    }
+}
+
+fn strip_of(
+    alloc: Global,
+    whole: &Strip,
+    placing: Placing,
+    at: u64,
+    clip: &Strip,
+) -> Result<Strip, NoMemory>
+    requires { placed_length placing at (strip_len clip.now) (strip_len whole.now) ≤ 2 ^ 32 }
+    ensures items { IfOk result (λ s. s ≡ placed_items placing at clip.now whole.now) }
+    ensures len { IfOk result (λ s. strip_len s ≡ placed_length placing at (strip_len clip.now) (strip_len whole.now)) }
+{
+    match placing {
+        Placing::Insert => Ok(strips::with_inserted(alloc, whole, at, clip)?),
+        Placing::Cover => Ok(strips::with_covered(alloc, whole, at, clip)?),
+    }
+}
+
+/// With a strip put in at a place of one track.
+pub fn plan_placed(
+    alloc: Global,
+    t: &Layout,
+    placing: Placing,
+    at: u64,
+    clip: &Strip,
+    m: u32,
+    next: u64,
+) -> Result<Plan, NoMemory>
+    requires some { 0 < m }
+    requires half_full { AllHalfFull m t.now }
+    requires clip { IsClip m clip.now }
+    requires room { next < 2 ^ 63 }
+    requires few { placed_length placing at (strip_len clip.now) (end_of 0 t.now) ≤ 2 ^ 32 }
+    ensures { IfOk result (λ p. IsPaste (placed placing at) m next clip.now t.now p) }
+{
+    let whole = t.to_strip()?;
+    let strip = strip_of(alloc, &whole, placing, at, clip)?;
+    Ok(plan_strip(alloc, &strip, m, next)?)
+}

@@ -1,0 +1,95 @@
+// A strip is laid out in blocks.
+ghost use Rattle.std.specs.Prelude.{◌≡◌, ℕ, List, ◌+◌, ◌-◌, ◌≤◌, ◌<◌, ◌^◌, ◌++◌, ◌*◌, length, true, IfOk, OnOk};
+ghost use Rattle.pcm_base.specs.Pieces.{Sources};
+ghost use Rattle.pcm_base.specs.Cells.{trimmed};
+ghost use Rattle.clip_track.specs.Items.{ItemsFit, strip_len, strip_cells};
+ghost use Rattle.clip_track.specs.Clips.{layout_cells};
+ghost use Rattle.pcm_base.specs.declared.block.BlockRef.{BlockRef};
+ghost use Rattle.edit_ops.specs.Plans.{AreWritten, IsPlan};
+ghost use Rattle.edit_ops.specs.Strips.{ItemsFrom};
+ghost use Rattle.clip_track.specs.Rough.{rough_items, ItemsShort};
+ghost use Rattle.edit_ops.specs.LaidClips as laid;
+
+use super::laying::lay_strip;
+use super::types::{LaidClip, NewBlock, NewBlocks, Plan};
+use block_sequence::{Laid, Sequence};
+use clip_track::{Clip, Layout, Strip};
+use pcm_base::{BlockRef, NoMemory};
+use std::alloc::{AllocError, Global};
+
+/// The blocks of a clip, and the next block id.
+#[derive(Drop)]
+struct Named {
+    blocks: Vec<BlockRef>,
+    next: u64,
+}
+
+/// Gives the new blocks of a clip their ids, from `next` on.
+fn name_blocks(
+    alloc: Global,
+    parts: Vec<Laid>,
+    next: u64,
+    makes: &mut Vec<NewBlock>,
+) -> Result<Named, AllocError>
+    requires { next + length parts.items < 2 ^ 64 }
+    ensures blocks { IfOk result (λ n. n.blocks.items ≡ laid.named next parts.items) }
+    ensures makes { OnOk result (makes.new.items ≡ makes.old.items ++ laid.new_blocks next parts.items) }
+    ensures next { IfOk result (λ n. n.next ≡ laid.next_after next parts.items) }
+{
+    let mut blocks = Vec::new(alloc);
+    let mut id = next;
+    for part in parts {
+        match part {
+            Laid::Keep { block } => {
+                blocks.push(block)?;
+            }
+            Laid::Make { pieces, len } => {
+                blocks.push(BlockRef { id, len })?;
+                makes.push(NewBlock { id, len, pieces })?;
+                id += 1;
+            }
+        }
+    }
+    Ok(Named { blocks, next: id })
+}
+
+/// Gives the new blocks of all clips their ids, and makes the layout.
+fn name_clips(alloc: Global, clips: Vec<LaidClip>, m: u32, next: u64) -> Result<Plan, AllocError>
+    requires some { 0 < m }
+    requires apart { laid.AreLaidClips m 0 clips.items }
+    requires few { laid.laid_end 0 clips.items ≤ 2 ^ 32 }
+    requires room { next < 2 ^ 63 }
+    ensures layout { IfOk result (λ p. p.layout ≡ laid.named_clips next clips.items) }
+    ensures makes { IfOk result (λ p. p.makes ≡ laid.clips_new_blocks next clips.items) }
+    ensures next { IfOk result (λ p. p.next ≡ laid.clips_next next clips.items) }
+{
+    let mut out = Vec::new(alloc);
+    let mut makes = Vec::new(alloc);
+    let mut id = next;
+    for clip in clips {
+        let LaidClip { start, laid } = clip;
+        let named = name_blocks(alloc, laid, id, &mut makes)?;
+        id = named.next;
+        let blocks = Sequence::new(named.blocks);
+        out.push(Clip { start, blocks })?;
+    }
+    Ok(Plan {
+        layout: Layout::from_clips(out),
+        makes: NewBlocks::from_vec(makes),
+        next: id,
+    })
+}
+
+/// Lays a strip out in blocks of 1 to `m` samples; the new ones get the ids from `next` on, in order.
+pub fn plan_strip(alloc: Global, strip: &Strip, m: u32, next: u64) -> Result<Plan, NoMemory>
+    requires some { 0 < m }
+    requires fit { ItemsFit m strip.now }
+    requires few { strip_len strip.now ≤ 2 ^ 32 }
+    requires room { next < 2 ^ 63 }
+    ensures plan { IfOk result (λ p. (old : List BlockRef) (count : ℕ) → ItemsFrom old count strip.now → IsPlan m next old count p) }
+    ensures cells { IfOk result (λ p. (src : Sources) → AreWritten src p.makes → layout_cells src p.layout ≡ trimmed (strip_cells src strip.now)) }
+    ensures few_made { IfOk result (λ p. ItemsShort m strip.now → length p.makes ≤ 2 * rough_items m true true strip.now) }
+{
+    let clips = lay_strip(alloc, strip.as_slice(), m)?;
+    Ok(name_clips(alloc, clips, m, next)?)
+}

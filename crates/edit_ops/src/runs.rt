@@ -1,0 +1,287 @@
+// Edits of several tracks: copy, cut and paste.
+ghost use Rattle.std.specs.Prelude.{◌≡◌, ◌+◌, ◌*◌, ◌≤◌, ◌<◌, ◌^◌, length, take, option_copied, IfOk, IfSome};
+ghost use Rattle.std.specs.Option.{ForSome};
+ghost use Rattle.pcm_base.specs.Edits as edit;
+ghost use Rattle.pcm_base.specs.Tests.{inserted_length, covered_length};
+ghost use Rattle.edit_ops.specs.Placing.{placed, placed_length, SumsFit, LengthsFit};
+ghost use Rattle.edit_ops.specs.Plans.{AnswersTest};
+ghost use Rattle.edit_ops.specs.Removing.{removed};
+ghost use Rattle.edit_ops.specs.Runs as runs;
+
+use super::placing::{Placing, plan_placed};
+use super::removing::{Removing, plan_removal};
+use super::run_tests::{copy_tests, paste_tests};
+use super::strips;
+use super::types::{Plan, Plans, Strips};
+use clip_track::{Layout, Strip};
+use pcm_base::{NoMemory, Refusal};
+use std::alloc::Global;
+
+fn copy_one(alloc: Global, t: &Layout, from: u64, to: u64) -> Result<Strip, NoMemory>
+    requires { from ≤ to }
+    ensures { IfOk result (λ s. runs.IsCopy from to t.now s) }
+{
+    let whole = t.to_strip()?;
+    Ok(strips::range_part(alloc, &whole, from, to)?)
+}
+
+/// The cells of a range of each track.
+fn copy_each(alloc: Global, run: &[Layout], from: u64, to: u64) -> Result<Strips, NoMemory>
+    requires { from ≤ to }
+    ensures { IfOk result (λ v. runs.AreCopies from to run.now v) }
+{
+    let mut out = Vec::new(alloc);
+    for t in run {
+        out.push(copy_one(alloc, t, from, to)?)?;
+    }
+    Ok(Strips::from_vec(out))
+}
+
+/// Each track without a range.
+fn cut_each(
+    alloc: Global,
+    run: &[Layout],
+    removing: Removing,
+    from: u64,
+    to: u64,
+    m: u32,
+    next: u64,
+) -> Result<Plans, NoMemory>
+    requires some { 0 < m }
+    requires half_full { runs.AllTracksHalfFull m run.now }
+    requires room { next ≤ 2 ^ 62 }
+    requires rising { from ≤ to }
+    ensures { IfOk result (λ v. runs.AreCuts (removed removing from to) m next run.now v) }
+{
+    let mut plans = Vec::new(alloc);
+    let mut id = next;
+    for t in run {
+        let plan = plan_removal(alloc, t, removing, from, to, m, id)?;
+        id = plan.next;
+        plans.push(plan)?;
+    }
+    Ok(Plans::from_vec(plans))
+}
+
+/// Each strip put into its track.
+fn paste_each(
+    alloc: Global,
+    run: &[Layout],
+    clip: &[Strip],
+    placing: Placing,
+    at: u64,
+    m: u32,
+    next: u64,
+) -> Result<Plans, NoMemory>
+    requires some { 0 < m }
+    requires half_full { runs.AllTracksHalfFull m run.now }
+    requires clips { runs.AreClips m clip.now }
+    requires room { next ≤ 2 ^ 62 }
+    requires wide { length clip.now ≤ length run.now }
+    requires few { LengthsFit placing at clip.now run.now }
+    ensures { IfOk result (λ v. runs.ArePastes (placed placing at) m next clip.now (take (length clip.now) run.now) v) }
+{
+    let mut plans = Vec::new(alloc);
+    let mut id = next;
+    for i in 0..clip.len() {
+        let plan = plan_placed(alloc, &run[i], placing, at, &clip[i], m, id)?;
+        id = plan.next;
+        plans.push(plan)?;
+    }
+    Ok(Plans::from_vec(plans))
+}
+
+/// The cells of a range of `n` tracks, those of `run` from the first on: a strip for each, of exactly `to - from`
+/// cells, gaps where the track is shorter.
+///
+/// # Errors
+///
+/// `TooNarrow` where there are fewer than `n` tracks; `BadRange` where not `from < to <= L`, where L is the greatest
+/// length of the `n` tracks; else `NoMemory` where there is none for the strips.
+pub fn copy(alloc: Global, run: &[Layout], n: u64, from: u64, to: u64) -> Result<Strips, Refusal>
+    ensures copies { IfOk result (λ v. runs.AreCopies from to (take n run.now) v) }
+    ensures tests { AnswersTest (runs.copy_tests run.now n from to) result }
+{
+    copy_tests(run, n, from, to)?;
+    match copy_each(alloc, &run[..n as usize], from, to) {
+        Ok(strips) => Ok(strips),
+        Err(_) => Err(Refusal::NoMemory),
+    }
+}
+
+/// What was cut: the strips, and a plan for each track.
+fn cut_tracks(
+    alloc: Global,
+    run: &[Layout],
+    removing: Removing,
+    from: u64,
+    to: u64,
+    m: u32,
+    next: u64,
+) -> Result<(Strips, Plans), NoMemory>
+    requires some { 0 < m }
+    requires half_full { runs.AllTracksHalfFull m run.now }
+    requires room { next ≤ 2 ^ 62 }
+    requires rising { from ≤ to }
+    ensures copies { IfOk result (λ v. runs.AreCopies from to run.now v.0) }
+    ensures plans { IfOk result (λ v. runs.AreCuts (removed removing from to) m next run.now v.1) }
+{
+    let strips = copy_each(alloc, run, from, to)?;
+    let plans = cut_each(alloc, run, removing, from, to, m, next)?;
+    Ok((strips, plans))
+}
+
+fn cut_range(
+    alloc: Global,
+    run: &[Layout],
+    removing: Removing,
+    n: u64,
+    from: u64,
+    to: u64,
+    m: u32,
+    next: u64,
+) -> Result<(Strips, Plans), Refusal>
+    requires some { 0 < m }
+    requires half_full { runs.AllTracksHalfFull m run.now }
+    requires room { next ≤ 2 ^ 62 }
+    ensures copies { IfOk result (λ v. runs.AreCopies from to (take n run.now) v.0) }
+    ensures plans { IfOk result (λ v. runs.AreCuts (removed removing from to) m next (take n run.now) v.1) }
+    ensures tests { AnswersTest (runs.copy_tests run.now n from to) result }
+{
+    copy_tests(run, n, from, to)?;
+    match cut_tracks(alloc, &run[..n as usize], removing, from, to, m, next) {
+        Ok(cut) => Ok(cut),
+        Err(_) => Err(Refusal::NoMemory),
+    }
+}
+
+/// `copy`, and a delete of the range on each of the tracks.
+///
+/// # Errors
+///
+/// Those of `copy`.
+pub fn cut(
+    alloc: Global,
+    run: &[Layout],
+    n: u64,
+    from: u64,
+    to: u64,
+    m: u32,
+    next: u64,
+) -> Result<(Strips, Plans), Refusal>
+    requires some { 0 < m }
+    requires half_full { runs.AllTracksHalfFull m run.now }
+    requires room { next ≤ 2 ^ 62 }
+    ensures copies { IfOk result (λ v. runs.AreCopies from to (take n run.now) v.0) }
+    ensures plans { IfOk result (λ v. runs.AreCuts (edit.deleted from to) m next (take n run.now) v.1) }
+    ensures tests { AnswersTest (runs.copy_tests run.now n from to) result }
+{
+    cut_range(alloc, run, Removing::Delete, n, from, to, m, next)
+}
+
+/// `copy`, and a split-delete of the range on each of the tracks.
+///
+/// # Errors
+///
+/// Those of `copy`.
+pub fn split_cut(
+    alloc: Global,
+    run: &[Layout],
+    n: u64,
+    from: u64,
+    to: u64,
+    m: u32,
+    next: u64,
+) -> Result<(Strips, Plans), Refusal>
+    requires some { 0 < m }
+    requires half_full { runs.AllTracksHalfFull m run.now }
+    requires room { next ≤ 2 ^ 62 }
+    ensures copies { IfOk result (λ v. runs.AreCopies from to (take n run.now) v.0) }
+    ensures plans { IfOk result (λ v. runs.AreCuts (edit.split_deleted from to) m next (take n run.now) v.1) }
+    ensures tests { AnswersTest (runs.copy_tests run.now n from to) result }
+{
+    cut_range(alloc, run, Removing::SplitDelete, n, from, to, m, next)
+}
+
+/// Each strip put into the track that it goes to: the first into the first track of `run`, and so on.
+fn place(
+    alloc: Global,
+    run: &[Layout],
+    clip: &[Strip],
+    placing: Placing,
+    at: u64,
+    m: u32,
+    next: u64,
+) -> Result<Plans, Refusal>
+    requires some { 0 < m }
+    requires half_full { runs.AllTracksHalfFull m run.now }
+    requires clips { runs.AreClips m clip.now }
+    requires room { next ≤ 2 ^ 62 }
+    requires sums { SumsFit at clip.now run.now }
+    ensures plans { IfOk result (λ v. runs.ArePastes (placed placing at) m next clip.now (take (length clip.now) run.now) v) }
+    ensures tests { AnswersTest (runs.paste_tests (placed_length placing at) clip.now run.now) result }
+{
+    paste_tests(placing, at, clip, run)?;
+    match paste_each(alloc, run, clip, placing, at, m, next) {
+        Ok(plans) => Ok(plans),
+        Err(_) => Err(Refusal::NoMemory),
+    }
+}
+
+/// Puts strip i of what was copied or cut in at a place of the i-th track of `run`; a track that is shorter is first
+/// continued by gaps.
+///
+/// # Errors
+///
+/// `EmptyClipboard` where there is nothing to paste; `TooNarrow` where there are fewer tracks than strips;
+/// `LengthLimit` where a track would have more than 2^32 cells, for the first such track; else `NoMemory` where there
+/// is none for the plans.
+pub fn paste(
+    alloc: Global,
+    run: &[Layout],
+    clip: Option<&Strips>,
+    at: u64,
+    m: u32,
+    next: u64,
+) -> Result<Plans, Refusal>
+    requires some { 0 < m }
+    requires half_full { runs.AllTracksHalfFull m run.now }
+    requires clips { ForSome (option_copied clip) (λ c. runs.AreClips m c) }
+    requires room { next ≤ 2 ^ 62 }
+    requires sums { ForSome (option_copied clip) (λ c. SumsFit at c run.now) }
+    ensures plans { IfOk result (λ v. IfSome (option_copied clip.entry) (λ c. runs.ArePastes (edit.inserted at) m next c (take (length c) run.now) v)) }
+    ensures tests { AnswersTest (runs.clipboard_tests (inserted_length at) (option_copied clip.entry) run.now) result }
+{
+    match clip {
+        None => Err(Refusal::EmptyClipboard),
+        Some(strips) => place(alloc, run, strips.as_slice(), Placing::Insert, at, m, next),
+    }
+}
+
+/// Puts strip i of what was copied or cut in the place of as many cells of the i-th track of `run`; a track that is
+/// shorter is first continued by gaps.
+///
+/// # Errors
+///
+/// Those of `paste`.
+pub fn paste_over(
+    alloc: Global,
+    run: &[Layout],
+    clip: Option<&Strips>,
+    at: u64,
+    m: u32,
+    next: u64,
+) -> Result<Plans, Refusal>
+    requires some { 0 < m }
+    requires half_full { runs.AllTracksHalfFull m run.now }
+    requires clips { ForSome (option_copied clip) (λ c. runs.AreClips m c) }
+    requires room { next ≤ 2 ^ 62 }
+    requires sums { ForSome (option_copied clip) (λ c. SumsFit at c run.now) }
+    ensures plans { IfOk result (λ v. IfSome (option_copied clip.entry) (λ c. runs.ArePastes (edit.pasted_over at) m next c (take (length c) run.now) v)) }
+    ensures tests { AnswersTest (runs.clipboard_tests (covered_length at) (option_copied clip.entry) run.now) result }
+{
+    match clip {
+        None => Err(Refusal::EmptyClipboard),
+        Some(strips) => place(alloc, run, strips.as_slice(), Placing::Cover, at, m, next),
+    }
+}
