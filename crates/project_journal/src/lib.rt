@@ -21,6 +21,7 @@ pub use adding::{append, append_small};
 pub use creating::create;
 pub use fault::{Damaged, JournalFault};
 pub use fields::{u8_at, u32_at, u64_at};
+pub use header::first_failure;
 pub use journal::Journal;
 pub use reading::read_all;
 

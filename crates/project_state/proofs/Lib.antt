@@ -1,2 +1,10 @@
 pub mod Points
 pub mod Parts
+pub mod Reaching
+pub mod Numbers
+pub mod Passing
+pub mod Sizes
+pub mod Steps
+pub mod SoundBodies
+pub mod Spelled
+pub mod ReadBack

@@ -10,6 +10,14 @@ pub AreAbove-push : (least : ℕ) (ts : List Track) (t : Track) → AreAbove lea
 AreAbove-push least [] t a b h = (h, tt)
 AreAbove-push least (s ∷ ts) t a b h = (a.0, AreAbove-push (s.id + 1) ts t a.1 b.1 (omega (arith, b.0)))
 
+pub AllBelow-higher : (least id : ℕ) (ts : List Track) → least ≤ id → AllBelow least ts → AllBelow id ts
+AllBelow-higher least id [] h b = tt
+AllBelow-higher least id (t ∷ ts) h b = (omega (arith, h, b.0), AllBelow-higher least id ts h b.1)
+
+pub AllBelow-push : (id : ℕ) (ts : List Track) (t : Track) → AllBelow id ts → t.id < id → AllBelow id (ts ++ t ∷ [])
+AllBelow-push id [] t b h = (h, tt)
+AllBelow-push id (s ∷ ts) t b h = (b.0, AllBelow-push id ts t b.1 h)
+
 pub AreKeyed-push : (es : List (ℕ × Track)) (t : Track) → AreKeyed es → AreKeyed (es ++ (t.id, t) ∷ [])
 AreKeyed-push [] t k = (refl, tt)
 AreKeyed-push (e ∷ es) t k = (k.0, AreKeyed-push es t k.1)

@@ -74,7 +74,7 @@ impl Point {
     }
 
     // As `add`, where there is a place.
-    fn push(&mut self, track: Track) -> Result<(), NoMemory>
+    pub(crate) fn push(&mut self, track: Track) -> Result<(), NoMemory>
         requires above { AllBelow track.id self.old }
         requires few { length self.old < 64 }
         ensures added { OnOk result (self.new ≡ self.old ++ track ∷ []) }

@@ -12,7 +12,7 @@ use std::alloc::Global;
 use std::test::Fail;
 
 /// The body of the edit that makes the first track of a new project.
-const FIRST_TRACK: [u8; 47] = [
+pub(crate) const FIRST_TRACK: [u8; 47] = [
     1, // an edit
     0, 0, 0, 0, 0, 0, 0, 0, // tag
     16, 0, 0, 0, 0, 0, 0, 0, // next block
@@ -25,7 +25,7 @@ const FIRST_TRACK: [u8; 47] = [
 ];
 
 /// What a piece with tag 3 adds to a second track, of two clips.
-const TWO_CLIPS: [u8; 107] = [
+pub(crate) const TWO_CLIPS: [u8; 107] = [
     1, // an edit
     3, 0, 0, 0, 0, 0, 0, 0, // tag
     19, 0, 0, 0, 0, 0, 0, 0, // next block
@@ -73,7 +73,7 @@ fn two_clips(alloc: Global) -> Result<Layout, NoMemory> {
     Ok(Layout::from_clips(clips))
 }
 
-fn is_written(alloc: Global, body: &Body, bytes: &[u8]) -> Result<bool, NoMemory> {
+pub(crate) fn is_written(alloc: Global, body: &Body, bytes: &[u8]) -> Result<bool, NoMemory> {
     let mut out = vec![in alloc; 9, 9, 9]?;
     write_body(body, &mut out)?;
     Ok(out.as_slice() == bytes && body_len(body) == bytes.len())

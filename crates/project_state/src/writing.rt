@@ -21,7 +21,7 @@ const TRACK_HEAD: usize = 18;
 const EDIT_HEAD: usize = 25;
 
 #[tactic(auto, using(crate::proofs::Parts::length_clip))]
-fn clip_len(clip: &Clip) -> usize
+pub(crate) fn clip_len(clip: &Clip) -> usize
     ensures { result ≡ length (clip_bytes clip.now) }
 {
     CLIP_HEAD + BLOCK_LEN * clip.blocks.as_slice().len()
@@ -39,7 +39,7 @@ fn clips_len(clips: &[Clip]) -> usize
     len
 }
 
-fn track_len(track: &Track) -> usize
+pub(crate) fn track_len(track: &Track) -> usize
     ensures value { result ≡ length (track_bytes track.now) }
     ensures few { result ≤ 2 ^ 37 }
 {

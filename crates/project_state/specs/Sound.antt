@@ -1,0 +1,51 @@
+-- Bodies that meet no bound: what a record may say at block size m, after the records before it.
+use Rattle.std.specs.Prelude.{ℕ, ◌^◌, ◌≤◌, ◌<◌, List, [], ◌∷◌, length}
+use Rattle.pcm_base.specs.declared.block.BlockRef.{BlockRef}
+use Rattle.clip_track.specs.declared.clips.Clip.{Clip}
+use Rattle.clip_track.specs.Clips.{IsLayout, AllHalfFull}
+use Rattle.project_state.specs.declared.track.Track.{Track}
+use Rattle.project_state.specs.declared.body.Body.{Body}
+use Rattle.project_state.specs.declared.body.Body.TheVariants.{Edit, Undo, Redo, Purge}
+use Rattle.project_state.specs.declared.limits.Before.{Before}
+use Rattle.project_state.specs.Tracks.{AreAbove}
+
+-- each is a block of sound whose id was given
+abbrev pub AllGiven : ℕ → List BlockRef → Type 0
+AllGiven next [] = Unit {0}
+AllGiven next (b ∷ bs) = (16 ≤ b.id) × (b.id < next) × AllGiven next bs
+
+abbrev pub AllClipsGiven : ℕ → List Clip → Type 0
+AllClipsGiven next [] = Unit {0}
+AllClipsGiven next (c ∷ cs) = AllGiven next c.blocks × AllClipsGiven next cs
+
+pub record IsSoundTrack (m next_block next_track : ℕ) (t : Track) : Type 0 where
+  pub given : t.id < next_track
+  pub gain : t.gain ≤ 1048576
+  pub layout : IsLayout t.layout
+  pub half_full : AllHalfFull m t.layout
+  pub blocks : AllClipsGiven next_block t.layout
+
+abbrev pub AllSoundTracks : ℕ → ℕ → ℕ → List Track → Type 0
+AllSoundTracks m next_block next_track [] = Unit {0}
+AllSoundTracks m next_block next_track (t ∷ ts) = IsSoundTrack m next_block next_track t × AllSoundTracks m next_block next_track ts
+
+-- an edit, or a piece of a recording that begins with an earlier record
+pub record IsSoundEdit (m : ℕ) (before : Before) (tag next_block next_track : ℕ) (tracks : List Track) : Type 0 where
+  pub tag_number : tag < 2 ^ 64
+  pub tag_given : tag ≤ before.commits
+  pub block_least : 16 ≤ next_block
+  pub block_most : next_block ≤ 2 ^ 62
+  pub block_later : before.next_block ≤ next_block
+  pub track_least : 1 ≤ next_track
+  pub track_most : next_track ≤ 2 ^ 62
+  pub track_later : before.next_track ≤ next_track
+  pub few : length tracks ≤ 64
+  pub rising : AreAbove 1 tracks
+  pub sound : AllSoundTracks m next_block next_track tracks
+
+-- What the history says of an undo, a redo and a purge is not asked here.
+abbrev pub IsSound : ℕ → Before → Body → Type 0
+IsSound m before (Edit tag next_block next_track tracks) = IsSoundEdit m before tag next_block next_track tracks
+IsSound m before Undo = Unit {0}
+IsSound m before Redo = Unit {0}
+IsSound m before (Purge n) = n < 2 ^ 64
