@@ -12,16 +12,16 @@ use Rattle.block_sequence.specs.Laying.{kept_of, run_parts, laid, laid_first, la
 use Rattle.block_sequence.proofs.HalfFull.{is_sound-true, is_short-true, not_sound}
 use Rattle.block_sequence.proofs.Sizes.{count_sizes}
 
-made_count-append : (ps qs : List Part) → made_count (ps ++ qs) ≡ made_count ps + made_count qs
+pub made_count-append : (ps qs : List Part) → made_count (ps ++ qs) ≡ made_count ps + made_count qs
 made_count-append [] qs = omega arith
 made_count-append (Kept b ∷ ps) qs = made_count-append ps qs
 made_count-append (Made n ∷ ps) qs = omega (arith, made_count-append ps qs)
 
-made_count-made : (ns : List ℕ) → made_count (map Made ns) ≡ length ns
+pub made_count-made : (ns : List ℕ) → made_count (map Made ns) ≡ length ns
 made_count-made [] = refl
 made_count-made (n ∷ ns) = omega (arith, made_count-made ns)
 
-made_count-kept : (p : Piece) → made_count (kept_of p) ≡ 0
+pub made_count-kept : (p : Piece) → made_count (kept_of p) ≡ 0
 made_count-kept (Old b from to) = refl
 made_count-kept (Scaled b from to gain) = refl
 made_count-kept (Zero len) = refl

@@ -3,4 +3,5 @@ pub mod Laid
 pub mod Laying
 pub mod Origins
 pub mod Places
+pub mod Room
 pub mod Sequences

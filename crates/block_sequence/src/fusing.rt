@@ -4,6 +4,7 @@ ghost use Rattle.pcm_base.specs.Blocks.{IsHalfFull};
 ghost use Rattle.pcm_base.specs.Pieces.{Sources, whole, all_samples, total, IsValid, AllValid, AllFit};
 ghost use Rattle.block_sequence.specs.Fuse as layout;
 ghost use Rattle.block_sequence.specs.Laying as laying;
+ghost use Rattle.block_sequence.specs.Room.{clip_room};
 ghost use Rattle.pcm_base.specs.declared.block.BlockRef.{BlockRef};
 ghost use Rattle.block_sequence.specs.Origins.{AllFrom, AllLaidFrom};
 ghost use Rattle.block_sequence.specs.Laid.{no_piece, parts, sizes, all_laid_samples, AllMade};
@@ -265,6 +266,7 @@ pub fn fuse(alloc: Global, pieces: &[Piece], m: u32) -> Result<Vec<Laid>, NoMemo
     ensures half_full { IfOk result (λ v. IsHalfFull m (sizes v.items)) }
     ensures made { IfOk result (λ v. AllMade m v.items) }
     ensures few_made { IfOk result (λ v. layout.AllShort m pieces.now → layout.made_count (parts v.items) ≤ 2 * layout.rough m pieces.now) }
+    ensures few_samples { IfOk result (λ v. m * layout.made_count (parts v.items) ≤ clip_room m pieces.now) }
 {
     let kept = without_empty(alloc, pieces)?;
     Ok(lay_apart(alloc, kept.as_slice(), m)?)

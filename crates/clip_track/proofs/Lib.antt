@@ -1,4 +1,6 @@
 pub mod Layouts
+pub mod RoomClips
+pub mod RoomStrips
 pub mod RoughStrips
 pub mod StripClips
 pub mod Strips

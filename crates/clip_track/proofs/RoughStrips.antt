@@ -51,7 +51,7 @@ rough-append m s r (Sound p ∷ xs) ys = omega (arith, rough-append m false r xs
     first m s r p (Sound q ∷ xs) ys = omega arith
 
 -- all of an item, and all items
-part_whole : (x : Item) → IsItem x → part_of_item 0 (item_len x) x ≡ x
+pub part_whole : (x : Item) → IsItem x → part_of_item 0 (item_len x) x ≡ x
 part_whole (Gap n) h = refl
 part_whole (Sound (Old b from to)) h = ap₂ (λ i j. Sound (Old b i j)) (omega arith) (omega (arith, h))
 part_whole (Sound (Scaled b from to gain)) h = ap₂ (λ i j. Sound (Scaled b i j gain)) (omega arith) (omega (arith, h))
@@ -70,7 +70,7 @@ one_item : (m : ℕ) (s r : Bool) (x : Item) → rough_items m s r (x ∷ []) �
 one_item m s r (Gap n) = omega arith
 one_item m s r (Sound p) = omega (arith, rough_piece_le m p (s && r))
 
-same_next : (r : Bool) (n : ℕ) (y : Item) (ys : List Item) → 0 < n → 0 < item_len y → gap_next false (part_items 0 n (y ∷ ys)) ≡ gap_next r (y ∷ ys)
+pub same_next : (r : Bool) (n : ℕ) (y : Item) (ys : List Item) → 0 < n → 0 < item_len y → gap_next false (part_items 0 n (y ∷ ys)) ≡ gap_next r (y ∷ ys)
 same_next r n (Gap k) ys a b = rw (part_within 0 n (Gap k) ys a b) refl
 same_next r n (Sound p) ys a b = rw (part_within 0 n (Sound p) ys a b) refl
 

@@ -1,4 +1,5 @@
 pub mod Clips
 pub mod Items
+pub mod Room
 pub mod Rough
 pub mod StripClips

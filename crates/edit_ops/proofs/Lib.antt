@@ -1,9 +1,12 @@
 pub mod CellLists
 pub mod ChangedItems
 pub mod Copies
+pub mod Counts
 pub mod LaidLists
 pub mod Named
 pub mod Pastes
+pub mod Roomy
+mod Rows
 pub mod RunLists
 pub mod StripCells
 pub mod Tame

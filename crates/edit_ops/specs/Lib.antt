@@ -1,4 +1,5 @@
 pub mod Changes
+pub mod Counts
 pub mod LaidClips
 pub mod Placing
 pub mod Plans

@@ -5,6 +5,8 @@ ghost use Rattle.pcm_base.specs.Pieces.{Sources, total, all_samples, AllValid, A
 ghost use Rattle.pcm_base.specs.Cells.{trimmed};
 ghost use Rattle.clip_track.specs.Items.{ItemsFit, AreItems, strip_len, strip_cells};
 ghost use Rattle.block_sequence.specs.Fuse.{rough, AllShort};
+ghost use Rattle.block_sequence.specs.Room.{clip_room};
+ghost use Rattle.clip_track.specs.Room.{room_from};
 ghost use Rattle.clip_track.specs.Rough.{rough_from, ItemsShort};
 ghost use Rattle.pcm_base.specs.declared.block.BlockRef.{BlockRef};
 ghost use Rattle.block_sequence.specs.Origins.{AllFrom};
@@ -41,6 +43,7 @@ fn close(
         ≡ clips.laid_cells src 0 out.old.items ++ replicate (start - clips.laid_end 0 out.old.items) cell.Gap ++ map cell.Sample (all_samples src held.now)) }
     ensures origin { OnOk result ((old : List BlockRef) (count : ℕ) → AllFrom old count held.now → clips.ClipsFrom old count out.old.items → clips.ClipsFrom old count out.new.items) }
     ensures few_made { OnOk result (AllShort m held.now → clips.made_clips out.new.items ≤ clips.made_clips out.old.items + 2 * rough m held.now) }
+    ensures few_samples { OnOk result (m * clips.made_clips out.new.items ≤ m * clips.made_clips out.old.items + clip_room m held.now) }
 {
     if size > 0 {
         let laid = fuse(alloc, held, m)?;
@@ -60,6 +63,7 @@ pub fn lay_strip(alloc: Global, items: &[Item], m: u32) -> Result<Vec<LaidClip>,
     ensures cells { IfOk result (λ v. (src : Sources) → clips.laid_cells src 0 v.items ≡ trimmed (strip_cells src items.now)) }
     ensures origin { IfOk result (λ v. (old : List BlockRef) (count : ℕ) → ItemsFrom old count items.now → clips.ClipsFrom old count v.items) }
     ensures few_made { IfOk result (λ v. ItemsShort m items.now → clips.made_clips v.items ≤ 2 * rough_from m [] items.now) }
+    ensures few_samples { IfOk result (λ v. m * clips.made_clips v.items ≤ room_from m [] items.now) }
 {
     let mut out = Vec::new(alloc);
     let mut held = Vec::new(alloc);

@@ -1,9 +1,10 @@
 // Edits of one track.
-ghost use Rattle.std.specs.Prelude.{◌≡◌, ◌+◌, ◌≤◌, ◌<◌, ◌^◌, [], ◌∷◌, ◌++◌, length, IfOk};
+ghost use Rattle.std.specs.Prelude.{◌≡◌, ◌+◌, ◌/◌, ◌≤◌, ◌<◌, ◌^◌, [], ◌∷◌, ◌++◌, length, IfOk};
 ghost use Rattle.pcm_base.specs.Edits as edit;
-ghost use Rattle.pcm_base.specs.Pieces.{stretch};
+ghost use Rattle.pcm_base.specs.Pieces.{Sources, stretch};
 ghost use Rattle.pcm_base.specs.Tests.{bad_range, inserted_length, length_limit};
-ghost use Rattle.clip_track.specs.Clips.{end_of, AllHalfFull};
+ghost use Rattle.clip_track.specs.Clips.{end_of, layout_cells, AllHalfFull};
+ghost use Rattle.edit_ops.specs.Counts.{sample_count, clip_count};
 ghost use Rattle.edit_ops.specs.Plans.{IsPlan, Means, AnswersTest, layout_blocks};
 
 use super::changing::Change;
@@ -36,6 +37,7 @@ pub fn insert(
     requires sum { at + count + end_of 0 t.now < 2 ^ 64 }
     ensures plan { IfOk result (λ p. IsPlan m next (layout_blocks t.now) count p) }
     ensures cells { IfOk result (λ p. Means (λ src. edit.inserted at (edit.as_cells (stretch src.given 0 count))) t.now p) }
+    ensures few_made { IfOk result (λ p. length p.makes ≤ 8 + count / m) }
     ensures tests { AnswersTest (length_limit (inserted_length at count (end_of 0 t.now) ∷ [])) result }
 {
     length(t.len().max(at) + count)?;
@@ -147,6 +149,8 @@ pub fn silence(
     requires room { next ≤ 2 ^ 62 }
     ensures plan { IfOk result (λ p. IsPlan m next (layout_blocks t.now) 0 p) }
     ensures cells { IfOk result (λ p. Means (λ src. edit.silenced from to) t.now p) }
+    ensures few_made { IfOk result (λ p. (src : Sources) →
+        let cells = edit.part from to (layout_cells src t.now) in length p.makes ≤ 8 + sample_count cells / m + clip_count cells) }
     ensures tests { AnswersTest (bad_range from to (end_of 0 t.now)) result }
 {
     range(from, to, t.len())?;
@@ -175,6 +179,8 @@ pub fn gain(
     requires room { next ≤ 2 ^ 62 }
     ensures plan { IfOk result (λ p. IsPlan m next (layout_blocks t.now) 0 p) }
     ensures cells { IfOk result (λ p. Means (λ src. edit.changed (edit.gained gain) from to) t.now p) }
+    ensures few_made { IfOk result (λ p. (src : Sources) →
+        let cells = edit.part from to (layout_cells src t.now) in length p.makes ≤ 8 + sample_count cells / m + clip_count cells) }
     ensures tests { AnswersTest (bad_range from to (end_of 0 t.now)) result }
 {
     range(from, to, t.len())?;

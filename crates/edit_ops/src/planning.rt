@@ -7,6 +7,8 @@ ghost use Rattle.clip_track.specs.Clips.{layout_cells};
 ghost use Rattle.pcm_base.specs.declared.block.BlockRef.{BlockRef};
 ghost use Rattle.edit_ops.specs.Plans.{AreWritten, IsPlan};
 ghost use Rattle.edit_ops.specs.Strips.{ItemsFrom};
+ghost use Rattle.block_sequence.specs.Room.{First};
+ghost use Rattle.clip_track.specs.Room.{strip_room};
 ghost use Rattle.clip_track.specs.Rough.{rough_items, ItemsShort};
 ghost use Rattle.edit_ops.specs.LaidClips as laid;
 
@@ -89,6 +91,7 @@ pub fn plan_strip(alloc: Global, strip: &Strip, m: u32, next: u64) -> Result<Pla
     ensures plan { IfOk result (λ p. (old : List BlockRef) (count : ℕ) → ItemsFrom old count strip.now → IsPlan m next old count p) }
     ensures cells { IfOk result (λ p. (src : Sources) → AreWritten src p.makes → layout_cells src p.layout ≡ trimmed (strip_cells src strip.now)) }
     ensures few_made { IfOk result (λ p. ItemsShort m strip.now → length p.makes ≤ 2 * rough_items m true true strip.now) }
+    ensures few_samples { IfOk result (λ p. m * length p.makes ≤ strip_room m First true strip.now) }
 {
     let clips = lay_strip(alloc, strip.as_slice(), m)?;
     Ok(name_clips(alloc, clips, m, next)?)

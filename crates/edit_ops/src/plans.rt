@@ -1,10 +1,11 @@
 // Plans of edits of one track whose range or place has been tested.
-ghost use Rattle.std.specs.Prelude.{◌≡◌, ◌+◌, ◌≤◌, ◌<◌, ◌^◌, [], ◌∷◌, ◌++◌, length, IfOk};
+ghost use Rattle.std.specs.Prelude.{◌≡◌, ◌+◌, ◌/◌, ◌≤◌, ◌<◌, ◌^◌, [], ◌∷◌, ◌++◌, length, IfOk};
 ghost use Rattle.pcm_base.specs.Edits as edit;
-ghost use Rattle.pcm_base.specs.Pieces.{stretch};
+ghost use Rattle.pcm_base.specs.Pieces.{Sources, stretch};
 ghost use Rattle.pcm_base.specs.Tests.{inserted_length};
-ghost use Rattle.clip_track.specs.Clips.{end_of, AllHalfFull};
+ghost use Rattle.clip_track.specs.Clips.{end_of, layout_cells, AllHalfFull};
 ghost use Rattle.edit_ops.specs.Changes.{cell_change};
+ghost use Rattle.edit_ops.specs.Counts.{sample_count, clip_count};
 ghost use Rattle.edit_ops.specs.Plans.{IsPlan, Means, layout_blocks};
 
 use super::changing::Change;
@@ -98,6 +99,8 @@ pub fn plan_with_change(
     requires rising { from ≤ to }
     ensures plan { IfOk result (λ p. IsPlan m next (layout_blocks t.now) 0 p) }
     ensures cells { IfOk result (λ p. Means (λ src. edit.changed (cell_change change) from to) t.now p) }
+    ensures few_made { IfOk result (λ p. (src : Sources) →
+        let cells = edit.part from to (layout_cells src t.now) in length p.makes ≤ 8 + sample_count cells / m + clip_count cells) }
 {
     let whole = t.to_strip()?;
     let strip = strips::with_change(alloc, &whole, from, to, change)?;
@@ -119,6 +122,7 @@ pub fn plan_with_given(
     requires few { inserted_length at count (end_of 0 t.now) ≤ 2 ^ 32 }
     ensures plan { IfOk result (λ p. IsPlan m next (layout_blocks t.now) count p) }
     ensures cells { IfOk result (λ p. Means (λ src. edit.inserted at (edit.as_cells (stretch src.given 0 count))) t.now p) }
+    ensures few_made { IfOk result (λ p. length p.makes ≤ 8 + count / m) }
 {
     let whole = t.to_strip()?;
     let given = strips::all_given(alloc, count)?;

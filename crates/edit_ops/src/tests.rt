@@ -1,6 +1,7 @@
 // Edits over a map from ids to samples: worked cases by hand, and each edit against the plain one.
 mod disk;
 mod draws;
+mod named_blocks;
 mod plain;
 
 ghost use Rattle.std.specs.Prelude.{◌≤◌, ◌^◌, [], ◌∷◌, IfOk, IsTrue};

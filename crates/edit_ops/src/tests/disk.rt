@@ -89,6 +89,17 @@ impl Disk {
         Ok(whole)
     }
 
+    /// The ids of the blocks that were written, but for these, in the order in which they were.
+    pub fn ids_but(&self, alloc: Global, named: &[u64]) -> Result<Vec<u64>, NoMemory> {
+        let mut free = Vec::new(alloc);
+        for held in &self.blocks {
+            if !named.contains(&held.id) {
+                free.push(held.id)?;
+            }
+        }
+        Ok(free)
+    }
+
     pub fn cells_of_strip(&self, alloc: Global, strip: &Strip) -> Result<Vec<Cell>, NoMemory> {
         let mut cells = Vec::new(alloc);
         for item in strip.as_slice() {
@@ -116,9 +127,8 @@ impl Disk {
     }
 }
 
-/// The ids of the blocks that a layout names, in order.
-pub fn ids(alloc: Global, layout: &Layout) -> Result<Vec<u64>, NoMemory> {
-    let strip = layout.to_strip()?;
+/// The ids of the blocks that a strip names as they are, in order.
+pub fn strip_ids(alloc: Global, strip: &Strip) -> Result<Vec<u64>, NoMemory> {
     let mut ids = Vec::new(alloc);
     for item in strip.as_slice() {
         if let Item::Sound { piece } = item {
@@ -128,4 +138,10 @@ pub fn ids(alloc: Global, layout: &Layout) -> Result<Vec<u64>, NoMemory> {
         }
     }
     Ok(ids)
+}
+
+/// The ids of the blocks that a layout names, in order.
+pub fn ids(alloc: Global, layout: &Layout) -> Result<Vec<u64>, NoMemory> {
+    let strip = layout.to_strip()?;
+    strip_ids(alloc, &strip)
 }

@@ -3,6 +3,7 @@ use Rattle.std.proofs.Common.{List, sym, subst, ap, ◌∙◌, filter}
 use Rattle.pcm_base.specs.Pieces.{all_samples}
 use Rattle.block_sequence.proofs.HalfFull.{AllValid-filter, AllFit-filter, total-filter, samples-filter, IsHalfFull-fused}
 use Rattle.block_sequence.proofs.Count.{count_fused}
+use Rattle.block_sequence.proofs.Room.{room_fused}
 use Rattle.block_sequence.proofs.Rule.{laid_out}
 use Rattle.block_sequence.specs.Fuse.{is_not_empty}
 use Rattle.pcm_base.specs.declared.piece.Piece.{Piece}
@@ -29,6 +30,9 @@ returns-clause-half_full c = rw (c.in_ok-lay_apart.ensures.parts, c.as_slice.ens
 
 pub returns-clause-few_made : goal.returns-clause-few_made
 returns-clause-few_made c s = rw (c.in_ok-lay_apart.ensures.parts, c.as_slice.ensures.value, c.in_ok-kept.ensures) (count_fused c.args.m c.args.pieces.now c.requires.some s)
+
+pub returns-clause-few_samples : goal.returns-clause-few_samples
+returns-clause-few_samples c = rw (c.in_ok-lay_apart.ensures.parts, c.as_slice.ensures.value, c.in_ok-kept.ensures) (room_fused c.args.m c.args.pieces.now c.requires.some)
 
 pub returns-clause-rule : goal.returns-clause-rule
 returns-clause-rule c = rw (c.in_ok-lay_apart.ensures.parts, c.as_slice.ensures.value, c.in_ok-kept.ensures) (

@@ -59,5 +59,10 @@ pub returns-in_ok-push-clause-few_made : goal.returns-in_ok-push-clause-few_made
 returns-in_ok-push-clause-few_made c s =
     rw c.in_ok-push.ensures.items (omega (arith, made_clips-push c.args.out.now.items (new_clip c), c.in_ok-laid.ensures.few_made s))
 
+pub returns-in_ok-push-clause-few_samples : goal.returns-in_ok-push-clause-few_samples
+returns-in_ok-push-clause-few_samples c =
+    let e = made_clips-push c.args.out.now.items (new_clip c) in
+    rw (c.in_ok-push.ensures.items, e) (omega (arith, c.in_ok-laid.ensures.few_samples))
+
 pub returns-in_ok-push-clause-origin : goal.returns-in_ok-push-clause-origin
 returns-in_ok-push-clause-origin c old count f g = rw c.in_ok-push.ensures.items (ClipsFrom-push old count c.args.out.now.items (new_clip c) g (c.in_ok-laid.ensures.from old count f))

@@ -10,6 +10,8 @@ use Rattle.pcm_base.specs.declared.piece.Piece.{Piece}
 use Rattle.pcm_base.proofs.Pieces.{total-append, AllValid-append, AllFit-append}
 use Rattle.edit_ops.specs.LaidClips as clips
 use Rattle.block_sequence.specs.Fuse.{AllShort, rough}
+use Rattle.block_sequence.specs.Room.{clip_room}
+use Rattle.clip_track.specs.Room.{room_from}
 use Rattle.clip_track.specs.Rough.{rough_from, ItemsShort}
 use Rattle.edit_ops.proofs.LaidLists.{AllShort-append, gap_cells, sound_cells, ended_cells}
 use Rattle.block_sequence.specs.Origins.{AllFrom}
@@ -53,6 +55,13 @@ loop-item-preserved c =
                 let o = ap (rough c.args.m) w.as_slice.ensures.value in
                 let T : List Item → Type 0 = ItemsShort c.args.m in
                 (tt, (subst T d f.1).1, omega (arith, f.2, e, k, o));
+            few_samples = omega (
+              arith,
+              inv.few_samples,
+              ap (room_from c.args.m c.loop-item.held.items) d,
+              ap (clip_room c.args.m) w.as_slice.ensures.value,
+              w.in_ok-close-in-Gap.ensures.few_samples,
+            );
             cells = λ src. gap_cells (clips.laid_cells src 0 w.close.new.out.items) _ _ w.in-Gap.len _ (strip_cells src rest) _
                 (omega (arith, w.in_ok-close-in-Gap.ensures.end))
                 (w.in_ok-close-in-Gap.ensures.cells src)
@@ -88,6 +97,7 @@ loop-item-preserved c =
                 let T : List Item → Type 0 = ItemsShort c.args.m in
                 let g = subst T d f.1 in
                 (AllShort-append c.args.m c.loop-item.held.items (p ∷ []) f.0 ((ok.0.0, g.0), tt), g.1, omega (arith, f.2, e));
+            few_samples = omega (arith, inv.few_samples, ap (room_from c.args.m c.loop-item.held.items) d);
             cells = λ src. sound_cells src _ c.loop-item.held.items p (strip_cells src rest) _ (
                 ap (λ (xs : List Item). clips.laid_cells src 0 c.loop-item.out.items ++ replicate (c.loop-item.start - clips.laid_end 0 c.loop-item.out.items) cell.Gap ++ map cell.Sample (all_samples src c.loop-item.held.items) ++ strip_cells src xs) (sym d)
                 ∙ inv.cells src);

@@ -4,6 +4,7 @@ use Rattle.pcm_base.specs.declared.sound.Cell.TheVariants as cell
 use Rattle.pcm_base.specs.Pieces.{Sources, total, all_samples, AllValid, AllFit}
 use Rattle.clip_track.specs.Items.{ItemsFit, AreItems, strip_len, strip_cells}
 use Rattle.block_sequence.specs.Fuse.{AllShort}
+use Rattle.clip_track.specs.Room.{room_from}
 use Rattle.clip_track.specs.Rough.{rough_from, ItemsShort}
 use Rattle.pcm_base.specs.declared.block.BlockRef.{BlockRef}
 use Rattle.block_sequence.specs.Origins.{AllFrom}
@@ -25,6 +26,7 @@ invariant-loop-item l = record {
       → AllFrom old count l.held.items × ItemsFrom old count (drop l.item-index l.items) × clips.ClipsFrom old count l.out.items;
   few_made : ItemsShort l.m l.items → AllShort l.m l.held.items × ItemsShort l.m (drop l.item-index l.items)
       × (clips.made_clips l.out.items + 2 * rough_from l.m l.held.items (drop l.item-index l.items) ≤ 2 * rough_from l.m [] l.items);
+  few_samples : l.m * clips.made_clips l.out.items + room_from l.m l.held.items (drop l.item-index l.items) ≤ room_from l.m [] l.items;
   cells : (src : Sources) → clips.laid_cells src 0 l.out.items ++ replicate (l.start - clips.laid_end 0 l.out.items) cell.Gap ++ map cell.Sample (all_samples src l.held.items) ++ strip_cells src (drop l.item-index l.items)
       ≡ strip_cells src l.items;
 }

@@ -1,12 +1,15 @@
 -- The goals of `plan_strip` that the search leaves open.
-use Rattle.std.proofs.Common.{◌+◌, List, [], length, sym, ap, subst, ◌∙◌, arith}
+use Rattle.std.proofs.Common.{◌≡◌, ◌+◌, List, [], length, sym, ap, subst, ◌∙◌, arith}
 use Rattle.pcm_base.specs.Cells.{trimmed}
 use Rattle.clip_track.specs.declared.items.Item.{Item}
 use Rattle.clip_track.specs.Items.{strip_cells}
 use Rattle.clip_track.specs.Clips.{layout_cells}
+use Rattle.clip_track.specs.Room.{room_from}
 use Rattle.clip_track.specs.Rough.{rough_from, ItemsShort}
+use Rattle.clip_track.proofs.RoomClips.{room_from_le}
 use Rattle.clip_track.proofs.RoughStrips.{rough_from_le}
 use Rattle.edit_ops.specs.declared.types.NewBlock.{NewBlock}
+use Rattle.edit_ops.specs.LaidClips.{clips_new_blocks, made_clips}
 use Rattle.edit_ops.specs.Plans.{AreWritten}
 use Rattle.edit_ops.specs.Strips.{ItemsFrom}
 use Rattle.edit_ops.proofs.Named.{AllHalfFull-named, cells_named, clips_next_counts, count_clips_new, AreNew-clips, AllNewFrom-clips, old_or_new_clips}
@@ -44,3 +47,10 @@ returns-clause-few_made c h =
     let few = c.in_ok-clips.ensures.few_made (subst T (sym c.as_slice.ensures.value) h) in
     let same = ap (rough_from c.args.m []) c.as_slice.ensures.value in
     rw c.in_ok-name_clips.ensures.makes (omega (arith, count_clips_new c.args.next clips, few, same, rough_from_le c.args.m c.args.strip.now))
+
+pub returns-clause-few_samples : goal.returns-clause-few_samples
+returns-clause-few_samples c =
+    let m = c.args.m in
+    let clips = c.in_ok-clips.clips.items in
+    let e : length (clips_new_blocks c.args.next clips) ≡ made_clips clips = count_clips_new c.args.next clips in
+    rw (c.in_ok-name_clips.ensures.makes, e) (omega (arith, c.in_ok-clips.ensures.few_samples, ap (room_from m []) c.as_slice.ensures.value, room_from_le m c.args.strip.now))

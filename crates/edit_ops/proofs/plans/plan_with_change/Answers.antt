@@ -1,14 +1,18 @@
 -- The goals of `plan_with_change` that the search leaves open.
-use Rattle.std.proofs.Common.{◌++◌, List, take, drop, map, sym, ap, subst, ◌∙◌}
+use Rattle.std.proofs.Common.{◌+◌, ◌*◌, ◌/◌, ◌≤◌, true, ◌++◌, List, length, take, drop, map, sym, ap, subst, ◌∙◌, arith}
 use Rattle.pcm_base.specs.declared.sound.Cell.{Cell}
 use Rattle.pcm_base.specs.Cells.{trimmed}
 use Rattle.pcm_base.specs.Edits.{part}
 use Rattle.clip_track.specs.declared.items.Item.{Item}
 use Rattle.clip_track.specs.Items.{strip_cells}
+use Rattle.block_sequence.specs.Room.{First}
+use Rattle.clip_track.specs.Room.{strip_room}
 use Rattle.edit_ops.specs.Changes.{cell_change}
+use Rattle.edit_ops.specs.Counts.{sample_count, clip_count}
 use Rattle.edit_ops.specs.Plans.{layout_blocks}
-use Rattle.edit_ops.specs.Strips.{AllOld, ItemsFrom}
+use Rattle.edit_ops.specs.Strips.{AllOld, ItemsFrom, with_change}
 use Rattle.edit_ops.proofs.ChangedItems.{AllOld-items}
+use Rattle.edit_ops.proofs.Roomy.{Smooth, few_changed}
 use Rattle.edit_ops.proofs.StripCells.{cells_with_change}
 use Rattle.edit_ops.proofs.Tame.{fit_change, from_change, ItemsFrom-layout}
 use Rattle.edit_ops.proofs.plans.plan_with_change.Goals as goal
@@ -31,3 +35,18 @@ returns-clause-cells c src w =
     ∙ ap trimmed (ap (strip_cells src) c.in_ok-strip.ensures.items
     ∙ cells_with_change src c.args.change c.args.from c.args.to c.in_ok-whole.whole o
     ∙ ap (λ (cells : List Cell). take c.args.from cells ++ map (cell_change c.args.change) (part c.args.from c.args.to cells) ++ drop c.args.to cells) (c.in_ok-whole.ensures.cells src))
+
+pub returns-clause-few_made : goal.returns-clause-few_made
+returns-clause-few_made c src =
+    let w = c.in_ok-whole.ensures in
+    let h = c.requires.half_full in
+    let m = c.args.m in
+    let from = c.args.from in
+    let to = c.args.to in
+    let whole = c.in_ok-whole.whole in
+    let k = length c.in_ok-plan_strip.field-0.makes in
+    let smooth : Smooth m whole = record { items_ok = w.ok; short = w.short m h; smooth = w.smooth m h } in
+    let few : m * k ≤ strip_room m First true (with_change c.args.change from to whole) =
+    omega (arith, c.in_ok-plan_strip.ensures.few_samples, ap (strip_room m First true) c.in_ok-strip.ensures.items) in
+    let P : List Cell → Type 0 = λ cells. k ≤ 8 + sample_count (part from to cells) / m + clip_count (part from to cells) in
+    subst P (w.cells src) (few_changed m k from to c.args.change src whole c.requires.some smooth few)

@@ -1,11 +1,14 @@
 -- The goals of `plan_with_given` that the search leaves open.
-use Rattle.std.proofs.Common.{◌++◌, List, take, drop, sym, ap, ap₂, subst, ◌∙◌, arith}
+use Rattle.std.proofs.Common.{◌*◌, ◌≤◌, true, ◌++◌, List, length, take, drop, sym, ap, ap₂, subst, ◌∙◌, arith}
 use Rattle.pcm_base.specs.declared.sound.Cell.{Cell}
 use Rattle.pcm_base.specs.Cells.{trimmed, continued}
 use Rattle.clip_track.specs.declared.items.Item.{Item}
 use Rattle.clip_track.specs.Items.{strip_cells, strip_len, ItemsFit}
+use Rattle.block_sequence.specs.Room.{First}
+use Rattle.clip_track.specs.Room.{strip_room}
 use Rattle.edit_ops.specs.Plans.{layout_blocks}
-use Rattle.edit_ops.specs.Strips.{ItemsFrom}
+use Rattle.edit_ops.specs.Strips.{ItemsFrom, given_items, with_inserted}
+use Rattle.edit_ops.proofs.Roomy.{Smooth, few_inserted}
 use Rattle.edit_ops.proofs.StripCells.{cells_with_inserted, cells_given}
 use Rattle.edit_ops.proofs.Tame.{fit_inserted, from_inserted, given_fit, given_from, given_len, ItemsFrom-layout}
 use Rattle.edit_ops.proofs.plans.plan_with_given.Goals as goal
@@ -42,3 +45,16 @@ returns-clause-cells c src w =
     ∙ ap₂ (λ (cells : List Cell) (ys : List Cell). take c.args.at (continued c.args.at cells) ++ ys ++ drop c.args.at cells)
     (c.in_ok-whole.ensures.cells src)
     (ap (strip_cells src) c.in_ok-given.ensures ∙ cells_given src c.args.count))
+
+pub returns-clause-few_made : goal.returns-clause-few_made
+returns-clause-few_made c =
+    let w = c.in_ok-whole.ensures in
+    let h = c.requires.half_full in
+    let m = c.args.m in
+    let whole = c.in_ok-whole.whole in
+    let k = length c.in_ok-plan_strip.field-0.makes in
+    let smooth : Smooth m whole = record { items_ok = w.ok; short = w.short m h; smooth = w.smooth m h } in
+    let same = c.in_ok-strip.ensures.items ∙ ap (λ (ys : List Item). with_inserted c.args.at ys whole) c.in_ok-given.ensures in
+    let few : m * k ≤ strip_room m First true (with_inserted c.args.at (given_items c.args.count) whole) =
+    omega (arith, c.in_ok-plan_strip.ensures.few_samples, ap (strip_room m First true) same) in
+    few_inserted m k c.args.count c.args.at whole c.requires.some smooth few

@@ -1,0 +1,91 @@
+// How many blocks edits make, and which ones nothing names any more: figures by hand, at block size 4.
+ghost use Rattle.std.specs.Prelude.{IfOk};
+ghost use Rattle.clip_track.specs.Clips.{AllHalfFull};
+
+use super::disk::{Disk, ids, strip_ids};
+use super::plain::Edit;
+use super::{draws, plan_of, track};
+use crate::{Strips, copy, cut};
+use clip_track::Layout;
+use pcm_base::{NoMemory, Refusal};
+use std::alloc::Global;
+use std::test::Fail;
+
+/// Clips at the cells 0 to 4, 7 to 15, and 20 to 21, in the blocks 16 and 17, then 18 to 20, then 21.
+fn three_clips(alloc: Global) -> Result<Layout, Refusal>
+    ensures { IfOk result (λ t. AllHalfFull 4 t) }
+{
+    let none = Layout::new(alloc);
+    let first = plan_of(alloc, &none, Edit::Insert(0), &[1, 2, 3, 4, 5], 16)?;
+    let nine = [11, 12, 13, 14, 15, 16, 17, 18, 19];
+    let second = plan_of(alloc, &first.layout, Edit::Insert(7), &nine, 18)?;
+    let third = plan_of(alloc, &second.layout, Edit::Insert(20), &[21, 22], 21)?;
+    Ok(third.layout)
+}
+
+#[test]
+fn few_blocks_are_made(rt: HostRuntime) -> Result<(), Fail> {
+    let alloc = rt.alloc();
+    let t = three_clips(alloc)?;
+    assert!(rt; ids(alloc, &t)?.as_slice() == [16u64, 17, 18, 19, 20, 21].as_slice());
+    // Of the cells 4 to 20, 11 are samples, in 3 clips: at most 8 + 11 / 4 + 3 = 13 new blocks. The clips give 1, 3
+    // and 1: 2 samples from cell 3 on, 9, and 2.
+    let plan = plan_of(alloc, &t, Edit::Gain(4, 21, 98_304), &[], 22)?;
+    assert!(rt; ids(alloc, &plan.layout)?.as_slice() == [16u64, 22, 23, 24, 25, 26].as_slice());
+    assert_eq!(rt; plan.next, 27);
+    let plan = plan_of(alloc, &t, Edit::Silence(4, 21), &[], 22)?;
+    assert_eq!(rt; plan.next, 27);
+    // 22 samples within block 17: at most 8 + 22 / 4 = 13 new blocks. There are 6, for 1 + 22 + 1 samples.
+    let given = draws::rising(alloc, 22)?;
+    let plan = plan_of(alloc, &t, Edit::Insert(4), given.as_slice(), 22)?;
+    let want = [16u64, 22, 23, 24, 25, 26, 27, 18, 19, 20, 21];
+    assert!(rt; ids(alloc, &plan.layout)?.as_slice() == want.as_slice());
+    assert_eq!(rt; plan.next, 28);
+    Ok(())
+}
+
+/// The blocks that neither the track nor the clipboard names.
+fn free_ids(
+    alloc: Global,
+    disk: &Disk,
+    t: &Layout,
+    clipboard: &Strips,
+) -> Result<Vec<u64>, NoMemory> {
+    let mut named = ids(alloc, t)?;
+    for strip in clipboard.as_slice() {
+        named.extend_from_slice(strip_ids(alloc, strip)?.as_slice())?;
+    }
+    disk.ids_but(alloc, named.as_slice())
+}
+
+#[test]
+fn blocks_come_free(rt: HostRuntime) -> Result<(), Fail> {
+    let alloc = rt.alloc();
+    let mut disk = Disk::new(alloc);
+    let none = Strips::from_vec(Vec::new(alloc));
+    let samples = draws::rising(alloc, 16)?;
+    let t = track(alloc, &mut disk, samples.as_slice(), 16)?.layout;
+    assert!(rt; ids(alloc, &t)?.as_slice() == [16u64, 17, 18, 19].as_slice());
+    assert!(rt; free_ids(alloc, &disk, &t, &none)?.is_empty());
+    // One sample of block 17 and one of block 18 are left, in block 20.
+    let plan = plan_of(alloc, &t, Edit::Delete(5, 11), &[], 20)?;
+    assert!(rt; disk.write(alloc, &plan.makes, &[])?);
+    assert!(rt; ids(alloc, &plan.layout)?.as_slice() == [16u64, 20, 19].as_slice());
+    assert!(rt; free_ids(alloc, &disk, &plan.layout, &none)?.as_slice() == [17u64, 18].as_slice());
+    // Two samples of block 16 and two of block 19 are left, in block 21. The clipboard names both, and block 20.
+    let run = vec![in alloc; plan.layout]?;
+    let (clipboard, plans) = cut(alloc, run.as_slice(), 1, 2, 8, 4, 21)?;
+    for plan in plans.as_slice() {
+        let t = &plan.layout;
+        assert!(rt; disk.write(alloc, &plan.makes, &[])?);
+        assert!(rt; ids(alloc, t)?.as_slice() == [21u64].as_slice());
+        assert!(rt; free_ids(alloc, &disk, t, &clipboard)?.as_slice() == [17u64, 18].as_slice());
+        // What is copied next takes the clipboard's place, and is of block 21.
+        let run = vec![in alloc; t.copy()?]?;
+        let clipboard = copy(alloc, run.as_slice(), 1, 0, 2)?;
+        let want = [16u64, 17, 18, 19, 20];
+        assert!(rt; free_ids(alloc, &disk, t, &clipboard)?.as_slice() == want.as_slice());
+    }
+    assert_eq!(rt; plans.as_slice().len(), 1);
+    Ok(())
+}
