@@ -1,11 +1,12 @@
 // How many blocks edits make, and which ones nothing names any more: figures by hand, at block size 4.
-ghost use Rattle.std.specs.Prelude.{IfOk};
+ghost use Rattle.std.specs.Prelude.{◌≤◌, ◌^◌, IfOk};
 ghost use Rattle.clip_track.specs.Clips.{AllHalfFull};
+ghost use Rattle.edit_ops.specs.Runs.{AllTracksHalfFull};
 
 use super::disk::{Disk, ids, strip_ids};
 use super::plain::Edit;
-use super::{draws, plan_of, track};
-use crate::{Strips, copy, cut};
+use super::{are_small, draws, mean, plan_of, track};
+use crate::{Plans, Strips, copy, cut, paste};
 use clip_track::Layout;
 use pcm_base::{NoMemory, Refusal};
 use std::alloc::Global;
@@ -87,5 +88,61 @@ fn blocks_come_free(rt: HostRuntime) -> Result<(), Fail> {
         assert!(rt; free_ids(alloc, &disk, t, &clipboard)?.as_slice() == want.as_slice());
     }
     assert_eq!(rt; plans.as_slice().len(), 1);
+    Ok(())
+}
+
+/// A run of one track of some samples, whose blocks have the ids from `next` on.
+fn one_track(
+    alloc: Global,
+    disk: &mut Disk,
+    samples: &[i16],
+    next: u64,
+) -> Result<Vec<Layout>, Fail>
+    ensures { IfOk result (λ v. AllTracksHalfFull 4 v.items) }
+{
+    let plan = track(alloc, disk, samples, next)?;
+    Ok(vec![in alloc; plan.layout]?)
+}
+
+/// The first two cells of a track, put in front of another one.
+fn front_pasted(alloc: Global, run: &[Layout], onto: &[Layout], next: u64) -> Result<Plans, Refusal>
+    requires half_full { AllTracksHalfFull 4 run.now }
+    requires half_full_onto { AllTracksHalfFull 4 onto.now }
+    requires room { next ≤ 2 ^ 62 }
+{
+    let clip = copy(alloc, run, 1, 0, 2)?;
+    if !are_small(0, clip.as_slice(), onto) {
+        return Err(Refusal::NoMemory);
+    }
+    paste(alloc, onto, Some(&clip), 0, 4, next)
+}
+
+#[test]
+fn a_cut_is_put_back(rt: HostRuntime) -> Result<(), Fail> {
+    let alloc = rt.alloc();
+    let mut disk = Disk::new(alloc);
+    let five = one_track(alloc, &mut disk, &[1, 2, 3, 4, 5], 16)?;
+    // The rest of block 16 is too short, and takes in block 17. The clipboard names block 16.
+    let (clipboard, plans) = cut(alloc, five.as_slice(), 1, 0, 2, 4, 18)?;
+    assert!(rt; mean(alloc, &mut disk, &plans, &[&[3, 4, 5]], &[&[18]])?);
+    assert!(rt; disk.samples(18) == [3i16, 4, 5].as_slice());
+    for plan in plans.as_slice() {
+        assert!(rt;
+            free_ids(alloc, &disk, &plan.layout, &clipboard)?.as_slice() == [17u64].as_slice()
+        );
+    }
+    let rest = one_track(alloc, &mut disk, &[3, 4, 5], 18)?;
+    let plans = front_pasted(alloc, five.as_slice(), rest.as_slice(), 19)?;
+    assert!(rt; mean(alloc, &mut disk, &plans, &[&[1, 2, 3, 4, 5]], &[&[19, 18]])?);
+    assert!(rt; disk.samples(19) == [1i16, 2].as_slice());
+    let none = Strips::from_vec(Vec::new(alloc));
+    for plan in plans.as_slice() {
+        assert!(rt;
+            free_ids(alloc, &disk, &plan.layout, &clipboard)?.as_slice() == [17u64].as_slice()
+        );
+        assert!(rt;
+            free_ids(alloc, &disk, &plan.layout, &none)?.as_slice() == [16u64, 17].as_slice()
+        );
+    }
     Ok(())
 }
