@@ -69,3 +69,9 @@ built_next numbers i disk old new x was is sets =
   where
     below : (k : ℕ) → k < i + 1 → (k < i) ⊎ (k ≡ i)
     below k lt = ⊎_elim (λ e. inr e) (λ ne. inl (omega arith)) (cases_eq k i)
+
+-- the same of histories that are known by equations
+pub sets_written : (file : ℕ) (v : List ℕ) (was removed wrote now : List Step) → removed ≡ Removed file ∷ was → wrote ≡ Wrote file 0 v ∷ removed → now ≡ Synced file ∷ wrote → SetsFile file (Some v) was now
+sets_written file v was removed wrote now one two three =
+    let whole : now ≡ Synced file ∷ Wrote file 0 v ∷ Removed file ∷ was = three ∙ ap (λ (h : List Step). Synced file ∷ h) (two ∙ ap (λ (h : List Step). Wrote file 0 v ∷ h) one) in
+    subst (λ (h : List Step). SetsFile file (Some v) was h) (sym whole) (sets_some file v was)

@@ -10,3 +10,9 @@ mod LeftCalls
 mod Rising
 mod Builds
 mod Names
+mod HeadLists
+mod Chains
+mod Noted
+mod ReadChain
+mod Grown
+mod Places

@@ -1,12 +1,14 @@
 -- Files that no call wrote or removed.
-use Rattle.std.proofs.Common.{◌≡◌, ◌≢◌, ⊎_elim, ℕ, ◌<◌, Option, None, List, ◌∷◌, length, get_or, refl, sym, ◌∙◌, ap, subst, arith, true, false}
+use Rattle.std.proofs.Common.{◌≡◌, ◌≢◌, ⊎_elim, ℕ, ◌+◌, ◌<◌, Option, None, List, ◌∷◌, length, get_or, refl, sym, ◌∙◌, ap, subst, arith, true, false}
 use Rattle.std.proofs.lemmas.Bool.{cases_eq}
 use Rattle.std.specs.Prelude.{Contains}
+use Rattle.std.specs.List.Sorted.{IsStrictlyIncreasing, IsStrictlySortedBy}
 use Rattle.std.specs.Ordering.{nat_cmp}
 use Rattle.std.specs.BTreeSet.{BTreeSet, contains, Updates}
 use Rattle.std.proofs.lemmas.Bool.Decides.{nat_tests}
 use Rattle.std.proofs.lemmas.Grind.{common_steps}
 use Rattle.std.proofs.lemmas.List.{get_or_default}
+use Rattle.std.proofs.lemmas.Map.Keys.{below_from_sorted}
 use Rattle.std.proofs.lemmas.Map.Views.{btree_set_contains_iff}
 use Rattle.std.proofs.lemmas.Map.Lookups.{exact_unsigned}
 use Rattle.std.proofs.lemmas.Cmp.{nat_cmp_total}
@@ -78,3 +80,7 @@ built_all s numbers disk new is none built = λ i f. each f i
           | true ↦ λ is_there. found f (subst (λ (l : List ℕ). Contains l f) (sym is) (both.0 is_there))
           | false ↦ λ absent. built.absent f (missing f absent) ∙ sym (none f absent)
         ] refl
+
+-- the keys of a set rise
+pub keys_rise : (out keys : List ℕ) → out ≡ keys → IsStrictlySortedBy nat_cmp keys → IsStrictlyIncreasing out
+keys_rise out keys is ordered = subst IsStrictlyIncreasing (sym is) (λ k lt. below_from_sorted keys k (k + 1) 0 ordered (omega arith) lt)

@@ -8,3 +8,4 @@ pub mod Faults
 pub mod Settled
 pub mod Moment
 pub mod MomentLaws
+pub mod Index

@@ -11,7 +11,6 @@ ghost use Rattle.disk_model.specs.Settled.{IsSettled, IsBuilt, SetsFile};
 use crate::call::{Call, Kind};
 use crate::draws::Draws;
 use crate::image::file_image;
-use crate::listing::copy_numbers;
 use crate::record::{note_mark, note_write};
 use std::alloc::{AllocError, Global};
 use std::collections::BTreeSet;
@@ -39,6 +38,18 @@ pub(crate) fn build(
     copy_numbers(&there, &mut numbers)?;
     let parts = build_all(alloc, calls, row, &numbers, choice)?;
     Ok(parts)
+}
+
+// Copies them, rising.
+fn copy_numbers(there: &BTreeSet<u64>, out: &mut Vec<u64>) -> Result<(), AllocError>
+    ensures items { OnOk result (out.new.items ≡ there.now.keys) }
+    ensures rising { OnOk result (IsStrictlyIncreasing out.new.items) }
+{
+    out.clear();
+    for file in there.iter() {
+        out.push(*file)?;
+    }
+    Ok(())
 }
 
 // Builds these files, rising. No other has a draw.

@@ -8,8 +8,11 @@
 
 mod build;
 mod call;
+mod chain;
 mod draws;
+mod heads;
 mod image;
+mod index;
 mod listing;
 mod log;
 mod overlay;

@@ -1,7 +1,7 @@
 -- The keys rise.
 use Rattle.std.proofs.Common.{◌≡◌, rules}
-use Rattle.disk_model.proofs.Listings.{keys_rise}
-use Rattle.disk_model.proofs.listing.copy_numbers.Goals as goal
+use Rattle.disk_model.proofs.Names.{keys_rise}
+use Rattle.disk_model.proofs.build.copy_numbers.Goals as goal
 
 pub returns-clause-rising : goal.returns-clause-rising
 returns-clause-rising c =
