@@ -1,11 +1,11 @@
 -- One call more in the index.
-use Rattle.std.proofs.Common.{◌≡◌, ◌≢◌, ◌⊎◌, inl, inr, ⊎_elim, ℕ, ◌+◌, ◌^◌, ◌≤◌, ◌<◌, eqb, cond, Option, Some, None, IfSome, List, [], ◌∷◌, ◌++◌, length, get_or, set, refl, sym, ◌∙◌, ap, subst, arith, length-append}
+use Rattle.std.proofs.Common.{◌≡◌, ◌≢◌, ⊎_elim, ℕ, ◌+◌, ◌^◌, ◌≤◌, ◌<◌, eqb, cond, Option, Some, None, IfSome, List, [], ◌∷◌, ◌++◌, length, get_or, set, refl, sym, ◌∙◌, ap, subst, arith, length-append}
 use Rattle.std.specs.Prelude.{IsSome}
 use Rattle.std.proofs.lemmas.Bool.{cases_eq, cases_lt, cond-true, cond-false, eq-eqb, ne_eqb}
 use Rattle.std.proofs.lemmas.List.{get_or-set_same, get_or-set_other, get_or_append_left, length-set}
 use Rattle.std.specs.Option.{option_map}
 use Rattle.disk_model.specs.Disk.{Files}
-use Rattle.disk_model.specs.Index.{AreRising, LeadsTo, IsChain, IsHead, IsIndexed, MakesFile, head_of, size_from}
+use Rattle.disk_model.specs.Index.{AreRising, LeadsTo, IsChain, IsHead, IsIndexed, head_of, size_from}
 use Rattle.disk_model.specs.declared.heads.Head.{Head}
 
 module _ (reads : ℕ → Files) (file_of : ℕ → ℕ) (n : ℕ) where

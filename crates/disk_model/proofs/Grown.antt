@@ -1,14 +1,14 @@
 -- An index while its list of calls grows.
-use Rattle.std.proofs.Common.{◌≡◌, ◌≢◌, ℕ, zero, suc, ◌+◌, ◌-◌, ◌≤◌, ◌<◌, Option, None, Result, Ok, Err, List, [], ◌∷◌, ◌++◌, length, take, drop, get_or, refl, sym, ◌∙◌, ap, subst, arith}
+use Rattle.std.proofs.Common.{◌≡◌, ◌≢◌, ℕ, zero, suc, ◌+◌, ◌≤◌, ◌<◌, Option, None, Result, Ok, Err, List, [], ◌∷◌, ◌++◌, length, take, drop, get_or, refl, sym, ◌∙◌, ap, subst, arith}
 use Rattle.std.specs.Prelude.{IsSome, IsOk, OnOk}
 use Rattle.std.specs.Option.{option_map}
 use Rattle.std.proofs.lemmas.Bool.{false≢true}
-use Rattle.std.proofs.lemmas.List.{take_all, take-append-drop, get_or-take}
+use Rattle.std.proofs.lemmas.List.{take-append-drop, get_or-take}
 use Rattle.disk_model.specs.Disk.{Files}
 use Rattle.disk_model.specs.History.{Step, reads_of}
 use Rattle.disk_model.specs.Histories.{reads_removed}
 use Rattle.disk_model.specs.Calls.{AllHeld, step_by, history_of}
-use Rattle.disk_model.specs.Index.{LeadsTo, IsChain, IsHead, IsIndexed, MakesFile, reads_at, file_at, no_call}
+use Rattle.disk_model.specs.Index.{IsChain, IsIndexed, MakesFile, reads_at, file_at, no_call}
 use Rattle.disk_model.specs.declared.call.Kind.{Kind}
 use Rattle.disk_model.specs.declared.call.Kind.TheVariants.{Write, Sync, Remove}
 use Rattle.disk_model.specs.declared.call.Call.{Call}

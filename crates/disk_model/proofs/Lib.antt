@@ -16,3 +16,4 @@ mod Noted
 mod ReadChain
 mod Grown
 mod Places
+mod FileCalls

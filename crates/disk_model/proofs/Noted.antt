@@ -4,7 +4,7 @@ use Rattle.std.specs.Prelude.{IsSome}
 use Rattle.std.specs.Option.{option_map}
 use Rattle.disk_model.specs.History.{Step, reads_of}
 use Rattle.disk_model.specs.Histories.{reads_elsewhere, elsewhere_removed}
-use Rattle.disk_model.specs.Calls.{AllHeld, Held, step_by, step_of, history_of}
+use Rattle.disk_model.specs.Calls.{step_by, step_of, history_of}
 use Rattle.disk_model.specs.Index.{AreRising, IsIndexed, MakesFile, reads_at, file_at, no_call, head_of, size_from}
 use Rattle.disk_model.specs.declared.call.Kind.{Kind}
 use Rattle.disk_model.specs.declared.call.Kind.TheVariants.{Write, Sync, Remove}

@@ -1,6 +1,6 @@
 -- Room for a file that a write makes.
-use Rattle.std.proofs.Common.{◌≡◌, ◌≢◌, ◌⊎◌, inl, inr, ⊎_elim, ℕ, ◌+◌, ◌-◌, ◌≤◌, ◌<◌, Option, Some, None, List, length, refl, sym, ◌∙◌, ap, subst, arith}
-use Rattle.std.specs.Prelude.{IsSome, IsNone, is_some}
+use Rattle.std.proofs.Common.{◌≡◌, ◌≢◌, inr, ⊎_elim, ℕ, ◌+◌, ◌≤◌, Option, Some, None, List, length, refl, sym, ◌∙◌, ap, subst, arith}
+use Rattle.std.specs.Prelude.{IsSome, IsNone}
 use Rattle.std.specs.Option.{option_map}
 use Rattle.disk_model.specs.History.{reads_of}
 use Rattle.disk_model.specs.Ram.{Log, IsFull, files_after}

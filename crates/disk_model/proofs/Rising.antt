@@ -12,7 +12,7 @@ pub state_first : (choice : ℕ) (h : List Step) → state_at choice h 0 ≡ cho
 unfolding state_at
 state_first choice h = refl
 
-state_next : (choice : ℕ) (h : List Step) (f : ℕ) → state_at choice h (f + 1) ≡ (left_of choice f h (state_at choice h f)).state
+pub state_next : (choice : ℕ) (h : List Step) (f : ℕ) → state_at choice h (f + 1) ≡ (left_of choice f h (state_at choice h f)).state
 unfolding state_at
 state_next choice h f =
     let step : state_at choice h (suc f) ≡ (left_of choice f h (state_at choice h f)).state = refl in

@@ -9,3 +9,4 @@ pub mod Settled
 pub mod Moment
 pub mod MomentLaws
 pub mod Index
+pub mod ByFile

@@ -5,9 +5,11 @@ ghost use Rattle.std.specs.Ordering.{nat_cmp};
 ghost use Rattle.std.specs.BTreeSet.{contains};
 ghost use Rattle.disk_model.specs.History.{Step, reads_of};
 ghost use Rattle.disk_model.specs.Images.{IsUnnamed, image_of};
+ghost use Rattle.disk_model.specs.ByFile.{IsByFile};
 ghost use Rattle.disk_model.specs.Calls.{AllHeld, step_of, history_of, items_of};
 ghost use Rattle.disk_model.specs.Settled.{IsSettled, IsBuilt, SetsFile};
 
+use crate::by_file::{by_file, file_calls};
 use crate::call::{Call, Kind};
 use crate::draws::Draws;
 use crate::image::file_image;
@@ -29,6 +31,19 @@ pub(crate) fn build(
     choice: u64,
 ) -> Result<Parts, AllocError>
     requires { AllHeld (length row.now) calls.now }
+    ensures held { IfOk result (λ p. AllHeld (length p.row.items) p.calls.items) }
+    ensures image { IfOk result (λ p. reads_of (history_of p.row.items p.calls.items) ≡ image_of choice (history_of row.now calls.now)) }
+    ensures settled { IfOk result (λ p. IsSettled (history_of p.row.items p.calls.items)) }
+{
+    let sorted = by_file(alloc, calls)?;
+    let parts = build_sorted(alloc, &sorted, row, choice)?;
+    Ok(parts)
+}
+
+// The same of calls that come file by file.
+fn build_sorted(alloc: Global, calls: &[Call], row: &[u8], choice: u64) -> Result<Parts, AllocError>
+    requires held { AllHeld (length row.now) calls.now }
+    requires by_file { IsByFile calls.now }
     ensures held { IfOk result (λ p. AllHeld (length p.row.items) p.calls.items) }
     ensures image { IfOk result (λ p. reads_of (history_of p.row.items p.calls.items) ≡ image_of choice (history_of row.now calls.now)) }
     ensures settled { IfOk result (λ p. IsSettled (history_of p.row.items p.calls.items)) }
@@ -61,6 +76,7 @@ fn build_all(
     choice: u64,
 ) -> Result<Parts, AllocError>
     requires held { AllHeld (length row.now) calls.now }
+    requires by_file { IsByFile calls.now }
     requires rising { IsStrictlyIncreasing numbers.now }
     requires others { (f : ℕ) → (Contains numbers.now f → ⊥) → IsUnnamed (history_of row.now calls.now) f }
     ensures held { IfOk result (λ p. AllHeld (length p.row.items) p.calls.items) }
@@ -73,7 +89,8 @@ fn build_all(
     let mut new_calls = Vec::new(alloc);
     let mut new_row = Vec::new(alloc);
     for file in numbers {
-        let content = file_image(alloc, calls, row, *file, &mut draws)?;
+        let own = file_calls(calls, *file);
+        let content = file_image(alloc, own, row, *file, &mut draws)?;
         set_file(&mut new_calls, &mut new_row, *file, content)?;
     }
     Ok(Parts {

@@ -7,6 +7,7 @@
 #![tactic(auto)]
 
 mod build;
+mod by_file;
 mod call;
 mod chain;
 mod draws;

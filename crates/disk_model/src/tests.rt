@@ -147,3 +147,72 @@ fn faults_are_counted(rt: HostRuntime) -> Result<(), Fail> {
     assert!(rt; store.faults() == 2 && store.change_faults() == 1);
     Ok(())
 }
+
+// Round r of four puts the byte 'a' + r at 2r into each of the files 0 to 49. After the second round 7 and 8 are removed,
+// and after the last 8 again; then 9 is synced and written in its middle.
+fn many_files(alloc: Global) -> Result<RamStore, Fail> {
+    let mut store = RamStore::new(alloc, 60, 300, 300, Numbers::new(Vec::new(alloc)))
+        .ok()
+        .ok_or("no memory")?;
+    for round in 0..4 {
+        for file in 0..50 {
+            store
+                .write_at(file, u64::from(round) * 2, &[b'a' + round])
+                .ok()
+                .ok_or("write")?;
+        }
+        if round == 1 {
+            store.remove(7).ok().ok_or("remove")?;
+            store.remove(8).ok().ok_or("remove")?;
+        }
+    }
+    store.remove(8).ok().ok_or("remove")?;
+    store.sync(9).ok().ok_or("sync")?;
+    store.write_at(9, 1, b"XY").ok().ok_or("write")?;
+    Ok(store)
+}
+
+// The contents of the files 0, 7, 8, 9 and 50.
+fn five_contents(alloc: Global, store: &mut RamStore) -> Result<Vec<u8>, Fail> {
+    let mut text = Vec::new(alloc);
+    for file in [0, 7, 8, 9, 50] {
+        add_content(store, file, &mut text)?;
+        text.push(b' ')?;
+    }
+    Ok(text)
+}
+
+// File 7 has no more what it had before its removal, and 8 is absent: each other file has four bytes with 0 between.
+#[test]
+fn a_file_among_many(rt: HostRuntime) -> Result<(), Fail> {
+    let mut store = many_files(rt.alloc())?;
+    let text = five_contents(rt.alloc(), &mut store)?;
+    let want = b"a\0b\0c\0d \0\0\0\0c\0d - aXY\0c\0d - ";
+    assert!(rt; text.as_slice() == want.as_slice());
+    assert!(rt; store.size(49).ok() == Some(Some(7)));
+    let mut window = [0; 3];
+    assert!(rt; store.read_at(9, 2, &mut window).ok() == Some(3));
+    assert!(rt; window.as_slice() == b"Y\0c".as_slice());
+    Ok(())
+}
+
+// All but file 8 are listed, and after a stop with nothing of what is pending file 9 alone, as it was synced.
+#[test]
+fn the_list_of_many(rt: HostRuntime) -> Result<(), Fail> {
+    let mut store = many_files(rt.alloc())?;
+    let mut numbers = Vec::new(rt.alloc());
+    let mut want = Vec::new(rt.alloc());
+    for file in 0..50 {
+        if file != 8 {
+            want.push(file)?;
+        }
+    }
+    assert!(rt; store.files(&mut numbers).is_ok());
+    assert!(rt; numbers.as_slice() == want.as_slice());
+    let mut left = store.image(rt.alloc(), 1).ok().ok_or("no memory")?;
+    assert!(rt; left.files(&mut numbers).is_ok());
+    assert!(rt; numbers.as_slice() == [9].as_slice());
+    let text = five_contents(rt.alloc(), &mut left)?;
+    assert!(rt; text.as_slice() == b"- - - a\0b\0c\0d - ".as_slice());
+    Ok(())
+}

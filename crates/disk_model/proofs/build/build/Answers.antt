@@ -1,18 +1,22 @@
--- The files that are named are all that the image has.
-use Rattle.std.proofs.Common.{◌∙◌, ap}
-use Rattle.disk_model.specs.Images.{Left, image_of, state_at}
-use Rattle.disk_model.specs.Calls.{history_of}
-use Rattle.disk_model.proofs.Names.{built_all, not_listed}
+-- Calls in order by file leave the same disk.
+use Rattle.std.proofs.Common.{List, length, sym, ◌∙◌, ap, subst}
+use Rattle.disk_model.specs.Images.{image_of}
+use Rattle.disk_model.specs.Calls.{AllHeld, history_of}
+use Rattle.disk_model.specs.ByFile.{IsByFile}
+use Rattle.disk_model.specs.declared.call.Call.{Call}
+use Rattle.disk_model.proofs.FileCalls.{image_alike}
 use Rattle.disk_model.proofs.build.build.Goals as goal
 
-pub build_all-requires-clause-others : goal.build_all-requires-clause-others
-build_all-requires-clause-others c = λ f out.
-    (c.in_ok-there.ensures f (not_listed c.in_ok-there.there c.deref.result.now f (c.deref.ensures.value ∙ c.in_ok-copy_numbers.ensures.items) out)).0
+pub build_sorted-requires-clause-held : goal.build_sorted-requires-clause-held
+build_sorted-requires-clause-held c = subst (λ (l : List Call). AllHeld (length c.args.row.now) l) (sym c.deref.ensures.value) (c.in_ok-sorted.ensures.held (length c.args.row.now) c.requires)
+
+pub build_sorted-requires-clause-by_file : goal.build_sorted-requires-clause-by_file
+build_sorted-requires-clause-by_file c = subst IsByFile (sym c.deref.ensures.value) c.in_ok-sorted.ensures.rising
 
 pub returns-clause-image : goal.returns-clause-image
 returns-clause-image c =
-    let h = history_of c.args.row.now c.args.calls.now in
-    let choice = c.args.choice in
-    built_all c.in_ok-there.there c.deref.result.now (image_of choice h) _ (c.deref.ensures.value ∙ c.in_ok-copy_numbers.ensures.items)
-    (λ f absent. ap (λ (left : Left). left.content) ((c.in_ok-there.ensures f absent).0 choice (state_at choice h f)))
-    c.in_ok-parts.ensures.built
+    let row = c.args.row.now in
+    let sorted = c.in_ok-sorted.sorted.items in
+    c.in_ok-parts.ensures.image
+    ∙ ap (λ (l : List Call). image_of c.args.choice (history_of row l)) c.deref.ensures.value
+    ∙ image_alike row sorted c.args.calls.now c.in_ok-sorted.ensures.same c.args.choice

@@ -1,6 +1,6 @@
 -- The file is removed, written and synced.
-use Rattle.std.proofs.Common.{◌≡◌, ◌∷◌, ℕ, Option, Some, List, sym, subst, ap, ◌∙◌}
-use Rattle.disk_model.specs.History.{Step, Wrote, Synced, Removed}
+use Rattle.std.proofs.Common.{◌≡◌, ◌∷◌, ℕ, Option, List, sym, subst, ap, ◌∙◌}
+use Rattle.disk_model.specs.History.{Wrote, Synced, Removed}
 use Rattle.disk_model.specs.Calls.{history_of, items_of}
 use Rattle.disk_model.specs.Settled.{SetsFile}
 use Rattle.disk_model.specs.declared.call.Call.{Call}

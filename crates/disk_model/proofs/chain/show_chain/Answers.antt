@@ -1,5 +1,5 @@
 -- One call of the file more, and the last.
-use Rattle.std.proofs.Common.{◌≡◌, ◌≤◌, ℕ, Option, List, sym, ◌∙◌, ap, subst, arith}
+use Rattle.std.proofs.Common.{◌≡◌, ℕ, Option, List, sym, subst, arith}
 use Rattle.disk_model.specs.Disk.{bytes_of}
 use Rattle.disk_model.specs.Calls.{IsWindow}
 use Rattle.disk_model.specs.Index.{reads_at, no_call}

@@ -1,7 +1,6 @@
 -- The head takes the place of the old one, or comes among the others.
 use Rattle.std.proofs.Common.{◌≡◌, ◌≢◌, ℕ, ◌≤◌, ◌<◌, Option, None, List, length, get_or, refl, sym, ap, subst, ◌∙◌, arith}
 use Rattle.std.specs.Prelude.{IsSome}
-use Rattle.std.specs.List.{insert}
 use Rattle.disk_model.specs.Index.{AreRising, head_of, no_head}
 use Rattle.disk_model.specs.declared.heads.Head.{Head}
 use Rattle.disk_model.proofs.HeadLists.{not_falling, head_nowhere, head_replaced, head_inserted, rising_replaced, rising_inserted}

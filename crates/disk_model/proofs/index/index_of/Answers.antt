@@ -1,5 +1,5 @@
 -- One call more, until all are there.
-use Rattle.std.proofs.Common.{◌≡◌, [], ℕ, ◌+◌, length, List, sym, subst, ap, ◌∙◌, arith}
+use Rattle.std.proofs.Common.{◌≡◌, ℕ, length, List, sym, subst, arith}
 use Rattle.std.specs.Prelude.{vec_len}
 use Rattle.disk_model.specs.Index.{IsIndexed, reads_at, file_at}
 use Rattle.disk_model.specs.declared.heads.Head.{Head}

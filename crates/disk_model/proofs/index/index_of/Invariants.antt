@@ -1,5 +1,5 @@
 -- The calls so far have their index.
-use Rattle.std.proofs.Common.{◌≡◌, ◌≤◌, ◌-◌, length}
+use Rattle.std.proofs.Common.{◌≤◌, ◌-◌, length}
 use Rattle.std.specs.Prelude.{vec_len}
 use Rattle.disk_model.specs.Index.{IsIndexed, reads_at, file_at}
 use Rattle.disk_model.proofs.index.index_of.Given as goal

@@ -1,11 +1,11 @@
 -- One call more.
-use Rattle.std.proofs.Common.{◌≡◌, ◌∷◌, ◌++◌, ◌+◌, [], ℕ, None, Some, List, get_or, set, refl, sym, subst, ap, ◌∙◌, arith}
-use Rattle.std.specs.Prelude.{IsSome, Vec, vec_len}
+use Rattle.std.proofs.Common.{◌≡◌, ◌+◌, ℕ, None, Some, List, set, refl, sym, subst, ap, ◌∙◌, arith}
+use Rattle.std.specs.Prelude.{Vec}
 use Rattle.std.specs.declared.alloc.Global.{Global}
 use Rattle.disk_model.specs.Index.{IsIndexed, MakesFile, reads_at, file_at, no_call, head_of, size_from}
 use Rattle.disk_model.specs.declared.heads.Head.{Head}
 use Rattle.disk_model.proofs.CallsLemmas.{held_at}
-use Rattle.disk_model.proofs.Noted.{within_links, head_is, noted_follow, noted_made, noted_absent, makes}
+use Rattle.disk_model.proofs.Noted.{within_links, noted_follow, noted_made, noted_absent, makes}
 use Rattle.disk_model.proofs.index.Index.note.Goals as goal
 
 pub size_after-size-requires : goal.size_after-size-requires

@@ -1,10 +1,9 @@
 -- The write stands in the list and in its index.
-use Rattle.std.proofs.Common.{◌≡◌, ◌+◌, ◌-◌, ◌∷◌, [], ℕ, None, List, length, refl, sym, subst, ap, ◌∙◌, arith}
+use Rattle.std.proofs.Common.{◌≡◌, ◌+◌, ◌-◌, ◌∷◌, ℕ, None, List, length, refl, sym, ap, ◌∙◌, arith}
 use Rattle.std.specs.Prelude.{vec_len}
-use Rattle.std.specs.Option.{option_map}
 use Rattle.std.proofs.lemmas.Bool.{false≢true}
 use Rattle.disk_model.specs.History.{Step, Wrote, reads_of}
-use Rattle.disk_model.specs.Calls.{AllHeld, history_of}
+use Rattle.disk_model.specs.Calls.{history_of}
 use Rattle.disk_model.specs.Index.{MakesFile, reads_at, file_at}
 use Rattle.disk_model.specs.Ram.{Log, files_after, with_write}
 use Rattle.disk_model.proofs.Grown.{on_ok, indexed_grown, indexed_seen, makes_seen, made_absent}
