@@ -1,4 +1,4 @@
--- Bodies that meet no bound: what a record may say at block size m, after the records before it.
+-- Sound bodies: what a record may say at block size m, after the records before it.
 use Rattle.std.specs.Prelude.{ℕ, ◌^◌, ◌≤◌, ◌<◌, List, [], ◌∷◌, length}
 use Rattle.pcm_base.specs.declared.block.BlockRef.{BlockRef}
 use Rattle.clip_track.specs.declared.clips.Clip.{Clip}

@@ -58,7 +58,7 @@ const CHANGES: [(usize, usize, u64, (u64, u128, u128)); 24] = [
     (83, 8, 8, (1083, 9, 8)),
     (83, 8, 4_294_967_297, (1083, 4_294_967_296, 4_294_967_297)),
     (83, 8, 4_294_967_296, (1103, 0, 1)),
-    // The ids and lengths of blocks; the third length is too low for a clip of several blocks.
+    // The first block's id; its length, which may not be 1 in a clip of several blocks.
     (59, 8, 15, (1059, 16, 15)),
     (59, 8, 19, (1059, 18, 19)),
     (67, 4, 0, (1067, 1, 0)),
