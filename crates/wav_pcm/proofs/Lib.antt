@@ -1,2 +1,3 @@
 pub mod ChunkLaws
+pub mod PieceLaws
 pub mod WrittenLaws

@@ -1,9 +1,10 @@
 -- What a reader of WAV files answers, beside what the bytes say.
-use Rattle.std.specs.Prelude.{◌≡◌, ◌<◌, ℕ, ◌+◌, ◌*◌, List, [], ◌∷◌, map, Option, Some, None, Result, Ok, Err, All, FitsSigned}
+use Rattle.std.specs.Prelude.{◌≡◌, ◌<◌, ℕ, ◌+◌, ◌*◌, ℤ, List, [], ◌∷◌, ◌++◌, length, map, slice_index_or, Vec, Option, Some, None, Result, Ok, Err, All, FitsSigned}
+use Rattle.std.specs.Global.{Global}
 use Rattle.std.specs.Int.{w16}
 use Rattle.pcm_base.specs.declared.sound.Frame.{Frame}
 use Rattle.pcm_base.specs.Wave as wave
-use Rattle.pcm_base.specs.Wave.{Sound, Refused}
+use Rattle.pcm_base.specs.Wave.{Sound, Refused, channel_of}
 use Rattle.wav_pcm.specs.declared.bad.BadWav.{BadWav}
 use Rattle.wav_pcm.specs.declared.bad.BadWav.TheVariants as bad
 use Rattle.wav_pcm.specs.declared.bad.BadFrames.{BadFrames}
@@ -65,3 +66,8 @@ sound_in_data found = wave.sound_of (format_in found.format) found.body.now
 -- the sides of the frames fit 16 bits, which their type says
 abbrev pub FramesFit : List Frame → Type 0
 FramesFit fs = All (λ f. FitsSigned w16 f.left × FitsSigned w16 f.right) fs
+
+-- each list of samples has grown by its channel of the frames in these bytes
+abbrev pub HaveGrown : List ℕ → List (Vec ℤ Global) → List (Vec ℤ Global) → Type 0
+HaveGrown body was now = (length now ≡ length was)
+    × ((c : ℕ) (d : Vec ℤ Global) → c < length was → (slice_index_or now c d).items ≡ (slice_index_or was c d).items ++ channel_of (length was) body c)

@@ -11,6 +11,7 @@ mod chunks;
 #[cfg(test)]
 mod foreign;
 mod format;
+mod interleaved;
 mod reading;
 mod shape;
 mod stereo;

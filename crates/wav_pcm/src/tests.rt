@@ -1,7 +1,7 @@
 // Files byte by byte: worked ones, each reason once, and files that other programs wrote.
 use super::{BadWav, Wav, read, write};
 use pcm_base::Frame;
-use std::alloc::Global;
+use std::alloc::{AllocError, Global};
 use std::test::*;
 
 /// One channel of the samples 1 and -1, at 8,000 frames in a second.
@@ -25,6 +25,13 @@ const LISTED: [u8; 60] = [
     0x10, 0x00, 0x00, 0x00, 0x01, 0x00, 0x01, 0x00, 0x40, 0x1F, 0x00, 0x00, 0x80, 0x3E, 0x00, 0x00,
     0x02, 0x00, 0x10, 0x00, 0x4C, 0x49, 0x53, 0x54, 0x03, 0x00, 0x00, 0x00, 0x61, 0x62, 0x63, 0x00,
     0x64, 0x61, 0x74, 0x61, 0x04, 0x00, 0x00, 0x00, 0x01, 0x00, 0xFF, 0xFF,
+];
+
+/// The front of a file of three channels. Its frames are all the bytes behind it.
+const THREE: [u8; 44] = [
+    0x52, 0x49, 0x46, 0x46, 0xFF, 0xFF, 0xFF, 0xFF, 0x57, 0x41, 0x56, 0x45, 0x66, 0x6D, 0x74, 0x20,
+    0x10, 0x00, 0x00, 0x00, 0x01, 0x00, 0x03, 0x00, 0x40, 0x1F, 0x00, 0x00, 0x80, 0xBB, 0x00, 0x00,
+    0x06, 0x00, 0x10, 0x00, 0x64, 0x61, 0x74, 0x61, 0xFF, 0xFF, 0xFF, 0xFF,
 ];
 
 pub(crate) fn refusal(alloc: Global, bytes: &[u8]) -> Option<BadWav> {
@@ -57,6 +64,71 @@ fn changed(alloc: Global, place: usize, byte: u8) -> Option<BadWav> {
         bytes[place] = byte;
     }
     refusal(alloc, &bytes)
+}
+
+/// The 16 bits of a sample of three channels: 31 times the frame's number and 10,007 times the channel's.
+fn sample_of(frame: u16, channel: u16) -> u16 {
+    frame
+        .wrapping_mul(31)
+        .wrapping_add(channel.wrapping_mul(10_007))
+}
+
+/// A file of three channels with so many frames, and one byte of another.
+fn three_channels(alloc: Global, frames: u16) -> Result<Vec<u8>, AllocError> {
+    let mut bytes = THREE.to_vec(alloc)?;
+    for frame in 0..frames {
+        for channel in 0..3 {
+            let sample = sample_of(frame, channel);
+            bytes.push((sample % 256) as u8)?;
+            bytes.push((sample / 256) as u8)?;
+        }
+    }
+    bytes.push(1)?;
+    Ok(bytes)
+}
+
+/// Whether a channel has so many samples, each as it was made.
+fn is_as_made(samples: &[i16], channel: u16, frames: u16) -> bool {
+    if samples.len() != usize::from(frames) {
+        return false;
+    }
+    for frame in 0..frames {
+        if samples[usize::from(frame)] != sample_of(frame, channel).cast_signed() {
+            return false;
+        }
+    }
+    true
+}
+
+/// Whether a file of three channels with so many frames is read as it was made.
+fn reads_three(alloc: Global, frames: u16) -> bool {
+    let Ok(bytes) = three_channels(alloc, frames) else {
+        return false;
+    };
+    match read(alloc, bytes.as_slice()) {
+        Ok(wav) => match wav.channels.as_slice() {
+            [first, second, third] => {
+                wav.rate == 8000
+                    && is_as_made(first.as_slice(), 0, frames)
+                    && is_as_made(second.as_slice(), 1, frames)
+                    && is_as_made(third.as_slice(), 2, frames)
+            }
+            _ => false,
+        },
+        Err(_) => false,
+    }
+}
+
+/// No frame, a part of a piece of 1,024 frames, whole pieces, and more than two.
+#[test]
+fn pieces(rt: HostRuntime) {
+    let alloc = rt.alloc();
+    assert!(rt; reads_three(alloc, 0));
+    assert!(rt; reads_three(alloc, 1023));
+    assert!(rt; reads_three(alloc, 1024));
+    assert!(rt; reads_three(alloc, 1025));
+    assert!(rt; reads_three(alloc, 2048));
+    assert!(rt; reads_three(alloc, 2500));
 }
 
 #[test]

@@ -7,7 +7,7 @@ use mir.Val.{SFits}
 use Rattle.std.proofs.lemmas.List.{take_more_set}
 use Rattle.std.proofs.lemmas.List.FromFn.{map-range_with_len_more}
 use Rattle.pcm_base.specs.Wave.{i16_at}
-use Rattle.wav_pcm.proofs.reading.take_channel.Goals as goal
+use Rattle.wav_pcm.proofs.interleaved.take_channel.Goals as goal
 
 pub loop-k-preserved : goal.loop-k-preserved
 loop-k-preserved c =
