@@ -13,6 +13,7 @@ use Rattle.disk_model.specs.declared.heads.Head.{Head}
 abbrev pub reads_at : List ℕ → List Call → ℕ → Files
 reads_at row calls k = reads_of (history_of row (take k calls))
 
+-- what is read past the end of a list of calls
 abbrev pub no_call : Call
 no_call = record { kind = Write; file = 0; at = 0; from = 0; len = 0 }
 
@@ -25,10 +26,12 @@ abbrev pub head_of : List Head → ℕ → Option Head
 head_of [] file = None
 head_of (head ∷ heads) file = if head.file == file then Some head else head_of heads file
 
+-- its size by its head; a file without one is absent
 abbrev pub size_from : Option Head → Option ℕ
 size_from None = None
 size_from (Some head) = head.size
 
+-- heads come by the numbers of their files
 abbrev pub IsBefore : Head → Head → Type 0
 IsBefore head other = head.file < other.file
 
@@ -71,5 +74,6 @@ pub record MakesFile (reads : ℕ → Files) (file_of : ℕ → ℕ) (n : ℕ) :
   pub absent : reads n (file_of n) ≡ None
   pub there : IsSome (reads (n + 1) (file_of n))
 
+-- what is read past the end of a list of heads
 abbrev pub no_head : Head
 no_head = record { file = 0; first = 0; last = 0; size = None }
