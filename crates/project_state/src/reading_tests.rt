@@ -155,6 +155,21 @@ fn cut_short_or_too_long(rt: HostRuntime) -> Result<(), Fail> {
     Ok(())
 }
 
+/// The faults of one number, in their order: a block that passes the longest track is told before one that is too long.
+#[test]
+fn two_faults_of_one_number(rt: HostRuntime) -> Result<(), Fail> {
+    let alloc = rt.alloc();
+    let mut bytes = front(alloc, &TWO_CLIPS, 107)?;
+    put(&mut bytes, 83, 8, 4_294_967_294);
+    put(&mut bytes, 103, 4, 5);
+    assert!(rt; is_refused(alloc, &bytes, fault(1103, 2, 5)));
+    // An id of 0 is told before one that is not above the track's before.
+    let mut bytes = alike(alloc, 2)?;
+    put(&mut bytes, 47, 8, 0);
+    assert!(rt; is_refused(alloc, &bytes, fault(1047, 1, 0)));
+    Ok(())
+}
+
 /// The body of an edit that has so many tracks, all of them with id 7 and no clips.
 fn alike(alloc: Global, count: u8) -> Result<Vec<u8>, NoMemory> {
     let mut bytes = front(alloc, &TWO_CLIPS, 29)?;
