@@ -4,18 +4,11 @@ use Rattle.pcm_base.specs.declared.sound.Cell.{Cell}
 use Rattle.pcm_base.specs.declared.sound.Cell.TheVariants.{Gap, Sample}
 use Rattle.pcm_base.specs.declared.sound.Side.{Side}
 use Rattle.pcm_base.specs.declared.sound.Side.TheVariants.{Both, Left, Right}
-use Rattle.pcm_base.specs.declared.command.Command.TheVariants as command
-use Rattle.pcm_base.specs.declared.answer.Reply.TheVariants as reply
-use Rattle.pcm_base.specs.declared.command.Call.TheVariants as call
-use Rattle.pcm_base.specs.declared.refusal.Refusal.TheVariants.{NoTrack, BadRange, LengthLimit, NothingToUndo, NothingToRedo, SpaceSpent}
 use Rattle.pcm_base.specs.Arithmetic.{scaled, clamped, integer_root}
-use Rattle.pcm_base.specs.Cells.{Track, cells_at}
+use Rattle.pcm_base.specs.Cells.{Track}
 use Rattle.pcm_base.specs.Edits.{deleted, inserted, ramp_of, range_of, changed, gained, split_deleted, silenced, kept_only, pasted_over}
 use Rattle.pcm_base.specs.Mix.{mix_of}
 use Rattle.pcm_base.specs.Envelope.{columns_of, rms_of}
-use Rattle.pcm_base.specs.State.{State, fresh, current}
-use Rattle.pcm_base.specs.Step.{after_line, MayReply}
-use Rattle.pcm_base.specs.Tests.{tests_of}
 
 abbrev five : List Cell
 five = Sample (pos 1) ∷ Sample (pos 2) ∷ Sample (pos 3) ∷ Sample (pos 4) ∷ Sample (pos 5) ∷ []
@@ -85,33 +78,3 @@ heard gain side mute cells = record { id = 1; gain = gain; side = side; mute = m
 mixed : mix_of (heard 65536 Both false (Sample (pos 30000) ∷ []) ∷ heard 65536 Left false (Sample (pos 10000) ∷ Sample (pos 4) ∷ []) ∷ heard 131072 Right false (Gap ∷ Sample (negsuc 2) ∷ []) ∷ heard 65536 Left false (Sample (negsuc 19999) ∷ []) ∷ heard 65536 Both true (Sample (pos 1) ∷ Sample (pos 1) ∷ Sample (pos 1) ∷ []) ∷ [])
     ≡ record { left = pos 20000; right = pos 30000 } ∷ record { left = pos 4; right = negsuc 5 } ∷ []
 mixed = refl
-
--- a track of five samples
-abbrev with_five : State
-with_five = after_line (after_line fresh command.Track) (command.Put 1 0 (pos 1 ∷ pos 2 ∷ pos 3 ∷ pos 4 ∷ pos 5 ∷ []))
-
-undone_and_redone : cells_at 1 (current (after_line (after_line (after_line with_five (command.Delete 1 1 3)) command.Undo) command.Redo)) ≡ Sample (pos 1) ∷ Sample (pos 4) ∷ Sample (pos 5) ∷ []
-undone_and_redone = refl
-
-redo_goes_with_an_edit : tests_of (after_line (after_line with_five command.Undo) command.Track) (call.Line command.Redo) ≡ Some NothingToRedo
-redo_goes_with_an_edit = refl
-
-refusals : (tests_of fresh (call.Line command.Undo) ∷ tests_of with_five (call.Line (command.Delete 1 3 3)) ∷ tests_of with_five (call.Line (command.Delete 9 0 1)) ∷ tests_of with_five (call.Line (command.Put 1 4294967292 (pos 1 ∷ pos 2 ∷ pos 3 ∷ pos 4 ∷ pos 5 ∷ []))) ∷ tests_of with_five (call.Line (command.Show 1 0 4096)) ∷ []) ≡ Some NothingToUndo ∷ Some BadRange ∷ Some (NoTrack 9) ∷ Some (LengthLimit 4294967297) ∷ None ∷ []
-refusals = refl
-
-spent : tests_of (record fresh { next_track = 4611686018427387904 }) (call.Line command.Track) ≡ Some (SpaceSpent 4611686018427387904 1)
-spent = refl
-
--- two tracks, one on the left, muted and at half its gain, after a third was dropped
-abbrev with_two : State
-with_two = after_line (after_line (after_line (after_line (after_line (after_line with_five command.Track) command.Track) (command.Side 3 Left)) (command.Mute 3 true)) (command.Level 3 32768)) (command.Drop 2)
-
-told : MayReply with_two command.Tracks (reply.Tracks (record { id = 1; gain = 65536; side = Both; mute = false; len = 5 } ∷ record { id = 3; gain = 32768; side = Left; mute = true; len = 0 } ∷ []))
-told = refl
-
--- the current point stays, and what is older cannot come back
-purged_twice : (tests_of with_two (call.Line (command.Purge 0)) ∷ tests_of with_two (call.Line (command.Purge 9)) ∷ tests_of with_two (call.Line (command.Purge 8)) ∷ tests_of (after_line with_two (command.Purge 8)) (call.Line command.Undo) ∷ []) ≡ Some BadRange ∷ Some BadRange ∷ None ∷ Some NothingToUndo ∷ []
-purged_twice = refl
-
-purge_keeps : current (after_line with_two (command.Purge 3)) ≡ current with_two
-purge_keeps = refl

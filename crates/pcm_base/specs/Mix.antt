@@ -46,6 +46,9 @@ frame_at p i = record {
   right = clamped (sum_at i (on_right p));
 }
 
--- as long as the longest track that is heard
+-- how many frames the mix has: as many as the longest track that is heard has cells
+abbrev pub mix_length : Project → ℕ
+mix_length p = longest (unmuted p)
+
 abbrev pub mix_of : Project → List Frame
-mix_of p = map (frame_at p) (counted_from 0 (longest (unmuted p)))
+mix_of p = map (frame_at p) (counted_from 0 (mix_length p))

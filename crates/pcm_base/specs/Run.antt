@@ -1,31 +1,297 @@
--- The step as a relation, and whole runs.
-use Rattle.std.specs.Prelude.{◌≡◌, ℕ, MatchOption, List, [], ◌∷◌, ◌⊎◌}
+-- The step of a studio as a relation, and whole runs.
+use Rattle.std.specs.Prelude.{◌≡◌, ◌⊎◌, ℕ, ◌+◌, ◌≤◌, Bool, true, false, IsTrue, List, [], ◌∷◌, take, Option, Some, None, IsSome, Result, Ok, Err}
+use Rattle.pcm_base.specs.declared.command.Command.{Command}
+use Rattle.pcm_base.specs.declared.command.Command.TheVariants as command
 use Rattle.pcm_base.specs.declared.command.Call.{Call}
-use Rattle.pcm_base.specs.declared.refusal.Refusal.TheVariants.{NoMemory}
+use Rattle.pcm_base.specs.declared.command.Call.TheVariants as call
+use Rattle.pcm_base.specs.declared.refusal.Refusal.{Refusal}
+use Rattle.pcm_base.specs.declared.refusal.Refusal.TheVariants as refusal
 use Rattle.pcm_base.specs.declared.answer.Reply.{Reply}
 use Rattle.pcm_base.specs.declared.answer.Reply.TheVariants as reply
-use Rattle.pcm_base.specs.Tests.{tests_of}
-use Rattle.pcm_base.specs.State.{State}
-use Rattle.pcm_base.specs.Step.{after, MayAnswer}
+use Rattle.pcm_base.specs.declared.entry.SoundMove.{SoundMove}
+use Rattle.pcm_base.specs.declared.entry.Entry.{Entry}
+use Rattle.pcm_base.specs.Causes.{Rose}
+use Rattle.pcm_base.specs.Counters.{Needs, counter_tests, record_test, record_bytes}
+use Rattle.pcm_base.specs.Outside.{Outside, Sounds, SameElsewhere}
+use Rattle.pcm_base.specs.Refusals.{◌otherwise◌, call_tests}
+use Rattle.pcm_base.specs.Step.{after, sound_after, mix_file, MayAnswer}
+use Rattle.pcm_base.specs.Studio.{Studio, fault_sum}
 
--- the first test that fails refuses a call and changes nothing, else it is carried out
-abbrev pub Ruled : State → Call → Reply → State → Type 0
-Ruled s c r t =
-    MatchOption (tests_of s c)
-    (MayAnswer s c r × (t ≡ after s c))
-    (λ reason. (r ≡ reply.Refused reason) × (t ≡ s))
+-- what the call meets outside: the rate of the project, and the sound that it names as it was before
+abbrev pub outside : Studio → SoundMove → Outside
+outside t sound = record { rate = t.rate; sound = sound.before }
 
--- want of memory may stand in the place of each, and then nothing changes
-abbrev pub Step : State → Call → Reply → State → Type 0
-Step s c r t = Ruled s c r t ⊎ ((r ≡ reply.Refused NoMemory) × (t ≡ s))
+-- it was stopped by a change of the disk that failed
+abbrev pub stop_of : Option ℕ → Option Refusal
+stop_of (Some faults) = Some (refusal.Stopped faults)
+stop_of None = None
 
--- what one actor did in one turn
-pub record Entry : Type 0 where
-  pub actor : ℕ
-  pub call : Call
-  pub reply : Reply
+-- a studio that was stopped does nothing but let pins go
+abbrev pub stop_test : Option ℕ → Call → Option Refusal
+stop_test stopped (call.Line c) = stop_of stopped
+stop_test stopped (call.Piece track tag samples) = stop_of stopped
+stop_test stopped call.Pin = stop_of stopped
+stop_test stopped (call.PinLen pin) = stop_of stopped
+stop_test stopped (call.ReadPin pin from count) = stop_of stopped
+stop_test stopped (call.Unpin pin) = None
 
--- from s the entries lead to t, each a step from where the last one left
-abbrev pub Run : State → List Entry → State → Type 0
-Run s [] t = t ≡ s
-Run s (e ∷ es) t = (mid : State) × Step s e.call e.reply mid × Run mid es t
+-- all that refuses a call before a device is asked, want of memory aside, where it needs so many blocks and a record of
+-- this length; the first in this order is told
+abbrev pub refusal_of : Outside → Studio → Call → ℕ → ℕ → Option Refusal
+refusal_of out t c blocks len =
+    (stop_test t.stopped c) otherwise (call_tests out t.state c) otherwise (counter_tests out t c blocks len) otherwise (record_test len)
+
+-- the studio after a call that nothing refuses
+abbrev pub followed : Outside → Studio → Call → ℕ → ℕ → Studio
+followed out t c blocks len = record t {
+  state = after out t.state c;
+  next_block = t.next_block + blocks;
+  journal_end = t.journal_end + record_bytes c len;
+}
+
+-- a call was carried out, with so many new blocks and a record of this length
+pub record CarriesOut (t : Studio) (c : Call) (sound : SoundMove) (r : Reply) (u : Studio) : Type 0 where
+  pub blocks : ℕ
+  pub len : ℕ
+  pub needs : Needs (outside t sound) t c blocks len
+  pub passed : refusal_of (outside t sound) t c blocks len ≡ None
+  pub answers : MayAnswer (outside t sound) t.state c r
+  pub is : u ≡ followed (outside t sound) t c blocks len
+  pub heard : sound.after ≡ sound_after (outside t sound) t.state c
+
+-- a test refuses a call, and nothing changes
+pub record Refuses (t : Studio) (c : Call) (sound : SoundMove) (why : Refusal) (u : Studio) : Type 0 where
+  pub blocks : ℕ
+  pub len : ℕ
+  pub needs : Needs (outside t sound) t c blocks len
+  pub first : refusal_of (outside t sound) t c blocks len ≡ Some why
+  pub same : u ≡ t
+  pub quiet : sound.after ≡ sound.before
+
+-- a read failed and the studio goes on
+pub record ReadFailed (t u : Studio) : Type 0 where
+  pub goes_on : u.stopped ≡ None
+  pub rose : Rose t.read_faults u.read_faults
+  pub later : t.read_faults ≤ u.read_faults
+  pub changes : u.change_faults ≡ t.change_faults
+
+-- a change failed and stops the studio, which keeps the count of faults
+pub record ChangeFailed (t u : Studio) : Type 0 where
+  pub stopped : u.stopped ≡ Some (fault_sum u.read_faults u.change_faults)
+  pub rose : Rose t.change_faults u.change_faults
+  pub later : t.change_faults ≤ u.change_faults
+  pub reads : u.read_faults ≡ t.read_faults
+
+-- a file holds a part of the mix from its front, or is as it was
+abbrev pub IsPartOfMix : ℕ → Studio → SoundMove → Type 0
+IsPartOfMix rate t sound =
+    (sound.after ≡ sound.before) ⊎ ((count : ℕ) × (sound.after ≡ Some (take count (mix_file rate t.state))))
+
+-- a call that was broken off leaves the sound as it was, an export a part of it
+abbrev pub LeavesLine : Studio → Command → SoundMove → Type 0
+LeavesLine t command.Track sound = sound.after ≡ sound.before
+LeavesLine t (command.Drop id) sound = sound.after ≡ sound.before
+LeavesLine t (command.Level id gain) sound = sound.after ≡ sound.before
+LeavesLine t (command.Side id side) sound = sound.after ≡ sound.before
+LeavesLine t (command.Mute id mute) sound = sound.after ≡ sound.before
+LeavesLine t (command.Put id at samples) sound = sound.after ≡ sound.before
+LeavesLine t (command.Ramp id at n start step) sound = sound.after ≡ sound.before
+LeavesLine t (command.Delete id from to) sound = sound.after ≡ sound.before
+LeavesLine t (command.SplitDelete id from to) sound = sound.after ≡ sound.before
+LeavesLine t (command.Silence id from to) sound = sound.after ≡ sound.before
+LeavesLine t (command.Trim id from to) sound = sound.after ≡ sound.before
+LeavesLine t (command.Gain id from to gain) sound = sound.after ≡ sound.before
+LeavesLine t (command.Cut id n from to) sound = sound.after ≡ sound.before
+LeavesLine t (command.SplitCut id n from to) sound = sound.after ≡ sound.before
+LeavesLine t (command.Copy id n from to) sound = sound.after ≡ sound.before
+LeavesLine t (command.Paste id at) sound = sound.after ≡ sound.before
+LeavesLine t (command.PasteOver id at) sound = sound.after ≡ sound.before
+LeavesLine t command.Undo sound = sound.after ≡ sound.before
+LeavesLine t command.Redo sound = sound.after ≡ sound.before
+LeavesLine t (command.Purge n) sound = sound.after ≡ sound.before
+LeavesLine t (command.Show id from to) sound = sound.after ≡ sound.before
+LeavesLine t (command.Mix from to) sound = sound.after ≡ sound.before
+LeavesLine t (command.Envelope id from to columns) sound = sound.after ≡ sound.before
+LeavesLine t command.Tracks sound = sound.after ≡ sound.before
+LeavesLine t (command.Reclaim limit) sound = sound.after ≡ sound.before
+LeavesLine t (command.Import name) sound = sound.after ≡ sound.before
+LeavesLine t (command.Export name) sound = IsPartOfMix t.rate t sound
+
+abbrev pub Leaves : Studio → Call → SoundMove → Type 0
+Leaves t (call.Line c) sound = LeavesLine t c sound
+Leaves t (call.Piece track tag samples) sound = sound.after ≡ sound.before
+Leaves t call.Pin sound = sound.after ≡ sound.before
+Leaves t (call.PinLen pin) sound = sound.after ≡ sound.before
+Leaves t (call.ReadPin pin from count) sound = sound.after ≡ sound.before
+Leaves t (call.Unpin pin) sound = sound.after ≡ sound.before
+
+-- whether a line may change the disk; one that may not never raises its count of failed changes
+abbrev pub may_change_line : Command → Bool
+may_change_line command.Track = true
+may_change_line (command.Drop id) = true
+may_change_line (command.Level id gain) = true
+may_change_line (command.Side id side) = true
+may_change_line (command.Mute id mute) = true
+may_change_line (command.Put id at samples) = true
+may_change_line (command.Ramp id at n start step) = true
+may_change_line (command.Delete id from to) = true
+may_change_line (command.SplitDelete id from to) = true
+may_change_line (command.Silence id from to) = true
+may_change_line (command.Trim id from to) = true
+may_change_line (command.Gain id from to gain) = true
+may_change_line (command.Cut id n from to) = true
+may_change_line (command.SplitCut id n from to) = true
+may_change_line (command.Copy id n from to) = false
+may_change_line (command.Paste id at) = true
+may_change_line (command.PasteOver id at) = true
+may_change_line command.Undo = true
+may_change_line command.Redo = true
+may_change_line (command.Purge n) = true
+may_change_line (command.Show id from to) = false
+may_change_line (command.Mix from to) = false
+may_change_line (command.Envelope id from to columns) = false
+may_change_line command.Tracks = false
+may_change_line (command.Reclaim limit) = true
+may_change_line (command.Import name) = true
+may_change_line (command.Export name) = false
+
+abbrev pub may_change : Call → Bool
+may_change (call.Line c) = may_change_line c
+may_change (call.Piece track tag samples) = true
+may_change call.Pin = false
+may_change (call.PinLen pin) = false
+may_change (call.ReadPin pin from count) = false
+may_change (call.Unpin pin) = false
+
+-- A device broke a call off: ids of blocks may have been given, no more than the call may need, and all else is as before.
+pub record BreaksOff (t : Studio) (c : Call) (sound : SoundMove) (u : Studio) : Type 0 where
+  pub going : t.stopped ≡ None
+  pub blocks : ℕ
+  pub len : ℕ
+  pub needs : Needs (outside t sound) t c blocks len
+  pub is : u ≡ record t {
+    stopped = u.stopped;
+    next_block = t.next_block + blocks;
+    read_faults = u.read_faults;
+    change_faults = u.change_faults;
+  }
+  pub leaves : Leaves t c sound
+
+-- the disk failed: a read, or a change where the call makes one
+pub record DiskFails (t : Studio) (c : Call) (sound : SoundMove) (u : Studio) : Type 0 where
+  pub breaks : BreaksOff t c sound u
+  pub cause : ReadFailed t u ⊎ (IsTrue (may_change c) × ChangeFailed t u)
+
+-- a file of the disk, or the vault, is not as it has to be, and the studio goes on
+pub record GoesOn (t : Studio) (c : Call) (sound : SoundMove) (u : Studio) : Type 0 where
+  pub breaks : BreaksOff t c sound u
+  pub stopped : u.stopped ≡ None
+  pub reads : u.read_faults ≡ t.read_faults
+  pub changes : u.change_faults ≡ t.change_faults
+
+-- there was no memory, and nothing changes
+pub record Wants (t : Studio) (sound : SoundMove) (u : Studio) : Type 0 where
+  pub same : u ≡ t
+  pub quiet : sound.after ≡ sound.before
+
+-- the sound that a line names
+abbrev pub name_in_line : Command → Option (List ℕ)
+name_in_line command.Track = None
+name_in_line (command.Drop id) = None
+name_in_line (command.Level id gain) = None
+name_in_line (command.Side id side) = None
+name_in_line (command.Mute id mute) = None
+name_in_line (command.Put id at samples) = None
+name_in_line (command.Ramp id at n start step) = None
+name_in_line (command.Delete id from to) = None
+name_in_line (command.SplitDelete id from to) = None
+name_in_line (command.Silence id from to) = None
+name_in_line (command.Trim id from to) = None
+name_in_line (command.Gain id from to gain) = None
+name_in_line (command.Cut id n from to) = None
+name_in_line (command.SplitCut id n from to) = None
+name_in_line (command.Copy id n from to) = None
+name_in_line (command.Paste id at) = None
+name_in_line (command.PasteOver id at) = None
+name_in_line command.Undo = None
+name_in_line command.Redo = None
+name_in_line (command.Purge n) = None
+name_in_line (command.Show id from to) = None
+name_in_line (command.Mix from to) = None
+name_in_line (command.Envelope id from to columns) = None
+name_in_line command.Tracks = None
+name_in_line (command.Reclaim limit) = None
+name_in_line (command.Import name) = Some name
+name_in_line (command.Export name) = Some name
+
+abbrev pub name_in : Call → Option (List ℕ)
+name_in (call.Line c) = name_in_line c
+name_in (call.Piece track tag samples) = None
+name_in call.Pin = None
+name_in (call.PinLen pin) = None
+name_in (call.ReadPin pin from count) = None
+name_in (call.Unpin pin) = None
+
+-- want of memory, or a device, in the place of what comes later
+abbrev pub Breaks : Studio → Call → SoundMove → Refusal → Studio → Type 0
+Breaks t c sound (refusal.BadLine column) u = ⊥
+Breaks t c sound (refusal.Spent turns) u = ⊥
+Breaks t c sound (refusal.Stopped faults) u = ⊥
+Breaks t c sound (refusal.NoTrack id) u = ⊥
+Breaks t c sound refusal.BadRange u = ⊥
+Breaks t c sound refusal.BadColumns u = ⊥
+Breaks t c sound refusal.TrackLimit u = ⊥
+Breaks t c sound (refusal.LengthLimit len) u = ⊥
+Breaks t c sound refusal.EmptyClipboard u = ⊥
+Breaks t c sound (refusal.TooNarrow have need) u = ⊥
+Breaks t c sound refusal.NothingToUndo u = ⊥
+Breaks t c sound refusal.NothingToRedo u = ⊥
+Breaks t c sound refusal.NoFile u = ⊥
+Breaks t c sound (refusal.BadWav fault) u = ⊥
+Breaks t c sound (refusal.RateDiffers have want) u = ⊥
+Breaks t c sound (refusal.TooLong frames) u = ⊥
+Breaks t c sound (refusal.SpaceSpent have need) u = ⊥
+Breaks t c sound (refusal.RecordLimit len) u = ⊥
+Breaks t c sound (refusal.Damaged file at want have) u = GoesOn t c sound u
+Breaks t c sound refusal.DiskFault u = DiskFails t c sound u
+Breaks t c sound refusal.VaultFault u = IsSome (name_in c) × GoesOn t c sound u
+Breaks t c sound (refusal.NoPin pin) u = ⊥
+Breaks t c sound refusal.NoMemory u = Wants t sound u
+
+-- a reply, or why there is none
+abbrev pub result_of : Reply → Result Reply Refusal
+result_of reply.Done = Ok reply.Done
+result_of reply.Copied = Ok reply.Copied
+result_of (reply.Cells cells) = Ok (reply.Cells cells)
+result_of (reply.Frames frames) = Ok (reply.Frames frames)
+result_of (reply.Columns columns) = Ok (reply.Columns columns)
+result_of (reply.Tracks tracks) = Ok (reply.Tracks tracks)
+result_of (reply.Freed count) = Ok (reply.Freed count)
+result_of (reply.Wrote bytes) = Ok (reply.Wrote bytes)
+result_of (reply.Pinned pin) = Ok (reply.Pinned pin)
+result_of (reply.Length frames) = Ok (reply.Length frames)
+result_of (reply.Refused why) = Err why
+
+-- what a call answers, and the studio after it
+abbrev pub Answers : Studio → Call → SoundMove → Result Reply Refusal → Studio → Type 0
+Answers t c sound (Ok r) u = CarriesOut t c sound r u
+Answers t c sound (Err why) u = Refuses t c sound why u ⊎ Breaks t c sound why u
+
+-- one step: a call, what becomes of the sound that it names, the reply, and the studio after it
+abbrev pub Step : Studio → Call → SoundMove → Reply → Studio → Type 0
+Step t c sound r u = Answers t c sound (result_of r) u
+
+-- from t the entries lead to u, each a step from where the last one left
+abbrev pub Run : Studio → List Entry → Studio → Type 0
+Run t [] u = u ≡ t
+Run t (e ∷ es) u = (mid : Studio) × Step t e.call e.sound e.reply mid × Run mid es u
+
+-- the sounds of a vault before and after a turn: the one that the call names as the entry says, and no other changes
+abbrev pub Heard : Option (List ℕ) → SoundMove → Sounds → Sounds → Type 0
+Heard None sound old new = new ≡ old
+Heard (Some name) sound old new = (old name ≡ sound.before) × (new name ≡ sound.after) × SameElsewhere name old new
+
+-- the vault from entry to entry
+abbrev pub Follows : Sounds → List Entry → Sounds → Type 0
+Follows old [] new = new ≡ old
+Follows old (e ∷ es) new = (mid : Sounds) × Heard (name_in e.call) e.sound old mid × Follows mid es new

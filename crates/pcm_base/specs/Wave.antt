@@ -1,10 +1,13 @@
 -- RIFF WAVE files of 16 bit PCM: the sound that the bytes of one say, or what refuses them; and the one way in which
 -- two channels are written.
 use Rattle.std.specs.Prelude.{ℕ, zero, suc, ◌+◌, ◌*◌, ◌/◌, ◌%◌, ◌^◌, ℤ, Bool, ◌&&◌, ◌||◌, not, ◌==◌, nat_lt, if◌then◌else◌, Option, Some, None, Result, Ok, Err, List, [], ◌∷◌, ◌++◌, length, take, drop, map, slice_index, codes}
-use Rattle.std.specs.List.{range_with_len, flat_map}
+use Rattle.std.specs.List.{range_with_len}
 use Rattle.std.specs.Str.{bytes_eq}
-use Rattle.std.specs.Int.{w16, cast_signed, cast_unsigned, bytes_low_first}
+use Rattle.std.specs.Int.{w16, cast_signed, bytes_low_first}
 use Rattle.pcm_base.specs.declared.sound.Frame.{Frame}
+use Rattle.pcm_base.specs.Recordings.{frame_bytes}
+use Rattle.pcm_base.specs.declared.wav.WavFault.{WavFault}
+use Rattle.pcm_base.specs.declared.wav.WavFault.TheVariants.{NotRiff, NoFmt, NoData, FmtShort, BadTag, BadBits, BadChannels, BadAlign, BadRate, Truncated}
 
 -- ---- numbers in bytes, the lowest byte first
 
@@ -24,29 +27,6 @@ i16_at bytes at = cast_signed w16 (u16_at bytes at)
 pub record Sound : Type 0 where
   pub rate : ℕ
   pub channels : List (List ℤ)
-
--- why a file is refused
-pub data Refused : Type 0 where
-  -- it does not begin with a RIFF header of the form WAVE
-  NotRiff : Refused
-  -- no `fmt ` chunk comes before the `data` chunk
-  NoFmt : Refused
-  -- there is no `data` chunk
-  NoData : Refused
-  -- the `fmt ` chunk is too short
-  FmtShort : Refused
-  -- the format is neither PCM nor the extensible form of it
-  BadTag : ℕ → Refused
-  -- a sample does not have 16 bits
-  BadBits : ℕ → Refused
-  -- there are no channels, or more than 8
-  BadChannels : ℕ → Refused
-  -- a frame is not 2 bytes a channel
-  BadAlign : ℕ → Refused
-  -- there are no frames in a second
-  BadRate : ℕ → Refused
-  -- the `data` chunk says so many bytes, and so many are there
-  Truncated : ℕ → ℕ → Refused
 
 -- what is used of a `fmt ` chunk
 pub record Format : Type 0 where
@@ -74,7 +54,7 @@ abbrev pub is_channels : ℕ → Bool
 is_channels n = nat_lt 0 n && nat_lt n 9
 
 -- the fields behind the tag
-abbrev pub fields_of : List ℕ → Result Format Refused
+abbrev pub fields_of : List ℕ → Result Format WavFault
 fields_of body =
     if not (u16_at body 14 == 16) then Err (BadBits (u16_at body 14))
     else if not (is_channels (u16_at body 2)) then Err (BadChannels (u16_at body 2))
@@ -82,7 +62,7 @@ fields_of body =
     else if u32_at body 4 == 0 then Err (BadRate (u32_at body 4))
     else Ok (record { channels = u16_at body 2; rate = u32_at body 4 })
 
-abbrev pub format_of : List ℕ → Result Format Refused
+abbrev pub format_of : List ℕ → Result Format WavFault
 format_of body =
     if is_short body then Err FmtShort
     else if not (is_pcm body) then Err (BadTag (u16_at body 0))
@@ -98,12 +78,12 @@ sound_of format body = record {
   channels = map (channel_of format.channels body) (range_with_len 0 format.channels);
 }
 
-abbrev pub and_then : {A B : Type 0} → Result A Refused → (A → Result B Refused) → Result B Refused
+abbrev pub and_then : {A B : Type 0} → Result A WavFault → (A → Result B WavFault) → Result B WavFault
 and_then (Ok a) f = f a
 and_then (Err why) f = Err why
 
 -- the `data` chunk, of which these are the bytes to the end of the file; the size 0xFFFFFFFF means all of them
-abbrev pub data_of : Option Format → ℕ → List ℕ → Result Sound Refused
+abbrev pub data_of : Option Format → ℕ → List ℕ → Result Sound WavFault
 data_of None size rest = Err NoFmt
 data_of (Some format) size rest =
     if size == 0xFFFFFFFF then Ok (sound_of format rest)
@@ -111,16 +91,16 @@ data_of (Some format) size rest =
     else Ok (sound_of format (take size rest))
 
 -- the chunks end without `data`
-abbrev pub ended : Option Format → Result Sound Refused
+abbrev pub ended : Option Format → Result Sound WavFault
 ended None = Err NoFmt
 ended (Some format) = Err NoData
 
-abbrev pub some_format : Result Format Refused → Result (Option Format) Refused
+abbrev pub some_format : Result Format WavFault → Result (Option Format) WavFault
 some_format (Ok format) = Ok (Some format)
 some_format (Err why) = Err why
 
 -- the first `fmt ` chunk is read, of which the file may have less than its size says; later ones are passed over
-abbrev pub seen_after : Option Format → List ℕ → ℕ → List ℕ → Result (Option Format) Refused
+abbrev pub seen_after : Option Format → List ℕ → ℕ → List ℕ → Result (Option Format) WavFault
 seen_after (Some format) name size rest = Ok (Some format)
 seen_after None name size rest = if bytes_eq name (codes "fmt ") then some_format (format_of (take size rest)) else Ok None
 
@@ -129,7 +109,7 @@ abbrev pub padded : ℕ → ℕ
 padded size = size + size % 2
 
 -- A chunk: a name of 4 bytes, the size of its body, and the body. Where fewer than 8 bytes are left, the chunks end.
-abbrev pub chunk_then : Option Format → List ℕ → (Option Format → Result Sound Refused) → Result Sound Refused
+abbrev pub chunk_then : Option Format → List ℕ → (Option Format → Result Sound WavFault) → Result Sound WavFault
 chunk_then format bytes more =
     if nat_lt (length bytes) 8 then ended format
     else if bytes_eq (take 4 bytes) (codes "data") then data_of format (u32_at bytes 4) (drop 8 bytes)
@@ -137,7 +117,7 @@ chunk_then format bytes more =
 
 -- The chunks from here on, where so many bytes are passed over first, and the format that was seen so far. Behind a
 -- chunk that reaches past the end of the file none is left.
-abbrev pub chunks_from : Option Format → ℕ → List ℕ → Result Sound Refused
+abbrev pub chunks_from : Option Format → ℕ → List ℕ → Result Sound WavFault
 chunks_from format skip [] = ended format
 chunks_from format (suc skip) (b ∷ bytes) = chunks_from format skip bytes
 chunks_from format zero (b ∷ bytes) =
@@ -148,7 +128,7 @@ abbrev pub is_riff : List ℕ → Bool
 is_riff bytes = not (nat_lt (length bytes) 12) && bytes_eq (take 4 bytes) (codes "RIFF") && bytes_eq (take 4 (drop 8 bytes)) (codes "WAVE")
 
 -- the sound of a file, or the first that refuses it
-abbrev pub wav_of : List ℕ → Result Sound Refused
+abbrev pub wav_of : List ℕ → Result Sound WavFault
 wav_of bytes = if is_riff bytes then chunks_from None 0 (drop 12 bytes) else Err NotRiff
 
 -- ---- what is written
@@ -158,12 +138,6 @@ u16_bytes n = bytes_low_first 0 2 n
 
 abbrev pub u32_bytes : ℕ → List ℕ
 u32_bytes n = bytes_low_first 0 4 n
-
-abbrev pub i16_bytes : ℤ → List ℕ
-i16_bytes s = u16_bytes (cast_unsigned w16 s)
-
-abbrev pub frame_bytes : Frame → List ℕ
-frame_bytes frame = i16_bytes frame.left ++ i16_bytes frame.right
 
 -- the RIFF header, and the size of all that follows it
 abbrev pub riff_header : ℕ → List ℕ
@@ -184,4 +158,4 @@ data_head count = codes "data" ++ u32_bytes (4 * count)
 -- the file of two channels
 abbrev pub wav_text : List Frame → ℕ → List ℕ
 wav_text frames rate =
-    riff_header (length frames) ++ (format_head ++ (format_tail rate ++ (data_head (length frames) ++ flat_map frame_bytes frames)))
+    riff_header (length frames) ++ (format_head ++ (format_tail rate ++ (data_head (length frames) ++ frame_bytes frames)))

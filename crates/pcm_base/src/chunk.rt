@@ -1,6 +1,6 @@
 // A part of a recording, as it goes from the microphone to the track.
 ghost use Rattle.std.specs.Prelude.{◌≡◌, ◌<◌, ◌≤◌, ◌↔◌, ◌^◌, length, IsTrue};
-ghost use Rattle.pcm_base.specs.Recordings.{part};
+ghost use Rattle.pcm_base.specs.Recordings.{numbered_part};
 
 use std::marker::Model;
 
@@ -39,7 +39,7 @@ impl Chunk {
     /// A chunk of these samples. Of none it is the end mark.
     pub fn new(number: u32, samples: &[i16]) -> Chunk
         requires { length samples.now ≤ 256 }
-        ensures { result ≡ part number samples.now }
+        ensures { result ≡ numbered_part number samples.now }
     {
         let mut all = [0i16; CHUNK_SAMPLES];
         let count = samples.len();

@@ -1,5 +1,6 @@
 // What the editor is asked for.
 use super::lists::Samples;
+use super::name::Name;
 use super::sound::Side;
 
 /// A line of the script. Places and lengths are counted in cells, from 0; a range has its first cell and not its last.
@@ -130,11 +131,47 @@ pub enum Command {
     },
     /// Tells the tracks.
     Tracks,
+    /// Removes block files that nothing names, those of the lowest ids first: all, or so many at most.
+    Reclaim {
+        limit: Option<u64>,
+    },
+    /// Adds a track for each channel of a sound.
+    Import {
+        name: Name,
+    },
+    /// Writes the mix as a sound.
+    Export {
+        name: Name,
+    },
 }
 
 /// What one turn may ask of an editor.
 #[derive(Debug, Drop)]
 pub enum Call {
     /// A line of the script.
-    Line { command: Command },
+    Line {
+        command: Command,
+    },
+    /// The next samples of a recording, at most 256, at the end of a track. The tag is the recording's number.
+    Piece {
+        track: u64,
+        tag: u64,
+        samples: Samples,
+    },
+    /// Keeps the current project as it is, by a number.
+    Pin,
+    /// Tells how many frames the mix of a pin has.
+    PinLen {
+        pin: u64,
+    },
+    /// Tells the frames of the mix of a pin, from a place on, as many as are there, up to a number.
+    ReadPin {
+        pin: u64,
+        from: u64,
+        count: u64,
+    },
+    /// Lets a pin go.
+    Unpin {
+        pin: u64,
+    },
 }

@@ -7,7 +7,7 @@ use Rattle.pcm_base.specs.declared.sound.Cell.{Cell}
 use Rattle.pcm_base.specs.Cells.{Track, Project, longest, with_cells, each_edited}
 use Rattle.pcm_base.specs.State.{State, current}
 use Rattle.plain_editor.specs.Places.{IsHere}
-use Rattle.pcm_base.specs.Tests.{length_limit, pasted_lengths, too_narrow, bad_range, run_tests}
+use Rattle.pcm_base.specs.Refusals.{length_limit, pasted_lengths, too_narrow, bad_range, run_tests}
 use Rattle.plain_editor.specs.declared.track.PlainTrack.{PlainTrack}
 use Rattle.plain_editor.specs.declared.runs.Pasting.{Pasting}
 use Rattle.plain_editor.specs.Runs.{length_by, paste_by, edited_from, FitIn, IsRun}

@@ -3,14 +3,16 @@ use Rattle.std.proofs.lemmas.Bool.Decides.{nat_tests}
 use Rattle.std.proofs.Common.{arith, ◌≤◌, ◌^◌, ◌≡◌, ℕ, ◌+◌, ◌-◌, ◌<◌, get_or, set, add-one, inl, inr, Result, Ok, Err, Some, None, List, [], ◌∷◌, ◌++◌, length, take, drop, map, refl, sym, ap, ◌∙◌}
 use Rattle.std.proofs.lemmas.List.{map-append, take-map, drop-map, length-map, drop_more, set_split}
 use Rattle.pcm_base.specs.State.{State, first_point, current}
-use Rattle.pcm_base.specs.Tests.{tests_of, no_track, no_room}
-use Rattle.pcm_base.specs.Step.{after, MayAnswer, with_project}
-use Rattle.pcm_base.specs.Run.{Step}
-use Rattle.pcm_base.specs.declared.command.Call.{Call}
+use Rattle.pcm_base.specs.Refusals.{no_track}
+use Rattle.pcm_base.specs.Counters.{no_room}
+use Rattle.plain_editor.specs.Steps.{tests_of}
+use Rattle.pcm_base.specs.Step.{with_project}
+use Rattle.plain_editor.specs.Steps.{after, MayAnswer}
+use Rattle.plain_editor.specs.Steps.{Step}
+use Rattle.pcm_base.specs.declared.command.Command.{Command}
 use Rattle.pcm_base.specs.declared.refusal.Refusal.{Refusal}
 use Rattle.pcm_base.specs.declared.answer.Reply.{Reply}
 use Rattle.pcm_base.specs.declared.answer.Reply.TheVariants.{Refused, Done}
-use Rattle.pcm_base.specs.declared.command.Call.TheVariants as call
 use Rattle.pcm_base.specs.declared.command.Command.{Command}
 use Rattle.plain_editor.specs.Takes.{Takes, Pushed}
 use Rattle.pcm_base.specs.History.{newest}
@@ -34,10 +36,10 @@ current_is points cursor p within is =
     let here : drop cursor points ≡ p ∷ drop (cursor + 1) points = drop_more points cursor p within ∙ ap (λ x. x ∷ drop (cursor + 1) points) (sym is) in
     rw (drop-map point_of cursor points, here)
 
-pub allowed : (s t : State) (c : Call) (r : Reply) → tests_of s c ≡ None → MayAnswer s c r → t ≡ after s c → Step s c r t
+pub allowed : (s t : State) (c : Command) (r : Reply) → tests_of s c ≡ None → MayAnswer s c r → t ≡ after s c → Step s c r t
 allowed s t c r none may is = inl (rw none (may, is))
 
-pub refused : (s t : State) (c : Call) (reason : Refusal) → tests_of s c ≡ Some reason → t ≡ s → Step s c (Refused reason) t
+pub refused : (s t : State) (c : Command) (reason : Refusal) → tests_of s c ≡ Some reason → t ≡ s → Step s c (Refused reason) t
 refused s t c reason some is = inl (rw some (refl, is))
 
 -- the track at a place of the tracks
@@ -94,9 +96,9 @@ dropped_here s id i cs tracks x here same is =
     dropped_view tracks i x within is ∙ ap (replaced_in i (λ _. [])) same ∙ sym (here.place.replaces (λ _. []))
 
 -- an edit whose project was pushed, or for which memory was wanting
-pub edit_taken : (result : Result Reply Refusal) (s t : State) (c : Command) (p : Project) → tests_of s (call.Line c) ≡ None → MayAnswer s (call.Line c) Done → after s (call.Line c) ≡ with_project s p →
+pub edit_taken : (result : Result Reply Refusal) (s t : State) (c : Command) (p : Project) → tests_of s c ≡ None → MayAnswer s c Done → after s c ≡ with_project s p →
     Pushed p s result t → Takes c s result t
-edit_taken (Ok r) s t c p none may is pushed = allowed s t (call.Line c) r none (rw pushed.0 may) (pushed.1 ∙ sym is)
+edit_taken (Ok r) s t c p none may is pushed = allowed s t c r none (rw pushed.0 may) (pushed.1 ∙ sym is)
 edit_taken (Err reason) s t c p none may is pushed = inr (ap Refused pushed.0, pushed.1)
 
 -- a line that needs no track id has room for it

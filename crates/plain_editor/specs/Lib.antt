@@ -3,3 +3,4 @@ pub mod Runs
 pub mod Scans
 pub mod Takes
 pub mod View
+pub mod Steps

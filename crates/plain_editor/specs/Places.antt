@@ -4,7 +4,7 @@ use Rattle.pcm_base.specs.declared.sound.Cell.{Cell}
 use Rattle.pcm_base.specs.declared.refusal.Refusal.{Refusal}
 use Rattle.pcm_base.specs.Cells.{Track, Project, tracks_from, cells_at, replaced_at, run_edited, each_edited, edited_at}
 use Rattle.pcm_base.specs.State.{State, current}
-use Rattle.pcm_base.specs.Tests.{no_track}
+use Rattle.pcm_base.specs.Refusals.{no_track}
 
 -- the first of some tracks replaced
 abbrev pub first_replaced : (Track → Project) → Project → Project

@@ -6,7 +6,7 @@ use Rattle.pcm_base.specs.declared.command.Command.TheVariants as command
 use Rattle.pcm_base.specs.Cells.{Project, each_edited}
 use Rattle.pcm_base.specs.Edits.{deleted, split_deleted, inserted, pasted_over}
 use Rattle.pcm_base.specs.State.{State, current}
-use Rattle.pcm_base.specs.Tests.{inserted_length, covered_length, run_tests}
+use Rattle.pcm_base.specs.Refusals.{inserted_length, covered_length, run_tests}
 use Rattle.pcm_base.specs.declared.refusal.Refusal.{Refusal}
 use Rattle.pcm_base.specs.declared.refusal.Refusal.TheVariants.{EmptyClipboard}
 use Rattle.plain_editor.specs.Places.{Place}

@@ -1,6 +1,6 @@
 // The editor from outside: a fresh one, and a line carried out by the function that is its own.
 ghost use Rattle.std.specs.Prelude.{◌≡◌, IfOk};
-ghost use Rattle.pcm_base.specs.State.{fresh};
+ghost use Rattle.pcm_base.specs.State.{new_state};
 ghost use Rattle.pcm_base.specs.Form.{IsInForm};
 ghost use Rattle.plain_editor.specs.View.{state_of};
 ghost use Rattle.plain_editor.specs.Takes.{Takes};
@@ -14,7 +14,7 @@ use std::alloc::Global;
 impl PlainEditor {
     /// The fresh project: no tracks, and nothing to undo.
     pub fn new(alloc: Global) -> Result<PlainEditor, NoMemory>
-        ensures { IfOk result (λ editor. state_of editor ≡ fresh) }
+        ensures { IfOk result (λ editor. state_of editor ≡ new_state 256) }
     {
         let mut points = Vec::with_capacity(alloc, 1)?;
         points.push(Point {
@@ -101,6 +101,8 @@ impl PlainEditor {
                 columns,
             } => self.envelope(alloc, *track, *from, *to, *columns),
             Command::Tracks => self.tracks(alloc),
+            Command::Reclaim { limit: _ } => Ok(Reply::Freed { count: 0 }),
+            Command::Import { name: _ } | Command::Export { name: _ } => Err(Refusal::NoFile),
         }
     }
 }

@@ -4,7 +4,7 @@ ghost use Rattle.plain_editor.specs.View.{state_of};
 ghost use Rattle.plain_editor.specs.Takes.{Takes};
 
 use super::editor::PlainEditor;
-use super::{cells, tests};
+use super::{cells, refusals};
 use pcm_base::{Command, Refusal, Reply, Samples};
 use std::alloc::Global;
 
@@ -21,9 +21,9 @@ impl PlainEditor {
     {
         let here = self.locate(id)?;
         let samples = samples.as_slice();
-        let whole = tests::inserted_length(here.cells.len() as u64, at, samples.len() as u64);
-        tests::length_limit(whole)?;
-        tests::room(self.commit)?;
+        let whole = refusals::inserted_length(here.cells.len() as u64, at, samples.len() as u64);
+        refusals::length_limit(whole)?;
+        refusals::room(self.commit)?;
         let place = here.place;
         let made = cells::inserted(alloc, here.cells, at as usize, samples)?;
         self.change_cells(alloc, place, made)
@@ -42,9 +42,9 @@ impl PlainEditor {
         ensures { Takes (Command.Ramp id at count start step) (state_of self.old) result (state_of self.new) }
     {
         let here = self.locate(id)?;
-        let whole = tests::inserted_length(here.cells.len() as u64, at, u64::from(count));
-        tests::length_limit(whole)?;
-        tests::room(self.commit)?;
+        let whole = refusals::inserted_length(here.cells.len() as u64, at, u64::from(count));
+        refusals::length_limit(whole)?;
+        refusals::room(self.commit)?;
         let place = here.place;
         let made = cells::inserted_ramp(alloc, here.cells, at as usize, count, start, step)?;
         self.change_cells(alloc, place, made)
@@ -60,8 +60,8 @@ impl PlainEditor {
         ensures { Takes (Command.Delete id from to) (state_of self.old) result (state_of self.new) }
     {
         let here = self.locate(id)?;
-        tests::range(from, to, here.cells.len() as u64)?;
-        tests::room(self.commit)?;
+        refusals::range(from, to, here.cells.len() as u64)?;
+        refusals::room(self.commit)?;
         let place = here.place;
         let made = cells::deleted(alloc, here.cells, from as usize, to as usize)?;
         self.change_cells(alloc, place, made)
@@ -77,8 +77,8 @@ impl PlainEditor {
         ensures { Takes (Command.SplitDelete id from to) (state_of self.old) result (state_of self.new) }
     {
         let here = self.locate(id)?;
-        tests::range(from, to, here.cells.len() as u64)?;
-        tests::room(self.commit)?;
+        refusals::range(from, to, here.cells.len() as u64)?;
+        refusals::room(self.commit)?;
         let place = here.place;
         let made = cells::split_deleted(alloc, here.cells, from as usize, to as usize)?;
         self.change_cells(alloc, place, made)
@@ -94,8 +94,8 @@ impl PlainEditor {
         ensures { Takes (Command.Silence id from to) (state_of self.old) result (state_of self.new) }
     {
         let here = self.locate(id)?;
-        tests::range(from, to, here.cells.len() as u64)?;
-        tests::room(self.commit)?;
+        refusals::range(from, to, here.cells.len() as u64)?;
+        refusals::room(self.commit)?;
         let place = here.place;
         let made = cells::silenced(alloc, here.cells, from as usize, to as usize)?;
         self.change_cells(alloc, place, made)
@@ -111,8 +111,8 @@ impl PlainEditor {
         ensures { Takes (Command.Trim id from to) (state_of self.old) result (state_of self.new) }
     {
         let here = self.locate(id)?;
-        tests::range(from, to, here.cells.len() as u64)?;
-        tests::room(self.commit)?;
+        refusals::range(from, to, here.cells.len() as u64)?;
+        refusals::room(self.commit)?;
         let place = here.place;
         let made = cells::kept_only(alloc, here.cells, from as usize, to as usize)?;
         self.change_cells(alloc, place, made)
@@ -129,8 +129,8 @@ impl PlainEditor {
         ensures { Takes (Command.Gain id from to gain) (state_of self.old) result (state_of self.new) }
     {
         let here = self.locate(id)?;
-        tests::range(from, to, here.cells.len() as u64)?;
-        tests::room(self.commit)?;
+        refusals::range(from, to, here.cells.len() as u64)?;
+        refusals::room(self.commit)?;
         let place = here.place;
         let made = cells::gained(alloc, here.cells, from as usize, to as usize, gain)?;
         self.change_cells(alloc, place, made)

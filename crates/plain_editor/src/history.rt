@@ -3,7 +3,7 @@ ghost use Rattle.plain_editor.specs.View.{state_of};
 ghost use Rattle.plain_editor.specs.Takes.{Takes};
 
 use super::editor::PlainEditor;
-use super::{points, tests};
+use super::{points, refusals};
 use pcm_base::{Command, Refusal, Reply};
 
 impl PlainEditor {
@@ -13,7 +13,7 @@ impl PlainEditor {
         if self.cursor == 0 {
             return Err(Refusal::NothingToUndo);
         }
-        tests::room(self.commit)?;
+        refusals::room(self.commit)?;
         self.cursor -= 1;
         self.commit += 1;
         Ok(Reply::Done)
@@ -25,7 +25,7 @@ impl PlainEditor {
         if self.cursor + 1 == self.points.len() {
             return Err(Refusal::NothingToRedo);
         }
-        tests::room(self.commit)?;
+        refusals::room(self.commit)?;
         self.cursor += 1;
         self.commit += 1;
         Ok(Reply::Done)
@@ -34,8 +34,8 @@ impl PlainEditor {
     pub(crate) fn purge(&mut self, count: u64) -> Result<Reply, Refusal>
         ensures { Takes (Command.Purge count) (state_of self.old) result (state_of self.new) }
     {
-        tests::range(0, count, self.cursor as u64)?;
-        tests::room(self.commit)?;
+        refusals::range(0, count, self.cursor as u64)?;
+        refusals::room(self.commit)?;
         points::drop_oldest(&mut self.points, count as usize);
         self.cursor -= count as usize;
         self.commit += 1;

@@ -9,7 +9,7 @@ ghost use Rattle.plain_editor.specs.Takes.{Takes};
 
 use super::editor::PlainEditor;
 use super::track::PlainTrack;
-use super::{cells, tests, tracks};
+use super::{cells, refusals, tracks};
 use pcm_base::{Cell, Command, Refusal, Reply};
 use std::alloc::{AllocError, Global};
 
@@ -133,9 +133,9 @@ impl PlainEditor {
     {
         let here = self.locate(id)?;
         let run = tracks::behind(self.current(), here.place);
-        tests::narrow(run.len() as u64, count)?;
+        refusals::narrow(run.len() as u64, count)?;
         let longest = tracks::longest(tracks::first(run, count as usize));
-        tests::range(from, to, longest)?;
+        refusals::range(from, to, longest)?;
         Ok(here.place)
     }
 
@@ -191,7 +191,7 @@ impl PlainEditor {
         ensures { Takes (cut_line cutting id count from to) (state_of self.old) result (state_of self.new) }
     {
         let place = self.locate_run(id, count, from, to)?;
-        tests::room(self.commit)?;
+        refusals::room(self.commit)?;
         let run = tracks::first(tracks::behind(self.current(), place), count as usize);
         let lists = copy_run(alloc, run, from as usize, to as usize)?;
         let range = (from as usize, to as usize);
@@ -238,9 +238,9 @@ impl PlainEditor {
         let place = self.locate(id)?.place;
         let clip = self.clip()?;
         let run = tracks::behind(self.current(), place);
-        tests::narrow(run.len() as u64, clip.len() as u64)?;
-        tests::pasted_lengths(pasting, at, clip, run)?;
-        tests::room(self.commit)?;
+        refusals::narrow(run.len() as u64, clip.len() as u64)?;
+        refusals::pasted_lengths(pasting, at, clip, run)?;
+        refusals::room(self.commit)?;
         let tracks = self.paste_tracks(alloc, place, at as usize, clip, pasting)?;
         self.push_point(tracks)
     }

@@ -3,7 +3,7 @@ ghost use Rattle.plain_editor.specs.View.{state_of};
 ghost use Rattle.plain_editor.specs.Takes.{Takes};
 
 use super::editor::PlainEditor;
-use super::{tests, tracks};
+use super::{refusals, tracks};
 use pcm_base::{Command, Refusal, Reply, Side};
 use std::alloc::Global;
 
@@ -14,8 +14,8 @@ impl PlainEditor {
         if self.current().len() >= 64 {
             return Err(Refusal::TrackLimit);
         }
-        tests::room(self.next_track)?;
-        tests::room(self.commit)?;
+        refusals::room(self.next_track)?;
+        refusals::room(self.commit)?;
         let mut tracks = tracks::share_tracks(alloc, self.current())?;
         tracks.push(tracks::empty_track(alloc, self.next_track)?)?;
         let reply = self.push_point(tracks)?;
@@ -27,7 +27,7 @@ impl PlainEditor {
         ensures { Takes (Command.Drop id) (state_of self.old) result (state_of self.new) }
     {
         let here = self.locate(id)?;
-        tests::room(self.commit)?;
+        refusals::room(self.commit)?;
         let place = here.place;
         let mut tracks = tracks::share_tracks(alloc, self.current())?;
         let _ = tracks.remove(place);
@@ -38,7 +38,7 @@ impl PlainEditor {
         ensures { Takes (Command.Level id gain) (state_of self.old) result (state_of self.new) }
     {
         let here = self.locate(id)?;
-        tests::room(self.commit)?;
+        refusals::room(self.commit)?;
         let place = here.place;
         let mut tracks = tracks::share_tracks(alloc, self.current())?;
         let track = &mut tracks[place];
@@ -50,7 +50,7 @@ impl PlainEditor {
         ensures { Takes (Command.Side id side) (state_of self.old) result (state_of self.new) }
     {
         let here = self.locate(id)?;
-        tests::room(self.commit)?;
+        refusals::room(self.commit)?;
         let place = here.place;
         let mut tracks = tracks::share_tracks(alloc, self.current())?;
         let track = &mut tracks[place];
@@ -62,7 +62,7 @@ impl PlainEditor {
         ensures { Takes (Command.Mute id mute) (state_of self.old) result (state_of self.new) }
     {
         let here = self.locate(id)?;
-        tests::room(self.commit)?;
+        refusals::room(self.commit)?;
         let place = here.place;
         let mut tracks = tracks::share_tracks(alloc, self.current())?;
         let track = &mut tracks[place];

@@ -3,7 +3,7 @@ ghost use Rattle.plain_editor.specs.View.{state_of};
 ghost use Rattle.plain_editor.specs.Takes.{Takes};
 
 use super::editor::PlainEditor;
-use super::{cells, mixing, scanning, tests, tracks};
+use super::{cells, mixing, refusals, scanning, tracks};
 use pcm_base::{CellList, Columns, Command, Frames, Refusal, Reply, TrackLines};
 use std::alloc::Global;
 
@@ -12,7 +12,7 @@ impl PlainEditor {
         ensures { Takes (Command.Show id from to) (state_of self.now) result (state_of self.now) }
     {
         let here = self.locate(id)?;
-        tests::view(from, to)?;
+        refusals::view(from, to)?;
         let made = Vec::from_slice(alloc, cells::part(here.cells, from, to))?;
         Ok(Reply::Cells {
             cells: CellList::new(made),
@@ -22,7 +22,7 @@ impl PlainEditor {
     pub(crate) fn mix(&self, alloc: Global, from: u64, to: u64) -> Result<Reply, Refusal>
         ensures { Takes (Command.Mix from to) (state_of self.now) result (state_of self.now) }
     {
-        tests::view(from, to)?;
+        refusals::view(from, to)?;
         let made = mixing::frames(alloc, self.current(), from, to)?;
         Ok(Reply::Frames {
             frames: Frames::new(made),
@@ -40,8 +40,8 @@ impl PlainEditor {
         ensures { Takes (Command.Envelope id from to columns) (state_of self.now) result (state_of self.now) }
     {
         let here = self.locate(id)?;
-        tests::range(from, to, here.cells.len() as u64)?;
-        tests::columns(columns, to - from)?;
+        refusals::range(from, to, here.cells.len() as u64)?;
+        refusals::columns(columns, to - from)?;
         let made = scanning::columns(alloc, here.cells, from, to, columns)?;
         Ok(Reply::Columns {
             columns: Columns::new(made),

@@ -3,3 +3,4 @@ pub mod Grammar
 pub mod Lines
 pub mod Text
 pub mod Words
+pub mod Faults

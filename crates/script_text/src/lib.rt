@@ -7,16 +7,20 @@
 
 ghost use Rattle.std.specs.Prelude.{◌≡◌, ◌<◌, MatchResult};
 ghost use Rattle.script_text.specs.declared.LineFault.TheVariants.{NoMemory};
+ghost use Rattle.script_text.specs.Faults.{refusal_of};
 
 mod forms;
 mod gathered;
 mod kinds;
 mod parsing;
+#[cfg(test)]
+mod reasons;
 mod text;
 mod words;
 
 pub use parsing::parse;
-use std::alloc::AllocFailed;
+use pcm_base::Refusal;
+use std::alloc::{AllocError, AllocFailed};
 pub use text::{write_answer, write_end};
 pub use words::is_silent;
 
@@ -25,7 +29,7 @@ pub use words::is_silent;
 pub enum LineFault {
     /// It is not in the grammar: its first bad word begins in this column, counted from 1.
     BadLine { column: u64 },
-    /// There was no memory for its samples.
+    /// There was no memory for its samples or its name.
     NoMemory,
 }
 
@@ -34,5 +38,24 @@ impl<T: Drop> From<AllocFailed<T>> for LineFault {
 
     fn from(_e: AllocFailed<T>) -> LineFault {
         LineFault::NoMemory
+    }
+}
+
+impl From<AllocError> for LineFault {
+    ghost from_gives = { λ _ e. e ≡ NoMemory };
+
+    fn from(_e: AllocError) -> LineFault {
+        LineFault::NoMemory
+    }
+}
+
+impl From<LineFault> for Refusal {
+    ghost from_gives = { λ fault reason. reason ≡ refusal_of fault };
+
+    fn from(fault: LineFault) -> Refusal {
+        match fault {
+            LineFault::BadLine { column } => Refusal::BadLine { column },
+            LineFault::NoMemory => Refusal::NoMemory,
+        }
     }
 }

@@ -4,14 +4,26 @@ ghost use Rattle.pcm_base.specs.Causes.{HasCause};
 ghost use Rattle.pcm_base.specs.Envelope.{rms_of};
 ghost use Rattle.edit_ports.specs.Told.{Writes};
 ghost use Rattle.script_text.specs.Gathering.{Adds, Counts};
-ghost use Rattle.script_text.specs.Text.{with_number, with_signed, with_cell, cell_text, with_frame, with_side, with_switch, track_text, column_text, reason_text, reply_text, text_of, end_text};
+ghost use Rattle.script_text.specs.Text.{with_number, with_signed, with_cell, cell_text, with_frame, with_side, with_switch, track_text, column_text, wav_text, damage_text, reason_text, reply_text, text_of, end_text};
 
 use super::gathered::Gathered;
 use edit_ports::Sink;
 use itoa::Buffer;
-use pcm_base::{Answer, Cell, Failed, Frame, Refusal, Reply, Scan, Side, TrackLine, isqrt};
+use pcm_base::{
+    Answer, Cell, Failed, Frame, Refusal, Reply, Scan, Side, TrackLine, WavFault, isqrt,
+};
 
 fn put_number<O: Sink>(text: &mut Gathered, out: &mut O, n: u64)
+    ensures bytes { Adds text.old (O.written out.old) text.new (O.written out.new) (with_number n) }
+    ensures cause { Counts text.old (O.fault_count out.old) text.new (O.fault_count out.new) }
+{
+    let mut buffer = Buffer::new();
+    text.put(out, b" ");
+    text.put(out, buffer.format(n).as_bytes());
+}
+
+// A number of up to 128 bits, as those of a damaged file.
+fn put_wide<O: Sink>(text: &mut Gathered, out: &mut O, n: u128)
     ensures bytes { Adds text.old (O.written out.old) text.new (O.written out.new) (with_number n) }
     ensures cause { Counts text.old (O.fault_count out.old) text.new (O.fault_count out.new) }
 {
@@ -164,12 +176,42 @@ fn put_columns<O: Sink>(text: &mut Gathered, out: &mut O, columns: &[Option<Scan
     }
 }
 
+fn put_wav_fault<O: Sink>(text: &mut Gathered, out: &mut O, fault: &WavFault)
+    ensures bytes { Adds text.old (O.written out.old) text.new (O.written out.new) (wav_text fault.now) }
+    ensures cause { Counts text.old (O.fault_count out.old) text.new (O.fault_count out.new) }
+{
+    match fault {
+        WavFault::NotRiff => text.put(out, b"NotRiff"),
+        WavFault::NoFmt => text.put(out, b"NoFmt"),
+        WavFault::NoData => text.put(out, b"NoData"),
+        WavFault::FmtShort => text.put(out, b"FmtShort"),
+        WavFault::BadTag { tag } => put_named(text, out, b"BadTag", u64::from(*tag)),
+        WavFault::BadBits { bits } => put_named(text, out, b"BadBits", u64::from(*bits)),
+        WavFault::BadChannels { count } => put_named(text, out, b"BadChannels", u64::from(*count)),
+        WavFault::BadAlign { align } => put_named(text, out, b"BadAlign", u64::from(*align)),
+        WavFault::BadRate { rate } => put_named(text, out, b"BadRate", u64::from(*rate)),
+        WavFault::Truncated { want, have } => put_pair(text, out, b"Truncated", *want, *have),
+    }
+}
+
+// A file, a place in it, what is wanted there, and what is found.
+fn put_damage<O: Sink>(text: &mut Gathered, out: &mut O, file: u64, at: u64, want: u128, have: u128)
+    ensures bytes { Adds text.old (O.written out.old) text.new (O.written out.new) (damage_text file at want have) }
+    ensures cause { Counts text.old (O.fault_count out.old) text.new (O.fault_count out.new) }
+{
+    put_pair(text, out, b"Damaged", file, at);
+    put_wide(text, out, want);
+    put_wide(text, out, have);
+}
+
 fn put_reason<O: Sink>(text: &mut Gathered, out: &mut O, reason: &Refusal)
     ensures bytes { Adds text.old (O.written out.old) text.new (O.written out.new) (reason_text reason.now) }
     ensures cause { Counts text.old (O.fault_count out.old) text.new (O.fault_count out.new) }
 {
     match reason {
         Refusal::BadLine { column } => put_named(text, out, b"BadLine", *column),
+        Refusal::Spent { turns } => put_named(text, out, b"Spent", *turns),
+        Refusal::Stopped { faults } => put_named(text, out, b"Stopped", *faults),
         Refusal::NoTrack { id } => put_named(text, out, b"NoTrack", *id),
         Refusal::BadRange => text.put(out, b"BadRange"),
         Refusal::BadColumns => text.put(out, b"BadColumns"),
@@ -179,7 +221,32 @@ fn put_reason<O: Sink>(text: &mut Gathered, out: &mut O, reason: &Refusal)
         Refusal::TooNarrow { have, need } => put_pair(text, out, b"TooNarrow", *have, *need),
         Refusal::NothingToUndo => text.put(out, b"NothingToUndo"),
         Refusal::NothingToRedo => text.put(out, b"NothingToRedo"),
+        Refusal::NoFile => text.put(out, b"NoFile"),
+        Refusal::BadWav { fault } => {
+            text.put(out, b"BadWav ");
+            put_wav_fault(text, out, fault);
+        }
+        Refusal::RateDiffers { have, want } => {
+            put_pair(
+                text,
+                out,
+                b"RateDiffers",
+                u64::from(*have),
+                u64::from(*want),
+            )
+        }
+        Refusal::TooLong { frames } => put_named(text, out, b"TooLong", *frames),
         Refusal::SpaceSpent { have, need } => put_pair(text, out, b"SpaceSpent", *have, *need),
+        Refusal::RecordLimit { len } => put_named(text, out, b"RecordLimit", *len),
+        Refusal::Damaged {
+            file,
+            at,
+            want,
+            have,
+        } => put_damage(text, out, *file, *at, *want, *have),
+        Refusal::DiskFault => text.put(out, b"DiskFault"),
+        Refusal::VaultFault => text.put(out, b"VaultFault"),
+        Refusal::NoPin { pin } => put_named(text, out, b"NoPin", *pin),
         Refusal::NoMemory => text.put(out, b"NoMemory"),
     }
 }
@@ -211,6 +278,10 @@ fn put_reply<O: Sink>(text: &mut Gathered, out: &mut O, commit: u64, reply: &Rep
             put_number(text, out, tracks.len() as u64);
             put_tracks(text, out, tracks);
         }
+        Reply::Freed { count } => put_pair(text, out, b"freed", commit, *count),
+        Reply::Wrote { bytes } => put_pair(text, out, b"wrote", commit, *bytes),
+        Reply::Pinned { pin } => put_pair(text, out, b"pinned", commit, *pin),
+        Reply::Length { frames } => put_pair(text, out, b"length", commit, *frames),
         Reply::Refused { reason } => {
             put_named(text, out, b"no", commit);
             text.put(out, b" ");

@@ -1,19 +1,18 @@
 -- A session: what the lines of a script are answered.
 use Rattle.std.specs.Prelude.{◌≡◌, ◌⊎◌, ℕ, List, [], ◌∷◌, Bool, true, false, Result, Ok, Err}
 use Rattle.pcm_base.specs.declared.command.Command.{Command}
-use Rattle.pcm_base.specs.declared.command.Call.TheVariants as call
 use Rattle.pcm_base.specs.declared.refusal.Refusal.TheVariants.{BadLine, NoMemory}
 use Rattle.pcm_base.specs.declared.answer.Reply.TheVariants.{Refused}
 use Rattle.pcm_base.specs.declared.answer.Reply.{Reply}
 use Rattle.pcm_base.specs.declared.answer.Answer.{Answer}
 use Rattle.pcm_base.specs.State.{State}
-use Rattle.pcm_base.specs.Run.{Step, Run, Entry}
+use Rattle.plain_editor.specs.Steps.{Step, Run, Taken}
 use Rattle.script_text.specs.Grammar.{line_of, is_silent}
 
 -- what a line is answered, and where that leads: a line out of the grammar is refused by its column and changes nothing, a command takes one step; want of memory may stand in the place of each
 abbrev pub Turn : State → Result Command ℕ → Reply → State → Type 0
 Turn s (Err column) r t = ((r ≡ Refused (BadLine column)) ⊎ (r ≡ Refused NoMemory)) × (t ≡ s)
-Turn s (Ok command) r t = Step s (call.Line command) r t
+Turn s (Ok command) r t = Step s command r t
 
 -- the same of an answer, which tells the commit number after it
 abbrev pub Answers : State → List ℕ → Answer → State → Type 0
@@ -35,13 +34,13 @@ is_refusal (Refused reason) = true
 is_refusal other = false
 
 -- the turns of some lines with these answers: a line with a command and its reply, others have none
-abbrev pub turn_of : Bool → Result Command ℕ → List Answer → (List Answer → List Entry) → List Entry
+abbrev pub turn_of : Bool → Result Command ℕ → List Answer → (List Answer → List Taken) → List Taken
 turn_of true said answers later = later answers
 turn_of false said [] later = []
 turn_of false (Err column) (a ∷ answers) later = later answers
-turn_of false (Ok command) (a ∷ answers) later = record { actor = 0; call = call.Line command; reply = a.reply } ∷ later answers
+turn_of false (Ok command) (a ∷ answers) later = record { command = command; reply = a.reply } ∷ later answers
 
-abbrev pub turns_of : List (List ℕ) → List Answer → List Entry
+abbrev pub turns_of : List (List ℕ) → List Answer → List Taken
 turns_of [] answers = []
 turns_of (line ∷ lines) answers = turn_of (is_silent line) (line_of line) answers (λ later. turns_of lines later)
 

@@ -12,7 +12,6 @@ use super::editor::Editor;
 use super::line::LineBuffer;
 use edit_ports::Sink;
 use pcm_base::{Answer, Command, Failed, Refusal, Reply};
-use script_text::LineFault;
 use std::alloc::Global;
 
 /// A session: the editor, the line that has not ended yet, and whether a line was refused.
@@ -61,11 +60,8 @@ fn line_reply<E: Editor>(alloc: Global, editor: &mut E, line: &LineBuffer) -> Re
         },
         Some(bytes) => match script_text::parse(alloc, bytes) {
             Ok(command) => command_reply(alloc, editor, &command),
-            Err(LineFault::BadLine { column }) => Reply::Refused {
-                reason: Refusal::BadLine { column },
-            },
-            Err(LineFault::NoMemory) => Reply::Refused {
-                reason: Refusal::NoMemory,
+            Err(fault) => Reply::Refused {
+                reason: Refusal::from(fault),
             },
         },
     }

@@ -7,7 +7,7 @@ pub struct Case {
     pub status: u8,
 }
 
-pub const CASES: [Case; 31] = [
+pub const CASES: [Case; 32] = [
     // Nothing at all, and lines without an answer.
     Case {
         script: b"",
@@ -91,7 +91,7 @@ pub const CASES: [Case; 31] = [
     },
     // Bytes that are no text, and words of lines that do not exist.
     Case {
-        script: b"\xff\x00\xfe\ntrack\x00\nput 1 0 \xc3\xa4\nreclaim\nimport a.wav\n",
+        script: b"\xff\x00\xfe\ntrack\x00\nput 1 0 \xc3\xa4\nrewind\nexports a.wav\n",
         text: b"no 0 BadLine 1\nno 0 BadLine 1\nno 0 BadLine 9\nno 0 BadLine 1\nno 0 BadLine 1\nend 0\n",
         status: 1,
     },
@@ -189,6 +189,12 @@ pub const CASES: [Case; 31] = [
     Case {
         script: b"track\nramp 1 0 0 1 1\nramp 1 0 1048577 0 0\nramp 1 0 1 32768 0\nramp 1 0 1 0\nramp 1 0 1 0 0 0\ncopy 1 0 0 1\ncut 1 1 0 x\nsplit-cut 1\npaste 1\npaste-over 1 0 0\ngain 1 0 1 1048577\ngain 1 0 1\ntrim 1 0 1 1\nsilence 1 0\nsplit-delete 1 x 1\nmix 0\nmix 0 1 2\nenvelope 1 0 1\ncopy 1 9223372036854775807 0 1\n",
         text: b"ok 1\nno 1 BadLine 10\nno 1 BadLine 10\nno 1 BadLine 12\nno 1 BadLine 13\nno 1 BadLine 16\nno 1 BadLine 8\nno 1 BadLine 11\nno 1 BadLine 12\nno 1 BadLine 8\nno 1 BadLine 16\nno 1 BadLine 12\nno 1 BadLine 11\nno 1 BadLine 12\nno 1 BadLine 12\nno 1 BadLine 16\nno 1 BadLine 6\nno 1 BadLine 9\nno 1 BadLine 15\nno 1 TooNarrow 1 9223372036854775807\nend 1\n",
+        status: 1,
+    },
+    // Lines of files: nothing is to be removed, and there are no sounds.
+    Case {
+        script: b"reclaim\nreclaim 3\nimport a.wav\nexport b.wav\nimport\nexport .x\nreclaim x\nimport a b\n",
+        text: b"freed 0 0\nfreed 0 0\nno 0 NoFile\nno 0 NoFile\nno 0 BadLine 7\nno 0 BadLine 8\nno 0 BadLine 9\nno 0 BadLine 10\nend 0\n",
         status: 1,
     },
 ];

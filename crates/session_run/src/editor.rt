@@ -2,8 +2,7 @@
 ghost use Rattle.std.specs.Prelude.{◌≡◌, MatchResult};
 ghost use Rattle.pcm_base.specs.Form.{IsInForm};
 ghost use Rattle.pcm_base.specs.State.{State};
-ghost use Rattle.pcm_base.specs.Run.{Step};
-ghost use Rattle.pcm_base.specs.declared.command.Call.TheVariants as call;
+ghost use Rattle.plain_editor.specs.Steps.{Step};
 ghost use Rattle.pcm_base.specs.declared.answer.Reply.TheVariants as reply;
 
 use pcm_base::{Command, Refusal, Reply};
@@ -18,8 +17,8 @@ pub trait Editor {
     fn apply(&mut self, alloc: Global, command: &Command) -> Result<Reply, Refusal>
         requires { IsInForm command.now }
         ensures { MatchResult result
-            (λ r. Step (state self.old) (call.Line command.now) r (state self.new))
-            (λ reason. Step (state self.old) (call.Line command.now) (reply.Refused reason) (state self.new)) };
+            (λ r. Step (state self.old) command.now r (state self.new))
+            (λ reason. Step (state self.old) command.now (reply.Refused reason) (state self.new)) };
 
     /// The number of commits so far.
     fn commit_number(&self) -> u64

@@ -1,6 +1,6 @@
 // The call of the program.
 ghost use Rattle.std.specs.Prelude.{◌≡◌, ◌⊎◌, ◌<◌, IsTrue, IsFalse, map, codes, string_bytes};
-ghost use Rattle.pcm_base.specs.State.{fresh};
+ghost use Rattle.pcm_base.specs.State.{new_state};
 ghost use Rattle.pcm_base.specs.Causes.{Rose};
 ghost use Rattle.plain_editor.specs.View.{state_of};
 ghost use Rattle.session_run.specs.Call.{is_try, Refuses, Transcript};
@@ -35,9 +35,10 @@ pub fn studio_call<A: Source, O: Sink>(
     ensures usage { IsFalse (is_try (map string_bytes words.now)) →
         Refuses (codes "refused usage\n") result 2 (A.left script.old) (A.left script.new)
         (O.written out.old) (O.written out.new) (O.fault_count out.old) (O.fault_count out.new) }
+    ensures unread { IsFalse (is_try (map string_bytes words.now)) → A.fault_count script.new ≡ A.fault_count script.old }
     // The word `try` is a session from the fresh project, or memory is wanting before its first line.
     ensures session { IsTrue (is_try (map string_bytes words.now)) →
-        Transcript result fresh (A.left script.old) (A.left script.new)
+        Transcript result (new_state 256) (A.left script.old) (A.left script.new)
         (O.written out.old) (O.written out.new)
         (A.fault_count script.old) (A.fault_count script.new) (O.fault_count out.old) (O.fault_count out.new)
         ⊎ Refuses (codes "refused NoMemory\n") result 5 (A.left script.old) (A.left script.new)

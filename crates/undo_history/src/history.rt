@@ -1,7 +1,6 @@
 // Points behind one another.
 ghost use Rattle.std.specs.Prelude.{◌≡◌, ◌⊎◌, ◌+◌, ◌-◌, ◌<◌, ◌≤◌, Some, IfOk, IfErr, OnOk, OnErr, length, slice_index, slice_get};
-ghost use Rattle.pcm_base.specs.History.{edited, at_cursor, purged};
-ghost use Rattle.undo_history.specs.Stored.{IsHistory, amended, history_of_one, points_of, tags_of};
+ghost use Rattle.pcm_base.specs.History.{IsHistory, history_of_one, points_of, tags_of, edited, amended, at_cursor, purged};
 
 use pcm_base::{NoMemory, Refusal};
 use std::alloc::Global;
@@ -18,8 +17,8 @@ pub struct History<P> {
 
 impl<P> Model for History<P> {
     ghost use Rattle.std.specs.VecDeque.{deque_capacity};
-    ghost use Rattle.pcm_base.specs.History.{History};
-    ghost use Rattle.undo_history.specs.Stored.{Stored, IsHistory};
+    ghost use Rattle.pcm_base.specs.History.{History, IsHistory};
+    ghost use Rattle.undo_history.specs.Stored.{Stored};
 
     ghost Value = { Stored P };
 

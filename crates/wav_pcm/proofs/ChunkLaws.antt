@@ -1,10 +1,10 @@
 -- The chunks of a file, one after the other.
-use Rattle.std.proofs.Common.{◌≡◌, ◌≤◌, ◌<◌, ℕ, zero, suc, ◌+◌, List, [], ◌∷◌, length, take, drop, true, false, Option, Some, None, Result, Ok, Err, refl, sym, ap, ◌∙◌, arith}
+use Rattle.std.proofs.Common.{◌≡◌, ◌≤◌, ◌<◌, ℕ, zero, suc, ◌+◌, List, [], ◌∷◌, length, take, drop, true, false, Option, Result, Ok, Err, refl, sym, ap, ◌∙◌, arith}
 use Rattle.std.specs.Prelude.{codes}
 use Rattle.std.specs.Str.{bytes_eq}
 use Rattle.std.proofs.lemmas.Bool.{lt-ltb, le-ltb}
-use Rattle.wav_pcm.specs.Wavs.{IsRefusal}
-use Rattle.pcm_base.specs.Wave.{Format, Sound, Refused, chunks_from, data_of, ended, seen_after, u32_at, padded}
+use Rattle.pcm_base.specs.declared.wav.WavFault.{WavFault}
+use Rattle.pcm_base.specs.Wave.{Format, Sound, chunks_from, data_of, ended, seen_after, u32_at, padded}
 
 skip_all : (f : Option Format) (k : ℕ) (xs : List ℕ) → chunks_from f k xs ≡ chunks_from f 0 (drop k xs)
 skip_all f zero xs = refl
@@ -32,7 +32,7 @@ goes_on f next (x ∷ xs) le is seen =
     (skip_all next (7 + padded (u32_at (x ∷ xs) 4)) xs ∙ ap (λ (k : ℕ). chunks_from next 0 (drop k (x ∷ xs))) (sym place))
 
 -- a `fmt ` chunk that refuses the file
-pub refuses : (f : Option Format) (why : Refused) (xs : List ℕ) → 8 ≤ length xs → bytes_eq (take 4 xs) (codes "data") ≡ false
+pub refuses : (f : Option Format) (why : WavFault) (xs : List ℕ) → 8 ≤ length xs → bytes_eq (take 4 xs) (codes "data") ≡ false
     → seen_after f (take 4 xs) (u32_at xs 4) (drop 8 xs) ≡ Err why → chunks_from f 0 xs ≡ Err why
 refuses f why [] le is seen = absurd (omega arith)
 refuses f why (x ∷ xs) le is seen = rw (le-ltb (length (x ∷ xs)) 8 le, is, seen) refl
@@ -42,19 +42,19 @@ same_seen : (f : Option Format) (n : ℕ) (xs ys : List ℕ) → n ≡ u32_at xs
     → seen_after f (take 4 xs) n ys ≡ seen_after f (take 4 xs) (u32_at xs 4) (drop 8 xs)
 same_seen f n xs ys size body = ap (λ (m : ℕ). seen_after f (take 4 xs) m ys) size ∙ ap (seen_after f (take 4 xs) (u32_at xs 4)) body
 
--- an error that may be want of memory
-pub refusal_found : (why : Option Refused) (f : Option Format) (n : ℕ) (xs ys : List ℕ) (told : Result Sound Refused) → chunks_from f 0 xs ≡ told → 8 ≤ length xs → bytes_eq (take 4 xs) (codes "data") ≡ false
-    → n ≡ u32_at xs 4 → ys ≡ drop 8 xs → IsRefusal why (seen_after f (take 4 xs) n ys) → IsRefusal why told
-refusal_found None f n xs ys told whole le is size body seen = tt
-refusal_found (Some why) f n xs ys told whole le is size body seen = sym whole ∙ refuses f why xs le is (sym (same_seen f n xs ys size body) ∙ seen)
+-- what refuses a chunk refuses the file
+pub refusal_found : (why : WavFault) (f : Option Format) (n : ℕ) (xs ys : List ℕ) (told : Result Sound WavFault)
+    → chunks_from f 0 xs ≡ told → 8 ≤ length xs → bytes_eq (take 4 xs) (codes "data") ≡ false
+    → n ≡ u32_at xs 4 → ys ≡ drop 8 xs → seen_after f (take 4 xs) n ys ≡ Err why → told ≡ Err why
+refusal_found why f n xs ys told whole le is size body seen =
+    sym whole ∙ refuses f why xs le is (sym (same_seen f n xs ys size body) ∙ seen)
 
-pub refusal_end : (why : Option Refused) (f : Option Format) (xs : List ℕ) (told : Result Sound Refused) → chunks_from f 0 xs ≡ told → length xs < 8
-    → IsRefusal why (ended f) → IsRefusal why told
-refusal_end None f xs told whole lt is = tt
-refusal_end (Some why) f xs told whole lt is = sym whole ∙ chunks_end f xs lt ∙ is
+pub refusal_end : (why : WavFault) (f : Option Format) (xs : List ℕ) (told : Result Sound WavFault)
+    → chunks_from f 0 xs ≡ told → length xs < 8 → ended f ≡ Err why → told ≡ Err why
+refusal_end why f xs told whole lt is = sym whole ∙ chunks_end f xs lt ∙ is
 
 -- the chunks behind this one say the same
-pub passed : (f next : Option Format) (n : ℕ) (xs ys rest : List ℕ) (told : Result Sound Refused) → chunks_from f 0 xs ≡ told → 8 ≤ length xs → bytes_eq (take 4 xs) (codes "data") ≡ false
+pub passed : (f next : Option Format) (n : ℕ) (xs ys rest : List ℕ) (told : Result Sound WavFault) → chunks_from f 0 xs ≡ told → 8 ≤ length xs → bytes_eq (take 4 xs) (codes "data") ≡ false
     → n ≡ u32_at xs 4 → ys ≡ drop 8 xs → seen_after f (take 4 xs) n ys ≡ Ok next → rest ≡ drop (8 + padded n) xs → chunks_from next 0 rest ≡ told
 passed f next n xs ys rest told whole le is size body seen behind =
     ap (chunks_from next 0) behind ∙ ap (λ (m : ℕ). chunks_from next 0 (drop (8 + padded m) xs)) size

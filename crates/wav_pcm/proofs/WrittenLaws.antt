@@ -1,7 +1,6 @@
 -- What is written is read back.
 use Rattle.std.proofs.Common.{◌≡◌, ◌<◌, ◌^◌, ℕ, zero, suc, ◌+◌, ◌*◌, ◌/◌, ℤ, List, [], ◌∷◌, ◌++◌, length, take, drop, map, get_or, Bool, ◌==◌, Some, None, Ok, Err, refl, sym, ap, ◌∙◌, arith}
 use Rattle.std.specs.Prelude.{if◌then◌else◌, slice_index}
-use Rattle.std.specs.List.{flat_map}
 use Rattle.std.specs.Int.{w16, byte_at, cast_signed, cast_unsigned}
 use Rattle.std.proofs.lemmas.Bool.{ne_eqb, le-ltb}
 use Rattle.std.proofs.lemmas.Int.{to_z-of_z}
@@ -12,7 +11,9 @@ use Rattle.std.proofs.Math.Facts.{Fits-of_z}
 use mir.Val.{SFits}
 use Rattle.byteorder.specs.Numbers.{little_number-reads_back}
 use Rattle.pcm_base.specs.declared.sound.Frame.{Frame}
-use Rattle.pcm_base.specs.Wave.{Format, BadRate, wav_of, wav_text, riff_header, format_head, format_tail, data_head, frame_bytes, chunks_from, data_of, seen_after, some_format, u32_at, i16_at, sound_of, channel_of}
+use Rattle.pcm_base.specs.Recordings.{bytes_of_frame, frame_bytes}
+use Rattle.pcm_base.specs.declared.wav.WavFault.TheVariants.{BadRate}
+use Rattle.pcm_base.specs.Wave.{Format, wav_of, wav_text, riff_header, format_head, format_tail, data_head, chunks_from, data_of, seen_after, some_format, u32_at, i16_at, sound_of, channel_of}
 use Rattle.wav_pcm.specs.Wavs.{FramesFit, stereo}
 use Rattle.wav_pcm.proofs.ChunkLaws.{goes_on, data_found}
 
@@ -50,9 +51,9 @@ data_read format n rest len few =
     ∙ ap (λ (size : ℕ). data_of (Some format) size rest) (four_back (4 * n) (omega arith))
     ∙ rw (ne_eqb (4 * n) 4294967295 (omega arith), le-ltb (length rest) (4 * n) (omega (arith, len))) (ap (λ (ys : List ℕ). Ok (sound_of format ys)) (take_all (4 * n) rest (omega (arith, len))))
 
-length_frames : (frames : List Frame) → length (flat_map frame_bytes frames) ≡ 4 * length frames
+length_frames : (frames : List Frame) → length (frame_bytes frames) ≡ 4 * length frames
 length_frames [] = refl
-length_frames (f ∷ fs) = ap length (flat_map-cons frame_bytes f fs) ∙ omega (arith, length_frames fs)
+length_frames (f ∷ fs) = ap length (flat_map-cons bytes_of_frame f fs) ∙ omega (arith, length_frames fs)
 
 sample_back : (s : ℤ) → SFits w16 s → cast_signed w16 (byte_at 0 (cast_unsigned w16 s) + 256 * byte_at 1 (cast_unsigned w16 s)) ≡ s
 sample_back s fits =
@@ -60,29 +61,29 @@ sample_back s fits =
     ap (cast_signed w16) (two_back (cast_unsigned w16 s) (omega (arith, small.fits))) ∙ to_z-of_z w16 s fits
 
 -- the bytes behind those of a frame
-behind : (f : Frame) (fs : List Frame) (at k : ℕ) → at ≡ 4 + k → i16_at (flat_map frame_bytes (f ∷ fs)) at ≡ i16_at (flat_map frame_bytes fs) k
+behind : (f : Frame) (fs : List Frame) (at k : ℕ) → at ≡ 4 + k → i16_at (frame_bytes (f ∷ fs)) at ≡ i16_at (frame_bytes fs) k
 behind f fs at k e =
     let place : at ≡ suc (suc (suc (suc k))) = omega (arith, e) in
     let next : suc (suc (suc (suc k))) + 1 ≡ suc (suc (suc (suc (k + 1)))) = omega arith in
-    ap (λ (bytes : List ℕ). i16_at bytes at) (flat_map-cons frame_bytes f fs)
-    ∙ ap (λ (n : ℕ). i16_at (frame_bytes f ++ flat_map frame_bytes fs) n) place
-    ∙ ap (λ (n : ℕ). cast_signed w16 (slice_index (flat_map frame_bytes fs) k + 256 * slice_index (frame_bytes f ++ flat_map frame_bytes fs) n)) next
+    ap (λ (bytes : List ℕ). i16_at bytes at) (flat_map-cons bytes_of_frame f fs)
+    ∙ ap (λ (n : ℕ). i16_at (bytes_of_frame f ++ frame_bytes fs) n) place
+    ∙ ap (λ (n : ℕ). cast_signed w16 (slice_index (frame_bytes fs) k + 256 * slice_index (bytes_of_frame f ++ frame_bytes fs) n)) next
 
-left_at : (frames : List Frame) (k : ℕ) (e : Frame) → FramesFit frames → k < length frames → i16_at (flat_map frame_bytes frames) (2 * (2 * k + 0)) ≡ (get_or frames k e).left
+left_at : (frames : List Frame) (k : ℕ) (e : Frame) → FramesFit frames → k < length frames → i16_at (frame_bytes frames) (2 * (2 * k + 0)) ≡ (get_or frames k e).left
 left_at [] k e fit lt = absurd (omega arith)
-left_at (f ∷ fs) zero e fit lt = ap (λ (bytes : List ℕ). i16_at bytes 0) (flat_map-cons frame_bytes f fs) ∙ sample_back f.left (fit 0 e (omega arith)).0
+left_at (f ∷ fs) zero e fit lt = ap (λ (bytes : List ℕ). i16_at bytes 0) (flat_map-cons bytes_of_frame f fs) ∙ sample_back f.left (fit 0 e (omega arith)).0
 left_at (f ∷ fs) (suc k) e fit lt = behind f fs (2 * (2 * suc k + 0)) (2 * (2 * k + 0)) (omega arith) ∙ left_at fs k e (λ j d h. fit (suc j) d (omega arith)) (omega arith)
 
-right_at : (frames : List Frame) (k : ℕ) (e : Frame) → FramesFit frames → k < length frames → i16_at (flat_map frame_bytes frames) (2 * (2 * k + 1)) ≡ (get_or frames k e).right
+right_at : (frames : List Frame) (k : ℕ) (e : Frame) → FramesFit frames → k < length frames → i16_at (frame_bytes frames) (2 * (2 * k + 1)) ≡ (get_or frames k e).right
 right_at [] k e fit lt = absurd (omega arith)
-right_at (f ∷ fs) zero e fit lt = ap (λ (bytes : List ℕ). i16_at bytes 2) (flat_map-cons frame_bytes f fs) ∙ sample_back f.right (fit 0 e (omega arith)).1
+right_at (f ∷ fs) zero e fit lt = ap (λ (bytes : List ℕ). i16_at bytes 2) (flat_map-cons bytes_of_frame f fs) ∙ sample_back f.right (fit 0 e (omega arith)).1
 right_at (f ∷ fs) (suc k) e fit lt = behind f fs (2 * (2 * suc k + 1)) (2 * (2 * k + 1)) (omega arith) ∙ right_at fs k e (λ j d h. fit (suc j) d (omega arith)) (omega arith)
 
 -- a channel of the bytes whose samples are those of a side
-channel_back : (frames : List Frame) (side : Frame → ℤ) (c : ℕ) → ((k : ℕ) (e : Frame) → k < length frames → i16_at (flat_map frame_bytes frames) (2 * (2 * k + c)) ≡ side (get_or frames k e))
-    → channel_of 2 (flat_map frame_bytes frames) c ≡ map side frames
+channel_back : (frames : List Frame) (side : Frame → ℤ) (c : ℕ) → ((k : ℕ) (e : Frame) → k < length frames → i16_at (frame_bytes frames) (2 * (2 * k + c)) ≡ side (get_or frames k e))
+    → channel_of 2 (frame_bytes frames) c ≡ map side frames
 channel_back frames side c same =
-    let bytes : List ℕ = flat_map frame_bytes frames in
+    let bytes : List ℕ = frame_bytes frames in
     let all : ℕ = length bytes / (2 * 2) in
     let long : length (channel_of 2 bytes c) ≡ all = length-map-range_with_len (λ k. i16_at bytes (2 * (2 * k + c))) 0 all in
     let wide = length-map frames side in
@@ -97,7 +98,7 @@ channel_back frames side c same =
 pub written_back : (frames : List Frame) (rate : ℕ) → FramesFit frames → 36 + 4 * length frames < 4294967296 → 0 < rate → rate < 2 ^ 32
     → wav_of (wav_text frames rate) ≡ Ok (stereo frames rate)
 written_back frames rate fit few some lt =
-    let rest : List ℕ = flat_map frame_bytes frames in
+    let rest : List ℕ = frame_bytes frames in
     let n : ℕ = length frames in
     riff_read n (format_head ++ (format_tail rate ++ (data_head n ++ rest)))
     ∙ format_read rate (data_head n ++ rest) some lt

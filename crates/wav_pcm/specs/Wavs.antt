@@ -4,7 +4,10 @@ use Rattle.std.specs.Global.{Global}
 use Rattle.std.specs.Int.{w16}
 use Rattle.pcm_base.specs.declared.sound.Frame.{Frame}
 use Rattle.pcm_base.specs.Wave as wave
-use Rattle.pcm_base.specs.Wave.{Sound, Refused, channel_of}
+use Rattle.pcm_base.specs.Wave.{Sound, channel_of}
+use Rattle.pcm_base.specs.declared.wav.WavFault.{WavFault}
+use Rattle.pcm_base.specs.declared.refusal.Refusal.{Refusal}
+use Rattle.pcm_base.specs.declared.refusal.Refusal.TheVariants as refusal
 use Rattle.wav_pcm.specs.declared.bad.BadWav.{BadWav}
 use Rattle.wav_pcm.specs.declared.bad.BadWav.TheVariants as bad
 use Rattle.wav_pcm.specs.declared.bad.BadFrames.{BadFrames}
@@ -13,32 +16,28 @@ use Rattle.wav_pcm.specs.declared.wav.Wav.{Wav}
 use Rattle.wav_pcm.specs.declared.shape.Format.{Format}
 use Rattle.wav_pcm.specs.declared.chunks.Data.{Data}
 
--- why the bytes are refused; None where memory was wanting
-abbrev pub refused_by : BadWav → Option Refused
-refused_by bad.NotRiff = Some wave.NotRiff
-refused_by bad.NoFmt = Some wave.NoFmt
-refused_by bad.NoData = Some wave.NoData
-refused_by bad.FmtShort = Some wave.FmtShort
-refused_by (bad.BadTag tag) = Some (wave.BadTag tag)
-refused_by (bad.BadBits bits) = Some (wave.BadBits bits)
-refused_by (bad.BadChannels count) = Some (wave.BadChannels count)
-refused_by (bad.BadAlign align) = Some (wave.BadAlign align)
-refused_by (bad.BadRate rate) = Some (wave.BadRate rate)
-refused_by (bad.Truncated want have) = Some (wave.Truncated want have)
-refused_by bad.NoMemory = None
-
--- unless memory was wanting, an error is this refusal
-abbrev pub IsRefusal : {T : Type 0} → Option Refused → Result T Refused → Type 0
-IsRefusal None told = Unit {0}
-IsRefusal (Some why) told = told ≡ Err why
-
 abbrev pub sound_in : Wav → Sound
 sound_in wav = record { rate = wav.rate; channels = wav.channels }
 
 -- a reader answers what the bytes say, as a value of its own seen by f
-abbrev pub Says : {T U : Type 0} → (T → U) → Result T BadWav → Result U Refused → Type 0
+abbrev pub Says : {T U : Type 0} → (T → U) → Result T WavFault → Result U WavFault → Type 0
 Says f (Ok value) told = told ≡ Ok (f value)
-Says f (Err why) told = IsRefusal (refused_by why) told
+Says f (Err fault) told = told ≡ Err fault
+
+-- the same, unless memory is wanting
+abbrev pub Reads : {T U : Type 0} → (T → U) → Result T BadWav → Result U WavFault → Type 0
+Reads f (Ok value) told = told ≡ Ok (f value)
+Reads f (Err (bad.Fault fault)) told = told ≡ Err fault
+Reads f (Err bad.NoMemory) told = Unit {0}
+
+-- the reasons of a line
+abbrev pub wav_refusal : BadWav → Refusal
+wav_refusal (bad.Fault fault) = refusal.BadWav fault
+wav_refusal bad.NoMemory = refusal.NoMemory
+
+abbrev pub frames_refusal : BadFrames → Refusal
+frames_refusal (frames.TooLong count) = refusal.TooLong count
+frames_refusal frames.NoMemory = refusal.NoMemory
 
 -- two channels, each of one side of the frames
 abbrev pub stereo : List Frame → ℕ → Sound

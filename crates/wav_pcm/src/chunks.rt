@@ -1,12 +1,12 @@
 // The chunks of a file, up to the `data` chunk.
-ghost use Rattle.std.specs.Prelude.{◌≡◌, ◌≤◌, ◌<◌, ◌+◌, length, take, drop, IfOk, IfSome, OnSome};
+ghost use Rattle.std.specs.Prelude.{◌≡◌, ◌≤◌, ◌<◌, ◌+◌, Err, length, take, drop, IfOk, IfSome, OnSome};
 ghost use Rattle.pcm_base.specs.Wave.{wav_of, data_of, ended, format_of, some_format, seen_after, chunks_from, is_riff as says_riff, padded};
-ghost use Rattle.wav_pcm.specs.Wavs.{Says, IsRefusal, refused_by, seen_in, sound_in_data};
+ghost use Rattle.wav_pcm.specs.Wavs.{Says, seen_in, sound_in_data};
 
-use super::bad::BadWav;
 use super::bytes::u32_at;
 use super::format::read_format;
 use super::shape::Format;
+use pcm_base::WavFault;
 
 /// The `data` chunk: the format of its frames, and its bytes.
 #[derive(Clone, Copy)]
@@ -46,13 +46,10 @@ fn front(bytes: &[u8], size: u32) -> &[u8]
 }
 
 /// The format of a `fmt ` chunk, from its body.
-fn see_format(body: &[u8]) -> Result<Option<Format>, BadWav>
+fn see_format(body: &[u8]) -> Result<Option<Format>, WavFault>
     ensures { Says seen_in result (some_format (format_of body.now)) }
 {
-    match read_format(body) {
-        Ok(format) => Ok(Some(format)),
-        Err(why) => Err(why),
-    }
+    read_format(body).map(Some)
 }
 
 /// The format that was seen after a chunk other than `data`: that of the first `fmt ` chunk.
@@ -61,7 +58,7 @@ fn see(
     name: &[u8],
     size: u32,
     body: &[u8],
-) -> Result<Option<Format>, BadWav>
+) -> Result<Option<Format>, WavFault>
     ensures { Says seen_in result (seen_after (seen_in format) name.now size body.now) }
 {
     match format {
@@ -72,18 +69,18 @@ fn see(
 }
 
 /// The `data` chunk, of which these are the bytes to the end of the file.
-fn take_data(format: Option<Format>, size: u32, body: &[u8]) -> Result<Data<'_>, BadWav>
+fn take_data(format: Option<Format>, size: u32, body: &[u8]) -> Result<Data<'_>, WavFault>
     ensures { Says sound_in_data result (data_of (seen_in format) size body.now) }
 {
     let Some(format) = format else {
-        return Err(BadWav::NoFmt);
+        return Err(WavFault::NoFmt);
     };
     if size == u32::MAX {
         return Ok(Data { format, body });
     }
     let want = size as usize;
     if body.len() < want {
-        return Err(BadWav::Truncated {
+        return Err(WavFault::Truncated {
             want: u64::from(size),
             have: body.len() as u64,
         });
@@ -94,17 +91,17 @@ fn take_data(format: Option<Format>, size: u32, body: &[u8]) -> Result<Data<'_>,
     })
 }
 
-fn end(format: Option<Format>) -> BadWav
-    ensures { IsRefusal (refused_by result) (ended (seen_in format)) }
+fn end(format: Option<Format>) -> WavFault
+    ensures { ended (seen_in format) ≡ Err result }
 {
     match format {
-        None => BadWav::NoFmt,
-        Some(_) => BadWav::NoData,
+        None => WavFault::NoFmt,
+        Some(_) => WavFault::NoData,
     }
 }
 
 /// The `data` chunk among the chunks, or the first that refuses the file.
-fn find_chunk(chunks: &[u8]) -> Result<Data<'_>, BadWav>
+fn find_chunk(chunks: &[u8]) -> Result<Data<'_>, WavFault>
     ensures { Says sound_in_data result (chunks_from None 0 chunks.now) }
 {
     let mut format = None;
@@ -116,7 +113,7 @@ fn find_chunk(chunks: &[u8]) -> Result<Data<'_>, BadWav>
         }
         match see(format, &rest[..4], size, &rest[8..]) {
             Ok(seen) => format = seen,
-            Err(why) => return Err(why),
+            Err(fault) => return Err(fault),
         }
         rest = behind(rest, size);
     }
@@ -124,11 +121,11 @@ fn find_chunk(chunks: &[u8]) -> Result<Data<'_>, BadWav>
 }
 
 /// The `data` chunk of a file, or the first that refuses the file.
-pub(crate) fn find_data(bytes: &[u8]) -> Result<Data<'_>, BadWav>
+pub(crate) fn find_data(bytes: &[u8]) -> Result<Data<'_>, WavFault>
     ensures { Says sound_in_data result (wav_of bytes.now) }
 {
     if !is_riff(bytes) {
-        return Err(BadWav::NotRiff);
+        return Err(WavFault::NotRiff);
     }
     find_chunk(&bytes[12..])
 }

@@ -1,7 +1,8 @@
 // Files that SoX 14.4.2 and FFmpeg 5.1 wrote, of the samples -32,645, -24,726, -16,807 and so on, each 7,919 above the
 // one before.
+use super::read;
 use super::tests::{has_channel, is_mono, refusal};
-use super::{BadWav, read};
+use pcm_base::WavFault;
 use std::alloc::Global;
 use std::test::*;
 
@@ -180,17 +181,23 @@ fn other_formats(rt: HostRuntime) {
     let alloc = rt.alloc();
     assert_eq!(rt;
         refusal(alloc, &SOX_8_BITS),
-        Some(BadWav::BadBits { bits: 8 })
+        Some(WavFault::BadBits { bits: 8 })
     );
     assert_eq!(rt;
         refusal(alloc, &SOX_24_BITS),
-        Some(BadWav::BadBits { bits: 24 })
+        Some(WavFault::BadBits { bits: 24 })
     );
-    assert_eq!(rt; refusal(alloc, &SOX_FLOAT), Some(BadWav::BadTag { tag: 3 }));
-    assert_eq!(rt; refusal(alloc, &SOX_A_LAW), Some(BadWav::BadTag { tag: 6 }));
+    assert_eq!(rt;
+        refusal(alloc, &SOX_FLOAT),
+        Some(WavFault::BadTag { tag: 3 })
+    );
+    assert_eq!(rt;
+        refusal(alloc, &SOX_A_LAW),
+        Some(WavFault::BadTag { tag: 6 })
+    );
     assert_eq!(rt;
         refusal(alloc, &FFMPEG_FLOAT),
-        Some(BadWav::BadTag { tag: 0xFFFE })
+        Some(WavFault::BadTag { tag: 0xFFFE })
     );
-    assert_eq!(rt; refusal(alloc, &FFMPEG_RF64), Some(BadWav::NotRiff));
+    assert_eq!(rt; refusal(alloc, &FFMPEG_RF64), Some(WavFault::NotRiff));
 }

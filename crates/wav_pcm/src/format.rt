@@ -3,9 +3,9 @@ ghost use Rattle.std.specs.Prelude.{◌≡◌, ◌≤◌, ◌<◌, ◌*◌, fals
 ghost use Rattle.pcm_base.specs.Wave.{format_of, fields_of, is_short as says_short, is_pcm as says_pcm, is_channels as says_channels};
 ghost use Rattle.wav_pcm.specs.Wavs.{Says, format_in};
 
-use super::bad::BadWav;
 use super::bytes::{u16_at, u32_at};
 use super::shape::Format;
+use pcm_base::WavFault;
 
 const PCM: u16 = 1;
 
@@ -37,14 +37,14 @@ fn is_channels(count: u16) -> bool
 }
 
 /// What the body of the chunk says, of which the file may have less than its size.
-pub(crate) fn read_format(body: &[u8]) -> Result<Format, BadWav>
+pub(crate) fn read_format(body: &[u8]) -> Result<Format, WavFault>
     ensures { Says format_in result (format_of body.now) }
 {
     if is_short(body) {
-        return Err(BadWav::FmtShort);
+        return Err(WavFault::FmtShort);
     }
     if !is_pcm(body) {
-        return Err(BadWav::BadTag {
+        return Err(WavFault::BadTag {
             tag: u16_at(body, 0),
         });
     }
@@ -52,25 +52,25 @@ pub(crate) fn read_format(body: &[u8]) -> Result<Format, BadWav>
 }
 
 /// The fields behind the tag.
-fn read_fields(body: &[u8]) -> Result<Format, BadWav>
+fn read_fields(body: &[u8]) -> Result<Format, WavFault>
     requires { 16 ≤ length body.now }
     ensures { Says format_in result (fields_of body.now) }
 {
     let bits = u16_at(body, 14);
     if bits != 16 {
-        return Err(BadWav::BadBits { bits });
+        return Err(WavFault::BadBits { bits });
     }
     let channels = u16_at(body, 2);
     if !is_channels(channels) {
-        return Err(BadWav::BadChannels { count: channels });
+        return Err(WavFault::BadChannels { count: channels });
     }
     let align = u16_at(body, 12);
     if align != 2 * channels {
-        return Err(BadWav::BadAlign { align });
+        return Err(WavFault::BadAlign { align });
     }
     let rate = u32_at(body, 4);
     if rate == 0 {
-        return Err(BadWav::BadRate { rate });
+        return Err(WavFault::BadRate { rate });
     }
     Ok(Format { channels, rate })
 }

@@ -1,6 +1,6 @@
 // Files byte by byte: worked ones, each reason once, and files that other programs wrote.
 use super::{BadWav, Wav, read, write};
-use pcm_base::Frame;
+use pcm_base::{Frame, WavFault};
 use std::alloc::{AllocError, Global};
 use std::test::*;
 
@@ -34,10 +34,10 @@ const THREE: [u8; 44] = [
     0x06, 0x00, 0x10, 0x00, 0x64, 0x61, 0x74, 0x61, 0xFF, 0xFF, 0xFF, 0xFF,
 ];
 
-pub(crate) fn refusal(alloc: Global, bytes: &[u8]) -> Option<BadWav> {
+pub(crate) fn refusal(alloc: Global, bytes: &[u8]) -> Option<WavFault> {
     match read(alloc, bytes) {
-        Ok(_) => None,
-        Err(why) => Some(why),
+        Err(BadWav::Fault { fault }) => Some(fault),
+        _ => None,
     }
 }
 
@@ -58,7 +58,7 @@ pub(crate) fn is_mono(alloc: Global, bytes: &[u8], rate: u32, want: &[i16]) -> b
 }
 
 /// The refusal of the worked file with one byte changed.
-fn changed(alloc: Global, place: usize, byte: u8) -> Option<BadWav> {
+fn changed(alloc: Global, place: usize, byte: u8) -> Option<WavFault> {
     let mut bytes = MONO;
     if place < bytes.len() {
         bytes[place] = byte;
@@ -153,30 +153,36 @@ fn worked_files(rt: HostRuntime) -> Result<(), Fail> {
 #[test]
 fn each_reason(rt: HostRuntime) {
     let alloc = rt.alloc();
-    let truncated = BadWav::Truncated { want: 4, have: 3 };
-    assert_eq!(rt; refusal(alloc, &[]), Some(BadWav::NotRiff));
-    assert_eq!(rt; refusal(alloc, &MONO[..11]), Some(BadWav::NotRiff));
-    assert_eq!(rt; changed(alloc, 11, b'e'), Some(BadWav::NotRiff));
-    assert_eq!(rt; refusal(alloc, &MONO[..12]), Some(BadWav::NoFmt));
-    assert_eq!(rt; changed(alloc, 12, b'F'), Some(BadWav::NoFmt));
-    assert_eq!(rt; refusal(alloc, &MONO[..36]), Some(BadWav::NoData));
-    assert_eq!(rt; changed(alloc, 16, 14), Some(BadWav::FmtShort));
-    assert_eq!(rt; changed(alloc, 20, 3), Some(BadWav::BadTag { tag: 3 }));
-    assert_eq!(rt; changed(alloc, 34, 24), Some(BadWav::BadBits { bits: 24 }));
+    let truncated = WavFault::Truncated { want: 4, have: 3 };
+    assert_eq!(rt; refusal(alloc, &[]), Some(WavFault::NotRiff));
+    assert_eq!(rt; refusal(alloc, &MONO[..11]), Some(WavFault::NotRiff));
+    assert_eq!(rt; changed(alloc, 11, b'e'), Some(WavFault::NotRiff));
+    assert_eq!(rt; refusal(alloc, &MONO[..12]), Some(WavFault::NoFmt));
+    assert_eq!(rt; changed(alloc, 12, b'F'), Some(WavFault::NoFmt));
+    assert_eq!(rt; refusal(alloc, &MONO[..36]), Some(WavFault::NoData));
+    assert_eq!(rt; changed(alloc, 16, 14), Some(WavFault::FmtShort));
+    assert_eq!(rt; changed(alloc, 20, 3), Some(WavFault::BadTag { tag: 3 }));
+    assert_eq!(rt;
+        changed(alloc, 34, 24),
+        Some(WavFault::BadBits { bits: 24 })
+    );
     assert_eq!(rt;
         changed(alloc, 22, 0),
-        Some(BadWav::BadChannels { count: 0 })
+        Some(WavFault::BadChannels { count: 0 })
     );
     assert_eq!(rt;
         changed(alloc, 22, 9),
-        Some(BadWav::BadChannels { count: 9 })
+        Some(WavFault::BadChannels { count: 9 })
     );
-    assert_eq!(rt; changed(alloc, 32, 4), Some(BadWav::BadAlign { align: 4 }));
+    assert_eq!(rt;
+        changed(alloc, 32, 4),
+        Some(WavFault::BadAlign { align: 4 })
+    );
     assert_eq!(rt; refusal(alloc, &MONO[..47]), Some(truncated));
     let mut still = MONO;
     still[24] = 0;
     still[25] = 0;
-    assert_eq!(rt; refusal(alloc, &still), Some(BadWav::BadRate { rate: 0 }));
+    assert_eq!(rt; refusal(alloc, &still), Some(WavFault::BadRate { rate: 0 }));
 }
 
 #[test]

@@ -2,7 +2,8 @@
 ghost use Rattle.std.specs.Prelude.{◌≡◌, ◌≤◌, ◌<◌, ◌+◌, ◌*◌, ◌^◌, ◌++◌, length, IfOk, OnOk, IfErr, Ok, FitsSigned};
 ghost use Rattle.std.specs.List.{flat_map};
 ghost use Rattle.std.specs.Int.{w16};
-ghost use Rattle.pcm_base.specs.Wave.{riff_header, format_head, format_tail, data_head, frame_bytes, wav_of, wav_text};
+ghost use Rattle.pcm_base.specs.Wave.{riff_header, format_head, format_tail, data_head, wav_of, wav_text};
+ghost use Rattle.pcm_base.specs.Recordings.{bytes_of_frame, frame_bytes};
 ghost use Rattle.wav_pcm.specs.Wavs.{IsTooLong, FitsFile, FramesFit, stereo};
 
 use super::bad::BadFrames;
@@ -58,7 +59,7 @@ fn write_data_head(count: u32, out: &mut [u8])
 
 fn write_frame(frame: &Frame, out: &mut [u8])
     requires { length out.old ≡ 4 }
-    ensures { out.new ≡ frame_bytes frame.now }
+    ensures { out.new ≡ bytes_of_frame frame.now }
 {
     LittleEndian::write_i16(out, frame.left);
     LittleEndian::write_i16(&mut out[2..], frame.right);
@@ -66,7 +67,7 @@ fn write_frame(frame: &Frame, out: &mut [u8])
 
 fn write_frames(frames: &[Frame], out: &mut [u8])
     requires { length out.old ≡ 4 * length frames.now }
-    ensures { out.new ≡ flat_map frame_bytes frames.now }
+    ensures { out.new ≡ frame_bytes frames.now }
 {
     for i in 0..frames.len() {
         write_frame(&frames[i], &mut out[4 * i..4 * i + 4]);
@@ -77,7 +78,7 @@ fn write_frames(frames: &[Frame], out: &mut [u8])
 fn write_sound(frames: &[Frame], out: &mut [u8])
     requires room { length out.old ≡ 8 + 4 * length frames.now }
     requires few { FitsFile (length frames.now) }
-    ensures { out.new ≡ data_head (length frames.now) ++ flat_map frame_bytes frames.now }
+    ensures { out.new ≡ data_head (length frames.now) ++ frame_bytes frames.now }
 {
     write_data_head(frames.len() as u32, &mut out[..8]);
     write_frames(frames, &mut out[8..]);
@@ -87,7 +88,7 @@ fn write_sound(frames: &[Frame], out: &mut [u8])
 fn write_rest(frames: &[Frame], rate: u32, out: &mut [u8])
     requires room { length out.old ≡ 20 + 4 * length frames.now }
     requires few { FitsFile (length frames.now) }
-    ensures { out.new ≡ format_tail rate ++ (data_head (length frames.now) ++ flat_map frame_bytes frames.now) }
+    ensures { out.new ≡ format_tail rate ++ (data_head (length frames.now) ++ frame_bytes frames.now) }
 {
     write_format_tail(rate, &mut out[..12]);
     write_sound(frames, &mut out[12..]);
@@ -97,7 +98,7 @@ fn write_rest(frames: &[Frame], rate: u32, out: &mut [u8])
 fn write_chunks(frames: &[Frame], rate: u32, out: &mut [u8])
     requires room { length out.old ≡ 32 + 4 * length frames.now }
     requires few { FitsFile (length frames.now) }
-    ensures { out.new ≡ format_head ++ (format_tail rate ++ (data_head (length frames.now) ++ flat_map frame_bytes frames.now)) }
+    ensures { out.new ≡ format_head ++ (format_tail rate ++ (data_head (length frames.now) ++ frame_bytes frames.now)) }
 {
     write_format_head(&mut out[..12]);
     write_rest(frames, rate, &mut out[12..]);

@@ -6,19 +6,19 @@ use Rattle.std.proofs.lemmas.Grind.{flat_map-append}
 use Rattle.std.proofs.lemmas.Slice.{take-put_mid}
 use borrow.Rule.Slice.PartMut.{put_mid}
 use Rattle.pcm_base.specs.declared.sound.Frame.{Frame}
-use Rattle.pcm_base.specs.Wave.{frame_bytes}
+use Rattle.pcm_base.specs.Recordings.{bytes_of_frame, frame_bytes}
 use Rattle.wav_pcm.proofs.writing.write_frames.Goals as goal
 
 frame_written : (frames : List Frame) (i k : ℕ) (out part : List ℕ) (x : Frame) → take (i + 1) frames ≡ take i frames ++ x ∷ [] → 4 * i ≤ length out
-    → take (4 * i) out ≡ flat_map frame_bytes (take i frames) → part ≡ frame_bytes x
-    → take (4 * (i + 1)) (put_mid (4 * i) k out part) ≡ flat_map frame_bytes (take (i + 1) frames)
+    → take (4 * i) out ≡ frame_bytes (take i frames) → part ≡ bytes_of_frame x
+    → take (4 * (i + 1)) (put_mid (4 * i) k out part) ≡ frame_bytes (take (i + 1) frames)
 frame_written frames i k out part x e le before here =
     let long : length part ≡ 4 = ap length here in
-    let more : flat_map frame_bytes (take (i + 1) frames) ≡ flat_map frame_bytes (take i frames) ++ frame_bytes x =
-    ap (flat_map frame_bytes) e ∙ flat_map-append frame_bytes (take i frames) (x ∷ []) in
+    let more : frame_bytes (take (i + 1) frames) ≡ frame_bytes (take i frames) ++ bytes_of_frame x =
+    ap (flat_map bytes_of_frame) e ∙ flat_map-append bytes_of_frame (take i frames) (x ∷ []) in
     take-put_mid (4 * i) k out part (4 * (i + 1)) (omega (arith, long)) le
     ∙ ap (λ (xs : List ℕ). xs ++ part) before
-    ∙ ap (λ (xs : List ℕ). flat_map frame_bytes (take i frames) ++ xs) here
+    ∙ ap (λ (xs : List ℕ). frame_bytes (take i frames) ++ xs) here
     ∙ sym more
 
 pub loop-i-preserved : goal.loop-i-preserved

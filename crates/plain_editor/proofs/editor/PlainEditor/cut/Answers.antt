@@ -3,7 +3,7 @@ use Rattle.std.proofs.Common.{◌≡◌, None, take, drop, map, ap, ◌∙◌}
 use Rattle.pcm_base.specs.Edits.{range_of}
 use Rattle.pcm_base.specs.State.{State}
 use Rattle.pcm_base.specs.Cells.{Project}
-use Rattle.pcm_base.specs.Tests.{no_room}
+use Rattle.pcm_base.specs.Counters.{no_room}
 use Rattle.pcm_base.specs.Step.{with_clipboard}
 use Rattle.plain_editor.specs.View.{state_of, project_of, lists_of}
 use Rattle.plain_editor.proofs.StepLemmas.{tracks_have_room}

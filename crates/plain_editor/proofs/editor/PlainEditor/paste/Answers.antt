@@ -1,10 +1,10 @@
 -- The clipboard is pasted.
 use Rattle.std.proofs.Common.{◌≡◌, None, length, drop, ap, ◌∙◌, refl}
 use Rattle.std.proofs.lemmas.Result.{err_from_is_err_and}
-use Rattle.pcm_base.specs.declared.command.Call.TheVariants as call
 use Rattle.pcm_base.specs.Cells.{Project}
 use Rattle.pcm_base.specs.State.{current}
-use Rattle.pcm_base.specs.Tests.{too_narrow, no_room}
+use Rattle.pcm_base.specs.Refusals.{too_narrow}
+use Rattle.pcm_base.specs.Counters.{no_room}
 use Rattle.plain_editor.specs.Runs.{paste_line}
 use Rattle.plain_editor.specs.View.{state_of, project_of, lists_of}
 use Rattle.plain_editor.proofs.StepLemmas.{tracks_have_room, refused}
@@ -31,7 +31,7 @@ returns-in_err-pasted_lengths c =
     let p = err_from_is_err_and c.from_residual-in_err-pasted_lengths.result c.from_residual-in_err-pasted_lengths.ensures.1 in
     let long = rw run at c.in_err-pasted_lengths.ensures in
     let test = paste_refused a.pasting s a.id a.at place _ clip _ c.in_ok-place.ensures c.in_ok-clip.ensures enough long in
-    rw (p.1, p.2) (refused s s (call.Line (paste_line a.pasting a.id a.at)) _ test refl)
+    rw (p.1, p.2) (refused s s (paste_line a.pasting a.id a.at) _ test refl)
 
 pub returns : goal.returns
 returns c =

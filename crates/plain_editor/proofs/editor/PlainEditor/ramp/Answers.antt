@@ -1,11 +1,11 @@
 -- A ramp at a track.
 use Rattle.std.proofs.Common.{sym, ap, refl, ◌≡◌, None, w16}
 use Rattle.std.proofs.lemmas.Int.{to_z-of_z}
-use Rattle.pcm_base.specs.declared.command.Call.TheVariants as call
 use Rattle.pcm_base.specs.declared.command.Command.TheVariants as command
 use Rattle.pcm_base.specs.Edits.{ramp_of, inserted}
 use Rattle.pcm_base.specs.State.{current}
-use Rattle.pcm_base.specs.Tests.{tests_of, no_room}
+use Rattle.pcm_base.specs.Counters.{no_room}
+use Rattle.plain_editor.specs.Steps.{tests_of}
 use Rattle.pcm_base.specs.Step.{with_project}
 use Rattle.plain_editor.specs.View.{state_of}
 use Rattle.plain_editor.specs.Places.{with_cells_at}
@@ -19,7 +19,7 @@ returns c =
     let line = command.Ramp c.args.id c.args.at c.args.count c.args.start c.args.step in
     let limit = rw c.from.ensures at (rw c.inserted_length-whole.ensures at c.in_ok-length_limit.ensures) in
     let tracks : no_room c.args.self.now.next_track 0 ≡ None = rw (tracks_have_room c.args.self.now.next_track c.args.self.now.tracks) in
-    let tests : tests_of s (call.Line line) ≡ None = rw (here.found, here.cells_are, limit, tracks, c.in_ok-room.ensures) in
+    let tests : tests_of s line ≡ None = rw (here.found, here.cells_are, limit, tracks, c.in_ok-room.ensures) in
     let made = rw (to_z-of_z w16 c.args.start c.ranges.start, to_z-of_z w16 c.args.step c.ranges.step) at c.in_ok-made.ensures.items in
     let edit = sym (here.edits (inserted c.args.at (ramp_of c.args.count c.args.start c.args.step)) c.in_ok-made.made.items made) in
     edit_taken c.change_cells.result s _ line (with_cells_at c.in_ok-here.here.place c.in_ok-made.made.items (current s)) tests refl (ap (with_project s) edit) c.change_cells.ensures

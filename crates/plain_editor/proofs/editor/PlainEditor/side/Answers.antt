@@ -1,10 +1,10 @@
 -- The copy with the track changed.
 use Rattle.std.proofs.Common.{refl, ◌≡◌, ◌∙◌, None}
-use Rattle.pcm_base.specs.declared.command.Call.TheVariants as call
 use Rattle.pcm_base.specs.declared.command.Command.TheVariants as command
 use Rattle.pcm_base.specs.Cells.{Track, changed_at}
 use Rattle.pcm_base.specs.State.{current}
-use Rattle.pcm_base.specs.Tests.{tests_of, no_room}
+use Rattle.pcm_base.specs.Counters.{no_room}
+use Rattle.plain_editor.specs.Steps.{tests_of}
 use Rattle.plain_editor.specs.View.{state_of}
 use Rattle.plain_editor.proofs.StepLemmas.{changed_here, edit_taken, tracks_have_room}
 use Rattle.plain_editor.proofs.editor.PlainEditor.side.Goals as goal
@@ -15,7 +15,7 @@ returns c =
     let here = c.in_ok-here.ensures in
     let line = command.Side c.args.id c.args.side in
     let tracks : no_room c.args.self.now.next_track 0 ≡ None = tracks_have_room c.args.self.now.next_track c.args.self.now.tracks in
-    let tests : tests_of s (call.Line line) ≡ None = rw (here.found, tracks, c.in_ok-room.ensures) in
+    let tests : tests_of s line ≡ None = rw (here.found, tracks, c.in_ok-room.ensures) in
     let same = c.in_ok-tracks.ensures ∙ c.current.ensures in
     let change : Track → Track = λ t. record t { side = c.args.side } in
     let view = changed_here s c.args.id c.in_ok-here.here.place _ c.in_ok-tracks.tracks.items c.index_mut-track.result.now _ change here same c.index_mut-track.ensures.value refl in

@@ -1,6 +1,7 @@
 // The tests that refuse a line. Each is passed, or answers its reason.
 ghost use Rattle.std.specs.Prelude.{◌≡◌, ◌+◌, ◌^◌, ◌<◌, ◌≤◌, [], ◌∷◌};
-ghost use Rattle.pcm_base.specs.Tests.{length_limit, inserted_length, pasted_lengths, too_narrow, bad_columns, bad_range, bad_view, no_room};
+ghost use Rattle.pcm_base.specs.Refusals.{length_limit, inserted_length, pasted_lengths, too_narrow, bad_columns, bad_range, bad_view};
+ghost use Rattle.pcm_base.specs.Counters.{no_room};
 ghost use Rattle.plain_editor.specs.Runs.{length_by};
 ghost use Rattle.plain_editor.specs.View.{project_of, lists_of};
 ghost use Rattle.plain_editor.specs.Takes.{Passes};

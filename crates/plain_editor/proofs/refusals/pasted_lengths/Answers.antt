@@ -1,13 +1,13 @@
 -- One list more, and the end of them.
 use Rattle.std.proofs.Common.{◌≡◌, ◌<◌, ◌+◌, length, drop, ap, sym, ◌∙◌, arith}
 use Rattle.std.proofs.lemmas.Grind.{common_steps}
-use Rattle.pcm_base.specs.Tests.{length_limit, pasted_lengths}
+use Rattle.pcm_base.specs.Refusals.{length_limit, pasted_lengths}
 use Rattle.std.specs.Rc.{rc_slice_items}
 use Rattle.plain_editor.specs.declared.track.PlainTrack.{PlainTrack}
 use Rattle.plain_editor.specs.Runs.{length_by}
 use Rattle.plain_editor.specs.View.{project_of, lists_of, track_of}
 use Rattle.plain_editor.proofs.RunLemmas.{lengths_at, limit_passed, no_lengths}
-use Rattle.plain_editor.proofs.tests.pasted_lengths.Goals as goal
+use Rattle.plain_editor.proofs.refusals.pasted_lengths.Goals as goal
 
 pub loop-i-preserved : goal.loop-i-preserved
 loop-i-preserved c =
