@@ -7,7 +7,7 @@ use Rattle.std.proofs.lemmas.List.FromFn.{get_or-map-range_with_len, length-map-
 use Rattle.disk_model.specs.Disk.{Files, bytes_of}
 use Rattle.peak_summary.specs.declared.stretch.Summary.{Summary}
 use Rattle.peak_summary.specs.Peaks.{frame_count, frame_of, frames_of}
-use Rattle.sample_block.specs.Spelling.{IsSpelled, level_fields}
+use Rattle.sample_block.specs.Spelling.{IsSpelled, level_fields, size_of}
 use Rattle.sample_block.specs.Faults.{difference, frame_in}
 use Rattle.sample_block.specs.Blocks.{blocks}
 use Rattle.sample_block.proofs.Laws.{frame_part}
@@ -98,3 +98,8 @@ frames_more bytes level len from m n = runs (stored_frame bytes level len) from 
 
 pub length_stored : (bytes : List ℕ) (level : Level) (len from n : ℕ) → length (stored_frames bytes level len from n) ≡ n
 length_stored bytes level len from n = length-map-range_with_len (stored_frame bytes level len) from n
+
+-- the frames of a level end within the file
+pub frames_within : (level : Level) (len from n : ℕ) → from + n ≤ frame_count (frame_len level) len → level_place level len + 12 * (from + n) ≤ size_of len
+frames_within Short len from n le = omega (arith, le)
+frames_within Long len from n le = omega (arith, le)

@@ -1,4 +1,4 @@
 pub mod FaultLaws
-pub mod KeptLaws
 pub mod FrameLaws
 pub mod ScanLaws
+pub mod CheckLaws

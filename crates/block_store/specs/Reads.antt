@@ -1,27 +1,16 @@
--- What the reads of a block give, what they leave, and what they find wrong.
-use Rattle.std.specs.Prelude.{◌≡◌, ◌≢◌, ◌≤◌, ◌⊎◌, ℕ, ◌+◌, ◌*◌, ◌-◌, min, map, Bool, List, length, Some, Result, MatchResult}
+-- What the reads of a block give, and what they find wrong.
+use Rattle.std.specs.Prelude.{◌≡◌, ◌<◌, ◌≤◌, ◌⊎◌, ℕ, zero, suc, ◌+◌, ◌*◌, ◌-◌, min, map, List, length, Some, None, Result, MatchResult}
 use Rattle.std.specs.List.{range_with_len}
-use Rattle.disk_model.specs.Moment.{Moment}
-use Rattle.disk_model.specs.Disk.{Files, Follows, StaysStep}
 use Rattle.pcm_base.specs.Causes.{Rose}
 use Rattle.peak_summary.specs.declared.stretch.Summary.{Summary}
 use Rattle.peak_summary.specs.Peaks.{frame_count}
 use Rattle.sample_block.specs.Spelling.{header_fields, size_of}
 use Rattle.sample_block.specs.Faults.{difference, frame_in}
+use Rattle.sample_block.specs.declared.damage.Damaged.{Damaged}
 use Rattle.block_store.specs.declared.fault.BlockFault.{BlockFault}
 use Rattle.block_store.specs.declared.fault.BlockFault.TheVariants as fault
 use Rattle.block_store.specs.declared.frames.Level.{Level}
 use Rattle.block_store.specs.declared.frames.Level.TheVariants.{Short, Long}
-
--- nothing of the disk is changed, and no changing call is counted
-pub record Kept {D : Type 0} (tells keeps : D → Bool) (reads : D → Files) (clock : D → Moment) (may_leave : D → Moment → Files → Type 0) (faults calls : D → ℕ) (old new : D) : Type 0 where
-  pub same_tells : tells new ≡ tells old
-  pub same_reads : reads new ≡ reads old
-  pub same_model : keeps new ≡ keeps old
-  pub same_clock : clock new ≡ clock old
-  pub same_images : Follows StaysStep (clock old) (clock new) (may_leave old) (may_leave new)
-  pub same_faults : faults new ≡ faults old
-  pub same_calls : calls new ≡ calls old
 
 -- the count of failed reads rises where the disk failed, and stays elsewhere
 abbrev pub CountedBy : BlockFault → ℕ → ℕ → Type 0
@@ -31,13 +20,34 @@ CountedBy (fault.Damaged file found) old new = new ≡ old
 abbrev pub Counted : {T : Type 0} → Result T BlockFault → ℕ → ℕ → Type 0
 Counted result old new = MatchResult result (λ _. new ≡ old) (λ why. CountedBy why old new)
 
--- the file of a block of so many samples has another header, told by its first field that differs, or another size,
--- told at 0
-abbrev pub IsFault : ℕ → ℕ → List ℕ → BlockFault → Type 0
-IsFault id len bytes fault.DiskFault = Unit {0}
-IsFault id len bytes (fault.Damaged file found) =
-    (file ≡ id) × ((difference bytes 0 (header_fields id len) ≡ Some found)
-    ⊎ ((found ≡ record { at = 0; want = size_of len; have = length bytes }) × (length bytes ≢ size_of len)))
+-- The file of a block of so many samples ends before this place: its size is told, at 0.
+abbrev pub EndsBefore : (len end : ℕ) → List ℕ → Damaged → Type 0
+EndsBefore len end bytes found = (found ≡ record { at = 0; want = size_of len; have = length bytes }) × (length bytes < end)
+
+-- the same as an answer
+abbrev pub IsEarly : (id len end : ℕ) → List ℕ → BlockFault → Type 0
+IsEarly id len end bytes fault.DiskFault = Unit {0}
+IsEarly id len end bytes (fault.Damaged file found) = (file ≡ id) × EndsBefore len end bytes found
+
+-- the header is there and another block's: its first field that differs is told
+abbrev pub HasOtherHeader : (id len : ℕ) → List ℕ → Damaged → Type 0
+HasOtherHeader id len bytes found = (16 ≤ length bytes) × (difference bytes 0 (header_fields id len) ≡ Some found)
+
+-- A read of bytes before this place was refused: the header is another block's, or else the file ends before the place.
+abbrev pub IsReadFault : (id len end : ℕ) → List ℕ → BlockFault → Type 0
+IsReadFault id len end bytes fault.DiskFault = Unit {0}
+IsReadFault id len end bytes (fault.Damaged file found) =
+    (file ≡ id) × (HasOtherHeader id len bytes found
+    ⊎ (EndsBefore len end bytes found × (16 ≤ length bytes → difference bytes 0 (header_fields id len) ≡ None)))
+
+-- the same of a read of any bytes of the file
+abbrev pub IsFault : (id len : ℕ) → List ℕ → BlockFault → Type 0
+IsFault id len bytes why = IsReadFault id len (size_of len) bytes why
+
+-- where a read of n items ends that end at this place; of none it is the header's end
+abbrev pub end_of : (n place : ℕ) → ℕ
+end_of zero place = 16
+end_of (suc n) place = place
 
 -- how many samples a frame of this level has, but for the last
 abbrev pub frame_len : Level → ℕ

@@ -7,10 +7,11 @@ ghost use Rattle.sample_block.specs.Faults.{difference, frame_in};
 ghost use Rattle.sample_block.specs.Spelling.{size_of, header_fields, IsBlock};
 ghost use Rattle.sample_block.specs.Blocks.{blocks};
 ghost use Rattle.block_store.specs.declared.fault.BlockFault.TheVariants as fault;
-ghost use Rattle.block_store.specs.Reads.{Kept, Counted, IsFault, frame_len, frame_samples, level_place, stored_frames};
+ghost use Rattle.disk_model.specs.Frames.{Kept};
+ghost use Rattle.block_store.specs.Reads.{Counted, IsEarly, IsReadFault, end_of, frame_len, frame_samples, level_place, stored_frames};
 
 use super::fault::BlockFault;
-use super::reads::{read_header, read_part};
+use super::parts::{read_header, read_part};
 use disk_model::Store;
 use pcm_base::BlockRef;
 use peak_summary::Summary;
@@ -65,7 +66,8 @@ fn take_frames(bytes: &[u8], level: Level, len: usize, from: usize, out: &mut [S
     requires few { length out.old ≤ 256 }
     requires size { length bytes.now ≡ 12 * length out.old }
     requires within { from + length out.old ≤ frame_count (frame_len level) len }
-    ensures { out.new ≡ map (λ k. frame_in bytes.now (12 * k) (frame_samples level len (from + k))) (range_with_len 0 (length out.old)) }
+    ensures { out.new ≡ map (λ k. frame_in bytes.now (12 * k) (frame_samples level len (from + k)))
+        (range_with_len 0 (length out.old)) }
 {
     for i in 0..out.len() {
         let count = samples_of_frame(level, len, from + i);
@@ -87,10 +89,16 @@ fn read_piece<S: Store>(
     requires some { 0 < length out.old }
     requires few { length out.old ≤ 256 }
     requires room { 12 * length out.old ≤ length buf.old }
-    ensures whole { IsTrue (S.tells store.old) → OnOk result (level_place level block.len + 12 * (from + length out.old) ≤ length (bytes_of (S.reads store.old block.id))) }
-    ensures frames { IsTrue (S.tells store.old) → OnOk result (out.new ≡ stored_frames (bytes_of (S.reads store.old block.id)) level block.len from (length out.old)) }
-    ensures damaged { IsTrue (S.tells store.old) → IfErr result (λ e. IsFault block.id block.len (bytes_of (S.reads store.old block.id)) e) }
-    ensures kept { Kept S.tells S.keeps_model S.reads S.clock S.may_leave S.change_fault_count S.change_calls store.old store.new }
+    ensures whole { IsTrue (S.tells store.old)
+        → OnOk result (level_place level block.len + 12 * (from + length out.old) ≤ length (bytes_of
+        (S.reads store.old block.id))) }
+    ensures frames { IsTrue (S.tells store.old)
+        → OnOk result (out.new ≡ stored_frames (bytes_of (S.reads store.old block.id)) level block.len from
+        (length out.old)) }
+    ensures damaged { IsTrue (S.tells store.old)
+        → IfErr result (λ e. IsEarly block.id block.len (level_place level block.len + 12 * (from + length out.old))
+        (bytes_of (S.reads store.old block.id)) e) }
+    ensures kept { Kept S.Store store.old store.new }
     ensures faults { Counted result (S.read_fault_count store.old) (S.read_fault_count store.new) }
 {
     let len = block.len as usize;
@@ -113,10 +121,15 @@ fn read_pieces<S: Store>(
 ) -> Result<(), BlockFault>
     requires len { block.len ≤ 262144 }
     requires within { from + length out.old ≤ frame_count (frame_len level) block.len }
-    ensures whole { IsTrue (S.tells store.old) → OnOk result (0 < length out.old → level_place level block.len + 12 * (from + length out.old) ≤ length (bytes_of (S.reads store.old block.id))) }
-    ensures frames { IsTrue (S.tells store.old) → OnOk result (out.new ≡ stored_frames (bytes_of (S.reads store.old block.id)) level block.len from (length out.old)) }
-    ensures damaged { IsTrue (S.tells store.old) → IfErr result (λ e. IsFault block.id block.len (bytes_of (S.reads store.old block.id)) e) }
-    ensures kept { Kept S.tells S.keeps_model S.reads S.clock S.may_leave S.change_fault_count S.change_calls store.old store.new }
+    ensures whole { IsTrue (S.tells store.old) → OnOk result (0 < length out.old
+        → level_place level block.len + 12 * (from + length out.old) ≤ length (bytes_of (S.reads store.old block.id))) }
+    ensures frames { IsTrue (S.tells store.old)
+        → OnOk result (out.new ≡ stored_frames (bytes_of (S.reads store.old block.id)) level block.len from
+        (length out.old)) }
+    ensures damaged { IsTrue (S.tells store.old)
+        → IfErr result (λ e. IsEarly block.id block.len (end_of (length out.old) (level_place level block.len + 12 *
+        (from + length out.old))) (bytes_of (S.reads store.old block.id)) e) }
+    ensures kept { Kept S.Store store.old store.new }
     ensures faults { Counted result (S.read_fault_count store.old) (S.read_fault_count store.new) }
 {
     let mut buf = [0u8; 12 * PIECE];
@@ -142,12 +155,18 @@ fn read_row<S: Store>(
 ) -> Result<(), BlockFault>
     requires len { block.len ≤ 262144 }
     requires within { from + length out.old ≤ frame_count (frame_len level) block.len }
-    ensures header { IsTrue (S.tells store.old) → OnOk result (difference (bytes_of (S.reads store.old block.id)) 0 (header_fields block.id block.len) ≡ None) }
+    ensures header { IsTrue (S.tells store.old)
+        → OnOk result (difference (bytes_of (S.reads store.old block.id)) 0 (header_fields block.id block.len) ≡ None) }
     ensures front { IsTrue (S.tells store.old) → OnOk result (16 ≤ length (bytes_of (S.reads store.old block.id))) }
-    ensures whole { IsTrue (S.tells store.old) → OnOk result (0 < length out.old → level_place level block.len + 12 * (from + length out.old) ≤ length (bytes_of (S.reads store.old block.id))) }
-    ensures frames { IsTrue (S.tells store.old) → OnOk result (out.new ≡ stored_frames (bytes_of (S.reads store.old block.id)) level block.len from (length out.old)) }
-    ensures damaged { IsTrue (S.tells store.old) → IfErr result (λ e. IsFault block.id block.len (bytes_of (S.reads store.old block.id)) e) }
-    ensures kept { Kept S.tells S.keeps_model S.reads S.clock S.may_leave S.change_fault_count S.change_calls store.old store.new }
+    ensures whole { IsTrue (S.tells store.old) → OnOk result (0 < length out.old
+        → level_place level block.len + 12 * (from + length out.old) ≤ length (bytes_of (S.reads store.old block.id))) }
+    ensures frames { IsTrue (S.tells store.old)
+        → OnOk result (out.new ≡ stored_frames (bytes_of (S.reads store.old block.id)) level block.len from
+        (length out.old)) }
+    ensures damaged { IsTrue (S.tells store.old)
+        → IfErr result (λ e. IsReadFault block.id block.len (end_of (length out.old)
+        (level_place level block.len + 12 * (from + length out.old))) (bytes_of (S.reads store.old block.id)) e) }
+    ensures kept { Kept S.Store store.old store.new }
     ensures faults { Counted result (S.read_fault_count store.old) (S.read_fault_count store.new) }
 {
     if let Err(fault) = read_header(store, block) {
@@ -173,18 +192,27 @@ pub fn read_frames<S: Store>(
     requires block { IsBlock block.id block.len }
     requires within { from + length out.old ≤ frame_count (frame_len level) block.len }
     // Of a block of the disk they are the summaries of its stretches, and then nothing but the disk refuses.
-    ensures read { (xs : List ℤ) → IsTrue (S.tells store.old) → blocks (S.reads store.old) block.id ≡ Some xs → length xs ≡ block.len
+    ensures read { (xs : List ℤ) → IsTrue (S.tells store.old) → blocks (S.reads store.old) block.id ≡ Some xs
+        → length xs ≡ block.len
         → OnOk result (out.new ≡ take (length out.old) (drop from (frames_of (frame_len level) xs))) }
-    ensures sound { (xs : List ℤ) → IsTrue (S.tells store.old) → blocks (S.reads store.old) block.id ≡ Some xs → length xs ≡ block.len
+    ensures sound { (xs : List ℤ) → IsTrue (S.tells store.old) → blocks (S.reads store.old) block.id ≡ Some xs
+        → length xs ≡ block.len
         → IsOkUnless result fault.DiskFault }
     // Of any file they are what stands there.
-    ensures frames { IsTrue (S.tells store.old) → OnOk result (out.new ≡ stored_frames (bytes_of (S.reads store.old block.id)) level block.len from (length out.old)) }
+    ensures frames { IsTrue (S.tells store.old)
+        → OnOk result (out.new ≡ stored_frames (bytes_of (S.reads store.old block.id)) level block.len from
+        (length out.old)) }
     // Ok comes for the header of this block alone, and where the file has all that is read.
-    ensures header { IsTrue (S.tells store.old) → OnOk result (difference (bytes_of (S.reads store.old block.id)) 0 (header_fields block.id block.len) ≡ None) }
+    ensures header { IsTrue (S.tells store.old)
+        → OnOk result (difference (bytes_of (S.reads store.old block.id)) 0 (header_fields block.id block.len) ≡ None) }
     ensures front { IsTrue (S.tells store.old) → OnOk result (16 ≤ length (bytes_of (S.reads store.old block.id))) }
-    ensures whole { IsTrue (S.tells store.old) → OnOk result (0 < length out.old → level_place level block.len + 12 * (from + length out.old) ≤ length (bytes_of (S.reads store.old block.id))) }
-    ensures damaged { IsTrue (S.tells store.old) → IfErr result (λ e. IsFault block.id block.len (bytes_of (S.reads store.old block.id)) e) }
-    ensures kept { Kept S.tells S.keeps_model S.reads S.clock S.may_leave S.change_fault_count S.change_calls store.old store.new }
+    ensures whole { IsTrue (S.tells store.old) → OnOk result (0 < length out.old
+        → level_place level block.len + 12 * (from + length out.old) ≤ length (bytes_of (S.reads store.old block.id))) }
+    // A fault is a header of another block, or else that the file ends before what is read.
+    ensures damaged { IsTrue (S.tells store.old)
+        → IfErr result (λ e. IsReadFault block.id block.len (end_of (length out.old)
+        (level_place level block.len + 12 * (from + length out.old))) (bytes_of (S.reads store.old block.id)) e) }
+    ensures kept { Kept S.Store store.old store.new }
     ensures faults { Counted result (S.read_fault_count store.old) (S.read_fault_count store.new) }
 {
     read_row(store, block, level, from as usize, out)

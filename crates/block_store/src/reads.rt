@@ -1,112 +1,21 @@
-// Stretches of a block are read from its file.
-ghost use Rattle.std.specs.Prelude.{◌≡◌, ◌^◌, ◌+◌, ◌*◌, ◌<◌, ◌≤◌, true, false, length, take, drop, IsTrue, IsOkUnless, List, ℤ, Some, None, IfOk, OnOk, IfErr};
-ghost use Rattle.pcm_base.specs.Causes.{HasCause};
+// Samples of a block are read from its file.
+ghost use Rattle.std.specs.Prelude.{◌≡◌, ◌+◌, ◌*◌, ◌<◌, ◌≤◌, length, take, drop, IsTrue, IsOkUnless, List, ℤ, Some, None, OnOk, IfErr};
 ghost use Rattle.disk_model.specs.Disk.{bytes_of};
-ghost use Rattle.sample_block.specs.Spelling.{size_of, header_fields, IsBlock};
+ghost use Rattle.disk_model.specs.Frames.{Kept};
+ghost use Rattle.sample_block.specs.Spelling.{header_fields, IsBlock};
 ghost use Rattle.sample_block.specs.Faults.{difference, samples_in};
 ghost use Rattle.sample_block.specs.Blocks.{blocks};
 ghost use Rattle.block_store.specs.declared.fault.BlockFault.TheVariants as fault;
-ghost use Rattle.block_store.specs.Reads.{Kept, CountedBy, Counted, IsFault};
+ghost use Rattle.block_store.specs.Reads.{Counted, IsEarly, IsReadFault, end_of};
 
 use super::fault::BlockFault;
+use super::parts::{read_header, read_part};
 use byteorder::{ByteOrder, LittleEndian};
 use disk_model::Store;
-use pcm_base::{BlockRef, Failed};
-use sample_block::{Damaged, check_header, file_size};
+use pcm_base::BlockRef;
 
 /// How many samples are read at a time.
 const PIECE: usize = 4096;
-
-/// Fills the buffer from a place on, and says whether the file had all of it.
-fn fill<S: Store>(store: &mut S, file: u64, at: u64, buf: &mut [u8]) -> Result<bool, Failed>
-    requires within { at + length buf.old ≤ 2 ^ 62 }
-    requires some { 0 < length buf.old }
-    ensures whole { IsTrue (S.tells store.old) → IfOk result (λ all. all ≡ true
-        → (at + length buf.old ≤ length (bytes_of (S.reads store.old file))) × (buf.new ≡ take (length buf.old) (drop at (bytes_of (S.reads store.old file))))) }
-    ensures short { IsTrue (S.tells store.old) → IfOk result (λ all. all ≡ false → length (bytes_of (S.reads store.old file)) < at + length buf.old) }
-    ensures kept { Kept S.tells S.keeps_model S.reads S.clock S.may_leave S.change_fault_count S.change_calls store.old store.new }
-    ensures faults { HasCause (S.read_fault_count store.old) (S.read_fault_count store.new) result }
-{
-    let wanted = buf.len();
-    match store.read_at(file, at, buf) {
-        Ok(n) => Ok(n == wanted),
-        Err(failed) => Err(failed),
-    }
-}
-
-/// The fault of a file that ends before that of the block does.
-fn ends_early<S: Store>(store: &mut S, block: BlockRef) -> BlockFault
-    requires { block.len ≤ 262144 }
-    ensures damaged { IsTrue (S.tells store.old) → length (bytes_of (S.reads store.old block.id)) < size_of block.len
-        → IsFault block.id block.len (bytes_of (S.reads store.old block.id)) result }
-    ensures kept { Kept S.tells S.keeps_model S.reads S.clock S.may_leave S.change_fault_count S.change_calls store.old store.new }
-    ensures faults { CountedBy result (S.read_fault_count store.old) (S.read_fault_count store.new) }
-{
-    match store.size(block.id) {
-        Ok(Some(size)) => wrong_size(block, size),
-        Ok(None) => wrong_size(block, 0),
-        Err(_) => BlockFault::DiskFault,
-    }
-}
-
-fn wrong_size(block: BlockRef, size: u64) -> BlockFault
-    requires { block.len ≤ 262144 }
-    ensures { result ≡ fault.Damaged block.id (record { at = 0; want = size_of block.len; have = size }) }
-{
-    BlockFault::Damaged {
-        file: block.id,
-        found: Damaged {
-            at: 0,
-            want: file_size(block.len as usize) as u128,
-            have: size as u128,
-        },
-    }
-}
-
-/// Fills the buffer from a place on, all of which the file of the block has.
-pub(crate) fn read_part<S: Store>(
-    store: &mut S,
-    block: BlockRef,
-    at: u64,
-    buf: &mut [u8],
-) -> Result<(), BlockFault>
-    requires len { block.len ≤ 262144 }
-    requires within { at + length buf.old ≤ size_of block.len }
-    requires some { 0 < length buf.old }
-    ensures ok { IsTrue (S.tells store.old) → OnOk result ((at + length buf.old ≤ length (bytes_of (S.reads store.old block.id)))
-        × (buf.new ≡ take (length buf.old) (drop at (bytes_of (S.reads store.old block.id))))) }
-    ensures damaged { IsTrue (S.tells store.old) → IfErr result (λ e. IsFault block.id block.len (bytes_of (S.reads store.old block.id)) e) }
-    ensures kept { Kept S.tells S.keeps_model S.reads S.clock S.may_leave S.change_fault_count S.change_calls store.old store.new }
-    ensures faults { Counted result (S.read_fault_count store.old) (S.read_fault_count store.new) }
-{
-    match fill(store, block.id, at, buf) {
-        Ok(true) => Ok(()),
-        Ok(false) => Err(ends_early(store, block)),
-        Err(_) => Err(BlockFault::DiskFault),
-    }
-}
-
-/// Compares the first 16 bytes with those of the block.
-pub(crate) fn read_header<S: Store>(store: &mut S, block: BlockRef) -> Result<(), BlockFault>
-    requires { block.len ≤ 262144 }
-    ensures whole { IsTrue (S.tells store.old) → OnOk result (16 ≤ length (bytes_of (S.reads store.old block.id))) }
-    ensures header { IsTrue (S.tells store.old) → OnOk result (difference (bytes_of (S.reads store.old block.id)) 0 (header_fields block.id block.len) ≡ None) }
-    ensures damaged { IsTrue (S.tells store.old) → IfErr result (λ e. IsFault block.id block.len (bytes_of (S.reads store.old block.id)) e) }
-    ensures kept { Kept S.tells S.keeps_model S.reads S.clock S.may_leave S.change_fault_count S.change_calls store.old store.new }
-    ensures faults { Counted result (S.read_fault_count store.old) (S.read_fault_count store.new) }
-{
-    let mut buf = [0u8; 16];
-    if let Err(fault) = read_part(store, block, 0, &mut buf) {
-        return Err(fault);
-    }
-    match check_header(&buf, block.id, block.len) {
-        Ok(()) => Ok(()),
-        Err(found) => Err(BlockFault::Damaged {
-            file: block.id,
-            found,
-        }),
-    }
-}
 
 /// Reads samples whose bytes fit the buffer.
 fn read_piece<S: Store>(
@@ -120,10 +29,14 @@ fn read_piece<S: Store>(
     requires within { from + length out.old ≤ block.len }
     requires some { 0 < length out.old }
     requires room { 2 * length out.old ≤ length buf.old }
-    ensures whole { IsTrue (S.tells store.old) → OnOk result (16 + 2 * (from + length out.old) ≤ length (bytes_of (S.reads store.old block.id))) }
-    ensures samples { IsTrue (S.tells store.old) → OnOk result (out.new ≡ samples_in (bytes_of (S.reads store.old block.id)) (16 + 2 * from) (length out.old)) }
-    ensures damaged { IsTrue (S.tells store.old) → IfErr result (λ e. IsFault block.id block.len (bytes_of (S.reads store.old block.id)) e) }
-    ensures kept { Kept S.tells S.keeps_model S.reads S.clock S.may_leave S.change_fault_count S.change_calls store.old store.new }
+    ensures whole { IsTrue (S.tells store.old)
+        → OnOk result (16 + 2 * (from + length out.old) ≤ length (bytes_of (S.reads store.old block.id))) }
+    ensures samples { IsTrue (S.tells store.old)
+        → OnOk result (out.new ≡ samples_in (bytes_of (S.reads store.old block.id)) (16 + 2 * from) (length out.old)) }
+    ensures damaged { IsTrue (S.tells store.old)
+        → IfErr result (λ e. IsEarly block.id block.len (16 + 2 * (from + length out.old)) (bytes_of
+        (S.reads store.old block.id)) e) }
+    ensures kept { Kept S.Store store.old store.new }
     ensures faults { Counted result (S.read_fault_count store.old) (S.read_fault_count store.new) }
 {
     let size = 2 * out.len();
@@ -143,10 +56,14 @@ fn read_pieces<S: Store>(
 ) -> Result<(), BlockFault>
     requires len { block.len ≤ 262144 }
     requires within { from + length out.old ≤ block.len }
-    ensures whole { IsTrue (S.tells store.old) → OnOk result (0 < length out.old → 16 + 2 * (from + length out.old) ≤ length (bytes_of (S.reads store.old block.id))) }
-    ensures samples { IsTrue (S.tells store.old) → OnOk result (out.new ≡ samples_in (bytes_of (S.reads store.old block.id)) (16 + 2 * from) (length out.old)) }
-    ensures damaged { IsTrue (S.tells store.old) → IfErr result (λ e. IsFault block.id block.len (bytes_of (S.reads store.old block.id)) e) }
-    ensures kept { Kept S.tells S.keeps_model S.reads S.clock S.may_leave S.change_fault_count S.change_calls store.old store.new }
+    ensures whole { IsTrue (S.tells store.old) → OnOk result (0 < length out.old
+        → 16 + 2 * (from + length out.old) ≤ length (bytes_of (S.reads store.old block.id))) }
+    ensures samples { IsTrue (S.tells store.old)
+        → OnOk result (out.new ≡ samples_in (bytes_of (S.reads store.old block.id)) (16 + 2 * from) (length out.old)) }
+    ensures damaged { IsTrue (S.tells store.old)
+        → IfErr result (λ e. IsEarly block.id block.len (end_of (length out.old) (16 + 2 * (from + length out.old)))
+        (bytes_of (S.reads store.old block.id)) e) }
+    ensures kept { Kept S.Store store.old store.new }
     ensures faults { Counted result (S.read_fault_count store.old) (S.read_fault_count store.new) }
 {
     let mut buf = [0u8; 2 * PIECE];
@@ -170,12 +87,17 @@ fn read_stretch<S: Store>(
 ) -> Result<(), BlockFault>
     requires len { block.len ≤ 262144 }
     requires within { from + length out.old ≤ block.len }
-    ensures header { IsTrue (S.tells store.old) → OnOk result (difference (bytes_of (S.reads store.old block.id)) 0 (header_fields block.id block.len) ≡ None) }
+    ensures header { IsTrue (S.tells store.old)
+        → OnOk result (difference (bytes_of (S.reads store.old block.id)) 0 (header_fields block.id block.len) ≡ None) }
     ensures front { IsTrue (S.tells store.old) → OnOk result (16 ≤ length (bytes_of (S.reads store.old block.id))) }
-    ensures whole { IsTrue (S.tells store.old) → OnOk result (0 < length out.old → 16 + 2 * (from + length out.old) ≤ length (bytes_of (S.reads store.old block.id))) }
-    ensures samples { IsTrue (S.tells store.old) → OnOk result (out.new ≡ samples_in (bytes_of (S.reads store.old block.id)) (16 + 2 * from) (length out.old)) }
-    ensures damaged { IsTrue (S.tells store.old) → IfErr result (λ e. IsFault block.id block.len (bytes_of (S.reads store.old block.id)) e) }
-    ensures kept { Kept S.tells S.keeps_model S.reads S.clock S.may_leave S.change_fault_count S.change_calls store.old store.new }
+    ensures whole { IsTrue (S.tells store.old) → OnOk result (0 < length out.old
+        → 16 + 2 * (from + length out.old) ≤ length (bytes_of (S.reads store.old block.id))) }
+    ensures samples { IsTrue (S.tells store.old)
+        → OnOk result (out.new ≡ samples_in (bytes_of (S.reads store.old block.id)) (16 + 2 * from) (length out.old)) }
+    ensures damaged { IsTrue (S.tells store.old)
+        → IfErr result (λ e. IsReadFault block.id block.len (end_of (length out.old) (16 + 2 *
+        (from + length out.old))) (bytes_of (S.reads store.old block.id)) e) }
+    ensures kept { Kept S.Store store.old store.new }
     ensures faults { Counted result (S.read_fault_count store.old) (S.read_fault_count store.new) }
 {
     if let Err(fault) = read_header(store, block) {
@@ -199,18 +121,26 @@ pub fn read_samples<S: Store>(
     requires block { IsBlock block.id block.len }
     requires within { from + length out.old ≤ block.len }
     // Of a block of the disk they are its samples, and then nothing but the disk refuses.
-    ensures read { (xs : List ℤ) → IsTrue (S.tells store.old) → blocks (S.reads store.old) block.id ≡ Some xs → length xs ≡ block.len
+    ensures read { (xs : List ℤ) → IsTrue (S.tells store.old) → blocks (S.reads store.old) block.id ≡ Some xs
+        → length xs ≡ block.len
         → OnOk result (out.new ≡ take (length out.old) (drop from xs)) }
-    ensures sound { (xs : List ℤ) → IsTrue (S.tells store.old) → blocks (S.reads store.old) block.id ≡ Some xs → length xs ≡ block.len
+    ensures sound { (xs : List ℤ) → IsTrue (S.tells store.old) → blocks (S.reads store.old) block.id ≡ Some xs
+        → length xs ≡ block.len
         → IsOkUnless result fault.DiskFault }
     // Of any file they are what stands there.
-    ensures samples { IsTrue (S.tells store.old) → OnOk result (out.new ≡ samples_in (bytes_of (S.reads store.old block.id)) (16 + 2 * from) (length out.old)) }
+    ensures samples { IsTrue (S.tells store.old)
+        → OnOk result (out.new ≡ samples_in (bytes_of (S.reads store.old block.id)) (16 + 2 * from) (length out.old)) }
     // Ok comes for the header of this block alone, and where the file has all that is read.
-    ensures header { IsTrue (S.tells store.old) → OnOk result (difference (bytes_of (S.reads store.old block.id)) 0 (header_fields block.id block.len) ≡ None) }
+    ensures header { IsTrue (S.tells store.old)
+        → OnOk result (difference (bytes_of (S.reads store.old block.id)) 0 (header_fields block.id block.len) ≡ None) }
     ensures front { IsTrue (S.tells store.old) → OnOk result (16 ≤ length (bytes_of (S.reads store.old block.id))) }
-    ensures whole { IsTrue (S.tells store.old) → OnOk result (0 < length out.old → 16 + 2 * (from + length out.old) ≤ length (bytes_of (S.reads store.old block.id))) }
-    ensures damaged { IsTrue (S.tells store.old) → IfErr result (λ e. IsFault block.id block.len (bytes_of (S.reads store.old block.id)) e) }
-    ensures kept { Kept S.tells S.keeps_model S.reads S.clock S.may_leave S.change_fault_count S.change_calls store.old store.new }
+    ensures whole { IsTrue (S.tells store.old) → OnOk result (0 < length out.old
+        → 16 + 2 * (from + length out.old) ≤ length (bytes_of (S.reads store.old block.id))) }
+    // A fault is a header of another block, or else that the file ends before what is read.
+    ensures damaged { IsTrue (S.tells store.old)
+        → IfErr result (λ e. IsReadFault block.id block.len (end_of (length out.old) (16 + 2 *
+        (from + length out.old))) (bytes_of (S.reads store.old block.id)) e) }
+    ensures kept { Kept S.Store store.old store.new }
     ensures faults { Counted result (S.read_fault_count store.old) (S.read_fault_count store.new) }
 {
     read_stretch(store, block, from as usize, out)

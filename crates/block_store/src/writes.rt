@@ -1,35 +1,15 @@
 // Blocks are written once and removed.
-ghost use Rattle.std.specs.Prelude.{◌≡◌, ◌+◌, ◌^◌, ◌<◌, ◌≤◌, length, vec_capacity, IsTrue, None, Some, OnOk, IsOkUnless};
+ghost use Rattle.std.specs.Prelude.{◌≡◌, ◌^◌, ◌<◌, ◌≤◌, length, vec_capacity, IsTrue, None, Some, OnOk, IsOkUnless};
 ghost use Rattle.pcm_base.specs.Causes.{HasCause};
-ghost use Rattle.disk_model.specs.Disk.{Files, SameElsewhere, RemoveStep, Follows};
-ghost use Rattle.disk_model.specs.Ram.{counted};
+ghost use Rattle.disk_model.specs.Disk.{Files, SameElsewhere, RemoveStep};
+ghost use Rattle.disk_model.specs.Frames.{Changed};
 ghost use Rattle.sample_block.specs.Spelling.{IsBlock, size_of};
 ghost use Rattle.sample_block.specs.Blocks.{blocks};
 ghost use Rattle.block_store.specs.declared.fault.BlockFault.TheVariants.{DiskFault};
 
 use super::fault::BlockFault;
-use disk_model::Store;
-use pcm_base::Failed;
+use disk_model::{Store, remove_through, write_through};
 use sample_block::encode;
-
-/// Writes the bytes to a file that is absent, and waits until they are on the disk.
-fn write_new<S: Store>(store: &mut S, id: u64, bytes: &[u8]) -> Result<(), Failed>
-    requires { length bytes.now ≤ 2 ^ 62 }
-    ensures put { IsTrue (S.tells store.old) → S.reads store.old id ≡ None → OnOk result (S.reads store.new id ≡ Some bytes.now) }
-    ensures whole { IsTrue (S.tells store.old) → S.reads store.old id ≡ None
-        → OnOk result ((c : Files) → S.may_leave store.new (S.clock store.new) c → c id ≡ Some bytes.now) }
-    ensures others { IsTrue (S.tells store.old) → SameElsewhere id (S.reads store.old) (S.reads store.new) }
-    ensures images { Follows (SameElsewhere id) (S.clock store.old) (S.clock store.new) (S.may_leave store.old) (S.may_leave store.new) }
-    ensures tells { S.tells store.new ≡ S.tells store.old }
-    ensures model { S.keeps_model store.new ≡ S.keeps_model store.old }
-    ensures calls { S.change_calls store.new ≤ S.change_calls store.old + 2 }
-    ensures faults { HasCause (S.change_fault_count store.old) (S.change_fault_count store.new) result }
-    ensures read_faults { S.read_fault_count store.new ≡ S.read_fault_count store.old }
-{
-    store.write_at(id, 0, bytes)?;
-    store.sync(id)?;
-    Ok(())
-}
 
 /// Writes the block of these samples to the file `id`, which is absent, in one write, and waits until it is on the
 /// disk. The id is from 16 to below 2^62, there are 1 to 262,144 samples, and `scratch` has room for the file, so that
@@ -42,16 +22,18 @@ pub fn put<S: Store>(
 ) -> Result<(), BlockFault>
     requires block { IsBlock id (length samples.now) }
     requires room { size_of (length samples.now) ≤ vec_capacity scratch.old }
-    ensures stored { IsTrue (S.tells store.old) → S.reads store.old id ≡ None → OnOk result (blocks (S.reads store.new) id ≡ Some samples.now) }
+    ensures stored { IsTrue (S.tells store.old) → S.reads store.old id ≡ None
+        → OnOk result (blocks (S.reads store.new) id ≡ Some samples.now) }
     // In every image from then on the block is there.
     ensures durable { IsTrue (S.tells store.old) → S.reads store.old id ≡ None
         → OnOk result ((c : Files) → S.may_leave store.new (S.clock store.new) c → blocks c id ≡ Some samples.now) }
-    ensures others { IsTrue (S.tells store.old) → SameElsewhere id (S.reads store.old) (S.reads store.new) }
-    // A stop at any moment of the call leaves what it could leave before, but for this file.
-    ensures images { Follows (SameElsewhere id) (S.clock store.old) (S.clock store.new) (S.may_leave store.old) (S.may_leave store.new) }
-    ensures tells { S.tells store.new ≡ S.tells store.old }
-    ensures model { S.keeps_model store.new ≡ S.keeps_model store.old }
-    ensures calls { S.change_calls store.new ≤ S.change_calls store.old + 2 }
+    // A stop at any moment of the call leaves what it could leave before, but for this file. It makes one file at most, and
+    // asks for no more bytes than the file has.
+    ensures changed { Changed S.Store (SameElsewhere id) (record {
+      files = 1;
+      bytes = size_of (length samples.now);
+      calls = 2;
+    }) store.old store.new }
     ensures fault { IsOkUnless result DiskFault }
     ensures faults { HasCause (S.change_fault_count store.old) (S.change_fault_count store.new) result }
     ensures read_faults { S.read_fault_count store.new ≡ S.read_fault_count store.old }
@@ -61,7 +43,7 @@ pub fn put<S: Store>(
         Ok(()) => {}
         Err(_) => unreachable!(),
     }
-    match write_new(store, id, scratch) {
+    match write_through(store, id, 0, scratch) {
         Ok(()) => Ok(()),
         Err(_) => Err(BlockFault::DiskFault),
     }
@@ -74,23 +56,16 @@ pub fn drop_block<S: Store>(store: &mut S, id: u64) -> Result<(), BlockFault>
     requires high { id < 2 ^ 62 }
     ensures gone { IsTrue (S.tells store.old) → OnOk result (S.reads store.new id ≡ None) }
     // In every image from then on it is absent.
-    ensures durable { IsTrue (S.tells store.old) → OnOk result ((c : Files) → S.may_leave store.new (S.clock store.new) c → c id ≡ None) }
-    // After an error it is as it was or absent, and no other file is changed.
-    ensures part { IsTrue (S.tells store.old) → RemoveStep id (S.reads store.old) (S.reads store.new) }
-    // A stop at any moment of the call leaves what it could leave before, or that without this file.
-    ensures images { Follows (RemoveStep id) (S.clock store.old) (S.clock store.new) (S.may_leave store.old) (S.may_leave store.new) }
-    ensures tells { S.tells store.new ≡ S.tells store.old }
-    ensures model { S.keeps_model store.new ≡ S.keeps_model store.old }
-    ensures calls { S.change_calls store.new ≤ S.change_calls store.old + 2 }
+    ensures durable { IsTrue (S.tells store.old) → OnOk result ((c : Files)
+        → S.may_leave store.new (S.clock store.new) c → c id ≡ None) }
+    // A stop at any moment of the call leaves what it could leave before, or that without this file, and after an error
+    // it is as it was or absent. No room is asked but for the calls.
+    ensures changed { Changed S.Store (RemoveStep id) (record { files = 0; bytes = 0; calls = 2 }) store.old store.new }
     ensures fault { IsOkUnless result DiskFault }
     ensures faults { HasCause (S.change_fault_count store.old) (S.change_fault_count store.new) result }
     ensures read_faults { S.read_fault_count store.new ≡ S.read_fault_count store.old }
 {
-    match store.remove(id) {
-        Ok(()) => {}
-        Err(_) => return Err(BlockFault::DiskFault),
-    }
-    match store.sync(id) {
+    match remove_through(store, id) {
         Ok(()) => Ok(()),
         Err(_) => Err(BlockFault::DiskFault),
     }

@@ -1,6 +1,8 @@
 pub mod Moments
 pub mod Pairs
 pub mod Writes
+pub mod Rooms
+pub mod Frames
 mod CallsLemmas
 mod Windows
 mod Listings

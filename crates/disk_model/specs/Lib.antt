@@ -1,6 +1,7 @@
 pub mod Disk
 pub mod History
 pub mod Calls
+pub mod Room
 pub mod Ram
 pub mod Histories
 pub mod Images
@@ -10,3 +11,4 @@ pub mod Moment
 pub mod MomentLaws
 pub mod Index
 pub mod ByFile
+pub mod Frames

@@ -1,5 +1,6 @@
 -- What a store in memory is, as its callers see it, and what each call makes of it.
-use Rattle.std.specs.Prelude.{◌≡◌, ◌⊎◌, ◌<◌, ◌+◌, ◌-◌, ◌^◌, min, ℕ, List, ◌∷◌, Option, None, Some, Contains, length}
+use Rattle.std.specs.Prelude.{◌≡◌, ◌⊎◌, ◌<◌, ◌+◌, ◌-◌, ◌^◌, min, ℕ, List, [], ◌∷◌, Option, None, Some, Contains, length}
+use Rattle.disk_model.specs.Room.{Room, raised, met}
 use Rattle.disk_model.specs.History.{Step, Wrote, Synced, Removed, reads_of}
 
 -- the calls that changed the disk, the newest first, and the room: how many files may still be made, how many bytes
@@ -10,8 +11,9 @@ pub record Log : Type 0 where
   pub bytes_left : ℕ
   pub calls_left : ℕ
 
--- how many calls there have been, the numbers of those that fail, the last that is served where the store stops, and
--- how many failed and how many were to change the disk
+-- how many calls there have been, the numbers of those that fail, the last that is served where the store stops, how
+-- many failed, how many were to change the disk, how many bytes were to be written, and how many writes met an absent
+-- file
 pub record Tally : Type 0 where
   pub made : ℕ
   pub fails : List ℕ
@@ -19,6 +21,8 @@ pub record Tally : Type 0 where
   pub read_faults : ℕ
   pub change_faults : ℕ
   pub change_calls : ℕ
+  pub asked_bytes : ℕ
+  pub absent_writes : ℕ
 
 pub record Ram : Type 0 where
   pub log : Log
@@ -35,7 +39,7 @@ IsPast (Some last) n = last < n
 
 -- a tally of no call
 abbrev pub fresh_tally : List ℕ → Tally
-fresh_tally fails = record { made = 0; fails = fails; last = None; read_faults = 0; change_faults = 0; change_calls = 0 }
+fresh_tally fails = record { made = 0; fails = fails; last = None; read_faults = 0; change_faults = 0; change_calls = 0; asked_bytes = 0; absent_writes = 0 }
 
 -- the next call is listed, or comes after the stop
 abbrev pub IsDue : Tally → Type 0
@@ -46,7 +50,11 @@ abbrev pub with_read : Tally → Tally
 with_read tally = record tally { made = counted tally.made }
 
 abbrev pub with_change : Tally → Tally
-with_change tally = record tally { made = counted tally.made; change_calls = counted tally.change_calls }
+with_change tally = record tally { made = counted tally.made; change_calls = raised tally.change_calls 1 }
+
+-- what a write of so many bytes to a file asks, whose content or size is this
+abbrev pub with_asked : {A : Type 0} → Tally → Option A → ℕ → Tally
+with_asked tally there n = record tally { asked_bytes = raised tally.asked_bytes n; absent_writes = met there tally.absent_writes }
 
 -- and with its fault
 abbrev pub with_read_fault : Tally → Tally
@@ -88,3 +96,27 @@ after_failed_read ram = record ram { tally = with_read_fault (with_read ram.tall
 
 abbrev pub after_failed_change : Ram → Ram
 after_failed_change ram = record ram { tally = with_change_fault (with_change ram.tally) }
+
+-- a write counts besides what it asks
+abbrev pub after_write : Ram → ℕ → ℕ → List ℕ → Ram
+after_write ram file at bytes = record {
+  log = with_write ram.log file at bytes;
+  tally = with_asked (with_change ram.tally) (reads_of ram.log.history file) (length bytes);
+}
+
+abbrev pub after_failed_write : Ram → ℕ → ℕ → Ram
+after_failed_write ram file n = record ram { tally = with_change_fault (with_asked (with_change ram.tally) (reads_of ram.log.history file) n) }
+
+-- no room is promised where calls are listed that fail, or where it stops
+abbrev pub room_if : List ℕ → Option ℕ → Room → Option Room
+room_if [] None room = Some room
+room_if [] (Some last) room = None
+room_if (n ∷ ns) last room = None
+
+-- what is left, and what was asked so far
+abbrev pub room_of : Ram → Option Room
+room_of ram = room_if ram.tally.fails ram.tally.last (record {
+  files = min (ram.log.files_left + ram.tally.absent_writes) (2 ^ 64 - 1);
+  bytes = min (ram.log.bytes_left + ram.tally.asked_bytes) (2 ^ 64 - 1);
+  calls = min (ram.log.calls_left + ram.tally.change_calls) (2 ^ 64 - 1);
+})

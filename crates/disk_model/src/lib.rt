@@ -22,9 +22,11 @@ mod record;
 mod replay;
 mod store;
 mod tally;
+mod through;
 
 pub use ram::RamStore;
 pub use store::{ListFault, Store};
+pub use through::{remove_through, sync_file, write_through};
 
 #[cfg(test)]
 mod tests;

@@ -10,7 +10,8 @@ ghost use Rattle.disk_model.specs.Histories.{image_since, reads_is_image, fewer_
 ghost use Rattle.disk_model.specs.Images.{image_of, synced_of};
 ghost use Rattle.disk_model.specs.Moment.{At};
 ghost use Rattle.disk_model.specs.Settled.{IsSettled};
-ghost use Rattle.disk_model.specs.Ram.{IsDue, IsFull, counted, fresh_tally, with_write, with_sync, with_removal, with_change, after_read, after_failed_read, after_failed_change};
+ghost use Rattle.disk_model.specs.Ram.{IsDue, IsFull, fresh_tally, with_sync, with_removal, with_change, after_read, after_failed_read, after_failed_change, after_write, after_failed_write, room_of, room_if};
+ghost use Rattle.disk_model.specs.Room.{raised, met, IsSpent, StaysRoom};
 
 use crate::log::CallLog;
 use crate::store::{ListFault, Store};
@@ -47,6 +48,7 @@ impl RamStore {
     ) -> Result<RamStore, NoMemory>
         ensures log { IfOk result (λ s. s.log ≡ record { history = []; files_left = files; bytes_left = bytes; calls_left = calls }) }
         ensures tally { IfOk result (λ s. s.tally ≡ fresh_tally fails) }
+        ensures room { IfOk result (λ s. room_of s ≡ room_if fails None (record { files = files; bytes = bytes; calls = calls })) }
         // It may be left empty alone.
         ensures empty { IfOk result (λ s. (c : Files) → SinceMoment s.log.history (At 0) c → c ≡ (λ _. None)) }
     {
@@ -66,6 +68,8 @@ impl RamStore {
         ensures all { choice ≡ 0 → IfOk result (λ s. reads_of s.log.history ≡ reads_of self.now.log.history) }
         ensures nothing { choice ≡ 1 → IfOk result (λ s. reads_of s.log.history ≡ synced_of self.now.log.history) }
         ensures left { IfOk result (λ s. IsImage self.now.log.history (reads_of s.log.history)) }
+        // In the words of the trait: a stop now may leave it.
+        ensures may_be_left { IfOk result (λ s. ⟦<RamStore as Store>⟧.may_leave self.now (⟦<RamStore as Store>⟧.clock self.now) (⟦<RamStore as Store>⟧.reads s)) }
         ensures settled { IfOk result (λ s. IsSettled s.log.history) }
         ensures room { IfOk result (λ s. s.log ≡ record self.now.log { history = s.log.history }) }
         ensures tally { IfOk result (λ s. s.tally ≡ fresh_tally []) }
@@ -75,6 +79,14 @@ impl RamStore {
             log,
             tally: Tally::new(Numbers::new(Vec::new(alloc))),
         })
+    }
+
+    /// How many calls there were of those that are counted, up to the greatest u64: all but `faults` and
+    /// `change_faults`.
+    pub fn call_count(&self) -> u64
+        ensures { result ≡ self.now.tally.made }
+    {
+        self.tally.made()
     }
 
     /// Lets the next `n` calls be served, and each call after them fail.
@@ -103,6 +115,12 @@ impl Store for RamStore {
 
     ghost change_calls = { λ s. s.tally.change_calls };
 
+    ghost asked_bytes = { λ s. s.tally.asked_bytes };
+
+    ghost absent_writes = { λ s. s.tally.absent_writes };
+
+    ghost room = { room_of };
+
     ghost may_stay = { λ s _. (refl, image_since s.log.history (length s.log.history) (reads_of s.log.history) (reads_is_image s.log.history)) };
 
     ghost may_fewer = { λ s t u c le now since. fewer_moment s.log.history t u c le since };
@@ -123,6 +141,10 @@ impl Store for RamStore {
         ensures reads { reads_of self.new.log.history ≡ reads_of self.old.log.history }
         ensures model { true ≡ true }
         ensures calls { self.new.tally.change_calls ≡ self.old.tally.change_calls }
+        ensures bytes { self.new.tally.asked_bytes ≡ self.old.tally.asked_bytes }
+        ensures absent { self.new.tally.absent_writes ≡ self.old.tally.absent_writes }
+        ensures room { room_of self.new ≡ room_of self.old }
+        ensures unfailing { IsSome (room_of self.old) → self.new.tally.read_faults ≡ self.old.tally.read_faults }
         ensures clock { At (length self.new.log.history) ≡ At (length self.old.log.history) }
         ensures images { Follows StaysStep (At (length self.old.log.history)) (At (length self.new.log.history)) (SinceMoment self.old.log.history) (SinceMoment self.new.log.history) }
         ensures faults { HasCause self.old.tally.read_faults self.new.tally.read_faults result }
@@ -148,6 +170,10 @@ impl Store for RamStore {
         ensures reads { reads_of self.new.log.history ≡ reads_of self.old.log.history }
         ensures model { true ≡ true }
         ensures calls { self.new.tally.change_calls ≡ self.old.tally.change_calls }
+        ensures bytes { self.new.tally.asked_bytes ≡ self.old.tally.asked_bytes }
+        ensures absent { self.new.tally.absent_writes ≡ self.old.tally.absent_writes }
+        ensures room { room_of self.new ≡ room_of self.old }
+        ensures unfailing { IsSome (room_of self.old) → self.new.tally.read_faults ≡ self.old.tally.read_faults }
         ensures clock { At (length self.new.log.history) ≡ At (length self.old.log.history) }
         ensures images { Follows StaysStep (At (length self.old.log.history)) (At (length self.new.log.history)) (SinceMoment self.old.log.history) (SinceMoment self.new.log.history) }
         ensures faults { HasCause self.old.tally.read_faults self.new.tally.read_faults result }
@@ -170,16 +196,22 @@ impl Store for RamStore {
         ensures others { IsTrue true → SameElsewhere file (reads_of self.old.log.history) (reads_of self.new.log.history) }
         ensures tells { true ≡ true }
         ensures model { true ≡ true }
-        ensures calls { self.new.tally.change_calls ≡ counted self.old.tally.change_calls }
+        ensures calls { self.new.tally.change_calls ≡ raised self.old.tally.change_calls 1 }
+        ensures bytes { self.new.tally.asked_bytes ≡ raised self.old.tally.asked_bytes (length bytes.now) }
+        ensures absent { IsTrue true → self.new.tally.absent_writes ≡ met (reads_of self.old.log.history file) self.old.tally.absent_writes }
+        ensures absent_later { self.old.tally.absent_writes ≤ self.new.tally.absent_writes }
+        ensures room { StaysRoom (room_of self.old) (room_of self.new) }
+        ensures spent { (self.new.tally.change_faults ≡ self.old.tally.change_faults) ⊎ IsSpent (room_of self.old) (record { files = self.new.tally.absent_writes; bytes = self.new.tally.asked_bytes; calls = self.new.tally.change_calls }) }
         ensures images { Follows (WriteStep file at (length bytes.now)) (At (length self.old.log.history)) (At (length self.new.log.history)) (SinceMoment self.old.log.history) (SinceMoment self.new.log.history) }
         ensures faults { HasCause self.old.tally.change_faults self.new.tally.change_faults result }
         ensures read_faults { self.new.tally.read_faults ≡ self.old.tally.read_faults }
         // It fails exactly at the calls that are listed, after the stop and where there is no room, and then does nothing.
         ensures due { IsErr result ↔ (IsDue self.old.tally ⊎ IsFull self.old.log file (length bytes.now)) }
-        ensures served { OnOk result (self.new ≡ record { log = with_write self.old.log file at bytes.now; tally = with_change self.old.tally }) }
-        ensures failed { OnErr result (self.new ≡ after_failed_change self.old) }
+        ensures served { OnOk result (self.new ≡ after_write self.old file at bytes.now) }
+        ensures failed { OnErr result (self.new ≡ after_failed_write self.old file (length bytes.now)) }
     {
-        if self.tally.count_change() {
+        let size = self.log.size(file);
+        if self.tally.count_write(size, bytes.len()) {
             return Err(self.tally.fail_change());
         }
         match self.log.write(file, at, bytes) {
@@ -194,7 +226,11 @@ impl Store for RamStore {
         ensures tells { true ≡ true }
         ensures reads { reads_of self.new.log.history ≡ reads_of self.old.log.history }
         ensures model { true ≡ true }
-        ensures calls { self.new.tally.change_calls ≡ counted self.old.tally.change_calls }
+        ensures calls { self.new.tally.change_calls ≡ raised self.old.tally.change_calls 1 }
+        ensures bytes { self.new.tally.asked_bytes ≡ self.old.tally.asked_bytes }
+        ensures absent { self.new.tally.absent_writes ≡ self.old.tally.absent_writes }
+        ensures room { StaysRoom (room_of self.old) (room_of self.new) }
+        ensures spent { (self.new.tally.change_faults ≡ self.old.tally.change_faults) ⊎ IsSpent (room_of self.old) (record { files = self.new.tally.absent_writes; bytes = self.new.tally.asked_bytes; calls = self.new.tally.change_calls }) }
         ensures images { Follows StaysStep (At (length self.old.log.history)) (At (length self.new.log.history)) (SinceMoment self.old.log.history) (SinceMoment self.new.log.history) }
         ensures faults { HasCause self.old.tally.change_faults self.new.tally.change_faults result }
         ensures read_faults { self.new.tally.read_faults ≡ self.old.tally.read_faults }
@@ -217,7 +253,11 @@ impl Store for RamStore {
         ensures part { IsTrue true → RemoveStep file (reads_of self.old.log.history) (reads_of self.new.log.history) }
         ensures tells { true ≡ true }
         ensures model { true ≡ true }
-        ensures calls { self.new.tally.change_calls ≡ counted self.old.tally.change_calls }
+        ensures calls { self.new.tally.change_calls ≡ raised self.old.tally.change_calls 1 }
+        ensures bytes { self.new.tally.asked_bytes ≡ self.old.tally.asked_bytes }
+        ensures absent { self.new.tally.absent_writes ≡ self.old.tally.absent_writes }
+        ensures room { StaysRoom (room_of self.old) (room_of self.new) }
+        ensures spent { (self.new.tally.change_faults ≡ self.old.tally.change_faults) ⊎ IsSpent (room_of self.old) (record { files = self.new.tally.absent_writes; bytes = self.new.tally.asked_bytes; calls = self.new.tally.change_calls }) }
         ensures images { Follows (RemoveStep file) (At (length self.old.log.history)) (At (length self.new.log.history)) (SinceMoment self.old.log.history) (SinceMoment self.new.log.history) }
         ensures faults { HasCause self.old.tally.change_faults self.new.tally.change_faults result }
         ensures read_faults { self.new.tally.read_faults ≡ self.old.tally.read_faults }
@@ -242,6 +282,10 @@ impl Store for RamStore {
         ensures reads { reads_of self.new.log.history ≡ reads_of self.old.log.history }
         ensures model { true ≡ true }
         ensures calls { self.new.tally.change_calls ≡ self.old.tally.change_calls }
+        ensures bytes { self.new.tally.asked_bytes ≡ self.old.tally.asked_bytes }
+        ensures absent { self.new.tally.absent_writes ≡ self.old.tally.absent_writes }
+        ensures room { room_of self.new ≡ room_of self.old }
+        ensures unfailing { IsSome (room_of self.old) → self.new.tally.read_faults ≡ self.old.tally.read_faults }
         ensures clock { At (length self.new.log.history) ≡ At (length self.old.log.history) }
         ensures images { Follows StaysStep (At (length self.old.log.history)) (At (length self.new.log.history)) (SinceMoment self.old.log.history) (SinceMoment self.new.log.history) }
         ensures faults { HasListCause self.old.tally.read_faults self.new.tally.read_faults result }

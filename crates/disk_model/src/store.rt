@@ -1,12 +1,12 @@
 // Numbered files, as the layers above see them.
-ghost use Rattle.std.specs.Prelude.{◌≡◌, ◌+◌, ◌-◌, ◌^◌, ◌≤◌, ◌↔◌, ℕ, Bool, IsTrue, None, Some, IsSome, ◌++◌, length, take, drop, min, IfOk, OnOk, OnErr, IfSome, Contains};
+ghost use Rattle.std.specs.Prelude.{◌≡◌, ◌⊎◌, ◌+◌, ◌-◌, ◌^◌, ◌≤◌, ◌↔◌, ℕ, Bool, IsTrue, Option, None, Some, IsSome, ◌++◌, length, take, drop, min, IfOk, OnOk, OnErr, IfSome, Contains};
 ghost use Rattle.std.specs.List.Sorted.{IsStrictlyIncreasing};
 ghost use Rattle.std.specs.Option.{option_map};
 ghost use Rattle.pcm_base.specs.Causes.{HasCause};
 ghost use Rattle.disk_model.specs.Moment.{Moment, IsUpTo};
 ghost use Rattle.disk_model.specs.Disk.{Files, bytes_of, written, TornFile, SameElsewhere, WriteStep, RemoveStep, StaysStep, Follows};
 ghost use Rattle.disk_model.specs.Faults.{HasListCause};
-ghost use Rattle.disk_model.specs.Ram.{counted};
+ghost use Rattle.disk_model.specs.Room.{Room, raised, met, IsSpent, StaysRoom};
 
 use pcm_base::Failed;
 
@@ -48,6 +48,16 @@ pub trait Store {
     // How many calls of `write_at`, `sync` and `remove` there were, whatever they answered, up to the greatest u64.
     ghost change_calls: { Self → ℕ };
 
+    // How many bytes `write_at` was asked to write, whatever it answered, up to the greatest u64.
+    ghost asked_bytes: { Self → ℕ };
+
+    // How many calls of `write_at` met an absent file, whatever they answered, up to the greatest u64.
+    ghost absent_writes: { Self → ℕ };
+
+    // How much may be asked of it in all, by these three counts, before it may count a fault. None where it may at any
+    // call.
+    ghost room: { Self → Option Room };
+
     /// The sum of both counts of faults, or the greatest u64 where it is greater. It never fails.
     fn faults(&self) -> u64
         ensures { result ≡ min (read_fault_count self.now + change_fault_count self.now) (2 ^ 64 - 1) };
@@ -64,6 +74,10 @@ pub trait Store {
         ensures reads { reads self.new ≡ reads self.old }
         ensures model { keeps_model self.new ≡ keeps_model self.old }
         ensures calls { change_calls self.new ≡ change_calls self.old }
+        ensures bytes { asked_bytes self.new ≡ asked_bytes self.old }
+        ensures absent { absent_writes self.new ≡ absent_writes self.old }
+        ensures room { room self.new ≡ room self.old }
+        ensures unfailing { IsSome (room self.old) → read_fault_count self.new ≡ read_fault_count self.old }
         ensures clock { clock self.new ≡ clock self.old }
         ensures images { Follows StaysStep (clock self.old) (clock self.new) (may_leave self.old) (may_leave self.new) }
         ensures faults { HasCause (read_fault_count self.old) (read_fault_count self.new) result }
@@ -80,6 +94,10 @@ pub trait Store {
         ensures reads { reads self.new ≡ reads self.old }
         ensures model { keeps_model self.new ≡ keeps_model self.old }
         ensures calls { change_calls self.new ≡ change_calls self.old }
+        ensures bytes { asked_bytes self.new ≡ asked_bytes self.old }
+        ensures absent { absent_writes self.new ≡ absent_writes self.old }
+        ensures room { room self.new ≡ room self.old }
+        ensures unfailing { IsSome (room self.old) → read_fault_count self.new ≡ read_fault_count self.old }
         ensures clock { clock self.new ≡ clock self.old }
         ensures images { Follows StaysStep (clock self.old) (clock self.new) (may_leave self.old) (may_leave self.new) }
         ensures faults { HasCause (read_fault_count self.old) (read_fault_count self.new) result }
@@ -94,7 +112,12 @@ pub trait Store {
         ensures others { IsTrue (tells self.old) → SameElsewhere file (reads self.old) (reads self.new) }
         ensures tells { tells self.new ≡ tells self.old }
         ensures model { keeps_model self.new ≡ keeps_model self.old }
-        ensures calls { change_calls self.new ≡ counted (change_calls self.old) }
+        ensures calls { change_calls self.new ≡ raised (change_calls self.old) 1 }
+        ensures bytes { asked_bytes self.new ≡ raised (asked_bytes self.old) (length bytes.now) }
+        ensures absent { IsTrue (tells self.old) → absent_writes self.new ≡ met (reads self.old file) (absent_writes self.old) }
+        ensures absent_later { absent_writes self.old ≤ absent_writes self.new }
+        ensures room { StaysRoom (room self.old) (room self.new) }
+        ensures spent { (change_fault_count self.new ≡ change_fault_count self.old) ⊎ IsSpent (room self.old) (record { files = absent_writes self.new; bytes = asked_bytes self.new; calls = change_calls self.new }) }
         ensures images { Follows (WriteStep file at (length bytes.now)) (clock self.old) (clock self.new) (may_leave self.old) (may_leave self.new) }
         ensures faults { HasCause (change_fault_count self.old) (change_fault_count self.new) result }
         ensures read_faults { read_fault_count self.new ≡ read_fault_count self.old };
@@ -105,7 +128,11 @@ pub trait Store {
         ensures tells { tells self.new ≡ tells self.old }
         ensures reads { reads self.new ≡ reads self.old }
         ensures model { keeps_model self.new ≡ keeps_model self.old }
-        ensures calls { change_calls self.new ≡ counted (change_calls self.old) }
+        ensures calls { change_calls self.new ≡ raised (change_calls self.old) 1 }
+        ensures bytes { asked_bytes self.new ≡ asked_bytes self.old }
+        ensures absent { absent_writes self.new ≡ absent_writes self.old }
+        ensures room { StaysRoom (room self.old) (room self.new) }
+        ensures spent { (change_fault_count self.new ≡ change_fault_count self.old) ⊎ IsSpent (room self.old) (record { files = absent_writes self.new; bytes = asked_bytes self.new; calls = change_calls self.new }) }
         ensures images { Follows StaysStep (clock self.old) (clock self.new) (may_leave self.old) (may_leave self.new) }
         ensures faults { HasCause (change_fault_count self.old) (change_fault_count self.new) result }
         ensures read_faults { read_fault_count self.new ≡ read_fault_count self.old };
@@ -116,7 +143,11 @@ pub trait Store {
         ensures part { IsTrue (tells self.old) → RemoveStep file (reads self.old) (reads self.new) }
         ensures tells { tells self.new ≡ tells self.old }
         ensures model { keeps_model self.new ≡ keeps_model self.old }
-        ensures calls { change_calls self.new ≡ counted (change_calls self.old) }
+        ensures calls { change_calls self.new ≡ raised (change_calls self.old) 1 }
+        ensures bytes { asked_bytes self.new ≡ asked_bytes self.old }
+        ensures absent { absent_writes self.new ≡ absent_writes self.old }
+        ensures room { StaysRoom (room self.old) (room self.new) }
+        ensures spent { (change_fault_count self.new ≡ change_fault_count self.old) ⊎ IsSpent (room self.old) (record { files = absent_writes self.new; bytes = asked_bytes self.new; calls = change_calls self.new }) }
         ensures images { Follows (RemoveStep file) (clock self.old) (clock self.new) (may_leave self.old) (may_leave self.new) }
         ensures faults { HasCause (change_fault_count self.old) (change_fault_count self.new) result }
         ensures read_faults { read_fault_count self.new ≡ read_fault_count self.old };
@@ -129,6 +160,10 @@ pub trait Store {
         ensures reads { reads self.new ≡ reads self.old }
         ensures model { keeps_model self.new ≡ keeps_model self.old }
         ensures calls { change_calls self.new ≡ change_calls self.old }
+        ensures bytes { asked_bytes self.new ≡ asked_bytes self.old }
+        ensures absent { absent_writes self.new ≡ absent_writes self.old }
+        ensures room { room self.new ≡ room self.old }
+        ensures unfailing { IsSome (room self.old) → read_fault_count self.new ≡ read_fault_count self.old }
         ensures clock { clock self.new ≡ clock self.old }
         ensures images { Follows StaysStep (clock self.old) (clock self.new) (may_leave self.old) (may_leave self.new) }
         ensures faults { HasListCause (read_fault_count self.old) (read_fault_count self.new) result }

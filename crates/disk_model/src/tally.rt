@@ -1,6 +1,6 @@
 // The count of a store's calls: which of them fail, and how many have failed.
 ghost use Rattle.std.specs.Prelude.{◌≡◌, ◌+◌, ◌-◌, ◌^◌, ◌≤◌, ◌↔◌, min, IsTrue, Some};
-ghost use Rattle.disk_model.specs.Ram.{IsDue, IsPast, fresh_tally, with_read, with_change, with_read_fault, with_change_fault, counted};
+ghost use Rattle.disk_model.specs.Ram.{IsDue, IsPast, fresh_tally, with_read, with_change, with_asked, with_read_fault, with_change_fault, counted};
 
 use pcm_base::{Failed, Numbers};
 use std::marker::Model;
@@ -14,6 +14,8 @@ pub(crate) struct Tally {
     read_faults: u64,
     change_faults: u64,
     change_calls: u64,
+    asked_bytes: u64,
+    absent_writes: u64,
 }
 
 impl Model for Tally {
@@ -28,6 +30,8 @@ impl Model for Tally {
       read_faults = s.read_faults;
       change_faults = s.change_faults;
       change_calls = s.change_calls;
+      asked_bytes = s.asked_bytes;
+      absent_writes = s.absent_writes;
     } };
 }
 
@@ -43,6 +47,8 @@ impl Tally {
             read_faults: 0,
             change_faults: 0,
             change_calls: 0,
+            asked_bytes: 0,
+            absent_writes: 0,
         }
     }
 
@@ -64,6 +70,18 @@ impl Tally {
         self.count_read()
     }
 
+    // Counts a write of so many bytes to a file of this size, and says whether it is to fail.
+    pub(crate) fn count_write(&mut self, size: Option<u64>, bytes: usize) -> bool
+        ensures due { IsTrue result ↔ IsDue self.old }
+        ensures counted { self.new ≡ with_asked (with_change self.old) size bytes }
+    {
+        self.asked_bytes = self.asked_bytes.saturating_add(bytes as u64);
+        if size.is_none() {
+            self.absent_writes = self.absent_writes.saturating_add(1);
+        }
+        self.count_change()
+    }
+
     // Counts the fault of a call that reads.
     pub(crate) fn fail_read(&mut self) -> Failed
         ensures counted { self.new ≡ with_read_fault self.old }
@@ -80,6 +98,13 @@ impl Tally {
     {
         self.change_faults = self.change_faults.saturating_add(1);
         Failed
+    }
+
+    // How many calls there have been.
+    pub(crate) fn made(&self) -> u64
+        ensures { result ≡ self.now.made }
+    {
+        self.made
     }
 
     // Lets each call after the next n fail.

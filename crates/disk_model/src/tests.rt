@@ -145,6 +145,23 @@ fn faults_are_counted(rt: HostRuntime) -> Result<(), Fail> {
     assert!(rt; numbers.as_slice() == [6, 7].as_slice());
     assert!(rt; store.size(6).is_err());
     assert!(rt; store.faults() == 2 && store.change_faults() == 1);
+    assert_eq!(rt; store.call_count(), 5);
+    Ok(())
+}
+
+// Whatever a stop leaves, the file is whole once it is written through, and then gone.
+#[test]
+fn changes_that_a_stop_leaves(rt: HostRuntime) -> Result<(), Fail> {
+    let mut store = disk(rt.alloc(), Vec::new(rt.alloc()))?;
+    assert!(rt; write_through(&mut store, 3, 0, b"abcd").is_ok());
+    assert!(rt; write_through(&mut store, 3, 4, b"e").is_ok());
+    let left = images(rt.alloc(), &store)?;
+    let want = b"abcde/- abcde/- abcde/- abcde/- abcde/- abcde/- abcde/- abcde/- abcde/- abcde/- ";
+    assert!(rt; left.as_slice() == want.as_slice());
+    assert!(rt; remove_through(&mut store, 3).is_ok());
+    let left = images(rt.alloc(), &store)?;
+    assert!(rt; left.as_slice() == b"-/- -/- -/- -/- -/- -/- -/- -/- -/- -/- ".as_slice());
+    assert!(rt; sync_file(&mut store, 3).is_ok());
     Ok(())
 }
 

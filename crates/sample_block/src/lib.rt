@@ -2,11 +2,12 @@
 //! 256 and one for each 65,536 samples. docs/FORMATS.md has the table.
 //!
 //! The layer above uses three contracts. `encode` writes the one spelling of a block; `decode` answers Ok exactly
-//! for that spelling, and else the first field that differs; the readers give the field at its place. No file is
-//! opened, read or written here: bytes come and go as slices.
+//! for that spelling, and else the first field that differs, and `check` the same without memory; the readers give the
+//! field at its place. No file is opened, read or written here: bytes come and go as slices.
 #![tactic(auto)]
 
 mod block;
+mod checking;
 mod damage;
 mod levels;
 mod reading;
@@ -15,6 +16,7 @@ mod tests;
 mod writing;
 
 pub use block::{Block, Header};
+pub use checking::check;
 pub use damage::{BadBlock, Damaged};
 pub use reading::{check_header, decode, frame_at, header, sample_at};
 pub use writing::{encode, file_size};

@@ -149,7 +149,12 @@ fn check_level(bytes: &[u8], at: usize, frames: &[Summary]) -> Result<(), Damage
 }
 
 /// Both levels, from a place on, the short one first.
-fn check_both(bytes: &[u8], at: usize, short: &[Summary], long: &[Summary]) -> Result<(), Damaged>
+pub(crate) fn check_both(
+    bytes: &[u8],
+    at: usize,
+    short: &[Summary],
+    long: &[Summary],
+) -> Result<(), Damaged>
     requires { at + 12 * (length short.now + length long.now) ≤ length bytes.now }
     ensures { Tells result (difference bytes.now at (flat_map frame_fields short.now ++ flat_map frame_fields long.now)) }
 {
@@ -188,7 +193,7 @@ fn check_frames(bytes: &[u8], samples: &[i16]) -> Result<(), Damaged>
 }
 
 /// The size of the file and its first 16 bytes.
-fn check_front(bytes: &[u8], id: u64, len: u32) -> Result<(), Damaged>
+pub(crate) fn check_front(bytes: &[u8], id: u64, len: u32) -> Result<(), Damaged>
     requires { len ≤ 262144 }
     ensures size { OnOk result (length bytes.now ≡ size_of len) }
     ensures fields { Tells result (size_difference len bytes.now (difference bytes.now 0 (header_fields id len))) }

@@ -1,7 +1,7 @@
 // Worked blocks, byte by byte.
 use super::{
-    BadBlock, Block, Damaged, Header, MAGIC, check_header, decode, encode, file_size, frame_at,
-    header, sample_at,
+    BadBlock, Block, Damaged, Header, MAGIC, check, check_header, decode, encode, file_size,
+    frame_at, header, sample_at,
 };
 use pcm_base::NoMemory;
 use peak_summary::Summary;
@@ -55,6 +55,7 @@ fn two_samples(rt: HostRuntime) -> Result<(), NoMemory> {
     };
     assert_eq!(rt; header(&FILE), head);
     assert_eq!(rt; check_header(&FILE, 16, 2), Ok(()));
+    assert_eq!(rt; check(&FILE, 16, 2), Ok(()));
     assert_eq!(rt; sample_at(&FILE[16..], 1), -2);
     Ok(())
 }
@@ -68,6 +69,7 @@ fn three_hundred_samples(rt: HostRuntime) -> Result<(), NoMemory> {
     let mut out = Vec::new(alloc);
     encode(16, &samples, &mut out)?;
     assert_eq!(rt; out.len(), 652);
+    assert_eq!(rt; check(out.as_slice(), 16, 300), Ok(()));
     let frames = [
         (0, 3, 3, 2304, 256),
         (1, -4, 5, 419, 44),
@@ -126,6 +128,7 @@ fn each_field_damaged(rt: HostRuntime) {
             bytes[case.place] = case.byte;
         }
         assert_eq!(rt; fault_of(decode(alloc, &bytes, 16, 2)), Some(case.fault));
+        assert_eq!(rt; check(&bytes, 16, 2), Err(case.fault));
     }
     for (file, have) in [(&FILE[..43], 43), (&[0u8; 45][..], 45)] {
         let fault = Damaged {
@@ -134,5 +137,6 @@ fn each_field_damaged(rt: HostRuntime) {
             have,
         };
         assert_eq!(rt; fault_of(decode(alloc, file, 16, 2)), Some(fault));
+        assert_eq!(rt; check(file, 16, 2), Err(fault));
     }
 }

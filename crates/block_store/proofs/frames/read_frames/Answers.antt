@@ -1,7 +1,9 @@
 -- What stands in the file of a block of the disk are the summaries of its stretches.
-use Rattle.std.proofs.Common.{length}
-use Rattle.block_store.proofs.FaultLaws.{sound_result}
-use Rattle.block_store.proofs.FrameLaws.{frames_result}
+use Rattle.std.proofs.Common.{ℕ, ◌+◌, ◌*◌, arith, length}
+use Rattle.sample_block.specs.Spelling.{size_of}
+use Rattle.block_store.specs.Reads.{end_of, level_place}
+use Rattle.block_store.proofs.FaultLaws.{end_most, sound_result}
+use Rattle.block_store.proofs.FrameLaws.{frames_result, frames_within}
 use Rattle.block_store.proofs.frames.read_frames.Goals as goal
 
 pub returns-clause-read : goal.returns-clause-read
@@ -9,4 +11,7 @@ returns-clause-read g c = λ xs told block len.
     frames_result c.read_row.result (g.S.Store.reads c.args.store.now) c.args.level c.args.block.id c.args.block.len c.args.from (length c.args.out.now) xs c.read_row.new.out block len c.requires.within (c.read_row.ensures.frames told)
 
 pub returns-clause-sound : goal.returns-clause-sound
-returns-clause-sound g c = λ xs told block len. sound_result c.read_row.result (g.S.Store.reads c.args.store.now) c.args.block.id c.args.block.len xs block len (c.read_row.ensures.damaged told)
+returns-clause-sound g c = λ xs told block len.
+    let place : ℕ = level_place c.args.level c.args.block.len + 12 * (c.args.from + length c.args.out.now) in
+    sound_result c.read_row.result (g.S.Store.reads c.args.store.now) c.args.block.id c.args.block.len (end_of (length c.args.out.now) place) xs block len
+    (end_most (length c.args.out.now) place (size_of c.args.block.len) (omega arith) (frames_within c.args.level c.args.block.len c.args.from (length c.args.out.now) c.requires.within)) (c.read_row.ensures.damaged told)

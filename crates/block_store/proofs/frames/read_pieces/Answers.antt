@@ -9,7 +9,7 @@ use Rattle.peak_summary.specs.declared.stretch.Summary.{Summary}
 use Rattle.block_store.specs.declared.frames.Level.{Level}
 use Rattle.block_store.specs.Reads.{level_place, stored_frames}
 use Rattle.block_store.proofs.FrameLaws.{frames_more, length_stored}
-use Rattle.block_store.proofs.KeptLaws.{kept_turn, kept_none}
+use Rattle.disk_model.proofs.Frames.{kept_turn, kept_none}
 use Rattle.block_store.proofs.frames.read_pieces.Goals as goal
 
 piece_more : (was now : Files) (id : ℕ) (level : Level) (len from done n m k : ℕ) (out part : List Summary) → now ≡ was → done ≤ length out

@@ -7,7 +7,7 @@ use borrow.Rule.Slice.PartMut.{put_mid}
 use Rattle.disk_model.specs.Disk.{Files, bytes_of}
 use Rattle.sample_block.specs.Faults.{samples_in}
 use Rattle.sample_block.proofs.Laws.{samples_more, length_samples}
-use Rattle.block_store.proofs.KeptLaws.{kept_turn, kept_none}
+use Rattle.disk_model.proofs.Frames.{kept_turn, kept_none}
 use Rattle.block_store.proofs.reads.read_pieces.Goals as goal
 
 piece_more : (was now : Files) (id at from done n m k : ℕ) (out part : List ℤ) → now ≡ was → done ≤ length out

@@ -2,14 +2,14 @@
 use Rattle.std.proofs.Common.{◌≡◌, ◌<◌, ◌≤◌, ◌+◌, ◌*◌, ◌-◌, take, length}
 use Rattle.std.specs.Prelude.{IsTrue}
 use Rattle.disk_model.specs.Disk.{bytes_of}
+use Rattle.disk_model.specs.Frames.{Kept}
 use Rattle.sample_block.specs.Faults.{samples_in}
-use Rattle.block_store.specs.Reads.{Kept}
 use Rattle.block_store.proofs.reads.read_pieces.Given as goal
 
 abbrev pub invariant-pieces : goal.invariant-pieces
 invariant-pieces g l = record {
   within : l.done ≤ length l.out;
-  kept : Kept g.S.Store.tells g.S.Store.keeps_model g.S.Store.reads g.S.Store.clock g.S.Store.may_leave g.S.Store.change_fault_count g.S.Store.change_calls l.fn.store l.store;
+  kept : Kept g.S.Store l.fn.store l.store;
   count : g.S.Store.read_fault_count l.store ≡ g.S.Store.read_fault_count l.fn.store;
   whole : IsTrue (g.S.Store.tells l.fn.store) → 0 < l.done → 16 + 2 * (l.from + l.done) ≤ length (bytes_of (g.S.Store.reads l.fn.store l.block.id));
   samples : IsTrue (g.S.Store.tells l.fn.store) → take l.done l.out ≡ samples_in (bytes_of (g.S.Store.reads l.fn.store l.block.id)) (16 + 2 * l.from) l.done;

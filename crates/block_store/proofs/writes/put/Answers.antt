@@ -1,12 +1,43 @@
 -- The file that was put is the spelling of the block.
-use Rattle.std.proofs.Common.{◌∙◌, ap, Some, List, ℕ}
+use Rattle.std.proofs.Common.{◌≡◌, ◌≤◌, ◌∙◌, ap, arith, length, Option, Some, None, List, ℕ, ℤ}
+use Rattle.disk_model.specs.Disk.{Files, bytes_of, written}
+use Rattle.disk_model.specs.Room.{files_made}
+use Rattle.disk_model.proofs.Frames.{changed_wider}
+use Rattle.disk_model.proofs.Writes.{written_new}
+use Rattle.sample_block.specs.Spelling.{IsBlock, IsSpelled}
+use Rattle.sample_block.specs.Blocks.{blocks}
 use Rattle.sample_block.proofs.BlockLaws.{blocks_put}
 use Rattle.block_store.proofs.writes.put.Goals as goal
 
-pub returns-in-Ok-write_new-clause-stored : goal.returns-in-Ok-write_new-clause-stored
-returns-in-Ok-write_new-clause-stored g c = λ told absent.
-    blocks_put (g.S.Store.reads c.write_new.new.store) c.args.id c.args.samples.now c.requires.block c.in-Ok.ensures.spelled.0 (c.in-Ok-write_new.ensures.put told absent ∙ ap (λ (ys : List ℕ). Some ys) (c.deref.ensures.value ∙ c.in-Ok.ensures.spelled.1))
+-- what an absent file becomes
+put_there : (files : Files) (id : ℕ) (xs : List ℤ) (old : Option (List ℕ)) (row bytes : List ℕ) → IsBlock id (length xs) → IsSpelled id xs bytes → row ≡ bytes → old ≡ None
+    → files id ≡ Some (written (bytes_of old) 0 row) → blocks files id ≡ Some xs
+put_there files id xs old row bytes block spelled same absent file =
+    blocks_put files id xs block spelled.0
+    (file ∙ ap (λ (o : Option (List ℕ)). Some (written (bytes_of o) 0 row)) absent ∙ ap (λ (ys : List ℕ). Some ys) (written_new row ∙ same ∙ spelled.1))
 
-pub returns-in-Ok-write_new-clause-durable : goal.returns-in-Ok-write_new-clause-durable
-returns-in-Ok-write_new-clause-durable g c = λ told absent files left.
-    blocks_put files c.args.id c.args.samples.now c.requires.block c.in-Ok.ensures.spelled.0 (c.in-Ok-write_new.ensures.whole told absent files left ∙ ap (λ (ys : List ℕ). Some ys) (c.deref.ensures.value ∙ c.in-Ok.ensures.spelled.1))
+one_file : (there : Option (List ℕ)) → files_made there ≤ 1
+one_file None = omega arith
+one_file (Some bytes) = omega arith
+
+pub returns-in-Ok-write_through-clause-stored : goal.returns-in-Ok-write_through-clause-stored
+returns-in-Ok-write_through-clause-stored g c = λ told absent.
+    put_there (g.S.Store.reads c.write_through.new.store) c.args.id c.args.samples.now (g.S.Store.reads c.args.store.now c.args.id) c.deref.result.now _ c.requires.block c.in-Ok.ensures.spelled
+    c.deref.ensures.value absent (c.in-Ok-write_through.ensures.written told)
+
+pub returns-in-Ok-write_through-clause-durable : goal.returns-in-Ok-write_through-clause-durable
+returns-in-Ok-write_through-clause-durable g c = λ told absent files left.
+    put_there files c.args.id c.args.samples.now (g.S.Store.reads c.args.store.now c.args.id) c.deref.result.now _ c.requires.block c.in-Ok.ensures.spelled
+    c.deref.ensures.value absent (c.in-Ok-write_through.ensures.durable files left ∙ c.in-Ok-write_through.ensures.written told)
+
+pub returns-in-Ok-write_through-clause-changed : goal.returns-in-Ok-write_through-clause-changed
+returns-in-Ok-write_through-clause-changed g c =
+    changed_wider (λ d e w. w.others)
+    (record { files = one_file (g.S.Store.reads c.args.store.now c.args.id); bytes = omega (arith, ap length c.deref.ensures.value, c.in-Ok.ensures.len); calls = omega arith })
+    c.write_through.ensures.changed
+
+pub returns-in-Err-write_through-clause-changed : goal.returns-in-Err-write_through-clause-changed
+returns-in-Err-write_through-clause-changed g c =
+    changed_wider (λ d e w. w.others)
+    (record { files = one_file (g.S.Store.reads c.args.store.now c.args.id); bytes = omega (arith, ap length c.deref.ensures.value, c.in-Ok.ensures.len); calls = omega arith })
+    c.write_through.ensures.changed

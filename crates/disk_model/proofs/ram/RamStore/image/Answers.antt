@@ -1,5 +1,6 @@
 -- What the choices leave.
-use Rattle.std.proofs.Common.{ℕ, sym, ◌∙◌, ap, subst}
+use Rattle.std.proofs.Common.{ℕ, sym, ◌∙◌, ap, subst, length}
+use Rattle.disk_model.specs.Histories.{image_since}
 use Rattle.disk_model.specs.Disk.{Files}
 use Rattle.disk_model.specs.History.{IsImage}
 use Rattle.disk_model.specs.Images.{image_of}
@@ -20,3 +21,6 @@ returns-clause-nothing c = λ one.
 pub returns-clause-left : goal.returns-clause-left
 returns-clause-left c = subst (λ (f : Files). IsImage c.args.self.now.log.history f)
     (sym (c.in_ok-log.ensures.reads ∙ ap (λ (r : Ram). image_of c.args.choice r.log.history) c.self.view_is)) (image_is_image c.args.choice c.args.self.now.log.history)
+
+pub returns-clause-may_be_left : goal.returns-clause-may_be_left
+returns-clause-may_be_left c = image_since c.args.self.now.log.history (length c.args.self.now.log.history) _ (returns-clause-left c)

@@ -5,8 +5,8 @@ use Rattle.disk_model.specs.Ram.{Log, Ram}
 use Rattle.disk_model.specs.Histories.{write_same, write_more}
 use Rattle.disk_model.proofs.ram.RamStoreStore.write_at.Goals as goal
 
-pub returns-then-count_change-clause-images : goal.returns-then-count_change-clause-images
-returns-then-count_change-clause-images c = write_same _ _ _ _ _ (ap (λ (r : Ram). r.log.history) c.self.view_is)
+pub returns-then-count_write-clause-images : goal.returns-then-count_write-clause-images
+returns-then-count_write-clause-images c = write_same _ _ _ _ _ (ap (λ (r : Ram). r.log.history) c.self.view_is)
 
 pub returns-in-Err-clause-images : goal.returns-in-Err-clause-images
 returns-in-Err-clause-images c = write_same _ _ _ _ _ (ap (λ (l : Log). l.history) c.in-Err.ensures.err ∙ ap (λ (r : Ram). r.log.history) c.self.view_is)
