@@ -3,27 +3,27 @@ use Rattle.std.proofs.lemmas.List.{get_or_append_left}
 use Rattle.std.specs.Prelude.{slice_index}
 use Rattle.std.specs.List.{flat_map}
 use Rattle.std.proofs.Common.{◌≤◌, ◌++◌, ◌∷◌, length, length-append, arith, ap, sym, List, ◌≡◌, ℕ, ◌∙◌}
-use Rattle.disk_model.specs.Moment.{Moment}
 use Rattle.disk_model.specs.MomentLaws.{upto_refl}
 use Rattle.disk_model.specs.Disk.{Files, bytes_of, Follows}
+use Rattle.disk_model.specs.declared.store.Store.{Ghosts}
 use Rattle.disk_model.proofs.Moments.{each_from}
 use Rattle.project_journal.specs.Header.{Form, IsProject}
-use Rattle.project_journal.specs.Gate.{Each}
+use Rattle.project_journal.specs.Gate.{EachNow, EachSince}
 use Rattle.project_journal.specs.Journal.{Log, entry, HasLog, IsAt}
 
 -- each image has the journal now
-pub each_has : {form : Form} {D : Type 0} {reads : D → Files} {clock : D → Moment} {may_leave : D → Moment → Files → Type 0} {store : D} {at : ℕ} {log : Log} → IsAt form reads clock may_leave store at log → Each (may_leave store (clock store)) (HasLog form log)
+pub each_has : {form : Form} {D : Type 0} {disk : Ghosts D} {store : D} {at : ℕ} {log : Log} → IsAt form disk store at log → EachNow disk store (HasLog form log)
 each_has here c now = (here.front, here.spelled, here.images c now)
 
 -- and at any moment of a call that leaves the journal's file alone
-pub each_since : {form : Form} {D : Type 0} {reads : D → Files} {clock : D → Moment} {may_leave : D → Moment → Files → Type 0} {old new : D} {at : ℕ} {log : Log} {step : Files → Files → Type 0}
-    → ((d c : Files) → step d c → c form.file ≡ d form.file) → Follows step (clock old) (clock new) (may_leave old) (may_leave new) → IsAt form reads clock may_leave old at log → Each (may_leave new (clock old)) (HasLog form log)
+pub each_since : {form : Form} {D : Type 0} {disk : Ghosts D} {old new : D} {at : ℕ} {log : Log} {step : Files → Files → Type 0}
+    → ((d c : Files) → step d c → c form.file ≡ d form.file) → Follows step (disk.clock old) (disk.clock new) (disk.may_leave old) (disk.may_leave new) → IsAt form disk old at log → EachSince disk old new (HasLog form log)
 each_since {form = form} {log = log} same follows here = each_from (HasLog form log) (HasLog form log) follows (each_has here) (λ d c has step. (has.0, has.1, (has.2.0, same d c step ∙ has.2.1)))
 
 -- it has it after the call
-pub is_at_still : {form : Form} {D : Type 0} {reads : D → Files} {clock : D → Moment} {may_leave : D → Moment → Files → Type 0} {old new : D} {at : ℕ} {log : Log} {step : Files → Files → Type 0}
-    → ((d c : Files) → step d c → c form.file ≡ d form.file) → reads new form.file ≡ reads old form.file → Follows step (clock old) (clock new) (may_leave old) (may_leave new) → IsAt form reads clock may_leave old at log
-    → IsAt form reads clock may_leave new at log
+pub is_at_still : {form : Form} {D : Type 0} {disk : Ghosts D} {old new : D} {at : ℕ} {log : Log} {step : Files → Files → Type 0}
+    → ((d c : Files) → step d c → c form.file ≡ d form.file) → disk.reads new form.file ≡ disk.reads old form.file → Follows step (disk.clock old) (disk.clock new) (disk.may_leave old) (disk.may_leave new) → IsAt form disk old at log
+    → IsAt form disk new at log
 is_at_still same is follows here = record {
   front = here.front;
   place = here.place;

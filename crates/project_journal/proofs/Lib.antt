@@ -1,8 +1,11 @@
 pub mod Once
 pub mod Kept
+pub mod Formats
+pub mod Found
+mod Changes
 mod Gates
 mod Logs
 mod Starts
-mod Parses
+pub mod Parses
 mod Splits
 mod Headers

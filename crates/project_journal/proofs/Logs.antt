@@ -4,15 +4,18 @@ use Rattle.std.proofs.lemmas.List.{append-nil, map-append}
 use Rattle.std.specs.List.{flat_map, AllByRecursion}
 use Rattle.byteorder.specs.Endian.{little_number, little_bytes}
 use Rattle.byteorder.specs.Numbers.{little_number-reads_back}
-use Rattle.disk_model.specs.Moment.{Moment}
 use Rattle.disk_model.specs.Disk.{Files}
-use Rattle.project_journal.specs.Gate.{IsShut, IsOpen, HasGate, IsShutOrOpen, Each}
+use Rattle.disk_model.specs.declared.store.Store.{Ghosts}
+use Rattle.project_journal.specs.Gate.{IsShut, IsOpen, HasGate, IsShutOrOpen, IsDurable}
 use Rattle.project_journal.specs.Header.{Form}
 use Rattle.project_journal.specs.Journal.{Log, with_body, Entry, entry, body_of, IsEntry, IsLog, HasOneOf, IsAt}
 
 -- the bytes that an append writes behind the gate
 abbrev pub row_of : List ℕ → List ℕ
 row_of body = little_bytes 4 (length body) ++ body ++ 0 ∷ []
+
+pub length_row : (body row : List ℕ) → row ≡ row_of body → length row ≡ 5 + length body
+length_row body row is = omega (arith, ap length is, length-append (little_bytes 4 (length body) ++ body) (0 ∷ []), length-append (little_bytes 4 (length body)) body)
 
 abbrev pub entry_of : ℕ → List ℕ → Entry
 entry_of gate body = record { gate = gate; size = little_bytes 4 (length body); body = body }
@@ -59,12 +62,12 @@ one_of form log front row body c is fits row-is (inl shut) = inl (front, is, shu
 one_of form log front row body c is fits row-is (inr opened) =
     inr (front ++ entry (entry_of opened.0 body), longer form front log (entry_of opened.0 body) is (is_entry opened.0 body opened.1 fits), shut_behind form.file front row body opened.0 c row-is opened.2)
 
-pub at_next : (form : Form) {D : Type 0} (reads : D → Files) (clock : D → Moment) (may_leave : D → Moment → Files → Type 0) (store : D) (log : Log) (front row body : List ℕ) (at next : ℕ)
-    → IsLog form front log → length front ≡ at → length body < 2 ^ 32 → row ≡ row_of body → next ≡ at + 5 + length body → IsOpen form.file front row (reads store)
-    → Each (may_leave store (clock store)) (λ c. c form.file ≡ reads store form.file) → IsAt form reads clock may_leave store next (with_body log body)
-at_next form reads clock may_leave store log front row body at next is place fits row-is next-is opened same =
+pub at_next : (form : Form) {D : Type 0} (disk : Ghosts D) (store : D) (log : Log) (front row body : List ℕ) (at next : ℕ)
+    → IsLog form front log → length front ≡ at → length body < 2 ^ 32 → row ≡ row_of body → next ≡ at + 5 + length body → IsOpen form.file front row (disk.reads store)
+    → IsDurable disk store form.file → IsAt form disk store next (with_body log body)
+at_next form disk store log front row body at next is place fits row-is next-is opened same =
     let e = entry_of opened.0 body in
-    let shut : IsShut form.file (front ++ entry e) (reads store) = shut_behind form.file front row body opened.0 (reads store) row-is opened.2 in
+    let shut : IsShut form.file (front ++ entry e) (disk.reads store) = shut_behind form.file front row body opened.0 (disk.reads store) row-is opened.2 in
     record {
       front = front ++ entry e;
       place = omega (arith, place, next-is, length-append front (entry e));

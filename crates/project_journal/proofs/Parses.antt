@@ -8,14 +8,14 @@ use Rattle.std.proofs.lemmas.List.{get_or-take, drop-take, length-take-le}
 use Rattle.std.specs.List.{flat_map}
 use Rattle.byteorder.specs.Endian.{little_number}
 use Rattle.byteorder.specs.Numbers.{little_from-take}
-use Rattle.disk_model.specs.Moment.{Moment}
 use Rattle.disk_model.specs.Disk.{Files, bytes_of}
+use Rattle.disk_model.specs.declared.store.Store.{Ghosts}
 use Rattle.project_journal.specs.declared.fault.Damaged.{Damaged}
 use Rattle.project_journal.specs.declared.fault.JournalFault.{JournalFault}
 use Rattle.project_journal.specs.declared.fault.JournalFault.TheVariants.{Absent, Exists, Damaged as Fault, SpaceSpent, DiskFault, NoMemory}
 use Rattle.project_journal.specs.Fields.{field}
 use Rattle.project_journal.specs.Header.{Form, IsProject, header_tests, number_tests, the_zeros, zero_tests, first_failed}
-use Rattle.project_journal.specs.Gate.{IsShut, Each}
+use Rattle.project_journal.specs.Gate.{IsShut, IsDurable}
 use Rattle.project_journal.specs.Journal.{entry, body_of, placed, body_at, Contents, log_of, Ends, next_of, IsJournal, IsAt}
 use Rattle.project_journal.specs.Split.{IsSplit}
 use Rattle.project_journal.specs.Answer.{Reads, IsRefusal}
@@ -44,7 +44,7 @@ all_zeros_take bytes = zeros_take 11 21 32 bytes (omega arith)
 pub tests_take : (bytes : List ℕ) → header_tests (take 32 bytes) ≡ header_tests bytes
 tests_take bytes = ap (λ (l : List Damaged). l ++ the_zeros (take 32 bytes)) (numbers_take bytes) ∙ ap (λ (l : List Damaged). number_tests bytes ++ l) (all_zeros_take bytes)
 
-bodies_placed : (p : ℕ) (bodies : List (List ℕ)) → map body_at (placed p bodies) ≡ bodies
+pub bodies_placed : (p : ℕ) (bodies : List (List ℕ)) → map body_at (placed p bodies) ≡ bodies
 bodies_placed p [] = refl
 bodies_placed p (body ∷ bodies) = ap (λ (l : List (List ℕ)). body ∷ l) (bodies_placed (p + 5 + length body) bodies)
 
@@ -110,22 +110,26 @@ there : (f : Option (List ℕ)) → IsProject (bytes_of f) → f ≡ Some (bytes
 there None project = absurd (omega (arith, project.0))
 there (Some bytes) project = refl
 
-is_at : (form : Form) {D : Type 0} (reads : D → Files) (clock : D → Moment) (may_leave : D → Moment → Files → Type 0) (store : D) (j : Contents) → IsProject (bytes_of (reads store form.file)) → IsJournal form (bytes_of (reads store form.file)) j
-    → Each (may_leave store (clock store)) (λ c. c form.file ≡ reads store form.file) → j.early ≡ None → IsAt form reads clock may_leave store j.end (log_of j)
-is_at form reads clock may_leave store j project is same whole =
+pub shut_there : (form : Form) (files : Files) (j : Contents) → IsProject (bytes_of (files form.file)) → (is : IsJournal form (bytes_of (files form.file)) j) → j.early ≡ None → IsShut form.file is.front files
+shut_there form files j project is whole =
     let shut = shut_rest j.end is.rest (subst (Ends j.end is.rest) whole is.ends) in
-    let read : IsShut form.file is.front (reads store) = (shut.0, there (reads store form.file) project ∙ ap (λ (l : List ℕ). Some l) (is.parts ∙ ap (λ (l : List ℕ). is.front ++ l) shut.1)) in
+    (shut.0, there (files form.file) project ∙ ap (λ (l : List ℕ). Some l) (is.parts ∙ ap (λ (l : List ℕ). is.front ++ l) shut.1))
+
+is_at : (form : Form) {D : Type 0} (disk : Ghosts D) (store : D) (j : Contents) → IsProject (bytes_of (disk.reads store form.file)) → IsJournal form (bytes_of (disk.reads store form.file)) j
+    → IsDurable disk store form.file → j.early ≡ None → IsAt form disk store j.end (log_of j)
+is_at form disk store j project is same whole =
+    let shut = shut_there form (disk.reads store) j project is whole in
     record {
       front = is.front;
       place = sym is.place;
       spelled = is.spelled;
-      read = read;
-      images = λ c now. (read.0, same c now ∙ read.1);
+      read = shut;
+      images = λ c now. (shut.0, same c now ∙ shut.1);
     }
 
-pub at_rest : (form : Form) {D : Type 0} (reads : D → Files) (clock : D → Moment) (may_leave : D → Moment → Files → Type 0) (store : D) (bytes : List ℕ) (r : Result Contents JournalFault) → bytes ≡ bytes_of (reads store form.file) → Reads form bytes r
-    → Each (may_leave store (clock store)) (λ c. c form.file ≡ reads store form.file) → IfOk r (λ j. j.early ≡ None → IsAt form reads clock may_leave store j.end (log_of j))
-at_rest form reads clock may_leave store bytes (Ok j) is told same = λ whole.
+pub at_rest : (form : Form) {D : Type 0} (disk : Ghosts D) (store : D) (bytes : List ℕ) (r : Result Contents JournalFault) → bytes ≡ bytes_of (disk.reads store form.file) → Reads form bytes r
+    → IsDurable disk store form.file → IfOk r (λ j. j.early ≡ None → IsAt form disk store j.end (log_of j))
+at_rest form disk store bytes (Ok j) is told same = λ whole.
     let here = subst (λ (b : List ℕ). IsProject b × IsJournal form b j) is told in
-    is_at form reads clock may_leave store j here.0 here.1 same whole
-at_rest form reads clock may_leave store bytes (Err e) is told same = tt
+    is_at form disk store j here.0 here.1 same whole
+at_rest form disk store bytes (Err e) is told same = tt

@@ -1,6 +1,6 @@
 -- A new journal.
 use Rattle.std.proofs.Common.{◌≡◌, ◌≢◌, ◌⊎◌, ℕ, ◌^◌, ◌<◌, min, max, Option, Some, None, List, [], ◌∷◌, ◌++◌, length, refl, sym, ◌∙◌, ap, subst, arith, inl, inr, ⊎_elim}
-use Rattle.std.specs.Prelude.{Result, replicate, slice_index}
+use Rattle.std.specs.Prelude.{Result, Ok, Err, replicate, slice_index}
 use Rattle.std.proofs.lemmas.Bool.{eq-eqb}
 use Rattle.std.proofs.lemmas.List.{append-nil}
 use Rattle.byteorder.specs.Endian.{little_bytes}
@@ -8,20 +8,28 @@ use Rattle.byteorder.specs.Numbers.{little_number-reads_back}
 use Rattle.disk_model.specs.Moment.{Moment, IsUpTo}
 use Rattle.disk_model.specs.MomentLaws.{upto_refl}
 use Rattle.disk_model.specs.Disk.{Files, Follows, StaysStep, SameElsewhere, TornFile, WriteStep, bytes_of}
+use Rattle.disk_model.specs.declared.store.Store.{Ghosts}
 use Rattle.disk_model.proofs.Moments.{each_on}
 use Rattle.project_journal.specs.declared.fault.JournalFault.{JournalFault}
+use Rattle.project_journal.specs.declared.fault.JournalFault.TheVariants.{Absent, Exists, Damaged, SpaceSpent, DiskFault, NoMemory}
 use Rattle.project_journal.specs.Fields.{field}
 use Rattle.project_journal.specs.Answer.{Causes}
 use Rattle.project_journal.specs.Header.{version_1, IsFormat, header_fields, header_tests, number_tests, the_zeros, first_failed, nearest_size, zero_tests}
-use Rattle.project_journal.specs.Gate.{IsShut, IsOpen, HasGate, IsShutOrOpen, Each}
+use Rattle.project_journal.specs.Gate.{IsShut, IsOpen, HasGate, IsShutOrOpen, IsDurable}
 use Rattle.project_journal.specs.Journal.{fresh, IsHeader, IsLog, HasLog, IsAt}
 use Rattle.project_journal.specs.Start.{NoProject, IsShort}
 use Rattle.project_journal.proofs.Logs.{regrouped}
 
--- the counts of a call after others that were answered
-pub causes_same : {T : Type 0} (read_old read_new change_old change_new : ℕ) (result : Result T JournalFault) → read_new ≡ read_old → change_new ≡ change_old → ((a b : ℕ) → Causes a a b b result) → Causes read_old read_new change_old change_new result
-causes_same read_old read_new change_old change_new result e f here =
-    subst (λ (n : ℕ). Causes read_old n change_old change_new result) (sym e) (subst (λ (n : ℕ). Causes read_old read_old change_old n result) (sym f) (here read_old change_old))
+-- calls that were all answered, and then an answer that is not the disk's
+pub causes_same : {D T : Type 0} (disk : Ghosts D) (old new : D) (result : Result T JournalFault) → disk.read_fault_count new ≡ disk.read_fault_count old → disk.change_fault_count new ≡ disk.change_fault_count old
+    → (result ≡ Err DiskFault → ⊥) → Causes disk old new result
+causes_same disk old new (Ok v) reads changes not = record { same_read_faults = reads; same_change_faults = changes }
+causes_same disk old new (Err DiskFault) reads changes not = absurd (not refl)
+causes_same disk old new (Err Absent) reads changes not = record { same_read_faults = reads; same_change_faults = changes }
+causes_same disk old new (Err Exists) reads changes not = record { same_read_faults = reads; same_change_faults = changes }
+causes_same disk old new (Err NoMemory) reads changes not = record { same_read_faults = reads; same_change_faults = changes }
+causes_same disk old new (Err (Damaged file at want have)) reads changes not = record { same_read_faults = reads; same_change_faults = changes }
+causes_same disk old new (Err (SpaceSpent have need)) reads changes not = record { same_read_faults = reads; same_change_faults = changes }
 
 torn_short : (old new : Option (List ℕ)) → length (bytes_of old) < 33 → TornFile 0 1 old new → length (bytes_of new) < 33
 torn_short (Some old) (Some new) short torn = omega (arith, torn.no_longer)
@@ -96,12 +104,12 @@ none_or_new rate block_size depth row c fits below is (inl shut) = inl (none_shu
 none_or_new rate block_size depth row c fits below is (inr opened) =
     inr (opened.0 ∷ header_fields rate block_size depth, fresh_log opened.0 rate block_size depth opened.1 fits below, fresh_shut 0 row (header_fields rate block_size depth) opened.0 c is opened.2)
 
-pub is_new : {D : Type 0} (reads : D → Files) (clock : D → Moment) (may_leave : D → Moment → Files → Type 0) (store : D) (rate block_size depth : ℕ) (row : List ℕ)
-    → IsFormat rate block_size depth → rate < 2 ^ 32 → row ≡ header_fields rate block_size depth ++ 0 ∷ [] → IsOpen 0 [] row (reads store)
-    → Each (may_leave store (clock store)) (λ c. c 0 ≡ reads store 0) → IsAt version_1 reads clock may_leave store 32 (fresh rate block_size depth)
-is_new reads clock may_leave store rate block_size depth row fits below is opened same =
+pub is_new : {D : Type 0} (disk : Ghosts D) (store : D) (rate block_size depth : ℕ) (row : List ℕ)
+    → IsFormat rate block_size depth → rate < 2 ^ 32 → row ≡ header_fields rate block_size depth ++ 0 ∷ [] → IsOpen 0 [] row (disk.reads store)
+    → IsDurable disk store 0 → IsAt version_1 disk store 32 (fresh rate block_size depth)
+is_new disk store rate block_size depth row fits below is opened same =
     let front = opened.0 ∷ header_fields rate block_size depth in
-    let shut : IsShut 0 front (reads store) = fresh_shut 0 row (header_fields rate block_size depth) opened.0 (reads store) is opened.2 in
+    let shut : IsShut 0 front (disk.reads store) = fresh_shut 0 row (header_fields rate block_size depth) opened.0 (disk.reads store) is opened.2 in
     record {
       front = front;
       place = refl;

@@ -1,27 +1,38 @@
 -- When each answer of a call comes.
 use Rattle.std.specs.Prelude.{◌≡◌, ◌⊎◌, ℕ, ◌+◌, ◌^◌, ◌<◌, ◌≤◌, Some, List, Result, Ok, Err}
 use Rattle.pcm_base.specs.Causes.{Rose}
+use Rattle.disk_model.specs.declared.store.Store.{Ghosts}
 use Rattle.project_journal.specs.Header.{Form, IsProject, first_failed}
 use Rattle.project_journal.specs.Journal.{Contents, IsJournal}
 use Rattle.project_journal.specs.declared.fault.JournalFault.{JournalFault}
 use Rattle.project_journal.specs.declared.fault.JournalFault.TheVariants.{Absent, Exists, Damaged, SpaceSpent, DiskFault, NoMemory}
 
--- An append of a record with a body of so many bytes at a place. It ends in the place of the next gate. The
--- counts are those of faults of changes, before and after.
-abbrev pub Appends : (at len old new : ℕ) → Result ℕ JournalFault → Type 0
-Appends at len old new (Ok next) = (next ≡ at + 5 + len) × (next + 1 ≤ 2 ^ 62) × (new ≡ old)
-Appends at len old new (Err (SpaceSpent have need)) = (2 ^ 62 < at + (6 + len)) × (have ≡ at) × (need ≡ 6 + len) × (new ≡ old)
-Appends at len old new (Err DiskFault) = (at + (6 + len) ≤ 2 ^ 62) × Rose old new × (old ≤ new)
-Appends at len old new (Err NoMemory) = (at + (6 + len) ≤ 2 ^ 62) × (new ≡ old)
-Appends at len old new (Err Absent) = ⊥
-Appends at len old new (Err Exists) = ⊥
-Appends at len old new (Err (Damaged file place want have)) = ⊥
+-- An append of a record with a body of so many bytes at a place. It ends in the place of the next gate.
+abbrev pub Appends : (at len : ℕ) → Result ℕ JournalFault → Type 0
+Appends at len (Ok next) = (next ≡ at + 5 + len) × (next + 1 ≤ 2 ^ 62)
+Appends at len (Err (SpaceSpent have need)) = (2 ^ 62 < at + (6 + len)) × (have ≡ at) × (need ≡ 6 + len)
+Appends at len (Err DiskFault) = at + (6 + len) ≤ 2 ^ 62
+Appends at len (Err NoMemory) = at + (6 + len) ≤ 2 ^ 62
+Appends at len (Err Absent) = ⊥
+Appends at len (Err Exists) = ⊥
+Appends at len (Err (Damaged file place want have)) = ⊥
 
--- The counts of faults of reads and of changes stay but where the disk refused.
-abbrev pub Causes : {T : Type 0} → (read_old read_new change_old change_new : ℕ) → Result T JournalFault → Type 0
-Causes read_old read_new change_old change_new (Err DiskFault) = (Rose read_old read_new ⊎ Rose change_old change_new) × (read_old ≤ read_new) × (change_old ≤ change_new)
-Causes read_old read_new change_old change_new (Err _) = (read_new ≡ read_old) × (change_new ≡ change_old)
-Causes read_old read_new change_old change_new (Ok _) = (read_new ≡ read_old) × (change_new ≡ change_old)
+-- no call of the disk failed
+pub record NoFault {D : Type 0} (disk : Ghosts D) (old new : D) : Type 0 where
+  pub same_read_faults : disk.read_fault_count new ≡ disk.read_fault_count old
+  pub same_change_faults : disk.change_fault_count new ≡ disk.change_fault_count old
+
+-- one failed
+pub record HasFault {D : Type 0} (disk : Ghosts D) (old new : D) : Type 0 where
+  pub rose : Rose (disk.read_fault_count old) (disk.read_fault_count new) ⊎ Rose (disk.change_fault_count old) (disk.change_fault_count new)
+  pub later_reads : disk.read_fault_count old ≤ disk.read_fault_count new
+  pub later_changes : disk.change_fault_count old ≤ disk.change_fault_count new
+
+-- The counts of faults stay but where the disk refused.
+abbrev pub Causes : {D T : Type 0} → Ghosts D → (old new : D) → Result T JournalFault → Type 0
+Causes disk old new (Err DiskFault) = HasFault disk old new
+Causes disk old new (Err _) = NoFault disk old new
+Causes disk old new (Ok _) = NoFault disk old new
 
 -- A creation over a file with these bytes.
 abbrev pub Creates : {T : Type 0} → List ℕ → Result T JournalFault → Type 0
@@ -45,3 +56,9 @@ abbrev pub IsRefusal : JournalFault → Type 0
 IsRefusal DiskFault = Unit {0}
 IsRefusal NoMemory = Unit {0}
 IsRefusal _ = ⊥
+
+-- a project that is there, or the disk's refusal
+abbrev pub IsCreateRefusal : JournalFault → Type 0
+IsCreateRefusal Exists = Unit {0}
+IsCreateRefusal DiskFault = Unit {0}
+IsCreateRefusal _ = ⊥

@@ -2,14 +2,14 @@
 use Rattle.std.specs.Prelude.{◌≡◌, ◌⊎◌, ◌≢◌, ℕ, ◌+◌, Option, Some, None, List, [], ◌∷◌, ◌++◌, length, map, slice_index, nat_lt, ◌==◌, if◌then◌else◌}
 use Rattle.std.specs.List.{flat_map, AllByRecursion}
 use Rattle.byteorder.specs.Endian.{little_number}
-use Rattle.disk_model.specs.Moment.{Moment}
 use Rattle.disk_model.specs.Disk.{Files}
+use Rattle.disk_model.specs.declared.store.Store.{Ghosts}
 use Rattle.project_journal.specs.declared.fault.Damaged.{Damaged}
 use Rattle.project_journal.specs.declared.records.Next.{Next}
 use Rattle.project_journal.specs.declared.records.Next.TheVariants.{Whole, Shut, Early}
 use Rattle.project_journal.specs.Fields.{field}
 use Rattle.project_journal.specs.Header.{Form, first_failed}
-use Rattle.project_journal.specs.Gate.{IsShut, Each}
+use Rattle.project_journal.specs.Gate.{IsShut, EachNow}
 
 -- what a journal says, and what the layers above fold
 pub record Log : Type 0 where
@@ -115,9 +115,9 @@ pub record IsJournal (form : Form) (bytes : List ℕ) (j : Contents) : Type 0 wh
 
 -- A store has this journal, and `at` is the place of its first gate that is 0: as the store reads, and with the
 -- same bytes up to there in each image.
-pub record IsAt (form : Form) {D : Type 0} (reads : D → Files) (clock : D → Moment) (may_leave : D → Moment → Files → Type 0) (store : D) (at : ℕ) (log : Log) : Type 0 where
+pub record IsAt (form : Form) {D : Type 0} (disk : Ghosts D) (store : D) (at : ℕ) (log : Log) : Type 0 where
   pub front : List ℕ
   pub place : length front ≡ at
   pub spelled : IsLog form front log
-  pub read : IsShut form.file front (reads store)
-  pub images : Each (may_leave store (clock store)) (IsShut form.file front)
+  pub read : IsShut form.file front (disk.reads store)
+  pub images : EachNow disk store (IsShut form.file front)

@@ -1,10 +1,13 @@
 // One more record.
-ghost use Rattle.std.specs.Prelude.{◌≡◌, ◌+◌, ◌^◌, ◌<◌, ◌≤◌, length, IsTrue, OnErr, IfOk, IfErr, IsErrOf, vec_capacity};
-ghost use Rattle.disk_model.specs.Disk.{SameElsewhere, Follows};
-ghost use Rattle.project_journal.specs.Gate.{Each};
+ghost use Rattle.std.specs.Prelude.{◌≡◌, ◌+◌, ◌^◌, ◌<◌, ◌≤◌, length, IsTrue, vec_capacity};
+ghost use Rattle.std.specs.Prelude.{OnOk, OnErr, IfOk, IfErr, IsErrOf};
+ghost use Rattle.disk_model.specs.Disk.{SameElsewhere};
+ghost use Rattle.disk_model.specs.Frames.{Changed};
+ghost use Rattle.project_journal.specs.Gate.{EachSince, IsDurable};
 ghost use Rattle.project_journal.specs.Header.{version_1};
 ghost use Rattle.project_journal.specs.Journal.{Log, IsAt, HasOneOf, with_body};
-ghost use Rattle.project_journal.specs.Answer.{Appends};
+ghost use Rattle.project_journal.specs.Answer.{Appends, Causes};
+ghost use Rattle.project_journal.specs.Rooms.{append_room};
 
 use super::fault::JournalFault;
 use super::form::FILE;
@@ -29,12 +32,15 @@ pub fn append<S: Store>(
     requires { length body.now < 2 ^ 32 }
 
     // At any moment each image has the records of before or of after.
-    ensures any_moment { (log : Log) → IsTrue (S.tells store.old) → IsAt version_1 S.reads S.clock S.may_leave store.old at log
-        → Each (S.may_leave store.new (S.clock store.old)) (HasOneOf version_1 log (with_body log body.now)) }
+    ensures any_moment { (log : Log) → IsTrue (S.tells store.old) → IsAt version_1 S.Store store.old at log
+        → EachSince S.Store store.old store.new (HasOneOf version_1 log (with_body log body.now)) }
     // After it the store and each image have those of after.
-    ensures done { (log : Log) → IsTrue (S.tells store.old) → IsAt version_1 S.reads S.clock S.may_leave store.old at log
-        → IfOk result (λ next. IsAt version_1 S.reads S.clock S.may_leave store.new next (with_body log body.now)) }
-    ensures answer { Appends at (length body.now) (S.change_fault_count store.old) (S.change_fault_count store.new) result }
+    ensures done { (log : Log) → IsTrue (S.tells store.old) → IsAt version_1 S.Store store.old at log
+        → IfOk result (λ next. IsAt version_1 S.Store store.new next (with_body log body.now)) }
+    // On every store the file is on the disk then.
+    ensures durable { OnOk result (IsDurable S.Store store.new 0) }
+    ensures answer { Appends at (length body.now) result }
+    ensures cause { Causes S.Store store.old store.new result }
 
     // It takes no memory where the scratch has room.
     ensures room { IsErrOf result JournalFault.NoMemory → vec_capacity scratch.old < 5 + length body.now }
@@ -42,11 +48,9 @@ pub fn append<S: Store>(
     // A refusal by anything but the disk leaves the store as it was.
     ensures untouched { OnErr result ((IsErrOf result JournalFault.DiskFault → ⊥) → store.new ≡ store.old) }
 
-    ensures others { IsTrue (S.tells store.old) → SameElsewhere 0 (S.reads store.old) (S.reads store.new) }
-    ensures images { Follows (SameElsewhere 0) (S.clock store.old) (S.clock store.new) (S.may_leave store.old) (S.may_leave store.new) }
-    ensures tells { S.tells store.new ≡ S.tells store.old }
-    ensures model { S.keeps_model store.new ≡ S.keeps_model store.old }
-    ensures calls { S.change_calls store.new ≤ S.change_calls store.old + 4 }
+    // Nothing else changes, and no more than this is asked of the store.
+    ensures changed { Changed S.Store (SameElsewhere 0) (append_room (S.reads store.old 0) (length body.now))
+        store.old store.new }
     ensures read_faults { S.read_fault_count store.new ≡ S.read_fault_count store.old }
 {
     let next = next_gate(at, body.len())?;
@@ -59,19 +63,20 @@ pub fn append<S: Store>(
 pub fn append_small<S: Store>(store: &mut S, at: u64, body: &[u8]) -> Result<u64, JournalFault>
     requires { length body.now ≤ 9 }
 
-    ensures any_moment { (log : Log) → IsTrue (S.tells store.old) → IsAt version_1 S.reads S.clock S.may_leave store.old at log
-        → Each (S.may_leave store.new (S.clock store.old)) (HasOneOf version_1 log (with_body log body.now)) }
-    ensures done { (log : Log) → IsTrue (S.tells store.old) → IsAt version_1 S.reads S.clock S.may_leave store.old at log
-        → IfOk result (λ next. IsAt version_1 S.reads S.clock S.may_leave store.new next (with_body log body.now)) }
-    ensures answer { Appends at (length body.now) (S.change_fault_count store.old) (S.change_fault_count store.new) result }
+    ensures any_moment { (log : Log) → IsTrue (S.tells store.old) → IsAt version_1 S.Store store.old at log
+        → EachSince S.Store store.old store.new (HasOneOf version_1 log (with_body log body.now)) }
+    ensures done { (log : Log) → IsTrue (S.tells store.old) → IsAt version_1 S.Store store.old at log
+        → IfOk result (λ next. IsAt version_1 S.Store store.new next (with_body log body.now)) }
+    // On every store the file is on the disk then.
+    ensures durable { OnOk result (IsDurable S.Store store.new 0) }
+    ensures answer { Appends at (length body.now) result }
+    ensures cause { Causes S.Store store.old store.new result }
     ensures memory { IsErrOf result JournalFault.NoMemory → ⊥ }
     ensures untouched { OnErr result ((IsErrOf result JournalFault.DiskFault → ⊥) → store.new ≡ store.old) }
 
-    ensures others { IsTrue (S.tells store.old) → SameElsewhere 0 (S.reads store.old) (S.reads store.new) }
-    ensures images { Follows (SameElsewhere 0) (S.clock store.old) (S.clock store.new) (S.may_leave store.old) (S.may_leave store.new) }
-    ensures tells { S.tells store.new ≡ S.tells store.old }
-    ensures model { S.keeps_model store.new ≡ S.keeps_model store.old }
-    ensures calls { S.change_calls store.new ≤ S.change_calls store.old + 4 }
+    // Nothing else changes, and no more than this is asked of the store.
+    ensures changed { Changed S.Store (SameElsewhere 0) (append_room (S.reads store.old 0) (length body.now))
+        store.old store.new }
     ensures read_faults { S.read_fault_count store.new ≡ S.read_fault_count store.old }
 {
     let next = next_gate(at, body.len())?;

@@ -1,8 +1,9 @@
 // What a call of the journal may answer in place of its result.
 ghost use Rattle.std.specs.Prelude.{◌≡◌};
 ghost use Rattle.project_journal.specs.declared.fault.JournalFault.TheVariants.{DiskFault, NoMemory};
+ghost use Rattle.project_journal.specs.Reasons.{reason_of};
 
-use pcm_base::Failed;
+use pcm_base::{Failed, Refusal};
 use std::alloc::AllocError;
 
 /// A field of the journal's file that is not as it has to be.
@@ -55,5 +56,31 @@ impl From<AllocError> for JournalFault {
 
     fn from(_: AllocError) -> JournalFault {
         JournalFault::NoMemory
+    }
+}
+
+impl JournalFault {
+    /// The reason of a line that meets this fault. That a project is there, or is not, is no reason of a line: only
+    /// `create` and `read_all` answer it.
+    pub fn reason(self) -> Option<Refusal>
+        ensures { result ≡ reason_of self }
+    {
+        match self {
+            JournalFault::Absent | JournalFault::Exists => None,
+            JournalFault::Damaged {
+                file,
+                at,
+                want,
+                have,
+            } => Some(Refusal::Damaged {
+                file,
+                at,
+                want,
+                have,
+            }),
+            JournalFault::SpaceSpent { have, need } => Some(Refusal::SpaceSpent { have, need }),
+            JournalFault::DiskFault => Some(Refusal::DiskFault),
+            JournalFault::NoMemory => Some(Refusal::NoMemory),
+        }
     }
 }

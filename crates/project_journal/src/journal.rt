@@ -1,7 +1,8 @@
 // A journal that was read.
-ghost use Rattle.std.specs.Prelude.{◌≡◌, ◌↔◌, ◌+◌, ◌^◌, ◌<◌, ◌≤◌, ℕ, IsTrue, None, Some, length, slice_get};
+ghost use Rattle.std.specs.Prelude.{◌≡◌, ◌↔◌, ◌+◌, ◌^◌, ◌<◌, ◌≤◌, IsTrue, None, Some, IfOk, IsErrOf, length, slice_get};
 ghost use Rattle.project_journal.specs.Header.{IsProject, header_tests, first_failed, version_1};
-ghost use Rattle.project_journal.specs.Answer.{Causes, Reads};
+ghost use Rattle.project_journal.specs.Answer.{Reads};
+ghost use Rattle.project_journal.specs.Readable.{IsReadable};
 
 use super::fault::{Damaged, JournalFault};
 use super::fields::u32_at;
@@ -102,7 +103,8 @@ fn is_project(bytes: &[u8]) -> bool
 pub(crate) fn parse(alloc: Global, bytes: &[u8]) -> Result<Journal, JournalFault>
     requires { length bytes.now ≤ 2 ^ 62 }
     ensures read { Reads version_1 bytes.now result }
-    ensures cause { (reads changes : ℕ) → Causes reads reads changes changes result }
+    ensures readable { IfOk result IsReadable }
+    ensures no_fault { IsErrOf result JournalFault.DiskFault → ⊥ }
 {
     if !is_project(bytes) {
         return Err(JournalFault::Absent);
@@ -124,7 +126,8 @@ fn parse_records(alloc: Global, bytes: &[u8]) -> Result<Journal, JournalFault>
     requires project { IsProject bytes.now }
     requires sound { first_failed (header_tests bytes.now) ≡ None }
     ensures read { Reads version_1 bytes.now result }
-    ensures cause { (reads changes : ℕ) → Causes reads reads changes changes result }
+    ensures readable { IfOk result IsReadable }
+    ensures no_fault { IsErrOf result JournalFault.DiskFault → ⊥ }
 {
     let parts = split_records(alloc, bytes, HEADER_SIZE)?;
     let early = early_end(bytes, parts.end);

@@ -10,6 +10,7 @@ mod creating;
 mod fault;
 mod fields;
 mod form;
+mod front;
 mod gate;
 mod header;
 mod journal;
