@@ -13,16 +13,16 @@ use Rattle.pcm_base.specs.Cells.{Project}
 use Rattle.pcm_base.specs.Mix.{weight, is_on_left, is_on_right}
 use Rattle.mixdown.specs.Laid.{heard, laid, left_sum, right_sum}
 
-none_before : (z : ℤ) → z ≡ pos 0 +ℤ z
+pub none_before : (z : ℤ) → z ≡ pos 0 +ℤ z
 none_before z = omega (arith, ints)
 
-left_first : (g : ℕ) (s : Side) (cells : List Cell) (rest : Project) (i : ℕ)
+pub left_first : (g : ℕ) (s : Side) (cells : List Cell) (rest : Project) (i : ℕ)
     → left_sum (heard g s cells ∷ rest) i ≡ (if is_on_left s then weight g (get_or cells i Gap) else pos 0) +ℤ left_sum rest i
 left_first g Both cells rest i = refl
 left_first g Left cells rest i = refl
 left_first g Right cells rest i = none_before (left_sum rest i)
 
-right_first : (g : ℕ) (s : Side) (cells : List Cell) (rest : Project) (i : ℕ)
+pub right_first : (g : ℕ) (s : Side) (cells : List Cell) (rest : Project) (i : ℕ)
     → right_sum (heard g s cells ∷ rest) i ≡ (if is_on_right s then weight g (get_or cells i Gap) else pos 0) +ℤ right_sum rest i
 right_first g Both cells rest i = refl
 right_first g Left cells rest i = none_before (right_sum rest i)

@@ -1,9 +1,11 @@
 // The frames of a mix.
-ghost use Rattle.std.specs.Prelude.{◌≡◌, ◌≤◌, ◌+◌, ◌*◌, length, map};
+ghost use Rattle.std.specs.Prelude.{◌≡◌, ◌≤◌, ◌+◌, ◌*◌, ℕ, length, map};
 ghost use Rattle.std.specs.List.{range_with_len};
 ghost use Rattle.pcm_base.specs.Arithmetic.{counted_from};
-ghost use Rattle.pcm_base.specs.Mix.{frame_at};
+ghost use Rattle.pcm_base.specs.Cells.{Project};
+ghost use Rattle.pcm_base.specs.Mix.{frame_at, unmuted};
 ghost use Rattle.mixdown.specs.Laid.{laid};
+ghost use Rattle.mixdown.specs.Stretches.{AreStretches, gains_of, sides_of};
 
 use super::sums::{PIECE, Sums};
 use pcm_base::{Cell, Frame, Side};
@@ -35,7 +37,27 @@ fn mix_piece(
 /// The mix of stretches of at most 64 tracks that are heard: one for each gain and side, one after the other, each as
 /// long as the frames. A gain of 65,536 is unity. Each side of a frame is the sum of the scaled samples at its place,
 /// limited once; a gap adds nothing. It takes no memory, and goes over each stretch once.
+///
+/// Where the stretches are those of a project's tracks from a place on, in the project's order, continued by gaps
+/// behind a track's end, the frames are the project's from that place on. Muted tracks may be left out, or stand as
+/// stretches of gaps.
 pub fn mix_into(stretches: &[Cell], gains: &[u32], sides: &[Side], out: &mut [Frame])
+    requires few { length gains.now ≤ 64 }
+    requires sides { length sides.now ≡ length gains.now }
+    requires stretches { length stretches.now ≡ length gains.now * length out.old }
+    ensures frames { out.new ≡ map (frame_at (laid (length out.old) stretches.now gains.now sides.now)) (counted_from 0 (length out.old)) }
+    // Stretches of the unmuted tracks of a project, from a place on, give the project's frames from there on.
+    ensures heard { (from : ℕ) (p : Project) → gains.now ≡ gains_of (unmuted p) → sides.now ≡ sides_of (unmuted p)
+        → AreStretches from (length out.old) (unmuted p) stretches.now → out.new ≡ map (frame_at p) (counted_from from (length out.old)) }
+    // So do stretches of all its tracks, where those of muted tracks are gaps.
+    ensures project { (from : ℕ) (p : Project) → gains.now ≡ gains_of p → sides.now ≡ sides_of p
+        → AreStretches from (length out.old) p stretches.now → out.new ≡ map (frame_at p) (counted_from from (length out.old)) }
+{
+    mix_pieces(stretches, gains, sides, out);
+}
+
+/// The frames of [`mix_into`], piece by piece.
+fn mix_pieces(stretches: &[Cell], gains: &[u32], sides: &[Side], out: &mut [Frame])
     requires few { length gains.now ≤ 64 }
     requires sides { length sides.now ≡ length gains.now }
     requires stretches { length stretches.now ≡ length gains.now * length out.old }

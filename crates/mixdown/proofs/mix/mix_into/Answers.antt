@@ -1,13 +1,22 @@
--- One piece more is mixed.
-use Rattle.std.proofs.Common.{arith, length}
-use Rattle.std.proofs.lemmas.Grind.{common_steps}
+-- Stretches of a project's tracks are mixed to the project's frames.
+use Rattle.std.proofs.Common.{ℕ, List, length, map, ap₂, ◌∙◌}
+use Rattle.pcm_base.specs.declared.sound.Side.{Side}
+use Rattle.pcm_base.specs.Arithmetic.{counted_from}
 use Rattle.pcm_base.specs.Mix.{frame_at}
 use Rattle.mixdown.specs.Laid.{laid}
-use Rattle.mixdown.proofs.PieceLaws.{piece_more}
+use Rattle.mixdown.proofs.StretchLaws.{stretches_frames, unmuted_frames}
 use Rattle.mixdown.proofs.mix.mix_into.Goals as goal
 
-pub pieces-preserved : goal.pieces-preserved
-pieces-preserved c = record {
-  within = grind (arith, common_steps);
-  frames = piece_more (frame_at (laid (length c.args.out.now) c.args.stretches.now c.args.gains.now c.args.sides.now)) c.pieces.done c.min.result _ _ c.pieces.out c.mix_piece.new.out (grind (arith, common_steps)) c.pieces.invariant.frames c.mix_piece.ensures (grind (arith, common_steps));
-}
+pub returns-clause-heard : goal.returns-clause-heard
+returns-clause-heard c = λ from p gains sides are.
+    let len : ℕ = length c.args.out.now in
+    c.mix_pieces.ensures
+    ∙ ap₂ (λ (gs : List ℕ) (ss : List Side). map (frame_at (laid len c.args.stretches.now gs ss)) (counted_from 0 len)) gains sides
+    ∙ unmuted_frames from len p c.args.stretches.now are
+
+pub returns-clause-project : goal.returns-clause-project
+returns-clause-project c = λ from p gains sides are.
+    let len : ℕ = length c.args.out.now in
+    c.mix_pieces.ensures
+    ∙ ap₂ (λ (gs : List ℕ) (ss : List Side). map (frame_at (laid len c.args.stretches.now gs ss)) (counted_from 0 len)) gains sides
+    ∙ stretches_frames from len p c.args.stretches.now are

@@ -3,7 +3,7 @@ use Rattle.std.proofs.Common.{◌≡◌, ◌≤◌, ◌-◌, map, take}
 use Rattle.std.specs.List.{range_with_len}
 use Rattle.pcm_base.specs.Mix.{frame_at}
 use Rattle.mixdown.specs.Laid.{laid}
-use Rattle.mixdown.proofs.mix.mix_into.Given as goal
+use Rattle.mixdown.proofs.mix.mix_pieces.Given as goal
 
 abbrev pub invariant-pieces : goal.invariant-pieces
 invariant-pieces l = record {
