@@ -2,4 +2,7 @@ mod Trees
 mod Rising
 mod Lookups
 mod Leaves
+pub mod Listed
+pub mod Once
 mod Searches
+pub mod Times

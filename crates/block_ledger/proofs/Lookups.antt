@@ -1,14 +1,11 @@
 -- What is found by an id among entries whose ids rise, and what an edit of them changes.
-use Rattle.std.proofs.Common.{◌≡◌, ◌≢◌, ◌⊎◌, inl, inr, ⊎_elim, ℕ, zero, suc, ◌+◌, ◌≤◌, ◌<◌, Bool, true, false, cond, eqb, Option, Some, None, List, [], ◌∷◌, length, map, set, get_or, refl, sym, ◌∙◌, ap, subst, arith}
-use Rattle.std.specs.Prelude.{Contains, ◌↔◌}
+use Rattle.std.proofs.Common.{◌≡◌, ◌≢◌, ⊎_elim, ℕ, zero, suc, ◌≤◌, ◌<◌, Bool, true, false, cond, eqb, Option, Some, None, List, [], ◌∷◌, length, set, get_or, refl, sym, ◌∙◌, ap, subst, arith}
 use Rattle.std.specs.List.{insert, filter}
-use Rattle.std.specs.List.Sorted.{IsStrictlyIncreasing}
 use Rattle.std.proofs.lemmas.Bool.{cases_eq, cases_lt, eq-eqb, eqb-true}
-use Rattle.std.proofs.lemmas.List.{length-map}
 use Rattle.block_ledger.specs.declared.entry.Entry.{Entry}
-use Rattle.block_ledger.specs.Counts.{IsNamed, SetsCount, one_more}
-use Rattle.block_ledger.specs.Entries.{count_in, id_of, id_at, IsRising, IsAt, IsGap, is_kept, is_named, with_count}
-use Rattle.block_ledger.proofs.Rising.{Above, rising_at, rising_filter, gap_tail}
+use Rattle.block_ledger.specs.Counts.{SetsCount, one_more}
+use Rattle.block_ledger.specs.Entries.{count_in, id_at, IsRising, IsAt, IsGap, is_kept, with_count}
+use Rattle.block_ledger.proofs.Rising.{Above, rising_at, gap_tail}
 
 pub differ : (a b : ℕ) → a ≢ b → eqb a b ≡ false
 differ a b ne = by_case (eqb a b) (eqb-true a b)
@@ -106,55 +103,10 @@ add_count es new id i gap is =
     subst (λ (l : List Entry). SetsCount (count_in es) (count_in l) id (Some (one_more (count_in es id)))) (sym is)
     (subst (λ (c : Option ℕ). SetsCount (count_in es) (count_in (insert es i (record { id = id; count = Some 1 }))) id (Some (one_more c))) (sym (absent_gap es id i gap)) (adds_count es i (record { id = id; count = Some 1 }) gap))
 
--- the ids that occur
-abbrev pub named_in : List Entry → List ℕ
-named_in es = map id_of (filter is_named es)
-
-contains_cases : (x y : ℕ) (xs : List ℕ) → Contains (x ∷ xs) y → (x ≡ y) ⊎ Contains xs y
-contains_cases x y xs (zero, lt, is) = inl is
-contains_cases x y xs (suc k, lt, is) = inr (k, omega (arith, lt), is)
-
-contains_more : (x y : ℕ) (xs : List ℕ) → Contains xs y → Contains (x ∷ xs) y
-contains_more x y xs there = (suc there.0, omega (arith, there.1), there.2)
-
--- an id that occurs among the rest is not the first
-behind : (e : Entry) (es : List Entry) (id : ℕ) → IsRising (e ∷ es) → IsNamed (count_in es id) → IsNamed (count_in (e ∷ es) id)
-behind e es id rising named = ⊎_elim
-    (λ same. absurd (subst IsNamed (absent_above e.id es id rising.0 (omega (arith, same))) named))
-    (λ ne. subst IsNamed (sym (first_not e es id ne)) named)
-    (cases_eq e.id id)
-
-named_there : (es : List Entry) (id : ℕ) → IsRising es → Contains (named_in es) id → IsNamed (count_in es id)
-named_there [] id rising there = absurd (omega (arith, there.1))
-named_there (e ∷ es) id rising there = by_count e.count refl (λ more. behind e es id rising (named_there es id rising.1 more))
-  where
-    by_count : (c : Option ℕ) → e.count ≡ c → (Contains (named_in es) id → IsNamed (count_in (e ∷ es) id)) → IsNamed (count_in (e ∷ es) id)
-    by_count None is rest = rest (rw is at there)
-    by_count (Some zero) is rest = rest (rw is at there)
-    by_count (Some (suc n)) is rest = ⊎_elim
-        (λ same. subst IsNamed (sym (first_is e es id same ∙ is)) (omega arith))
-        rest
-        (contains_cases e.id id (named_in es) (rw is at there))
-
-named_listed : (es : List Entry) (id : ℕ) → IsNamed (count_in es id) → Contains (named_in es) id
-named_listed [] id named = absurd named
-named_listed (e ∷ es) id named = by_count e.count refl (λ ne. named_listed es id (subst IsNamed (first_not e es id ne) named))
-  where
-    here : e.id ≡ id → (c : Option ℕ) → e.count ≡ c → IsNamed c
-    here same c is = subst IsNamed (first_is e es id same ∙ is) named
-
-    by_count : (c : Option ℕ) → e.count ≡ c → (e.id ≢ id → Contains (named_in es) id) → Contains (named_in (e ∷ es)) id
-    by_count None is other = rw is (⊎_elim (λ same. absurd (here same None is)) other (cases_eq e.id id))
-    by_count (Some zero) is other = rw is (⊎_elim (λ same. absurd (omega (arith, here same (Some 0) is))) other (cases_eq e.id id))
-    by_count (Some (suc n)) is other = rw is (⊎_elim (λ same. (0, omega arith, same)) (λ ne. contains_more e.id id (named_in es) (other ne)) (cases_eq e.id id))
-
-pub named_iff : (es : List Entry) (id : ℕ) → IsRising es → Contains (named_in es) id ↔ IsNamed (count_in es id)
-named_iff es id rising = (named_there es id rising, named_listed es id)
-
-pub named_rising : (es : List Entry) → IsRising es → IsStrictlyIncreasing (named_in es)
-named_rising es rising k lt = rising_at (filter is_named es) (rising_filter is_named es rising) k (k + 1) (omega arith) (omega (arith, lt, length-map (filter is_named es) id_of))
-
 -- an id that is not there has no count 0
 pub no_zero : (count : Option ℕ) → count ≡ None → count ≡ Some 0 → ⊥
 no_zero None none some = cc
 no_zero (Some n) none some = cc
+
+pub read_none : (es : List Entry) (id i : ℕ) → IsGap es id i → None ≡ count_in es id
+read_none es id i gap = sym (absent_gap es id i gap)

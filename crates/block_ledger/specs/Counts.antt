@@ -1,5 +1,6 @@
 -- What a ledger says: a count for each id that it has.
-use Rattle.std.specs.Prelude.{◌≡◌, ◌≢◌, ℕ, zero, suc, ◌+◌, ◌-◌, ◌^◌, ◌<◌, ◌≤◌, min, Option, Some, None}
+use Rattle.std.specs.Prelude.{◌≡◌, ◌≢◌, ◌↔◌, ℕ, zero, suc, ◌+◌, ◌-◌, ◌^◌, ◌<◌, ◌≤◌, ◌==◌, min, Option, Some, None, IsSome, List, [], ◌∷◌, Contains, if◌then◌else◌}
+use Rattle.std.specs.List.Sorted.{IsStrictlyIncreasing}
 
 -- the count of each id, none where the ledger does not have it
 abbrev pub Counts : Type 0
@@ -35,3 +36,30 @@ abbrev pub free_id : ℕ → Option ℕ → Option ℕ
 free_id id None = None
 free_id id (Some zero) = Some id
 free_id id (Some (suc n)) = None
+
+-- how many occurrences are counted of an id, none of one that the ledger does not have
+abbrev pub occurrences : Option ℕ → ℕ
+occurrences None = 0
+occurrences (Some n) = n
+
+-- how often an id comes in a list
+abbrev pub times : ℕ → List ℕ → ℕ
+times id [] = 0
+times id (x ∷ xs) = (if x == id then 1 else 0) + times id xs
+
+-- each id is counted as often as it comes in a list
+abbrev pub IsFreshCount : List ℕ → Counts → Type 0
+IsFreshCount ids counts = (id : ℕ) → occurrences (counts id) ≡ times id ids
+
+-- the ids that are such, each once and rising
+pub record AreAll (P : ℕ → Type 0) (ids : List ℕ) : Type 0 where
+  pub rising : IsStrictlyIncreasing ids
+  pub each : (id : ℕ) → Contains ids id ↔ P id
+
+-- the ids that occur
+abbrev pub AreNamed : Counts → List ℕ → Type 0
+AreNamed counts = AreAll (λ id. IsNamed (counts id))
+
+-- the ids that the ledger has, those of count 0 among them
+abbrev pub AreThere : Counts → List ℕ → Type 0
+AreThere counts = AreAll (λ id. IsSome (counts id))

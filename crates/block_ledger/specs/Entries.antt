@@ -1,8 +1,8 @@
 -- The counts that a row of entries stands for.
-use Rattle.std.specs.Prelude.{◌≡◌, ℕ, zero, suc, ◌<◌, ◌≤◌, Bool, true, false, ◌==◌, if◌then◌else◌, Option, Some, None, is_some, List, [], ◌∷◌, length, map, slice_index, slice_index_or}
+use Rattle.std.specs.Prelude.{◌≡◌, ℕ, zero, suc, ◌+◌, ◌<◌, ◌≤◌, max, Bool, true, false, ◌==◌, if◌then◌else◌, Option, Some, None, is_some, List, [], ◌∷◌, length, map, slice_index, slice_index_or}
 use Rattle.std.specs.List.{AllByRecursion}
 use Rattle.block_ledger.specs.declared.entry.Entry.{Entry}
-use Rattle.block_ledger.specs.Counts.{Counts, free_id}
+use Rattle.block_ledger.specs.Counts.{Counts, free_id, AreThere}
 
 -- the count of the first entry of this id
 abbrev pub count_in : List Entry → ℕ → Option ℕ
@@ -17,6 +17,16 @@ pub record Kept : Type 0 where
 -- the count of each id, none where the ledger does not have it
 abbrev pub count_of : Kept → Counts
 count_of kept = count_in kept.entries
+
+-- for how many ids there is a place: those taken up, by ids that were taken out too, and those that are spare
+abbrev pub places : Kept → ℕ
+places kept = length kept.entries + kept.spare
+
+-- there are places for the ids that are there, and for so many more or as many again
+pub record FollowsIds (count : ℕ) (kept : Kept) : Type 0 where
+  pub ids : List ℕ
+  pub there : AreThere (count_of kept) ids
+  pub size : places kept ≡ length ids + max count (length ids)
 
 abbrev pub id_of : Entry → ℕ
 id_of e = e.id
@@ -42,13 +52,13 @@ abbrev pub is_kept : Entry → Bool
 is_kept e = is_some e.count
 
 -- an entry whose id occurs
+abbrev pub occurs : Option ℕ → Bool
+occurs None = false
+occurs (Some zero) = false
+occurs (Some (suc n)) = true
+
 abbrev pub is_named : Entry → Bool
 is_named e = occurs e.count
-  where
-    occurs : Option ℕ → Bool
-    occurs None = false
-    occurs (Some zero) = false
-    occurs (Some (suc n)) = true
 
 -- each leaf has the id of its entry where that one's count is 0, and nothing where there is no entry
 abbrev pub IsLeaves : List Entry → List (Option ℕ) → Type 0

@@ -1,7 +1,7 @@
 // An id and its count.
 ghost use Rattle.std.specs.Prelude.{◌≡◌, Some};
 ghost use Rattle.block_ledger.specs.Counts.{one_more, one_less, free_id};
-ghost use Rattle.block_ledger.specs.Entries.{is_named};
+ghost use Rattle.block_ledger.specs.Entries.{is_kept, is_named};
 
 // The place of an id, which keeps its place where it is taken out: it has no count then.
 #[derive(Clone, Copy, Debug, Drop)]
@@ -19,6 +19,13 @@ impl Entry {
             Some(0) => Some(self.id),
             _ => None,
         }
+    }
+
+    // Whether the id was not taken out.
+    pub(crate) fn is_kept(&self) -> bool
+        ensures { result ≡ is_kept self.now }
+    {
+        self.count.is_some()
     }
 
     // Whether the id occurs.

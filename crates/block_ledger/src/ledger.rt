@@ -1,19 +1,19 @@
 // Counts by id.
-ghost use Rattle.std.specs.Prelude.{◌≡◌, ◌⊎◌, ◌↔◌, ◌+◌, ◌^◌, ◌<◌, ◌≤◌, ℕ, None, Some, IsSome, IfSome, IfNone, IfOk, IfErr, OnOk, OnErr, Contains, length, map, slice_set, slice_index_or};
-ghost use Rattle.std.specs.List.{insert};
+ghost use Rattle.std.specs.Prelude.{◌≡◌, ◌⊎◌, ◌↔◌, ◌+◌, ◌-◌, ◌^◌, ◌<◌, ◌≤◌, max, ℕ, None, Some, IsSome, IfSome, IfNone, IfOk, IfErr, OnOk, OnErr, List, [], ◌∷◌, Contains, length, map, slice_set, slice_index_or, vec_capacity};
+ghost use Rattle.std.specs.List.{insert, filter};
 ghost use Rattle.std.specs.List.Sorted.{IsStrictlyIncreasing};
 ghost use Rattle.block_ledger.specs.declared.entry.Entry.{Entry};
-ghost use Rattle.block_ledger.specs.Counts.{IsFirstFree, IsNamed, SetsCount, one_less, one_more};
-ghost use Rattle.block_ledger.specs.Entries.{IsAt, IsGap, IsLeaves, IsRising, count_of, free_of, id_at, with_count};
+ghost use Rattle.block_ledger.specs.Counts.{AreNamed, IsFirstFree, IsFreshCount, IsNamed, SetsCount, one_less, one_more};
+ghost use Rattle.block_ledger.specs.Entries.{FollowsIds, IsAt, IsGap, IsLeaves, IsRising, count_of, free_of, id_at, is_kept, places, with_count};
 
 use super::entry::{Entry, lowered, raised};
 use super::tree::LeastTree;
 use pcm_base::{NoMemory, Numbers};
-use std::alloc::Global;
+use std::alloc::{AllocError, Global};
 use std::marker::Model;
 
-// A tree has fewer than 2^62 leaves.
-const LEAVES_MOST: usize = (1 << 62) - 1;
+// A ledger has fewer than 2^62 places.
+const PLACES_MOST: usize = (1 << 62) - 1;
 
 /// How often each id occurs. An id that occurs no more keeps its count of 0, until it is taken out.
 ///
@@ -38,7 +38,9 @@ impl Model for Ledger {
 impl Ledger {
     /// A ledger without ids.
     pub fn new(alloc: Global) -> Ledger
-        ensures { (id : ℕ) → count_of result id ≡ None }
+        ensures counts { (id : ℕ) → count_of result id ≡ None }
+        ensures fresh { IsFreshCount [] (count_of result) }
+        ensures places { places result ≡ 0 }
     {
         Ledger {
             entries: Vec::new(alloc),
@@ -46,23 +48,35 @@ impl Ledger {
         }
     }
 
-    /// Makes room for so many ids that the ledger does not have. It takes memory only where there is too little.
+    /// Makes room for so many ids that the ledger does not have. It takes memory only where there is too little, and
+    /// then for the ids that are there, and for the new ones or as many again: ids that were taken out cost nothing.
     pub fn reserve(&mut self, count: u64) -> Result<(), NoMemory>
         ensures counts { (id : ℕ) → count_of self.new id ≡ count_of self.old id }
         ensures ok { OnOk result (count ≤ self.new.spare) }
         ensures full { OnErr result (self.old.spare < count) }
         ensures spare { self.old.spare ≤ self.new.spare }
+        ensures places { OnOk result (self.old.spare < count → FollowsIds count self.new) }
+        ensures enough { count ≤ self.old.spare → places self.new ≡ places self.old }
+        ensures same { OnErr result (places self.new ≡ places self.old) }
     {
-        if count <= (self.free.len() - self.entries.len()) as u64 {
+        if count <= self.spare() {
             return Ok(());
         }
-        let leaves = leaves_for(self.entries.len(), count)?;
-        let mut free = LeastTree::with_leaves(*self.entries.allocator(), leaves)?;
-        self.entries.reserve(leaves - self.entries.len())?;
-        self.entries.retain(|entry| entry.count.is_some());
-        refresh(&self.entries, &mut free, 0);
+        let alloc = *self.entries.allocator();
+        let places = places_for(kept_len(&self.entries), count)?;
+        let entries = kept_entries(alloc, &self.entries, places)?;
+        let mut free = LeastTree::with_leaves(alloc, places)?;
+        refresh(&entries, &mut free, 0);
+        self.entries = entries;
         self.free = free;
         Ok(())
+    }
+
+    /// For how many ids more there is room.
+    pub fn spare(&self) -> u64
+        ensures { result ≡ self.now.spare }
+    {
+        (self.free.len() - self.entries.len()) as u64
     }
 
     /// Counts one occurrence more. The ledger has the id, or room for one.
@@ -71,6 +85,9 @@ impl Ledger {
         ensures counts { SetsCount (count_of self.old) (count_of self.new) id (Some (one_more (count_of self.old id))) }
         ensures spare { self.old.spare ≤ self.new.spare + 1 }
         ensures there { IsSome (count_of self.old id) → self.new.spare ≡ self.old.spare }
+        ensures fresh { (ids : List ℕ) → length ids < 2 ^ 128 - 1 → IsFreshCount ids (count_of self.old) →
+            IsFreshCount (id ∷ ids) (count_of self.new) }
+        ensures places { places self.new ≡ places self.old }
     {
         match self.position(id) {
             Ok(i) => self.set_count(i, raised(self.count_at(i))),
@@ -83,6 +100,9 @@ impl Ledger {
         requires { IsNamed (count_of self.old id) }
         ensures counts { SetsCount (count_of self.old) (count_of self.new) id (Some (one_less (count_of self.old id))) }
         ensures spare { self.new.spare ≡ self.old.spare }
+        ensures fresh { (ids : List ℕ) → IsFreshCount (id ∷ ids) (count_of self.old) →
+            IsFreshCount ids (count_of self.new) }
+        ensures places { places self.new ≡ places self.old }
     {
         if let Ok(i) = self.position(id) {
             self.set_count(i, lowered(self.count_at(i)));
@@ -94,9 +114,22 @@ impl Ledger {
         requires { count_of self.old id ≡ Some 0 }
         ensures counts { SetsCount (count_of self.old) (count_of self.new) id None }
         ensures spare { self.new.spare ≡ self.old.spare }
+        ensures fresh { (ids : List ℕ) → IsFreshCount ids (count_of self.old) →
+            IsFreshCount ids (count_of self.new) }
+        ensures places { places self.new ≡ places self.old }
     {
         if let Ok(i) = self.position(id) {
             self.set_count(i, None);
+        }
+    }
+
+    /// The count of an id, none where the ledger does not have it.
+    pub fn count(&self, id: u64) -> Option<u128>
+        ensures { result ≡ count_of self.now id }
+    {
+        match self.position(id) {
+            Ok(i) => self.count_at(i),
+            Err(_) => None,
         }
     }
 
@@ -120,6 +153,20 @@ impl Ledger {
             }
         }
         Ok(Numbers::new(ids))
+    }
+
+    /// How many ids occur. It takes no memory.
+    pub fn named_len(&self) -> u64
+        ensures ids { (ids : List ℕ) × AreNamed (count_of self.now) ids × (result ≡ length ids) }
+        ensures any { (ids : List ℕ) → AreNamed (count_of self.now) ids → result ≡ length ids }
+    {
+        let mut named = 0;
+        for entry in &self.entries {
+            if entry.is_named() {
+                named += 1;
+            }
+        }
+        named
     }
 
     // The place of an id among the entries, or the place to which it would go.
@@ -161,16 +208,46 @@ impl Ledger {
     }
 }
 
-// How many leaves are made for so many ids more: as many as there are entries at least, so that they are made seldom.
-fn leaves_for(entries: usize, count: u64) -> Result<usize, NoMemory>
-    requires { entries < 2 ^ 62 }
-    ensures { IfOk result (λ leaves. (entries + count ≤ leaves) × (leaves < 2 ^ 62)) }
+// How many places are made for so many ids, and so many more: as many more as there are at least, so that they are made
+// seldom.
+fn places_for(there: usize, count: u64) -> Result<usize, NoMemory>
+    requires { there < 2 ^ 62 }
+    ensures { IfOk result (λ places. (places ≡ there + max count there) × (places < 2 ^ 62)) }
 {
-    let room = LEAVES_MOST - entries;
-    if count > room as u64 || entries > room {
+    let room = PLACES_MOST - there;
+    if count > room as u64 || there > room {
         return Err(NoMemory);
     }
-    Ok(entries + (count as usize).max(entries))
+    Ok(there + (count as usize).max(there))
+}
+
+// How many ids were not taken out.
+fn kept_len(entries: &[Entry]) -> usize
+    requires few { length entries.now < 2 ^ 62 }
+    ensures value { result ≡ length (filter is_kept entries.now) }
+    ensures most { result ≤ length entries.now }
+{
+    let mut len = 0;
+    for entry in entries {
+        if entry.is_kept() {
+            len += 1;
+        }
+    }
+    len
+}
+
+// The entries of ids that were not taken out, in a row with so many places.
+fn kept_entries(alloc: Global, entries: &[Entry], places: usize) -> Result<Vec<Entry>, AllocError>
+    ensures items { IfOk result (λ v. v.items ≡ filter is_kept entries.now) }
+    ensures room { IfOk result (λ v. places ≤ vec_capacity v) }
+{
+    let mut kept = Vec::with_capacity(alloc, places)?;
+    for entry in entries {
+        if entry.is_kept() {
+            kept.push(*entry)?;
+        }
+    }
+    Ok(kept)
 }
 
 // Writes the leaves of the entries from a place on, where those before are as they have to be.

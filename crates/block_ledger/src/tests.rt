@@ -30,6 +30,8 @@ fn what_is_named(rt: HostRuntime) -> Result<(), Fail> {
     assert_eq!(rt; none.first_free(), None);
     let some = held(alloc, &rt, &[18, 16, 18, 30, 17, 16])?;
     assert_eq!(rt; named(&some)?.as_slice(), [16, 17, 18, 30].as_slice());
+    assert_eq!(rt; some.named_len(), 4);
+    assert_eq!(rt; some.count(16), Some(2));
     assert_eq!(rt; some.first_free(), None);
     Ok(())
 }
@@ -55,5 +57,24 @@ fn the_least_of_count_0(rt: HostRuntime) -> Result<(), Fail> {
     ledger.drop_one(16);
     assert_eq!(rt; ledger.first_free(), Some(16));
     assert_eq!(rt; named(&ledger)?.as_slice(), [20].as_slice());
+    Ok(())
+}
+
+// Ids come and go, one after another, while three stay: there are never places for more than twice as many.
+#[test]
+fn room_follows_the_ids_that_are_there(rt: HostRuntime) -> Result<(), Fail> {
+    let mut ledger = held(rt.alloc(), &rt, &[16, 17, 18])?;
+    for id in 19..100_000 {
+        ledger.reserve(1).ok().ok_or("no memory")?;
+        assert!(rt; ledger.spare() <= 3);
+        ledger.hold(id);
+        ledger.drop_one(id);
+        if let Some(0) = ledger.count(id) {
+            ledger.forget(id);
+        }
+    }
+    assert_eq!(rt; ledger.named_len(), 3);
+    assert_eq!(rt; ledger.count(18), Some(1));
+    assert_eq!(rt; ledger.count(99_999), None);
     Ok(())
 }

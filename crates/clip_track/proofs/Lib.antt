@@ -1,4 +1,6 @@
+pub mod CellCounts
 pub mod Layouts
+pub mod RestItems
 pub mod RoomClips
 pub mod RoomStrips
 pub mod RoughStrips

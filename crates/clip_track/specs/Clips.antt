@@ -27,6 +27,11 @@ cells_from src at (c ∷ cs) = replicate (c.start - at) cell.Gap ++ map cell.Sam
 abbrev pub layout_cells : Sources → List Clip → List Cell
 layout_cells src cs = cells_from src 0 cs
 
+-- the blocks of a layout, clip by clip
+abbrev pub layout_blocks : List Clip → List BlockRef
+layout_blocks [] = []
+layout_blocks (c ∷ cs) = c.blocks ++ layout_blocks cs
+
 -- clips of at least one sample that begin at a place or later, each at least one gap after the one before
 abbrev pub AreClips : ℕ → List Clip → Type 0
 AreClips from [] = Unit {0}

@@ -1,5 +1,7 @@
 pub mod Clips
+pub mod Counts
 pub mod Items
+pub mod Rests
 pub mod Room
 pub mod Rough
 pub mod StripClips

@@ -1,11 +1,15 @@
 // A track's layout in clips.
-ghost use Rattle.std.specs.Prelude.{◌≡◌, ℕ, ◌+◌, ◌-◌, ◌≤◌, ◌<◌, ◌^◌, ◌++◌, length, take, drop, [], true, IfOk, OnOk};
+ghost use Rattle.std.specs.Prelude.{◌≡◌, ℕ, ◌+◌, ◌-◌, ◌≤◌, ◌<◌, ◌^◌, ◌++◌, length, take, drop, [], true, IfOk, OnOk, Contains};
 ghost use Rattle.pcm_base.specs.Pieces.{Sources};
+ghost use Rattle.pcm_base.specs.declared.block.BlockRef.{BlockRef};
 ghost use Rattle.clip_track.specs.Items as strip;
 ghost use Rattle.clip_track.specs.Clips as layout;
+ghost use Rattle.pcm_base.specs.Sizes.{clip_count, sample_count};
+ghost use Rattle.clip_track.specs.Counts.{clips_len};
 ghost use Rattle.clip_track.specs.Rough.{rough_items, ItemsShort};
 
 use super::items::{Item, Strip, append_part, push_gap};
+use super::rest::{Rest, rest_from, take_items};
 use block_sequence::Sequence;
 use pcm_base::{BlockRef, NoMemory, Piece};
 use std::alloc::{AllocError, Global};
@@ -118,6 +122,8 @@ impl Layout {
     pub fn as_slice(&self) -> &[Clip]
         ensures value { result.now ≡ self.now }
         ensures apart { layout.IsLayout self.now }
+        ensures clips { (src : Sources) → clip_count (layout.layout_cells src self.now) ≡ length self.now }
+        ensures samples { (src : Sources) → sample_count (layout.layout_cells src self.now) ≡ clips_len self.now }
     {
         self.clips.as_slice()
     }
@@ -162,6 +168,18 @@ impl Layout {
         Ok(Strip::from_items(items))
     }
 
+    /// What is left from a place on, to be read stretch by stretch: what stands at the place, and what follows. It takes
+    /// no memory.
+    pub fn rest(&self, place: u64) -> Rest<'_>
+        ensures items { result ≡ strip.items_after place (layout.items_from 0 self.now) }
+        ensures cells { (src : Sources) → strip.strip_cells src result ≡ drop place (layout.layout_cells src self.now) }
+        ensures len { strip.strip_len result ≡ layout.end_of 0 self.now - place }
+        ensures fit { (m : ℕ) → layout.AllHalfFull m self.now → strip.ItemsFit m result }
+        ensures blocks { (b : BlockRef) → Contains (strip.strip_blocks result) b → Contains (layout.layout_blocks self.now) b }
+    {
+        rest_from(self.clips.as_slice(), place)
+    }
+
     /// The cells from one place up to another.
     ///
     /// # Errors
@@ -175,10 +193,9 @@ impl Layout {
         ensures len { IfOk result (λ s. strip.strip_len s ≡ to - from) }
         ensures fit { IfOk result (λ s. (m : ℕ) → layout.AllHalfFull m self.now → strip.ItemsFit m s) }
     {
-        let whole = self.to_strip()?;
-        let mut out = Vec::new(*self.clips.allocator());
-        append_part(&mut out, whole.as_slice(), from, to - from)?;
-        Ok(Strip::from_items(out))
+        let mut rest = self.rest(from);
+        let items = take_items(*self.clips.allocator(), &mut rest, to - from)?;
+        Ok(Strip::from_items(items))
     }
 
     /// The whole track's strip, with the cells from one place up to another replaced by those of a strip. The layout

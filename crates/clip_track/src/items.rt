@@ -38,7 +38,7 @@ impl Model for Strip {
     ghost invariant = { λ s. IsStrip s.items.items s.len };
 }
 
-fn item_len(item: Item) -> u64
+pub(crate) fn item_len(item: Item) -> u64
     requires { strip.IsItem item }
     ensures { result ≡ strip.item_len item }
 {
@@ -48,7 +48,7 @@ fn item_len(item: Item) -> u64
     }
 }
 
-fn part_of_item(item: Item, skip: u64, n: u64) -> Item
+pub(crate) fn part_of_item(item: Item, skip: u64, n: u64) -> Item
     requires ok { strip.IsItem item }
     requires within { skip + n ≤ strip.item_len item }
     ensures { result ≡ strip.part_of_item skip n item }

@@ -3,6 +3,7 @@ ghost use Rattle.std.specs.Prelude.{◌≡◌, ◌<◌, [], ◌∷◌, IfOk};
 
 use super::clips::{Clip, Layout};
 use super::items::{Item, Strip};
+use super::rest::Stretch;
 use super::strip_clips::StripClip;
 use block_sequence::Sequence;
 use pcm_base::{BlockRef, NoMemory, Piece};
@@ -29,6 +30,15 @@ fn three_clips(alloc: Global) -> Result<Layout, NoMemory> {
 fn part(id: u64, len: u32, from: u32, to: u32) -> Piece {
     let block = BlockRef { id, len };
     Piece::Old { block, from, to }
+}
+
+fn gaps(len: u64) -> Option<Stretch> {
+    Some(Stretch::Gaps { len })
+}
+
+fn block(id: u64, len: u32, from: u32) -> Option<Stretch> {
+    let block = BlockRef { id, len };
+    Some(Stretch::Block { block, from })
 }
 
 fn is_clip(clip: &StripClip, start: u64, pieces: &[Piece]) -> bool {
@@ -70,6 +80,31 @@ fn slices_and_replaces(rt: HostRuntime) -> Result<(), Fail> {
                 _ => false,
             }
         );
+    }
+    Ok(())
+}
+
+#[test]
+fn what_stands_at_a_place(rt: HostRuntime) -> Result<(), Fail> {
+    let layout = three_clips(rt.alloc())?;
+    let rows = [
+        (0, block(16, 4, 0)),
+        (3, block(16, 4, 3)),
+        (4, gaps(2)),
+        (5, gaps(1)),
+        (6, block(17, 3, 0)),
+        (8, block(17, 3, 2)),
+        (9, gaps(3)),
+        (15, block(18, 4, 3)),
+        (16, None),
+        (20, None),
+    ];
+    for (place, stretch) in rows {
+        assert!(rt; layout.rest(place).next() == stretch);
+    }
+    let mut rest = layout.rest(5);
+    for stretch in [gaps(1), block(17, 3, 0), gaps(3), block(18, 4, 0), None] {
+        assert!(rt; rest.next() == stretch);
     }
     Ok(())
 }

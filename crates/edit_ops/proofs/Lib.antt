@@ -1,7 +1,6 @@
 pub mod CellLists
 pub mod ChangedItems
 pub mod Copies
-pub mod Counts
 pub mod LaidLists
 pub mod Named
 pub mod Pastes

@@ -10,10 +10,10 @@ use Rattle.std.specs.Prelude.{Contains}
 use Rattle.block_sequence.specs.declared.types.Laid.{Laid}
 use Rattle.block_sequence.specs.declared.types.Laid.TheVariants.{Keep, Make}
 use Rattle.block_sequence.specs.Laid.{parts, sizes, all_laid_samples, AllMade}
-use Rattle.clip_track.specs.Clips.{end_of, cells_from, AreClips, IsLayout, AllHalfFull}
+use Rattle.clip_track.specs.Clips.{end_of, cells_from, AreClips, IsLayout, AllHalfFull, layout_blocks}
 use Rattle.edit_ops.specs.declared.types.LaidClip.{LaidClip}
 use Rattle.edit_ops.specs.declared.types.NewBlock.{NewBlock}
-use Rattle.edit_ops.specs.Plans.{AreWritten, AreNew, AllNewFrom, AreOldOrNew, layout_blocks}
+use Rattle.edit_ops.specs.Plans.{AreWritten, AreNew, AllNewFrom, AreOldOrNew}
 use Rattle.edit_ops.specs.LaidClips.{named, new_blocks, next_after, ClipsFrom, laid_len, laid_end, laid_cells, AreLaidClips, named_clips, clips_new_blocks, clips_next, count_laid, made_clips}
 
 -- each clip by itself

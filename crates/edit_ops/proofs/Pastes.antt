@@ -11,14 +11,14 @@ use Rattle.pcm_base.specs.Pieces.{Sources}
 use Rattle.block_sequence.specs.Origins.{IsFrom}
 use Rattle.clip_track.specs.declared.items.Item.{Item}
 use Rattle.clip_track.specs.declared.items.Item.TheVariants.{Gap, Sound}
-use Rattle.clip_track.specs.Items.{strip_len, strip_cells, part_items, gap_items, AreItems}
+use Rattle.clip_track.specs.Items.{strip_len, strip_cells, part_items, gap_items, AreItems, strip_blocks, item_blocks}
 use Rattle.clip_track.proofs.Strips.{length-strip_cells, strip_cells-append, ItemsFit-append, ItemsFit-part}
 use Rattle.clip_track.proofs.Layouts.{ItemsFit-gap}
 use Rattle.clip_track.proofs.RoughStrips.{rough-append, rough_front, rough_back, rough_only_gap, rough_three, ItemsShort-append, ItemsShort-part, short_gap}
 use Rattle.edit_ops.specs.declared.placing.Placing.{Placing}
 use Rattle.edit_ops.specs.declared.placing.Placing.TheVariants.{Insert, Cover}
 use Rattle.edit_ops.specs.Placing.{placed, placed_items}
-use Rattle.edit_ops.specs.Strips.{rest_items, front_items, IsOld, AllOld, IsClip, IsItemFrom, ItemsFrom, item_blocks, strip_blocks}
+use Rattle.edit_ops.specs.Strips.{rest_items, front_items, IsOld, AllOld, IsClip, IsItemFrom, ItemsFrom}
 use Rattle.edit_ops.proofs.StripCells.{cells_front, rest_cells}
 use Rattle.edit_ops.proofs.Tame.{Tame, ItemsFrom-append, ItemsFrom-part, ItemsFrom-gap}
 

@@ -19,9 +19,9 @@ use Rattle.clip_track.proofs.RoomStrips.{spare_most, room-append, room_only_gap,
 use Rattle.edit_ops.specs.declared.changing.Change.{Change}
 use Rattle.edit_ops.specs.declared.changing.Change.TheVariants.{Silence, Gain}
 use Rattle.edit_ops.specs.Changes.{piece_change, item_change}
-use Rattle.edit_ops.specs.Counts.{sample_count, clip_count}
+use Rattle.pcm_base.specs.Sizes.{sample_count, clip_count}
 use Rattle.edit_ops.specs.Strips.{rest_items, front_items, with_inserted, given_items, with_change}
-use Rattle.edit_ops.proofs.Counts.{item_samples, item_starts, sample_count-strip, clip_starts-strip}
+use Rattle.clip_track.proofs.CellCounts.{item_samples, item_starts, sample_count-strip, clip_starts-strip}
 
 -- the items of a layout's strip: only where they are cut is anything laid out anew
 pub record Smooth (m : ℕ) (xs : List Item) : Type 0 where

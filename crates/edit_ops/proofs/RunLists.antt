@@ -1,9 +1,11 @@
 -- Lemmas on edits of several tracks.
-use Rattle.std.proofs.Common.{◌≡◌, ℕ, zero, suc, ◌+◌, ◌<◌, ◌^◌, List, [], ◌∷◌, ◌++◌, length, get_or, take, refl, arith, inl, inr, ◌≤◌, Option, None, Some, nat_lt}
+use Rattle.std.proofs.Common.{◌≡◌, ℕ, zero, suc, ◌+◌, ◌<◌, ◌^◌, List, [], ◌∷◌, ◌++◌, length, get_or, take, drop, refl, sym, ap, ◌∙◌, arith, inl, inr, ◌≤◌, Option, None, Some, nat_lt}
 use Rattle.std.proofs.lemmas.Bool.{cases_lt, lt-ltb}
+use Rattle.std.proofs.lemmas.List.{take_more, drop_more}
+use denote.Ref.{Bor}
 use Rattle.pcm_base.specs.declared.refusal.Refusal.{Refusal}
 use Rattle.pcm_base.specs.declared.refusal.Refusal.TheVariants.{LengthLimit}
-use Rattle.pcm_base.specs.Tests.{◌otherwise◌, refused_if, too_narrow, length_limit}
+use Rattle.pcm_base.specs.Refusals.{◌otherwise◌, refused_if, too_narrow, length_limit}
 use Rattle.pcm_base.specs.declared.sound.Cell.{Cell}
 use Rattle.clip_track.specs.declared.items.Item.{Item}
 use Rattle.clip_track.specs.declared.clips.Clip.{Clip}
@@ -13,7 +15,34 @@ use Rattle.edit_ops.specs.declared.types.Plan.{Plan}
 use Rattle.edit_ops.specs.Strips.{IsClip}
 use Rattle.edit_ops.specs.Placing.{SumsFit, LengthsFit, placed_length}
 use Rattle.edit_ops.specs.declared.placing.Placing.{Placing}
-use Rattle.edit_ops.specs.Runs.{AllTracksHalfFull, AreClips, IsCopy, AreCopies, IsCut, AreCuts, IsPaste, ArePastes, next_of, lengths_of}
+use Rattle.edit_ops.specs.Runs.{AllTracksHalfFull, AreClips, IsCopy, AreCopies, IsCut, AreCuts, IsPaste, ArePastes, layouts, next_of, lengths_of}
+
+-- the layouts behind references
+layout_at : (refs : List (Bor (List Clip))) (i : ℕ) (r : Bor (List Clip)) → r ≡ get_or refs i r → r.now ≡ get_or (layouts refs) i r.now
+layout_at [] i r e = refl
+layout_at (x ∷ refs) zero r e = ap (λ (y : Bor (List Clip)). y.now) e
+layout_at (x ∷ refs) (suc i) r e = layout_at refs i r e
+
+pub length-layouts : (refs : List (Bor (List Clip))) → length (layouts refs) ≡ length refs
+length-layouts [] = refl
+length-layouts (x ∷ refs) = ap suc (length-layouts refs)
+
+pub layouts_take : (n : ℕ) (refs : List (Bor (List Clip))) → layouts (take n refs) ≡ take n (layouts refs)
+layouts_take zero refs = refl
+layouts_take (suc n) [] = refl
+layouts_take (suc n) (x ∷ refs) = ap (λ (ts : List (List Clip)). x.now ∷ ts) (layouts_take n refs)
+
+module _ (refs : List (Bor (List Clip))) (i : ℕ) (r : Bor (List Clip)) (lt : i < length refs) (is : r ≡ get_or refs i r) where
+  pub layouts_at : r.now ≡ get_or (layouts refs) i r.now
+  layouts_at = layout_at refs i r is
+
+  pub layouts_more : take (i + 1) (layouts refs) ≡ take i (layouts refs) ++ r.now ∷ []
+  layouts_more =
+      take_more (layouts refs) i r.now (omega (arith, length-layouts refs, lt)) ∙ ap (λ (t : List Clip). take i (layouts refs) ++ t ∷ []) (sym (layout_at refs i r is))
+
+  pub layouts_left : drop i (layouts refs) ≡ r.now ∷ drop (i + 1) (layouts refs)
+  layouts_left =
+      drop_more (layouts refs) i r.now (omega (arith, length-layouts refs, lt)) ∙ ap (λ (t : List Clip). t ∷ drop (i + 1) (layouts refs)) (sym (layout_at refs i r is))
 
 pub half_full_at : (m : ℕ) (ts : List (List Clip)) (i : ℕ) (d : List Clip) → i < length ts → AllTracksHalfFull m ts → AllHalfFull m (get_or ts i d)
 half_full_at m [] i d h a = absurd (omega arith)
@@ -100,6 +129,21 @@ lengths_fit placing at (c ∷ cs) (t ∷ ts) h =
   where
     some_reason : {x : Refusal} → Some x ≡ None → ⊥
     some_reason e = cc
+
+-- the first length of some, and the rest
+behind : (a b : Option Refusal) → a otherwise None ≡ None → a otherwise b ≡ b
+behind None b h = refl
+behind (Some r) b h = absurd cc
+
+in_front : (a b : Option Refusal) (r : Refusal) → a otherwise None ≡ Some r → a otherwise b ≡ Some r
+in_front None b r h = absurd cc
+in_front (Some s) b r h = h
+
+pub limit_next : (n : ℕ) (ns : List ℕ) → length_limit (n ∷ []) ≡ None → length_limit (n ∷ ns) ≡ length_limit ns
+limit_next n ns h = behind (refused_if (nat_lt (2 ^ 32) n) (LengthLimit n)) (length_limit ns) h
+
+pub limit_first : (n : ℕ) (ns : List ℕ) (r : Refusal) → length_limit (n ∷ []) ≡ Some r → length_limit (n ∷ ns) ≡ Some r
+limit_first n ns r h = in_front (refused_if (nat_lt (2 ^ 32) n) (LengthLimit n)) (length_limit ns) r h
 
 -- what is copied of layouts that are half full may be pasted
 pub clips_of_copies : (m from to : ℕ) (ts : List (List Clip)) (ss : List (List Item)) → AreCopies from to ts ss → AllTracksHalfFull m ts → AreClips m ss

@@ -11,13 +11,12 @@ use Rattle.block_sequence.proofs.Origins.{IsFrom-part}
 use Rattle.clip_track.specs.declared.items.Item.{Item}
 use Rattle.clip_track.specs.declared.items.Item.TheVariants.{Gap, Sound}
 use Rattle.clip_track.specs.declared.clips.Clip.{Clip}
-use Rattle.clip_track.specs.Clips.{clip_end, sound_items, items_from}
+use Rattle.clip_track.specs.Clips.{clip_end, sound_items, items_from, layout_blocks}
 use Rattle.clip_track.specs.Items.{item_len, strip_len, part_of_item, part_items, gap_items, IsItem, AreItems, ItemsFit}
 use Rattle.clip_track.specs.Rough.{rough_items, ItemsShort}
 use Rattle.clip_track.proofs.Strips.{part_none, part_past, part_within, ItemsFit-append, ItemsFit-part}
 use Rattle.clip_track.proofs.Layouts.{ItemsFit-gap}
 use Rattle.clip_track.proofs.RoughStrips.{rough-append, rough_front, rough_back, rough_middle, rough_only_gap, rough_three, rough_end, ItemsShort-append, ItemsShort-part, short_gap}
-use Rattle.edit_ops.specs.Plans.{layout_blocks}
 use Rattle.edit_ops.specs.declared.changing.Change.{Change}
 use Rattle.edit_ops.specs.declared.changing.Change.TheVariants.{Silence, Gain}
 use Rattle.edit_ops.specs.Changes.{piece_change, item_change}

@@ -1,5 +1,4 @@
 pub mod Changes
-pub mod Counts
 pub mod LaidClips
 pub mod Placing
 pub mod Plans

@@ -1,5 +1,5 @@
 -- What the plan of an edit promises.
-use Rattle.std.specs.Prelude.{◌≡◌, ℕ, ◌+◌, ◌<◌, ◌≤◌, ◌⊎◌, List, [], ◌∷◌, ◌++◌, length, Contains, Option, None, Some, Result, MatchResult}
+use Rattle.std.specs.Prelude.{◌≡◌, ℕ, ◌+◌, ◌<◌, ◌≤◌, ◌⊎◌, List, [], ◌∷◌, length, Contains, Option, None, Some, Result, MatchResult}
 use Rattle.pcm_base.specs.declared.refusal.Refusal.{Refusal}
 use Rattle.pcm_base.specs.declared.refusal.Refusal.TheVariants.{NoMemory}
 use Rattle.pcm_base.specs.declared.block.BlockRef.{BlockRef}
@@ -7,7 +7,7 @@ use Rattle.pcm_base.specs.declared.sound.Cell.{Cell}
 use Rattle.pcm_base.specs.Pieces.{Sources, stretch, total, all_samples, AllValid}
 use Rattle.block_sequence.specs.Origins.{AllFrom}
 use Rattle.clip_track.specs.declared.clips.Clip.{Clip}
-use Rattle.clip_track.specs.Clips.{layout_cells, AllHalfFull}
+use Rattle.clip_track.specs.Clips.{layout_cells, AllHalfFull, layout_blocks}
 use Rattle.edit_ops.specs.declared.types.NewBlock.{NewBlock}
 use Rattle.edit_ops.specs.declared.types.Plan.{Plan}
 
@@ -29,11 +29,6 @@ AllNewFrom blocks count (b ∷ bs) = AllFrom blocks count b.pieces × AllNewFrom
 -- the reference to a new block
 abbrev pub ref_of : NewBlock → BlockRef
 ref_of b = record { id = b.id; len = b.len }
-
--- the blocks of a layout, clip by clip
-abbrev pub layout_blocks : List Clip → List BlockRef
-layout_blocks [] = []
-layout_blocks (c ∷ cs) = c.blocks ++ layout_blocks cs
 
 -- some blocks in order: each is an old one, or the next of the new ones, and all new ones come
 abbrev pub AreOldOrNew : List BlockRef → List BlockRef → List NewBlock → Type 0

@@ -1,18 +1,23 @@
 -- Edits of several tracks: a run is a track and those after it in the project.
-use Rattle.std.specs.Prelude.{◌≡◌, ℕ, ◌-◌, ◌≤◌, max, List, [], ◌∷◌, ◌++◌, length, take, Option, None, Some}
+use Rattle.std.specs.Prelude.{◌≡◌, ℕ, ◌-◌, ◌≤◌, max, List, [], ◌∷◌, ◌++◌, length, map, take, Option, None, Some}
+use denote.Ref.{Bor}
 use Rattle.pcm_base.specs.declared.sound.Cell.{Cell}
 use Rattle.pcm_base.specs.Edits.{range_of}
 use Rattle.pcm_base.specs.Pieces.{Sources}
 use Rattle.clip_track.specs.declared.items.Item.{Item}
 use Rattle.clip_track.specs.declared.clips.Clip.{Clip}
-use Rattle.clip_track.specs.Clips.{end_of, layout_cells, AllHalfFull}
-use Rattle.clip_track.specs.Items.{strip_len, strip_cells}
+use Rattle.clip_track.specs.Clips.{end_of, layout_cells, AllHalfFull, layout_blocks}
+use Rattle.clip_track.specs.Items.{strip_len, strip_cells, strip_blocks}
 use Rattle.pcm_base.specs.declared.refusal.Refusal.{Refusal}
 use Rattle.pcm_base.specs.declared.refusal.Refusal.TheVariants.{EmptyClipboard}
-use Rattle.pcm_base.specs.Tests.{◌otherwise◌, too_narrow, bad_range, length_limit}
+use Rattle.pcm_base.specs.Refusals.{◌otherwise◌, too_narrow, bad_range, length_limit}
 use Rattle.edit_ops.specs.declared.types.Plan.{Plan}
-use Rattle.edit_ops.specs.Plans.{IsPlan, Means, layout_blocks}
-use Rattle.edit_ops.specs.Strips.{IsClip, ItemsFrom, strip_blocks}
+use Rattle.edit_ops.specs.Plans.{IsPlan, Means}
+use Rattle.edit_ops.specs.Strips.{IsClip, ItemsFrom}
+
+-- the layout behind each reference
+abbrev pub layouts : List (Bor (List Clip)) → List (List Clip)
+layouts refs = map (λ r. r.now) refs
 
 -- the greatest length of some tracks, 0 where there are none
 abbrev pub longest_of : List (List Clip) → ℕ

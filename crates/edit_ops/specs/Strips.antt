@@ -1,7 +1,6 @@
 -- The strip that each edit lays out, made of the items of the track's strip.
 use Rattle.std.specs.Prelude.{ℕ, zero, suc, ◌+◌, ◌-◌, ◌≤◌, min, false, List, [], ◌∷◌, ◌++◌, map}
 use Rattle.pcm_base.specs.declared.block.BlockRef.{BlockRef}
-use Rattle.pcm_base.specs.declared.piece.Piece.{Piece}
 use Rattle.pcm_base.specs.declared.piece.Piece.TheVariants.{Old, Scaled, Zero, Given}
 use Rattle.block_sequence.specs.Origins.{IsFrom}
 use Rattle.clip_track.specs.declared.items.Item.{Item}
@@ -72,22 +71,6 @@ IsItemFrom blocks count (Sound p) = IsFrom blocks count p
 abbrev pub ItemsFrom : List BlockRef → ℕ → List Item → Type 0
 ItemsFrom blocks count [] = Unit {0}
 ItemsFrom blocks count (x ∷ xs) = IsItemFrom blocks count x × ItemsFrom blocks count xs
-
--- the blocks that a piece names
-abbrev pub piece_blocks : Piece → List BlockRef
-piece_blocks (Old b from to) = b ∷ []
-piece_blocks (Scaled b from to gain) = b ∷ []
-piece_blocks (Zero len) = []
-piece_blocks (Given from to) = []
-
-abbrev pub item_blocks : Item → List BlockRef
-item_blocks (Gap n) = []
-item_blocks (Sound p) = piece_blocks p
-
--- the blocks that a strip names, in order
-abbrev pub strip_blocks : List Item → List BlockRef
-strip_blocks [] = []
-strip_blocks (x ∷ xs) = item_blocks x ++ strip_blocks xs
 
 -- what a clipboard holds at block size m: parts of blocks of at most m samples, of which at most two, the first and
 -- the last, have to be laid out anew where the strip is put between others

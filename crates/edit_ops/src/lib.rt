@@ -12,13 +12,13 @@ mod one_track;
 mod placing;
 mod planning;
 mod plans;
+mod refusals;
 mod removing;
-mod run_tests;
+mod run_refusals;
 mod runs;
 mod strips;
 #[cfg(test)]
 mod tests;
-mod tests_of_edits;
 mod types;
 
 pub use one_track::{delete, gain, insert, silence, split_delete, trim};

@@ -2,16 +2,16 @@
 ghost use Rattle.std.specs.Prelude.{◌≡◌, ◌+◌, ◌/◌, ◌≤◌, ◌<◌, ◌^◌, [], ◌∷◌, ◌++◌, length, IfOk};
 ghost use Rattle.pcm_base.specs.Edits as edit;
 ghost use Rattle.pcm_base.specs.Pieces.{Sources, stretch};
-ghost use Rattle.pcm_base.specs.Tests.{bad_range, inserted_length, length_limit};
-ghost use Rattle.clip_track.specs.Clips.{end_of, layout_cells, AllHalfFull};
-ghost use Rattle.edit_ops.specs.Counts.{sample_count, clip_count};
-ghost use Rattle.edit_ops.specs.Plans.{IsPlan, Means, AnswersTest, layout_blocks};
+ghost use Rattle.pcm_base.specs.Refusals.{bad_range, inserted_length, length_limit};
+ghost use Rattle.clip_track.specs.Clips.{end_of, layout_cells, AllHalfFull, layout_blocks};
+ghost use Rattle.pcm_base.specs.Sizes.{sample_count, clip_count};
+ghost use Rattle.edit_ops.specs.Plans.{IsPlan, Means, AnswersTest};
 
 use super::changing::Change;
 use super::plans::{
     plan_only_part, plan_with_change, plan_with_gaps, plan_with_given, plan_without,
 };
-use super::tests_of_edits::{length, range};
+use super::refusals::{length, range};
 use super::types::Plan;
 use clip_track::Layout;
 use pcm_base::Refusal;
@@ -41,10 +41,8 @@ pub fn insert(
     ensures tests { AnswersTest (length_limit (inserted_length at count (end_of 0 t.now) ∷ [])) result }
 {
     length(t.len().max(at) + count)?;
-    match plan_with_given(alloc, t, at, count, m, next) {
-        Ok(plan) => Ok(plan),
-        Err(_) => Err(Refusal::NoMemory),
-    }
+    let plan = plan_with_given(alloc, t, at, count, m, next)?;
+    Ok(plan)
 }
 
 /// Takes the cells of a range out: those behind it move to its place.
@@ -69,10 +67,8 @@ pub fn delete(
     ensures tests { AnswersTest (bad_range from to (end_of 0 t.now)) result }
 {
     range(from, to, t.len())?;
-    match plan_without(alloc, t, from, to, m, next) {
-        Ok(plan) => Ok(plan),
-        Err(_) => Err(Refusal::NoMemory),
-    }
+    let plan = plan_without(alloc, t, from, to, m, next)?;
+    Ok(plan)
 }
 
 /// Makes the cells of a range gaps.
@@ -97,10 +93,8 @@ pub fn split_delete(
     ensures tests { AnswersTest (bad_range from to (end_of 0 t.now)) result }
 {
     range(from, to, t.len())?;
-    match plan_with_gaps(alloc, t, from, to, m, next) {
-        Ok(plan) => Ok(plan),
-        Err(_) => Err(Refusal::NoMemory),
-    }
+    let plan = plan_with_gaps(alloc, t, from, to, m, next)?;
+    Ok(plan)
 }
 
 /// Makes all cells but those of a range gaps.
@@ -125,10 +119,8 @@ pub fn trim(
     ensures tests { AnswersTest (bad_range from to (end_of 0 t.now)) result }
 {
     range(from, to, t.len())?;
-    match plan_only_part(alloc, t, from, to, m, next) {
-        Ok(plan) => Ok(plan),
-        Err(_) => Err(Refusal::NoMemory),
-    }
+    let plan = plan_only_part(alloc, t, from, to, m, next)?;
+    Ok(plan)
 }
 
 /// Makes the samples of a range 0; its gaps stay.
@@ -154,10 +146,8 @@ pub fn silence(
     ensures tests { AnswersTest (bad_range from to (end_of 0 t.now)) result }
 {
     range(from, to, t.len())?;
-    match plan_with_change(alloc, t, from, to, Change::Silence, m, next) {
-        Ok(plan) => Ok(plan),
-        Err(_) => Err(Refusal::NoMemory),
-    }
+    let plan = plan_with_change(alloc, t, from, to, Change::Silence, m, next)?;
+    Ok(plan)
 }
 
 /// Puts the samples of a range under a gain, where 65,536 is unity; each is rounded and limited, gaps stay.
@@ -184,8 +174,6 @@ pub fn gain(
     ensures tests { AnswersTest (bad_range from to (end_of 0 t.now)) result }
 {
     range(from, to, t.len())?;
-    match plan_with_change(alloc, t, from, to, Change::Gain { gain }, m, next) {
-        Ok(plan) => Ok(plan),
-        Err(_) => Err(Refusal::NoMemory),
-    }
+    let plan = plan_with_change(alloc, t, from, to, Change::Gain { gain }, m, next)?;
+    Ok(plan)
 }

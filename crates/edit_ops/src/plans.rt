@@ -2,11 +2,11 @@
 ghost use Rattle.std.specs.Prelude.{◌≡◌, ◌+◌, ◌/◌, ◌≤◌, ◌<◌, ◌^◌, [], ◌∷◌, ◌++◌, length, IfOk};
 ghost use Rattle.pcm_base.specs.Edits as edit;
 ghost use Rattle.pcm_base.specs.Pieces.{Sources, stretch};
-ghost use Rattle.pcm_base.specs.Tests.{inserted_length};
-ghost use Rattle.clip_track.specs.Clips.{end_of, layout_cells, AllHalfFull};
+ghost use Rattle.pcm_base.specs.Refusals.{inserted_length};
+ghost use Rattle.clip_track.specs.Clips.{end_of, layout_cells, AllHalfFull, layout_blocks};
 ghost use Rattle.edit_ops.specs.Changes.{cell_change};
-ghost use Rattle.edit_ops.specs.Counts.{sample_count, clip_count};
-ghost use Rattle.edit_ops.specs.Plans.{IsPlan, Means, layout_blocks};
+ghost use Rattle.pcm_base.specs.Sizes.{sample_count, clip_count};
+ghost use Rattle.edit_ops.specs.Plans.{IsPlan, Means};
 
 use super::changing::Change;
 use super::planning::plan_strip;

@@ -2,7 +2,7 @@
 ghost use Rattle.std.specs.Prelude.{◌≡◌, ◌+◌, ◌*◌, ◌≤◌, ◌<◌, ◌^◌, length, take, option_copied, IfOk, IfSome};
 ghost use Rattle.std.specs.Option.{ForSome};
 ghost use Rattle.pcm_base.specs.Edits as edit;
-ghost use Rattle.pcm_base.specs.Tests.{inserted_length, covered_length};
+ghost use Rattle.pcm_base.specs.Refusals.{inserted_length, covered_length};
 ghost use Rattle.edit_ops.specs.Placing.{placed, placed_length, SumsFit, LengthsFit};
 ghost use Rattle.edit_ops.specs.Plans.{AnswersTest};
 ghost use Rattle.edit_ops.specs.Removing.{removed};
@@ -10,7 +10,7 @@ ghost use Rattle.edit_ops.specs.Runs as runs;
 
 use super::placing::{Placing, plan_placed};
 use super::removing::{Removing, plan_removal};
-use super::run_tests::{copy_tests, paste_tests};
+use super::run_refusals::{copy_tests, paste_tests};
 use super::strips;
 use super::types::{Plan, Plans, Strips};
 use clip_track::{Layout, Strip};
@@ -26,9 +26,9 @@ fn copy_one(alloc: Global, t: &Layout, from: u64, to: u64) -> Result<Strip, NoMe
 }
 
 /// The cells of a range of each track.
-fn copy_each(alloc: Global, run: &[Layout], from: u64, to: u64) -> Result<Strips, NoMemory>
+fn copy_each(alloc: Global, run: &[&Layout], from: u64, to: u64) -> Result<Strips, NoMemory>
     requires { from ≤ to }
-    ensures { IfOk result (λ v. runs.AreCopies from to run.now v) }
+    ensures { IfOk result (λ v. runs.AreCopies from to (runs.layouts run.now) v) }
 {
     let mut out = Vec::new(alloc);
     for t in run {
@@ -40,7 +40,7 @@ fn copy_each(alloc: Global, run: &[Layout], from: u64, to: u64) -> Result<Strips
 /// Each track without a range.
 fn cut_each(
     alloc: Global,
-    run: &[Layout],
+    run: &[&Layout],
     removing: Removing,
     from: u64,
     to: u64,
@@ -48,12 +48,12 @@ fn cut_each(
     next: u64,
 ) -> Result<Plans, NoMemory>
     requires some { 0 < m }
-    requires half_full { runs.AllTracksHalfFull m run.now }
+    requires half_full { runs.AllTracksHalfFull m (runs.layouts run.now) }
     requires room { next ≤ 2 ^ 62 }
     requires rising { from ≤ to }
-    ensures { IfOk result (λ v. runs.AreCuts (removed removing from to) m next run.now v) }
+    ensures { IfOk result (λ v. runs.AreCuts (removed removing from to) m next (runs.layouts run.now) v) }
 {
-    let mut plans = Vec::new(alloc);
+    let mut plans = Vec::with_capacity(alloc, run.len())?;
     let mut id = next;
     for t in run {
         let plan = plan_removal(alloc, t, removing, from, to, m, id)?;
@@ -66,7 +66,7 @@ fn cut_each(
 /// Each strip put into its track.
 fn paste_each(
     alloc: Global,
-    run: &[Layout],
+    run: &[&Layout],
     clip: &[Strip],
     placing: Placing,
     at: u64,
@@ -74,17 +74,17 @@ fn paste_each(
     next: u64,
 ) -> Result<Plans, NoMemory>
     requires some { 0 < m }
-    requires half_full { runs.AllTracksHalfFull m run.now }
+    requires half_full { runs.AllTracksHalfFull m (runs.layouts run.now) }
     requires clips { runs.AreClips m clip.now }
     requires room { next ≤ 2 ^ 62 }
     requires wide { length clip.now ≤ length run.now }
-    requires few { LengthsFit placing at clip.now run.now }
-    ensures { IfOk result (λ v. runs.ArePastes (placed placing at) m next clip.now (take (length clip.now) run.now) v) }
+    requires few { LengthsFit placing at clip.now (runs.layouts run.now) }
+    ensures { IfOk result (λ v. runs.ArePastes (placed placing at) m next clip.now (take (length clip.now) (runs.layouts run.now)) v) }
 {
     let mut plans = Vec::new(alloc);
     let mut id = next;
     for i in 0..clip.len() {
-        let plan = plan_placed(alloc, &run[i], placing, at, &clip[i], m, id)?;
+        let plan = plan_placed(alloc, run[i], placing, at, &clip[i], m, id)?;
         id = plan.next;
         plans.push(plan)?;
     }
@@ -98,21 +98,19 @@ fn paste_each(
 ///
 /// `TooNarrow` where there are fewer than `n` tracks; `BadRange` where not `from < to <= L`, where L is the greatest
 /// length of the `n` tracks; else `NoMemory` where there is none for the strips.
-pub fn copy(alloc: Global, run: &[Layout], n: u64, from: u64, to: u64) -> Result<Strips, Refusal>
-    ensures copies { IfOk result (λ v. runs.AreCopies from to (take n run.now) v) }
-    ensures tests { AnswersTest (runs.copy_tests run.now n from to) result }
+pub fn copy(alloc: Global, run: &[&Layout], n: u64, from: u64, to: u64) -> Result<Strips, Refusal>
+    ensures copies { IfOk result (λ v. runs.AreCopies from to (take n (runs.layouts run.now)) v) }
+    ensures tests { AnswersTest (runs.copy_tests (runs.layouts run.now) n from to) result }
 {
     copy_tests(run, n, from, to)?;
-    match copy_each(alloc, &run[..n as usize], from, to) {
-        Ok(strips) => Ok(strips),
-        Err(_) => Err(Refusal::NoMemory),
-    }
+    let strips = copy_each(alloc, &run[..n as usize], from, to)?;
+    Ok(strips)
 }
 
 /// What was cut: the strips, and a plan for each track.
 fn cut_tracks(
     alloc: Global,
-    run: &[Layout],
+    run: &[&Layout],
     removing: Removing,
     from: u64,
     to: u64,
@@ -120,11 +118,11 @@ fn cut_tracks(
     next: u64,
 ) -> Result<(Strips, Plans), NoMemory>
     requires some { 0 < m }
-    requires half_full { runs.AllTracksHalfFull m run.now }
+    requires half_full { runs.AllTracksHalfFull m (runs.layouts run.now) }
     requires room { next ≤ 2 ^ 62 }
     requires rising { from ≤ to }
-    ensures copies { IfOk result (λ v. runs.AreCopies from to run.now v.0) }
-    ensures plans { IfOk result (λ v. runs.AreCuts (removed removing from to) m next run.now v.1) }
+    ensures copies { IfOk result (λ v. runs.AreCopies from to (runs.layouts run.now) v.0) }
+    ensures plans { IfOk result (λ v. runs.AreCuts (removed removing from to) m next (runs.layouts run.now) v.1) }
 {
     let strips = copy_each(alloc, run, from, to)?;
     let plans = cut_each(alloc, run, removing, from, to, m, next)?;
@@ -133,7 +131,7 @@ fn cut_tracks(
 
 fn cut_range(
     alloc: Global,
-    run: &[Layout],
+    run: &[&Layout],
     removing: Removing,
     n: u64,
     from: u64,
@@ -142,17 +140,15 @@ fn cut_range(
     next: u64,
 ) -> Result<(Strips, Plans), Refusal>
     requires some { 0 < m }
-    requires half_full { runs.AllTracksHalfFull m run.now }
+    requires half_full { runs.AllTracksHalfFull m (runs.layouts run.now) }
     requires room { next ≤ 2 ^ 62 }
-    ensures copies { IfOk result (λ v. runs.AreCopies from to (take n run.now) v.0) }
-    ensures plans { IfOk result (λ v. runs.AreCuts (removed removing from to) m next (take n run.now) v.1) }
-    ensures tests { AnswersTest (runs.copy_tests run.now n from to) result }
+    ensures copies { IfOk result (λ v. runs.AreCopies from to (take n (runs.layouts run.now)) v.0) }
+    ensures plans { IfOk result (λ v. runs.AreCuts (removed removing from to) m next (take n (runs.layouts run.now)) v.1) }
+    ensures tests { AnswersTest (runs.copy_tests (runs.layouts run.now) n from to) result }
 {
     copy_tests(run, n, from, to)?;
-    match cut_tracks(alloc, &run[..n as usize], removing, from, to, m, next) {
-        Ok(cut) => Ok(cut),
-        Err(_) => Err(Refusal::NoMemory),
-    }
+    let cut = cut_tracks(alloc, &run[..n as usize], removing, from, to, m, next)?;
+    Ok(cut)
 }
 
 /// `copy`, and a delete of the range on each of the tracks.
@@ -162,7 +158,7 @@ fn cut_range(
 /// Those of `copy`.
 pub fn cut(
     alloc: Global,
-    run: &[Layout],
+    run: &[&Layout],
     n: u64,
     from: u64,
     to: u64,
@@ -170,11 +166,11 @@ pub fn cut(
     next: u64,
 ) -> Result<(Strips, Plans), Refusal>
     requires some { 0 < m }
-    requires half_full { runs.AllTracksHalfFull m run.now }
+    requires half_full { runs.AllTracksHalfFull m (runs.layouts run.now) }
     requires room { next ≤ 2 ^ 62 }
-    ensures copies { IfOk result (λ v. runs.AreCopies from to (take n run.now) v.0) }
-    ensures plans { IfOk result (λ v. runs.AreCuts (edit.deleted from to) m next (take n run.now) v.1) }
-    ensures tests { AnswersTest (runs.copy_tests run.now n from to) result }
+    ensures copies { IfOk result (λ v. runs.AreCopies from to (take n (runs.layouts run.now)) v.0) }
+    ensures plans { IfOk result (λ v. runs.AreCuts (edit.deleted from to) m next (take n (runs.layouts run.now)) v.1) }
+    ensures tests { AnswersTest (runs.copy_tests (runs.layouts run.now) n from to) result }
 {
     cut_range(alloc, run, Removing::Delete, n, from, to, m, next)
 }
@@ -186,7 +182,7 @@ pub fn cut(
 /// Those of `copy`.
 pub fn split_cut(
     alloc: Global,
-    run: &[Layout],
+    run: &[&Layout],
     n: u64,
     from: u64,
     to: u64,
@@ -194,11 +190,11 @@ pub fn split_cut(
     next: u64,
 ) -> Result<(Strips, Plans), Refusal>
     requires some { 0 < m }
-    requires half_full { runs.AllTracksHalfFull m run.now }
+    requires half_full { runs.AllTracksHalfFull m (runs.layouts run.now) }
     requires room { next ≤ 2 ^ 62 }
-    ensures copies { IfOk result (λ v. runs.AreCopies from to (take n run.now) v.0) }
-    ensures plans { IfOk result (λ v. runs.AreCuts (edit.split_deleted from to) m next (take n run.now) v.1) }
-    ensures tests { AnswersTest (runs.copy_tests run.now n from to) result }
+    ensures copies { IfOk result (λ v. runs.AreCopies from to (take n (runs.layouts run.now)) v.0) }
+    ensures plans { IfOk result (λ v. runs.AreCuts (edit.split_deleted from to) m next (take n (runs.layouts run.now)) v.1) }
+    ensures tests { AnswersTest (runs.copy_tests (runs.layouts run.now) n from to) result }
 {
     cut_range(alloc, run, Removing::SplitDelete, n, from, to, m, next)
 }
@@ -206,7 +202,7 @@ pub fn split_cut(
 /// Each strip put into the track that it goes to: the first into the first track of `run`, and so on.
 fn place(
     alloc: Global,
-    run: &[Layout],
+    run: &[&Layout],
     clip: &[Strip],
     placing: Placing,
     at: u64,
@@ -214,18 +210,16 @@ fn place(
     next: u64,
 ) -> Result<Plans, Refusal>
     requires some { 0 < m }
-    requires half_full { runs.AllTracksHalfFull m run.now }
+    requires half_full { runs.AllTracksHalfFull m (runs.layouts run.now) }
     requires clips { runs.AreClips m clip.now }
     requires room { next ≤ 2 ^ 62 }
-    requires sums { SumsFit at clip.now run.now }
-    ensures plans { IfOk result (λ v. runs.ArePastes (placed placing at) m next clip.now (take (length clip.now) run.now) v) }
-    ensures tests { AnswersTest (runs.paste_tests (placed_length placing at) clip.now run.now) result }
+    requires sums { SumsFit at clip.now (runs.layouts run.now) }
+    ensures plans { IfOk result (λ v. runs.ArePastes (placed placing at) m next clip.now (take (length clip.now) (runs.layouts run.now)) v) }
+    ensures tests { AnswersTest (runs.paste_tests (placed_length placing at) clip.now (runs.layouts run.now)) result }
 {
     paste_tests(placing, at, clip, run)?;
-    match paste_each(alloc, run, clip, placing, at, m, next) {
-        Ok(plans) => Ok(plans),
-        Err(_) => Err(Refusal::NoMemory),
-    }
+    let plans = paste_each(alloc, run, clip, placing, at, m, next)?;
+    Ok(plans)
 }
 
 /// Puts strip i of what was copied or cut in at a place of the i-th track of `run`; a track that is shorter is first
@@ -238,19 +232,19 @@ fn place(
 /// is none for the plans.
 pub fn paste(
     alloc: Global,
-    run: &[Layout],
+    run: &[&Layout],
     clip: Option<&Strips>,
     at: u64,
     m: u32,
     next: u64,
 ) -> Result<Plans, Refusal>
     requires some { 0 < m }
-    requires half_full { runs.AllTracksHalfFull m run.now }
+    requires half_full { runs.AllTracksHalfFull m (runs.layouts run.now) }
     requires clips { ForSome (option_copied clip) (λ c. runs.AreClips m c) }
     requires room { next ≤ 2 ^ 62 }
-    requires sums { ForSome (option_copied clip) (λ c. SumsFit at c run.now) }
-    ensures plans { IfOk result (λ v. IfSome (option_copied clip.entry) (λ c. runs.ArePastes (edit.inserted at) m next c (take (length c) run.now) v)) }
-    ensures tests { AnswersTest (runs.clipboard_tests (inserted_length at) (option_copied clip.entry) run.now) result }
+    requires sums { ForSome (option_copied clip) (λ c. SumsFit at c (runs.layouts run.now)) }
+    ensures plans { IfOk result (λ v. IfSome (option_copied clip.entry) (λ c. runs.ArePastes (edit.inserted at) m next c (take (length c) (runs.layouts run.now)) v)) }
+    ensures tests { AnswersTest (runs.clipboard_tests (inserted_length at) (option_copied clip.entry) (runs.layouts run.now)) result }
 {
     match clip {
         None => Err(Refusal::EmptyClipboard),
@@ -266,19 +260,19 @@ pub fn paste(
 /// Those of `paste`.
 pub fn paste_over(
     alloc: Global,
-    run: &[Layout],
+    run: &[&Layout],
     clip: Option<&Strips>,
     at: u64,
     m: u32,
     next: u64,
 ) -> Result<Plans, Refusal>
     requires some { 0 < m }
-    requires half_full { runs.AllTracksHalfFull m run.now }
+    requires half_full { runs.AllTracksHalfFull m (runs.layouts run.now) }
     requires clips { ForSome (option_copied clip) (λ c. runs.AreClips m c) }
     requires room { next ≤ 2 ^ 62 }
-    requires sums { ForSome (option_copied clip) (λ c. SumsFit at c run.now) }
-    ensures plans { IfOk result (λ v. IfSome (option_copied clip.entry) (λ c. runs.ArePastes (edit.pasted_over at) m next c (take (length c) run.now) v)) }
-    ensures tests { AnswersTest (runs.clipboard_tests (covered_length at) (option_copied clip.entry) run.now) result }
+    requires sums { ForSome (option_copied clip) (λ c. SumsFit at c (runs.layouts run.now)) }
+    ensures plans { IfOk result (λ v. IfSome (option_copied clip.entry) (λ c. runs.ArePastes (edit.pasted_over at) m next c (take (length c) (runs.layouts run.now)) v)) }
+    ensures tests { AnswersTest (runs.clipboard_tests (covered_length at) (option_copied clip.entry) (runs.layouts run.now)) result }
 {
     match clip {
         None => Err(Refusal::EmptyClipboard),

@@ -1,6 +1,6 @@
 // The strips that edits lay out, each made of a whole track's strip.
 ghost use Rattle.std.specs.Prelude.{◌≡◌, ◌+◌, ◌-◌, ◌≤◌, ◌<◌, ◌^◌, ◌++◌, [], ◌∷◌, map, min, IfOk, OnOk};
-ghost use Rattle.pcm_base.specs.Tests.{inserted_length, covered_length};
+ghost use Rattle.pcm_base.specs.Refusals.{inserted_length, covered_length};
 ghost use Rattle.clip_track.specs.Items.{AreItems, part_items, strip_len};
 ghost use Rattle.edit_ops.specs.Strips as strips;
 

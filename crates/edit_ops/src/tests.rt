@@ -7,7 +7,7 @@ mod plain;
 ghost use Rattle.std.specs.Prelude.{◌≤◌, ◌^◌, [], ◌∷◌, IfOk, IsTrue};
 ghost use Rattle.clip_track.specs.Clips.{AllHalfFull};
 ghost use Rattle.edit_ops.specs.Placing.{SumsFit};
-ghost use Rattle.edit_ops.specs.Runs.{AllTracksHalfFull};
+ghost use Rattle.edit_ops.specs.Runs.{AllTracksHalfFull, layouts};
 
 use super::types::{Plan, Plans, Strips};
 use super::{
@@ -180,15 +180,16 @@ fn blocks_are_kept_and_made(rt: HostRuntime) -> Result<(), Fail> {
 }
 
 /// Whether the lengths are within what a paste asks.
-fn are_small(at: u64, clip: &[Strip], run: &[Layout]) -> bool
-    ensures { IsTrue result → SumsFit at clip.now run.now }
+fn are_small(at: u64, clip: &[Strip], run: &[&Layout]) -> bool
+    ensures { IsTrue result → SumsFit at clip.now (layouts run.now) }
 {
     if at > 1 << 40 || clip.len() > run.len() {
         return false;
     }
     for i in 0..clip.len() {
+        let cells = clip[i].len();
         let track = run[i].len();
-        if clip[i].len() > 1 << 40 || track > 1 << 40 {
+        if cells > 1 << 40 || track > 1 << 40 {
             return false;
         }
     }
@@ -196,34 +197,36 @@ fn are_small(at: u64, clip: &[Strip], run: &[Layout]) -> bool
 }
 
 /// The tracks 1 2 3 4 5 and 7 8, in the blocks 16, 17 and 18.
-fn two_tracks(alloc: Global, disk: &mut Disk) -> Result<Vec<Layout>, Fail>
-    ensures { IfOk result (λ v. AllTracksHalfFull 4 v.items) }
+fn two_tracks(alloc: Global, disk: &mut Disk) -> Result<(Layout, Layout), Fail>
+    ensures first { IfOk result (λ v. AllHalfFull 4 v.0) }
+    ensures second { IfOk result (λ v. AllHalfFull 4 v.1) }
 {
     let first = track(alloc, disk, &[1, 2, 3, 4, 5], 16)?;
     let second = track(alloc, disk, &[7, 8], 18)?;
-    Ok(vec![in alloc; first.layout, second.layout]?)
+    Ok((first.layout, second.layout))
 }
 
 #[test]
 fn cuts(rt: HostRuntime) -> Result<(), Fail> {
     let alloc = rt.alloc();
     let mut disk = Disk::new(alloc);
-    let run = two_tracks(alloc, &mut disk)?;
+    let (first, second) = two_tracks(alloc, &mut disk)?;
+    let run = [&first, &second];
     // The second track is shorter than the range: what is copied ends with its gaps.
-    let (clip, plans) = cut(alloc, run.as_slice(), 2, 1, 4, 4, 19)?;
+    let (clip, plans) = cut(alloc, &run, 2, 1, 4, 4, 19)?;
     let copied: [&[i16]; 2] = [&[2, 3, 4], &[8, 99, 99]];
     assert!(rt; are_copies(alloc, &disk, &clip, &copied)?);
     let cells: [&[i16]; 2] = [&[1, 5], &[7]];
     assert!(rt; mean(alloc, &mut disk, &plans, &cells, &[&[19], &[20]])?);
-    let (_, plans) = split_cut(alloc, run.as_slice(), 2, 1, 4, 4, 21)?;
+    let (_, plans) = split_cut(alloc, &run, 2, 1, 4, 4, 21)?;
     let cells: [&[i16]; 2] = [&[1, 99, 99, 99, 5], &[7]];
     assert!(rt; mean(alloc, &mut disk, &plans, &cells, &[&[21, 22], &[23]])?);
     Ok(())
 }
 
 /// What is copied of the two tracks and put into them, at block size 4.
-fn pasted(alloc: Global, run: &[Layout], over: bool, at: u64, next: u64) -> Result<Plans, Refusal>
-    requires half_full { AllTracksHalfFull 4 run.now }
+fn pasted(alloc: Global, run: &[&Layout], over: bool, at: u64, next: u64) -> Result<Plans, Refusal>
+    requires half_full { AllTracksHalfFull 4 (layouts run.now) }
     requires room { next ≤ 2 ^ 62 }
 {
     let clip = copy(alloc, run, 2, 1, 4)?;
@@ -241,11 +244,12 @@ fn pasted(alloc: Global, run: &[Layout], over: bool, at: u64, next: u64) -> Resu
 fn pastes(rt: HostRuntime) -> Result<(), Fail> {
     let alloc = rt.alloc();
     let mut disk = Disk::new(alloc);
-    let run = two_tracks(alloc, &mut disk)?;
-    let plans = pasted(alloc, run.as_slice(), false, 2, 19)?;
+    let (first, second) = two_tracks(alloc, &mut disk)?;
+    let run = [&first, &second];
+    let plans = pasted(alloc, &run, false, 2, 19)?;
     let cells: [&[i16]; 2] = [&[1, 2, 2, 3, 4, 3, 4, 5], &[7, 8, 8]];
     assert!(rt; mean(alloc, &mut disk, &plans, &cells, &[&[19, 20, 17], &[21]])?);
-    let plans = pasted(alloc, run.as_slice(), true, 1, 22)?;
+    let plans = pasted(alloc, &run, true, 1, 22)?;
     let cells: [&[i16]; 2] = [&[1, 2, 3, 4, 5], &[7, 8]];
     assert!(rt; mean(alloc, &mut disk, &plans, &cells, &[&[22, 23], &[24]])?);
     Ok(())

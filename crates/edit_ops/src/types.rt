@@ -43,6 +43,13 @@ impl NewBlocks {
     {
         self.items.as_slice()
     }
+
+    /// The blocks as a vector, each of them moved and none copied. It takes no memory.
+    pub fn into_vec(self) -> Vec<NewBlock>
+        ensures { result.items ≡ self }
+    {
+        self.items
+    }
 }
 
 /// What an edit makes of a track: its new layout, the blocks that are to be written before it holds, and the id that
@@ -90,6 +97,13 @@ impl Strips {
     {
         self.items.as_slice()
     }
+
+    /// The strips as a vector, each of them moved and none copied. It takes no memory.
+    pub fn into_vec(self) -> Vec<Strip>
+        ensures { result.items ≡ self }
+    {
+        self.items
+    }
 }
 
 /// A plan for each track of a run, in the project's order. Contracts see them as a list.
@@ -120,5 +134,12 @@ impl Plans {
         ensures { result.now ≡ self.now }
     {
         self.items.as_slice()
+    }
+
+    /// The plans as a vector, each of them moved and none copied. It takes no memory.
+    pub fn into_vec(self) -> Vec<Plan>
+        ensures { result.items ≡ self }
+    {
+        self.items
     }
 }

@@ -8,3 +8,9 @@ pub mod Steps
 pub mod SoundBodies
 pub mod Spelled
 pub mod ReadBack
+pub mod Lengths
+pub mod KeptBounds
+pub mod KeptOnce
+pub mod Leading
+pub mod Meanings
+pub mod MeantHistories

@@ -25,7 +25,7 @@ use Rattle.project_state.specs.Places.{blocks_at, lens_at, block_count, clip_at,
 use Rattle.project_state.specs.Spelling.{block_bytes, clip_bytes, side_byte, mute_byte, track_bytes, spelling}
 use Rattle.project_state.specs.Widths.{edit_widths, total_width, reach}
 use Rattle.project_state.proofs.Reaching.{reach_whole, sum_edit}
-use Rattle.project_state.specs.Tests.{least, most, least_len, block_tests, blocks_tests, clip_head_tests, clip_tests, clips_tests, settings_tests, track_tests, tracks_tests, head_tests, limits_at, edit_tests, length_test, kind_test, body_tests}
+use Rattle.project_state.specs.FirstFault.{least, most, least_len, block_tests, blocks_tests, clip_head_tests, clip_tests, clips_tests, settings_tests, track_tests, tracks_tests, head_tests, limits_at, edit_tests, length_test, kind_test, body_tests}
 use Rattle.project_state.specs.Tracks.{AreAbove}
 use Rattle.project_state.specs.Sound.{AllGiven, AllClipsGiven, AllSoundTracks, IsSoundEdit, IsSound}
 

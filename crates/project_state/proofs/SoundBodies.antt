@@ -12,7 +12,7 @@ use Rattle.project_state.specs.declared.limits.Before.{Before}
 use Rattle.project_state.specs.declared.body.Body.TheVariants.{Undo, Redo, Purge}
 use Rattle.project_state.specs.Tracks.{AreAbove}
 use Rattle.project_state.proofs.Sizes.{length-tracks_at}
-use Rattle.project_state.specs.Tests.{least_len, block_tests, blocks_tests, clip_head_tests, clip_tests, clips_tests, settings_tests, track_tests, tracks_tests, head_tests, edit_tests, limits_at, body_tests}
+use Rattle.project_state.specs.FirstFault.{least_len, block_tests, blocks_tests, clip_head_tests, clip_tests, clips_tests, settings_tests, track_tests, tracks_tests, head_tests, edit_tests, limits_at, body_tests}
 use Rattle.project_state.proofs.Numbers.{AreBytes, field_small}
 use Rattle.project_state.proofs.Passing.{Pass, pass_parts}
 

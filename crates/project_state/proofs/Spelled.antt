@@ -17,7 +17,7 @@ use Rattle.project_state.proofs.Numbers.{AreBytes, AreBytes-drop, number_back}
 use Rattle.project_state.proofs.Passing.{Pass, all_pass, pass_parts}
 use Rattle.project_state.proofs.Reaching.{edit_size}
 use Rattle.project_state.proofs.Sizes.{length-blocks_at, length-clips_at, length-tracks_at}
-use Rattle.project_state.specs.Tests.{track_tests, tracks_tests, settings_tests, clips_tests, head_tests, edit_tests, limits_at, body_tests}
+use Rattle.project_state.specs.FirstFault.{track_tests, tracks_tests, settings_tests, clips_tests, head_tests, edit_tests, limits_at, body_tests}
 
 -- These bytes stand from one place up to another.
 record Stands (part : List ℕ) (at end : ℕ) (bytes : List ℕ) : Type 0 where

@@ -4,7 +4,7 @@ use Rattle.project_journal.specs.Header.{first_failed}
 use Rattle.project_journal.specs.declared.fault.Damaged.{Damaged}
 use Rattle.project_state.specs.declared.limits.BadBody.{BadBody}
 use Rattle.project_state.specs.declared.limits.BadBody.TheVariants as bad
-use Rattle.project_state.specs.Tests.{Finds}
+use Rattle.project_state.specs.FirstFault.{Finds}
 use Rattle.project_state.proofs.Passing.{passed, failed}
 
 -- the tests of n parts are those of one, and of those behind it

@@ -2,5 +2,9 @@ pub mod Tracks
 pub mod Spelling
 pub mod Places
 pub mod Widths
-pub mod Tests
+pub mod FirstFault
 pub mod Sound
+pub mod Lengths
+pub mod Kept
+pub mod KeptSound
+pub mod Laws

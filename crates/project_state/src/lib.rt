@@ -3,11 +3,13 @@
 //!
 //! The layers above use `Point` as a list of tracks with rising ids, `write_body`, which gives the one spelling of a
 //! body, and `read_body`, which gives the body of a spelling, or the first field that is not as it has to be. No sample
-//! is held, and no disk is used here: bytes come and go as vectors and slices.
+//! is held, and no disk is used here: bytes come and go as vectors and slices. `specs/Kept.antt` says which project a
+//! disk keeps: that to which the records of its journal lead.
 #![tactic(auto)]
 
 mod body;
 mod bounds;
+mod laws;
 mod limits;
 mod measuring;
 mod point;
@@ -21,6 +23,7 @@ mod track;
 mod writing;
 
 pub use body::Body;
+pub use laws::disks_keep_one_project;
 pub use limits::{BadBody, Before};
 pub use point::{MAX_TRACKS, Point};
 pub use reading::read_body;

@@ -1,7 +1,7 @@
 // A point of the history: a project.
 ghost use Rattle.std.specs.Prelude.{◌≡◌, ◌≤◌, ◌<◌, [], ◌∷◌, ◌++◌, length, slice_get, Some, None, IfOk, OnOk, OnErr, MatchResult};
 ghost use Rattle.pcm_base.specs.declared.refusal.Refusal.TheVariants as refusal;
-ghost use Rattle.project_state.specs.Tracks.{AllBelow, track_of, Adds};
+ghost use Rattle.project_state.specs.Tracks.{AllBelow, AreAbove, track_of, Adds};
 
 use super::track::Track;
 use indexmap::IndexMap;
@@ -46,6 +46,7 @@ impl Point {
     pub fn len(&self) -> usize
         ensures value { result ≡ length self.now }
         ensures few { result ≤ 64 }
+        ensures rising { AreAbove 0 self.now }
     {
         self.tracks.len()
     }
@@ -97,10 +98,8 @@ impl Point {
         if self.len() == MAX_TRACKS {
             return Err(Refusal::TrackLimit);
         }
-        match self.push(track) {
-            Ok(()) => Ok(()),
-            Err(_) => Err(Refusal::NoMemory),
-        }
+        self.push(track)?;
+        Ok(())
     }
 
     /// Another point of the same tracks; references to blocks are copied, and no sample.

@@ -1,8 +1,8 @@
 // A body out of its bytes.
 ghost use Rattle.std.specs.Prelude.{◌≡◌, ◌+◌, ◌≤◌, ◌<◌, ⊤, [], ◌∷◌, length, MatchResult};
 ghost use Rattle.project_state.specs.Places as there;
-ghost use Rattle.project_state.specs.Tests as test;
-ghost use Rattle.project_state.specs.Tests.{Tells, Finds};
+ghost use Rattle.project_state.specs.FirstFault as test;
+ghost use Rattle.project_state.specs.FirstFault.{Tells, Finds};
 ghost use Rattle.project_state.specs.Sound.{IsSound};
 ghost use Rattle.project_state.specs.declared.body.Body.{Body};
 ghost use Rattle.project_state.specs.declared.limits.BadBody.TheVariants as bad;

@@ -1,8 +1,8 @@
 // The clips of a track out of their bytes.
 ghost use Rattle.std.specs.Prelude.{◌≡◌, ◌+◌, ◌*◌, ◌^◌, ◌≤◌, nat_lt, length};
 ghost use Rattle.project_state.specs.Places as there;
-ghost use Rattle.project_state.specs.Tests as test;
-ghost use Rattle.project_state.specs.Tests.{Tells, Finds};
+ghost use Rattle.project_state.specs.FirstFault as test;
+ghost use Rattle.project_state.specs.FirstFault.{Tells, Finds};
 
 use super::bounds::{least, most, place};
 use super::limits::{BadBody, Limits};

@@ -1,8 +1,12 @@
 // The one spelling of a body.
-ghost use Rattle.std.specs.Prelude.{◌≡◌, ◌+◌, ◌*◌, ◌≤◌, ◌^◌, ◌∷◌, [], ◌++◌, length, drop, IsOk, OnOk, OnErr, vec_capacity};
+ghost use Rattle.std.specs.Prelude.{◌≡◌, ℕ, ◌+◌, ◌*◌, ◌≤◌, ◌<◌, ◌^◌, ◌∷◌, [], ◌++◌, length, drop, IsOk, OnOk, OnErr, vec_capacity};
 ghost use Rattle.std.specs.List.{flat_map};
 ghost use Rattle.byteorder.specs.Endian.{little_bytes};
+ghost use Rattle.pcm_base.specs.Pieces.{Sources};
 ghost use Rattle.clip_track.specs.Clips.{IsLayout};
+ghost use Rattle.pcm_base.specs.Sizes.{project_body_most};
+ghost use Rattle.project_state.specs.Kept.{meant};
+ghost use Rattle.project_state.specs.Lengths.{AreHalfFull, AreLayouts, told_tracks};
 ghost use Rattle.project_state.specs.Spelling.{block_bytes, clip_bytes, track_bytes, project_bytes, side_byte, mute_byte, spelling};
 
 use super::body::Body;
@@ -42,6 +46,7 @@ fn clips_len(clips: &[Clip]) -> usize
 pub(crate) fn track_len(track: &Track) -> usize
     ensures value { result ≡ length (track_bytes track.now) }
     ensures few { result ≤ 2 ^ 37 }
+    ensures layout { IsLayout track.now.layout }
 {
     TRACK_HEAD + clips_len(track.layout.as_slice())
 }
@@ -49,6 +54,8 @@ pub(crate) fn track_len(track: &Track) -> usize
 fn tracks_len(point: &Point) -> usize
     ensures value { result ≡ length (flat_map track_bytes point.now) }
     ensures few { result ≤ 2 ^ 43 }
+    ensures tracks { length point.now ≤ 64 }
+    ensures layouts { AreLayouts point.now }
 {
     let mut len = 0;
     for i in 0..point.len() {
@@ -61,6 +68,8 @@ fn tracks_len(point: &Point) -> usize
 pub fn body_len(body: &Body) -> usize
     ensures value { result ≡ length (spelling body.now) }
     ensures few { result ≤ 2 ^ 44 }
+    ensures most { (src : Sources) (m : ℕ) → 0 < m → AreHalfFull m (told_tracks body.now) →
+        result ≤ project_body_most m (meant src (told_tracks body.now)) }
 {
     match body {
         Body::Edit { point, .. } => EDIT_HEAD + 4 + tracks_len(point),

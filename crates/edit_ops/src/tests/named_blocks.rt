@@ -1,7 +1,6 @@
 // How many blocks edits make, and which ones nothing names any more: figures by hand, at block size 4.
 ghost use Rattle.std.specs.Prelude.{◌≤◌, ◌^◌, IfOk};
 ghost use Rattle.clip_track.specs.Clips.{AllHalfFull};
-ghost use Rattle.edit_ops.specs.Runs.{AllTracksHalfFull};
 
 use super::disk::{Disk, ids, strip_ids};
 use super::plain::Edit;
@@ -74,16 +73,14 @@ fn blocks_come_free(rt: HostRuntime) -> Result<(), Fail> {
     assert!(rt; ids(alloc, &plan.layout)?.as_slice() == [16u64, 20, 19].as_slice());
     assert!(rt; free_ids(alloc, &disk, &plan.layout, &none)?.as_slice() == [17u64, 18].as_slice());
     // Two samples of block 16 and two of block 19 are left, in block 21. The clipboard names both, and block 20.
-    let run = vec![in alloc; plan.layout]?;
-    let (clipboard, plans) = cut(alloc, run.as_slice(), 1, 2, 8, 4, 21)?;
+    let (clipboard, plans) = cut(alloc, &[&plan.layout], 1, 2, 8, 4, 21)?;
     for plan in plans.as_slice() {
         let t = &plan.layout;
         assert!(rt; disk.write(alloc, &plan.makes, &[])?);
         assert!(rt; ids(alloc, t)?.as_slice() == [21u64].as_slice());
         assert!(rt; free_ids(alloc, &disk, t, &clipboard)?.as_slice() == [17u64, 18].as_slice());
         // What is copied next takes the clipboard's place, and is of block 21.
-        let run = vec![in alloc; t.copy()?]?;
-        let clipboard = copy(alloc, run.as_slice(), 1, 0, 2)?;
+        let clipboard = copy(alloc, &[t], 1, 0, 2)?;
         let want = [16u64, 17, 18, 19, 20];
         assert!(rt; free_ids(alloc, &disk, t, &clipboard)?.as_slice() == want.as_slice());
     }
@@ -91,48 +88,35 @@ fn blocks_come_free(rt: HostRuntime) -> Result<(), Fail> {
     Ok(())
 }
 
-/// A run of one track of some samples, whose blocks have the ids from `next` on.
-fn one_track(
-    alloc: Global,
-    disk: &mut Disk,
-    samples: &[i16],
-    next: u64,
-) -> Result<Vec<Layout>, Fail>
-    ensures { IfOk result (λ v. AllTracksHalfFull 4 v.items) }
-{
-    let plan = track(alloc, disk, samples, next)?;
-    Ok(vec![in alloc; plan.layout]?)
-}
-
 /// The first two cells of a track, put in front of another one.
-fn front_pasted(alloc: Global, run: &[Layout], onto: &[Layout], next: u64) -> Result<Plans, Refusal>
-    requires half_full { AllTracksHalfFull 4 run.now }
-    requires half_full_onto { AllTracksHalfFull 4 onto.now }
+fn front_pasted(alloc: Global, t: &Layout, onto: &Layout, next: u64) -> Result<Plans, Refusal>
+    requires half_full { AllHalfFull 4 t.now }
+    requires half_full_onto { AllHalfFull 4 onto.now }
     requires room { next ≤ 2 ^ 62 }
 {
-    let clip = copy(alloc, run, 1, 0, 2)?;
-    if !are_small(0, clip.as_slice(), onto) {
+    let clip = copy(alloc, &[t], 1, 0, 2)?;
+    if !are_small(0, clip.as_slice(), &[onto]) {
         return Err(Refusal::NoMemory);
     }
-    paste(alloc, onto, Some(&clip), 0, 4, next)
+    paste(alloc, &[onto], Some(&clip), 0, 4, next)
 }
 
 #[test]
 fn a_cut_is_put_back(rt: HostRuntime) -> Result<(), Fail> {
     let alloc = rt.alloc();
     let mut disk = Disk::new(alloc);
-    let five = one_track(alloc, &mut disk, &[1, 2, 3, 4, 5], 16)?;
+    let five = track(alloc, &mut disk, &[1, 2, 3, 4, 5], 16)?.layout;
     // The rest of block 16 is too short, and takes in block 17. The clipboard names block 16.
-    let (clipboard, plans) = cut(alloc, five.as_slice(), 1, 0, 2, 4, 18)?;
+    let (clipboard, plans) = cut(alloc, &[&five], 1, 0, 2, 4, 18)?;
     assert!(rt; mean(alloc, &mut disk, &plans, &[&[3, 4, 5]], &[&[18]])?);
     assert!(rt; disk.samples(18) == [3i16, 4, 5].as_slice());
-    for plan in plans.as_slice() {
+    for plan in plans.into_vec() {
         assert!(rt;
             free_ids(alloc, &disk, &plan.layout, &clipboard)?.as_slice() == [17u64].as_slice()
         );
     }
-    let rest = one_track(alloc, &mut disk, &[3, 4, 5], 18)?;
-    let plans = front_pasted(alloc, five.as_slice(), rest.as_slice(), 19)?;
+    let rest = track(alloc, &mut disk, &[3, 4, 5], 18)?.layout;
+    let plans = front_pasted(alloc, &five, &rest, 19)?;
     assert!(rt; mean(alloc, &mut disk, &plans, &[&[1, 2, 3, 4, 5]], &[&[19, 18]])?);
     assert!(rt; disk.samples(19) == [1i16, 2].as_slice());
     let none = Strips::from_vec(Vec::new(alloc));

@@ -2,12 +2,11 @@
 use Rattle.std.proofs.Common.{◌++◌, List, sym, ap, subst, ◌∙◌, arith}
 use Rattle.pcm_base.specs.Cells.{trimmed}
 use Rattle.clip_track.specs.declared.items.Item.{Item}
-use Rattle.clip_track.specs.Items.{strip_cells}
+use Rattle.clip_track.specs.Items.{strip_cells, strip_blocks}
 use Rattle.edit_ops.specs.Placing.{placed}
-use Rattle.edit_ops.specs.Plans.{layout_blocks}
-use Rattle.edit_ops.specs.Strips.{strip_blocks}
 use Rattle.edit_ops.proofs.Pastes.{tame_placed, cells_placed}
 use Rattle.edit_ops.proofs.Tame.{Tame, tame_layout}
+use Rattle.clip_track.specs.Clips.{layout_blocks}
 use Rattle.edit_ops.proofs.placing.plan_placed.Goals as goal
 
 pub plan_strip-requires-clause-fit : goal.plan_strip-requires-clause-fit

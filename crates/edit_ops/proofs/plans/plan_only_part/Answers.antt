@@ -6,9 +6,9 @@ use Rattle.pcm_base.specs.Cells.{trimmed}
 use Rattle.pcm_base.specs.Edits.{part}
 use Rattle.clip_track.specs.declared.items.Item.{Item}
 use Rattle.clip_track.specs.Items.{strip_cells}
-use Rattle.edit_ops.specs.Plans.{layout_blocks}
 use Rattle.edit_ops.proofs.StripCells.{cells_only_part}
 use Rattle.edit_ops.proofs.Tame.{Tame, tame_layout, tame_only_part}
+use Rattle.clip_track.specs.Clips.{layout_blocks}
 use Rattle.edit_ops.proofs.plans.plan_only_part.Goals as goal
 
 pub plan_strip-requires-clause-fit : goal.plan_strip-requires-clause-fit

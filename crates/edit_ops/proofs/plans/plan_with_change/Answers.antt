@@ -8,13 +8,13 @@ use Rattle.clip_track.specs.Items.{strip_cells}
 use Rattle.block_sequence.specs.Room.{First}
 use Rattle.clip_track.specs.Room.{strip_room}
 use Rattle.edit_ops.specs.Changes.{cell_change}
-use Rattle.edit_ops.specs.Counts.{sample_count, clip_count}
-use Rattle.edit_ops.specs.Plans.{layout_blocks}
+use Rattle.pcm_base.specs.Sizes.{sample_count, clip_count}
 use Rattle.edit_ops.specs.Strips.{AllOld, ItemsFrom, with_change}
 use Rattle.edit_ops.proofs.ChangedItems.{AllOld-items}
 use Rattle.edit_ops.proofs.Roomy.{Smooth, few_changed}
 use Rattle.edit_ops.proofs.StripCells.{cells_with_change}
 use Rattle.edit_ops.proofs.Tame.{fit_change, from_change, ItemsFrom-layout}
+use Rattle.clip_track.specs.Clips.{layout_blocks}
 use Rattle.edit_ops.proofs.plans.plan_with_change.Goals as goal
 
 pub plan_strip-requires-clause-fit : goal.plan_strip-requires-clause-fit

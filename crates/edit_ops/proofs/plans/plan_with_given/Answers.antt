@@ -6,11 +6,11 @@ use Rattle.clip_track.specs.declared.items.Item.{Item}
 use Rattle.clip_track.specs.Items.{strip_cells, strip_len, ItemsFit}
 use Rattle.block_sequence.specs.Room.{First}
 use Rattle.clip_track.specs.Room.{strip_room}
-use Rattle.edit_ops.specs.Plans.{layout_blocks}
 use Rattle.edit_ops.specs.Strips.{ItemsFrom, given_items, with_inserted}
 use Rattle.edit_ops.proofs.Roomy.{Smooth, few_inserted}
 use Rattle.edit_ops.proofs.StripCells.{cells_with_inserted, cells_given}
 use Rattle.edit_ops.proofs.Tame.{fit_inserted, from_inserted, given_fit, given_from, given_len, ItemsFrom-layout}
+use Rattle.clip_track.specs.Clips.{layout_blocks}
 use Rattle.edit_ops.proofs.plans.plan_with_given.Goals as goal
 
 pub with_inserted-requires : goal.with_inserted-requires

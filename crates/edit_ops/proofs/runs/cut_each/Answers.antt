@@ -1,35 +1,38 @@
 -- The goals of `cut_each` that the search leaves open.
-use Rattle.std.proofs.Common.{◌≡◌, ℕ, ◌+◌, List, [], ◌∷◌, ◌++◌, take, sym, ap, subst, ◌∙◌, arith}
-use Rattle.std.proofs.lemmas.List.{take_more}
+use Rattle.std.proofs.Common.{ℕ, List, [], ◌∷◌, ◌++◌, take, sym, subst, arith}
 use Rattle.clip_track.specs.declared.clips.Clip.{Clip}
 use Rattle.clip_track.specs.Clips.{AllHalfFull}
 use Rattle.edit_ops.specs.Removing.{removed}
-use Rattle.edit_ops.specs.Runs.{AreCuts, IsCut}
-use Rattle.edit_ops.proofs.RunLists.{half_full_at, AreCuts-push, next_of-push}
+use Rattle.edit_ops.specs.Runs.{AreCuts, IsCut, layouts}
+use Rattle.edit_ops.proofs.RunLists.{half_full_at, AreCuts-push, next_of-push, layouts_at, layouts_more, length-layouts}
 use Rattle.edit_ops.proofs.runs.cut_each.Goals as goal
 
 pub plan_removal-requires-clause-half_full : goal.plan_removal-requires-clause-half_full
 plan_removal-requires-clause-half_full c =
     let P : List Clip → Type 0 = AllHalfFull c.args.m in
-    subst P (sym c.t-item.is) (half_full_at c.args.m c.args.run.now c.loop-t.t-index c.t-item.result c.loop-t-test.true c.requires.half_full)
+    let run = c.args.run.now in
+    let t = c.t-item.result in
+    let i = c.loop-t.t-index in
+    subst P (sym (layouts_at run i t c.loop-t-test.true c.t-item.is))
+    (half_full_at c.args.m (layouts run) i t.now (omega (arith, length-layouts run, c.loop-t-test.true)) c.requires.half_full)
 
 pub plan_removal-requires-clause-room : goal.plan_removal-requires-clause-room
-plan_removal-requires-clause-room c = omega arith
+plan_removal-requires-clause-room c = omega (arith, c.in_ok-plans.plans.small, c.in_ok-plans.ensures.exact, c.loop-t-test.true, c.loop-t.invariant.few)
 
 pub loop-t-preserved : goal.loop-t-preserved
 loop-t-preserved c =
     let run = c.args.run.now in
     let i = c.loop-t.t-index in
-    let t = c.t-item.result in
+    let t = c.t-item.result.now in
     let p = c.in_ok-plan.plan in
     let plans = c.loop-t.plans.items in
     let edit = removed c.args.removing c.args.from c.args.to in
     let inv = c.loop-t.invariant in
-    let e : take (i + 1) run ≡ take i run ++ t ∷ [] = take_more run i t c.loop-t-test.true ∙ ap (λ (x : List Clip). take i run ++ x ∷ []) (sym c.t-item.is) in
+    let e = layouts_more run i c.t-item.result c.loop-t-test.true c.t-item.is in
     let P : List (List Clip) → Type 0 = λ ts. AreCuts edit c.args.m c.args.next ts (plans ++ p ∷ []) in
     let Q : ℕ → Type 0 = λ n. IsCut edit c.args.m n t p in
     rw c.in_ok-push.ensures.items (record {
-      cuts = subst P (sym e) (AreCuts-push edit c.args.m c.args.next (take i run) plans t p inv.cuts (subst Q inv.same_id c.in_ok-plan.ensures));
+      cuts = subst P (sym e) (AreCuts-push edit c.args.m c.args.next (take i (layouts run)) plans t p inv.cuts (subst Q inv.same_id c.in_ok-plan.ensures));
       same_id = sym (next_of-push c.args.next plans p);
       few = omega (arith, inv.few, c.in_ok-plan.ensures.plan.next_id, c.in_ok-plan.ensures.few_made);
     })

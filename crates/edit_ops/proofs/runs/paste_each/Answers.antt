@@ -7,14 +7,17 @@ use Rattle.clip_track.specs.Clips.{AllHalfFull, end_of}
 use Rattle.clip_track.specs.Items.{strip_len}
 use Rattle.edit_ops.specs.Placing.{placed, placed_length}
 use Rattle.edit_ops.specs.Strips.{IsClip}
-use Rattle.edit_ops.specs.Runs.{IsPaste}
-use Rattle.edit_ops.proofs.RunLists.{half_full_at, clip_at, length_at, ArePastes-push, next_of-push}
+use Rattle.edit_ops.specs.Runs.{IsPaste, layouts}
+use Rattle.edit_ops.proofs.RunLists.{half_full_at, clip_at, length_at, ArePastes-push, next_of-push, layouts_at, layouts_more, length-layouts}
 use Rattle.edit_ops.proofs.runs.paste_each.Goals as goal
 
 pub plan_placed-requires-clause-half_full : goal.plan_placed-requires-clause-half_full
 plan_placed-requires-clause-half_full c =
     let P : List Clip → Type 0 = AllHalfFull c.args.m in
-    subst P (sym c.index-run-i.is) (half_full_at c.args.m c.args.run.now c.loop-i.i c.index-run-i.result (omega arith) c.requires.half_full)
+    let run = c.args.run.now in
+    let t = c.index-run-i.result in
+    subst P (sym (layouts_at run c.loop-i.i t (omega arith) c.index-run-i.is))
+    (half_full_at c.args.m (layouts run) c.loop-i.i t.now (omega (arith, length-layouts run)) c.requires.half_full)
 
 pub plan_placed-requires-clause-clip : goal.plan_placed-requires-clause-clip
 plan_placed-requires-clause-clip c =
@@ -23,8 +26,10 @@ plan_placed-requires-clause-clip c =
 
 pub plan_placed-requires-clause-few : goal.plan_placed-requires-clause-few
 plan_placed-requires-clause-few c =
-    let f = length_at c.args.placing c.args.at c.args.clip.now c.args.run.now c.loop-i.i c.index-clip-i.result c.index-run-i.result (omega arith) (omega arith) c.requires.few in
-    let e = ap₂ (λ (x : List Item) (y : List Clip). placed_length c.args.placing c.args.at (strip_len x) (end_of 0 y)) c.index-clip-i.is c.index-run-i.is in
+    let run = c.args.run.now in
+    let t = c.index-run-i.result in
+    let f = length_at c.args.placing c.args.at c.args.clip.now (layouts run) c.loop-i.i c.index-clip-i.result t.now (omega arith) (omega (arith, length-layouts run)) c.requires.few in
+    let e = ap₂ (λ (x : List Item) (y : List Clip). placed_length c.args.placing c.args.at (strip_len x) (end_of 0 y)) c.index-clip-i.is (layouts_at run c.loop-i.i t (omega arith) c.index-run-i.is) in
     omega (arith, f, e)
 
 pub plan_placed-requires-clause-room : goal.plan_placed-requires-clause-room
@@ -35,7 +40,7 @@ loop-i-preserved c =
     let run = c.args.run.now in
     let clip = c.args.clip.now in
     let i = c.loop-i.i in
-    let t = c.index-run-i.result in
+    let t = c.index-run-i.result.now in
     let s = c.index-clip-i.result in
     let p = c.in_ok-plan.plan in
     let plans = c.loop-i.plans.items in
@@ -43,11 +48,11 @@ loop-i-preserved c =
     let inv = c.loop-i.invariant in
     let h : i < length clip = omega arith in
     let k : i < length run = omega arith in
-    let e : take (i + 1) run ≡ take i run ++ t ∷ [] = take_more run i t k ∙ ap (λ (x : List Clip). take i run ++ x ∷ []) (sym c.index-run-i.is) in
+    let e = layouts_more run i c.index-run-i.result k c.index-run-i.is in
     let f : take (i + 1) clip ≡ take i clip ++ s ∷ [] = take_more clip i s h ∙ ap (λ (x : List Item). take i clip ++ x ∷ []) (sym c.index-clip-i.is) in
     let Q : ℕ → Type 0 = λ n. IsPaste edit c.args.m n s t p in
     rw (c.in_ok-push.ensures.items, e, f) (record {
-      pastes = ArePastes-push edit c.args.m c.args.next (take i clip) (take i run) plans s t p inv.pastes (subst Q inv.same_id c.in_ok-plan.ensures);
+      pastes = ArePastes-push edit c.args.m c.args.next (take i clip) (take i (layouts run)) plans s t p inv.pastes (subst Q inv.same_id c.in_ok-plan.ensures);
       same_id = sym (next_of-push c.args.next plans p);
       few = omega (arith, inv.few, c.in_ok-plan.ensures.plan.next_id, c.in_ok-plan.ensures.few_made);
     })

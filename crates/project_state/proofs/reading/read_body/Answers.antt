@@ -8,7 +8,7 @@ use Rattle.project_state.specs.declared.limits.Before.{Before}
 use Rattle.project_state.specs.Places.{body_at}
 use Rattle.project_state.specs.Sound.{IsSound}
 use Rattle.project_state.specs.Spelling.{spelling}
-use Rattle.project_state.specs.Tests.{body_tests, Finds}
+use Rattle.project_state.specs.FirstFault.{body_tests, Finds}
 use Rattle.project_state.proofs.Numbers.{AreBytes}
 use Rattle.project_state.proofs.Passing.{all_pass}
 use Rattle.project_state.proofs.ReadBack.{read_back}

@@ -6,7 +6,7 @@ use Rattle.project_state.specs.declared.body.Body.{Body}
 use Rattle.project_state.specs.declared.limits.Limits.{Limits}
 use Rattle.project_state.specs.declared.track.Track.{Track}
 use Rattle.project_state.specs.Places.{track_count, tracks_at, edit_at}
-use Rattle.project_state.specs.Tests.{head_tests, edit_tests, tracks_tests, limits_at}
+use Rattle.project_state.specs.FirstFault.{head_tests, edit_tests, tracks_tests, limits_at}
 use Rattle.project_state.proofs.Passing.{all_pass, passed, failed}
 use Rattle.project_state.proofs.SoundBodies.{few_tracks}
 use Rattle.project_state.proofs.Steps.{finds_alike}

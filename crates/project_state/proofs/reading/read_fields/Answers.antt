@@ -1,5 +1,5 @@
 use Rattle.std.proofs.Common.{◌∷◌, [], arith}
-use Rattle.project_state.specs.Tests.{length_test, kind_test}
+use Rattle.project_state.specs.FirstFault.{length_test, kind_test}
 use Rattle.project_state.proofs.Passing.{all_pass}
 use Rattle.project_state.proofs.Reaching.{edit_size}
 use Rattle.project_state.proofs.reading.read_fields.Goals as goal

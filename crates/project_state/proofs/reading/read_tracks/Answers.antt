@@ -5,7 +5,7 @@ use Rattle.project_journal.specs.Fields.{field}
 use Rattle.project_state.specs.declared.track.Track.{Track}
 use Rattle.project_state.specs.Places.{track_at, track_size, tracks_at}
 use Rattle.project_state.specs.Spelling.{track_bytes}
-use Rattle.project_state.specs.Tests.{track_tests, tracks_tests}
+use Rattle.project_state.specs.FirstFault.{track_tests, tracks_tests}
 use Rattle.project_state.specs.Tracks.{AllBelow}
 use Rattle.project_state.proofs.Passing.{all_pass}
 use Rattle.project_state.proofs.Points.{AllBelow-higher, AllBelow-push}

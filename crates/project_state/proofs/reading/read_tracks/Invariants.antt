@@ -2,7 +2,7 @@
 use Rattle.std.proofs.Common.{◌≡◌, ◌+◌, ◌-◌, ◌++◌, length}
 use Rattle.project_journal.specs.Header.{first_failed}
 use Rattle.project_state.specs.Places.{tracks_at, tracks_size}
-use Rattle.project_state.specs.Tests.{tracks_tests}
+use Rattle.project_state.specs.FirstFault.{tracks_tests}
 use Rattle.project_state.specs.Tracks.{AllBelow}
 use Rattle.project_state.proofs.reading.read_tracks.Given as goal
 

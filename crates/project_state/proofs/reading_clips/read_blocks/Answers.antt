@@ -3,7 +3,7 @@ use Rattle.std.proofs.Common.{◌≡◌, ◌+◌, ◌-◌, ◌*◌, ◌<◌, ◌
 use Rattle.std.proofs.lemmas.Result.{err_from_is_err_and}
 use Rattle.project_journal.specs.Fields.{field}
 use Rattle.project_state.specs.Places.{blocks_at}
-use Rattle.project_state.specs.Tests.{block_tests, blocks_tests}
+use Rattle.project_state.specs.FirstFault.{block_tests, blocks_tests}
 use Rattle.project_state.proofs.Passing.{all_pass}
 use Rattle.project_state.proofs.Steps.{step_passes, step_fails, step_adds}
 use Rattle.project_state.proofs.reading_clips.read_blocks.Goals as goal

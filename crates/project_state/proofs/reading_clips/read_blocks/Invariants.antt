@@ -2,7 +2,7 @@
 use Rattle.std.proofs.Common.{◌≡◌, ◌+◌, ◌-◌, ◌*◌, ◌^◌, ◌≤◌, ◌++◌, nat_lt}
 use Rattle.project_journal.specs.Header.{first_failed}
 use Rattle.project_state.specs.Places.{blocks_at}
-use Rattle.project_state.specs.Tests.{blocks_tests}
+use Rattle.project_state.specs.FirstFault.{blocks_tests}
 use Rattle.project_state.proofs.reading_clips.read_blocks.Given as goal
 
 abbrev pub invariant-loop-i : goal.invariant-loop-i

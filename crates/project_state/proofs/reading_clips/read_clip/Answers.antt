@@ -1,7 +1,7 @@
 -- All tests of the clip passed.
 use Rattle.std.proofs.Common.{◌+◌, ◌^◌, ◌≤◌, nat_lt, [], ◌∷◌, sym, ap, subst, arith}
 use Rattle.pcm_base.specs.Blocks.{NoneEmpty, IsHalfFull, block_lens, blocks_len}
-use Rattle.project_state.specs.Tests.{blocks_tests}
+use Rattle.project_state.specs.FirstFault.{blocks_tests}
 use Rattle.project_state.proofs.Passing.{all_pass}
 use Rattle.project_state.proofs.SoundBodies.{sound_blocks, half_full, same_lens}
 use Rattle.project_state.proofs.reading_clips.read_clip.Goals as goal

@@ -6,7 +6,7 @@ use Rattle.clip_track.specs.Clips.{IsLayout, clip_end}
 use Rattle.project_journal.specs.Header.{first_failed}
 use Rattle.project_state.specs.Places.{block_count, clip_at, clip_end_at, clip_size, clips_at}
 use Rattle.project_state.specs.Spelling.{clip_bytes}
-use Rattle.project_state.specs.Tests.{clip_tests, clips_tests}
+use Rattle.project_state.specs.FirstFault.{clip_tests, clips_tests}
 use Rattle.project_state.proofs.Passing.{all_pass}
 use Rattle.project_state.proofs.Reaching.{clips_behind}
 use Rattle.project_state.proofs.Sizes.{size_of_clip}

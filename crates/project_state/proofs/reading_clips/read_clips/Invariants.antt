@@ -2,7 +2,7 @@
 use Rattle.std.proofs.Common.{◌≡◌, ◌+◌, ◌-◌, ◌++◌}
 use Rattle.project_journal.specs.Header.{first_failed}
 use Rattle.project_state.specs.Places.{clips_at, clips_size}
-use Rattle.project_state.specs.Tests.{clips_tests}
+use Rattle.project_state.specs.FirstFault.{clips_tests}
 use Rattle.project_state.proofs.reading_clips.read_clips.Given as goal
 
 abbrev pub invariant-loop : goal.invariant-loop

@@ -1,7 +1,10 @@
 -- One track more is counted.
-use Rattle.std.proofs.Common.{arith}
+use Rattle.std.proofs.Common.{arith, subst, sym, take}
 use Rattle.project_state.specs.Spelling.{track_bytes}
-use Rattle.project_state.proofs.Parts.{parts_left, drop_some}
+use Rattle.project_state.specs.Lengths.{AreLayouts}
+use Rattle.project_state.proofs.Parts.{parts_left, drop_some, take_some}
+use Rattle.project_state.proofs.Lengths.{AreLayouts-push}
+use Rattle.std.proofs.lemmas.List.{take_all}
 use Rattle.project_state.proofs.writing.tracks_len.Goals as goal
 
 pub loop-i-preserved : goal.loop-i-preserved
@@ -10,4 +13,9 @@ loop-i-preserved c =
     record {
       same = omega (arith, left, c.track_len-len.ensures.value, c.loop-i.invariant.same);
       few = omega (arith, c.track_len-len.ensures.few, c.loop-i.invariant.few);
+      layouts = subst AreLayouts (sym (take_some c.args.point.now c.loop-i.i _ c.track_at.ensures))
+          (AreLayouts-push (take c.loop-i.i c.args.point.now) _ c.loop-i.invariant.layouts c.track_len-len.ensures.layout);
     }
+
+pub returns-clause-layouts : goal.returns-clause-layouts
+returns-clause-layouts c = subst AreLayouts (take_all c.loop-i.i c.args.point.now (omega (arith, c.loop-i-test.false, c.len-i-end.ensures.value))) c.loop-i.invariant.layouts

@@ -1,5 +1,5 @@
 use Rattle.std.proofs.Common.{◌≡◌, take}
-use Rattle.block_ledger.proofs.Lookups.{named_in}
+use Rattle.block_ledger.proofs.Listed.{named_in}
 use Rattle.block_ledger.proofs.ledger.Ledger.all_named.Given as goal
 
 abbrev pub invariant-loop-entry : goal.invariant-loop-entry

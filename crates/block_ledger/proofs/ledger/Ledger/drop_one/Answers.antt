@@ -2,6 +2,8 @@
 use Rattle.std.proofs.Common.{◌∙◌, Some, ap, subst, ℕ, Option}
 use Rattle.block_ledger.specs.Counts.{IsNamed, one_less}
 use Rattle.block_ledger.proofs.Lookups.{absent_gap, read_count, put_count}
+use Rattle.block_ledger.specs.Entries.{count_of}
+use Rattle.block_ledger.proofs.Times.{fresh_less}
 use Rattle.block_ledger.proofs.ledger.Ledger.drop_one.Goals as goal
 
 pub returns-in-Ok-clause-counts : goal.returns-in-Ok-clause-counts
@@ -14,3 +16,10 @@ returns-in-Ok-clause-counts c =
 
 pub returns-in_default-clause-counts : goal.returns-in_default-clause-counts
 returns-in_default-clause-counts c = absurd (subst IsNamed (absent_gap c.args.self.now.entries c.args.id c.in_default.field-0 c.in_default.ensures.absent) c.requires)
+
+pub returns-in-Ok-clause-fresh : goal.returns-in-Ok-clause-fresh
+returns-in-Ok-clause-fresh c = λ ids fresh.
+    fresh_less ids (count_of c.args.self.now) (count_of c.set_count.new.self) c.args.id (returns-in-Ok-clause-counts c) fresh
+
+pub returns-in_default-clause-fresh : goal.returns-in_default-clause-fresh
+returns-in_default-clause-fresh c = absurd (subst IsNamed (absent_gap c.args.self.now.entries c.args.id c.in_default.field-0 c.in_default.ensures.absent) c.requires)

@@ -3,6 +3,8 @@ use Rattle.std.proofs.Common.{◌∙◌, ⊎_elim, Some, IsSome, ap, subst, ℕ,
 use mathlib.Core.Bool.{false≢true}
 use Rattle.block_ledger.specs.Counts.{one_more}
 use Rattle.block_ledger.proofs.Lookups.{absent_gap, read_count, put_count, add_count}
+use Rattle.block_ledger.specs.Entries.{count_of}
+use Rattle.block_ledger.proofs.Times.{fresh_more}
 use Rattle.block_ledger.proofs.ledger.Ledger.hold.Goals as goal
 
 pub add-requires-clause-room : goal.add-requires-clause-room
@@ -24,3 +26,11 @@ returns-in-Err-clause-counts c = add_count c.args.self.now.entries c.add.new.sel
 
 pub returns-in-Err-clause-there : goal.returns-in-Err-clause-there
 returns-in-Err-clause-there c = λ there. absurd (false≢true (subst IsSome (absent_gap c.args.self.now.entries c.args.id c.in-Err.i c.in-Err.ensures.absent) there))
+
+pub returns-in-Ok-clause-fresh : goal.returns-in-Ok-clause-fresh
+returns-in-Ok-clause-fresh c = λ ids few fresh.
+    fresh_more ids (count_of c.args.self.now) (count_of c.set_count.new.self) c.args.id few (returns-in-Ok-clause-counts c) fresh
+
+pub returns-in-Err-clause-fresh : goal.returns-in-Err-clause-fresh
+returns-in-Err-clause-fresh c = λ ids few fresh.
+    fresh_more ids (count_of c.args.self.now) (count_of c.add.new.self) c.args.id few (returns-in-Err-clause-counts c) fresh

@@ -1,0 +1,17 @@
+-- What the loop of `pass_blocks` keeps.
+use Rattle.std.proofs.Common.{◌≡◌, ◌<◌, ◌++◌, length}
+use Rattle.pcm_base.specs.Blocks.{NoneEmpty, blocks_len}
+use Rattle.clip_track.specs.Items.{items_after}
+use Rattle.clip_track.specs.Clips.{items_from, sound_items}
+use Rattle.clip_track.specs.Rests.{left_items}
+use Rattle.clip_track.proofs.rest.pass_blocks.Given as goal
+
+abbrev pub invariant-rows : goal.invariant-rows
+invariant-rows l = record {
+  within : l.skip < blocks_len l.blocks;
+  some : NoneEmpty l.blocks;
+  items : items_after l.skip (sound_items l.blocks ++ items_from l.left.end l.left.clips.now) ≡ items_after l.count (left_items l.fn.left);
+}
+
+abbrev pub decreases-rows : goal.decreases-rows
+decreases-rows l = length l.blocks

@@ -1,0 +1,40 @@
+-- What is left of a layout from a place on.
+use Rattle.std.specs.Prelude.{◌≡◌, ℕ, ◌≤◌, ◌<◌, ◌^◌, List, [], ◌∷◌, ◌++◌, Option, MatchOption}
+use Rattle.pcm_base.specs.declared.block.BlockRef.{BlockRef}
+use Rattle.pcm_base.specs.declared.piece.Piece.TheVariants.{Old}
+use Rattle.pcm_base.specs.Blocks.{NoneEmpty}
+use Rattle.clip_track.specs.declared.items.Item.{Item}
+use Rattle.clip_track.specs.declared.items.Item.TheVariants.{Gap, Sound}
+use Rattle.clip_track.specs.declared.rest.Left.{Left}
+use Rattle.clip_track.specs.declared.rest.Stretch.{Stretch}
+use Rattle.clip_track.specs.declared.rest.Stretch.TheVariants.{Gaps, Block}
+use Rattle.clip_track.specs.Items.{gap_items}
+use Rattle.clip_track.specs.Clips.{AreClips, end_of, items_from, sound_items}
+
+-- a stretch as an item of a strip
+abbrev pub stretch_item : Stretch → Item
+stretch_item (Gaps len) = Gap len
+stretch_item (Block b from) = Sound (Old b from b.len)
+
+-- the next stretch of some items, where there is one, and what is left behind it
+abbrev pub IsNext : List Item → Option Stretch → List Item → Type 0
+IsNext old next new = MatchOption next ((old ≡ []) × (new ≡ [])) (λ s. old ≡ stretch_item s ∷ new)
+
+-- blocks, of the first of which so many samples are passed
+abbrev pub sound_from : ℕ → List BlockRef → List Item
+sound_from passed [] = []
+sound_from passed (b ∷ bs) = Sound (Old b passed b.len) ∷ sound_items bs
+
+abbrev pub IsWithin : ℕ → List BlockRef → Type 0
+IsWithin passed [] = Unit {0}
+IsWithin passed (b ∷ bs) = passed < b.len
+
+-- what is left: gaps, blocks of a clip, and the clips behind it
+abbrev pub left_items : Left → List Item
+left_items l = (gap_items l.gaps ++ sound_from l.passed l.blocks.now) ++ items_from l.end l.clips.now
+
+pub record IsLeft (l : Left) : Type 0 where
+  pub within : IsWithin l.passed l.blocks.now
+  pub some : NoneEmpty l.blocks.now
+  pub apart : AreClips l.end l.clips.now
+  pub few : end_of l.end l.clips.now ≤ 2 ^ 32

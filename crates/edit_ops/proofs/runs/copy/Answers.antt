@@ -1,0 +1,10 @@
+-- The layouts behind the first references.
+use Rattle.std.proofs.Common.{List, subst}
+use Rattle.clip_track.specs.declared.clips.Clip.{Clip}
+use Rattle.edit_ops.specs.Runs.{AreCopies}
+use Rattle.edit_ops.proofs.RunLists.{layouts_take}
+use Rattle.edit_ops.proofs.runs.copy.Goals as goal
+
+pub returns-clause-copies : goal.returns-clause-copies
+returns-clause-copies c =
+    subst (λ (ts : List (List Clip)). AreCopies c.args.from c.args.to ts c.in_ok-strips.strips) (layouts_take c.args.n c.args.run.now) c.in_ok-strips.ensures

@@ -1,0 +1,103 @@
+-- What the records of a journal lead to, one after another, and the project that a disk keeps.
+use Rattle.std.specs.Prelude.{◌≡◌, ℕ, ◌+◌, ◌-◌, ◌≤◌, ◌<◌, List, [], ◌∷◌, length, map}
+use Rattle.std.specs.List.{flat_map, AllByRecursion}
+use Rattle.pcm_base.specs.declared.block.BlockRef.{BlockRef}
+use Rattle.pcm_base.specs.Pieces.{Sources}
+use Rattle.pcm_base.specs.Cells.{Project}
+use Rattle.pcm_base.specs.Cells as cells
+use Rattle.pcm_base.specs.History.{History, history_of_one, recorded, at_cursor, purged}
+use Rattle.clip_track.specs.Clips.{layout_cells}
+use Rattle.clip_track.specs.Clips.{layout_blocks}
+use Rattle.disk_model.specs.Disk.{Files}
+use Rattle.sample_block.specs.Sources.{sources_of, IsWhole}
+use Rattle.project_journal.specs.Header.{version_1}
+use Rattle.project_journal.specs.Journal.{Log, HasLog}
+use Rattle.project_state.specs.declared.track.Track.{Track}
+use Rattle.project_state.specs.declared.body.Body.{Body}
+use Rattle.project_state.specs.declared.body.Body.TheVariants.{Edit, Undo, Redo, Purge}
+use Rattle.project_state.specs.declared.limits.Before.{Before}
+use Rattle.project_state.specs.Sound.{IsSound}
+use Rattle.project_state.specs.Spelling.{spelling}
+
+-- points as tracks of blocks, and the numbers that never fall
+pub record Kept : Type 0 where
+  pub history : History (List Track)
+  pub next_block : ℕ
+  pub next_track : ℕ
+  pub commit : ℕ
+
+-- a project without commits, which keeps so many points
+abbrev pub new_project : ℕ → Kept
+new_project depth = record { history = history_of_one [] 0 depth; next_block = 16; next_track = 1; commit = 0 }
+
+-- what a record makes of it
+abbrev pub after_body : Kept → Body → Kept
+after_body k (Edit tag next_block next_track point) = record { history = recorded k.history point tag; next_block = next_block; next_track = next_track; commit = k.commit + 1 }
+after_body k Undo = record k { history = at_cursor k.history (k.history.cursor - 1); commit = k.commit + 1 }
+after_body k Redo = record k { history = at_cursor k.history (k.history.cursor + 1); commit = k.commit + 1 }
+after_body k (Purge n) = record k { history = purged k.history n; commit = k.commit + 1 }
+
+-- what the history asks of a record
+abbrev pub MayFollow : History (List Track) → Body → Type 0
+MayFollow h (Edit tag next_block next_track point) = Unit {0}
+MayFollow h Undo = 0 < h.cursor
+MayFollow h Redo = h.cursor + 1 < length h.points
+MayFollow h (Purge n) = (1 ≤ n) × (n ≤ h.cursor)
+
+abbrev pub before_of : Kept → Before
+before_of k = record { at = 0; next_block = k.next_block; next_track = k.next_track; commits = k.commit }
+
+-- a record that may come next, at block size m: its bytes and what they say
+pub record IsNext (m : ℕ) (k : Kept) (bytes : List ℕ) (body : Body) : Type 0 where
+  pub spelled : bytes ≡ spelling body
+  pub sound : IsSound m (before_of k) body
+  pub follows : MayFollow k.history body
+
+-- from one project the records lead to another
+abbrev pub LeadTo : ℕ → Kept → List (List ℕ) → Kept → Type 0
+LeadTo m k [] end = end ≡ k
+LeadTo m k (bytes ∷ more) end = (body : Body) × IsNext m k bytes body × LeadTo m (after_body k body) more end
+
+-- what tracks of blocks mean
+abbrev pub meant_track : Sources → Track → cells.Track
+meant_track src t = record { id = t.id; gain = t.gain; side = t.side; mute = t.mute; cells = layout_cells src t.layout }
+
+abbrev pub meant : Sources → List Track → Project
+meant src ts = map (meant_track src) ts
+
+abbrev pub meant_history : Sources → History (List Track) → History Project
+meant_history src h = record { points = map (λ p. (meant src p.0, p.1)) h.points; cursor = h.cursor; depth = h.depth }
+
+-- the blocks that tracks name, and those that a history's points name
+abbrev pub point_blocks : List Track → List BlockRef
+point_blocks ts = flat_map (λ t. layout_blocks t.layout) ts
+
+abbrev pub history_blocks : History (List Track) → List BlockRef
+history_blocks h = flat_map (λ p. point_blocks p.0) h.points
+
+-- what opening a disk finds
+pub record Opened : Type 0 where
+  pub rate : ℕ
+  pub block_size : ℕ
+  pub history : History Project
+  pub next_track : ℕ
+  pub commit : ℕ
+
+-- what a project of blocks is, by the samples of these blocks
+abbrev pub opened : Log → Kept → Files → Opened
+opened log k files = record {
+  rate = log.rate;
+  block_size = log.block_size;
+  history = meant_history (sources_of files) k.history;
+  next_track = k.next_track;
+  commit = k.commit;
+}
+
+-- the disk keeps this project: its journal's records lead to it, and each block that a point names is whole
+pub record Keeps (files : Files) (found : Opened) : Type 0 where
+  pub log : Log
+  pub kept : Kept
+  pub there : HasLog version_1 log files
+  pub told : LeadTo log.block_size (new_project log.depth) log.bodies kept
+  pub whole : AllByRecursion (IsWhole files) (history_blocks kept.history)
+  pub is : found ≡ opened log kept files
