@@ -1,5 +1,5 @@
 // Where recorded pieces go.
-ghost use Rattle.std.specs.Prelude.{◌≡◌, ℕ, ℤ, List, [], ◌∷◌, ◌++◌, Option, IfOk, IfErr, OnOk};
+ghost use Rattle.std.specs.Prelude.{◌≡◌, ℕ, ℤ, Bool, false, List, [], ◌∷◌, ◌++◌, Option, is_err, IfOk, IfErr, OnOk};
 ghost use Rattle.pcm_base.specs.declared.refusal.Refusal.{Refusal};
 ghost use Rattle.edit_ports.specs.Answers.{first_refusal};
 
@@ -15,6 +15,10 @@ pub trait PieceTaker {
     // The first refusal that was answered, or none.
     ghost refused: { Self → Option Refusal };
 
+    // What has become of the first after some offers, as the taker tells it. Where the Bool is true the last of them
+    // was refused, and no other was. Of a taker behind a refusal no offer tells more.
+    ghost follows: { Self → Bool → Self → Type 0 };
+
     /// Takes the samples of a chunk as the next piece and answers its number, or refuses it and takes nothing. It may
     /// wait for a turn, and want of memory is a refusal.
     fn take_piece<R: Wait>(&mut self, rt: &R, alloc: Global, chunk: &Chunk) -> Said<u64>
@@ -22,5 +26,6 @@ pub trait PieceTaker {
             pieces self.new ≡ pieces self.old ++ (chunk.now.samples, number) ∷ []) }
         ensures unrefused { OnOk result.what (refused self.new ≡ refused self.old) }
         ensures left { IfErr result.what (λ reason. pieces self.new ≡ pieces self.old) }
-        ensures refusal { IfErr result.what (λ reason. refused self.new ≡ first_refusal (refused self.old) reason) };
+        ensures refusal { IfErr result.what (λ reason. refused self.new ≡ first_refusal (refused self.old) reason) }
+        ensures goes { (first : Self) → follows first false self.old → follows first (is_err result.what) self.new };
 }

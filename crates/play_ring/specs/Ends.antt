@@ -3,6 +3,7 @@ use Rattle.std.specs.Prelude.{◌≡◌, ℕ, List, [], ◌∷◌, map, Bool, tr
 use Rattle.std.proofs.Common.{◌∙◌, sym}
 use Rattle.pcm_base.specs.declared.sound.Frame.{Frame}
 use Rattle.rtrb.specs.Ring as ring
+use Rattle.play_ring.specs.declared.ends.TheConstants.{RING_ITEMS}
 use Rattle.play_ring.specs.declared.ends.Item.{Item}
 use Rattle.play_ring.specs.declared.ends.Item.TheVariants.{Sound, End}
 use Rattle.play_ring.specs.declared.ends.PlayIn.{PlayIn}
@@ -26,7 +27,7 @@ known_items o = ring.known_items o.consumer
 
 -- the two ends are of one ring
 abbrev pub IsPair : PlayIn → PlayOut → Type 0
-IsPair i o = (ring.producer_capacity i.producer ≡ 4096) × ring.IsPair i.producer o.consumer
+IsPair i o = (ring.producer_capacity i.producer ≡ RING_ITEMS) × ring.IsPair i.producer o.consumer
 
 -- an end is still of its ring
 abbrev pub SameIn : PlayIn → PlayIn → Type 0

@@ -1,5 +1,6 @@
 // The two ends.
-ghost use Rattle.std.specs.Prelude.{◌≡◌, ◌∷◌, [], ◌++◌, ◌+◌, ◌<◌, ◌≤◌, ◌↔◌, length, take, map, IsTrue, IsFalse, IfOk, if◌then◌else◌};
+ghost use Rattle.std.specs.Prelude.{◌≡◌, ◌∷◌, [], ◌++◌, ◌+◌, ◌<◌, ◌≤◌, ◌↔◌, min, length, take, map, IsTrue, IsFalse, IfOk, if◌then◌else◌};
+ghost use mathlib.Core.List.{IsPrefix};
 ghost use Rattle.play_ring.specs.Order.{IsOpen};
 ghost use Rattle.play_ring.specs.Ends.{sent, known_free, received, known_items, IsPair, SameIn, SameOut, sounds, end_if};
 
@@ -46,10 +47,10 @@ pub struct Taken {
     pub ended: bool,
 }
 
-/// A ring with no item, and room for 4,096.
+/// A ring with no item, and room for [`RING_ITEMS`].
 pub fn ring(alloc: Global) -> Result<(PlayIn, PlayOut), NoMemory>
     ensures pair { IfOk result (λ r. IsPair r.0 r.1) }
-    ensures input { IfOk result (λ r. (sent r.0 ≡ []) × (known_free r.0 ≡ 4096)) }
+    ensures input { IfOk result (λ r. (sent r.0 ≡ []) × (known_free r.0 ≡ RING_ITEMS)) }
     ensures output { IfOk result (λ r. (received r.1 ≡ []) × (known_items r.1 ≡ [])) }
 {
     match RingBuffer::with_protocol::<Global, Playing>(alloc, RING_ITEMS) {
@@ -66,6 +67,8 @@ impl PlayIn {
         ensures bound { result ≤ length frames.now }
         ensures sent { sent self.new ≡ sent self.old ++ sounds (take result frames.now) }
         ensures full { result < length frames.now → known_free self.new ≡ 0 }
+        ensures succeeds { min (known_free self.old) (length frames.now) ≤ result }
+        ensures known { known_free self.old ≤ known_free self.new + result }
         ensures unended { IsOpen (sent self.new) }
     {
         let mut count = 0;
@@ -97,6 +100,9 @@ impl PlayOut {
         ensures bound { result.count ≤ length out.new }
         ensures received { received self.new ≡ received self.old ++ sounds (take result.count out.new) ++ end_if result.ended }
         ensures none { IsFalse result.ended → result.count < length out.old → known_items self.new ≡ [] }
+        ensures known { IsPrefix (known_items self.old)
+            (sounds (take result.count out.new) ++ end_if result.ended ++ known_items self.new) }
+        ensures succeeds { IsFalse result.ended → min (length (known_items self.old)) (length out.old) ≤ result.count }
     {
         let mut count = 0;
         while count < out.len() {
@@ -126,7 +132,7 @@ impl PlayOut {
         ensures received { received self.new ≡ received self.old }
         ensures sent { sent input.new ≡ sent input.old }
         ensures fifo { received self.new ++ known_items self.new ≡ sent input.new }
-        ensures free { 4096 ≤ known_free input.new + length (known_items self.new) }
+        ensures free { RING_ITEMS ≤ known_free input.new + length (known_items self.new) }
     {
         input.producer.slots_beside(&mut self.consumer);
         self.consumer.slots_beside(&mut input.producer);

@@ -3,7 +3,7 @@ ghost use Rattle.std.specs.Prelude.{◌≡◌, ℕ, ◌+◌, ◌<◌, ◌≤◌,
 ghost use Rattle.play_ring.specs.Order.{IsOpen};
 ghost use Rattle.play_ring.specs.Ends.{sent, SameIn};
 ghost use Rattle.play_ring.specs.declared.ends.Item.TheVariants.{End};
-ghost use Rattle.player_work.specs.Filled.{Fills, Gave};
+ghost use Rattle.player_work.specs.Filled.{Fills};
 
 use super::wait;
 use edit_ports::{FrameGiver, Gate};
@@ -12,7 +12,7 @@ use play_ring::PlayIn;
 use std::sync::Wait;
 
 /// How many frames one call of the giver gives at most.
-const BATCH: usize = 1024;
+const BATCH_FRAMES: usize = 1024;
 
 /// What the thread that reads the mix hands back, and the giver's first refusal.
 #[derive(Drop)]
@@ -37,7 +37,8 @@ fn finish<R: Wait, V>(rt: &R, giver: V, mut input: PlayIn, refused: Option<Refus
     }
 }
 
-/// Sends the frames of the giver, at most 1,024 from each call, up to its end or its first refusal, and then the end mark.
+/// Sends the frames of the giver, at most [`BATCH_FRAMES`] from each call, up to its end or its first refusal, and then the
+/// end mark. After a refusal the giver is not asked again.
 pub fn fill<R: Wait, V: FrameGiver, G: Gate>(
     rt: &R,
     mut giver: V,
@@ -46,19 +47,16 @@ pub fn fill<R: Wait, V: FrameGiver, G: Gate>(
 ) -> Filled<V>
     requires fresh { sent input ≡ [] }
     requires unrefused { V.refused giver ≡ None }
-    ensures fills { Fills (V.frames giver) (sent result.input) result.refused }
-    ensures same { V.frames result.giver ≡ V.frames giver }
-    ensures cause { V.refused result.giver ≡ result.refused }
-    ensures ring { SameIn input result.input }
+    ensures { Fills V.shows V.refused V.follows giver input result }
 {
-    let mut frames = [Frame { left: 0, right: 0 }; 1024];
+    let mut frames = [Frame { left: 0, right: 0 }; BATCH_FRAMES];
     let mut from: u64 = 0;
     for _ in rt.forever() {
         let Said { at: _, what } = giver.give_frames(rt, from, &mut frames);
         match what {
             Ok(count) => {
                 wait::send(rt, gate, &mut input, &frames[..count]);
-                if count < BATCH {
+                if count < BATCH_FRAMES {
                     return finish(rt, giver, input, None);
                 }
                 from += count as u64;

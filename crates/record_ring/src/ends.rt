@@ -35,10 +35,10 @@ pub struct RecordOut {
     consumer: Consumer<Chunk, Global, Recording>,
 }
 
-/// A ring with no chunk, and room for 64.
+/// A ring with no chunk, and room for [`RING_CHUNKS`].
 pub fn ring(alloc: Global) -> Result<(RecordIn, RecordOut), NoMemory>
     ensures pair { IfOk result (λ r. IsPair r.0 r.1) }
-    ensures input { IfOk result (λ r. (sent r.0 ≡ []) × (known_free r.0 ≡ 64)) }
+    ensures input { IfOk result (λ r. (sent r.0 ≡ []) × (known_free r.0 ≡ RING_CHUNKS)) }
     ensures output { IfOk result (λ r. (received r.1 ≡ []) × (known_items r.1 ≡ [])) }
 {
     match RingBuffer::with_protocol::<Global, Recording>(alloc, RING_CHUNKS) {
@@ -55,6 +55,7 @@ impl RecordIn {
         ensures ok { OnOk result (sent self.new ≡ sent self.old ++ chunk ∷ []) }
         ensures full { IfErr result (λ back. (back ≡ chunk) × (sent self.new ≡ sent self.old) × (known_free self.new ≡ 0)) }
         ensures succeeds { 0 < known_free self.old → IsOk result }
+        ensures known { known_free self.old ≤ known_free self.new + 1 }
     {
         match self.producer.push(chunk) {
             Ok(()) => Ok(()),
@@ -87,7 +88,7 @@ impl RecordOut {
         ensures received { received self.new ≡ received self.old }
         ensures sent { sent input.new ≡ sent input.old }
         ensures fifo { received self.new ++ known_items self.new ≡ sent input.new }
-        ensures free { 64 ≤ known_free input.new + length (known_items self.new) }
+        ensures free { RING_CHUNKS ≤ known_free input.new + length (known_items self.new) }
     {
         input.producer.slots_beside(&mut self.consumer);
         self.consumer.slots_beside(&mut input.producer);

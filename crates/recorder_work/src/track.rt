@@ -1,18 +1,16 @@
 // The thread of the track.
-ghost use Rattle.std.specs.Prelude.{◌≡◌, ◌⊎◌, ℕ, ℤ, ◌+◌, ◌^◌, ◌<◌, ◌≤◌, List, [], ◌∷◌, ◌++◌, length, Option, Some, None, IfNone, IfSome};
+ghost use Rattle.std.specs.Prelude.{◌≡◌, ◌⊎◌, ℕ, ℤ, ◌+◌, ◌^◌, ◌<◌, ◌≤◌, false, List, [], ◌∷◌, ◌++◌, length, Option, Some, None, is_some, IfNone, IfSome};
 ghost use Rattle.edit_ports.specs.Answers.{first_refusal};
 ghost use Rattle.record_ring.specs.Ends.{received, SameOut};
 ghost use Rattle.recorder_work.specs.Drained.{Takes, Drains};
 
 use super::wait;
+use edit_ports::points::AFTER_PIECE;
 use edit_ports::{Gate, PieceTaker};
-use pcm_base::{Chunk, Numbers, Refusal, Said};
+use pcm_base::{CHUNK_SAMPLES, Chunk, Numbers, Refusal, Said};
 use record_ring::RecordOut;
 use std::alloc::Global;
 use std::sync::Wait;
-
-/// The point of a gate after a piece.
-const AFTER_PIECE: u32 = 4;
 
 /// What the thread of the track hands back: the numbers that the taker answered for the pieces that it took, how many
 /// samples these have together, and the first refusal.
@@ -41,6 +39,7 @@ fn offer<R: Wait, T: PieceTaker>(
     numbers: &mut Vec<u64>,
     chunk: &Chunk,
 ) -> Option<Refusal>
+    requires { T.refused taker.old ≡ None }
     ensures taken { IfNone result ((n : ℕ)
         × (numbers.new.items ≡ numbers.old.items ++ n ∷ [])
         × (T.pieces taker.new ≡ T.pieces taker.old ++ (chunk.now.samples, n) ∷ [])
@@ -50,6 +49,8 @@ fn offer<R: Wait, T: PieceTaker>(
     ensures cause { IfSome result (λ reason.
         (T.refused taker.new ≡ first_refusal (T.refused taker.old) reason)
         ⊎ ((reason ≡ Refusal.NoMemory) × (T.refused taker.new ≡ T.refused taker.old))) }
+    ensures goes { (first : T) →
+        T.follows first false taker.old → T.follows first (is_some (T.refused taker.new)) taker.new }
 {
     if numbers.reserve(1).is_err() {
         return Some(Refusal::NoMemory);
@@ -72,12 +73,15 @@ fn take_chunk<R: Wait, T: PieceTaker>(
     tally: &mut Tally,
     chunk: &Chunk,
 )
-    requires { tally.old.samples + 256 < 2 ^ 64 }
+    requires small { tally.old.samples + CHUNK_SAMPLES < 2 ^ 64 }
+    requires unrefused { tally.old.refused ≡ None → T.refused taker.old ≡ None }
     ensures takes { (start : List (List ℤ × ℕ)) (chunks : List (List ℤ)) →
         Takes start (T.pieces taker.old) (T.refused taker.old) tally.old.numbers.items tally.old.samples tally.old.refused chunks →
         Takes start (T.pieces taker.new) (T.refused taker.new) tally.new.numbers.items tally.new.samples tally.new.refused
         (chunks ++ chunk.now.samples ∷ []) }
-    ensures grows { tally.new.samples ≤ tally.old.samples + 256 }
+    ensures grows { tally.new.samples ≤ tally.old.samples + CHUNK_SAMPLES }
+    ensures goes { (first : T) → T.follows first (is_some (T.refused taker.old)) taker.old →
+        T.follows first (is_some (T.refused taker.new)) taker.new }
 {
     if tally.refused.is_some() {
         return;
@@ -90,7 +94,7 @@ fn take_chunk<R: Wait, T: PieceTaker>(
 
 /// Receives a recording to its end mark, and offers its chunks to the taker up to the first refusal; the rest is received
 /// without use. Where there is no memory for the place of a piece's number, the refusal is NoMemory, and the piece is not
-/// offered.
+/// offered. After the first refusal nothing is offered.
 pub fn drain<R: Wait, T: PieceTaker, G: Gate>(
     rt: &R,
     alloc: Global,
@@ -100,9 +104,7 @@ pub fn drain<R: Wait, T: PieceTaker, G: Gate>(
 ) -> Drained<T>
     requires fresh { received output ≡ [] }
     requires unrefused { T.refused taker ≡ None }
-    ensures drains { Drains (received result.output) (T.pieces taker) (T.pieces result.taker)
-        (T.refused result.taker) result.numbers result.samples result.refused }
-    ensures ring { SameOut output result.output }
+    ensures { Drains T.pieces T.refused T.follows output taker result }
 {
     let mut tally = Tally {
         numbers: Vec::new(alloc),

@@ -1,31 +1,68 @@
 -- One call more of the giver.
-use Rattle.std.proofs.Common.{arith, ◌∙◌, ◌≡◌, ◌≤◌, length}
+use Rattle.std.proofs.Common.{arith, refl, ◌∙◌, ◌≡◌, length}
 use Rattle.play_ring.specs.Ends.{SameIn-trans}
-use Rattle.player_work.proofs.PlayLemmas.{Gave-more, Fills-end}
+use Rattle.player_work.proofs.PlayLemmas.{Gave-start, Gave-more, Sends-end, Sends-refused}
 use Rattle.player_work.proofs.mix.fill.Goals as goal
 
-pub returns-then-count-lt-BATCH-clause-fills : goal.returns-then-count-lt-BATCH-clause-fills
-returns-then-count-lt-BATCH-clause-fills g c =
+pub loop-init : goal.loop-init
+loop-init g c = record {
+  gave = Gave-start _ _ c.requires.fresh;
+  same = λ all. (λ h. h, λ h. h);
+  goes = λ first h. h;
+  unrefused = c.requires.unrefused;
+  unended = rw c.requires.fresh (λ k d h. absurd (omega arith));
+  ring = ((refl, refl, refl, refl), refl);
+  small = omega arith;
+  wide = refl;
+}
+
+pub returns-then-count-lt-BATCH_FRAMES : goal.returns-then-count-lt-BATCH_FRAMES
+returns-then-count-lt-BATCH_FRAMES g c =
     let i = c.loop.invariant in
     let bound = rw c.in-Ok.is at c.give_frames-what.ensures.bound in
-    let given = rw (i.same, i.wide) at (rw c.in-Ok.is at c.give_frames-what.ensures.given) in
+    let given = rw i.wide at (rw c.in-Ok.is at c.give_frames-what.ensures.given) in
     let limit = rw c.in-Ok.is at c.give_frames-what.ensures.limit in
-    Fills-end _ _ _ _ c.loop.from c.in-Ok.count c.give_frames-what.new.out _ c.finish.ensures.back.1 i.small limit i.gave c.send.ensures.sent bound given c.if-count-lt-BATCH.true c.finish.ensures.sent
+    let same = c.give_frames-what.ensures.same in
+    let unrefused = rw c.in-Ok.is at c.give_frames-what.ensures.unrefused in
+    let back = c.finish.ensures.back in
+    record {
+      sends = Sends-end _ _ _ _ c.loop.from c.in-Ok.count c.give_frames-what.new.out _ back.1 i.small limit i.gave c.send.ensures.sent bound (λ xs h. given xs ((i.same xs).0 h)) c.if-count-lt-BATCH_FRAMES.true c.finish.ensures.sent;
+      same = λ all. rw back.0 (λ h. (same all).0 ((i.same all).0 h), λ h. (i.same all).1 ((same all).1 h));
+      cause = rw (back.0, back.1) (unrefused ∙ i.unrefused);
+      goes = λ first h. rw (back.0, back.1) (rw c.in-Ok.is at (c.give_frames-what.ensures.goes first (i.goes first h)));
+      ring = SameIn-trans c.args.input c.send.new.input c.finish.result.input (SameIn-trans c.args.input c.loop.input c.send.new.input i.ring c.send.ensures.ring) c.finish.ensures.ring;
+    }
 
 pub loop-preserved : goal.loop-preserved
 loop-preserved g c =
     let i = c.loop.invariant in
     let bound = rw c.in-Ok.is at c.give_frames-what.ensures.bound in
-    let given = rw (i.same, i.wide) at (rw c.in-Ok.is at c.give_frames-what.ensures.given) in
+    let given = rw i.wide at (rw c.in-Ok.is at c.give_frames-what.ensures.given) in
     let limit = rw c.in-Ok.is at c.give_frames-what.ensures.limit in
+    let same = c.give_frames-what.ensures.same in
     let wide : length c.give_frames-what.new.out ≡ 1024 = c.give_frames-what.auto.out ∙ i.wide in
-    let full : c.in-Ok.count ≡ 1024 = omega (arith, bound, wide, c.if-count-lt-BATCH.false) in
+    let full : c.in-Ok.count ≡ 1024 = omega (arith, bound, wide, c.if-count-lt-BATCH_FRAMES.false) in
     record {
-      gave = Gave-more _ _ _ c.loop.from c.in-Ok.count c.give_frames-what.new.out i.gave c.send.ensures.sent bound given full;
-      same = c.give_frames-what.ensures.same ∙ i.same;
+      gave = Gave-more _ _ _ c.loop.from c.in-Ok.count c.give_frames-what.new.out i.gave c.send.ensures.sent bound (λ xs h. given xs ((i.same xs).0 h)) full;
+      same = λ all. (λ h. (same all).0 ((i.same all).0 h), λ h. (i.same all).1 ((same all).1 h));
+      goes = λ first h. rw c.in-Ok.is at (c.give_frames-what.ensures.goes first (i.goes first h));
       unrefused = (rw c.in-Ok.is at c.give_frames-what.ensures.unrefused) ∙ i.unrefused;
       unended = c.send.ensures.unended;
       ring = SameIn-trans c.args.input c.loop.input c.send.new.input i.ring c.send.ensures.ring;
       small = limit (omega (arith, full));
       wide = wide;
+    }
+
+pub returns-in-Err : goal.returns-in-Err
+returns-in-Err g c =
+    let i = c.loop.invariant in
+    let back = c.finish-in-Err.ensures.back in
+    let same = c.give_frames-what.ensures.same in
+    let refusal = rw (i.unrefused, c.in-Err.is) at c.give_frames-what.ensures.refusal in
+    record {
+      sends = Sends-refused _ _ _ c.loop.from _ c.in-Err.reason back.1 i.small i.gave c.finish-in-Err.ensures.sent;
+      same = λ all. rw back.0 (λ h. (same all).0 ((i.same all).0 h), λ h. (i.same all).1 ((same all).1 h));
+      cause = rw (back.0, back.1) refusal;
+      goes = λ first h. rw (back.0, back.1) (rw c.in-Err.is at (c.give_frames-what.ensures.goes first (i.goes first h)));
+      ring = SameIn-trans c.args.input c.loop.input c.finish-in-Err.result.input i.ring c.finish-in-Err.ensures.ring;
     }

@@ -1,5 +1,5 @@
 -- What was received so far was taken, up to the first refusal.
-use Rattle.std.proofs.Common.{◌≡◌, ◌*◌, ◌≤◌, ℤ, List, length}
+use Rattle.std.proofs.Common.{◌≡◌, ◌*◌, ◌≤◌, ℤ, false, List, length, is_some}
 use Rattle.pcm_base.specs.Recordings.{numbered}
 use Rattle.record_ring.specs.Ends.{received, SameOut}
 use Rattle.recorder_work.specs.Drained.{Takes}
@@ -10,6 +10,7 @@ invariant-loop g l = record {
   chunks : List (List ℤ);
   so_far : received l.output ≡ numbered 0 chunks;
   takes : Takes (g.T.PieceTaker.pieces l.fn.taker) (g.T.PieceTaker.pieces l.taker) (g.T.PieceTaker.refused l.taker) l.tally.numbers.items l.tally.samples l.tally.refused chunks;
+  goes : (first : g.row.T.Denot) → g.T.PieceTaker.follows first false l.fn.taker → g.T.PieceTaker.follows first (is_some (g.T.PieceTaker.refused l.taker)) l.taker;
   ring : SameOut l.fn.output l.output;
   small : l.tally.samples ≤ 256 * length chunks;
 }
