@@ -1,0 +1,105 @@
+-- What each call leaves of a state, and of a studio.
+use Rattle.std.proofs.Common.{◌≡◌, ℕ, ℤ, ◌+◌, ◌^◌, ◌≤◌, Bool, true, false, List, ◌++◌, length, None, arith}
+use Rattle.std.specs.Prelude.{if◌then◌else◌, ◌==◌}
+use Rattle.pcm_base.specs.declared.sound.Cell.{Cell}
+use Rattle.pcm_base.specs.declared.command.Call.{Call}
+use Rattle.pcm_base.specs.declared.command.Call.TheVariants as call
+use Rattle.pcm_base.specs.Cells.{trimmed, cells_at, edited_at}
+use Rattle.pcm_base.specs.Counters.{no_room, commits_of, tracks_of, pins_of, record_bytes, places_of, counter_tests}
+use Rattle.pcm_base.specs.Counters.{record_test}
+use Rattle.pcm_base.specs.Edits.{as_cells}
+use Rattle.pcm_base.specs.Form.{IsCallInForm}
+use Rattle.pcm_base.specs.History.{recorded}
+use Rattle.pcm_base.specs.Outside.{Outside}
+use Rattle.pcm_base.specs.Refusals.{◌otherwise◌, call_tests}
+use Rattle.pcm_base.specs.Run.{stop_test, refusal_of, followed}
+use Rattle.pcm_base.specs.State.{State, current}
+use Rattle.pcm_base.specs.Step.{after, with_piece}
+use Rattle.pcm_base.specs.Studio.{Studio}
+use Rattle.model_laws.specs.Bounds.{AreCells, IsBoundedState, IsBoundedStudio}
+use Rattle.model_laws.proofs.EditLengths.{recorded_cells}
+use Rattle.model_laws.proofs.Histories.{recorded_points}
+use Rattle.model_laws.proofs.Lines.{line_bounded}
+use Rattle.model_laws.proofs.PassedTests.{piece_passed}
+use Rattle.model_laws.proofs.Projects.{edited_track}
+use Rattle.model_laws.proofs.States.{current_project, committed_here, pin_bounded, unpin_bounded}
+use Rattle.model_laws.proofs.OwnTests.{both_passed, has_room}
+
+piece_bounded : (s : State) (track tag : ℕ) (samples : List ℤ) → IsBoundedState s → s.commit + 1 ≤ 2 ^ 62 →
+    tag ≤ s.commit → length (cells_at track (current s)) + length samples ≤ 2 ^ 32 →
+    IsBoundedState (with_piece s track tag samples)
+piece_bounded s track tag samples b room made few =
+    let f = λ (cells : List Cell). trimmed (cells ++ as_cells samples) in
+    let good : AreCells (f (cells_at track (current s))) = recorded_cells (cells_at track (current s)) samples few in
+    let p = edited_at track f (current s) in
+    let project = edited_track s.next_track track f (current s) (current_project s b) good in
+    committed_here s (recorded s.history p tag) b room
+    (recorded_points s.next_track s.next_track s.commit (s.commit + 1) s.history p tag (omega arith) (omega arith)
+    b.history project (omega arith))
+
+pub call_bounded : (out : Outside) (s : State) (c : Call) → IsBoundedState s → IsCallInForm s.commit c →
+    call_tests out s c ≡ None → s.next_track + tracks_of out c ≤ 2 ^ 62 → s.commit + commits_of c ≤ 2 ^ 62 →
+    s.next_pin + pins_of c ≤ 2 ^ 62 → IsBoundedState (after out s c)
+call_bounded out s (call.Line c) b form e tracks room pins = line_bounded out s c b form e tracks room
+call_bounded out s (call.Piece track tag samples) b form e tracks room pins =
+    piece_bounded s track tag samples b room form.1 (piece_passed s track (length samples) e)
+call_bounded out s call.Pin b form e tracks room pins = pin_bounded s b pins
+call_bounded out s (call.PinLen pin) b form e tracks room pins = b
+call_bounded out s (call.ReadPin pin from count) b form e tracks room pins = b
+call_bounded out s (call.Unpin pin) b form e tracks room pins = unpin_bounded s pin b
+
+-- each counter has room for what is needed of it
+record HasRoom (out : Outside) (t : Studio) (c : Call) (blocks len : ℕ) : Type 0 where
+  ids : t.next_block + blocks ≤ 2 ^ 62
+  tracks : t.state.next_track + tracks_of out c ≤ 2 ^ 62
+  commits : t.state.commit + commits_of c ≤ 2 ^ 62
+  pins : t.state.next_pin + pins_of c ≤ 2 ^ 62
+  places : t.journal_end + places_of c len ≤ 2 ^ 62
+
+counters_passed : (out : Outside) (t : Studio) (c : Call) (blocks len : ℕ) → counter_tests out t c blocks len ≡ None →
+    HasRoom out t c blocks len
+counters_passed out t c blocks len e =
+    let places = no_room t.journal_end (places_of c len) in
+    let pins = no_room t.state.next_pin (pins_of c) in
+    let commits = no_room t.state.commit (commits_of c) in
+    let tracks = no_room t.state.next_track (tracks_of out c) in
+    let ids = no_room t.next_block blocks in
+    let first = both_passed ids (tracks otherwise commits otherwise pins otherwise places) e in
+    let second = both_passed tracks (commits otherwise pins otherwise places) first.1 in
+    let third = both_passed commits (pins otherwise places) second.1 in
+    let fourth = both_passed pins places third.1 in
+    record {
+      ids = has_room t.next_block blocks first.0;
+      tracks = has_room t.state.next_track (tracks_of out c) second.0;
+      commits = has_room t.state.commit (commits_of c) third.0;
+      pins = has_room t.state.next_pin (pins_of c) fourth.0;
+      places = has_room t.journal_end (places_of c len) fourth.1;
+    }
+
+bytes_within : (c : Call) (len : ℕ) → record_bytes c len ≤ places_of c len
+bytes_within c len = by (commits_of c == 0)
+  where
+    by : (none : Bool) → (if none then 0 else 5 + len) ≤ (if none then 0 else 6 + len)
+    by true = omega arith
+    by false = omega arith
+
+-- all that refuses a call let it through
+pub followed_bounded : (out : Outside) (t : Studio) (c : Call) (blocks len : ℕ) → IsBoundedStudio t →
+    IsCallInForm t.state.commit c → refusal_of out t c blocks len ≡ None →
+    IsBoundedStudio (followed out t c blocks len)
+followed_bounded out t c blocks len b form e =
+    let own = call_tests out t.state c in
+    let counters = counter_tests out t c blocks len in
+    let going = both_passed (stop_test t.stopped c) (own otherwise counters otherwise record_test len) e in
+    let passed = both_passed own (counters otherwise record_test len) going.1 in
+    let room = counters_passed out t c blocks len (both_passed counters (record_test len) passed.1).0 in
+    let ids = b.next_block.0 in
+    let start = b.journal_end.0 in
+    let places = room.places in
+    record {
+      state = call_bounded out t.state c b.state form passed.0 room.tracks room.commits room.pins;
+      rate = b.rate;
+      block_size = b.block_size;
+      next_block = (omega (arith, ids), room.ids);
+      journal_end = (omega (arith, start), omega (arith, places, bytes_within c len));
+    }

@@ -1,0 +1,65 @@
+-- What holds of each state that the model reaches.
+use Rattle.std.specs.Prelude.{◌≡◌, ℕ, ◌+◌, ◌^◌, ◌≤◌, List, [], ◌∷◌, Result, Ok, Err}
+use Rattle.pcm_base.specs.declared.command.Call.{Call}
+use Rattle.pcm_base.specs.declared.answer.Reply.{Reply}
+use Rattle.pcm_base.specs.declared.refusal.Refusal.{Refusal}
+use Rattle.pcm_base.specs.declared.entry.SoundMove.{SoundMove}
+use Rattle.pcm_base.specs.declared.entry.Entry.{Entry}
+use Rattle.pcm_base.specs.Counters.{commits_of}
+use Rattle.pcm_base.specs.Form.{IsCallInForm}
+use Rattle.pcm_base.specs.Run.{CarriesOut, Run, Step, result_of}
+use Rattle.pcm_base.specs.Studio.{Studio, fresh}
+use Rattle.model_laws.specs.Bounds.{IsBlockSize, IsBoundedStudio, IsDepth}
+
+-- a new studio, its numbers in their bounds
+abbrev pub FreshIsBounded : Type 0
+FreshIsBounded =
+    (rate block_size depth : ℕ) → 1 ≤ rate → IsBlockSize block_size → IsDepth depth →
+    IsBoundedStudio (fresh rate block_size depth)
+
+-- a call that is carried out
+abbrev pub CarryingOutIsBounded : Type 0
+CarryingOutIsBounded =
+    (t u : Studio) (c : Call) (sound : SoundMove) (r : Reply) → IsBoundedStudio t → IsCallInForm t.state.commit c →
+    CarriesOut t c sound r u → IsBoundedStudio u
+
+-- Room for the ids of blocks: a call that a device broke off may have given ids, and no test of the model says that
+-- there was room for them.
+abbrev pub HasBlockRoom : Studio → Type 0
+HasBlockRoom t = t.next_block ≤ 2 ^ 62
+
+-- any step that leaves room for the ids of blocks
+abbrev pub StepsAreBounded : Type 0
+StepsAreBounded =
+    (t u : Studio) (c : Call) (sound : SoundMove) (r : Reply) → IsBoundedStudio t → IsCallInForm t.state.commit c →
+    Step t c sound r u → HasBlockRoom u → IsBoundedStudio u
+
+-- how many commits a call made, by its answer: one that was refused made none
+abbrev pub commits_made : Call → Result Reply Refusal → ℕ
+commits_made c (Ok r) = commits_of c
+commits_made c (Err why) = 0
+
+-- the commit number after each step
+abbrev pub CommitsAreCounted : Type 0
+CommitsAreCounted =
+    (t u : Studio) (c : Call) (sound : SoundMove) (r : Reply) → Step t c sound r u →
+    u.state.commit ≡ t.state.commit + commits_made c (result_of r)
+
+-- entries behind so many commits, each call in form where it is asked
+abbrev pub AreInForm : ℕ → List Entry → Type 0
+AreInForm commit [] = Unit {0}
+AreInForm commit (e ∷ es) =
+    IsCallInForm commit e.call × AreInForm (commit + commits_made e.call (result_of e.reply)) es
+
+-- any run that leaves room at its end
+abbrev pub RunsAreBounded : Type 0
+RunsAreBounded =
+    (t u : Studio) (entries : List Entry) → IsBoundedStudio t → AreInForm t.state.commit entries → Run t entries u →
+    HasBlockRoom u → IsBoundedStudio u
+
+-- and so any state that a run reaches from a new studio
+abbrev pub ReachedIsBounded : Type 0
+ReachedIsBounded =
+    (rate block_size depth : ℕ) (u : Studio) (entries : List Entry) → 1 ≤ rate → IsBlockSize block_size →
+    IsDepth depth → AreInForm 0 entries → Run (fresh rate block_size depth) entries u → HasBlockRoom u →
+    IsBoundedStudio u
