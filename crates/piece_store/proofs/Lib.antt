@@ -1,0 +1,3 @@
+mod ReadLaws
+pub mod BroughtLaws
+pub mod MadeLaws

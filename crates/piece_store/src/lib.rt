@@ -1,0 +1,17 @@
+//! New blocks over any store: the samples of pieces, and the block that is made of them.
+//!
+//! The layer above uses one call. After `make_block` the disk has a block with the samples of its pieces, in what the
+//! store reads and in whatever a stop of the machine leaves from then on, and no other file has changed. Which ids are
+//! free, and which blocks are needed, the caller knows.
+#![tactic(auto)]
+
+mod fault;
+mod given;
+mod making;
+mod pieces;
+#[cfg(test)]
+mod tests;
+
+pub use fault::MakeFault;
+pub use given::Given;
+pub use making::make_block;
