@@ -9,6 +9,7 @@ use Rattle.pcm_base.specs.declared.piece.Piece.{Piece}
 use Rattle.pcm_base.proofs.Pieces.{length-stretch, length-all_samples, all_samples-append}
 use Rattle.pcm_base.specs.declared.block.BlockRef.{BlockRef}
 use Rattle.pcm_base.specs.Blocks.{IsHalfFull}
+use Rattle.model_laws.proofs.Trimming.{trimmed-gaps, trimmed-samples}
 use Rattle.block_sequence.specs.Fuse.{added, made_count, AllShort}
 use Rattle.block_sequence.specs.Origins.{AllLaidFrom}
 use Rattle.block_sequence.specs.declared.types.Laid.{Laid}
@@ -59,20 +60,7 @@ pub end_before_next : (at from : ℕ) (cs : List LaidClip) → at ≤ from → l
 end_before_next at from [] h = h
 end_before_next at from (c ∷ cs) h = end_before_next (c.start + laid_len c) (c.start + laid_len c + 1) cs (omega arith)
 
--- gaps at the end
-trimmed-only_gaps : (k : ℕ) → trimmed (replicate k cell.Gap) ≡ []
-trimmed-only_gaps zero = refl
-trimmed-only_gaps (suc k) = ap (joined cell.Gap) (trimmed-only_gaps k)
-
-pub trimmed-gaps : (xs : List Cell) (k : ℕ) → trimmed (xs ++ replicate k cell.Gap) ≡ trimmed xs
-trimmed-gaps [] k = trimmed-only_gaps k
-trimmed-gaps (x ∷ xs) k = ap (joined x) (trimmed-gaps xs k)
-
 -- a clip, and what is kept after it
-trimmed-samples : (ss : List ℤ) (rest : List Cell) → trimmed rest ≡ rest → trimmed (map cell.Sample ss ++ rest) ≡ map cell.Sample ss ++ rest
-trimmed-samples [] rest e = e
-trimmed-samples (s ∷ ss) rest e = ap (joined (cell.Sample s)) (trimmed-samples ss rest e)
-
 trimmed-gap_clip : (g : ℕ) (s : ℤ) (ys : List Cell) → trimmed (cell.Sample s ∷ ys) ≡ cell.Sample s ∷ ys
     → trimmed (replicate g cell.Gap ++ cell.Sample s ∷ ys) ≡ replicate g cell.Gap ++ cell.Sample s ∷ ys
 trimmed-gap_clip zero s ys e = e

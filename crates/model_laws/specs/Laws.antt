@@ -1,5 +1,5 @@
 -- What holds of each state that the model reaches.
-use Rattle.std.specs.Prelude.{◌≡◌, ℕ, ◌+◌, ◌^◌, ◌≤◌, List, [], ◌∷◌, Result, Ok, Err}
+use Rattle.std.specs.Prelude.{◌≡◌, ℕ, ◌+◌, ◌≤◌, List, [], ◌∷◌, Result, Ok, Err}
 use Rattle.pcm_base.specs.declared.command.Call.{Call}
 use Rattle.pcm_base.specs.declared.answer.Reply.{Reply}
 use Rattle.pcm_base.specs.declared.refusal.Refusal.{Refusal}
@@ -23,16 +23,11 @@ CarryingOutIsBounded =
     (t u : Studio) (c : Call) (sound : SoundMove) (r : Reply) → IsBoundedStudio t → IsCallInForm t.state.commit c →
     CarriesOut t c sound r u → IsBoundedStudio u
 
--- Room for the ids of blocks: a call that a device broke off may have given ids, and no test of the model says that
--- there was room for them.
-abbrev pub HasBlockRoom : Studio → Type 0
-HasBlockRoom t = t.next_block ≤ 2 ^ 62
-
--- any step that leaves room for the ids of blocks
+-- any step
 abbrev pub StepsAreBounded : Type 0
 StepsAreBounded =
     (t u : Studio) (c : Call) (sound : SoundMove) (r : Reply) → IsBoundedStudio t → IsCallInForm t.state.commit c →
-    Step t c sound r u → HasBlockRoom u → IsBoundedStudio u
+    Step t c sound r u → IsBoundedStudio u
 
 -- how many commits a call made, by its answer: one that was refused made none
 abbrev pub commits_made : Call → Result Reply Refusal → ℕ
@@ -51,15 +46,15 @@ AreInForm commit [] = Unit {0}
 AreInForm commit (e ∷ es) =
     IsCallInForm commit e.call × AreInForm (commit + commits_made e.call (result_of e.reply)) es
 
--- any run that leaves room at its end
+-- any run
 abbrev pub RunsAreBounded : Type 0
 RunsAreBounded =
     (t u : Studio) (entries : List Entry) → IsBoundedStudio t → AreInForm t.state.commit entries → Run t entries u →
-    HasBlockRoom u → IsBoundedStudio u
+    IsBoundedStudio u
 
 -- and so any state that a run reaches from a new studio
 abbrev pub ReachedIsBounded : Type 0
 ReachedIsBounded =
     (rate block_size depth : ℕ) (u : Studio) (entries : List Entry) → 1 ≤ rate → IsBlockSize block_size →
-    IsDepth depth → AreInForm 0 entries → Run (fresh rate block_size depth) entries u → HasBlockRoom u →
+    IsDepth depth → AreInForm 0 entries → Run (fresh rate block_size depth) entries u →
     IsBoundedStudio u

@@ -12,7 +12,7 @@ pub fn carrying_out_is_bounded()
     ensures { CarryingOutIsBounded }
 {}
 
-/// Each step of a call in form keeps the bounds, whatever it answers, where the next block stays within its own.
+/// Each step of a call in form keeps the bounds, whatever it answers.
 pub fn steps_are_bounded()
     ensures { StepsAreBounded }
 {}
@@ -22,8 +22,7 @@ pub fn commits_are_counted()
     ensures { CommitsAreCounted }
 {}
 
-/// A run whose calls are in form where they are asked keeps the bounds, where the next block is within its own at the
-/// end.
+/// A run whose calls are in form where they are asked keeps the bounds.
 pub fn runs_are_bounded()
     ensures { RunsAreBounded }
 {}

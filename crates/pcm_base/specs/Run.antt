@@ -1,5 +1,5 @@
 -- The step of a studio as a relation, and whole runs.
-use Rattle.std.specs.Prelude.{◌≡◌, ◌⊎◌, ℕ, ◌+◌, ◌≤◌, Bool, true, false, IsTrue, List, [], ◌∷◌, take, Option, Some, None, IsSome, Result, Ok, Err}
+use Rattle.std.specs.Prelude.{◌≡◌, ◌⊎◌, ℕ, ◌+◌, ◌^◌, ◌≤◌, Bool, true, false, IsTrue, List, [], ◌∷◌, take, Option, Some, None, IsSome, Result, Ok, Err}
 use Rattle.pcm_base.specs.declared.command.Command.{Command}
 use Rattle.pcm_base.specs.declared.command.Command.TheVariants as command
 use Rattle.pcm_base.specs.declared.command.Call.{Call}
@@ -163,12 +163,14 @@ may_change (call.PinLen pin) = false
 may_change (call.ReadPin pin from count) = false
 may_change (call.Unpin pin) = false
 
--- A device broke a call off: ids of blocks may have been given, no more than the call may need, and all else is as before.
+-- A device broke a call off: ids of blocks may have been given, no more than the call may need and there is room for, and
+-- all else is as before.
 pub record BreaksOff (t : Studio) (c : Call) (sound : SoundMove) (u : Studio) : Type 0 where
   pub going : t.stopped ≡ None
   pub blocks : ℕ
   pub len : ℕ
   pub needs : Needs (outside t sound) t c blocks len
+  pub room : t.next_block + blocks ≤ 2 ^ 62
   pub is : u ≡ record t {
     stopped = u.stopped;
     next_block = t.next_block + blocks;

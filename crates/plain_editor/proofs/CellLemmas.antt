@@ -1,4 +1,4 @@
--- Trimming, and the place of a track.
+-- The place of a track, and one gap less at the end.
 use Rattle.std.proofs.Common.{◌≡◌, ◌==◌, ℕ, zero, suc, ℤ, ◌+◌, ◌-◌, ◌<◌, List, [], ◌∷◌, ◌++◌, length, take, drop, get_or, true, subst, refl, sym, ap, ◌∙◌, arith}
 use Rattle.std.proofs.Math.Seq.{take-append_seam}
 use Rattle.std.proofs.lemmas.Bool.Decides.{nat_tests}
@@ -6,24 +6,10 @@ use Rattle.std.proofs.lemmas.List.{drop_more, take-map, take_all, length-map, ta
 use Rattle.pcm_base.specs.declared.sound.Cell.{Cell}
 use Rattle.pcm_base.specs.declared.sound.Cell.TheVariants.{Gap, Sample}
 use Rattle.pcm_base.specs.Cells.{Track, Project, trimmed, joined, tracks_from, run_edited, replaced_at}
+use Rattle.model_laws.proofs.Trimming.{trimmed-gaps}
 use Rattle.plain_editor.specs.declared.track.PlainTrack.{PlainTrack}
 use Rattle.plain_editor.specs.View.{track_of, project_of}
 use Rattle.plain_editor.specs.Places.{Place}
-
--- a gap at the end goes
-pub trimmed-gap : (xs : List Cell) → trimmed (xs ++ Gap ∷ []) ≡ trimmed xs
-trimmed-gap [] = refl
-trimmed-gap (x ∷ xs) = ap (joined x) (trimmed-gap xs)
-
--- a sample at the end stays, with all before it
-pub trimmed-sample : (xs : List Cell) (s : ℤ) → trimmed (xs ++ Sample s ∷ []) ≡ xs ++ Sample s ∷ []
-trimmed-sample [] s = refl
-trimmed-sample (x ∷ xs) s = rw (trimmed-sample xs s) (kept x xs)
-  where
-    kept : (y : Cell) (ys : List Cell) → joined y (ys ++ Sample s ∷ []) ≡ y ∷ ys ++ Sample s ∷ []
-    kept Gap [] = refl
-    kept Gap (z ∷ zs) = refl
-    kept (Sample r) ys = refl
 
 drop_project : (i : ℕ) (tracks : List PlainTrack) → drop i (project_of tracks) ≡ project_of (drop i tracks)
 drop_project zero tracks = refl
@@ -46,20 +32,8 @@ found_here tracks i id t below at is from edits replaces =
       replaces = λ f. replaces f ∙ rw (take-map track_of i tracks, drop_project i tracks, here, same);
     }
 
-last_split : (xs : List Cell) → 0 < length xs → xs ≡ take (length xs - 1) xs ++ get_or xs (length xs - 1) Gap ∷ []
-last_split xs h =
-    let below : length xs - 1 < length xs = omega arith in
-    let e : length xs - 1 + 1 ≡ length xs = omega arith in
-    let m = rw e at (take_more xs (length xs - 1) Gap below) in
-    sym (take_all (length xs) xs (omega arith)) ∙ m
-
-pub ends_in_sample : (xs : List Cell) (s : ℤ) → 0 < length xs → get_or xs (length xs - 1) Gap ≡ Sample s → trimmed xs ≡ xs
-ends_in_sample xs s h is =
-    let e = rw is at (last_split xs h) in
-    subst (λ (l : List Cell). trimmed l ≡ l) (sym e) (trimmed-sample (take (length xs - 1) xs) s)
-
 pub trim_step : (xs front ys : List Cell) (n : ℕ) → xs ≡ front ++ Gap ∷ [] → n ≡ length xs → ys ≡ take (n - 1) xs → trimmed ys ≡ trimmed xs
 trim_step xs front ys n is long left =
     let k : length (front ++ Gap ∷ []) ≡ length front + 1 = length_push front Gap in
     let m : n - 1 ≡ length front = omega (arith, k, ap length is) in
-    rw (left, m, is, trimmed-gap front, take-append_seam front (Gap ∷ [])) refl
+    rw (left, m, is, trimmed-gaps front 1, take-append_seam front (Gap ∷ [])) refl
