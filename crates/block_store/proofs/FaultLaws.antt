@@ -10,7 +10,7 @@ use Rattle.sample_block.proofs.Laws.{samples_stretch}
 use Rattle.sample_block.proofs.BlockLaws.{blocks_have}
 use Rattle.block_store.specs.declared.fault.BlockFault.{BlockFault}
 use Rattle.block_store.specs.declared.fault.BlockFault.TheVariants as fault
-use Rattle.block_store.specs.Reads.{IsEarly, IsReadFault, end_of}
+use Rattle.block_store.specs.Reads.{HasHeader, IsEarly, IsReadFault, end_of}
 
 -- the samples of a block are those in its file
 pub block_samples : (files : Files) (id len : ℕ) (xs : List ℤ) → blocks files id ≡ Some xs → length xs ≡ len
@@ -34,6 +34,12 @@ fault_on id len before end bytes (fault.Damaged file found) le is = (is.0, ⊎_e
 pub early_fault : (id len end : ℕ) (bytes : List ℕ) (why : BlockFault) → difference bytes 0 (header_fields id len) ≡ None → IsEarly id len end bytes why → IsReadFault id len end bytes why
 early_fault id len end bytes fault.DiskFault none early = tt
 early_fault id len end bytes (fault.Damaged file found) none early = (early.0, inr (early.1, λ there. none))
+
+-- a read behind a header that was compared
+pub early_result : {T : Type 0} (r : Result T BlockFault) (id len end : ℕ) (bytes : List ℕ) → HasHeader id len bytes
+    → IfErr r (λ e. IsEarly id len end bytes e) → IfErr r (λ e. IsReadFault id len end bytes e)
+early_result (Ok x) id len end bytes has early = tt
+early_result (Err why) id len end bytes has early = early_fault id len end bytes why has.1 early
 
 -- a read of some items ends behind the last of them
 pub end_some : (n place : ℕ) → 0 < n → end_of n place ≡ place

@@ -1,6 +1,8 @@
 -- What the reads of a block give, and what they find wrong.
-use Rattle.std.specs.Prelude.{◌≡◌, ◌<◌, ◌≤◌, ◌⊎◌, ℕ, zero, suc, ◌+◌, ◌*◌, ◌-◌, min, map, List, length, Some, None, Result, MatchResult}
+use Rattle.std.specs.Prelude.{◌≡◌, ◌<◌, ◌≤◌, ◌⊎◌, ℕ, zero, suc, ◌+◌, ◌*◌, ◌-◌, min, map, List, length, Contains, Option, Some, None, Result, MatchResult}
 use Rattle.std.specs.List.{range_with_len}
+use Rattle.disk_model.specs.Disk.{Files, bytes_of}
+use Rattle.pcm_base.specs.declared.block.BlockRef.{BlockRef}
 use Rattle.pcm_base.specs.Causes.{Rose}
 use Rattle.peak_summary.specs.declared.stretch.Summary.{Summary}
 use Rattle.peak_summary.specs.Peaks.{frame_count}
@@ -29,6 +31,15 @@ abbrev pub IsEarly : (id len end : ℕ) → List ℕ → BlockFault → Type 0
 IsEarly id len end bytes fault.DiskFault = Unit {0}
 IsEarly id len end bytes (fault.Damaged file found) = (file ≡ id) × EndsBefore len end bytes found
 
+-- the file begins with the header of this block
+abbrev pub HasHeader : (id len : ℕ) → List ℕ → Type 0
+HasHeader id len bytes = (16 ≤ length bytes) × (difference bytes 0 (header_fields id len) ≡ None)
+
+-- the block whose header was compared last, if there was one, has it there still
+abbrev pub IsCompared : Files → Option BlockRef → Type 0
+IsCompared files None = Unit {0}
+IsCompared files (Some b) = HasHeader b.id b.len (bytes_of (files b.id))
+
 -- the header is there and another block's: its first field that differs is told
 abbrev pub HasOtherHeader : (id len : ℕ) → List ℕ → Damaged → Type 0
 HasOtherHeader id len bytes found = (16 ≤ length bytes) × (difference bytes 0 (header_fields id len) ≡ Some found)
@@ -43,6 +54,10 @@ IsReadFault id len end bytes (fault.Damaged file found) =
 -- the same of a read of any bytes of the file
 abbrev pub IsFault : (id len : ℕ) → List ℕ → BlockFault → Type 0
 IsFault id len bytes why = IsReadFault id len (size_of len) bytes why
+
+-- the file of one of these blocks is not as it has to be
+abbrev pub IsFaultIn : Files → List BlockRef → BlockFault → Type 0
+IsFaultIn files bs why = (b : BlockRef) × Contains bs b × IsFault b.id b.len (bytes_of (files b.id)) why
 
 -- where a read of n items ends that end at this place; of none it is the header's end
 abbrev pub end_of : (n place : ℕ) → ℕ

@@ -8,10 +8,10 @@ ghost use Rattle.sample_block.specs.Spelling.{size_of, header_fields, IsBlock};
 ghost use Rattle.sample_block.specs.Blocks.{blocks};
 ghost use Rattle.block_store.specs.declared.fault.BlockFault.TheVariants as fault;
 ghost use Rattle.disk_model.specs.Frames.{Kept};
-ghost use Rattle.block_store.specs.Reads.{Counted, IsEarly, IsReadFault, end_of, frame_len, frame_samples, level_place, stored_frames};
+ghost use Rattle.block_store.specs.Reads.{Counted, HasHeader, IsEarly, IsReadFault, end_of, frame_len, frame_samples, level_place, stored_frames};
 
 use super::fault::BlockFault;
-use super::parts::{read_header, read_part};
+use super::parts::{compare_header, read_part};
 use disk_model::Store;
 use pcm_base::BlockRef;
 use peak_summary::Summary;
@@ -145,37 +145,38 @@ fn read_pieces<S: Store>(
     Ok(())
 }
 
-// As `read_frames`, whose other clauses are laws on what these say.
-fn read_row<S: Store>(
+/// Reads frames as `read_frames` does, of a block whose header was compared: it is not read again.
+pub fn read_compared_frames<S: Store>(
     store: &mut S,
     block: BlockRef,
     level: Level,
-    from: usize,
+    from: u32,
     out: &mut [Summary],
 ) -> Result<(), BlockFault>
-    requires len { block.len ≤ 262144 }
+    requires block { IsBlock block.id block.len }
     requires within { from + length out.old ≤ frame_count (frame_len level) block.len }
-    ensures header { IsTrue (S.tells store.old)
-        → OnOk result (difference (bytes_of (S.reads store.old block.id)) 0 (header_fields block.id block.len) ≡ None) }
-    ensures front { IsTrue (S.tells store.old) → OnOk result (16 ≤ length (bytes_of (S.reads store.old block.id))) }
-    ensures whole { IsTrue (S.tells store.old) → OnOk result (0 < length out.old
-        → level_place level block.len + 12 * (from + length out.old) ≤ length (bytes_of (S.reads store.old block.id))) }
+    // The file has the header of the block, as after `compare_header`.
+    requires compared { IsTrue (S.tells store.old)
+        → HasHeader block.id block.len (bytes_of (S.reads store.old block.id)) }
+    ensures read { (xs : List ℤ) → IsTrue (S.tells store.old) → blocks (S.reads store.old) block.id ≡ Some xs
+        → length xs ≡ block.len
+        → OnOk result (out.new ≡ take (length out.old) (drop from (frames_of (frame_len level) xs))) }
+    ensures sound { (xs : List ℤ) → IsTrue (S.tells store.old) → blocks (S.reads store.old) block.id ≡ Some xs
+        → length xs ≡ block.len
+        → IsOkUnless result fault.DiskFault }
     ensures frames { IsTrue (S.tells store.old)
         → OnOk result (out.new ≡ stored_frames (bytes_of (S.reads store.old block.id)) level block.len from
         (length out.old)) }
+    ensures whole { IsTrue (S.tells store.old) → OnOk result (0 < length out.old
+        → level_place level block.len + 12 * (from + length out.old) ≤ length (bytes_of (S.reads store.old block.id))) }
+    // A fault is that the file ends before what is read.
     ensures damaged { IsTrue (S.tells store.old)
         → IfErr result (λ e. IsReadFault block.id block.len (end_of (length out.old)
         (level_place level block.len + 12 * (from + length out.old))) (bytes_of (S.reads store.old block.id)) e) }
     ensures kept { Kept S.Store store.old store.new }
     ensures faults { Counted result (S.read_fault_count store.old) (S.read_fault_count store.new) }
 {
-    if let Err(fault) = read_header(store, block) {
-        return Err(fault);
-    }
-    if let Err(fault) = read_pieces(store, block, level, from, out) {
-        return Err(fault);
-    }
-    Ok(())
+    read_pieces(store, block, level, from as usize, out)
 }
 
 /// Reads the frames of a level of a block from number `from` on, as many as `out` holds; all of them are frames of the
@@ -215,5 +216,8 @@ pub fn read_frames<S: Store>(
     ensures kept { Kept S.Store store.old store.new }
     ensures faults { Counted result (S.read_fault_count store.old) (S.read_fault_count store.new) }
 {
-    read_row(store, block, level, from as usize, out)
+    if let Err(fault) = compare_header(store, block) {
+        return Err(fault);
+    }
+    read_compared_frames(store, block, level, from, out)
 }

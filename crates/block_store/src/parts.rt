@@ -1,12 +1,12 @@
 // Parts of a block's file are read, and its header is compared.
-ghost use Rattle.std.specs.Prelude.{◌≡◌, ◌^◌, ◌+◌, ◌<◌, ◌≤◌, true, false, ℕ, length, take, drop, IsTrue, None, IfOk, OnOk, IfErr};
+ghost use Rattle.std.specs.Prelude.{◌≡◌, ◌^◌, ◌+◌, ◌<◌, ◌≤◌, true, false, ℕ, ℤ, List, length, take, drop, IsTrue, IsOkUnless, Some, None, IfOk, OnOk, IfErr};
 ghost use Rattle.pcm_base.specs.Causes.{HasCause};
 ghost use Rattle.disk_model.specs.Disk.{bytes_of};
 ghost use Rattle.disk_model.specs.Frames.{Kept};
-ghost use Rattle.sample_block.specs.Spelling.{size_of, header_fields};
-ghost use Rattle.sample_block.specs.Faults.{difference};
+ghost use Rattle.sample_block.specs.Spelling.{size_of, IsBlock};
+ghost use Rattle.sample_block.specs.Blocks.{blocks};
 ghost use Rattle.block_store.specs.declared.fault.BlockFault.TheVariants as fault;
-ghost use Rattle.block_store.specs.Reads.{CountedBy, Counted, IsEarly, IsReadFault};
+ghost use Rattle.block_store.specs.Reads.{CountedBy, Counted, HasHeader, IsEarly, IsReadFault};
 
 use super::fault::BlockFault;
 use disk_model::Store;
@@ -86,12 +86,11 @@ pub(crate) fn read_part<S: Store>(
     }
 }
 
-/// Compares the first 16 bytes with those of the block.
-pub(crate) fn read_header<S: Store>(store: &mut S, block: BlockRef) -> Result<(), BlockFault>
+// As `compare_header`, whose other clause is a law on what these say.
+fn read_header<S: Store>(store: &mut S, block: BlockRef) -> Result<(), BlockFault>
     requires { block.len ≤ 262144 }
-    ensures whole { IsTrue (S.tells store.old) → OnOk result (16 ≤ length (bytes_of (S.reads store.old block.id))) }
     ensures header { IsTrue (S.tells store.old)
-        → OnOk result (difference (bytes_of (S.reads store.old block.id)) 0 (header_fields block.id block.len) ≡ None) }
+        → OnOk result (HasHeader block.id block.len (bytes_of (S.reads store.old block.id))) }
     ensures damaged { IsTrue (S.tells store.old)
         → IfErr result (λ e. IsReadFault block.id block.len 16 (bytes_of (S.reads store.old block.id)) e) }
     ensures kept { Kept S.Store store.old store.new }
@@ -108,4 +107,23 @@ pub(crate) fn read_header<S: Store>(store: &mut S, block: BlockRef) -> Result<()
             found,
         }),
     }
+}
+
+/// Whether the file begins with the header of the block: magic, id and count. It reads once, and takes no memory. Reads
+/// of the block that follow need not compare it again, as long as its file stays the same.
+pub fn compare_header<S: Store>(store: &mut S, block: BlockRef) -> Result<(), BlockFault>
+    requires { IsBlock block.id block.len }
+    // Ok comes for the header of this block alone, and of a block of the disk nothing but the disk refuses.
+    ensures header { IsTrue (S.tells store.old)
+        → OnOk result (HasHeader block.id block.len (bytes_of (S.reads store.old block.id))) }
+    ensures sound { (xs : List ℤ) → IsTrue (S.tells store.old) → blocks (S.reads store.old) block.id ≡ Some xs
+        → length xs ≡ block.len
+        → IsOkUnless result fault.DiskFault }
+    // A fault is a header of another block, or else that the file ends before it.
+    ensures damaged { IsTrue (S.tells store.old)
+        → IfErr result (λ e. IsReadFault block.id block.len 16 (bytes_of (S.reads store.old block.id)) e) }
+    ensures kept { Kept S.Store store.old store.new }
+    ensures faults { Counted result (S.read_fault_count store.old) (S.read_fault_count store.new) }
+{
+    read_header(store, block)
 }

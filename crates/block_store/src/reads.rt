@@ -6,10 +6,10 @@ ghost use Rattle.sample_block.specs.Spelling.{header_fields, IsBlock};
 ghost use Rattle.sample_block.specs.Faults.{difference, samples_in};
 ghost use Rattle.sample_block.specs.Blocks.{blocks};
 ghost use Rattle.block_store.specs.declared.fault.BlockFault.TheVariants as fault;
-ghost use Rattle.block_store.specs.Reads.{Counted, IsEarly, IsReadFault, end_of};
+ghost use Rattle.block_store.specs.Reads.{Counted, HasHeader, IsEarly, IsReadFault, end_of};
 
 use super::fault::BlockFault;
-use super::parts::{read_header, read_part};
+use super::parts::{compare_header, read_part};
 use byteorder::{ByteOrder, LittleEndian};
 use disk_model::Store;
 use pcm_base::BlockRef;
@@ -78,35 +78,36 @@ fn read_pieces<S: Store>(
     Ok(())
 }
 
-// As `read_samples`, whose other clauses are laws on what these say.
-fn read_stretch<S: Store>(
+/// Reads samples as `read_samples` does, of a block whose header was compared: it is not read again.
+pub fn read_compared_samples<S: Store>(
     store: &mut S,
     block: BlockRef,
-    from: usize,
+    from: u32,
     out: &mut [i16],
 ) -> Result<(), BlockFault>
-    requires len { block.len ≤ 262144 }
+    requires block { IsBlock block.id block.len }
     requires within { from + length out.old ≤ block.len }
-    ensures header { IsTrue (S.tells store.old)
-        → OnOk result (difference (bytes_of (S.reads store.old block.id)) 0 (header_fields block.id block.len) ≡ None) }
-    ensures front { IsTrue (S.tells store.old) → OnOk result (16 ≤ length (bytes_of (S.reads store.old block.id))) }
-    ensures whole { IsTrue (S.tells store.old) → OnOk result (0 < length out.old
-        → 16 + 2 * (from + length out.old) ≤ length (bytes_of (S.reads store.old block.id))) }
+    // The file has the header of the block, as after `compare_header`.
+    requires compared { IsTrue (S.tells store.old)
+        → HasHeader block.id block.len (bytes_of (S.reads store.old block.id)) }
+    ensures read { (xs : List ℤ) → IsTrue (S.tells store.old) → blocks (S.reads store.old) block.id ≡ Some xs
+        → length xs ≡ block.len
+        → OnOk result (out.new ≡ take (length out.old) (drop from xs)) }
+    ensures sound { (xs : List ℤ) → IsTrue (S.tells store.old) → blocks (S.reads store.old) block.id ≡ Some xs
+        → length xs ≡ block.len
+        → IsOkUnless result fault.DiskFault }
     ensures samples { IsTrue (S.tells store.old)
         → OnOk result (out.new ≡ samples_in (bytes_of (S.reads store.old block.id)) (16 + 2 * from) (length out.old)) }
+    ensures whole { IsTrue (S.tells store.old) → OnOk result (0 < length out.old
+        → 16 + 2 * (from + length out.old) ≤ length (bytes_of (S.reads store.old block.id))) }
+    // A fault is that the file ends before what is read.
     ensures damaged { IsTrue (S.tells store.old)
         → IfErr result (λ e. IsReadFault block.id block.len (end_of (length out.old) (16 + 2 *
         (from + length out.old))) (bytes_of (S.reads store.old block.id)) e) }
     ensures kept { Kept S.Store store.old store.new }
     ensures faults { Counted result (S.read_fault_count store.old) (S.read_fault_count store.new) }
 {
-    if let Err(fault) = read_header(store, block) {
-        return Err(fault);
-    }
-    if let Err(fault) = read_pieces(store, block, from, out) {
-        return Err(fault);
-    }
-    Ok(())
+    read_pieces(store, block, from as usize, out)
 }
 
 /// Reads the samples of a block from number `from` on, as many as `out` holds; all of them are samples of the block. It
@@ -143,5 +144,8 @@ pub fn read_samples<S: Store>(
     ensures kept { Kept S.Store store.old store.new }
     ensures faults { Counted result (S.read_fault_count store.old) (S.read_fault_count store.new) }
 {
-    read_stretch(store, block, from as usize, out)
+    if let Err(fault) = compare_header(store, block) {
+        return Err(fault);
+    }
+    read_compared_samples(store, block, from, out)
 }

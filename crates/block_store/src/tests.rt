@@ -1,6 +1,7 @@
 // Blocks that are put, stopped, read, damaged and dropped on a disk in memory.
 use super::{
-    BlockFault, Level, check_block, check_size, drop_block, put, read_frames, read_samples,
+    BlockFault, Level, check_block, check_size, compare_header, compare_once, drop_block, put,
+    read_compared_frames, read_compared_samples, read_frames, read_samples,
 };
 use disk_model::{RamStore, Store};
 use pcm_base::{BlockRef, Numbers};
@@ -266,5 +267,52 @@ fn a_disk_that_fails(rt: HostRuntime) -> Result<(), Fail> {
         Err(BlockFault::DiskFault)
     );
     assert_eq!(rt; read_samples(&mut store, BLOCK, 0, &mut out), Ok(()));
+    Ok(())
+}
+
+// The sixth call fails: behind the two of the put, the one of the header and one for each stretch.
+#[test]
+fn one_header_for_several_stretches(rt: HostRuntime) -> Result<(), Fail> {
+    let mut store = disk(rt.alloc(), vec![in rt.alloc(); 6]?)?;
+    assert_eq!(rt; put_two(rt.alloc(), &mut store)?, Ok(()));
+    let mut last = None;
+    let Ok(()) = compare_once(&mut store, &mut last, BLOCK) else {
+        return Err("header".into());
+    };
+    let mut out = [0; 1];
+    assert_eq!(rt;
+        read_compared_samples(&mut store, BLOCK, 1, &mut out),
+        Ok(())
+    );
+    assert!(rt; out == [-2]);
+    assert_eq!(rt;
+        read_compared_samples(&mut store, BLOCK, 0, &mut out),
+        Ok(())
+    );
+    assert!(rt; out == [1]);
+    let Ok(()) = compare_once(&mut store, &mut last, BLOCK) else {
+        return Err("header".into());
+    };
+    let mut frame = [NOTHING; 1];
+    assert_eq!(rt;
+        read_compared_frames(&mut store, BLOCK, Level::Long, 0, &mut frame),
+        Err(BlockFault::DiskFault)
+    );
+    assert_eq!(rt;
+        read_compared_frames(&mut store, BLOCK, Level::Long, 0, &mut frame),
+        Ok(())
+    );
+    assert_eq!(rt; frame[0], summary(-2, 1, 5, 2));
+    Ok(())
+}
+
+#[test]
+fn compared_headers(rt: HostRuntime) -> Result<(), Fail> {
+    let mut store = disk(rt.alloc(), Vec::new(rt.alloc()))?;
+    assert!(rt; compare_header(&mut store, BLOCK) == differs(0, 44, 0));
+    store.write_at(16, 0, &FILE[..16]).ok().ok_or("write")?;
+    assert!(rt; compare_header(&mut store, BLOCK) == Ok(()));
+    store.write_at(16, 12, &[3]).ok().ok_or("write")?;
+    assert!(rt; compare_header(&mut store, BLOCK) == differs(12, 2, 3));
     Ok(())
 }

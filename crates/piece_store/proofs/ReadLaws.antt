@@ -1,11 +1,10 @@
 -- The samples of pieces, by the blocks of a disk.
-use Rattle.std.proofs.Common.{◌≡◌, ℕ, zero, suc, ◌+◌, ◌-◌, ◌≤◌, ◌<◌, ℤ, pos, List, [], ◌∷◌, ◌++◌, length, get_or, take, drop, map, Option, Some, refl, sym, ap, ◌∙◌, arith, ⊎_elim, append_assoc}
+use Rattle.std.proofs.Common.{◌≡◌, ℕ, zero, suc, ◌+◌, ◌-◌, ◌≤◌, ◌<◌, ℤ, pos, List, [], ◌∷◌, ◌++◌, length, get_or, take, drop, map, Some, refl, sym, ap, ◌∙◌, arith, ⊎_elim, append_assoc}
 use Rattle.std.proofs.lemmas.List.{get_or-drop, drop-drop, take_more_set, map_more, drop-set-lt}
 use Rattle.std.proofs.Math.ListN.{set}
 use Rattle.std.specs.Prelude.{◌+ℤ◌, ◌*ℤ◌}
 use Rattle.pcm_base.specs.Arithmetic.{clamped, scaled}
 use Rattle.piece_store.specs.Bringing.{brought, ramp_samples}
-use Rattle.std.specs.Prelude.{unwrap_or}
 use Rattle.disk_model.specs.Disk.{Files}
 use Rattle.sample_block.specs.Spelling.{size_of}
 use Rattle.sample_block.specs.Blocks.{blocks}
@@ -13,26 +12,13 @@ use Rattle.pcm_base.specs.declared.block.BlockRef.{BlockRef}
 use Rattle.pcm_base.specs.declared.piece.Piece.{Piece}
 use Rattle.pcm_base.specs.declared.piece.Piece.TheVariants.{Old, Scaled, Zero, Given}
 use Rattle.pcm_base.specs.Pieces.{Sources, stretch, samples_of, all_samples}
-use Rattle.pcm_base.proofs.Pieces.{stretch_list, part-stretch}
 use Rattle.block_store.specs.declared.fault.BlockFault.{BlockFault}
 use Rattle.block_store.specs.declared.fault.BlockFault.TheVariants as fault
 use Rattle.block_store.proofs.FaultLaws.{block_sound}
+use Rattle.block_store.proofs.StretchLaws.{block_stretch}
 use Rattle.piece_store.specs.declared.given.Given.TheVariants as brings
 use Rattle.sample_block.specs.Sources.{samples_on, IsWhole}
 use Rattle.piece_store.specs.Reading.{IsThere, AllThere, IsFaultOf, IsFaultAmong}
-
--- a stretch of the items of a list
-pub stretch_part : (xs : List ℤ) (from n : ℕ) → from + n ≤ length xs → stretch (λ i. get_or xs i (pos 0)) from n ≡ take n (drop from xs)
-stretch_part xs from n h =
-    let f : ℕ → ℤ = λ i. get_or xs i (pos 0) in
-    let e : from ≡ 0 + from = omega arith in
-    ap (λ (k : ℕ). stretch f k n) e ∙ sym (part-stretch f 0 from n (length xs) h) ∙ ap (λ (ys : List ℤ). take n (drop from ys)) (stretch_list xs (pos 0))
-
--- and of a block of the disk
-block_stretch : (files : Files) (id from n : ℕ) (xs : List ℤ) → blocks files id ≡ Some xs → from + n ≤ length xs
-    → stretch (samples_on files id) from n ≡ take n (drop from xs)
-block_stretch files id from n xs e h =
-    ap (λ (o : Option (List ℤ)). stretch (λ i. get_or (unwrap_or o []) i (pos 0)) from n) e ∙ stretch_part xs from n h
 
 -- a part of a block that was read is that of the piece
 pub old_read : (files : Files) (b : BlockRef) (from to n : ℕ) (out : List ℤ) → from ≤ to → to ≤ b.len → n ≡ to - from → IsWhole files b

@@ -261,3 +261,21 @@ fn each_call_fails_in_turn(rt: HostRuntime) -> Result<(), Fail> {
     }
     Ok(())
 }
+
+// Behind the four calls of the disk come the header, the two parts, the write and the sync.
+#[test]
+fn one_header_for_two_pieces(rt: HostRuntime) -> Result<(), Fail> {
+    for (call, want) in [
+        (8, Err(MakeFault::Put)),
+        (9, Err(MakeFault::Put)),
+        (10, Ok(())),
+    ] {
+        let mut store = disk(rt.alloc(), vec![in rt.alloc(); call]?)?;
+        let pieces = [old(16, 0, 1), zeros(1), scaled(16, 2, 4, 131_072)];
+        assert_eq!(rt;
+            make(rt.alloc(), &mut store, pieces, &Given::Nothing)?,
+            want
+        );
+    }
+    Ok(())
+}

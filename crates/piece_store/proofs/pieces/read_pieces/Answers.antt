@@ -11,6 +11,7 @@ use Rattle.pcm_base.specs.declared.piece.Piece.TheVariants.{Old}
 use Rattle.pcm_base.specs.Pieces.{Sources, samples_of, all_samples, total}
 use Rattle.pcm_base.proofs.Pieces.{length-samples}
 use Rattle.sample_block.specs.Sources.{sources_with}
+use Rattle.block_store.specs.Reads.{IsCompared}
 use Rattle.piece_store.specs.Bringing.{brought, brought_count}
 use Rattle.piece_store.specs.Reading.{AllReadable, AllThere, IsThere, IsFaultAmong}
 use Rattle.piece_store.proofs.ReadLaws.{pieces_more}
@@ -21,6 +22,7 @@ pieces-init g c = record {
   left = omega arith;
   ok = c.requires.pieces;
   kept = kept_none _ (g.met.S.Store.may_fewer _);
+  compared = λ told. tt;
   count = refl;
   rest_there = λ h. h;
   rest_fault = λ why h. h;
@@ -47,6 +49,9 @@ pieces-preserved g c =
       left = let left = inv.left in let size = c.piece_len.ensures in grind (arith, common_steps);
       ok = (subst R e inv.ok).1;
       kept = kept_turn inv.kept c.read_piece.ensures.kept;
+      compared = λ told.
+          let still : IsTrue (g.S.Store.tells c.pieces.store) = subst (λ (b : Bool). IsTrue b) (sym inv.kept.same_tells) told in
+          subst (λ (f : Files). IsCompared f c.read_piece.new.last) inv.kept.same_reads (c.read_piece.ensures.compared still);
       count = c.in_default.ensures.faults ∙ inv.count;
       rest_there = λ h. (subst T e (inv.rest_there h)).1;
       rest_fault = λ why f. let F : List Piece → Type 0 = λ qs. IsFaultAmong files qs why in inv.rest_fault why (subst F (sym e) (inr f));

@@ -2,6 +2,7 @@
 use Rattle.std.proofs.Common.{◌≡◌, ◌+◌, ◌++◌, take, drop, length}
 use Rattle.std.specs.Prelude.{IsTrue}
 use Rattle.pcm_base.specs.Pieces.{total, all_samples}
+use Rattle.block_store.specs.Reads.{IsCompared}
 use Rattle.block_store.specs.declared.fault.BlockFault.{BlockFault}
 use Rattle.disk_model.specs.Frames.{Kept}
 use Rattle.sample_block.specs.Sources.{sources_with}
@@ -14,6 +15,7 @@ invariant-pieces g l = record {
   left : l.done + total (drop l.piece-index l.pieces) ≡ length l.out;
   ok : AllReadable (brought_count l.given) (drop l.piece-index l.pieces);
   kept : Kept g.S.Store l.fn.store l.store;
+  compared : IsTrue (g.S.Store.tells l.fn.store) → IsCompared (g.S.Store.reads l.fn.store) l.last;
   count : g.S.Store.read_fault_count l.store ≡ g.S.Store.read_fault_count l.fn.store;
   rest_there : AllThere (g.S.Store.reads l.fn.store) l.pieces → AllThere (g.S.Store.reads l.fn.store) (drop l.piece-index l.pieces);
   rest_fault : (why : BlockFault) → IsFaultAmong (g.S.Store.reads l.fn.store) (drop l.piece-index l.pieces) why → IsFaultAmong (g.S.Store.reads l.fn.store) l.pieces why;
