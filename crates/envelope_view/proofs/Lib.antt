@@ -1,0 +1,6 @@
+pub mod AheadLaws
+pub mod AnswerLaws
+pub mod EdgeLaws
+pub mod NamedLaws
+pub mod Running
+pub mod SumLaws

@@ -1,0 +1,26 @@
+-- The columns so far, what is left, and that nothing of the disk has changed.
+use Rattle.std.proofs.Common.{◌≡◌, ◌+◌, drop, map}
+use Rattle.std.specs.Prelude.{IsTrue, Contains}
+use Rattle.disk_model.specs.Frames.{Kept}
+use Rattle.sample_block.specs.Sources.{AllWhole, sources_of}
+use Rattle.block_store.specs.Reads.{IsCompared}
+use Rattle.pcm_base.specs.Arithmetic.{counted_from}
+use Rattle.pcm_base.specs.Edits.{part}
+use Rattle.pcm_base.specs.Envelope.{edge, scan_of}
+use Rattle.pcm_base.specs.Pieces.{Sources}
+use Rattle.pcm_base.specs.declared.block.BlockRef.{BlockRef}
+use Rattle.clip_track.specs.Clips.{layout_blocks, layout_cells}
+use Rattle.envelope_view.specs.Ahead.{IsInBlock, ahead_blocks, ahead_cells}
+use Rattle.envelope_view.proofs.scanning.scan_columns.Given as goal
+
+abbrev pub invariant-rows : goal.invariant-rows
+invariant-rows g l = record {
+  stretch : IsInBlock l.ahead.stretch;
+  blocks : (b : BlockRef) → Contains (ahead_blocks l.ahead) b → Contains (layout_blocks l.layout) b;
+  cells : (src : Sources) → ahead_cells src l.ahead ≡ drop (edge l.from l.to l.columns l.i) (layout_cells src l.layout);
+  kept : Kept g.S.Store l.fn.store l.store;
+  compared : IsTrue (g.S.Store.tells l.fn.store) → IsCompared (g.S.Store.reads l.fn.store) l.last;
+  faults : g.S.Store.read_fault_count l.store ≡ g.S.Store.read_fault_count l.fn.store;
+  read : IsTrue (g.S.Store.tells l.fn.store) → AllWhole (g.S.Store.reads l.fn.store) (layout_blocks l.layout)
+      → l.scans.items ≡ map (λ i. scan_of (part (edge l.from l.to l.columns i) (edge l.from l.to l.columns (i + 1)) (layout_cells (sources_of (g.S.Store.reads l.fn.store)) l.layout))) (counted_from 0 l.i);
+}

@@ -1,0 +1,30 @@
+-- The summary so far, what is left, and that nothing of the disk has changed.
+use Rattle.std.proofs.Common.{◌≡◌, ◌≤◌, take, drop}
+use Rattle.std.specs.Prelude.{IsTrue, Contains}
+use Rattle.disk_model.specs.Frames.{Kept}
+use Rattle.sample_block.specs.Sources.{sources_of}
+use Rattle.block_store.specs.Reads.{IsCompared}
+use Rattle.block_store.specs.Scans.{samples_among}
+use Rattle.pcm_base.specs.Pieces.{Sources}
+use Rattle.pcm_base.specs.declared.block.BlockRef.{BlockRef}
+use Rattle.envelope_view.specs.Ahead.{IsInBlock, ahead_blocks, ahead_cells}
+use Rattle.envelope_view.specs.Named.{AreWhole}
+use Rattle.envelope_view.proofs.Running.{Running}
+use Rattle.envelope_view.proofs.sweep.sweep.Given as goal
+
+abbrev pub invariant-stretches : goal.invariant-stretches
+invariant-stretches g l = record {
+  within : l.left ≤ l.fn.count;
+  stretch : IsInBlock l.ahead.stretch;
+  blocks : (b : BlockRef) → Contains (ahead_blocks l.ahead) b → Contains (ahead_blocks l.fn.ahead) b;
+  passed : (src : Sources) → drop l.left (ahead_cells src l.ahead) ≡ drop l.fn.count (ahead_cells src l.fn.ahead);
+  kept : Kept g.S.Store l.fn.store l.store;
+  compared : IsTrue (g.S.Store.tells l.fn.store) → IsCompared (g.S.Store.reads l.fn.store) l.last;
+  faults : g.S.Store.read_fault_count l.store ≡ g.S.Store.read_fault_count l.fn.store;
+  read : IsTrue (g.S.Store.tells l.fn.store) → AreWhole (g.S.Store.reads l.fn.store) (ahead_blocks l.fn.ahead)
+      → Running l.all l.fn.count l.left (samples_among (take l.left (ahead_cells (sources_of (g.S.Store.reads l.fn.store)) l.ahead)))
+      (samples_among (take l.fn.count (ahead_cells (sources_of (g.S.Store.reads l.fn.store)) l.fn.ahead)));
+}
+
+abbrev pub decreases-stretches : goal.decreases-stretches
+decreases-stretches g l = l.left

@@ -1,0 +1,15 @@
+//! Envelopes of layouts, from the frames that blocks keep, over any store.
+//!
+//! The layer above uses one contract: `columns` gives the model's scan of the cells of each column. Of a block it reads
+//! the frames of 65,536 and of 256 samples that lie inside a column, and samples at the column's edges alone.
+#![tactic(auto)]
+
+mod ahead;
+mod edges;
+mod parts;
+mod scanning;
+mod sweep;
+#[cfg(test)]
+mod tests;
+
+pub use scanning::columns;

@@ -1,0 +1,231 @@
+// The summary of a part of a block, from whole frames and the samples at its edges.
+ghost use Rattle.std.specs.Prelude.{◌≡◌, ◌≤◌, ◌<◌, ◌+◌, ◌-◌, ◌*◌, length, fold, IsTrue, IfErr};
+ghost use Rattle.disk_model.specs.Disk.{bytes_of};
+ghost use Rattle.disk_model.specs.Frames.{Kept};
+ghost use Rattle.sample_block.specs.Spelling.{IsBlock};
+ghost use Rattle.block_store.specs.Reads.{Counted, HasHeader, IsFault, frame_len};
+ghost use Rattle.block_store.specs.declared.frames.Level.TheVariants.{Short, Long};
+ghost use Rattle.peak_summary.specs.Peaks.{joined, nothing, frame_count};
+ghost use Rattle.envelope_view.specs.Parts.{Summarizes};
+
+use block_store::{BlockFault, Level, read_compared_frames, read_compared_samples};
+use disk_model::Store;
+use pcm_base::BlockRef;
+use peak_summary::{NOTHING, Summary, join, of};
+
+/// How many samples, or frames, are read at once.
+const PIECE: usize = 512;
+
+/// The summary of stretches that follow one another.
+fn join_all(summaries: &[Summary]) -> Summary
+    ensures { result ≡ fold joined nothing summaries.now }
+{
+    let mut all = NOTHING;
+    for s in summaries {
+        all = join(all, *s);
+    }
+    all
+}
+
+/// The number of the frame of 256 samples at which the whole frames before `to` end. The last frame of a block, which
+/// may be of fewer samples, is whole where the part ends with the block.
+fn short_end(len: u32, to: u32) -> u32
+    requires within { to ≤ len }
+    requires few { len ≤ 262144 }
+    ensures frames { result ≤ frame_count 256 len }
+    ensures low { 256 * result < to + 256 }
+    ensures high { to < 256 * result + 256 }
+    ensures last { to < 256 * result → to ≡ len }
+{
+    if to == len {
+        return to.div_ceil(256);
+    }
+    to / 256
+}
+
+/// The same of the frames of 65,536 samples.
+fn long_end(len: u32, to: u32) -> u32
+    requires within { to ≤ len }
+    requires few { len ≤ 262144 }
+    ensures frames { result ≤ frame_count 65536 len }
+    ensures low { 65536 * result < to + 65536 }
+    ensures high { to < 65536 * result + 65536 }
+    ensures last { to < 65536 * result → to ≡ len }
+{
+    if to == len {
+        return to.div_ceil(65536);
+    }
+    to / 65536
+}
+
+/// From the samples alone.
+fn by_samples<S: Store>(
+    store: &mut S,
+    block: BlockRef,
+    from: u32,
+    to: u32,
+) -> Result<Summary, BlockFault>
+    requires block { IsBlock block.id block.len }
+    requires compared { IsTrue (S.tells store.old)
+        → HasHeader block.id block.len (bytes_of (S.reads store.old block.id)) }
+    requires rising { from ≤ to }
+    requires within { to ≤ block.len }
+    requires few { to ≤ from + 512 }
+    ensures read { IsTrue (S.tells store.old) → Summarizes (S.reads store.old) block from to result }
+    ensures damaged { IsTrue (S.tells store.old)
+        → IfErr result (λ e. IsFault block.id block.len (bytes_of (S.reads store.old block.id)) e) }
+    ensures kept { Kept S.Store store.old store.new }
+    ensures faults { Counted result (S.read_fault_count store.old) (S.read_fault_count store.new) }
+{
+    if from == to {
+        return Ok(NOTHING);
+    }
+    let mut buf = [0i16; PIECE];
+    let samples = &mut buf[..(to - from) as usize];
+    read_compared_samples(store, block, from, samples)?;
+    Ok(of(samples))
+}
+
+/// From whole frames, from number `first` up to `end`.
+fn by_frames<S: Store>(
+    store: &mut S,
+    block: BlockRef,
+    level: Level,
+    first: u32,
+    end: u32,
+) -> Result<Summary, BlockFault>
+    requires block { IsBlock block.id block.len }
+    requires compared { IsTrue (S.tells store.old)
+        → HasHeader block.id block.len (bytes_of (S.reads store.old block.id)) }
+    requires rising { first ≤ end }
+    requires within { end ≤ frame_count (frame_len level) block.len }
+    requires few { end ≤ first + 512 }
+    ensures read { IsTrue (S.tells store.old)
+        → Summarizes (S.reads store.old) block (frame_len level * first) (frame_len level * end) result }
+    ensures damaged { IsTrue (S.tells store.old)
+        → IfErr result (λ e. IsFault block.id block.len (bytes_of (S.reads store.old block.id)) e) }
+    ensures kept { Kept S.Store store.old store.new }
+    ensures faults { Counted result (S.read_fault_count store.old) (S.read_fault_count store.new) }
+{
+    let mut buf = [NOTHING; PIECE];
+    let frames = &mut buf[..(end - first) as usize];
+    read_compared_frames(store, block, level, first, frames)?;
+    Ok(join_all(frames))
+}
+
+/// From whole short frames, from number `first` up to `end`, and the samples behind them up to `to`.
+fn short_then_samples<S: Store>(
+    store: &mut S,
+    block: BlockRef,
+    first: u32,
+    end: u32,
+    to: u32,
+) -> Result<Summary, BlockFault>
+    requires block { IsBlock block.id block.len }
+    requires compared { IsTrue (S.tells store.old)
+        → HasHeader block.id block.len (bytes_of (S.reads store.old block.id)) }
+    requires rising { first < end }
+    requires within { to ≤ block.len }
+    requires frames { end ≤ frame_count 256 block.len }
+    requires few { end ≤ first + 512 }
+    requires behind { 256 * end < to + 256 }
+    requires rest { to < 256 * end + 256 }
+    requires last { to < 256 * end → to ≡ block.len }
+    ensures read { IsTrue (S.tells store.old) → Summarizes (S.reads store.old) block (256 * first) to result }
+    ensures damaged { IsTrue (S.tells store.old)
+        → IfErr result (λ e. IsFault block.id block.len (bytes_of (S.reads store.old block.id)) e) }
+    ensures kept { Kept S.Store store.old store.new }
+    ensures faults { Counted result (S.read_fault_count store.old) (S.read_fault_count store.new) }
+{
+    let front = by_frames(store, block, Level::Short, first, end)?;
+    let from = to.min(256 * end);
+    let back = by_samples(store, block, from, to)?;
+    Ok(join(front, back))
+}
+
+/// From whole short frames, and the samples at the edges.
+fn by_short<S: Store>(
+    store: &mut S,
+    block: BlockRef,
+    from: u32,
+    to: u32,
+) -> Result<Summary, BlockFault>
+    requires block { IsBlock block.id block.len }
+    requires compared { IsTrue (S.tells store.old)
+        → HasHeader block.id block.len (bytes_of (S.reads store.old block.id)) }
+    requires rising { from ≤ to }
+    requires within { to ≤ block.len }
+    requires few { to ≤ from + 131072 }
+    ensures read { IsTrue (S.tells store.old) → Summarizes (S.reads store.old) block from to result }
+    ensures damaged { IsTrue (S.tells store.old)
+        → IfErr result (λ e. IsFault block.id block.len (bytes_of (S.reads store.old block.id)) e) }
+    ensures kept { Kept S.Store store.old store.new }
+    ensures faults { Counted result (S.read_fault_count store.old) (S.read_fault_count store.new) }
+{
+    let first = from.div_ceil(256);
+    let end = short_end(block.len, to);
+    if first >= end {
+        return by_samples(store, block, from, to);
+    }
+    let front = by_samples(store, block, from, 256 * first)?;
+    let back = short_then_samples(store, block, first, end, to)?;
+    Ok(join(front, back))
+}
+
+/// From whole long frames, from number `first` up to `end`, and what is behind them up to `to`.
+fn long_then_short<S: Store>(
+    store: &mut S,
+    block: BlockRef,
+    first: u32,
+    end: u32,
+    to: u32,
+) -> Result<Summary, BlockFault>
+    requires block { IsBlock block.id block.len }
+    requires compared { IsTrue (S.tells store.old)
+        → HasHeader block.id block.len (bytes_of (S.reads store.old block.id)) }
+    requires rising { first < end }
+    requires within { to ≤ block.len }
+    requires frames { end ≤ frame_count 65536 block.len }
+    requires behind { 65536 * end < to + 65536 }
+    requires rest { to < 65536 * end + 65536 }
+    requires last { to < 65536 * end → to ≡ block.len }
+    ensures read { IsTrue (S.tells store.old) → Summarizes (S.reads store.old) block (65536 * first) to result }
+    ensures damaged { IsTrue (S.tells store.old)
+        → IfErr result (λ e. IsFault block.id block.len (bytes_of (S.reads store.old block.id)) e) }
+    ensures kept { Kept S.Store store.old store.new }
+    ensures faults { Counted result (S.read_fault_count store.old) (S.read_fault_count store.new) }
+{
+    let front = by_frames(store, block, Level::Long, first, end)?;
+    let from = to.min(65536 * end);
+    let back = by_short(store, block, from, to)?;
+    Ok(join(front, back))
+}
+
+/// The summary of a part of a block whose header was compared: from whole long frames, whole short frames beside them,
+/// and the samples at the edges.
+pub(crate) fn summarize<S: Store>(
+    store: &mut S,
+    block: BlockRef,
+    from: u32,
+    to: u32,
+) -> Result<Summary, BlockFault>
+    requires block { IsBlock block.id block.len }
+    requires compared { IsTrue (S.tells store.old)
+        → HasHeader block.id block.len (bytes_of (S.reads store.old block.id)) }
+    requires rising { from ≤ to }
+    requires within { to ≤ block.len }
+    ensures read { IsTrue (S.tells store.old) → Summarizes (S.reads store.old) block from to result }
+    ensures damaged { IsTrue (S.tells store.old)
+        → IfErr result (λ e. IsFault block.id block.len (bytes_of (S.reads store.old block.id)) e) }
+    ensures kept { Kept S.Store store.old store.new }
+    ensures faults { Counted result (S.read_fault_count store.old) (S.read_fault_count store.new) }
+{
+    let first = from.div_ceil(65536);
+    let end = long_end(block.len, to);
+    if first >= end {
+        return by_short(store, block, from, to);
+    }
+    let front = by_short(store, block, from, 65536 * first)?;
+    let back = long_then_short(store, block, first, end, to)?;
+    Ok(join(front, back))
+}

@@ -1,0 +1,115 @@
+// The summary of the next cells of a layout.
+ghost use Rattle.std.specs.Prelude.{◌≡◌, ◌≤◌, ◌^◌, take, drop, Contains, IsTrue, IfOk, IfErr, OnOk};
+ghost use Rattle.disk_model.specs.Disk.{bytes_of};
+ghost use Rattle.disk_model.specs.Frames.{Kept};
+ghost use Rattle.sample_block.specs.Spelling.{IsBlock};
+ghost use Rattle.sample_block.specs.Sources.{sources_of};
+ghost use Rattle.block_store.specs.Reads.{Counted, IsCompared, IsFault, IsFaultIn};
+ghost use Rattle.block_store.specs.Scans.{samples_among};
+ghost use Rattle.peak_summary.specs.Peaks.{summary_of};
+ghost use Rattle.pcm_base.specs.Pieces.{Sources};
+ghost use Rattle.envelope_view.specs.Ahead.{IsInBlock, ahead_blocks, ahead_cells, stretch_blocks, stretch_cells, stretch_len};
+ghost use Rattle.envelope_view.specs.Named.{AreNamed, AreWhole};
+ghost use Rattle.envelope_view.specs.Parts.{Summarizes};
+
+use super::ahead::{Ahead, behind, len_of};
+use super::parts::summarize;
+use block_store::{BlockFault, compare_once};
+use clip_track::Stretch;
+use disk_model::Store;
+use pcm_base::BlockRef;
+use peak_summary::{NOTHING, Summary, join};
+
+/// The summary of a part of a block, whose header is read unless it was the last that was compared.
+fn summarize_block<S: Store>(
+    store: &mut S,
+    last: &mut Option<BlockRef>,
+    block: BlockRef,
+    from: u32,
+    to: u32,
+) -> Result<Summary, BlockFault>
+    requires block { IsBlock block.id block.len }
+    requires rising { from ≤ to }
+    requires within { to ≤ block.len }
+    requires compared { IsTrue (S.tells store.old) → IsCompared (S.reads store.old) last.old }
+    ensures compared { IsTrue (S.tells store.old) → IsCompared (S.reads store.old) last.new }
+    ensures read { IsTrue (S.tells store.old) → Summarizes (S.reads store.old) block from to result }
+    ensures damaged { IsTrue (S.tells store.old)
+        → IfErr result (λ e. IsFault block.id block.len (bytes_of (S.reads store.old block.id)) e) }
+    ensures kept { Kept S.Store store.old store.new }
+    ensures faults { Counted result (S.read_fault_count store.old) (S.read_fault_count store.new) }
+{
+    if let Err(fault) = compare_once(store, last, block) {
+        return Err(fault);
+    }
+    summarize(store, block, from, to)
+}
+
+/// The summary of the samples among the first cells of a stretch.
+fn summarize_stretch<S: Store>(
+    store: &mut S,
+    last: &mut Option<BlockRef>,
+    stretch: Stretch,
+    count: u64,
+) -> Result<Summary, BlockFault>
+    requires stretch { IsInBlock stretch }
+    requires within { count ≤ stretch_len stretch }
+    requires named { AreNamed (stretch_blocks stretch) }
+    requires compared { IsTrue (S.tells store.old) → IsCompared (S.reads store.old) last.old }
+    ensures compared { IsTrue (S.tells store.old) → IsCompared (S.reads store.old) last.new }
+    ensures read { IsTrue (S.tells store.old) → AreWhole (S.reads store.old) (stretch_blocks stretch)
+        → IfOk result (λ s. s ≡ summary_of (samples_among (take count (stretch_cells
+        (sources_of (S.reads store.old)) stretch)))) }
+    ensures damaged { IsTrue (S.tells store.old)
+        → IfErr result (λ e. IsFaultIn (S.reads store.old) (stretch_blocks stretch) e) }
+    ensures kept { Kept S.Store store.old store.new }
+    ensures faults { Counted result (S.read_fault_count store.old) (S.read_fault_count store.new) }
+{
+    match stretch {
+        Stretch::Gaps { .. } => Ok(NOTHING),
+        Stretch::Block { block, from } => {
+            let to = from + count as u32;
+            let summary = summarize_block(store, last, block, from, to)?;
+            Ok(summary)
+        }
+    }
+}
+
+/// The summary of the samples among the next cells, so many or as many as there are. What is left begins behind
+/// them, and `last` is the block whose header was compared last.
+pub(crate) fn sweep<S: Store>(
+    store: &mut S,
+    last: &mut Option<BlockRef>,
+    ahead: &mut Ahead,
+    count: u64,
+) -> Result<Summary, BlockFault>
+    requires few { count ≤ 2 ^ 32 }
+    requires stretch { IsInBlock ahead.old.stretch }
+    requires named { AreNamed (ahead_blocks ahead.old) }
+    requires compared { IsTrue (S.tells store.old) → IsCompared (S.reads store.old) last.old }
+    ensures compared { IsTrue (S.tells store.old) → IsCompared (S.reads store.old) last.new }
+    ensures stretch { IsInBlock ahead.new.stretch }
+    ensures blocks { (b : BlockRef) → Contains (ahead_blocks ahead.new) b → Contains (ahead_blocks ahead.old) b }
+    ensures passed { OnOk result ((src : Sources) → ahead_cells src ahead.new ≡ drop count (ahead_cells src ahead.old)) }
+    ensures read { IsTrue (S.tells store.old) → AreWhole (S.reads store.old) (ahead_blocks ahead.old)
+        → IfOk result (λ s. s ≡ summary_of (samples_among (take count (ahead_cells (sources_of (S.reads store.old))
+        ahead.old)))) }
+    ensures damaged { IsTrue (S.tells store.old)
+        → IfErr result (λ e. IsFaultIn (S.reads store.old) (ahead_blocks ahead.old) e) }
+    ensures kept { Kept S.Store store.old store.new }
+    ensures faults { Counted result (S.read_fault_count store.old) (S.read_fault_count store.new) }
+{
+    let mut all = NOTHING;
+    let mut left = count;
+    'stretches: while left > 0 {
+        let Some(stretch) = ahead.next() else {
+            return Ok(all);
+        };
+        let size = left.min(len_of(stretch));
+        let part = summarize_stretch(store, last, stretch, size)?;
+        all = join(all, part);
+        ahead.stretch = behind(stretch, size);
+        left -= size;
+    }
+    Ok(all)
+}
