@@ -47,6 +47,10 @@ stereo fs rate = record { rate = rate; channels = map (λ f. f.left) fs ∷ map 
 abbrev pub FitsFile : ℕ → Type 0
 FitsFile count = 36 + 4 * count < 4294967296
 
+-- a file of so many frames up to its first frame
+abbrev pub wav_head : ℕ → ℕ → List ℕ
+wav_head count rate = wave.riff_header count ++ (wave.format_head ++ (wave.format_tail rate ++ wave.data_head count))
+
 -- TooLong comes for frames that do not fit, and tells how many they are
 abbrev pub IsTooLong : ℕ → BadFrames → Type 0
 IsTooLong count (frames.TooLong told) = (told ≡ count) × (4294967295 < 36 + 4 * count)

@@ -4,7 +4,7 @@ ghost use Rattle.std.specs.List.{flat_map};
 ghost use Rattle.std.specs.Int.{w16};
 ghost use Rattle.pcm_base.specs.Wave.{riff_header, format_head, format_tail, data_head, wav_of, wav_text};
 ghost use Rattle.pcm_base.specs.Recordings.{bytes_of_frame, frame_bytes};
-ghost use Rattle.wav_pcm.specs.Wavs.{IsTooLong, FitsFile, FramesFit, stereo};
+ghost use Rattle.wav_pcm.specs.Wavs.{IsTooLong, FitsFile, FramesFit, stereo, wav_head};
 
 use super::bad::BadFrames;
 use byteorder::{ByteOrder, LittleEndian};
@@ -12,7 +12,7 @@ use pcm_base::Frame;
 use std::alloc::Global;
 
 /// The most frames of a file.
-const MAX_FRAMES: usize = 1_073_741_814;
+pub const MAX_FRAMES: usize = 1_073_741_814;
 
 /// The RIFF header.
 fn write_riff(count: u32, out: &mut [u8])
@@ -65,7 +65,8 @@ fn write_frame(frame: &Frame, out: &mut [u8])
     LittleEndian::write_i16(&mut out[2..], frame.right);
 }
 
-fn write_frames(frames: &[Frame], out: &mut [u8])
+/// The bytes of frames, as they stand in a file.
+pub fn write_frames(frames: &[Frame], out: &mut [u8])
     requires { length out.old ≡ 4 * length frames.now }
     ensures { out.new ≡ frame_bytes frames.now }
 {
@@ -74,43 +75,43 @@ fn write_frames(frames: &[Frame], out: &mut [u8])
     }
 }
 
-/// The `data` chunk.
-fn write_sound(frames: &[Frame], out: &mut [u8])
-    requires room { length out.old ≡ 8 + 4 * length frames.now }
-    requires few { FitsFile (length frames.now) }
-    ensures { out.new ≡ data_head (length frames.now) ++ frame_bytes frames.now }
-{
-    write_data_head(frames.len() as u32, &mut out[..8]);
-    write_frames(frames, &mut out[8..]);
-}
-
-/// What follows the front of the `fmt ` chunk.
-fn write_rest(frames: &[Frame], rate: u32, out: &mut [u8])
-    requires room { length out.old ≡ 20 + 4 * length frames.now }
-    requires few { FitsFile (length frames.now) }
-    ensures { out.new ≡ format_tail rate ++ (data_head (length frames.now) ++ frame_bytes frames.now) }
+/// What follows the front of the `fmt ` chunk, up to the frames.
+fn write_rest(count: u32, rate: u32, out: &mut [u8])
+    requires room { length out.old ≡ 20 }
+    requires few { FitsFile count }
+    ensures { out.new ≡ format_tail rate ++ data_head count }
 {
     write_format_tail(rate, &mut out[..12]);
-    write_sound(frames, &mut out[12..]);
+    write_data_head(count, &mut out[12..]);
 }
 
-/// Both chunks.
-fn write_chunks(frames: &[Frame], rate: u32, out: &mut [u8])
-    requires room { length out.old ≡ 32 + 4 * length frames.now }
-    requires few { FitsFile (length frames.now) }
-    ensures { out.new ≡ format_head ++ (format_tail rate ++ (data_head (length frames.now) ++ frame_bytes frames.now)) }
+/// What follows the RIFF header, up to the frames.
+fn write_chunk_heads(count: u32, rate: u32, out: &mut [u8])
+    requires room { length out.old ≡ 32 }
+    requires few { FitsFile count }
+    ensures { out.new ≡ format_head ++ (format_tail rate ++ data_head count) }
 {
     write_format_head(&mut out[..12]);
-    write_rest(frames, rate, &mut out[12..]);
+    write_rest(count, rate, &mut out[12..]);
+}
+
+/// The bytes of a file of so many frames up to the first frame.
+pub fn write_head(count: u32, rate: u32, out: &mut [u8])
+    requires room { length out.old ≡ 44 }
+    requires few { FitsFile count }
+    ensures { out.new ≡ wav_head count rate }
+{
+    write_riff(count, &mut out[..12]);
+    write_chunk_heads(count, rate, &mut out[12..]);
 }
 
 fn write_file(frames: &[Frame], rate: u32, out: &mut [u8])
     requires room { length out.old ≡ 44 + 4 * length frames.now }
     requires few { FitsFile (length frames.now) }
-    ensures { out.new ≡ wav_text frames.now rate }
+    ensures { out.new ≡ wav_head (length frames.now) rate ++ frame_bytes frames.now }
 {
-    write_riff(frames.len() as u32, &mut out[..12]);
-    write_chunks(frames, rate, &mut out[12..]);
+    write_head(frames.len() as u32, rate, &mut out[..44]);
+    write_frames(frames, &mut out[44..]);
 }
 
 // A copy, of which its type says that its sides fit 16 bits.
