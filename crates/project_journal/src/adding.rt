@@ -1,6 +1,7 @@
 // One more record.
 ghost use Rattle.std.specs.Prelude.{◌≡◌, ◌+◌, ◌^◌, ◌<◌, ◌≤◌, length, IsTrue, vec_capacity};
 ghost use Rattle.std.specs.Prelude.{OnOk, OnErr, IfOk, IfErr, IsErrOf};
+ghost use Rattle.pcm_base.specs.Causes.{Rose};
 ghost use Rattle.disk_model.specs.Disk.{SameElsewhere};
 ghost use Rattle.disk_model.specs.Frames.{Changed};
 ghost use Rattle.project_journal.specs.Gate.{EachSince, IsDurable};
@@ -41,6 +42,9 @@ pub fn append<S: Store>(
     ensures durable { OnOk result (IsDurable S.Store store.new 0) }
     ensures answer { Appends at (length body.now) result }
     ensures cause { Causes S.Store store.old store.new result }
+    // A fault is a change that failed.
+    ensures rose { IsErrOf result JournalFault.DiskFault
+        → Rose (S.change_fault_count store.old) (S.change_fault_count store.new) }
 
     // It takes no memory where the scratch has room.
     ensures room { IsErrOf result JournalFault.NoMemory → vec_capacity scratch.old < 5 + length body.now }
@@ -71,6 +75,9 @@ pub fn append_small<S: Store>(store: &mut S, at: u64, body: &[u8]) -> Result<u64
     ensures durable { OnOk result (IsDurable S.Store store.new 0) }
     ensures answer { Appends at (length body.now) result }
     ensures cause { Causes S.Store store.old store.new result }
+    // A fault is a change that failed.
+    ensures rose { IsErrOf result JournalFault.DiskFault
+        → Rose (S.change_fault_count store.old) (S.change_fault_count store.new) }
     ensures memory { IsErrOf result JournalFault.NoMemory → ⊥ }
     ensures untouched { OnErr result ((IsErrOf result JournalFault.DiskFault → ⊥) → store.new ≡ store.old) }
 
