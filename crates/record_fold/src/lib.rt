@@ -1,0 +1,18 @@
+//! What the records of a journal lead to: a history of points and the numbers that never fall, or the first fault among
+//! the records, in the order of the file.
+//!
+//! The layer above uses `fold_journal`: Ok exactly where no record has a fault and the file does not end too early, with
+//! the project to which the records lead; else the first fault, with its place, the value that is asked for and the one
+//! that is there. No disk is used here.
+#![tactic(auto)]
+
+mod folding;
+mod laws;
+mod project;
+mod steps;
+#[cfg(test)]
+mod tests;
+
+pub use folding::fold_journal;
+pub use laws::records_that_lead_have_no_fault;
+pub use project::Project;

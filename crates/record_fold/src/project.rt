@@ -1,0 +1,42 @@
+// A project while records are folded into it.
+ghost use Rattle.std.specs.Prelude.{◌≡◌, ◌≤◌, IfOk};
+ghost use Rattle.project_state.specs.Kept.{new_project};
+ghost use Rattle.record_fold.specs.Folds.{kept_of};
+
+use pcm_base::NoMemory;
+use project_state::Point;
+use std::alloc::Global;
+use undo_history::History;
+
+/// The least id of a block: lower files hold no sound.
+const FIRST_BLOCK: u64 = 16;
+
+/// What records lead to: the points of a project, and the numbers that never fall.
+#[derive(Drop)]
+pub struct Project {
+    pub history: History<Point>,
+    /// The least id of a block that was not given yet, from 16.
+    pub next_block: u64,
+    /// The least id of a track that was not given yet, from 1.
+    pub next_track: u64,
+    /// How many records there were.
+    pub commit: u64,
+}
+
+impl Project {
+    /// The project of no records, whose one point has no tracks. At most `depth` points are kept, at least 1.
+    pub fn new(alloc: Global, depth: u32) -> Result<Project, NoMemory>
+        requires { 1 ≤ depth }
+        ensures { IfOk result (λ p. kept_of p ≡ new_project depth) }
+    {
+        match History::new(alloc, Point::new(alloc), 0, depth) {
+            Ok(history) => Ok(Project {
+                history,
+                next_block: FIRST_BLOCK,
+                next_track: 1,
+                commit: 0,
+            }),
+            Err(_) => Err(NoMemory),
+        }
+    }
+}

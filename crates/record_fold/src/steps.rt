@@ -1,0 +1,144 @@
+// What one record makes of a project.
+ghost use Rattle.std.specs.Prelude.{◌≡◌, ◌+◌, ◌-◌, ◌<◌, ◌^◌, ◌∷◌, [], OnOk};
+ghost use Rattle.pcm_base.specs.History.{at_cursor, purged, recorded};
+ghost use Rattle.project_state.specs.declared.body.Body.TheVariants as body;
+ghost use Rattle.project_state.specs.FirstFault.{Finds, least};
+ghost use Rattle.project_state.specs.Kept.{after_body};
+ghost use Rattle.record_fold.specs.Faults as fault;
+ghost use Rattle.record_fold.specs.Faults.{history_tests};
+ghost use Rattle.record_fold.specs.Folds.{kept_of};
+
+use super::project::Project;
+use pcm_base::NoMemory;
+use project_journal::Damaged;
+use project_state::{BadBody, Body, Point};
+use undo_history::History;
+
+/// A further piece of the recording that the current point's tag tells goes into that point; all else is a new point.
+fn record_point(history: &mut History<Point>, point: Point, tag: u64) -> Result<(), NoMemory>
+    ensures { OnOk result (history.new.history ≡ recorded history.old.history point tag) }
+{
+    if tag != 0 && history.tag(history.cursor()) == tag {
+        history.amend(point);
+        return Ok(());
+    }
+    match history.push(point, tag) {
+        Ok(()) => Ok(()),
+        Err(_) => Err(NoMemory),
+    }
+}
+
+/// The history has nowhere to go, which is told at the record's kind.
+fn nowhere(at: u64) -> BadBody
+    ensures { result ≡ BadBody.Damaged (record { at = at; want = 1; have = 0 }) }
+{
+    BadBody::Damaged {
+        fault: Damaged {
+            at,
+            want: 1,
+            have: 0,
+        },
+    }
+}
+
+/// An undo.
+fn go_back(history: &mut History<Point>, at: u64) -> Result<(), BadBody>
+    ensures { Finds (history_tests history.old.history at body.Undo)
+        (λ _. history.new.history ≡ at_cursor history.old.history (history.old.history.cursor - 1)) result }
+{
+    match history.undo() {
+        Ok(()) => Ok(()),
+        Err(_) => Err(nowhere(at)),
+    }
+}
+
+/// A redo.
+fn go_forth(history: &mut History<Point>, at: u64) -> Result<(), BadBody>
+    ensures { Finds (history_tests history.old.history at body.Redo)
+        (λ _. history.new.history ≡ at_cursor history.old.history (history.old.history.cursor + 1)) result }
+{
+    match history.redo() {
+        Ok(()) => Ok(()),
+        Err(_) => Err(nowhere(at)),
+    }
+}
+
+/// The fault of a purge of more points than stand before the current one, of which there are `most`, or of none.
+fn out_of_range(at: u64, n: u64, most: usize) -> BadBody
+    ensures { result ≡ BadBody.Damaged (fault.out_of_range at n most) }
+{
+    if most == 0 {
+        return nowhere(at);
+    }
+    BadBody::Damaged {
+        fault: Damaged {
+            at: at.saturating_add(1),
+            want: n.min(most as u64).max(1) as u128,
+            have: n as u128,
+        },
+    }
+}
+
+/// A purge.
+fn drop_oldest(history: &mut History<Point>, at: u64, n: u64) -> Result<(), BadBody>
+    ensures { Finds (history_tests history.old.history at (body.Purge n))
+        (λ _. history.new.history ≡ purged history.old.history n) result }
+{
+    match history.purge(n) {
+        Ok(()) => Ok(()),
+        Err(_) => Err(out_of_range(at, n, history.cursor())),
+    }
+}
+
+/// An edit, or a piece of a recording.
+fn take_edit(
+    project: &mut Project,
+    tag: u64,
+    next_block: u64,
+    next_track: u64,
+    point: Point,
+) -> Result<(), NoMemory>
+    requires { project.old.commit < 2 ^ 64 - 1 }
+    ensures { OnOk result (kept_of project.new
+        ≡ after_body (kept_of project.old) (body.Edit tag next_block next_track point)) }
+{
+    record_point(&mut project.history, point, tag)?;
+    project.next_block = next_block;
+    project.next_track = next_track;
+    project.commit += 1;
+    Ok(())
+}
+
+/// Tests what the history asks of a record, and does to the project what the record says.
+pub(crate) fn take_body(project: &mut Project, at: u64, body: Body) -> Result<(), BadBody>
+    requires { project.old.commit < 2 ^ 64 - 1 }
+    ensures { Finds (history_tests project.old.history.history at body)
+        (λ _. kept_of project.new ≡ after_body (kept_of project.old) body) result }
+{
+    match body {
+        Body::Edit {
+            tag,
+            next_block,
+            next_track,
+            point,
+        } => {
+            take_edit(project, tag, next_block, next_track, point)?;
+            Ok(())
+        }
+        Body::Undo => {
+            go_back(&mut project.history, at)?;
+            project.commit += 1;
+            Ok(())
+        }
+        Body::Redo => {
+            go_forth(&mut project.history, at)?;
+            project.commit += 1;
+            Ok(())
+        }
+        Body::Purge { n } => {
+            drop_oldest(&mut project.history, at, n)?;
+            project.commit += 1;
+            Ok(())
+        }
+    }
+}
