@@ -1,0 +1,94 @@
+-- Calls in turn, by the faults that the disk counts in them.
+use Rattle.std.proofs.Common.{◌≡◌, ◌≤◌, ℕ, inl, inr, ⊎_elim, ◌⊎◌, Result, Ok, Err, refl, sym, subst, ◌∙◌, arith}
+use Rattle.std.specs.Prelude.{IfErr, IsErrOf}
+use Rattle.pcm_base.specs.Causes.{Rose}
+use Rattle.disk_model.specs.declared.store.Store.{Ghosts}
+use Rattle.project_journal.specs.Answer.{NoFault, HasFault}
+use Rattle.project_journal.specs.Answer as journal
+use Rattle.project_journal.specs.declared.fault.JournalFault.{JournalFault}
+use Rattle.project_journal.specs.declared.fault.JournalFault.TheVariants as fault_of
+use Rattle.editor_recovery.specs.declared.fault.OpenFault.{OpenFault}
+use Rattle.editor_recovery.specs.declared.fault.OpenFault.TheVariants as fault
+use Rattle.editor_recovery.specs.Causes.{Causes}
+
+module _ {D : Type 0} (disk : Ghosts D) where
+  pub none_turn : (old mid new : D) → NoFault disk old mid → NoFault disk mid new → NoFault disk old new
+  none_turn old mid new f g = record {
+    same_read_faults = g.same_read_faults ∙ f.same_read_faults;
+    same_change_faults = g.same_change_faults ∙ f.same_change_faults;
+  }
+
+  fault_after : (old mid new : D) → NoFault disk old mid → HasFault disk mid new → HasFault disk old new
+  fault_after old mid new f g = record {
+    rose = ⊎_elim (λ r. inl (subst (λ (n : ℕ). Rose n (disk.read_fault_count new)) f.same_read_faults r))
+        (λ r. inr (subst (λ (n : ℕ). Rose n (disk.change_fault_count new)) f.same_change_faults r)) g.rose;
+    later_reads = omega (arith, f.same_read_faults, g.later_reads);
+    later_changes = omega (arith, f.same_change_faults, g.later_changes);
+  }
+
+  -- what a call answers after calls that counted no fault
+  pub causes_turn : {T : Type 0} (old mid new : D) (r : Result T OpenFault) → NoFault disk old mid
+      → Causes disk mid new r → Causes disk old new r
+  causes_turn old mid new (Ok x) f g = none_turn old mid new f g
+  causes_turn old mid new (Err fault.DiskFault) f g = fault_after old mid new f g
+  causes_turn old mid new (Err fault.Absent) f g = none_turn old mid new f g
+  causes_turn old mid new (Err fault.Exists) f g = none_turn old mid new f g
+  causes_turn old mid new (Err fault.NoMemory) f g = none_turn old mid new f g
+  causes_turn old mid new (Err (fault.Foreign file)) f g = none_turn old mid new f g
+  causes_turn old mid new (Err (fault.Damaged file at want have)) f g = none_turn old mid new f g
+
+  -- the same of a refusal that another call hands on
+  pub causes_handed : (T U : Type 0) (old mid new : D) (e : OpenFault) → NoFault disk old mid
+      → Causes {T = T} disk mid new (Err e) → Causes {T = U} disk old new (Err e)
+  causes_handed T U old mid new fault.DiskFault f g = fault_after old mid new f g
+  causes_handed T U old mid new fault.Absent f g = none_turn old mid new f g
+  causes_handed T U old mid new fault.Exists f g = none_turn old mid new f g
+  causes_handed T U old mid new fault.NoMemory f g = none_turn old mid new f g
+  causes_handed T U old mid new (fault.Foreign file) f g = none_turn old mid new f g
+  causes_handed T U old mid new (fault.Damaged file at want have) f g = none_turn old mid new f g
+
+  -- what is worked out after them without the disk
+  pub causes_none : {T : Type 0} (old new : D) (r : Result T OpenFault) → NoFault disk old new
+      → (IsErrOf r fault.DiskFault → ⊥) → Causes disk old new r
+  causes_none old new (Ok x) f not = f
+  causes_none old new (Err fault.DiskFault) f not = absurd (not refl)
+  causes_none old new (Err fault.Absent) f not = f
+  causes_none old new (Err fault.Exists) f not = f
+  causes_none old new (Err fault.NoMemory) f not = f
+  causes_none old new (Err (fault.Foreign file)) f not = f
+  causes_none old new (Err (fault.Damaged file at want have)) f not = f
+
+  -- the same of a refusal that is handed on
+  pub refused_none : (T U : Type 0) (old new : D) (e : OpenFault) → NoFault disk old new
+      → (IsErrOf {T = T} (Err e) fault.DiskFault → ⊥) → Causes {T = U} disk old new (Err e)
+  refused_none T U old new fault.DiskFault f not = absurd (not refl)
+  refused_none T U old new fault.Absent f not = f
+  refused_none T U old new fault.Exists f not = f
+  refused_none T U old new fault.NoMemory f not = f
+  refused_none T U old new (fault.Foreign file) f not = f
+  refused_none T U old new (fault.Damaged file at want have) f not = f
+
+  -- a refusal of the journal that is not the disk's
+  pub journal_none : (T : Type 0) (old new : D) (e : JournalFault) → (e ≡ fault_of.DiskFault → ⊥)
+      → journal.Causes {T = T} disk old new (Err e) → NoFault disk old new
+  journal_none T old new fault_of.DiskFault not f = absurd (not refl)
+  journal_none T old new fault_of.Absent not f = f
+  journal_none T old new fault_of.Exists not f = f
+  journal_none T old new fault_of.NoMemory not f = f
+  journal_none T old new (fault_of.Damaged file at want have) not f = f
+  journal_none T old new (fault_of.SpaceSpent have need) not f = f
+
+  -- no call at all
+  pub no_fault : (store : D) → NoFault disk store store
+  no_fault store = record { same_read_faults = refl; same_change_faults = refl }
+
+-- want of memory is no fault of the disk
+pub memory_none : {T : Type 0} (r : Result T OpenFault) → IfErr r (λ e. e ≡ fault.NoMemory)
+    → IsErrOf r fault.DiskFault → ⊥
+memory_none (Ok x) memory e = absurd cc
+memory_none (Err fault.DiskFault) memory e = absurd cc
+memory_none (Err fault.Absent) memory e = absurd cc
+memory_none (Err fault.Exists) memory e = absurd cc
+memory_none (Err fault.NoMemory) memory e = absurd cc
+memory_none (Err (fault.Foreign file)) memory e = absurd cc
+memory_none (Err (fault.Damaged file at want have)) memory e = absurd cc

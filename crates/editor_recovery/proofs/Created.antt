@@ -1,0 +1,158 @@
+-- A project is made, and an honest disk stays honest.
+use Rattle.std.proofs.Common.{◌≡◌, ◌≢◌, ℕ, ◌≤◌, Bool, true, false, inl, inr, ⊎_elim, ◌⊎◌, List, [], ◌∷◌, Option, Some, None, Result, Ok, Err, refl, sym, ap, subst, ◌∙◌, arith}
+use Rattle.std.specs.Prelude.{Contains, IsSome, IsTrue, IfErr, IfOk, OnOk}
+use Rattle.pcm_base.specs.declared.block.BlockRef.{BlockRef}
+use Rattle.disk_model.specs.MomentLaws.{upto_refl}
+use Rattle.disk_model.specs.Disk.{Files, bytes_of, Follows, StaysStep, SameElsewhere}
+use Rattle.disk_model.specs.Frames.{Kept}
+use Rattle.disk_model.proofs.Frames.{kept_turn}
+use Rattle.disk_model.specs.declared.store.Store.{Ghosts}
+use Rattle.project_journal.specs.Header.{version_1}
+use Rattle.project_journal.specs.Gate.{EachNow}
+use Rattle.project_journal.specs.Journal.{Log, HasLog, IsAt, fresh}
+use Rattle.project_journal.specs.Start.{NoProject}
+use Rattle.project_journal.proofs.Kept.{is_project, each_has}
+use Rattle.project_journal.proofs.Once.{log_once}
+use Rattle.project_state.specs.Kept as keeping
+use Rattle.project_state.specs.Kept.{new_project, LeadTo, history_blocks, Keeps}
+use Rattle.editor_recovery.specs.declared.fault.OpenFault.{OpenFault}
+use Rattle.editor_recovery.specs.declared.fault.OpenFault.TheVariants as fault
+use Rattle.editor_recovery.specs.Listing.{TellsForeign}
+use Rattle.editor_recovery.specs.Creating.{new_opened, HasNoForeign, Creates, LeavesRefused}
+use Rattle.editor_recovery.specs.Files.{is_foreign, NoForeign}
+use Rattle.editor_recovery.specs.Honest.{Names, IsHonest}
+
+-- the new journal is the new project
+pub keeps_new : (rate block_size depth : ℕ) (c : Files) → HasLog version_1 (fresh rate block_size depth) c → Keeps c (new_opened rate block_size depth)
+keeps_new rate block_size depth c has = record { log = fresh rate block_size depth; kept = new_project depth; there = has; told = refl; whole = tt; is = refl }
+
+-- no point of it names a block
+no_names : (rate block_size depth : ℕ) (c : Files) (id : ℕ) → HasLog version_1 (fresh rate block_size depth) c → Names c id → ⊥
+no_names rate block_size depth c id has names =
+    let log = fresh rate block_size depth in
+    let same : names.log ≡ log = log_once version_1 names.log log c names.there has in
+    let told : names.kept ≡ new_project depth = subst (λ (l : Log). LeadTo l.block_size (new_project l.depth) l.bodies names.kept) same names.told in
+    nothing (subst (λ (k : keeping.Kept). Contains (history_blocks k.history) names.block) told names.named)
+  where
+    nothing : Contains [] names.block → ⊥
+    nothing (k, lt, e) = omega (arith, lt)
+
+no_project_names : (c : Files) (id : ℕ) → NoProject 0 c → Names c id → ⊥
+no_project_names c id none names = none (is_project version_1 names.log c (omega arith) names.there)
+
+not_journal : (file : ℕ) → IsTrue (is_foreign file) → file ≢ 0
+not_journal file foreign = λ e. let no : false ≡ true = ap is_foreign (sym e) ∙ foreign in absurd cc
+
+module _ {D : Type 0} (disk : Ghosts D) (old new : D) where
+  -- each image now was one before, but for what the calls did
+  now_before : {step : Files → Files → Type 0}
+      → Follows step (disk.clock old) (disk.clock new) (disk.may_leave old) (disk.may_leave new)
+      → (c : Files) → disk.may_leave new (disk.clock new) c → disk.may_leave new (disk.clock old) c
+  now_before follows c now = follows.fewer (disk.clock old) (disk.clock new) c follows.later (upto_refl (disk.clock new)) now
+
+  -- calls that write nothing
+  pub still_honest : Follows StaysStep (disk.clock old) (disk.clock new) (disk.may_leave old) (disk.may_leave new)
+      → disk.keeps_model new ≡ disk.keeps_model old → IsHonest disk old → IsHonest disk new
+  still_honest follows model honest =
+      let back : (c : Files) → disk.may_leave new (disk.clock new) c → disk.may_leave old (disk.clock old) c =
+      λ c now. let d = follows.from c (now_before follows c now) in
+      subst (disk.may_leave old (disk.clock old)) (sym d.2) d.1 in
+      record {
+        model = subst IsTrue (sym model) honest.model;
+        foreign = λ c now. honest.foreign c (back c now);
+        whole = λ c now. honest.whole c (back c now);
+        same = λ c nc d nd. honest.same c (back c nc) d (back d nd);
+      }
+
+  -- a creation
+  pub made_honest : (rate block_size depth : ℕ)
+      → Follows (SameElsewhere 0) (disk.clock old) (disk.clock new) (disk.may_leave old) (disk.may_leave new)
+      → disk.keeps_model new ≡ disk.keeps_model old
+      → ((c : Files) → disk.may_leave new (disk.clock old) c → disk.may_leave old (disk.clock old) c
+      ⊎ (NoProject 0 c ⊎ HasLog version_1 (fresh rate block_size depth) c))
+      → IsHonest disk old → IsHonest disk new
+  made_honest rate block_size depth follows model any honest =
+      let since = now_before follows in
+      let none : (c : Files) → (id : ℕ) → Names c id → NoProject 0 c ⊎ HasLog version_1 (fresh rate block_size depth) c → ⊥ =
+      λ c id names other. ⊎_elim (λ none. no_project_names c id none names)
+      (λ has. no_names rate block_size depth c id has names) other in
+      record {
+        model = subst IsTrue (sym model) honest.model;
+        foreign = λ c now file has foreign.
+            let d = follows.from c (since c now) in
+            honest.foreign d.0 d.1 file
+            (subst (λ (o : Option (List ℕ)). IsSome o) (d.2 file (not_journal file foreign)) has) foreign;
+        whole = λ c now. ⊎_elim (honest.whole c)
+            (λ other. ⊎_elim (λ none. inl none)
+            (λ has. inr (new_opened rate block_size depth, keeps_new rate block_size depth c has)) other)
+            (any c (since c now));
+        same = λ c nc d nd id p q.
+            ⊎_elim (λ oc. ⊎_elim (λ od. honest.same c oc d od id p q) (λ other. absurd (none d id q other)) (any d (since d nd)))
+            (λ other. absurd (none c id p other)) (any c (since c nc));
+      }
+
+-- calls that write nothing, and then a creation
+pub any_moment_both : {D : Type 0} (disk : Ghosts D) (rate block_size depth : ℕ) (old mid new : D)
+    → Follows StaysStep (disk.clock old) (disk.clock mid) (disk.may_leave old) (disk.may_leave mid)
+    → Follows (SameElsewhere 0) (disk.clock mid) (disk.clock new) (disk.may_leave mid) (disk.may_leave new)
+    → ((c : Files) → disk.may_leave new (disk.clock mid) c → disk.may_leave mid (disk.clock mid) c
+    ⊎ (NoProject 0 c ⊎ HasLog version_1 (fresh rate block_size depth) c))
+    → (c : Files) → disk.may_leave new (disk.clock old) c → disk.may_leave old (disk.clock old) c
+    ⊎ (NoProject 0 c ⊎ Keeps c (new_opened rate block_size depth))
+any_moment_both disk rate block_size depth old mid new f g any c since =
+    ⊎_elim (λ early. inl (back early))
+    (λ late. ⊎_elim (λ m. inl (back (f.fewer (disk.clock old) (disk.clock mid) c f.later (upto_refl (disk.clock mid)) m)))
+    (λ other. ⊎_elim (λ none. inr (inl none)) (λ has. inr (inr (keeps_new rate block_size depth c has))) other) (any c late))
+    (g.added (disk.clock old) c f.later since)
+  where
+    back : disk.may_leave mid (disk.clock old) c → disk.may_leave old (disk.clock old) c
+    back m = let d = f.from c m in subst (disk.may_leave old (disk.clock old)) (sym d.2) d.1
+
+-- after it each image keeps the new project
+pub made_done : {D T : Type 0} (disk : Ghosts D) (rate block_size depth : ℕ) (new : D) (r : Result T OpenFault)
+    → OnOk r (IsAt version_1 disk new 32 (fresh rate block_size depth))
+    → OnOk r (Keeps (disk.reads new) (new_opened rate block_size depth)
+    × EachNow disk new (λ c. Keeps c (new_opened rate block_size depth)))
+made_done disk rate block_size depth new (Err e) here = tt
+made_done disk rate block_size depth new (Ok x) here = (
+  keeps_new rate block_size depth (disk.reads new) (here.front, here.spelled, here.read),
+  λ c now. keeps_new rate block_size depth c (each_has here c now),
+)
+
+-- a creation that is refused after calls that write nothing
+pub left_turn : {D T : Type 0} (disk : Ghosts D) (old mid new : D) (r : Result T OpenFault) → Kept disk old mid
+    → LeavesRefused disk mid new r → LeavesRefused disk old new r
+left_turn disk old mid new (Ok x) kept left = tt
+left_turn disk old mid new (Err fault.DiskFault) kept left = tt
+left_turn disk old mid new (Err fault.Absent) kept left = kept_turn kept left
+left_turn disk old mid new (Err fault.Exists) kept left = kept_turn kept left
+left_turn disk old mid new (Err fault.NoMemory) kept left = kept_turn kept left
+left_turn disk old mid new (Err (fault.Foreign file)) kept left = kept_turn kept left
+left_turn disk old mid new (Err (fault.Damaged file at want have)) kept left = kept_turn kept left
+
+-- the answers
+pub foreign_told : (T : Type 0) (files : Files) (e : OpenFault) → TellsForeign files e → HasNoForeign {T = T} files (Err e)
+foreign_told T files fault.Absent tells = absurd tells
+foreign_told T files fault.Exists tells = absurd tells
+foreign_told T files fault.DiskFault tells = tt
+foreign_told T files fault.NoMemory tells = tt
+foreign_told T files (fault.Foreign file) tells = tells
+foreign_told T files (fault.Damaged file at want have) tells = absurd tells
+
+pub none_there : {T : Type 0} (files : Files) (r : Result T OpenFault) → NoProject 0 files → HasNoForeign files r → Creates files r
+none_there files (Ok x) none has = (none, has)
+none_there files (Err fault.Absent) none has = absurd has
+none_there files (Err fault.Exists) none has = absurd has
+none_there files (Err fault.DiskFault) none has = tt
+none_there files (Err fault.NoMemory) none has = tt
+none_there files (Err (fault.Foreign file)) none has = (none, has)
+none_there files (Err (fault.Damaged file at want have)) none has = absurd has
+
+pub created : {U : Type 0} (files : Files) (r : Result U OpenFault) → NoProject 0 files × NoForeign files → IfErr r (λ e. e ≡ fault.DiskFault) → Creates files r
+created files (Ok y) creates e = creates
+created files (Err fault.Absent) creates is = absurd cc
+created files (Err fault.Exists) creates is = absurd cc
+created files (Err fault.DiskFault) creates is = tt
+created files (Err fault.NoMemory) creates is = tt
+created files (Err (fault.Foreign file)) creates is = absurd cc
+created files (Err (fault.Damaged file at want have)) creates is = absurd cc

@@ -1,0 +1,14 @@
+pub mod Listed
+pub mod Counted
+pub mod Wrong
+pub mod Points
+pub mod Ledgers
+pub mod SoundParts
+pub mod Opens
+pub mod Honest
+pub mod Created
+pub mod Highest
+pub mod Measures
+pub mod Resting
+pub mod Noted
+pub mod OneFault

@@ -1,0 +1,51 @@
+-- Honest disks, and what opening one finds.
+use Rattle.std.specs.Prelude.{◌≡◌, ◌⊎◌, ℕ, IsTrue, Contains, Result, Ok, Err}
+use Rattle.pcm_base.specs.declared.block.BlockRef.{BlockRef}
+use Rattle.disk_model.specs.Disk.{Files}
+use Rattle.disk_model.specs.declared.store.Store.{Ghosts}
+use Rattle.sample_block.specs.Blocks.{blocks}
+use Rattle.project_journal.specs.Gate.{EachNow}
+use Rattle.project_journal.specs.Header.{version_1}
+use Rattle.project_journal.specs.Journal.{Log, HasLog}
+use Rattle.project_journal.specs.Start.{NoProject}
+use Rattle.project_state.specs.Kept as kept
+use Rattle.project_state.specs.Kept.{Kept, new_project, LeadTo, history_blocks, opened, Keeps}
+use Rattle.editor_recovery.specs.declared.parts.Parts.{Parts}
+use Rattle.editor_recovery.specs.declared.fault.OpenFault.{OpenFault}
+use Rattle.editor_recovery.specs.declared.fault.OpenFault.TheVariants as fault
+use Rattle.editor_recovery.specs.Files.{NoForeign}
+use Rattle.editor_recovery.specs.Opening.{AreParts}
+
+-- a point of the project that stands in a disk's journal names this id
+pub record Names (files : Files) (id : ℕ) : Type 0 where
+  pub log : Log
+  pub kept : Kept
+  pub there : HasLog version_1 log files
+  pub told : LeadTo log.block_size (new_project log.depth) log.bodies kept
+  pub block : BlockRef
+  pub named : Contains (history_blocks kept.history) block
+  pub is : block.id ≡ id
+
+-- A disk is honest where it keeps to the model, and each image that a stop may leave now has no foreign file and has no
+-- project or keeps one; and no two of these differ in the samples of a block that points of both name.
+pub record IsHonest {D : Type 0} (disk : Ghosts D) (store : D) : Type 0 where
+  pub model : IsTrue (disk.keeps_model store)
+  pub foreign : EachNow disk store NoForeign
+  pub whole : EachNow disk store (λ c. NoProject 0 c ⊎ ((found : kept.Opened) × Keeps c found))
+  pub same : EachNow disk store (λ c. EachNow disk store (λ d. (id : ℕ) → Names c id → Names d id → blocks c id ≡ blocks d id))
+
+-- The disk keeps one project, which is what was found, and each image after the opening keeps it.
+pub record FindsKept {D : Type 0} (disk : Ghosts D) (old new : D) (p : Parts) : Type 0 where
+  pub log : Log
+  pub kept : Kept
+  pub keeps : Keeps (disk.reads old) (opened log kept (disk.reads old))
+  pub each : EachNow disk new (λ c. Keeps c (opened log kept (disk.reads old)))
+  pub parts : AreParts (disk.reads old) log kept p
+
+-- An honest disk has no fault and no foreign file.
+abbrev pub OpensHonest : {D : Type 0} → Ghosts D → (old new : D) → Result Parts OpenFault → Type 0
+OpensHonest disk old new (Ok p) = FindsKept disk old new p
+OpensHonest disk old new (Err fault.Absent) = NoProject 0 (disk.reads old)
+OpensHonest disk old new (Err fault.DiskFault) = Unit {0}
+OpensHonest disk old new (Err fault.NoMemory) = Unit {0}
+OpensHonest disk old new (Err _) = ⊥

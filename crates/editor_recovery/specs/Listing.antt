@@ -1,0 +1,28 @@
+-- What a listing of the files answers.
+use Rattle.std.specs.Prelude.{◌↔◌, ℕ, IsSome, Contains, Result, Ok, Err, List}
+use Rattle.disk_model.specs.Disk.{Files}
+use Rattle.editor_recovery.specs.declared.fault.OpenFault.{OpenFault}
+use Rattle.editor_recovery.specs.declared.fault.OpenFault.TheVariants as fault
+use Rattle.editor_recovery.specs.Files.{IsFirstForeign, NoForeign}
+
+-- these are the numbers of the files
+abbrev pub AreFiles : Files → List ℕ → Type 0
+AreFiles files listed = (n : ℕ) → Contains listed n ↔ IsSome (files n)
+
+-- the disk's refusal, or want of memory
+abbrev pub IsRefusal : OpenFault → Type 0
+IsRefusal fault.DiskFault = Unit {0}
+IsRefusal fault.NoMemory = Unit {0}
+IsRefusal _ = ⊥
+
+-- the first foreign file is told
+abbrev pub TellsForeign : Files → OpenFault → Type 0
+TellsForeign files (fault.Foreign file) = IsFirstForeign files file
+TellsForeign files fault.DiskFault = Unit {0}
+TellsForeign files fault.NoMemory = Unit {0}
+TellsForeign files _ = ⊥
+
+-- What a listing answers: the numbers of the files, none of which is foreign, or the first that is.
+abbrev pub Lists : {T : Type 0} → Files → (T → List ℕ) → Result T OpenFault → Type 0
+Lists files listed (Ok v) = AreFiles files (listed v) × NoForeign files
+Lists files listed (Err e) = TellsForeign files e

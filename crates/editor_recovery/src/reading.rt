@@ -1,0 +1,83 @@
+// The journal of a disk, and the files beside it.
+ghost use Rattle.std.specs.Prelude.{◌≡◌, None, IsTrue, IfOk, OnOk, find};
+ghost use Rattle.std.specs.List.Sorted.{IsStrictlyIncreasing};
+ghost use Rattle.project_journal.specs.Header.{version_1};
+ghost use Rattle.project_journal.specs.Gate.{IsDurable};
+ghost use Rattle.project_journal.specs.Journal.{IsAt, log_of};
+ghost use Rattle.project_journal.specs.Readable.{IsReadable};
+ghost use Rattle.disk_model.specs.Disk.{StaysStep};
+ghost use Rattle.disk_model.specs.Frames.{Kept, Changed};
+ghost use Rattle.editor_recovery.specs.Listing.{Lists};
+ghost use Rattle.editor_recovery.specs.Files.{is_foreign};
+ghost use Rattle.editor_recovery.specs.Causes.{Causes};
+ghost use Rattle.editor_recovery.specs.Reading.{ReadsDisk, Refuses};
+
+use super::disk::Disk;
+use super::fault::OpenFault;
+use super::listing::list_files;
+use disk_model::Store;
+use project_journal::{Journal, JournalFault, read_all};
+use std::alloc::Global;
+
+/// The files beside a journal that was read.
+fn with_files<S: Store>(alloc: Global, store: &mut S, journal: Journal) -> Result<Disk, OpenFault>
+    ensures journal { IfOk result (λ d. d.journal ≡ journal) }
+    ensures lists { IsTrue (S.tells store.old) → Lists (S.reads store.old) (λ d. d.files.items) result }
+    ensures known { IfOk result (λ d. find is_foreign d.files.items ≡ None) }
+    ensures rising { IfOk result (λ d. IsStrictlyIncreasing d.files.items) }
+    ensures kept { Kept S.Store store.old store.new }
+    ensures cause { Causes S.Store store.old store.new result }
+{
+    match list_files(alloc, store) {
+        Ok(files) => Ok(Disk { journal, files }),
+        Err(fault) => Err(fault),
+    }
+}
+
+/// The fault of a header, which is told where no file is foreign.
+fn refused<S: Store>(
+    alloc: Global,
+    store: &mut S,
+    at: u64,
+    want: u128,
+    have: u128,
+) -> Result<Disk, OpenFault>
+    ensures refuses { IsTrue (S.tells store.old) → Refuses (S.reads store.old) at want have result }
+    ensures none { IfOk result (λ d. ⊥) }
+    ensures kept { Kept S.Store store.old store.new }
+    ensures cause { Causes S.Store store.old store.new result }
+{
+    match list_files(alloc, store) {
+        Ok(_files) => Err(OpenFault::Damaged {
+            file: 0,
+            at,
+            want,
+            have,
+        }),
+        Err(fault) => Err(fault),
+    }
+}
+
+/// Reads the journal and lists the files. Absent comes first, then the first foreign file, and then the header's fault.
+pub(crate) fn read_disk<S: Store>(alloc: Global, store: &mut S) -> Result<Disk, OpenFault>
+    ensures reads { IsTrue (S.tells store.old) → ReadsDisk (S.reads store.old) result }
+    ensures readable { IfOk result (λ d. IsReadable d.journal) }
+    ensures known { IfOk result (λ d. find is_foreign d.files.items ≡ None) }
+    ensures rising { IfOk result (λ d. IsStrictlyIncreasing d.files.items) }
+    ensures at_rest { IsTrue (S.tells store.old) → IfOk result (λ d. d.journal.early ≡ None
+        → IsAt version_1 S.Store store.new d.journal.end (log_of d.journal)) }
+    ensures cause { Causes S.Store store.old store.new result }
+    ensures reads_same { S.reads store.new ≡ S.reads store.old }
+    ensures durable { OnOk result (IsDurable S.Store store.new 0) }
+    ensures changed { Changed S.Store StaysStep (record { files = 0; bytes = 0; calls = 1 }) store.old store.new }
+{
+    match read_all(alloc, store) {
+        Ok(journal) => with_files(alloc, store, journal),
+        Err(JournalFault::Damaged { at, want, have, .. }) => refused(alloc, store, at, want, have),
+        Err(JournalFault::Absent) => Err(OpenFault::Absent),
+        Err(JournalFault::DiskFault) => Err(OpenFault::DiskFault),
+        Err(JournalFault::NoMemory) => Err(OpenFault::NoMemory),
+        // A reading has neither of these answers.
+        Err(JournalFault::Exists | JournalFault::SpaceSpent { .. }) => Err(OpenFault::Exists),
+    }
+}
