@@ -15,7 +15,7 @@ use Rattle.peak_summary.specs.Peaks.{summary_of, joined, nothing, frame_of, fram
 use Rattle.peak_summary.proofs.Joins.{joined_two}
 use Rattle.block_store.proofs.StretchLaws.{part-join, length-part}
 
-fits_part : (from to : ℕ) (xs : List ℤ) → AreSamples xs → AreSamples (part from to xs)
+pub fits_part : (from to : ℕ) (xs : List ℤ) → AreSamples xs → AreSamples (part from to xs)
 fits_part from to xs fit = All-take (λ s. FitsSigned w16 s) (to - from) (drop from xs) (All-drop (λ s. FitsSigned w16 s) from xs fit)
 
 -- the summaries of two parts, one after the other

@@ -1,4 +1,5 @@
 pub mod Ahead
 pub mod Answers
+pub mod Halves
 pub mod Named
 pub mod Parts

@@ -17,7 +17,7 @@ use peak_summary::{NOTHING, Summary, join, of};
 const PIECE: usize = 512;
 
 /// The summary of stretches that follow one another.
-fn join_all(summaries: &[Summary]) -> Summary
+pub(crate) fn join_all(summaries: &[Summary]) -> Summary
     ensures { result ≡ fold joined nothing summaries.now }
 {
     let mut all = NOTHING;
@@ -86,7 +86,9 @@ fn by_samples<S: Store>(
     Ok(of(samples))
 }
 
-/// From whole frames, from number `first` up to `end`.
+/// From whole frames, from number `first` up to `end`. It is kept out of its callers, whose other reads are slower
+/// where its buffer stands beside theirs.
+#[inline(never)]
 fn by_frames<S: Store>(
     store: &mut S,
     block: BlockRef,
@@ -144,7 +146,7 @@ fn short_then_samples<S: Store>(
 }
 
 /// From whole short frames, and the samples at the edges.
-fn by_short<S: Store>(
+pub(crate) fn by_short<S: Store>(
     store: &mut S,
     block: BlockRef,
     from: u32,

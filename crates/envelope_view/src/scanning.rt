@@ -43,17 +43,20 @@ fn scan_columns<S: Store>(
         rest: layout.rest(from),
     };
     let mut last = None;
+    let mut known = None;
     'rows: for i in 0..columns {
         let begin = edge(from, to, columns, i);
         let end = edge(from, to, columns, i + 1);
-        let summary = sweep(store, &mut last, &mut ahead, end - begin)?;
+        let count = end - begin;
+        let reach = count.saturating_sub(1).min(to - end);
+        let summary = sweep(store, &mut last, &mut known, &mut ahead, count, reach)?;
         scans.push(scan(summary))?;
     }
     Ok(scans)
 }
 
-/// What a fresh scan finds of the cells of each of so many columns of a range of a layout. It reads frames of blocks
-/// where they lie inside a column, and samples at its edges alone; it takes memory for the columns.
+/// What a fresh scan finds of the cells of each of so many columns of a range of a layout. It reads frames of blocks,
+/// and samples at the edges of columns alone; it takes memory for the columns.
 ///
 /// # Errors
 ///

@@ -9,30 +9,36 @@ ghost use Rattle.block_store.specs.Scans.{samples_among};
 ghost use Rattle.peak_summary.specs.Peaks.{summary_of};
 ghost use Rattle.pcm_base.specs.Pieces.{Sources};
 ghost use Rattle.envelope_view.specs.Ahead.{IsInBlock, ahead_blocks, ahead_cells, stretch_blocks, stretch_cells, stretch_len};
+ghost use Rattle.envelope_view.specs.Halves.{IsKnown};
 ghost use Rattle.envelope_view.specs.Named.{AreNamed, AreWhole};
 ghost use Rattle.envelope_view.specs.Parts.{Summarizes};
 
 use super::ahead::{Ahead, behind, len_of};
-use super::parts::summarize;
+use super::known::{Known, front_of, summarize_on};
 use block_store::{BlockFault, compare_once};
 use clip_track::Stretch;
 use disk_model::Store;
 use pcm_base::BlockRef;
 use peak_summary::{NOTHING, Summary, join};
 
-/// The summary of a part of a block, whose header is read unless it was the last that was compared.
+/// The summary of a part of a block, whose header is read unless it was the last that was compared, and whose front is
+/// read unless it is known.
 fn summarize_block<S: Store>(
     store: &mut S,
     last: &mut Option<BlockRef>,
+    known: &mut Option<Known>,
     block: BlockRef,
     from: u32,
     to: u32,
+    reach: u64,
 ) -> Result<Summary, BlockFault>
     requires block { IsBlock block.id block.len }
     requires rising { from ≤ to }
     requires within { to ≤ block.len }
     requires compared { IsTrue (S.tells store.old) → IsCompared (S.reads store.old) last.old }
+    requires known { IsTrue (S.tells store.old) → IsKnown (S.reads store.old) known.old }
     ensures compared { IsTrue (S.tells store.old) → IsCompared (S.reads store.old) last.new }
+    ensures known { IsTrue (S.tells store.old) → IsKnown (S.reads store.old) known.new }
     ensures read { IsTrue (S.tells store.old) → Summarizes (S.reads store.old) block from to result }
     ensures damaged { IsTrue (S.tells store.old)
         → IfErr result (λ e. IsFault block.id block.len (bytes_of (S.reads store.old block.id)) e) }
@@ -42,21 +48,27 @@ fn summarize_block<S: Store>(
     if let Err(fault) = compare_once(store, last, block) {
         return Err(fault);
     }
-    summarize(store, block, from, to)
+    let front = front_of(*known, block, from, to);
+    let back = summarize_on(store, known, block, front.to, to, reach)?;
+    Ok(join(front.summary, back))
 }
 
 /// The summary of the samples among the first cells of a stretch.
 fn summarize_stretch<S: Store>(
     store: &mut S,
     last: &mut Option<BlockRef>,
+    known: &mut Option<Known>,
     stretch: Stretch,
     count: u64,
+    reach: u64,
 ) -> Result<Summary, BlockFault>
     requires stretch { IsInBlock stretch }
     requires within { count ≤ stretch_len stretch }
     requires named { AreNamed (stretch_blocks stretch) }
     requires compared { IsTrue (S.tells store.old) → IsCompared (S.reads store.old) last.old }
+    requires known { IsTrue (S.tells store.old) → IsKnown (S.reads store.old) known.old }
     ensures compared { IsTrue (S.tells store.old) → IsCompared (S.reads store.old) last.new }
+    ensures known { IsTrue (S.tells store.old) → IsKnown (S.reads store.old) known.new }
     ensures read { IsTrue (S.tells store.old) → AreWhole (S.reads store.old) (stretch_blocks stretch)
         → IfOk result (λ s. s ≡ summary_of (samples_among (take count (stretch_cells
         (sources_of (S.reads store.old)) stretch)))) }
@@ -69,25 +81,30 @@ fn summarize_stretch<S: Store>(
         Stretch::Gaps { .. } => Ok(NOTHING),
         Stretch::Block { block, from } => {
             let to = from + count as u32;
-            let summary = summarize_block(store, last, block, from, to)?;
+            let summary = summarize_block(store, last, known, block, from, to, reach)?;
             Ok(summary)
         }
     }
 }
 
 /// The summary of the samples among the next cells, so many or as many as there are. What is left begins behind
-/// them, and `last` is the block whose header was compared last.
+/// them, `last` is the block whose header was compared last, and `known` what is known of a block behind them, of which
+/// at least `reach` are asked for next.
 pub(crate) fn sweep<S: Store>(
     store: &mut S,
     last: &mut Option<BlockRef>,
+    known: &mut Option<Known>,
     ahead: &mut Ahead,
     count: u64,
+    reach: u64,
 ) -> Result<Summary, BlockFault>
     requires few { count ≤ 2 ^ 32 }
     requires stretch { IsInBlock ahead.old.stretch }
     requires named { AreNamed (ahead_blocks ahead.old) }
     requires compared { IsTrue (S.tells store.old) → IsCompared (S.reads store.old) last.old }
+    requires known { IsTrue (S.tells store.old) → IsKnown (S.reads store.old) known.old }
     ensures compared { IsTrue (S.tells store.old) → IsCompared (S.reads store.old) last.new }
+    ensures known { IsTrue (S.tells store.old) → IsKnown (S.reads store.old) known.new }
     ensures stretch { IsInBlock ahead.new.stretch }
     ensures blocks { (b : BlockRef) → Contains (ahead_blocks ahead.new) b → Contains (ahead_blocks ahead.old) b }
     ensures passed { OnOk result ((src : Sources) → ahead_cells src ahead.new ≡ drop count (ahead_cells src ahead.old)) }
@@ -106,7 +123,7 @@ pub(crate) fn sweep<S: Store>(
             return Ok(all);
         };
         let size = left.min(len_of(stretch));
-        let part = summarize_stretch(store, last, stretch, size)?;
+        let part = summarize_stretch(store, last, known, stretch, size, reach)?;
         all = join(all, part);
         ahead.stretch = behind(stretch, size);
         left -= size;

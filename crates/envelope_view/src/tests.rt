@@ -280,3 +280,117 @@ fn one_header_for_the_columns_of_a_block(rt: HostRuntime) -> Result<(), Fail> {
     }
     Ok(())
 }
+
+/// A block of 66,000 ones, but for these samples.
+fn put_ones(alloc: Global, store: &mut RamStore, others: &[(usize, i16)]) -> Result<bool, Fail> {
+    let mut samples = [1i16; 66_000];
+    for (place, sample) in others {
+        if *place < samples.len() {
+            samples[*place] = *sample;
+        }
+    }
+    let mut scratch = Vec::with_capacity(alloc, 140_000)?;
+    Ok(put(store, 19, &samples, &mut scratch).is_ok())
+}
+
+/// Whether the two columns up to a place are these, where all samples of the block but some are 1.
+fn finds(
+    alloc: Global,
+    layout: &Layout,
+    others: &[(usize, i16); 4],
+    to: u64,
+    want: &[Option<Scan>; 2],
+) -> Result<bool, Fail>
+    requires { AllNamed (layout_blocks layout.now) }
+{
+    let mut store = disk(alloc, Vec::new(alloc))?;
+    if !put_ones(alloc, &mut store, others)? {
+        return Ok(false);
+    }
+    let found = columns(alloc, &mut store, layout, 0, to, 2)?;
+    Ok(is_same(&found, 2, want))
+}
+
+// Of the first frame of 65,536 samples 32,766 are before the edge, and are read first, or 32,539 are behind it.
+#[test]
+fn edges_in_a_long_frame(rt: HostRuntime) -> Result<(), Fail> {
+    let rows = [
+        // The least and the greatest sample are before the edge, behind it, on both sides, and one on each.
+        (
+            [(100, -9), (200, 9), (300, 1), (400, 1)],
+            65_542,
+            [scan(-9, 9, 32_926, 32_766), scan(1, 1, 32_771, 32_771)],
+        ),
+        (
+            [(60_000, -9), (60_001, 9), (60_002, 1), (60_003, 1)],
+            65_542,
+            [scan(1, 1, 32_766, 32_766), scan(-9, 9, 32_931, 32_771)],
+        ),
+        (
+            [(100, -9), (200, 9), (60_000, -9), (60_001, 9)],
+            65_542,
+            [scan(-9, 9, 32_926, 32_766), scan(-9, 9, 32_931, 32_771)],
+        ),
+        (
+            [(100, -9), (200, 8), (60_000, -8), (60_001, 9)],
+            65_542,
+            [scan(-9, 8, 32_909, 32_766), scan(-8, 9, 32_914, 32_771)],
+        ),
+        // The same, where the side behind the edge is the shorter.
+        (
+            [(100, -9), (200, 9), (300, 1), (400, 1)],
+            66_005,
+            [scan(-9, 9, 33_157, 32_997), scan(1, 1, 33_003, 33_003)],
+        ),
+        (
+            [(60_000, -9), (60_001, 9), (60_002, 1), (60_003, 1)],
+            66_005,
+            [scan(1, 1, 32_997, 32_997), scan(-9, 9, 33_163, 33_003)],
+        ),
+        (
+            [(100, -9), (200, 9), (60_000, -9), (60_001, 9)],
+            66_005,
+            [scan(-9, 9, 33_157, 32_997), scan(-9, 9, 33_163, 33_003)],
+        ),
+        (
+            [(100, -9), (200, 8), (60_000, -8), (60_001, 9)],
+            66_005,
+            [scan(-9, 8, 33_140, 32_997), scan(-8, 9, 33_146, 33_003)],
+        ),
+        // Beside the edge itself.
+        (
+            [(32_764, 1), (32_765, 9), (32_766, -9), (32_767, 1)],
+            65_542,
+            [scan(1, 9, 32_846, 32_766), scan(-9, 1, 32_851, 32_771)],
+        ),
+    ];
+    let layout = long_clip(rt.alloc())?;
+    for (others, to, want) in rows {
+        assert!(rt; finds(rt.alloc(), &layout, &others, to, &want)?);
+    }
+    Ok(())
+}
+
+// The header, the long frame, short frames and samples before the edge, and the sample behind the frame: the third call
+// to the seventh. Where the extremes are before the edge, samples and short frames behind it too.
+#[test]
+fn one_side_of_an_edge(rt: HostRuntime) -> Result<(), Fail> {
+    let alloc = rt.alloc();
+    let behind = [(60_000, -9), (60_001, 9)];
+    let before = [(100, -9), (200, 9)];
+    for (others, call, first) in [
+        (behind, 7, Some(Refusal::DiskFault)),
+        (behind, 8, None),
+        (before, 9, Some(Refusal::DiskFault)),
+        (before, 10, None),
+    ] {
+        let mut store = disk(alloc, vec![in alloc; call]?)?;
+        assert!(rt; put_ones(alloc, &mut store, &others)?);
+        let layout = long_clip(alloc)?;
+        let answer = columns(alloc, &mut store, &layout, 0, 65_542, 2);
+        assert!(rt; answer.err() == first);
+        let again = columns(alloc, &mut store, &layout, 0, 65_542, 2);
+        assert!(rt; again.is_ok() == first.is_some());
+    }
+    Ok(())
+}

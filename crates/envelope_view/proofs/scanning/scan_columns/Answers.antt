@@ -18,6 +18,7 @@ use Rattle.block_store.specs.Scans.{samples_among}
 use Rattle.peak_summary.specs.Peaks.{summary_of}
 use Rattle.clip_track.specs.Clips.{layout_blocks, layout_cells}
 use Rattle.envelope_view.specs.Ahead.{ahead_blocks, ahead_cells}
+use Rattle.envelope_view.specs.Halves.{IsKnown}
 use Rattle.envelope_view.specs.Named.{AreWhole}
 use Rattle.envelope_view.proofs.AnswerLaws.{reason_reads, reason_damaged, reason_counted}
 use Rattle.envelope_view.proofs.EdgeLaws.{columns_more, first_edge}
@@ -34,6 +35,7 @@ rows-init g c = record {
   cells = λ src. c.rest.ensures.cells src ∙ ap (λ (k : ℕ). drop k (layout_cells src c.args.layout.now)) (first_edge c.args.from c.args.to c.args.columns);
   kept = kept_none _ (g.met.S.Store.may_fewer _);
   compared = λ told. tt;
+  known = λ told. tt;
   faults = refl;
   read = λ told whole. c.in_ok-scans.ensures.items;
 }
@@ -66,6 +68,9 @@ rows-preserved g c =
       compared = λ told.
           let still : IsTrue (g.S.Store.tells c.rows.store) = subst IsTrue (sym inv.kept.same_tells) told in
           subst (λ (f : Files). IsCompared f c.sweep.new.last) inv.kept.same_reads (c.sweep.ensures.compared still);
+      known = λ told.
+          let still : IsTrue (g.S.Store.tells c.rows.store) = subst IsTrue (sym inv.kept.same_tells) told in
+          subst (λ (f : Files). IsKnown f c.sweep.new.known) inv.kept.same_reads (c.sweep.ensures.known still);
       faults = c.in_ok-summary.ensures.faults ∙ inv.faults;
       read = λ told whole.
           let src : Sources = sources_of files in

@@ -11,6 +11,7 @@ use Rattle.pcm_base.specs.Pieces.{Sources}
 use Rattle.pcm_base.specs.declared.block.BlockRef.{BlockRef}
 use Rattle.clip_track.specs.Clips.{layout_blocks, layout_cells}
 use Rattle.envelope_view.specs.Ahead.{IsInBlock, ahead_blocks, ahead_cells}
+use Rattle.envelope_view.specs.Halves.{IsKnown}
 use Rattle.envelope_view.proofs.scanning.scan_columns.Given as goal
 
 abbrev pub invariant-rows : goal.invariant-rows
@@ -20,6 +21,7 @@ invariant-rows g l = record {
   cells : (src : Sources) → ahead_cells src l.ahead ≡ drop (edge l.from l.to l.columns l.i) (layout_cells src l.layout);
   kept : Kept g.S.Store l.fn.store l.store;
   compared : IsTrue (g.S.Store.tells l.fn.store) → IsCompared (g.S.Store.reads l.fn.store) l.last;
+  known : IsTrue (g.S.Store.tells l.fn.store) → IsKnown (g.S.Store.reads l.fn.store) l.known;
   faults : g.S.Store.read_fault_count l.store ≡ g.S.Store.read_fault_count l.fn.store;
   read : IsTrue (g.S.Store.tells l.fn.store) → AllWhole (g.S.Store.reads l.fn.store) (layout_blocks l.layout)
       → l.scans.items ≡ map (λ i. scan_of (part (edge l.from l.to l.columns i) (edge l.from l.to l.columns (i + 1)) (layout_cells (sources_of (g.S.Store.reads l.fn.store)) l.layout))) (counted_from 0 l.i);

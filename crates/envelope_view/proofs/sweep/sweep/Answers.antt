@@ -17,6 +17,7 @@ use Rattle.clip_track.specs.declared.rest.Stretch.{Stretch}
 use Rattle.clip_track.specs.Items.{strip_blocks, strip_cells}
 use Rattle.clip_track.specs.Rests.{stretch_item}
 use Rattle.envelope_view.specs.Ahead.{IsInBlock, ahead_blocks, ahead_cells, stretch_blocks, stretch_cells, stretch_len}
+use Rattle.envelope_view.specs.Halves.{IsKnown}
 use Rattle.envelope_view.specs.Named.{AreWhole}
 use Rattle.envelope_view.proofs.AheadLaws.{among_few, front_fits, step_heard, step_passed, none_heard, none_passed}
 use Rattle.envelope_view.proofs.NamedLaws.{fault_wider}
@@ -31,6 +32,7 @@ stretches-init g c = record {
   passed = λ src. refl;
   kept = kept_none _ (g.met.S.Store.may_fewer _);
   compared = c.requires.compared;
+  known = c.requires.known;
   faults = refl;
   read = λ told whole. running_start _ _;
 }
@@ -93,6 +95,9 @@ stretches-preserved g c =
       compared = λ told.
           let still : IsTrue (g.S.Store.tells c.stretches.store) = subst IsTrue (sym inv.kept.same_tells) told in
           subst (λ (f : Files). IsCompared f c.summarize_stretch.new.last) inv.kept.same_reads (c.summarize_stretch.ensures.compared still);
+      known = λ told.
+          let still : IsTrue (g.S.Store.tells c.stretches.store) = subst IsTrue (sym inv.kept.same_tells) told in
+          subst (λ (f : Files). IsKnown f c.summarize_stretch.new.known) inv.kept.same_reads (c.summarize_stretch.ensures.known still);
       faults = c.in_ok-part.ensures.faults ∙ inv.faults;
       read = λ told whole.
           let still : IsTrue (g.S.Store.tells c.stretches.store) = subst IsTrue (sym inv.kept.same_tells) told in

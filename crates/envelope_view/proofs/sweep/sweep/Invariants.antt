@@ -8,6 +8,7 @@ use Rattle.block_store.specs.Scans.{samples_among}
 use Rattle.pcm_base.specs.Pieces.{Sources}
 use Rattle.pcm_base.specs.declared.block.BlockRef.{BlockRef}
 use Rattle.envelope_view.specs.Ahead.{IsInBlock, ahead_blocks, ahead_cells}
+use Rattle.envelope_view.specs.Halves.{IsKnown}
 use Rattle.envelope_view.specs.Named.{AreWhole}
 use Rattle.envelope_view.proofs.Running.{Running}
 use Rattle.envelope_view.proofs.sweep.sweep.Given as goal
@@ -20,6 +21,7 @@ invariant-stretches g l = record {
   passed : (src : Sources) → drop l.left (ahead_cells src l.ahead) ≡ drop l.fn.count (ahead_cells src l.fn.ahead);
   kept : Kept g.S.Store l.fn.store l.store;
   compared : IsTrue (g.S.Store.tells l.fn.store) → IsCompared (g.S.Store.reads l.fn.store) l.last;
+  known : IsTrue (g.S.Store.tells l.fn.store) → IsKnown (g.S.Store.reads l.fn.store) l.known;
   faults : g.S.Store.read_fault_count l.store ≡ g.S.Store.read_fault_count l.fn.store;
   read : IsTrue (g.S.Store.tells l.fn.store) → AreWhole (g.S.Store.reads l.fn.store) (ahead_blocks l.fn.ahead)
       → Running l.all l.fn.count l.left (samples_among (take l.left (ahead_cells (sources_of (g.S.Store.reads l.fn.store)) l.ahead)))

@@ -1,0 +1,37 @@
+-- The two sides of an edge inside a long frame, and what is known of a block from them.
+use Rattle.std.specs.Prelude.{◌≡◌, ℕ, ◌+◌, ◌*◌, ◌^◌, ◌<◌, ◌≤◌, ℤ, List, length, Option, Some, None, Result, IfOk}
+use Rattle.disk_model.specs.Disk.{Files}
+use Rattle.pcm_base.specs.declared.block.BlockRef.{BlockRef}
+use Rattle.pcm_base.specs.Edits.{part}
+use Rattle.sample_block.specs.Blocks.{blocks}
+use Rattle.block_store.specs.declared.fault.BlockFault.{BlockFault}
+use Rattle.peak_summary.specs.declared.stretch.Summary.{Summary}
+use Rattle.peak_summary.specs.Peaks.{joined, summary_of}
+use Rattle.envelope_view.specs.declared.halves.Halves.{Halves}
+use Rattle.envelope_view.specs.declared.known.Known.{Known}
+
+-- a whole is a part and a rest, in either order, both with samples, whose numbers do not stand still
+pub record IsRest (whole side rest : Summary) : Type 0 where
+  pub is : whole ≡ joined side rest
+  pub side_some : 0 < side.count
+  pub rest_some : 0 < rest.count
+  pub squares : side.squares + rest.squares < 2 ^ 64
+  pub count : side.count + rest.count < 2 ^ 64
+
+-- of a block of the disk the summaries of its samples from one place up to an edge, and from the edge up to another
+abbrev pub AreHalves : Files → BlockRef → ℕ → ℕ → ℕ → Result Halves BlockFault → Type 0
+AreHalves files b from edge to result = (xs : List ℤ) → blocks files b.id ≡ Some xs → length xs ≡ b.len
+    → IfOk result (λ h. (h.before ≡ summary_of (part from edge xs)) × (h.after ≡ summary_of (part edge to xs)))
+
+-- what is known, if anything is, is the summary of those samples of the block of the disk
+abbrev pub IsKnown : Files → Option Known → Type 0
+IsKnown files None = Unit {0}
+IsKnown files (Some k) = (xs : List ℤ) → blocks files k.block.id ≡ Some xs → length xs ≡ k.block.len
+    → k.summary ≡ summary_of (part k.from k.to xs)
+
+-- a part ends inside long frame k of a block of so many samples, and begins before the frame or with it
+pub record IsEdgeIn (len from to k : ℕ) : Type 0 where
+  pub front : from ≤ 65536 * k
+  pub before : 65536 * k < to
+  pub behind : to < 65536 * k + 65536
+  pub inside : to < len

@@ -1,0 +1,109 @@
+// What is known of a block behind the part that was summarized last.
+ghost use Rattle.std.specs.Prelude.{◌≡◌, ◌≤◌, ◌<◌, ◌+◌, ◌*◌, IsTrue, IfErr, IfSome, Some};
+ghost use Rattle.disk_model.specs.Disk.{Files, bytes_of};
+ghost use Rattle.disk_model.specs.Frames.{Kept};
+ghost use Rattle.sample_block.specs.Spelling.{IsBlock};
+ghost use Rattle.block_store.specs.Reads.{Counted, HasHeader, IsFault};
+ghost use Rattle.envelope_view.specs.Halves.{IsEdgeIn, IsKnown};
+ghost use Rattle.envelope_view.specs.Parts.{Summarizes};
+
+use super::halves::up_to_edge;
+use super::parts::summarize;
+use block_store::BlockFault;
+use disk_model::Store;
+use pcm_base::BlockRef;
+use peak_summary::{NOTHING, Summary};
+
+/// The summary of a part of a block that was not asked for yet.
+#[derive(Clone, Copy)]
+pub(crate) struct Known {
+    pub(crate) block: BlockRef,
+    pub(crate) from: u32,
+    pub(crate) to: u32,
+    pub(crate) summary: Summary,
+}
+
+/// What is known of the front of a part of a block: nothing, up to its begin, where what is known is of another part.
+pub(crate) fn front_of(known: Option<Known>, block: BlockRef, from: u32, to: u32) -> Known
+    requires { from ≤ to }
+    ensures block { result.block ≡ block }
+    ensures from { result.from ≡ from }
+    ensures rising { from ≤ result.to }
+    ensures within { result.to ≤ to }
+    ensures known { (files : Files) → IsKnown files known → IsKnown files (Some result) }
+{
+    if let Some(front) = known {
+        if front.block == block && front.from == from && from <= front.to && front.to <= to {
+            return front;
+        }
+    }
+    Known {
+        block,
+        from,
+        to: from,
+        summary: NOTHING,
+    }
+}
+
+/// Where a long frame ends.
+fn frame_stop(len: u32, frame: u32) -> u32
+    requires { frame ≤ 4 }
+    ensures within { result ≤ len }
+    ensures few { result ≤ 65536 * frame + 65536 }
+    ensures last { result < 65536 * frame + 65536 → result ≡ len }
+{
+    len.min(65536 * frame + 65536)
+}
+
+/// The number of the long frame inside which a part ends, if the part has all that is before its end, and the next
+/// `reach` cells all that is behind it.
+fn frame_at(len: u32, from: u32, to: u32, reach: u64) -> Option<u32>
+    requires within { to ≤ len }
+    requires few { len ≤ 262144 }
+    ensures { IfSome result (IsEdgeIn len from to) }
+{
+    let frame = to / 65536;
+    let start = 65536 * frame;
+    let stop = frame_stop(len, frame);
+    if from <= start && start < to && to < stop && u64::from(stop - to) <= reach {
+        return Some(frame);
+    }
+    None
+}
+
+/// The summary of a part of a block whose header was compared, behind which at least `reach` cells more are asked for
+/// next. Where the part ends inside a long frame what is behind it is known from then on.
+pub(crate) fn summarize_on<S: Store>(
+    store: &mut S,
+    known: &mut Option<Known>,
+    block: BlockRef,
+    from: u32,
+    to: u32,
+    reach: u64,
+) -> Result<Summary, BlockFault>
+    requires block { IsBlock block.id block.len }
+    requires compared { IsTrue (S.tells store.old)
+        → HasHeader block.id block.len (bytes_of (S.reads store.old block.id)) }
+    requires rising { from ≤ to }
+    requires within { to ≤ block.len }
+    requires known { IsTrue (S.tells store.old) → IsKnown (S.reads store.old) known.old }
+    ensures known { IsTrue (S.tells store.old) → IsKnown (S.reads store.old) known.new }
+    ensures read { IsTrue (S.tells store.old) → Summarizes (S.reads store.old) block from to result }
+    ensures damaged { IsTrue (S.tells store.old)
+        → IfErr result (λ e. IsFault block.id block.len (bytes_of (S.reads store.old block.id)) e) }
+    ensures kept { Kept S.Store store.old store.new }
+    ensures faults { Counted result (S.read_fault_count store.old) (S.read_fault_count store.new) }
+{
+    let Some(frame) = frame_at(block.len, from, to, reach) else {
+        return summarize(store, block, from, to);
+    };
+    let stop = frame_stop(block.len, frame);
+    let halves = up_to_edge(store, block, from, frame, to, stop)?;
+    *known = Some(Known {
+        block,
+        from: to,
+        to: stop,
+        summary: halves.after,
+    });
+    Ok(halves.before)
+}
