@@ -1,0 +1,5 @@
+pub mod NearLaws
+pub mod PartLists
+pub mod RestLaws
+pub mod SeenLaws
+pub mod StoredLaws

@@ -1,0 +1,48 @@
+-- What is seen of the rest, and gaps behind it.
+use Rattle.std.proofs.Common.{◌≡◌, ◌+◌, ◌-◌, List, ◌++◌, length, take, drop, get_or, arith, ◌∙◌, ap, length-drop}
+use Rattle.std.proofs.lemmas.List.{length-take}
+use Rattle.std.proofs.lemmas.Result.{err_from_is_err_and}
+use Rattle.disk_model.specs.Disk.{Files}
+use Rattle.pcm_base.specs.declared.sound.Cell.{Cell}
+use Rattle.pcm_base.specs.declared.sound.Cell.TheVariants.{Gap}
+use Rattle.clip_track.specs.Clips.{layout_blocks}
+use Rattle.clip_track.specs.Clips.{end_of}
+use Rattle.cell_view.specs.Seen.{place_in}
+use Rattle.cell_view.specs.Stored.{stored_of}
+use Rattle.cell_view.proofs.SeenLaws.{sound_in}
+use Rattle.cell_view.proofs.RestLaws.{seen, put_tail}
+use Rattle.cell_view.proofs.StoredLaws.{stored_cells}
+use Rattle.cell_view.proofs.ahead.read_ahead.Goals as goal
+
+pub returns-in_err-put_rest-clause-sound : goal.returns-in_err-put_rest-clause-sound
+returns-in_err-put_rest-clause-sound g c = λ told whole.
+    let files : Files = g.S.Store.reads c.args.store.now in
+    let p = err_from_is_err_and c.from_residual.result c.from_residual.ensures.1 in
+    rw (p.1, p.2)
+    (sound_in files (layout_blocks c.args.layout.now) _ whole
+    (c.requires.rest.blocks_fault files _ (c.in_err-put_rest.ensures.damaged told)))
+
+pub returns-in_err-put_rest-clause-damaged : goal.returns-in_err-put_rest-clause-damaged
+returns-in_err-put_rest-clause-damaged g c = λ told.
+    let p = err_from_is_err_and c.from_residual.result c.from_residual.ensures.1 in
+    rw (p.1, p.2) (c.requires.rest.blocks_fault (g.S.Store.reads c.args.store.now) _ (c.in_err-put_rest.ensures.damaged told))
+
+pub returns-clause-stored : goal.returns-clause-stored
+returns-clause-stored g c = λ told.
+    let a = c.args in
+    let files : Files = g.S.Store.reads c.args.store.now in
+    let count = c.place_in-count.result in
+    let mid = c.put_rest.new.out in
+    let k = length mid - count in
+    let m = length (take k (drop count mid)) in
+    let many : m ≡ length mid - count = omega (arith, length-take k (drop count mid), length-drop count mid) in
+    let place : count ≡ place_in a.from (a.from + length a.out.now) (end_of 0 a.layout.now) = c.place_in-count.ensures ∙ ap (λ n. place_in a.from (a.from + length a.out.now) n) c.len.ensures.value in
+    seen (stored_of files) a.from (a.from + length a.out.now) a.layout.now a.rest.now count m a.out.now mid _ c.requires.rest (omega arith) place
+    (c.in_ok-put_rest.ensures.stored told) many
+    (put_tail count k mid c.fill_gaps.new.out (omega arith) ∙ ap (λ ys. take count mid ++ ys) c.fill_gaps.ensures)
+
+pub returns-clause-read : goal.returns-clause-read
+returns-clause-read g c = λ told whole k lt.
+    let files : Files = g.S.Store.reads c.args.store.now in
+    returns-clause-stored g c told k lt
+    ∙ ap (λ (cs : List Cell). get_or cs (c.args.from + k) Gap) (stored_cells files 0 c.args.layout.now whole)

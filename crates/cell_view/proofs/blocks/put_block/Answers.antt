@@ -1,0 +1,72 @@
+-- What is seen of the block is put.
+use Rattle.std.proofs.Common.{◌≡◌, ◌≤◌, ◌+◌, ◌*◌, ◌-◌, ℕ, ℤ, Bool, List, map, length, take, drop, arith, sym, subst, ◌∙◌, length-drop}
+use Rattle.std.specs.Prelude.{IsTrue}
+use Rattle.std.proofs.lemmas.List.{length-map, length-take}
+use Rattle.std.proofs.lemmas.Result.{on_ok_weaker}
+use Rattle.disk_model.specs.Disk.{Files, bytes_of}
+use Rattle.disk_model.proofs.Frames.{kept_none}
+use Rattle.pcm_base.specs.declared.sound.Cell.TheVariants.{Sample}
+use Rattle.pcm_base.specs.Pieces.{stretch}
+use Rattle.pcm_base.proofs.Pieces.{length-stretch}
+use Rattle.sample_block.specs.Faults.{samples_in}
+use Rattle.cell_view.specs.Seen.{place_in}
+use Rattle.cell_view.specs.Stored.{stored_on}
+use Rattle.cell_view.proofs.SeenLaws.{puts_none, puts_mid}
+use Rattle.cell_view.proofs.StoredLaws.{stored_part}
+use Rattle.cell_view.proofs.blocks.put_block.Goals as goal
+
+pub returns-then-start-end-clause-stored : goal.returns-then-start-end-clause-stored
+returns-then-start-end-clause-stored g c = λ told.
+    let f : ℕ → ℤ = stored_on (g.S.Store.reads c.args.store.now) c.args.block.id in
+    let samples = stretch f 0 c.args.block.len in
+    let size : length (map Sample samples) ≡ c.args.block.len =
+    length-map samples Sample ∙ length-stretch f 0 c.args.block.len in
+    puts_none c.args.from c.args.to c.args.at c.args.block.len (map Sample samples) c.args.out.now (omega (arith, c.requires.size)) size
+    (omega (arith, c.place_in-start.ensures, c.if-start-end.true, c.place_in-end.ensures))
+
+pub returns-then-start-end-clause-kept : goal.returns-then-start-end-clause-kept
+returns-then-start-end-clause-kept g c = kept_none _ (g.met.S.Store.may_fewer _)
+
+pub returns-clause-stored : goal.returns-clause-stored
+returns-clause-stored g c = λ told.
+    let a = c.args in
+    let b = c.args.block in
+    let kept = c.compare_header.ensures.kept in
+    let files : Files = g.S.Store.reads c.args.store.now in
+    let still : IsTrue (g.S.Store.tells c.compare_header.new.store) =
+    subst (λ (t : Bool). IsTrue t) (sym kept.same_tells) told in
+    let start = c.place_in-start.result in
+    let skip = c.saturating_sub-skip.result in
+    let k = c.place_in-end.result - start in
+    let m : ℕ = length (take k (drop start a.out.now)) in
+    let samples : List ℤ = stretch (stored_on files b.id) 0 b.len in
+    let size : length (map Sample samples) ≡ b.len =
+    length-map samples Sample ∙ length-stretch (stored_on files b.id) 0 b.len in
+    let order : a.from ≤ a.to = omega (arith, c.requires.size) in
+    let fits : start ≤ length a.out.now = omega (arith, c.place_in-start.ensures, c.requires.size) in
+    let seen : m ≡ place_in a.from a.to (a.at + b.len) - place_in a.from a.to a.at =
+    omega (
+      arith,
+      length-take k (drop start a.out.now),
+      length-drop start a.out.now,
+      c.place_in-start.ensures,
+      c.place_in-end.ensures,
+      c.requires.size,
+    ) in
+    let within : skip + m ≤ b.len =
+    omega (
+      arith,
+      seen,
+      c.saturating_sub-skip.ensures,
+      c.if-start-end.false,
+      c.place_in-start.ensures,
+      c.place_in-end.ensures,
+    ) in
+    let S : Files → Type 0 = λ f.
+    c.read_pieces.new.out ≡ map Sample (samples_in (bytes_of (f b.id)) (16 + 2 * skip) m) in
+    on_ok_weaker c.read_pieces.result
+    (λ got. puts_mid a.from a.to a.at b.len k start (map Sample samples) c.read_pieces.new.out a.out.now order size
+    c.place_in-start.ensures fits
+    (stored_part files b a.from a.to a.at m skip c.read_pieces.new.out order seen c.saturating_sub-skip.ensures within
+    (subst S kept.same_reads got)))
+    (c.read_pieces.ensures.stored still)

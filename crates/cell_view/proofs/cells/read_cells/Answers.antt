@@ -1,0 +1,36 @@
+-- The cells that are seen from the place on are those of the layout.
+use Rattle.std.proofs.Common.{◌≡◌, ◌-◌, min, List, length, take, drop, arith, ap, ◌∙◌}
+use Rattle.std.proofs.lemmas.List.{length-take}
+use Rattle.disk_model.specs.Disk.{Files}
+use Rattle.pcm_base.specs.declared.sound.Cell.{Cell}
+use Rattle.clip_track.specs.Clips.{layout_cells}
+use Rattle.cell_view.specs.Stored.{stored_of}
+use Rattle.cell_view.proofs.PartLists.{drop_front}
+use Rattle.cell_view.proofs.RestLaws.{seen_cells}
+use Rattle.cell_view.proofs.StoredLaws.{stored_cells}
+use Rattle.cell_view.proofs.cells.read_cells.Goals as goal
+
+pub returns-clause-stored : goal.returns-clause-stored
+returns-clause-stored g c = λ told.
+    let a = c.args in
+    let files : Files = g.S.Store.reads c.args.store.now in
+    let out : List Cell = a.out.now in
+    let count = c.place_in-count.result in
+    let size : length (take count out) ≡ count = omega (arith, length-take count out, c.place_in-count.ensures) in
+    let few : count ≡ min (length out) (length (layout_cells (stored_of files) a.layout.now) - a.from) =
+    omega (arith, c.place_in-count.ensures, c.len.ensures.cells (stored_of files)) in
+    seen_cells (stored_of files) a.from (length out) a.layout.now count c.read_ahead.new.out (drop count out)
+    (omega (arith, c.read_ahead.auto.out, size)) few (c.in_ok-read_ahead.ensures.stored told)
+
+pub returns-clause-read : goal.returns-clause-read
+returns-clause-read g c = λ told whole.
+    let files : Files = g.S.Store.reads c.args.store.now in
+    returns-clause-stored g c told
+    ∙ ap (λ (cs : List Cell). take (length c.args.out.now) (drop c.args.from cs)) (stored_cells files 0 c.args.layout.now whole)
+
+pub returns-clause-rest : goal.returns-clause-rest
+returns-clause-rest g c =
+    let count = c.place_in-count.result in
+    let out : List Cell = c.args.out.now in
+    let size : length (take count out) ≡ count = omega (arith, length-take count out, c.place_in-count.ensures) in
+    drop_front count c.read_ahead.new.out (drop count out) (omega (arith, c.read_ahead.auto.out, size))

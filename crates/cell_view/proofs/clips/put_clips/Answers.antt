@@ -1,0 +1,150 @@
+-- One clip more is put.
+use Rattle.std.proofs.Common.{◌≡◌, ℕ, ◌+◌, ◌-◌, ◌≤◌, List, [], ◌∷◌, ◌++◌, length, drop, map, refl, sym, ap, subst, ◌∙◌, arith, Bool, length-append}
+use Rattle.std.specs.Prelude.{IsTrue, replicate}
+use Rattle.std.proofs.lemmas.List.{drop_more, drop_all, length-map, length-replicate}
+use Rattle.disk_model.specs.Disk.{Files}
+use Rattle.disk_model.proofs.Frames.{kept_none, kept_turn}
+use Rattle.pcm_base.specs.declared.sound.Cell.{Cell}
+use Rattle.pcm_base.specs.declared.sound.Cell.TheVariants as cell
+use Rattle.pcm_base.specs.Blocks.{blocks_len, block_samples}
+use Rattle.block_sequence.proofs.Whole.{length-blocks}
+use Rattle.clip_track.specs.declared.clips.Clip.{Clip}
+use Rattle.clip_track.specs.Clips.{AreClips, end_of, clip_end, cells_from}
+use Rattle.clip_track.proofs.Layouts.{AreClips-next, end_within}
+use Rattle.clip_track.specs.Clips.{layout_blocks}
+use Rattle.block_store.specs.Reads.{IsFaultIn}
+use Rattle.sample_block.specs.Sources.{AllNamed}
+use Rattle.cell_view.specs.Seen.{place_in, Puts}
+use Rattle.cell_view.specs.Stored.{stored_of}
+use Rattle.cell_view.proofs.SeenLaws.{puts_turn, puts_none, fault_first, fault_later, named_front, named_back}
+use Rattle.cell_view.proofs.clips.put_clips.Goals as goal
+
+pub rows-init : goal.rows-init
+rows-init g c = record {
+  apart = c.requires.apart;
+  same_end = refl;
+  named = c.requires.named;
+  kept = kept_none _ (g.met.S.Store.may_fewer _);
+  count = refl;
+  rest_fault = λ why h. h;
+  stored = λ told new puts. puts;
+}
+
+pub put_clip-requires-clause-named : goal.put_clip-requires-clause-named
+put_clip-requires-clause-named g c =
+    let cs = c.args.clips.now in
+    let i = c.rows.clip-index in
+    let x : Clip = c.clip-item.result in
+    let rest = drop (i + 1) cs in
+    let inv = c.rows.invariant in
+    let e : drop i cs ≡ x ∷ rest = drop_more cs i x c.rows-test.true ∙ ap (λ (y : Clip). y ∷ rest) (sym c.clip-item.is) in
+    let N : List Clip → Type 0 = λ ds. AllNamed (layout_blocks ds) in
+    named_front x.blocks (layout_blocks rest) (subst N e inv.named)
+
+pub put_clip-requires-clause-few : goal.put_clip-requires-clause-few
+put_clip-requires-clause-few g c =
+    let cs = c.args.clips.now in
+    let i = c.rows.clip-index in
+    let x : Clip = c.clip-item.result in
+    let rest = drop (i + 1) cs in
+    let inv = c.rows.invariant in
+    let e : drop i cs ≡ x ∷ rest = drop_more cs i x c.rows-test.true ∙ ap (λ (y : Clip). y ∷ rest) (sym c.clip-item.is) in
+    let P : List Clip → Type 0 = λ ds. AreClips c.rows.at ds in
+    omega (arith, end_within c.rows.at x rest (subst P e inv.apart), ap (end_of c.rows.at) e, inv.same_end, c.requires.few)
+
+pub put_clip-requires-clause-later : goal.put_clip-requires-clause-later
+put_clip-requires-clause-later g c =
+    let cs = c.args.clips.now in
+    let i = c.rows.clip-index in
+    let x : Clip = c.clip-item.result in
+    let rest = drop (i + 1) cs in
+    let inv = c.rows.invariant in
+    let e : drop i cs ≡ x ∷ rest = drop_more cs i x c.rows-test.true ∙ ap (λ (y : Clip). y ∷ rest) (sym c.clip-item.is) in
+    let P : List Clip → Type 0 = λ ds. AreClips c.rows.at ds in
+    (subst P e inv.apart).0
+
+pub overflow_add-at : goal.overflow_add-at
+overflow_add-at g c =
+    let cs = c.args.clips.now in
+    let i = c.rows.clip-index in
+    let x : Clip = c.clip-item.result in
+    let rest = drop (i + 1) cs in
+    let inv = c.rows.invariant in
+    let e : drop i cs ≡ x ∷ rest = drop_more cs i x c.rows-test.true ∙ ap (λ (y : Clip). y ∷ rest) (sym c.clip-item.is) in
+    let P : List Clip → Type 0 = λ ds. AreClips c.rows.at ds in
+    let within = end_within c.rows.at x rest (subst P e inv.apart) in
+    let sum = ap (end_of c.rows.at) e in
+    let same = inv.same_end in
+    let few = c.requires.few in
+    let size = c.len.ensures.value in
+    grind arith
+
+pub returns-in-Err-clause-damaged : goal.returns-in-Err-clause-damaged
+returns-in-Err-clause-damaged g c = λ told.
+    let cs = c.args.clips.now in
+    let i = c.rows.clip-index in
+    let x : Clip = c.clip-item.result in
+    let rest = drop (i + 1) cs in
+    let inv = c.rows.invariant in
+    let e : drop i cs ≡ x ∷ rest = drop_more cs i x c.rows-test.true ∙ ap (λ (y : Clip). y ∷ rest) (sym c.clip-item.is) in
+    let files : Files = g.S.Store.reads c.args.store.now in
+    let still : IsTrue (g.S.Store.tells c.rows.store) = subst (λ (t : Bool). IsTrue t) (sym inv.kept.same_tells) told in
+    let D : Files → Type 0 = λ f. IsFaultIn f x.blocks c.in-Err.fault in
+    let F : List Clip → Type 0 = λ ds. IsFaultIn files (layout_blocks ds) c.in-Err.fault in
+    inv.rest_fault c.in-Err.fault (subst F (sym e) (fault_first files x.blocks (layout_blocks rest) c.in-Err.fault (subst D inv.kept.same_reads (c.in-Err.ensures.damaged still))))
+
+pub returns-in-Err-clause-kept : goal.returns-in-Err-clause-kept
+returns-in-Err-clause-kept g c = kept_turn c.rows.invariant.kept c.put_clip.ensures.kept
+
+pub rows-preserved : goal.rows-preserved
+rows-preserved g c =
+    let cs = c.args.clips.now in
+    let i = c.rows.clip-index in
+    let x : Clip = c.clip-item.result in
+    let rest = drop (i + 1) cs in
+    let inv = c.rows.invariant in
+    let e : drop i cs ≡ x ∷ rest = drop_more cs i x c.rows-test.true ∙ ap (λ (y : Clip). y ∷ rest) (sym c.clip-item.is) in
+    let files : Files = g.S.Store.reads c.args.store.now in
+    let at = c.rows.at in
+    let P : List Clip → Type 0 = λ ds. AreClips at ds in
+    let N : List Clip → Type 0 = λ ds. AllNamed (layout_blocks ds) in
+    let end : x.start + c.len.result ≡ clip_end x = omega (arith, c.len.ensures.value) in
+    rw end (record {
+      apart = AreClips-next at x rest (subst P e inv.apart);
+      same_end = sym (ap (end_of at) e) ∙ inv.same_end;
+      named = named_back x.blocks (layout_blocks rest) (subst N e inv.named);
+      kept = kept_turn inv.kept c.put_clip.ensures.kept;
+      count = c.in_default.ensures.faults ∙ inv.count;
+      rest_fault = λ why f. let F : List Clip → Type 0 = λ ds. IsFaultIn files (layout_blocks ds) why in inv.rest_fault why (subst F (sym e) (fault_later files x.blocks (layout_blocks rest) why f));
+      stored = λ told new puts.
+          let still : IsTrue (g.S.Store.tells c.rows.store) = subst (λ (t : Bool). IsTrue t) (sym inv.kept.same_tells) told in
+          let U : Files → Type 0 = λ f. Puts c.args.from c.args.to at (replicate (x.start - at) cell.Gap ++ map cell.Sample (block_samples (stored_of f) x.blocks)) c.rows.out c.put_clip.new.out in
+          let one = subst U inv.kept.same_reads (c.in_default.ensures.stored still) in
+          let gap : List Cell = replicate (x.start - at) cell.Gap in
+          let sound : List Cell = map cell.Sample (block_samples (stored_of files) x.blocks) in
+          let later : at ≤ x.start = (subst P e inv.apart).0 in
+          let size : length sound ≡ blocks_len x.blocks = length-map (block_samples (stored_of files) x.blocks) cell.Sample ∙ length-blocks (stored_of files) x.blocks in
+          let place : clip_end x ≡ at + length (gap ++ sound) = omega (arith, length-append gap sound, length-replicate (x.start - at) cell.Gap, size, later) in
+          let Q : ℕ → Type 0 = λ n. Puts c.args.from c.args.to n (cells_from (stored_of files) (clip_end x) rest) c.put_clip.new.out new in
+          let both = puts_turn c.args.from c.args.to at (gap ++ sound) (cells_from (stored_of files) (clip_end x) rest) c.rows.out c.put_clip.new.out new one (subst Q place puts) in
+          let R : List Clip → Type 0 = λ ds. Puts c.args.from c.args.to at (cells_from (stored_of files) at ds) c.rows.out new in
+          inv.stored told new (subst R (sym e) both);
+    })
+
+pub returns-clause-stored : goal.returns-clause-stored
+returns-clause-stored g c = λ told.
+    let cs = c.args.clips.now in
+    let i = c.rows.clip-index in
+    let none : drop i cs ≡ [] = drop_all i cs (omega arith) in
+    let inv = c.rows.invariant in
+    let files : Files = g.S.Store.reads c.args.store.now in
+    let R : List Clip → Type 0 = λ ds. Puts c.args.from c.args.to c.rows.at (cells_from (stored_of files) c.rows.at ds) c.rows.out c.rows.out in
+    let stop : c.rows.at ≡ c.rows.at + 0 = omega arith in
+    inv.stored told c.rows.out (subst R (sym none) (puts_none c.args.from c.args.to c.rows.at 0 [] c.rows.out (omega (arith, c.requires.size)) refl (ap (place_in c.args.from c.args.to) stop)))
+
+-- the clips that are left stand behind the view
+pub returns-then-at-to-clause-stored : goal.returns-then-at-to-clause-stored
+returns-then-at-to-clause-stored g c = λ told.
+    let files : Files = g.S.Store.reads c.args.store.now in
+    let left : List Cell = cells_from (stored_of files) c.rows.at (drop c.rows.clip-index c.args.clips.now) in
+    c.rows.invariant.stored told c.rows.out (puts_none c.args.from c.args.to c.rows.at (length left) left c.rows.out (omega (arith, c.requires.size)) refl (omega arith))

@@ -1,0 +1,60 @@
+-- What is left of a track from a place on.
+use Rattle.std.specs.Prelude.{◌≡◌, ℕ, ◌+◌, ◌-◌, ◌≤◌, ◌<◌, ◌^◌, ◌⊎◌, List, [], ◌∷◌, ◌++◌, length, map, replicate, slice_index_or}
+use Rattle.disk_model.specs.Disk.{Files}
+use Rattle.block_store.specs.declared.fault.BlockFault.{BlockFault}
+use Rattle.pcm_base.specs.declared.block.BlockRef.{BlockRef}
+use Rattle.pcm_base.specs.declared.sound.Cell.{Cell}
+use Rattle.pcm_base.specs.declared.sound.Cell.TheVariants as cell
+use Rattle.pcm_base.specs.Pieces.{Sources}
+use Rattle.pcm_base.specs.Blocks.{blocks_len, block_samples}
+use Rattle.clip_track.specs.declared.clips.Clip.{Clip}
+use Rattle.clip_track.specs.Clips.{AreClips, end_of, cells_from, layout_cells}
+use Rattle.clip_track.specs.Clips.{layout_blocks}
+use Rattle.block_store.specs.Reads.{IsFaultIn}
+use Rattle.sample_block.specs.Sources.{AllNamed}
+use Rattle.cell_view.specs.declared.rest.Rest.{Rest}
+
+-- its cells, from its place on
+abbrev pub rest_cells : Sources → Rest → List Cell
+rest_cells src r = replicate (r.start - r.at) cell.Gap ++ map cell.Sample
+    (block_samples src r.blocks.now) ++ cells_from src r.end r.clips.now
+
+-- the cell at a place of the track
+abbrev pub rest_cell : Sources → Rest → ℕ → Cell
+rest_cell src r i = slice_index_or (rest_cells src r) (i - r.at) cell.Gap
+
+abbrev pub rest_blocks : Rest → List BlockRef
+rest_blocks r = r.blocks.now ++ layout_blocks r.clips.now
+
+-- blocks that a disk may have, and clips behind them, each at its place
+pub record IsRest (r : Rest) : Type 0 where
+  pub later : r.at ≤ r.start
+  pub whole : r.end ≡ r.start + blocks_len r.blocks.now
+  pub apart : AreClips r.end r.clips.now
+  pub few : end_of r.end r.clips.now ≤ 2 ^ 32
+  pub named : AllNamed r.blocks.now
+  pub clips_named : AllNamed (layout_blocks r.clips.now)
+
+-- the first of some blocks ends behind a place, where there is one
+abbrev pub EndsBehind : ℕ → ℕ → List BlockRef → Type 0
+EndsBehind from start [] = Unit {0}
+EndsBehind from start (b ∷ bs) = from < start + b.len
+
+-- no clip and no block that ends by a place stands in front any more
+pub record IsPast (from : ℕ) (r : Rest) : Type 0 where
+  pub clip : r.clips.now ≡ [] ⊎ (from < r.end)
+  pub block : EndsBehind from r.start r.blocks.now
+
+-- the rest of a track, which has all of it from a place on
+pub record IsRestOf (from : ℕ) (cs : List Clip) (r : Rest) : Type 0 where
+  pub rest : IsRest r
+  pub passed : r.at ≤ from
+  pub same_end : end_of r.end r.clips.now ≡ end_of 0 cs
+  pub cells : (src : Sources) (i : ℕ) → from ≤ i → rest_cell src r i ≡ slice_index_or (layout_cells src cs) i cell.Gap
+  pub blocks_fault : (files : Files) (why : BlockFault) → IsFaultIn files (rest_blocks r) why
+      → IsFaultIn files (layout_blocks cs) why
+
+-- cells that stand at places of a track from one on, gaps past its end
+abbrev pub AreSeen : Sources → ℕ → List Clip → List Cell → Type 0
+AreSeen src from cs cells = (k : ℕ) → k < length cells
+    → slice_index_or cells k cell.Gap ≡ slice_index_or (layout_cells src cs) (from + k) cell.Gap

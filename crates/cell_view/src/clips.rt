@@ -1,0 +1,74 @@
+// The cells of clips, one after another.
+ghost use Rattle.std.specs.Prelude.{◌≡◌, ◌≤◌, ◌+◌, ◌-◌, ◌^◌, ◌++◌, length, map, replicate, IsTrue, OnOk, IfErr};
+ghost use Rattle.disk_model.specs.Frames.{Kept};
+ghost use Rattle.block_store.specs.Reads.{Counted, IsFaultIn};
+ghost use Rattle.pcm_base.specs.declared.sound.Cell.TheVariants as cell;
+ghost use Rattle.pcm_base.specs.Blocks.{block_samples};
+ghost use Rattle.clip_track.specs.Clips.{clip_end, end_of, cells_from, layout_blocks, AreClips};
+ghost use Rattle.sample_block.specs.Sources.{AllNamed};
+ghost use Rattle.cell_view.specs.Seen.{Puts};
+ghost use Rattle.cell_view.specs.Stored.{stored_of};
+
+use super::blocks::put_blocks;
+use super::places::put_gap;
+use block_store::BlockFault;
+use clip_track::Clip;
+use disk_model::Store;
+use pcm_base::Cell;
+
+/// Puts a clip, and the gap before it, where the view has them.
+fn put_clip<S: Store>(
+    store: &mut S,
+    clip: &Clip,
+    from: u64,
+    to: u64,
+    at: u64,
+    out: &mut [Cell],
+) -> Result<(), BlockFault>
+    requires named { AllNamed clip.now.blocks }
+    requires size { from + length out.old ≡ to }
+    requires later { at ≤ clip.now.start }
+    requires few { clip_end clip.now ≤ 2 ^ 32 }
+    ensures stored { IsTrue (S.tells store.old)
+        → OnOk result (Puts from to at (replicate (clip.now.start - at) cell.Gap
+        ++ map cell.Sample (block_samples (stored_of (S.reads store.old)) clip.now.blocks)) out.old out.new) }
+    ensures damaged { IsTrue (S.tells store.old) → IfErr result (λ e. IsFaultIn (S.reads store.old) clip.now.blocks e) }
+    ensures kept { Kept S.Store store.old store.new }
+    ensures faults { Counted result (S.read_fault_count store.old) (S.read_fault_count store.new) }
+{
+    put_gap(from, to, at, clip.start - at, out);
+    put_blocks(store, clip.blocks.as_slice(), from, to, clip.start, out)
+}
+
+/// Puts clips, and the gaps before them from a place on, where the view has them. None behind the view is looked at.
+pub(crate) fn put_clips<S: Store>(
+    store: &mut S,
+    clips: &[Clip],
+    from: u64,
+    to: u64,
+    start: u64,
+    out: &mut [Cell],
+) -> Result<(), BlockFault>
+    requires apart { AreClips start clips.now }
+    requires few { end_of start clips.now ≤ 2 ^ 32 }
+    requires named { AllNamed (layout_blocks clips.now) }
+    requires size { from + length out.old ≡ to }
+    ensures stored { IsTrue (S.tells store.old) → OnOk result
+        (Puts from to start (cells_from (stored_of (S.reads store.old)) start clips.now) out.old out.new) }
+    ensures damaged { IsTrue (S.tells store.old)
+        → IfErr result (λ e. IsFaultIn (S.reads store.old) (layout_blocks clips.now) e) }
+    ensures kept { Kept S.Store store.old store.new }
+    ensures faults { Counted result (S.read_fault_count store.old) (S.read_fault_count store.new) }
+{
+    let mut at = start;
+    'rows: for clip in clips {
+        if at >= to {
+            return Ok(());
+        }
+        if let Err(fault) = put_clip(store, clip, from, to, at, out) {
+            return Err(fault);
+        }
+        at = clip.start + clip.blocks.len();
+    }
+    Ok(())
+}

@@ -1,0 +1,21 @@
+//! The cells of a track of blocks, over any store: its gaps, and the samples of its clips.
+//!
+//! The layers above use two contracts. `read_cells` gives the cells of a layout from a place on, as many as there are.
+//! `read_ahead` gives them, and gaps past the end, to who goes through a track a stretch at a time: what is left of the
+//! track (`Rest`) is handed in, so that no clip or block is passed twice. No memory is taken, and no sample is read but
+//! those that are seen.
+#![tactic(auto)]
+
+mod ahead;
+mod blocks;
+mod cells;
+mod clips;
+mod places;
+mod rest;
+#[cfg(test)]
+mod tests;
+
+pub use ahead::read_ahead;
+pub use cells::read_cells;
+pub use places::fill_gaps;
+pub use rest::{Rest, no_rest, pass, rest_at};

@@ -1,0 +1,3 @@
+mod AddedLaws
+pub mod CountLaws
+pub mod VoiceLaws

@@ -1,0 +1,101 @@
+-- Tracks of a point, one after another.
+use Rattle.std.proofs.Common.{◌≡◌, ℕ, zero, suc, ◌≤◌, ◌<◌, Bool, true, false, List, [], ◌∷◌, ◌++◌, length, take, drop, max, get_or, refl, sym, ap, ap₂, subst, ◌∙◌, arith}
+use Rattle.std.specs.Prelude.{if◌then◌else◌}
+use Rattle.std.proofs.lemmas.List.{length-take}
+use borrow.Rule.Slice.PartMut.{put_mid}
+use lib.ListN.{set}
+use Rattle.disk_model.specs.Disk.{Files}
+use Rattle.block_store.specs.declared.fault.BlockFault.{BlockFault}
+use Rattle.pcm_base.specs.declared.sound.Cell.{Cell}
+use Rattle.pcm_base.specs.declared.sound.Side.{Side}
+use Rattle.pcm_base.specs.Pieces.{Sources}
+use Rattle.pcm_base.specs.Cells as cells
+use Rattle.pcm_base.specs.Cells.{longest}
+use Rattle.pcm_base.specs.Mix.{mix_length, mix_of, unmuted}
+use Rattle.clip_track.specs.Clips.{layout_cells}
+use Rattle.clip_track.specs.Clips.{layout_blocks}
+use Rattle.project_state.specs.declared.track.Track.{Track}
+use Rattle.project_state.specs.Kept.{meant, point_blocks}
+use Rattle.block_store.specs.Reads.{IsFaultIn}
+use Rattle.sample_block.specs.Sources.{sources_of, AllNamed, AllWhole}
+use Rattle.cell_view.specs.declared.rest.Rest.{Rest}
+use Rattle.cell_view.specs.Rests.{IsRestOf}
+use Rattle.cell_view.specs.Stored.{stored_of}
+use Rattle.cell_view.proofs.PartLists.{take_front, drop_front}
+use Rattle.cell_view.proofs.RestLaws.{rest_later}
+use Rattle.cell_view.proofs.SeenLaws.{fault_later, whole_front, whole_back, named_back}
+use Rattle.cell_view.proofs.StoredLaws.{stored_cells}
+use Rattle.mixdown.specs.Stretches.{IsStretch, AreStretches, gains_of, sides_of}
+use Rattle.mix_view.specs.Voices.{stored_mix, AreRestsOf, track_gains, track_sides}
+
+-- facts of the tracks that are left
+pub named_drop : (i : ℕ) (ts : List Track) → AllNamed (point_blocks ts) → AllNamed (point_blocks (drop i ts))
+named_drop zero ts all = all
+named_drop (suc i) [] all = all
+named_drop (suc i) (t ∷ ts) all = named_drop i ts (named_back (layout_blocks t.layout) (point_blocks ts) all)
+
+pub fault_drop : (files : Files) (why : BlockFault) (i : ℕ) (ts : List Track) → IsFaultIn files (point_blocks (drop i ts)) why → IsFaultIn files (point_blocks ts) why
+fault_drop files why zero ts is = is
+fault_drop files why (suc i) [] is = is
+fault_drop files why (suc i) (t ∷ ts) is = fault_later files (layout_blocks t.layout) (point_blocks ts) why (fault_drop files why i ts is)
+
+-- the rest of one of the tracks
+pub rests_at : (from : ℕ) (ts : List Track) (rs : List Rest) (i : ℕ) (d : Track) (e : Rest) → i < length ts → AreRestsOf from ts rs → IsRestOf from (get_or ts i d).layout (get_or rs i e)
+rests_at from [] rs i d e lt are = absurd (omega (arith, lt))
+rests_at from (t ∷ ts) [] i d e lt are = absurd are
+rests_at from (t ∷ ts) (r ∷ rs) zero d e lt are = are.0
+rests_at from (t ∷ ts) (r ∷ rs) (suc i) d e lt are = rests_at from ts rs i d e (omega (arith, lt)) are.1
+
+pub rests_set : (from : ℕ) (ts : List Track) (rs : List Rest) (i : ℕ) (d : Track) (r' : Rest) → i < length ts → AreRestsOf from ts rs → IsRestOf from (get_or ts i d).layout r' → AreRestsOf from ts (set rs i r')
+rests_set from [] rs i d r' lt are is = absurd (omega (arith, lt))
+rests_set from (t ∷ ts) [] i d r' lt are is = absurd are
+rests_set from (t ∷ ts) (r ∷ rs) zero d r' lt are is = (is, are.1)
+rests_set from (t ∷ ts) (r ∷ rs) (suc i) d r' lt are is = (are.0, rests_set from ts rs i d r' (omega (arith, lt)) are.1 is)
+
+pub rests_later : (from to : ℕ) (ts : List Track) (rs : List Rest) → from ≤ to → AreRestsOf from ts rs → AreRestsOf to ts rs
+rests_later from to [] rs le are = tt
+rests_later from to (t ∷ ts) [] le are = absurd are
+rests_later from to (t ∷ ts) (r ∷ rs) le are = (rest_later from to t.layout r le are.0, rests_later from to ts rs le are.1)
+
+-- a stretch is put before those of the tracks behind
+pub stretch_put : (from len a k : ℕ) (xs ys : List Cell) (t : cells.Track) (ts : cells.Project) → a ≤ length xs → length ys ≡ len → k ≡ len → IsStretch from len t ys
+    → AreStretches from len ts (drop len (drop a xs)) → AreStretches from len (t ∷ ts) (drop a (put_mid a k xs ys))
+stretch_put from len a k xs ys t ts fits size same is are =
+    let here : drop a (put_mid a k xs ys) ≡ ys ++ drop k (drop a xs) = drop_front a (take a xs) (ys ++ drop k (drop a xs)) (omega (arith, length-take a xs, fits)) in
+    let first : take len (drop a (put_mid a k xs ys)) ≡ ys = ap (take len) here ∙ take_front len ys (drop k (drop a xs)) size in
+    let rest : drop len (drop a (put_mid a k xs ys)) ≡ drop len (drop a xs) = ap (drop len) here ∙ drop_front len ys (drop k (drop a xs)) size ∙ ap (λ n. drop n (drop a xs)) same in
+    let I : List Cell → Type 0 = λ zs. IsStretch from len t zs in
+    let A : List Cell → Type 0 = λ zs. AreStretches from len ts zs in
+    (subst I (sym first) is, subst A (sym rest) are)
+
+-- what the tracks mean
+longest_of : (id gain : ℕ) (side : Side) (mute : Bool) (cs : List Cell) (ts : cells.Project)
+    → longest (unmuted (record { id = id; gain = gain; side = side; mute = mute; cells = cs } ∷ ts))
+    ≡ max (if mute then 0 else length cs) (longest (unmuted ts))
+longest_of id gain side true cs ts = omega arith
+longest_of id gain side false cs ts = refl
+
+pub longest_first : (src : Sources) (t : Track) (ts : List Track)
+    → mix_length (meant src (t ∷ ts)) ≡ max (if t.mute then 0 else length (layout_cells src t.layout)) (mix_length (meant src ts))
+longest_first src t ts = longest_of t.id t.gain t.side t.mute (layout_cells src t.layout) (meant src ts)
+
+pub gains_meant : (src : Sources) (ts : List Track) → gains_of (meant src ts) ≡ track_gains ts
+gains_meant src [] = refl
+gains_meant src (t ∷ ts) = ap (λ gs. t.gain ∷ gs) (gains_meant src ts)
+
+pub sides_meant : (src : Sources) (ts : List Track) → sides_of (meant src ts) ≡ track_sides ts
+sides_meant src [] = refl
+sides_meant src (t ∷ ts) = ap (λ ss. t.side ∷ ss) (sides_meant src ts)
+
+-- of blocks that are whole they mean what stands in the files
+pub stored_meant : (files : Files) (ts : List Track) → AllWhole files (point_blocks ts)
+    → meant (stored_of files) ts ≡ meant (sources_of files) ts
+stored_meant files [] whole = refl
+stored_meant files (t ∷ ts) whole =
+    ap₂ (λ (cs : List Cell) us. record { id = t.id; gain = t.gain; side = t.side; mute = t.mute; cells = cs } ∷ us)
+    (stored_cells files 0 t.layout (whole_front files (layout_blocks t.layout) (point_blocks ts) whole))
+    (stored_meant files ts (whole_back files (layout_blocks t.layout) (point_blocks ts) whole))
+
+pub stored_whole : (files : Files) (ts : List Track) → AllWhole files (point_blocks ts)
+    → stored_mix files ts ≡ mix_of (meant (sources_of files) ts)
+stored_whole files ts whole = ap mix_of (stored_meant files ts whole)

@@ -1,0 +1,20 @@
+-- One more is put.
+use Rattle.std.proofs.Common.{◌≡◌, List, [], ◌∷◌, ◌++◌, length, take, ap, sym, ◌∙◌, arith}
+use Rattle.std.proofs.lemmas.List.{take_more_set, take_all, map-append}
+use Rattle.project_state.specs.declared.track.Track.{Track}
+use Rattle.project_state.proofs.Parts.{take_some}
+use Rattle.mix_view.specs.Voices.{track_sides}
+use Rattle.mix_view.proofs.voices.put_sides.Goals as goal
+
+pub rows-preserved : goal.rows-preserved
+rows-preserved c =
+    let ts : List Track = c.args.point.now in
+    let i = c.rows.i in
+    let t : Track = c.track_at.result.now in
+    take_more_set c.rows.out i t.side (omega arith) ∙ ap (λ xs. xs ++ t.side ∷ []) c.rows.invariant
+    ∙ sym (ap track_sides (take_some ts i t c.track_at.ensures) ∙ map-append (λ (u : Track). u.side) (take i ts) (t ∷ []))
+
+pub returns : goal.returns
+returns c =
+    let e : length c.args.point.now ≡ c.rows.i = omega arith in
+    ap (λ n. take n c.rows.out) e ∙ c.rows.invariant ∙ ap track_sides (take_all c.rows.i c.args.point.now (omega arith))

@@ -1,0 +1,94 @@
+-- The head, and then the frames.
+use Rattle.std.proofs.Common.{◌≡◌, ℕ, ◌++◌, Bool, List, length, Some, sym, ap, subst, ◌∙◌, arith}
+use Rattle.std.specs.Prelude.{IsTrue}
+use Rattle.std.proofs.lemmas.Result.{err_from_is_err_and}
+use Rattle.disk_model.proofs.Frames.{kept_none}
+use Rattle.pcm_base.specs.declared.sound.Frame.{Frame}
+use Rattle.pcm_base.specs.Mix.{mix_of}
+use Rattle.edit_ports.specs.Sounds.{sound_bytes}
+use Rattle.project_state.specs.Kept.{meant, point_blocks}
+use Rattle.cell_view.specs.Stored.{stored_of}
+use Rattle.wav_pcm.specs.Wavs.{wav_head}
+use Rattle.pcm_base.specs.Recordings.{frame_bytes}
+use Rattle.sound_export.specs.Written.{MayBegin}
+use Rattle.mix_view.specs.Voices.{mix_length_of}
+use Rattle.mix_view.proofs.VoiceLaws.{stored_whole}
+use Rattle.sound_export.proofs.GrowLaws.{begun_more, begun_front, length_mix, whole_text, device_fits, no_damage}
+use Rattle.sound_export.proofs.export.write_mix.Goals as goal
+
+pub returns-then-len-clause-kept : goal.returns-then-len-clause-kept
+returns-then-len-clause-kept g c = kept_none _ (g.met.S.Store.may_fewer _)
+
+pub returns-then-len-clause-whole : goal.returns-then-len-clause-whole
+returns-then-len-clause-whole g c = λ whole. stored_whole (g.S.Store.reads c.args.store.now) c.args.point.now whole
+
+pub returns-in_err-start_sound-clause-kept : goal.returns-in_err-start_sound-clause-kept
+returns-in_err-start_sound-clause-kept g c = kept_none _ (g.met.S.Store.may_fewer _)
+
+pub returns-in_err-start_sound-clause-whole : goal.returns-in_err-start_sound-clause-whole
+returns-in_err-start_sound-clause-whole g c = λ whole. stored_whole (g.S.Store.reads c.args.store.now) c.args.point.now whole
+
+pub returns-in_err-start_sound-clause-failed : goal.returns-in_err-start_sound-clause-failed
+returns-in_err-start_sound-clause-failed g c = λ told mine.
+    let src = stored_of (g.S.Store.reads c.args.store.now) in
+    let mix : List Frame = mix_of (meant src c.args.point.now) in
+    let name = c.args.name.now in
+    let old = g.V.Vault.holds c.args.vault.now name in
+    let new = g.V.Vault.holds c.start_sound.new.vault name in
+    let len : c.mix_len-len.result ≡ length mix =
+    sym (length_mix (meant src c.args.point.now) ∙ c.mix_len-len.ensures.frames src) in
+    let M : List ℕ → Type 0 = λ text. MayBegin text old new in
+    let p = err_from_is_err_and c.from_residual.result c.from_residual.ensures.1 in
+    rw p.1
+    (subst M (whole_text mix c.args.rate c.mix_len-len.result len)
+    (begun_front old new (wav_head c.mix_len-len.result c.args.rate) (frame_bytes mix)
+    (c.in_err-start_sound.ensures.failed told)))
+
+pub returns-in_err-append_mix-clause-whole : goal.returns-in_err-append_mix-clause-whole
+returns-in_err-append_mix-clause-whole g c = λ whole. stored_whole (g.S.Store.reads c.args.store.now) c.args.point.now whole
+
+pub returns-in_err-append_mix-clause-failed : goal.returns-in_err-append_mix-clause-failed
+returns-in_err-append_mix-clause-failed g c = λ told mine.
+    let src = stored_of (g.S.Store.reads c.args.store.now) in
+    let mix : List Frame = mix_of (meant src c.args.point.now) in
+    let name = c.args.name.now in
+    let old = g.V.Vault.holds c.args.vault.now name in
+    let mid = g.V.Vault.holds c.start_sound.new.vault name in
+    let new = g.V.Vault.holds c.append_mix.new.vault name in
+    let len : c.mix_len-len.result ≡ length mix =
+    sym (length_mix (meant src c.args.point.now) ∙ c.mix_len-len.ensures.frames src) in
+    let still : IsTrue (g.V.Vault.tells c.start_sound.new.vault) =
+    subst (λ (b : Bool). IsTrue b) (sym c.start_sound.ensures.tells) told in
+    let M : List ℕ → Type 0 = λ text. MayBegin text old new in
+    let p = err_from_is_err_and c.from_residual-in_err-append_mix.result c.from_residual-in_err-append_mix.ensures.1 in
+    rw p.1
+    (subst M (whole_text mix c.args.rate c.mix_len-len.result len)
+    (begun_more old mid new (wav_head c.mix_len-len.result c.args.rate) (frame_bytes mix)
+    (c.in_ok-start_sound.ensures.started told) (c.in_err-append_mix.ensures.failed still mine)))
+
+pub returns-in_err-append_mix-clause-long : goal.returns-in_err-append_mix-clause-long
+returns-in_err-append_mix-clause-long g c =
+    let p = err_from_is_err_and c.from_residual-in_err-append_mix.result c.from_residual-in_err-append_mix.ensures.1 in
+    rw (p.1, p.2)
+    (device_fits (mix_length_of c.args.point.now) _ (omega (arith, c.mix_len-len.ensures.value)) c.in_err-append_mix.ensures.device)
+
+pub returns-in_err-append_mix-clause-sound : goal.returns-in_err-append_mix-clause-sound
+returns-in_err-append_mix-clause-sound g c = λ mine whole.
+    let p = err_from_is_err_and c.from_residual-in_err-append_mix.result c.from_residual-in_err-append_mix.ensures.1 in
+    rw (p.1, p.2)
+    (no_damage (g.S.Store.reads c.args.store.now) (point_blocks c.args.point.now) _ whole (c.in_err-append_mix.ensures.damaged mine))
+
+pub returns-clause-whole : goal.returns-clause-whole
+returns-clause-whole g c = λ whole. stored_whole (g.S.Store.reads c.args.store.now) c.args.point.now whole
+
+pub returns-clause-written : goal.returns-clause-written
+returns-clause-written g c = λ told mine.
+    let src = stored_of (g.S.Store.reads c.args.store.now) in
+    let mix : List Frame = mix_of (meant src c.args.point.now) in
+    let len : c.mix_len-len.result ≡ length mix =
+    sym (length_mix (meant src c.args.point.now) ∙ c.mix_len-len.ensures.frames src) in
+    let still : IsTrue (g.V.Vault.tells c.start_sound.new.vault) =
+    subst (λ (b : Bool). IsTrue b) (sym c.start_sound.ensures.tells) told in
+    c.in_ok-append_mix.ensures.appended still mine
+    ∙ ap (λ o. Some (sound_bytes o ++ frame_bytes mix)) (c.in_ok-start_sound.ensures.started told)
+    ∙ ap Some (whole_text mix c.args.rate c.mix_len-len.result len)

@@ -1,0 +1,68 @@
+-- One stretch more is appended.
+use Rattle.std.proofs.Common.{◌≡◌, ℕ, ◌++◌, Bool, List, take, drop, Some, refl, sym, ap, subst, ◌∙◌, arith, append-nil}
+use Rattle.std.specs.Prelude.{IsTrue}
+use Rattle.std.proofs.lemmas.List.{take_all}
+use Rattle.disk_model.specs.Disk.{Files}
+use Rattle.disk_model.proofs.Frames.{kept_none, kept_turn}
+use Rattle.pcm_base.specs.declared.sound.Frame.{Frame}
+use Rattle.pcm_base.specs.Mix.{mix_of}
+use Rattle.edit_ports.specs.Sounds.{sound_bytes, MayHaveGrown}
+use Rattle.project_state.specs.Kept.{meant}
+use Rattle.cell_view.specs.Stored.{stored_of}
+use Rattle.mix_view.specs.Voices.{stored_mix}
+use Rattle.pcm_base.specs.Recordings.{frame_bytes}
+use Rattle.sound_export.proofs.GrowLaws.{held_more, held_failed, length_mix}
+use Rattle.sound_export.proofs.stretch.append_mix.Goals as goal
+
+pub stretches-init : goal.stretches-init
+stretches-init g c = record {
+  within = omega arith;
+  tells = refl;
+  others = λ told other differs. refl;
+  kept = kept_none _ (g.met.S.Store.may_fewer _);
+  count = refl;
+  faults = refl;
+  held = λ told mine. c.requires.there told ∙ ap Some (sym (append-nil (sound_bytes (g.V.Vault.holds c.args.vault.now c.args.name.now))));
+}
+
+pub stretches-preserved : goal.stretches-preserved
+stretches-preserved g c =
+    let inv = c.stretches.invariant in
+    let name = c.args.name.now in
+    let ts = c.args.point.now in
+    let at = c.stretches.at in
+    let n = c.in-Ok.count in
+    let files : Files = g.S.Store.reads c.args.store.now in
+    let T : Bool → Type 0 = λ b. IsTrue b in
+    record {
+      within = omega (arith, inv.within, c.in-Ok.ensures.count, c.requires.len);
+      tells = c.append_stretch.ensures.tells ∙ inv.tells;
+      others = λ told other differs. c.append_stretch.ensures.others (subst T (sym inv.tells) told) other differs ∙ inv.others told other differs;
+      kept = kept_turn inv.kept c.append_stretch.ensures.kept;
+      count = c.in-Ok.ensures.faults.0 ∙ inv.count;
+      faults = c.in-Ok.ensures.faults.1 ∙ inv.faults;
+      held = λ told mine.
+          let P : Files → Type 0 = λ f. g.V.Vault.holds c.append_stretch.new.vault name ≡ Some (sound_bytes (g.V.Vault.holds c.stretches.vault name) ++ frame_bytes (take n (drop at (stored_mix f ts)))) in
+          held_more (g.V.Vault.holds c.args.vault.now name) (g.V.Vault.holds c.stretches.vault name) (g.V.Vault.holds c.append_stretch.new.vault name) at n (stored_mix files ts) (inv.held told mine)
+          (subst P inv.kept.same_reads (c.in-Ok.ensures.appended (subst T (sym inv.tells) told) (subst T (sym inv.kept.same_tells) mine)));
+    }
+
+pub returns-in-Err-clause-failed : goal.returns-in-Err-clause-failed
+returns-in-Err-clause-failed g c = λ told mine.
+    let inv = c.stretches.invariant in
+    let name = c.args.name.now in
+    let ts = c.args.point.now in
+    let at = c.stretches.at in
+    let files : Files = g.S.Store.reads c.args.store.now in
+    let T : Bool → Type 0 = λ b. IsTrue b in
+    let P : Files → Type 0 = λ f. (n : ℕ) × MayHaveGrown (frame_bytes (take n (drop at (stored_mix f ts)))) (g.V.Vault.holds c.stretches.vault name) (g.V.Vault.holds c.append_stretch.new.vault name) in
+    let grown = subst P inv.kept.same_reads (c.in-Err.ensures.failed (subst T (sym inv.tells) told) (subst T (sym inv.kept.same_tells) mine)) in
+    held_failed (g.V.Vault.holds c.args.vault.now name) (g.V.Vault.holds c.stretches.vault name) (g.V.Vault.holds c.append_stretch.new.vault name) at grown.0 (stored_mix files ts) (inv.held told mine) grown.1
+
+pub returns-clause-appended : goal.returns-clause-appended
+returns-clause-appended g c = λ told mine.
+    let inv = c.stretches.invariant in
+    let src = stored_of (g.S.Store.reads c.args.store.now) in
+    let mix : List Frame = mix_of (meant src c.args.point.now) in
+    let all : take c.stretches.at mix ≡ mix = take_all c.stretches.at mix (omega (arith, length_mix (meant src c.args.point.now), c.requires.mix src)) in
+    inv.held told mine ∙ ap (λ (fs : List Frame). Some (sound_bytes (g.V.Vault.holds c.args.vault.now c.args.name.now) ++ frame_bytes fs)) all

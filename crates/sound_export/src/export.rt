@@ -1,0 +1,97 @@
+// A mix is written to a vault.
+ghost use Rattle.std.specs.Prelude.{◌≡◌, ◌≤◌, ◌<◌, ◌+◌, ◌*◌, ◌^◌, ◌++◌, ℕ, length, Some, IsTrue, OnOk, OnErr, IfOk, IfErr, Err};
+ghost use Rattle.disk_model.specs.Frames.{Kept};
+ghost use Rattle.pcm_base.specs.Causes.{HasCause};
+ghost use Rattle.pcm_base.specs.Mix.{mix_of};
+ghost use Rattle.pcm_base.specs.Wave.{wav_text};
+ghost use Rattle.pcm_base.specs.Outside.{SameElsewhere};
+ghost use Rattle.project_state.specs.Kept.{meant, point_blocks};
+ghost use Rattle.sample_block.specs.Sources.{sources_of, AllNamed, AllWhole};
+ghost use Rattle.wav_pcm.specs.Wavs.{FitsFile, wav_head};
+ghost use Rattle.mix_view.specs.Voices.{mix_length_of, stored_mix};
+ghost use Rattle.sound_export.specs.declared.fault.ExportFault.TheVariants as fault;
+ghost use Rattle.sound_export.specs.Written.{MayBegin, IsLengthFault, IsBlockFault, IsNoDamage, ExportCounted};
+
+use super::fault::ExportFault;
+use super::stretch::append_mix;
+use disk_model::Store;
+use edit_ports::Vault;
+use mix_view::mix_len;
+use pcm_base::{Cell, Failed, Frame};
+use project_state::Point;
+use wav_pcm::{MAX_FRAMES, write_head};
+
+/// Makes the sound hold what stands before so many frames.
+fn start_sound<V: Vault>(
+    vault: &mut V,
+    name: &str,
+    count: u32,
+    rate: u32,
+    bytes: &mut [u8],
+) -> Result<(), Failed>
+    requires room { 44 ≤ length bytes.old }
+    requires few { FitsFile count }
+    ensures started { IsTrue (V.tells vault.old)
+        → OnOk result (V.holds vault.new name.now ≡ Some (wav_head count rate)) }
+    ensures failed { IsTrue (V.tells vault.old)
+        → OnErr result (MayBegin (wav_head count rate) (V.holds vault.old name.now) (V.holds vault.new name.now)) }
+    ensures others { IsTrue (V.tells vault.old) → SameElsewhere name.now (V.holds vault.old) (V.holds vault.new) }
+    ensures tells { V.tells vault.new ≡ V.tells vault.old }
+    ensures cause { HasCause (V.fault_count vault.old) (V.fault_count vault.new) result }
+{
+    write_head(count, rate, &mut bytes[..44]);
+    vault.start(name)?;
+    vault.append(name, &bytes[..44])
+}
+
+/// Writes the mix of a point's tracks to a vault as a WAV file, and answers how many bytes it has. The length is tested
+/// before anything is written. Then the header is written, and frames are read, mixed and appended a stretch at a
+/// time, as many as the buffers have room for, so that no memory is taken. After an error the sound is as it was, or
+/// holds the first bytes of the file.
+pub fn write_mix<S: Store, V: Vault>(
+    store: &mut S,
+    vault: &mut V,
+    name: &str,
+    point: &Point,
+    rate: u32,
+    cells: &mut [Cell],
+    frames: &mut [Frame],
+    bytes: &mut [u8],
+) -> Result<u64, ExportFault>
+    requires named { AllNamed (point_blocks point.now) }
+    requires cells { 64 ≤ length cells.old }
+    requires some { 0 < length frames.old }
+    requires bytes { 4 * length frames.old ≤ length bytes.old }
+    requires head { 44 ≤ length bytes.old }
+    requires few_frames { length frames.old ≤ 2 ^ 32 }
+    ensures written { IsTrue (V.tells vault.old) → IsTrue (S.tells store.old) → OnOk result
+        (V.holds vault.new name.now ≡ Some (wav_text (stored_mix (S.reads store.old) point.now) rate)) }
+    ensures size { IfOk result (λ n. n ≡ 44 + 4 * mix_length_of point.now) }
+    // Whatever failed, a file too, the sound is as it was or the front of that text.
+    ensures failed { IsTrue (V.tells vault.old) → IsTrue (S.tells store.old)
+        → OnErr result (MayBegin (wav_text (stored_mix (S.reads store.old) point.now) rate)
+        (V.holds vault.old name.now) (V.holds vault.new name.now)) }
+    // Where the disk has all blocks this is the mix of the model, and no file is at fault.
+    ensures whole { AllWhole (S.reads store.old) (point_blocks point.now)
+        → stored_mix (S.reads store.old) point.now ≡ mix_of (meant (sources_of (S.reads store.old)) point.now) }
+    ensures sound { IsTrue (S.tells store.old) → AllWhole (S.reads store.old) (point_blocks point.now)
+        → IfErr result (λ e. IsNoDamage e) }
+    ensures too_long { 4294967295 < 36 + 4 * mix_length_of point.now
+        → (result ≡ Err (fault.TooLong (mix_length_of point.now))) × (vault.new ≡ vault.old) × (store.new ≡ store.old) }
+    ensures long { IfErr result (λ e. IsLengthFault (mix_length_of point.now) e) }
+    ensures others { IsTrue (V.tells vault.old) → SameElsewhere name.now (V.holds vault.old) (V.holds vault.new) }
+    ensures tells { V.tells vault.new ≡ V.tells vault.old }
+    ensures damaged { IsTrue (S.tells store.old)
+        → IfErr result (λ e. IsBlockFault (S.reads store.old) (point_blocks point.now) e) }
+    ensures kept { Kept S.Store store.old store.new }
+    ensures faults { ExportCounted result (S.read_fault_count store.old) (S.read_fault_count store.new)
+        (V.fault_count vault.old) (V.fault_count vault.new) }
+{
+    let len = mix_len(point);
+    if len > MAX_FRAMES as u64 {
+        return Err(ExportFault::TooLong { frames: len });
+    }
+    start_sound(vault, name, len as u32, rate, bytes)?;
+    append_mix(store, vault, name, point, len, cells, frames, bytes)?;
+    Ok(44 + 4 * len)
+}

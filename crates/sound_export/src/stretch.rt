@@ -1,0 +1,126 @@
+// Frames of a mix, appended to a sound a stretch at a time.
+ghost use Rattle.std.specs.Prelude.{◌≡◌, ◌≤◌, ◌<◌, ◌+◌, ◌-◌, ◌*◌, ◌^◌, ◌++◌, ℕ, length, take, drop, min, Some, IsTrue, OnOk, OnErr, IfOk, IfErr};
+ghost use Rattle.disk_model.specs.Frames.{Kept};
+ghost use Rattle.pcm_base.specs.Pieces.{Sources};
+ghost use Rattle.pcm_base.specs.Causes.{HasCause};
+ghost use Rattle.pcm_base.specs.Mix.{mix_length};
+ghost use Rattle.pcm_base.specs.Outside.{SameElsewhere};
+ghost use Rattle.edit_ports.specs.Sounds.{sound_bytes, MayHaveGrown};
+ghost use Rattle.project_state.specs.Kept.{meant, point_blocks};
+ghost use Rattle.sample_block.specs.Sources.{AllNamed};
+ghost use Rattle.mix_view.specs.Voices.{mix_length_of, stored_mix};
+ghost use Rattle.pcm_base.specs.Recordings.{frame_bytes};
+ghost use Rattle.sound_export.specs.Written.{IsOfDevice, IsBlockFault, ExportCounted};
+
+use super::fault::ExportFault;
+use disk_model::Store;
+use edit_ports::Vault;
+use mix_view::read_frames;
+use pcm_base::{Cell, Failed, Frame};
+use project_state::Point;
+use wav_pcm::write_frames;
+
+/// Appends frames to a sound.
+fn append_frames<V: Vault>(
+    vault: &mut V,
+    name: &str,
+    frames: &[Frame],
+    bytes: &mut [u8],
+) -> Result<(), Failed>
+    requires room { 4 * length frames.now ≤ length bytes.old }
+    ensures appended { IsTrue (V.tells vault.old)
+        → OnOk result (V.holds vault.new name.now ≡ Some (sound_bytes (V.holds vault.old name.now)
+        ++ frame_bytes frames.now)) }
+    ensures failed { IsTrue (V.tells vault.old)
+        → OnErr result (MayHaveGrown (frame_bytes frames.now) (V.holds vault.old name.now)
+        (V.holds vault.new name.now)) }
+    ensures others { IsTrue (V.tells vault.old) → SameElsewhere name.now (V.holds vault.old) (V.holds vault.new) }
+    ensures tells { V.tells vault.new ≡ V.tells vault.old }
+    ensures cause { HasCause (V.fault_count vault.old) (V.fault_count vault.new) result }
+{
+    let room = 4 * frames.len();
+    write_frames(frames, &mut bytes[..room]);
+    vault.append(name, &bytes[..room])
+}
+
+/// Appends frames of the mix from a place on, as many as there are and as fit, and answers how many.
+fn append_stretch<S: Store, V: Vault>(
+    store: &mut S,
+    vault: &mut V,
+    name: &str,
+    point: &Point,
+    from: u64,
+    cells: &mut [Cell],
+    frames: &mut [Frame],
+    bytes: &mut [u8],
+) -> Result<usize, ExportFault>
+    requires named { AllNamed (point_blocks point.now) }
+    requires cells { 64 ≤ length cells.old }
+    requires bytes { 4 * length frames.old ≤ length bytes.old }
+    requires few { from + length frames.old < 2 ^ 64 }
+    ensures count { IfOk result (λ n. n ≡ min (length frames.old) (mix_length_of point.now - from)) }
+    ensures appended { IsTrue (V.tells vault.old) → IsTrue (S.tells store.old)
+        → IfOk result (λ n. V.holds vault.new name.now ≡ Some (sound_bytes (V.holds vault.old name.now)
+        ++ frame_bytes (take n (drop from (stored_mix (S.reads store.old) point.now))))) }
+    ensures failed { IsTrue (V.tells vault.old) → IsTrue (S.tells store.old) → OnErr result ((n : ℕ)
+        × MayHaveGrown (frame_bytes (take n (drop from (stored_mix (S.reads store.old) point.now))))
+        (V.holds vault.old name.now) (V.holds vault.new name.now)) }
+    ensures others { IsTrue (V.tells vault.old) → SameElsewhere name.now (V.holds vault.old) (V.holds vault.new) }
+    ensures tells { V.tells vault.new ≡ V.tells vault.old }
+    ensures device { IfErr result (λ e. IsOfDevice e) }
+    ensures damaged { IsTrue (S.tells store.old)
+        → IfErr result (λ e. IsBlockFault (S.reads store.old) (point_blocks point.now) e) }
+    ensures kept { Kept S.Store store.old store.new }
+    ensures faults { ExportCounted result (S.read_fault_count store.old) (S.read_fault_count store.new)
+        (V.fault_count vault.old) (V.fault_count vault.new) }
+{
+    let count = read_frames(store, point, from, cells, frames)?;
+    append_frames(vault, name, &frames[..count], bytes)?;
+    Ok(count)
+}
+
+/// Appends all frames of the mix, `len` of them, to a sound that is there.
+pub(crate) fn append_mix<S: Store, V: Vault>(
+    store: &mut S,
+    vault: &mut V,
+    name: &str,
+    point: &Point,
+    len: u64,
+    cells: &mut [Cell],
+    frames: &mut [Frame],
+    bytes: &mut [u8],
+) -> Result<(), ExportFault>
+    requires named { AllNamed (point_blocks point.now) }
+    requires len { len ≡ mix_length_of point.now }
+    requires mix { (src : Sources) → mix_length (meant src point.now) ≡ len }
+    requires few { len ≤ 2 ^ 32 }
+    requires there { IsTrue (V.tells vault.old)
+        → V.holds vault.old name.now ≡ Some (sound_bytes (V.holds vault.old name.now)) }
+    requires cells { 64 ≤ length cells.old }
+    requires some { 0 < length frames.old }
+    requires bytes { 4 * length frames.old ≤ length bytes.old }
+    requires few_frames { length frames.old ≤ 2 ^ 32 }
+    ensures appended { IsTrue (V.tells vault.old) → IsTrue (S.tells store.old)
+        → OnOk result (V.holds vault.new name.now ≡ Some (sound_bytes (V.holds vault.old name.now)
+        ++ frame_bytes (stored_mix (S.reads store.old) point.now))) }
+    ensures failed { IsTrue (V.tells vault.old) → IsTrue (S.tells store.old)
+        → OnErr result (MayHaveGrown (frame_bytes (stored_mix (S.reads store.old) point.now))
+        (V.holds vault.old name.now) (V.holds vault.new name.now)) }
+    ensures others { IsTrue (V.tells vault.old) → SameElsewhere name.now (V.holds vault.old) (V.holds vault.new) }
+    ensures tells { V.tells vault.new ≡ V.tells vault.old }
+    ensures device { IfErr result (λ e. IsOfDevice e) }
+    ensures damaged { IsTrue (S.tells store.old)
+        → IfErr result (λ e. IsBlockFault (S.reads store.old) (point_blocks point.now) e) }
+    ensures kept { Kept S.Store store.old store.new }
+    ensures faults { ExportCounted result (S.read_fault_count store.old) (S.read_fault_count store.new)
+        (V.fault_count vault.old) (V.fault_count vault.new) }
+{
+    let mut at = 0;
+    'stretches: while at < len {
+        match append_stretch(store, vault, name, point, at, cells, frames, bytes) {
+            Ok(count) => at += count as u64,
+            Err(fault) => return Err(fault),
+        }
+    }
+    Ok(())
+}
