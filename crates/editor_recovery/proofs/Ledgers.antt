@@ -1,16 +1,16 @@
 -- Counts after further occurrences.
 use Rattle.std.proofs.Common.{◌≡◌, ◌≢◌, ◌==◌, ◌⊎◌, ℕ, zero, suc, ◌+◌, ◌-◌, ◌≤◌, ◌<◌, ◌^◌, min, Bool, true, false, cond, inl, inr, ⊎_elim, List, [], ◌∷◌, ◌++◌, length, map, take, drop, Option, Some, None, refl, sym, ap, subst, ◌∙◌, arith}
-use Rattle.std.specs.Prelude.{Contains, IsSome, if◌then◌else◌, get_or}
+use Rattle.std.specs.Prelude.{Contains, IsSome, find, if◌then◌else◌, get_or}
 use Rattle.std.specs.List.{All, AllByRecursion, flat_map}
 use Rattle.std.proofs.lemmas.Bool.{cases_Bool, eqb-true, eqb-false}
 use Rattle.pcm_base.specs.declared.block.BlockRef.{BlockRef}
 use Rattle.disk_model.specs.Disk.{Files}
-use Rattle.block_ledger.specs.Counts.{Counts, IsNamed, SetsCount, one_more, one_less}
+use Rattle.block_ledger.specs.Counts as ledger
+use Rattle.block_ledger.specs.Counts.{Counts, IsFreshCount, SetsCount, one_more, one_less, times}
+use Rattle.editor_core.specs.Studios.{IsGiven, ids_of}
+use Rattle.editor_recovery.specs.Files.{is_foreign, IsAbove}
 use Rattle.editor_recovery.specs.Listing.{AreFiles}
-use Rattle.editor_recovery.specs.Naming.{id_of, AreCounted}
-use Rattle.editor_recovery.proofs.Listed.{contains_cons, contains_here, contains_there}
-use Rattle.editor_recovery.proofs.Noted.{of_id}
-use Rattle.std.proofs.lemmas.List.Elements.{All-from_recursion, All-contains}
+use Rattle.editor_recovery.proofs.Highest.{listed_high}
 use Rattle.editor_recovery.specs.Ledgers.{occurrences, held, AreNoted, IsCounted, IsLedgerOf}
 
 -- from a count of 0 on
@@ -115,40 +115,31 @@ ledger_of files listed bs counts are is = record {
   only = λ id has. ⊎_elim (λ none. let e : IsSome {T = ℕ} None = subst (λ (o : Option ℕ). IsSome o) none has in absurd cc) (λ some. ((are id).0 some.1, some.0)) (is.only id);
 }
 
-occurs_there : (bs : List BlockRef) (id : ℕ) → 0 < occurrences bs id → Contains (map id_of bs) id
-occurs_there [] id some = absurd (omega (arith, some))
-occurs_there (b ∷ bs) id some = step (b.id == id) (eqb-true b.id id) (occurs_there bs id) some
-  where
-    step : (t : Bool) → (t ≡ true → b.id ≡ id) → (0 < occurrences bs id → Contains (map id_of bs) id)
-        → 0 < (if t then 1 else 0) + occurrences bs id → Contains (b.id ∷ map id_of bs) id
-    step true same rest lt =
-        subst (λ (n : ℕ). Contains (b.id ∷ map id_of bs) n) (same refl) (contains_here b.id (map id_of bs))
-    step false same rest lt = contains_there b.id (map id_of bs) id (rest (omega (arith, lt)))
+-- ---- as often as blocks name it
 
-there_occurs : (bs : List BlockRef) (id : ℕ) → Contains (map id_of bs) id → 0 < occurrences bs id
-there_occurs [] id (k, lt, e) = absurd (omega (arith, lt))
-there_occurs (b ∷ bs) id has = step (b.id == id) (eqb-false b.id id)
-    (⊎_elim (λ same. inl same) (λ later. inr (there_occurs bs id later)) (contains_cons b.id (map id_of bs) id has))
-  where
-    step : (t : Bool) → (t ≡ false → b.id ≡ id → ⊥) → (b.id ≡ id) ⊎ (0 < occurrences bs id)
-        → 0 < (if t then 1 else 0) + occurrences bs id
-    step true other has = omega arith
-    step false other has = ⊎_elim (λ same. absurd (other refl same)) (λ some. omega (arith, some)) has
+times_same : (bs : List BlockRef) (id : ℕ) → times id (ids_of bs) ≡ occurrences bs id
+times_same [] id = refl
+times_same (b ∷ bs) id = ap (λ (n : ℕ). (if b.id == id then 1 else 0) + n) (times_same bs id)
 
-named_count : (n : ℕ) (count : Option ℕ) → count ≡ Some n → IsNamed count → 0 < n
-named_count n count is named = subst IsNamed is named
+each_there : (files : List ℕ) (bs : List BlockRef) (counts : Counts) → IsCounted files bs counts → (some : List BlockRef)
+    → AllByRecursion (λ b. (b.id ≢ 0) × Contains files b.id) some → AllByRecursion (λ b. IsSome (counts b.id)) some
+each_there files bs counts is [] all = tt
+each_there files bs counts is (b ∷ some) all =
+    (subst (λ (o : Option ℕ). IsSome o) (sym (is.there b.id all.0.1 all.0.0)) refl, each_there files bs counts is some all.1)
 
--- the ids that are counted are those of the blocks, where each of these is a file but file 0
-pub are_counted : (files : List ℕ) (bs : List BlockRef) (counts : Counts) → IsCounted files bs counts
-    → AllByRecursion (λ b. (b.id ≢ 0) × Contains files b.id) bs → AreCounted bs counts
-are_counted files bs counts is all = λ id. (
-  λ named. ⊎_elim (λ none. absurd (subst IsNamed none named))
-      (λ some. occurs_there bs id (named_count (occurrences bs id) (counts id) (is.there id some.1 some.0) named)) (is.only id),
-  λ has.
-      let b = of_id bs id has in
-      let file = All-contains (λ b. (b.id ≢ 0) × Contains files b.id) bs b.0
-      (All-from_recursion (λ b. (b.id ≢ 0) × Contains files b.id) bs all) b.1 in
-      subst IsNamed
-      (sym (subst (λ (n : ℕ). counts n ≡ Some (occurrences bs n)) b.2 (is.there b.0.id file.1 file.0)))
-      (there_occurs bs id has),
-)
+-- each id is counted as often as the blocks name it, where each of these is a file but file 0
+pub fresh : (files : List ℕ) (bs : List BlockRef) (counts : Counts) → IsCounted files bs counts
+    → AllByRecursion (λ b. (b.id ≢ 0) × Contains files b.id) bs → IsFreshCount (ids_of bs) counts
+fresh files bs counts is all = λ id. ⊎_elim
+    (λ none. ap (λ (o : Option ℕ). ledger.occurrences o) none
+    ∙ sym (times_same bs id ∙ none_occurs counts id bs none (each_there files bs counts is bs all)))
+    (λ some. ap (λ (o : Option ℕ). ledger.occurrences o) (is.there id some.1 some.0) ∙ sym (times_same bs id))
+    (is.only id)
+
+-- and each id that is counted is one of a block, below the next
+pub given : (files : List ℕ) (bs : List BlockRef) (counts : Counts) (last next : ℕ) → IsCounted files bs counts
+    → find is_foreign files ≡ None → IsAbove files last next → (id : ℕ) → IsSome (counts id) → IsGiven next id
+given files bs counts last next is known above id has = ⊎_elim
+    (λ none. let e : IsSome {T = ℕ} None = subst (λ (o : Option ℕ). IsSome o) none has in absurd cc)
+    (λ some. (listed_high files id known some.1 some.0, above.above id some.1))
+    (is.only id)

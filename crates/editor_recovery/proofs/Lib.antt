@@ -10,5 +10,6 @@ pub mod Created
 pub mod Highest
 pub mod Measures
 pub mod Resting
-pub mod Noted
 pub mod OneFault
+pub mod Assembled
+pub mod Checked

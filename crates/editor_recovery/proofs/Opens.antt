@@ -15,11 +15,12 @@ use Rattle.project_state.specs.Kept.{history_blocks}
 use Rattle.record_fold.specs.declared.project.Project.{Project}
 use Rattle.record_fold.specs.Folds.{kept_of}
 use Rattle.editor_recovery.specs.declared.disk.Disk.{Disk}
-use Rattle.editor_recovery.specs.declared.parts.Parts.{Parts}
+use Rattle.editor_core.specs.declared.assembly.Parts.{Parts}
 use Rattle.editor_recovery.specs.declared.fault.OpenFault.{OpenFault}
 use Rattle.editor_recovery.specs.declared.fault.OpenFault.TheVariants as fault
 use Rattle.editor_recovery.specs.Listing.{Lists, TellsForeign}
 use Rattle.editor_recovery.specs.Files.{NoForeign}
+use Rattle.editor_recovery.specs.Found.{answer_in, found_in}
 use Rattle.editor_recovery.specs.Finding.{FoldsDisk, TestsMeasured, TestsSizes, ArePartsOf}
 use Rattle.editor_recovery.specs.Opening.{Opens}
 use Rattle.editor_recovery.specs.Reading.{IsRead, ReadsDisk, Refuses}
@@ -83,12 +84,12 @@ unsized files d project (fault.Damaged file at want have) is fold tests =
     )
 
 -- and none
-pub parts_open : (files : Files) (d : Disk) (project : Project) (p : Parts) → IsRead files d → FoldsDisk d.journal (Ok project) → AllHaveSize files (history_blocks project.history.history) → ArePartsOf d project p → Opens files (Ok p)
+pub parts_open : (files : Files) (d : Disk) (project : Project) (p : Parts) → IsRead files d → FoldsDisk d.journal (Ok project) → AllHaveSize files (history_blocks project.history.history) → ArePartsOf d project p → Opens files (Ok (found_in p))
 parts_open files d project p is fold sizes parts = record {
   log = log_of d.journal;
   kept = kept_of project;
   project = record { there = log_there version_1 files d.journal is.project is.journal fold.1; told = fold.2; sizes = sizes };
-  parts = record {
+  found = record {
     rate = parts.rate;
     block_size = parts.block_size;
     history = parts.history;
@@ -101,7 +102,7 @@ parts_open files d project p is fold sizes parts = record {
 }
 
 pub parts_result : (files : Files) (d : Disk) (project : Project) (r : Result Parts OpenFault) → IsRead files d → FoldsDisk d.journal (Ok project) → AllHaveSize files (history_blocks project.history.history)
-    → IfOk r (ArePartsOf d project) → IfErr r (λ e. e ≡ fault.NoMemory) → Opens files r
+    → IfOk r (ArePartsOf d project) → IfErr r (λ e. e ≡ fault.NoMemory) → Opens files (answer_in r)
 parts_result files d project (Ok p) is fold sizes parts memory = parts_open files d project p is fold sizes parts
 parts_result files d project (Err e) is fold sizes parts memory = subst (λ (x : OpenFault). Opens files (Err x)) (sym memory) tt
 

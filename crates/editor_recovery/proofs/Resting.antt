@@ -10,7 +10,7 @@ use Rattle.project_journal.specs.Journal.{Log, HasLog, IsAt, Contents, log_of}
 use Rattle.project_journal.proofs.Found.{whole_log}
 use Rattle.project_journal.proofs.Kept.{is_at_still}
 use Rattle.editor_recovery.specs.declared.disk.Disk.{Disk}
-use Rattle.editor_recovery.specs.declared.parts.Parts.{Parts}
+use Rattle.editor_core.specs.declared.assembly.Parts.{Parts}
 use Rattle.editor_recovery.specs.declared.fault.OpenFault.{OpenFault}
 use Rattle.editor_recovery.specs.Reading.{IsRead}
 

@@ -1,40 +1,88 @@
--- What a check of blocks answers.
-use Rattle.std.specs.Prelude.{◌≡◌, ◌⊎◌, ℕ, ◌≤◌, Some, List, [], ◌∷◌, length, Result, Ok, Err}
-use Rattle.std.specs.List.{AllByRecursion}
+-- What a check of a studio's blocks answers.
+use Rattle.std.specs.Prelude.{◌≡◌, ℕ, ◌<◌, IsTrue, List, length, take, slice_index_or, Contains, Result, Ok, Err, IfErr, IfOk, IsOkUnless}
 use Rattle.pcm_base.specs.declared.block.BlockRef.{BlockRef}
-use Rattle.disk_model.specs.Disk.{Files, bytes_of}
-use Rattle.sample_block.specs.declared.damage.Damaged.{Damaged}
-use Rattle.sample_block.specs.Faults.{damage_of}
+use Rattle.disk_model.specs.Disk.{Files}
+use Rattle.disk_model.specs.Frames.{Kept}
+use Rattle.disk_model.specs.declared.store.Store.{Ghosts}
 use Rattle.sample_block.specs.Sources.{IsWhole, AllWhole}
-use Rattle.sample_block.specs.Spelling.{size_of}
+use Rattle.block_store.specs.declared.fault.BlockFault.{BlockFault}
+use Rattle.block_store.specs.declared.fault.BlockFault.TheVariants as block
+use Rattle.block_store.specs.Reads.{Counted}
+use Rattle.project_journal.specs.Gate.{EachSince}
+use Rattle.project_state.specs.Kept.{Keeps, history_blocks}
+use Rattle.editor_core.specs.Core.{Core}
+use Rattle.editor_core.specs.Scans.{AreIdsOf, BlockScanned, Differs, HaveOneLength}
+use Rattle.editor_core.specs.Studios.{IsHeld, IsStudio, shown, studio_of}
 use Rattle.editor_recovery.specs.declared.fault.OpenFault.{OpenFault}
 use Rattle.editor_recovery.specs.declared.fault.OpenFault.TheVariants as fault
+use Rattle.editor_recovery.specs.Causes.{Causes}
 
--- the file of the block is no longer than this
-abbrev pub FitsIn : ℕ → BlockRef → Type 0
-FitsIn room b = size_of b.len ≤ room
+-- so many ids these blocks have
+abbrev pub IsCountOf : List BlockRef → ℕ → Type 0
+IsCountOf bs n = (ids : List ℕ) × AreIdsOf bs ids × (n ≡ length ids)
 
--- the file of a block differs so from the one that it has to be: its size, or the first field
-abbrev pub IsDamaged : Files → BlockRef → (file at want have : ℕ) → Type 0
-IsDamaged files b file at want have =
-    (file ≡ b.id) × (damage_of b.id b.len (bytes_of (files b.id)) ≡ Some (record { at = at; want = want; have = have }))
+-- One of these blocks is not whole, its file differs so, and all those of lower ids are whole.
+pub record FirstDamaged (files : Files) (bs : List BlockRef) (file at want have : ℕ) : Type 0 where
+  pub block : BlockRef
+  pub named : Contains bs block
+  pub differs : Differs files block file at want have
+  pub lower : (other : BlockRef) → Contains bs other → other.id < block.id → IsWhole files other
 
--- a block is whole, or damaged
-abbrev pub ChecksBlock : {T : Type 0} → Files → BlockRef → Result T OpenFault → Type 0
-ChecksBlock files b (Ok _) = IsWhole files b
-ChecksBlock files b (Err (fault.Damaged file at want have)) = IsDamaged files b file at want have
-ChecksBlock files b (Err fault.DiskFault) = Unit {0}
-ChecksBlock files b (Err _) = ⊥
-
--- the first of these blocks that is not whole differs so
-abbrev pub FirstDamaged : Files → List BlockRef → (file at want have : ℕ) → Type 0
-FirstDamaged files [] file at want have = ⊥
-FirstDamaged files (b ∷ bs) file at want have =
-    IsDamaged files b file at want have ⊎ (IsWhole files b × FirstDamaged files bs file at want have)
-
--- all of these blocks are whole, and so many they are, or what is wrong with the first that is not
+-- all of these blocks are whole, and so many ids they have, or what is wrong with the first that is not
 abbrev pub ChecksAll : Files → List BlockRef → Result ℕ OpenFault → Type 0
-ChecksAll files bs (Ok n) = AllWhole files bs × (n ≡ length bs)
+ChecksAll files bs (Ok n) = AllWhole files bs × IsCountOf bs n
 ChecksAll files bs (Err (fault.Damaged file at want have)) = FirstDamaged files bs file at want have
 ChecksAll files bs (Err fault.DiskFault) = Unit {0}
+ChecksAll files bs (Err fault.NoMemory) = Unit {0}
 ChecksAll files bs (Err _) = ⊥
+
+-- what a check can meet, whatever the disk tells
+abbrev pub IsCheckFault : OpenFault → Type 0
+IsCheckFault (fault.Damaged file at want have) = Unit {0}
+IsCheckFault fault.DiskFault = Unit {0}
+IsCheckFault fault.NoMemory = Unit {0}
+IsCheckFault _ = ⊥
+
+-- no damage was found
+abbrev pub IsSoundFault : OpenFault → Type 0
+IsSoundFault fault.DiskFault = Unit {0}
+IsSoundFault fault.NoMemory = Unit {0}
+IsSoundFault _ = ⊥
+
+-- The files of the blocks that points name are read whole, one after another. Nothing of the studio or of its disk
+-- changes, whatever the disk tells, but for the count of failed reads.
+pub record ChecksStudio {D : Type 0} (disk : Ghosts D) (old : Core D) (result : Result ℕ OpenFault) (new : Core D)
+    : Type 0 where
+  pub tests : IsTrue (disk.tells old.store) → ChecksAll (disk.reads old.store) (history_blocks old.history) result
+  pub faults : IfErr result IsCheckFault
+  pub count : HaveOneLength (history_blocks old.history) → IfOk result (IsCountOf (history_blocks old.history))
+  -- a disk that holds what the studio stands for has no damaged block
+  pub sound : IsHeld disk old → IfErr result IsSoundFault
+  pub cause : Causes disk old.store new.store result
+  pub same : new ≡ record old { store = new.store }
+  pub kept : Kept disk old.store new.store
+  pub studio : IsStudio disk new
+  pub held : IsHeld disk old → IsHeld disk new
+  -- at any moment each image has the project
+  pub any_moment : IsHeld disk old
+      → EachSince disk old.store new.store (λ c. Keeps c (shown (studio_of disk old)))
+
+-- some blocks of a studio, up to the first that is not whole
+abbrev pub AllScanned : {T : Type 0} → Files → List BlockRef → Result T BlockFault → Type 0
+AllScanned files bs (Ok done) = AllWhole files bs
+AllScanned files bs (Err why) =
+    (k : ℕ) × (b : BlockRef) × (k < length bs) × (slice_index_or bs k b ≡ b)
+    × AllWhole files (take k bs) × BlockScanned {T = Unit {0}} files b (Err why)
+
+-- The same of blocks of a list, one after another.
+pub record ScansAll {D T : Type 0} (disk : Ghosts D) (old : Core D) (bs : List BlockRef) (result : Result T BlockFault)
+    (new : Core D) : Type 0 where
+  pub scanned : IsTrue (disk.tells old.store) → AllScanned (disk.reads old.store) bs result
+  pub counted : Counted result (disk.read_fault_count old.store) (disk.read_fault_count new.store)
+  pub sound : IsHeld disk old → IsOkUnless result block.DiskFault
+  pub same : new ≡ record old { store = new.store }
+  pub kept : Kept disk old.store new.store
+  pub studio : IsStudio disk new
+  pub held : IsHeld disk old → IsHeld disk new
+  pub any_moment : IsHeld disk old
+      → EachSince disk old.store new.store (λ c. Keeps c (shown (studio_of disk old)))

@@ -10,7 +10,7 @@ use Rattle.record_fold.specs.declared.project.Project.{Project}
 use Rattle.record_fold.specs.Faults.{journal_fault}
 use Rattle.record_fold.specs.Folds.{kept_of}
 use Rattle.editor_recovery.specs.declared.disk.Disk.{Disk}
-use Rattle.editor_recovery.specs.declared.parts.Parts.{Parts}
+use Rattle.editor_core.specs.declared.assembly.Parts.{Parts}
 use Rattle.editor_recovery.specs.declared.fault.OpenFault.{OpenFault}
 use Rattle.editor_recovery.specs.declared.fault.OpenFault.TheVariants as fault
 use Rattle.editor_recovery.specs.Files.{IsAbove}

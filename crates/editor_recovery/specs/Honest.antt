@@ -10,11 +10,11 @@ use Rattle.project_journal.specs.Journal.{Log, HasLog}
 use Rattle.project_journal.specs.Start.{NoProject}
 use Rattle.project_state.specs.Kept as kept
 use Rattle.project_state.specs.Kept.{Kept, new_project, LeadTo, history_blocks, opened, Keeps}
-use Rattle.editor_recovery.specs.declared.parts.Parts.{Parts}
 use Rattle.editor_recovery.specs.declared.fault.OpenFault.{OpenFault}
 use Rattle.editor_recovery.specs.declared.fault.OpenFault.TheVariants as fault
 use Rattle.editor_recovery.specs.Files.{NoForeign}
-use Rattle.editor_recovery.specs.Opening.{AreParts}
+use Rattle.editor_recovery.specs.Found.{Found}
+use Rattle.editor_recovery.specs.Opening.{IsFound}
 
 -- a point of the project that stands in a disk's journal names this id
 pub record Names (files : Files) (id : ℕ) : Type 0 where
@@ -35,16 +35,16 @@ pub record IsHonest {D : Type 0} (disk : Ghosts D) (store : D) : Type 0 where
   pub same : EachNow disk store (λ c. EachNow disk store (λ d. (id : ℕ) → Names c id → Names d id → blocks c id ≡ blocks d id))
 
 -- The disk keeps one project, which is what was found, and each image after the opening keeps it.
-pub record FindsKept {D : Type 0} (disk : Ghosts D) (old new : D) (p : Parts) : Type 0 where
+pub record FindsKept {D : Type 0} (disk : Ghosts D) (old new : D) (f : Found) : Type 0 where
   pub log : Log
   pub kept : Kept
   pub keeps : Keeps (disk.reads old) (opened log kept (disk.reads old))
   pub each : EachNow disk new (λ c. Keeps c (opened log kept (disk.reads old)))
-  pub parts : AreParts (disk.reads old) log kept p
+  pub found : IsFound (disk.reads old) log kept f
 
 -- An honest disk has no fault and no foreign file.
-abbrev pub OpensHonest : {D : Type 0} → Ghosts D → (old new : D) → Result Parts OpenFault → Type 0
-OpensHonest disk old new (Ok p) = FindsKept disk old new p
+abbrev pub OpensHonest : {D : Type 0} → Ghosts D → (old new : D) → Result Found OpenFault → Type 0
+OpensHonest disk old new (Ok f) = FindsKept disk old new f
 OpensHonest disk old new (Err fault.Absent) = NoProject 0 (disk.reads old)
 OpensHonest disk old new (Err fault.DiskFault) = Unit {0}
 OpensHonest disk old new (Err fault.NoMemory) = Unit {0}

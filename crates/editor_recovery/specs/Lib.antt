@@ -4,14 +4,13 @@ pub mod Ledgers
 pub mod Measured
 pub mod Listing
 pub mod Causes
+pub mod Found
 pub mod Opening
 pub mod Stores
 pub mod Honest
 pub mod Creating
 pub mod Blocks
 pub mod Checking
-pub mod Lengths
-pub mod Naming
 pub mod Bounds
 pub mod Reading
 pub mod Finding

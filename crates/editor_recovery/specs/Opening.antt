@@ -8,10 +8,9 @@ use Rattle.project_journal.specs.Header.{IsProject, header_tests, first_failed, 
 use Rattle.project_journal.specs.Journal.{Log, HasLog, Contents, IsJournal, log_of}
 use Rattle.project_state.specs.Kept.{Kept, new_project, LeadTo, history_blocks}
 use Rattle.record_fold.specs.Faults.{journal_fault}
-use Rattle.block_ledger.specs.Entries.{count_of}
-use Rattle.editor_recovery.specs.declared.parts.Parts.{Parts}
 use Rattle.editor_recovery.specs.declared.fault.OpenFault.{OpenFault}
 use Rattle.editor_recovery.specs.declared.fault.OpenFault.TheVariants as fault
+use Rattle.editor_recovery.specs.Found.{Found}
 use Rattle.editor_recovery.specs.Files.{IsFirstForeign, NoForeign, IsNextBlock}
 use Rattle.editor_recovery.specs.Sizes.{IsFirstWrong, AllHaveSize, file_size}
 use Rattle.editor_recovery.specs.Ledgers.{IsLedgerOf}
@@ -44,25 +43,25 @@ abbrev pub FirstFault : Files → ℕ → Damaged → Type 0
 FirstFault files file d = HeaderFault files file d ⊎ (RecordFault files file d ⊎ SizeFault files file d)
 
 -- what was found of a disk with a project
-pub record AreParts (files : Files) (log : Log) (kept : Kept) (p : Parts) : Type 0 where
-  pub rate : p.rate ≡ log.rate
-  pub block_size : p.block_size ≡ log.block_size
-  pub history : p.history.history ≡ kept.history
-  pub ledger : IsLedgerOf files (history_blocks kept.history) (count_of p.ledger)
-  pub next_block : IsNextBlock files kept.next_block p.next_block
-  pub next_track : p.next_track ≡ kept.next_track
-  pub commit : p.commit_number ≡ kept.commit
+pub record IsFound (files : Files) (log : Log) (kept : Kept) (f : Found) : Type 0 where
+  pub rate : f.rate ≡ log.rate
+  pub block_size : f.block_size ≡ log.block_size
+  pub history : f.history ≡ kept.history
+  pub ledger : IsLedgerOf files (history_blocks kept.history) f.counts
+  pub next_block : IsNextBlock files kept.next_block f.next_block
+  pub next_track : f.next_track ≡ kept.next_track
+  pub commit : f.commit_number ≡ kept.commit
 
-pub record Finds (files : Files) (p : Parts) : Type 0 where
+pub record Finds (files : Files) (f : Found) : Type 0 where
   pub log : Log
   pub kept : Kept
   pub project : HasProject files log kept
-  pub parts : AreParts files log kept p
+  pub found : IsFound files log kept f
   pub foreign : NoForeign files
 
 -- When each answer comes: first whether a project is there, then a foreign file, then the first fault.
-abbrev pub Opens : Files → Result Parts OpenFault → Type 0
-Opens files (Ok p) = Finds files p
+abbrev pub Opens : Files → Result Found OpenFault → Type 0
+Opens files (Ok f) = Finds files f
 Opens files (Err fault.Absent) = IsProject (bytes_of (files 0)) → ⊥
 Opens files (Err (fault.Foreign file)) = IsProject (bytes_of (files 0)) × IsFirstForeign files file
 Opens files (Err (fault.Damaged file at want have)) = IsProject (bytes_of (files 0)) × NoForeign files × FirstFault files file (record { at = at; want = want; have = have })

@@ -1,59 +1,52 @@
-// Checks blocks, whole files.
-ghost use Rattle.std.specs.Prelude.{◌≡◌, ◌≤◌, IsTrue, vec_capacity};
+// Checks the blocks of a studio, whole files.
+ghost use Rattle.std.specs.Prelude.{◌≡◌, None, Contains};
 ghost use Rattle.std.specs.List.{All};
-ghost use Rattle.disk_model.specs.Frames.{Kept};
-ghost use Rattle.sample_block.specs.Sources.{IsNamed};
-ghost use Rattle.sample_block.specs.Spelling.{size_of};
-ghost use Rattle.editor_recovery.specs.Causes.{Causes};
-ghost use Rattle.editor_recovery.specs.Checking.{ChecksBlock, ChecksAll, FitsIn};
+ghost use Rattle.project_state.specs.Kept.{history_blocks};
+ghost use Rattle.editor_core.specs.Core.{core_of};
+ghost use Rattle.editor_core.specs.Studios.{IsStudio};
+ghost use Rattle.editor_recovery.specs.Checking.{ChecksStudio, ScansAll};
 
 use super::fault::OpenFault;
-use block_store::check_block;
+use block_store::BlockFault;
 use disk_model::Store;
+use editor_core::Studio;
 use pcm_base::BlockRef;
+use std::alloc::Global;
 
-/// Whether the disk has a block whole.
-fn check_one<S: Store>(
-    store: &mut S,
-    block: BlockRef,
-    buffer: &mut Vec<u8>,
-) -> Result<(), OpenFault>
-    requires block { IsNamed block }
-    requires room { size_of block.len ≤ vec_capacity buffer.old }
-    ensures tests { IsTrue (S.tells store.old) → ChecksBlock (S.reads store.old) block result }
-    ensures kept { Kept S.Store store.old store.new }
-    ensures cause { Causes S.Store store.old store.new result }
-    ensures capacity { vec_capacity buffer.old ≤ vec_capacity buffer.new }
+/// Reads these blocks, one after another, up to the first that is not whole.
+fn scan_all<S: Store>(studio: &mut Studio<S>, blocks: &[BlockRef]) -> Result<(), BlockFault>
+    requires studio { IsStudio S.Store (core_of studio.old) }
+    requires going { (core_of studio.old).stopped ≡ None }
+    requires named { All (Contains (history_blocks (core_of studio.old).history)) blocks.now }
+    ensures { ScansAll S.Store (core_of studio.old) blocks.now result (core_of studio.new) }
 {
-    match check_block(store, block, buffer) {
-        Ok(()) => Ok(()),
-        Err(fault) => Err(fault.into()),
+    for i in 0..blocks.len() {
+        match studio.scan(blocks[i]) {
+            Ok(()) => {}
+            Err(fault) => return Err(fault),
+        }
     }
+    Ok(())
 }
 
-/// Reads the files of these blocks, one after another, and compares each with what its block's file has to be. The
-/// buffer has room for each file, and no other memory is taken.
+/// Reads the file of each block that a point names, by rising id, and compares all of it with what the block's file
+/// has to be: its size, its header and the frames of its samples. Nothing is changed. It takes memory for the
+/// references of all points.
 ///
-/// It answers how many they are, all whole.
+/// It answers how many blocks they are, all whole.
 ///
 /// # Errors
 ///
-/// Damaged: of the first block of the list that is not whole, the first field that differs, its size told at place 0.
-/// DiskFault: the disk failed.
-pub fn check_blocks<S: Store>(
-    store: &mut S,
-    blocks: &[BlockRef],
-    buffer: &mut Vec<u8>,
-) -> Result<u64, OpenFault>
-    requires blocks { All IsNamed blocks.now }
-    requires room { All (FitsIn (vec_capacity buffer.old)) blocks.now }
-    ensures tests { IsTrue (S.tells store.old) → ChecksAll (S.reads store.old) blocks.now result }
-    ensures kept { Kept S.Store store.old store.new }
-    ensures cause { Causes S.Store store.old store.new result }
-    ensures capacity { vec_capacity buffer.old ≤ vec_capacity buffer.new }
+/// Damaged: of the first block that is not whole, the first field that differs, its size told at place 0. DiskFault:
+/// the disk failed; the studio goes on. NoMemory: there is no memory for the list of the blocks.
+pub fn check<S: Store>(alloc: Global, studio: &mut Studio<S>) -> Result<u64, OpenFault>
+    requires studio { IsStudio S.Store (core_of studio.old) }
+    requires going { (core_of studio.old).stopped ≡ None }
+    ensures { ChecksStudio S.Store (core_of studio.old) result (core_of studio.new) }
 {
-    for i in 0..blocks.len() {
-        check_one(store, blocks[i], buffer)?;
+    let blocks = studio.named_blocks(alloc)?;
+    match scan_all(studio, &blocks) {
+        Ok(()) => Ok(blocks.len() as u64),
+        Err(fault) => Err(fault.into()),
     }
-    Ok(blocks.len() as u64)
 }

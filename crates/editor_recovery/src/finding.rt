@@ -11,10 +11,11 @@ ghost use Rattle.disk_model.specs.Frames.{Kept};
 ghost use Rattle.editor_recovery.specs.Bounds.{IsSoundParts};
 ghost use Rattle.editor_recovery.specs.Listing.{AreFiles};
 ghost use Rattle.editor_recovery.specs.Files.{is_foreign};
+ghost use Rattle.editor_recovery.specs.Found.{answer_in};
 ghost use Rattle.editor_recovery.specs.Finding.{FoldsDisk, TestsMeasured, TestsSizes, ArePartsOf};
 ghost use Rattle.editor_recovery.specs.Measured.{size_in};
 ghost use Rattle.editor_recovery.specs.Causes.{Causes};
-ghost use Rattle.editor_recovery.specs.Naming.{HaveOneLength};
+ghost use Rattle.editor_core.specs.Scans.{HaveOneLength};
 ghost use Rattle.editor_recovery.specs.Opening.{Opens};
 ghost use Rattle.editor_recovery.specs.Reading.{IsRead};
 
@@ -23,9 +24,9 @@ use super::disk::Disk;
 use super::fault::OpenFault;
 use super::listing::block_above;
 use super::measuring::measure;
-use super::parts::Parts;
 use super::sizes::{Sizes, wrong_block};
 use disk_model::Store;
+use editor_core::Parts;
 use pcm_base::BlockRef;
 use project_journal::Journal;
 use project_state::{BadBody, Point};
@@ -133,7 +134,7 @@ fn size_parts<S: Store>(
     requires rising { IsStrictlyIncreasing disk.files.items }
     requires readable { IsReadable disk.journal }
     requires sound { IsSoundKept disk.journal.block_size disk.journal.depth (length disk.journal.records) (kept_of project) }
-    ensures opens { IsTrue (S.tells store.old) → IsRead (S.reads store.old) disk → FoldsDisk disk.journal (Ok project) → Opens (S.reads store.old) result }
+    ensures opens { IsTrue (S.tells store.old) → IsRead (S.reads store.old) disk → FoldsDisk disk.journal (Ok project) → Opens (S.reads store.old) (answer_in result) }
     ensures sound { IfOk result IsSoundParts }
     ensures end { IfOk result (λ p. p.journal_end ≡ disk.journal.end) }
     ensures kept { Kept S.Store store.old store.new }
@@ -154,7 +155,7 @@ pub(crate) fn find_parts<S: Store>(
     requires known { find is_foreign disk.files.items ≡ None }
     requires rising { IsStrictlyIncreasing disk.files.items }
     requires readable { IsReadable disk.journal }
-    ensures opens { IsTrue (S.tells store.old) → IsRead (S.reads store.old) disk → Opens (S.reads store.old) result }
+    ensures opens { IsTrue (S.tells store.old) → IsRead (S.reads store.old) disk → Opens (S.reads store.old) (answer_in result) }
     ensures sound { IfOk result IsSoundParts }
     ensures end { IfOk result (λ p. (p.journal_end ≡ disk.journal.end) × (disk.journal.early ≡ None)) }
     ensures kept { Kept S.Store store.old store.new }

@@ -1,26 +1,32 @@
 // Opens a project.
-ghost use Rattle.std.specs.Prelude.{◌≡◌, IsTrue, IfOk, OnOk};
+ghost use Rattle.std.specs.Prelude.{◌≡◌, IsTrue, IfOk, IfErr, OnOk};
 ghost use Rattle.disk_model.specs.Disk.{StaysStep};
 ghost use Rattle.disk_model.specs.Frames.{Changed};
-ghost use Rattle.project_journal.specs.Gate.{IsDurable};
 ghost use Rattle.project_journal.specs.Header.{version_1};
 ghost use Rattle.project_journal.specs.Journal.{Log, HasLog, IsAt};
+ghost use Rattle.project_journal.specs.Gate.{EachNow, IsDurable};
+ghost use Rattle.project_state.specs.Kept.{Keeps, history_blocks};
+ghost use Rattle.editor_core.specs.Core.{core_of};
+ghost use Rattle.editor_core.specs.Parts.{AreParts, HasParts, assembled};
+ghost use Rattle.editor_core.specs.Scans.{HaveOneLength};
+ghost use Rattle.editor_core.specs.Studios.{IsHeld, IsStudio, shown, studio_of};
 ghost use Rattle.editor_recovery.specs.Bounds.{IsSoundParts};
 ghost use Rattle.editor_recovery.specs.Causes.{Causes};
+ghost use Rattle.editor_recovery.specs.Found.{IsNew, answer_in};
 ghost use Rattle.editor_recovery.specs.Honest.{IsHonest, OpensHonest};
 ghost use Rattle.editor_recovery.specs.Opening.{Opens};
 ghost use Rattle.editor_recovery.specs.Stores.{store_of, answer_of};
 
 use super::fault::OpenFault;
 use super::finding::find_parts;
-use super::parts::{Opened, Parts};
 use super::reading::read_disk;
 use disk_model::Store;
+use editor_core::{Parts, Studio};
 use std::alloc::Global;
 
 /// What a store has of a project.
 fn open_parts<S: Store>(alloc: Global, store: &mut S) -> Result<Parts, OpenFault>
-    ensures opens { IsTrue (S.tells store.old) → Opens (S.reads store.old) result }
+    ensures opens { IsTrue (S.tells store.old) → Opens (S.reads store.old) (answer_in result) }
     ensures at_rest { IsTrue (S.tells store.old) → IfOk result (λ p. (log : Log) → HasLog version_1 log (S.reads store.old)
         → IsAt version_1 S.Store store.new p.journal_end log) }
     ensures sound { IfOk result IsSoundParts }
@@ -35,24 +41,44 @@ fn open_parts<S: Store>(alloc: Global, store: &mut S) -> Result<Parts, OpenFault
     }
 }
 
-/// Opens the project of a store, once its journal is on the disk. It writes nothing, and the store comes back with each
-/// answer.
+/// The studio of these parts. Where there is no memory the store comes back.
+fn make_studio<S: Store>(alloc: Global, store: S, parts: Parts) -> Result<Studio<S>, (OpenFault, S)>
+    requires { AreParts parts }
+    ensures studio { IfOk result (λ s. IsStudio S.Store (core_of s)) }
+    ensures held { HasParts S.Store store parts → IfOk result (λ s. IsHeld S.Store (core_of s)) }
+    ensures fields { IfOk result (λ s. core_of s ≡ assembled store parts) }
+    ensures refused { IfErr result (λ e. (e.0 ≡ OpenFault.NoMemory) × (e.1 ≡ store)) }
+{
+    match Studio::assemble(alloc, store, parts) {
+        Ok(studio) => Ok(studio),
+        Err(store) => Err((OpenFault::NoMemory, store)),
+    }
+}
+
+/// Opens the project of a store, once its journal is on the disk, and makes a studio of it. It writes nothing, and the
+/// store comes back with each refusal. Nothing is copied yet, there are no pins, and the next pin is 1.
 ///
 /// # Errors
 ///
-/// The first of these. Absent: no project is there. Foreign: a file is there that is neither the journal nor a block, the
-/// least of them. Damaged: the first field in the order of the files that is not as it has to be. DiskFault and NoMemory
-/// may come in place of each.
-pub fn open_store<S: Store>(alloc: Global, store: S) -> Result<Opened<S>, (OpenFault, S)>
+/// The first of these. Absent: no project is there. Foreign: a file is there that is neither the journal nor a block,
+/// the least of them. Damaged: the first field in the order of the files that is not as it has to be. DiskFault and
+/// NoMemory may come in place of each.
+pub fn open_store<S: Store>(alloc: Global, store: S) -> Result<Studio<S>, (OpenFault, S)>
     ensures opens { IsTrue (S.tells store) → Opens (S.reads store) (answer_of result) }
-    // Whatever the store tells, what was found is sound, and the journal is on the disk.
-    ensures sound { IfOk result (λ o. IsSoundParts o.parts) }
-    ensures durable { IfOk result (λ o. IsDurable S.Store o.store 0) }
-    // The journal of the store and of each image ends where the parts say.
-    ensures at_rest { IsTrue (S.tells store) → IfOk result (λ o. (log : Log) → HasLog version_1 log (S.reads store)
-        → IsAt version_1 S.Store o.store o.parts.journal_end log) }
-    // Over an honest disk no fault is found, and what is found is what each image keeps.
+    // Whatever the store tells, it is a studio of which nothing was asked yet, each block has one length, and the
+    // journal is on the disk.
+    ensures studio { IfOk result (λ s. IsStudio S.Store (core_of s)) }
+    ensures fresh { IfOk result (λ s. IsNew (core_of s)) }
+    ensures one_length { IfOk result (λ s. HaveOneLength (history_blocks (core_of s).history)) }
+    ensures durable { IfOk result (λ s. IsDurable S.Store (core_of s).store 0) }
+    // The journal of the store and of each image ends where the studio says.
+    ensures at_rest { IsTrue (S.tells store) → IfOk result (λ s. (log : Log) → HasLog version_1 log (S.reads store)
+        → IsAt version_1 S.Store (core_of s).store (core_of s).journal_end log) }
+    // Over an honest disk no fault is found, what is found is what each image keeps, and the disk holds the studio.
     ensures honest { IsHonest S.Store store → OpensHonest S.Store store (store_of result) (answer_of result) }
+    ensures held { IsHonest S.Store store → IfOk result (λ s. IsHeld S.Store (core_of s)) }
+    ensures keeps { IsHonest S.Store store
+        → IfOk result (λ s. EachNow S.Store (core_of s).store (λ c. Keeps c (shown (studio_of S.Store (core_of s))))) }
     ensures stays_honest { IsHonest S.Store store → IsHonest S.Store (store_of result) }
     ensures cause { Causes S.Store store (store_of result) (answer_of result) }
     // Nothing changes: each image at any moment is one that the store could already leave. A sync is asked of it.
@@ -61,7 +87,7 @@ pub fn open_store<S: Store>(alloc: Global, store: S) -> Result<Opened<S>, (OpenF
 {
     let mut store = store;
     match open_parts(alloc, &mut store) {
-        Ok(parts) => Ok(Opened { store, parts }),
+        Ok(parts) => make_studio(alloc, store, parts),
         Err(fault) => Err((fault, store)),
     }
 }

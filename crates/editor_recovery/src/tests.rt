@@ -1,7 +1,12 @@
 // Projects that are made, opened and checked on a disk in memory: sound ones, damaged ones, and what a stop leaves.
+ghost use Rattle.std.specs.Prelude.{◌≡◌, IfOk, None};
+ghost use Rattle.editor_core.specs.Core.{core_of};
+ghost use Rattle.editor_core.specs.Studios.{IsStudio};
+
 use super::*;
 use block_store::put;
 use disk_model::{RamStore, Store};
+use editor_core::{Facts, Studio};
 use pcm_base::{BlockRef, Numbers};
 use project_journal::append;
 use std::alloc::Global;
@@ -52,7 +57,7 @@ const DAMAGED: [((u64, u64, u8), Told); 9] = [
     ((18, 42, 0), (18, 0, 42, 43)),
 ];
 
-fn disk(alloc: Global) -> Result<RamStore, Fail> {
+pub(crate) fn disk(alloc: Global) -> Result<RamStore, Fail> {
     let fails = Numbers::new(Vec::new(alloc));
     let store = RamStore::new(alloc, 8, 4096, 64, fails)
         .ok()
@@ -61,7 +66,7 @@ fn disk(alloc: Global) -> Result<RamStore, Fail> {
 }
 
 /// A new project: 8,000 frames a second, blocks of at most 4 samples, 3 points.
-fn fresh(alloc: Global) -> Result<RamStore, Fail> {
+pub(crate) fn fresh(alloc: Global) -> Result<RamStore, Fail> {
     let mut store = disk(alloc)?;
     create(alloc, &mut store, 8000, 4, 3).ok().ok_or("made")?;
     Ok(store)
@@ -97,7 +102,7 @@ fn write(store: &mut RamStore, file: u64, at: u64, byte: u8) -> Result<(), Fail>
 /// Why a disk is not opened.
 fn refusal(alloc: Global, store: RamStore) -> Option<OpenFault> {
     match open_store(alloc, store) {
-        Ok(_opened) => None,
+        Ok(_studio) => None,
         Err((fault, _store)) => Some(fault),
     }
 }
@@ -112,45 +117,75 @@ fn damaged(told: Told) -> OpenFault {
     }
 }
 
-/// Next block, next track, how many commits, where the journal ends, how many points there are and which is current.
-fn numbers(alloc: Global, store: RamStore) -> Result<(u64, u64, u64, u64, usize, usize), Fail> {
+/// The studio of a disk that is opened.
+pub(crate) fn opened<S: Store + Drop>(alloc: Global, store: S) -> Result<Studio<S>, Fail>
+    ensures studio { IfOk result (λ s. IsStudio S.Store (core_of s)) }
+    ensures going { IfOk result (λ s. (core_of s).stopped ≡ None) }
+{
     match open_store(alloc, store) {
-        Ok(opened) => Ok((
-            opened.parts.next_block,
-            opened.parts.next_track,
-            opened.parts.commit_number,
-            opened.parts.journal_end,
-            opened.parts.history.len(),
-            opened.parts.history.cursor(),
-        )),
+        Ok(studio) => Ok(studio),
         Err((_fault, _store)) => Err("refused".into()),
+    }
+}
+
+/// The numbers of the files of a disk.
+pub(crate) fn files_of(alloc: Global, store: &mut RamStore) -> Result<Vec<u64>, Fail> {
+    let mut files = Vec::new(alloc);
+    store.files(&mut files).ok().ok_or("listed")?;
+    Ok(files)
+}
+
+/// The disk has these files and no others.
+fn has_files(
+    rt: &impl Abort,
+    alloc: Global,
+    store: &mut RamStore,
+    want: &[u64],
+) -> Result<(), Fail> {
+    let files = files_of(alloc, store)?;
+    assert_eq!(rt; files.len(), want.len());
+    for (i, file) in want.iter().enumerate() {
+        assert!(rt; files.get(i).copied() == Some(*file));
+    }
+    Ok(())
+}
+
+/// What is told of a project of so many points, its current one the last.
+fn facts(points: u64, blocks: u64) -> Facts {
+    Facts {
+        rate: 8000,
+        block_size: 4,
+        depth: 3,
+        points,
+        cursor: points.saturating_sub(1),
+        blocks,
     }
 }
 
 #[test]
 fn made_and_opened(rt: HostRuntime) -> Result<(), Fail> {
     let alloc = rt.alloc();
-    assert_eq!(rt; numbers(alloc, fresh(alloc)?)?, (16, 1, 0, 32, 1, 0));
-    assert_eq!(rt; numbers(alloc, sound(alloc)?)?, (19, 3, 1, 162, 2, 1));
-    match open_store(alloc, sound(alloc)?) {
-        Ok(opened) => {
-            let parts = &opened.parts;
-            assert_eq!(rt;
-                (parts.rate, parts.block_size, parts.history.depth()),
-                (8000, 4, 3)
-            );
-            assert_eq!(rt;
-                (parts.ledger.count(16), parts.ledger.count(18)),
-                (Some(1), Some(1))
-            );
-            assert_eq!(rt;
-                (parts.ledger.count(0), parts.ledger.count(19)),
-                (None, None)
-            );
-        }
-        Err((_fault, _store)) => return Err("refused".into()),
-    }
+    let studio = opened(alloc, fresh(alloc)?)?;
+    assert!(rt; studio.facts() == facts(1, 0));
+    assert_eq!(rt; studio.commit_number(), 0);
+    let studio = opened(alloc, sound(alloc)?)?;
+    assert!(rt; studio.facts() == facts(2, 3));
+    assert_eq!(rt; studio.commit_number(), 1);
     Ok(())
+}
+
+/// A project that was opened goes on: the next track is 3, and the next block 19.
+#[test]
+fn opened_and_edited(rt: HostRuntime) -> Result<(), Fail> {
+    let alloc = rt.alloc();
+    let mut studio = opened(alloc, sound(alloc)?)?;
+    assert!(rt; studio.track(alloc) == Ok(2));
+    assert!(rt; studio.put(alloc, 3, 0, &[9]) == Ok(3));
+    let mut studio = opened(alloc, studio.into_store())?;
+    assert!(rt; studio.facts() == facts(3, 4));
+    assert!(rt; check(alloc, &mut studio) == Ok(4));
+    assert_eq!(rt; studio.commit_number(), 3);
+    has_files(&rt, alloc, &mut studio.into_store(), &[0, 16, 17, 18, 19])
 }
 
 #[test]
@@ -158,14 +193,11 @@ fn a_file_that_no_point_names(rt: HostRuntime) -> Result<(), Fail> {
     let alloc = rt.alloc();
     let mut store = sound(alloc)?;
     write(&mut store, 40, 0, 7)?;
-    match open_store(alloc, store) {
-        Ok(opened) => {
-            assert_eq!(rt; opened.parts.next_block, 41);
-            assert_eq!(rt; opened.parts.ledger.first_free(), Some(40));
-        }
-        Err((_fault, _store)) => return Err("refused".into()),
-    }
-    Ok(())
+    let mut studio = opened(alloc, store)?;
+    assert!(rt; studio.facts() == facts(2, 3));
+    assert!(rt; studio.put(alloc, 2, 0, &[9]) == Ok(2));
+    assert!(rt; studio.reclaim(None) == Ok(1));
+    has_files(&rt, alloc, &mut studio.into_store(), &[0, 16, 17, 18, 41])
 }
 
 #[test]
@@ -232,7 +264,7 @@ fn opened_images(alloc: Global, store: &RamStore) -> Result<u32, Fail> {
     for choice in 0..10 {
         let left = store.image(alloc, choice).ok().ok_or("no memory")?;
         match open_store(alloc, left) {
-            Ok(opened) if opened.parts.commit_number == 0 => count = count.saturating_add(1),
+            Ok(studio) if studio.commit_number() == 0 => count = count.saturating_add(1),
             Err((OpenFault::Absent, _store)) => {}
             _ => return Err("neither none nor the new one".into()),
         }
@@ -260,21 +292,10 @@ fn a_stop_after_each_call(rt: HostRuntime) -> Result<(), Fail> {
     Ok(())
 }
 
-/// Opens a disk, and checks the blocks that its points name, which are those of the edit.
+/// Opens a disk, and checks the blocks that its points name.
 fn checked(alloc: Global, store: RamStore) -> Result<Result<u64, OpenFault>, Fail> {
-    let blocks = [
-        BlockRef { id: 16, len: 4 },
-        BlockRef { id: 17, len: 3 },
-        BlockRef { id: 18, len: 1 },
-    ];
-    let mut buffer = Vec::with_capacity(alloc, 48)?;
-    match open_store(alloc, store) {
-        Ok(opened) => {
-            let Opened { mut store, .. } = opened;
-            Ok(check_blocks(&mut store, &blocks, &mut buffer))
-        }
-        Err((_fault, _store)) => Err("refused".into()),
-    }
+    let mut studio = opened(alloc, store)?;
+    Ok(check(alloc, &mut studio))
 }
 
 #[test]
@@ -284,20 +305,14 @@ fn every_named_block_is_listed(rt: HostRuntime) -> Result<(), Fail> {
     append(&mut store, 162, &EDIT, &mut Vec::new(alloc))
         .ok()
         .ok_or("added")?;
-    match open_store(alloc, store) {
-        Ok(opened) => {
-            let parts = &opened.parts;
-            let named = named_blocks(alloc, &parts.history, &parts.ledger)
-                .ok()
-                .ok_or("no memory")?;
-            assert_eq!(rt; named.len(), 3);
-            for (i, (id, len)) in [(16, 4), (17, 3), (18, 1)].iter().enumerate() {
-                assert!(rt; named.get(i).copied() == Some(BlockRef { id: *id, len: *len }));
-            }
-            assert_eq!(rt; parts.ledger.count(17), Some(2));
-        }
-        Err((_fault, _store)) => return Err("refused".into()),
+    let studio = opened(alloc, store)?;
+    assert!(rt; studio.facts() == facts(3, 3));
+    let named = studio.named_blocks(alloc).ok().ok_or("no memory")?;
+    assert_eq!(rt; named.len(), 3);
+    for (i, (id, len)) in [(16, 4), (17, 3), (18, 1)].iter().enumerate() {
+        assert!(rt; named.get(i).copied() == Some(BlockRef { id: *id, len: *len }));
     }
+    assert!(rt; checked(alloc, studio.into_store())? == Ok(3));
     Ok(())
 }
 

@@ -1,7 +1,7 @@
 -- Nothing was called where the records have a fault.
 use Rattle.disk_model.proofs.Frames.{kept_none}
 use Rattle.record_fold.specs.declared.project.Project.{Project}
-use Rattle.editor_recovery.specs.declared.parts.Parts.{Parts}
+use Rattle.editor_core.specs.declared.assembly.Parts.{Parts}
 use Rattle.editor_recovery.proofs.Counted.{refused_none, no_fault}
 use Rattle.editor_recovery.proofs.finding.find_parts.Goals as goal
 

@@ -33,7 +33,7 @@ returns-in-Err-clause-opens g c = λ tells is fold.
 
 pub returns-in-Ok-clause-sound : goal.returns-in-Ok-clause-sound
 returns-in-Ok-clause-sound g c =
-    sound_result c.args.disk c.args.project c.parts_of.result c.requires.readable c.requires.sound c.in-Ok.ensures.one_length
+    sound_result c.args.disk c.args.project c.parts_of.result c.requires.readable c.requires.known c.requires.sound c.in-Ok.ensures.one_length
     (subst (λ (files : List ℕ). All (λ p. All (λ b. (b.id ≢ 0) × Contains files b.id) (point_blocks p.0)) c.args.project.history.history.points) c.deref.ensures.value c.in-Ok.ensures.named)
     c.parts_of.ensures.parts
 

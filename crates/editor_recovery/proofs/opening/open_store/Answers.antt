@@ -1,26 +1,141 @@
--- Over an honest disk.
-use Rattle.std.proofs.Common.{Ok, Err}
+-- A studio of what was found, and what an honest disk has of it.
+use Rattle.std.proofs.Common.{◌≡◌, Result, Ok, Err, sym, ap, subst, ◌∙◌}
+use Rattle.disk_model.specs.Disk.{Files, StaysStep}
+use Rattle.disk_model.specs.Frames.{Changed}
+use Rattle.project_journal.specs.Gate.{EachNow, IsDurable}
+use Rattle.project_journal.specs.Header.{version_1}
+use Rattle.project_journal.specs.Journal.{Log, HasLog, IsAt}
 use Rattle.project_journal.proofs.Kept.{each_has}
+use Rattle.project_state.specs.Kept.{Keeps, history_blocks}
+use Rattle.editor_core.specs.Core.{Core}
+use Rattle.editor_core.specs.Parts.{HasParts}
+use Rattle.editor_core.specs.Scans.{HaveOneLength}
+use Rattle.editor_core.specs.Studios.{shown, studio_of}
+use Rattle.editor_recovery.specs.declared.fault.OpenFault.{OpenFault}
+use Rattle.editor_recovery.specs.Causes.{Causes}
+use Rattle.editor_recovery.specs.Found.{IsNew, found_in}
+use Rattle.editor_recovery.specs.Honest.{FindsKept, IsHonest, OpensHonest}
+use Rattle.editor_recovery.specs.Opening.{Opens}
+use Rattle.editor_recovery.specs.Stores.{answer_of}
+use Rattle.editor_recovery.proofs.Assembled.{answers, each, new_studio, same_store, shows_found}
 use Rattle.editor_recovery.proofs.Created.{still_honest}
-use Rattle.editor_recovery.proofs.Honest.{found_kept}
+use Rattle.editor_recovery.proofs.Honest.{found_kept, has_parts}
 use Rattle.editor_recovery.proofs.opening.open_store.Goals as goal
+
+pub returns-in-Ok-clause-opens : goal.returns-in-Ok-clause-opens
+returns-in-Ok-clause-opens g c = λ tells.
+    let store = c.open_parts.new.store in
+    answers store c.in-Ok.parts (Opens (g.S.Store.reads c.args.store)) c.make_studio.result
+    c.make_studio.ensures.fields c.make_studio.ensures.refused
+    (c.in-Ok.ensures.opens tells) tt
+
+pub returns-in-Ok-clause-fresh : goal.returns-in-Ok-clause-fresh
+returns-in-Ok-clause-fresh g c =
+    let store = c.open_parts.new.store in
+    each store c.in-Ok.parts IsNew c.make_studio.result c.make_studio.ensures.fields (new_studio store c.in-Ok.parts)
+
+pub returns-in-Ok-clause-one_length : goal.returns-in-Ok-clause-one_length
+returns-in-Ok-clause-one_length g c =
+    each c.open_parts.new.store c.in-Ok.parts (λ s. HaveOneLength (history_blocks s.history)) c.make_studio.result
+    c.make_studio.ensures.fields
+    c.in-Ok.ensures.sound.one_length
+
+pub returns-in-Ok-clause-durable : goal.returns-in-Ok-clause-durable
+returns-in-Ok-clause-durable g c =
+    each c.open_parts.new.store c.in-Ok.parts (λ s. IsDurable g.S.Store s.store 0) c.make_studio.result
+    c.make_studio.ensures.fields c.in-Ok.ensures.durable
+
+pub returns-in-Ok-clause-at_rest : goal.returns-in-Ok-clause-at_rest
+returns-in-Ok-clause-at_rest g c = λ tells.
+    each c.open_parts.new.store c.in-Ok.parts
+    (λ s. (log : Log) → HasLog version_1 log (g.S.Store.reads c.args.store) → IsAt version_1
+    g.S.Store s.store s.journal_end log)
+    c.make_studio.result c.make_studio.ensures.fields (c.in-Ok.ensures.at_rest tells)
 
 pub returns-in-Ok-clause-honest : goal.returns-in-Ok-clause-honest
 returns-in-Ok-clause-honest g c = λ honest.
-    let stays = g.met.S.Store.may_stay c.args.store honest.model in
-    found_kept g.S.Store c.args.store c.open_parts.new.store honest stays.1 c.open_parts.ensures.changed.images (Ok c.in-Ok.parts)
-    (c.in-Ok.ensures.opens stays.0) (λ log has p e. each_has (c.in-Ok.ensures.at_rest stays.0 log has))
+    let old = c.args.store in
+    let store = c.open_parts.new.store in
+    let r = c.make_studio.result in
+    let stays = g.met.S.Store.may_stay old honest.model in
+    subst (λ (back : g.row.S.Denot). OpensHonest g.S.Store old back (answer_of r))
+    (sym (same_store store c.in-Ok.parts r c.make_studio.ensures.fields c.make_studio.ensures.refused))
+    (answers store c.in-Ok.parts (OpensHonest g.S.Store old store) r c.make_studio.ensures.fields
+    c.make_studio.ensures.refused
+    (found_kept g.S.Store old store honest stays.1 c.open_parts.ensures.changed.images (Ok (found_in c.in-Ok.parts))
+    (c.in-Ok.ensures.opens stays.0) (λ log has f e. each_has (c.in-Ok.ensures.at_rest stays.0 log has))) tt)
+
+pub returns-in-Ok-clause-held : goal.returns-in-Ok-clause-held
+returns-in-Ok-clause-held g c = λ honest.
+    let old = c.args.store in
+    let store = c.open_parts.new.store in
+    let stays = g.met.S.Store.may_stay old honest.model in
+    let opens = c.in-Ok.ensures.opens stays.0 in
+    let still = still_honest g.S.Store old store c.open_parts.ensures.changed.images
+    c.open_parts.ensures.changed.model honest in
+    c.make_studio.ensures.held (has_parts g.S.Store old store honest stays.1 c.open_parts.ensures.changed.images
+    c.in-Ok.parts opens
+    c.open_parts.ensures.reads (g.met.S.Store.may_stay store still.model).0
+    (c.in-Ok.ensures.at_rest stays.0 opens.log opens.project.there))
+
+pub returns-in-Ok-clause-keeps : goal.returns-in-Ok-clause-keeps
+returns-in-Ok-clause-keeps g c = λ honest.
+    let old = c.args.store in
+    let store = c.open_parts.new.store in
+    let p = c.in-Ok.parts in
+    let stays = g.met.S.Store.may_stay old honest.model in
+    let opens = c.in-Ok.ensures.opens stays.0 in
+    let found : FindsKept g.S.Store old store (found_in p) =
+    found_kept g.S.Store old store honest stays.1 c.open_parts.ensures.changed.images (Ok (found_in p)) opens
+    (λ log has f e. each_has (c.in-Ok.ensures.at_rest stays.0 log has)) in
+    each store p (λ s. EachNow g.S.Store s.store (λ image. Keeps image (shown (studio_of g.S.Store s))))
+    c.make_studio.result c.make_studio.ensures.fields
+    (λ image now. subst (Keeps image)
+    (shows_found g.S.Store store p (g.S.Store.reads old) found.log found.kept found.found
+    c.open_parts.ensures.reads) (found.each image now))
 
 pub returns-in-Ok-clause-stays_honest : goal.returns-in-Ok-clause-stays_honest
 returns-in-Ok-clause-stays_honest g c = λ honest.
-    still_honest g.S.Store c.args.store c.open_parts.new.store c.open_parts.ensures.changed.images c.open_parts.ensures.changed.model honest
+    subst (λ (back : g.row.S.Denot). IsHonest g.S.Store back)
+    (sym (same_store c.open_parts.new.store c.in-Ok.parts c.make_studio.result c.make_studio.ensures.fields
+    c.make_studio.ensures.refused))
+    (still_honest g.S.Store c.args.store c.open_parts.new.store c.open_parts.ensures.changed.images
+    c.open_parts.ensures.changed.model honest)
+
+pub returns-in-Ok-clause-cause : goal.returns-in-Ok-clause-cause
+returns-in-Ok-clause-cause g c =
+    let old = c.args.store in
+    let store = c.open_parts.new.store in
+    let r = c.make_studio.result in
+    subst (λ (back : g.row.S.Denot). Causes g.S.Store old back (answer_of r))
+    (sym (same_store store c.in-Ok.parts r c.make_studio.ensures.fields c.make_studio.ensures.refused))
+    (answers store c.in-Ok.parts (Causes g.S.Store old store) r c.make_studio.ensures.fields
+    c.make_studio.ensures.refused
+    c.in-Ok.ensures.cause c.in-Ok.ensures.cause)
+
+pub returns-in-Ok-clause-reads : goal.returns-in-Ok-clause-reads
+returns-in-Ok-clause-reads g c =
+    ap (λ (back : g.row.S.Denot). g.S.Store.reads back)
+    (same_store c.open_parts.new.store c.in-Ok.parts c.make_studio.result c.make_studio.ensures.fields
+    c.make_studio.ensures.refused)
+    ∙ c.open_parts.ensures.reads
+
+pub returns-in-Ok-clause-changed : goal.returns-in-Ok-clause-changed
+returns-in-Ok-clause-changed g c =
+    subst (λ (back : g.row.S.Denot). Changed g.S.Store StaysStep (record { files = 0; bytes = 0; calls = 1 })
+    c.args.store back)
+    (sym (same_store c.open_parts.new.store c.in-Ok.parts c.make_studio.result c.make_studio.ensures.fields
+    c.make_studio.ensures.refused))
+    c.open_parts.ensures.changed
 
 pub returns-in-Err-clause-honest : goal.returns-in-Err-clause-honest
 returns-in-Err-clause-honest g c = λ honest.
     let stays = g.met.S.Store.may_stay c.args.store honest.model in
-    found_kept g.S.Store c.args.store c.open_parts.new.store honest stays.1 c.open_parts.ensures.changed.images (Err c.in-Err.fault)
-    (c.in-Err.ensures.opens stays.0) (λ log has p e. absurd cc)
+    found_kept g.S.Store c.args.store c.open_parts.new.store honest stays.1 c.open_parts.ensures.changed.images
+    (Err c.in-Err.fault)
+    (c.in-Err.ensures.opens stays.0) (λ log has f e. absurd cc)
 
 pub returns-in-Err-clause-stays_honest : goal.returns-in-Err-clause-stays_honest
 returns-in-Err-clause-stays_honest g c = λ honest.
-    still_honest g.S.Store c.args.store c.open_parts.new.store c.open_parts.ensures.changed.images c.open_parts.ensures.changed.model honest
+    still_honest g.S.Store c.args.store c.open_parts.new.store c.open_parts.ensures.changed.images
+    c.open_parts.ensures.changed.model honest

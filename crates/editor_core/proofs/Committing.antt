@@ -1,0 +1,157 @@
+-- A commit whose record is not added: the journal is full, the record too long, there is no memory, or the disk fails.
+use Rattle.std.proofs.Common.{◌≡◌, inr, refl, sym, subst, ℕ, ◌+◌, ◌-◌, ◌^◌, ◌≤◌, ◌<◌, IsTrue, List, Option, None, Err, length, arith}
+use Rattle.pcm_base.specs.declared.block.BlockRef.{BlockRef}
+use Rattle.pcm_base.specs.declared.command.Call.{Call}
+use Rattle.pcm_base.specs.declared.entry.SoundMove.{SoundMove}
+use Rattle.pcm_base.specs.declared.refusal.Refusal.{Refusal}
+use Rattle.pcm_base.specs.declared.refusal.Refusal.TheVariants as refusal
+use Rattle.pcm_base.specs.History.{History}
+use Rattle.pcm_base.specs.Refusals.{call_tests}
+use Rattle.pcm_base.specs.Run.{outside}
+use Rattle.disk_model.specs.declared.store.Store.{Ghosts}
+use Rattle.disk_model.proofs.Frames.{Fewer, changed_wider}
+use Rattle.sample_block.specs.Sources.{IsWhole}
+use Rattle.clip_track.specs.declared.items.Item.{Item}
+use Rattle.project_state.specs.declared.body.Body.{Body}
+use Rattle.project_state.specs.declared.track.Track.{Track}
+use Rattle.project_state.specs.Spelling.{spelling}
+use Rattle.editor_core.specs.Adding.{Adds, Exceeds, stopped_by}
+use Rattle.editor_core.specs.Core.{Core}
+use Rattle.editor_core.specs.Studios.{IsHeld, IsStudio, named_blocks, studio_by, studio_of}
+use Rattle.editor_core.specs.Took.{Took}
+use Rattle.editor_core.proofs.Flights.{IsCommit, IsTested, flight, number_left, whole_still}
+use Rattle.editor_core.proofs.Lists.{all_left}
+use Rattle.editor_core.proofs.Premises.{TookWhere, took_so}
+use Rattle.editor_core.proofs.Sounds.{sources_elsewhere}
+use Rattle.editor_core.proofs.Spaces.{exceeded}
+use Rattle.editor_core.proofs.Staying.{HasMade, record_within, refuses, some_none, stopped_not, wants}
+
+module _ {D : Type 0} {Has : Type 0} {disk : Ghosts D} {s : Core D} {made : List BlockRef} {c : Call}
+    {sound : SoundMove} {tracks : ℕ} {body : Body} {h : History (List Track)} {clip : Option (List (List Item))}
+    {track_then : ℕ} (t : IsTested Has disk s made c sound tracks body h clip track_then) where
+  abbrev len : ℕ
+  len = length (spelling body)
+
+  -- ---- the disk failed
+  module _ {Q : Type 0} (mid : Core D) (adds : Adds {R = Q} disk s (spelling body) (Err refusal.DiskFault) mid) where
+    abbrev pub after : Core D
+    after = stopped_by disk s mid.store
+
+    failed_studio : IsStudio disk after
+    failed_studio = record {
+      format = t.is.format;
+      counters = t.is.counters;
+      few_points = t.is.few_points;
+      few_clips = t.is.few_clips;
+      points = t.is.points;
+      pins = t.is.pins;
+      numbers = t.is.numbers;
+      clipboard = t.is.clipboard;
+      ids = t.is.ids;
+      counted = t.is.counted;
+      given = t.is.given;
+    }
+
+    failed_held : Has → IsHeld disk after
+    failed_held has = record {
+      tells = subst IsTrue (sym adds.changed.tells) (t.holds has).tells;
+      whole = all_left (IsWhole (disk.reads mid.store)) (named_blocks s) made
+          (whole_still t (Err refusal.DiskFault) mid adds has);
+      durable = λ still. absurd (some_none _ still);
+    }
+
+    -- what it stands for, with the same samples
+    pub failed_state : Has → studio_of disk after ≡ record (studio_of disk s) {
+      stopped = (stopped_by disk s mid.store).stopped;
+      next_block = s.next_block + 0;
+      read_faults = disk.read_fault_count mid.store;
+      change_faults = disk.change_fault_count mid.store;
+    }
+    failed_state has =
+        let step = adds.changed.reads (t.holds has).tells in
+        let src = sources_elsewhere (disk.reads s.store) (disk.reads mid.store) step in
+        let none : s.next_block ≡ s.next_block + 0 = omega arith in
+        λ i. record (studio_by (src i) disk after) { next_block = none i }
+
+    pub failed : TookWhere Has disk s c sound (Err refusal.DiskFault) 0 after
+    failed = record {
+      studio = failed_studio;
+      held = failed_held;
+      step = λ has. inr (record {
+        breaks = record {
+          going = t.going;
+          blocks = 0;
+          len = len;
+          needs = t.move.needs has;
+          room = omega (arith, t.is.counters.block_most);
+          is = failed_state has;
+          leaves = t.move.call.leaves (studio_of disk s);
+        };
+        cause = inr (
+          t.move.call.changes,
+          record {
+            stopped = refl;
+            rose = adds.fields.2.rose;
+            later = adds.fields.2.later;
+            reads = adds.read_faults;
+          },
+        );
+      });
+      any_moment = λ _ has. flight t (Err refusal.DiskFault) mid adds has adds.fields.1 adds.fields.3;
+      refused = λ _ has still. absurd (some_none _ still);
+      now = λ still has. absurd (some_none _ still);
+      number = refl;
+      rests = λ some. absurd (stopped_not s.stopped some t.going);
+      len = len;
+      needs = λ has. (0, t.move.needs has);
+      changed =
+          changed_wider (λ d x w. tt) (record_within s.block_size (s.next_block - s.next_block) len 0) adds.changed;
+    }
+
+-- ---- of a studio that the disk holds
+module _ {D : Type 0} (disk : Ghosts D) (s : Core D) (made : List BlockRef) (c : Call) (sound : SoundMove) (tracks : ℕ)
+    (body : Body) (h : History (List Track)) (clip : Option (List (List Item))) (track_then : ℕ) (is : IsStudio disk s)
+    (has_made : HasMade (IsHeld disk s) disk s made)
+    (move : IsCommit (IsHeld disk s) disk s made c sound tracks body h clip track_then)
+    (going : s.stopped ≡ None) (own : call_tests (outside (studio_of disk s) sound) (studio_of disk s).state c ≡ None)
+    (ids : s.next_track + tracks ≤ 2 ^ 62) (number : s.commit_number < 2 ^ 62) where
+  tested : IsTested (IsHeld disk s) disk s made c sound tracks body h clip track_then
+  tested = record {
+    is = is;
+    holds = λ held. held;
+    has_made = has_made;
+    move = move;
+    going = going;
+    own = own;
+    ids = ids;
+    number = number;
+  }
+
+  abbrev size : ℕ
+  size = length (spelling body)
+
+  -- ---- the journal is full, or the record too long
+  unfit : (why : Refusal) → Fewer disk s.store → Exceeds s.journal_end size why → Took disk s c sound (Err why) 0 s
+  unfit why fewer over =
+      refuses disk s c sound why is fewer move.call.quiet size 0 move.needs
+      (exceeded (studio_of disk s) c sound tracks move.call 0 size is.counters.pin_most going own
+      (omega (arith, is.counters.block_most)) ids (number_left tested) why over)
+
+  -- ---- what a record that was not added leaves
+  pub fails : {Q : Type 0} (why : Refusal) (mid : Core D) → Fewer disk s.store
+      → Adds {R = Q} disk s (spelling body) (Err why) mid → Took disk s c sound (Err why) 0 mid
+  fails (refusal.SpaceSpent have need) mid fewer adds =
+      let why = refusal.SpaceSpent have need in
+      subst (λ (z : Core D). Took disk s c sound (Err why) 0 z) (sym adds.fields.0)
+      (unfit why fewer (adds.fields.1, adds.fields.2, adds.fields.3))
+  fails refusal.NoMemory mid fewer adds =
+      subst (λ (z : Core D). Took disk s c sound (Err refusal.NoMemory) 0 z) (sym adds.fields)
+      (wants disk s c sound is fewer move.call.quiet size (λ held. (0, move.needs held)))
+  fails (refusal.RecordLimit n) mid fewer adds =
+      let why = refusal.RecordLimit n in
+      subst (λ (z : Core D). Took disk s c sound (Err why) 0 z) (sym adds.fields.0)
+      (unfit why fewer (adds.fields.1, adds.fields.2, adds.fields.3))
+  fails refusal.DiskFault mid fewer adds =
+      subst (λ (z : Core D). Took disk s c sound (Err refusal.DiskFault) 0 z) (sym adds.fields.0)
+      (took_so disk s c sound (Err refusal.DiskFault) 0 (after tested mid adds) (failed tested mid adds))
+  fails why mid fewer adds = absurd adds.fields

@@ -1,0 +1,256 @@
+-- An edit that makes blocks: what its plan says of the studio with the blocks made, and its commit.
+use Rattle.std.proofs.Common.{◌≡◌, inr, ⊎_elim, refl, sym, ap, ◌∙◌, subst, ℕ, ◌+◌, ◌^◌, ◌≤◌, ◌<◌, if◌then◌else◌, ℤ, IsSome, Option, Some, None, List, [], ◌∷◌, ◌++◌, length, arith}
+use Rattle.std.specs.List.{AllByRecursion}
+use Rattle.std.proofs.lemmas.Bool.Decides.{eqb_tells}
+use Rattle.std.proofs.lemmas.List.{take_all}
+use Rattle.pcm_base.specs.declared.block.BlockRef.{BlockRef}
+use Rattle.pcm_base.specs.declared.command.Call.{Call}
+use Rattle.pcm_base.specs.declared.entry.SoundMove.{SoundMove}
+use Rattle.pcm_base.specs.declared.piece.Piece.{Piece}
+use Rattle.pcm_base.specs.declared.piece.Piece.TheVariants.{Old, Scaled, Zero, Given}
+use Rattle.pcm_base.specs.Cells.{Project}
+use Rattle.pcm_base.specs.Counters.{Needs}
+use Rattle.pcm_base.specs.History.{History, recorded}
+use Rattle.pcm_base.specs.Refusals.{call_tests}
+use Rattle.pcm_base.specs.Run.{outside}
+use Rattle.pcm_base.specs.Sizes.{project_body_most}
+use Rattle.pcm_base.specs.State.{current}
+use Rattle.pcm_base.specs.Step.{after}
+use Rattle.pcm_base.specs.Studio as model
+use Rattle.disk_model.specs.Disk.{Files}
+use Rattle.disk_model.specs.declared.store.Store.{Ghosts}
+use Rattle.sample_block.specs.Sources.{samples_on, IsWhole, AllWhole}
+use Rattle.block_sequence.specs.Origins.{AllFrom}
+use Rattle.block_ledger.specs.Counts.{Counts, occurrences}
+use Rattle.clip_track.specs.declared.items.Item.{Item}
+use Rattle.edit_ops.specs.declared.types.NewBlock.{NewBlock}
+use Rattle.edit_ops.specs.Plans.{AllNewFrom, AreWritten}
+use Rattle.piece_store.specs.declared.given.Given as brings
+use Rattle.piece_store.specs.Bringing.{brought, brought_count}
+use Rattle.piece_store.specs.Reading.{AllThere}
+use Rattle.project_state.specs.declared.body.Body.{Body}
+use Rattle.project_state.specs.declared.body.Body.TheVariants.{Edit}
+use Rattle.project_state.specs.declared.track.Track.{Track}
+use Rattle.project_state.specs.Kept.{Kept, IsNext, meant, point_blocks, history_blocks}
+use Rattle.project_state.specs.KeptSound.{IsSoundPoint, IsSoundTagged}
+use Rattle.project_state.specs.Sound.{AllSoundTracks}
+use Rattle.project_state.specs.Spelling.{spelling}
+use Rattle.project_state.proofs.KeptBounds.{all_append, tagged_more}
+use Rattle.editor_core.specs.Core.{Core}
+use Rattle.editor_core.specs.Edits.{IsEdit, IsPlanned, alone, beside, blocks_with}
+use Rattle.editor_core.specs.Made.{PiecesThere}
+use Rattle.editor_core.specs.Makes.{Making}
+use Rattle.editor_core.specs.Occurrences.{HasAll, HasIds, times_named}
+use Rattle.editor_core.specs.Studios.{IsGiven, IsHeld, IsStudio, clip_blocks, named_blocks, pin_blocks, studio_by, studio_of}
+use Rattle.editor_core.proofs.Bounds.{few_more}
+use Rattle.editor_core.proofs.Contained.{among_all, contained}
+use Rattle.editor_core.proofs.Editing.{counts_named}
+use Rattle.editor_core.proofs.Flights.{IsCommit, Matches}
+use Rattle.editor_core.proofs.Lengths.{record_most}
+use Rattle.editor_core.proofs.Lists.{all_left, all_so}
+use Rattle.editor_core.proofs.MadeCommits.{has_made}
+use Rattle.editor_core.proofs.MadeStudios.{IsNewId, are_made, made_held, made_studio, refs, refs_ids}
+use Rattle.editor_core.proofs.Meanings.{same_by}
+use Rattle.editor_core.proofs.Recorded.{all_recorded, blocks_recorded, recorded_few, recorded_depth, recorded_current, tag_here}
+use Rattle.editor_core.proofs.Staying.{HasMade}
+use Rattle.editor_core.proofs.Supposed.{old_same, supposed, supposed_written}
+use Rattle.editor_core.proofs.Times.{Few}
+use Rattle.editor_core.proofs.Tracks.{current_is}
+
+-- ---- pieces of blocks that are there, and ids that are counted
+
+pieces_all : (files : Files) (xs : List BlockRef) (n : ℕ) (ps : List Piece) → AllWhole files xs → AllFrom xs n ps → AllThere files ps
+pieces_all files xs n [] whole from = tt
+pieces_all files xs n (Old b lo hi ∷ ps) whole from = (contained (IsWhole files) xs b whole from.0, pieces_all files xs n ps whole from.1)
+pieces_all files xs n (Scaled b lo hi gain ∷ ps) whole from = (contained (IsWhole files) xs b whole from.0, pieces_all files xs n ps whole from.1)
+pieces_all files xs n (Zero len ∷ ps) whole from = (tt, pieces_all files xs n ps whole from.1)
+pieces_all files xs n (Given lo hi ∷ ps) whole from = (tt, pieces_all files xs n ps whole from.1)
+
+makes_all : (files : Files) (xs : List BlockRef) (n : ℕ) (bs : List NewBlock) → AllWhole files xs → AllNewFrom xs n bs → PiecesThere files bs
+makes_all files xs n [] whole from = tt
+makes_all files xs n (b ∷ bs) whole from = (pieces_all files xs n b.pieces whole from.0, makes_all files xs n bs whole from.1)
+
+some_count : (o : Option ℕ) → 0 < occurrences o → IsSome o
+some_count None h = absurd (omega (arith, h))
+some_count (Some n) h = refl
+
+abbrev IsCounted : Counts → BlockRef → Type 0
+IsCounted counts b = IsSome (counts b.id)
+
+counted_there : (counts : Counts) (bs : List BlockRef) → ((id : ℕ) → times_named id bs ≤ occurrences (counts id)) → AllByRecursion (IsCounted counts) bs
+counted_there counts [] h = tt
+counted_there counts (b ∷ bs) h = (
+  ⊎_elim (λ (same : _). some_count (counts b.id) (omega (arith, h b.id, ap {B = ℕ} (λ t. if t then 1 else 0) same.0))) (λ other. absurd (other.1 refl)) (eqb_tells b.id b.id),
+  counted_there counts bs (λ id. omega (arith, h id)),
+)
+
+there_of : (counts : Counts) (bs : List BlockRef) → AllByRecursion (IsCounted counts) bs → HasIds counts bs
+there_of counts [] all id some = absurd (omega (arith, some))
+there_of counts (b ∷ bs) all id some = ⊎_elim
+    (λ same. subst (λ (n : ℕ). IsSome (counts n)) same.1 all.0)
+    (λ other. there_of counts bs all.1 id (omega (arith, some, ap {B = ℕ} (λ t. if t then 1 else 0) other.0)))
+    (eqb_tells b.id id)
+
+module _ {D : Type 0} (disk : Ghosts D) (s : Core D) (is : IsStudio disk s) (going : s.stopped ≡ None) (given : brings.Given) (makes : List NewBlock)
+    (tag tracks : ℕ) (point : List Track) (clip : Option (List (List Item))) (plan : IsPlanned s given makes tag tracks point clip) where
+  abbrev n : ℕ
+  n = length makes
+
+  abbrev made : List BlockRef
+  made = refs makes
+
+  abbrev track_then : ℕ
+  track_then = s.next_track + tracks
+
+  abbrev pub edit_body : Body
+  edit_body = Edit tag (s.next_block + n) track_then point
+
+  abbrev pub edit_history : History (List Track)
+  edit_history = recorded s.history point tag
+
+  abbrev len : ℕ
+  len = length (spelling edit_body)
+
+  pub pieces_there : IsHeld disk s → PiecesThere (disk.reads s.store) makes
+  pieces_there held = makes_all (disk.reads s.store) (named_blocks s) (brought_count given) makes held.whole plan.origin
+
+  -- ---- the counts have room for what is named
+
+  module _ (mid : Core D) (making : Making disk s given n makes mid) (fits : s.next_block + n ≤ 2 ^ 62) where
+    mid_is : IsStudio disk mid
+    mid_is = made_studio disk s is given makes n mid making going (omega arith) plan.new fits pieces_there
+
+    every_counted : AllByRecursion (IsCounted mid.counts) (blocks_with s makes)
+    every_counted =
+        let old = counted_there mid.counts (named_blocks s) (λ id. omega (arith, making.ledger.counts id, is.counted id)) in
+        let new = all_so (λ (b : BlockRef). IsNewId s.next_block n b.id) (IsCounted mid.counts) (λ b k. (making.ledger.ids b.id).1 (inr k)) made (refs_ids s.block_size s.next_block makes plan.new) in
+        all_append (IsCounted mid.counts) (named_blocks s) made old new
+
+    pub point_named : HasAll mid.counts (history_blocks s.history)
+    point_named = subst (λ (z : Core D). HasAll mid.counts (history_blocks z.history)) making.is (counts_named disk mid mid_is)
+
+    pub point_there : HasIds mid.counts (point_blocks point)
+    point_there = there_of mid.counts (point_blocks point) (among_all (IsCounted mid.counts) (blocks_with s makes) (point_blocks point) plan.names every_counted)
+
+    pub clip_there : HasIds mid.counts (clip_blocks clip)
+    clip_there = there_of mid.counts (clip_blocks clip) (among_all (IsCounted mid.counts) (blocks_with s makes) (clip_blocks clip) plan.clip_names every_counted)
+
+    pub point_few : Few mid.counts (point_blocks point)
+    point_few =
+        few_more disk mid mid_is point track_then
+        (subst (λ (z : Core D). IsSoundPoint z.block_size z.next_block track_then point) (sym making.is) plan.sound)
+
+  -- ---- what it means
+
+  module _ (c : Call) (sound : SoundMove) (edit : IsEdit disk s c sound tracks given makes edit_history clip) where
+    abbrev t : model.Studio
+    t = studio_of disk s
+
+    -- the studio, where the blocks have these samples
+    abbrev by : (ℕ → ℕ → ℤ) → model.Studio
+    by block = studio_by (alone block) disk s
+
+    abbrev project_then : model.Studio → Project
+    project_then u = current (after (outside u sound) u.state c)
+
+    then_meant : (block : ℕ → ℕ → ℤ) → AreWritten (beside block (brought given)) makes → project_then (by block) ≡ meant (alone block) point
+    then_meant block written =
+        ap current (edit.means block written) ∙ current_is (alone block) edit_history
+        ∙ ap (meant (alone block)) (recorded_current s.history point tag is.format.depth_least)
+
+    short_by : (block : ℕ → ℕ → ℤ) → AreWritten (beside block (brought given)) makes → len ≤ project_body_most s.block_size (project_then (by block))
+    short_by block written =
+        subst (λ (q : Project). len ≤ project_body_most s.block_size q) (sym (then_meant block written))
+        (record_most s.block_size (s.next_block + n) track_then (alone block) tag (s.next_block + n) track_then point (omega (arith, is.format.block_least)) plan.sound)
+
+    -- The record is as short as the call needs, also where the blocks are not made: it does not hang on samples.
+    short : len ≤ project_body_most s.block_size (project_then t)
+    short =
+        let old = samples_on (disk.reads s.store) in
+        let new = supposed old (brought given) s.next_block makes in
+        let below = all_so (λ (b : BlockRef). IsGiven s.next_block b.id) (λ (b : BlockRef). b.id < s.next_block) (λ b h. h.1) (named_blocks s) is.ids in
+        let written = supposed_written old (brought given) s.next_block makes (named_blocks s) below (brought_count given) s.block_size plan.new plan.origin in
+        let same = same_by old new disk s
+        (all_so (λ (b : BlockRef). b.id < s.next_block) (λ (b : BlockRef). new b.id ≡ old b.id) (λ b low. old_same old (brought given) s.next_block makes b.id low) (named_blocks s) below) in
+        subst (λ (u : model.Studio). len ≤ project_body_most s.block_size (project_then u)) same (short_by new written)
+
+    pub edit_needs : (k : ℕ) → k ≤ n → Needs (outside t sound) t c k len
+    edit_needs k le = edit.call.needs (outside t sound) t k len (omega (arith, le, edit.few (samples_on (disk.reads s.store))), short)
+
+    pub edit_own : call_tests (outside t sound) t.state c ≡ None
+    edit_own = edit.own (samples_on (disk.reads s.store))
+
+    -- ---- blocks that were made
+
+    module _ (store : D) (counts : Counts) where
+      abbrev pub grown : Core D
+      grown = record s { store = store; counts = counts; next_block = s.next_block + n }
+
+      module _ (making : Making disk s given n makes grown) (most : s.next_block + n ≤ 2 ^ 62) (ids : track_then ≤ 2 ^ 62) where
+        pub grown_is : IsStudio disk grown
+        grown_is = made_studio disk s is given makes n grown making going (omega arith) plan.new most pieces_there
+
+        pub grown_held : IsHeld disk s → IsHeld disk grown
+        grown_held = made_held disk s is given makes n grown making going (omega arith) plan.new most pieces_there
+
+        pub grown_made : HasMade (IsHeld disk s) disk grown made
+        grown_made = has_made disk s is given makes going plan.new most pieces_there c sound grown making
+
+        written : IsHeld disk s → AreWritten (beside (samples_on (disk.reads store)) (brought given)) makes
+        written held =
+            let first = (are_made disk s is given makes n grown making going (omega arith) plan.new most pieces_there held).written in
+            subst (AreWritten (beside (samples_on (disk.reads store)) (brought given))) (take_all n makes (omega arith)) first
+
+        points_then : AllByRecursion (IsSoundTagged s.block_size (s.next_block + n) track_then (s.commit_number + 1)) edit_history.points
+        points_then =
+            let Here : List Track × ℕ → Type 0 = IsSoundTagged s.block_size (s.next_block + n) track_then (s.commit_number + 1) in
+            let Was : List Track × ℕ → Type 0 = IsSoundTagged s.block_size s.next_block s.next_track s.commit_number in
+            let old = all_so Was Here
+            (λ q h. tagged_more s.block_size s.next_block s.next_track s.commit_number (s.next_block + n) track_then (s.commit_number + 1) q (omega arith) (omega arith) (omega arith) h) s.history.points is.points in
+            let tags = all_so Was (λ (q : List Track × ℕ). q.1 ≤ s.commit_number) (λ q h. h.1) s.history.points is.points in
+            all_recorded s.history point tag Here old (plan.sound, omega (arith, plan.tag_given)) (plan.sound, omega (arith, tag_here s.commit_number s.history tags))
+
+        next_then : (m : ℕ) (k : Kept) → Matches grown m k → IsNext m k (spelling edit_body) edit_body
+        next_then m k e = record {
+          spelled = refl;
+          sound = record {
+            tag_number = omega (arith, plan.tag_given, is.counters.commit_most);
+            tag_given = omega (arith, plan.tag_given, e.commit);
+            block_least = omega (arith, is.counters.block_least);
+            block_most = most;
+            block_later = e.next_block;
+            track_least = omega (arith, is.counters.track_least);
+            track_most = ids;
+            track_later = omega (arith, e.next_track);
+            few = plan.sound.few;
+            rising = plan.sound.rising;
+            sound = subst (λ (b : ℕ). AllSoundTracks b (s.next_block + n) track_then point) (sym e.block_size) plan.sound.sound;
+          };
+          follows = tt;
+        }
+
+        pub move : IsCommit (IsHeld disk s) disk grown made c sound tracks edit_body edit_history clip track_then
+        move = record {
+          call = edit.call.commit;
+          gives = refl;
+          block_then = λ k. s.next_block + n;
+          block_most = λ k le. omega arith;
+          next = next_then;
+          leads = λ m k e. λ i. record { history = recorded (e.history i) point tag; next_block = s.next_block + n; next_track = track_then; commit = k.commit + 1 };
+          covers = λ P all.
+              let old = all_left P (history_blocks s.history) (pin_blocks s.pins ++ clip_blocks s.clipboard) (all_left P (named_blocks s) made all) in
+              blocks_recorded s.history point tag P old (among_all P (blocks_with s makes) (point_blocks point) plan.names all);
+          clip_covers = λ P all. among_all P (blocks_with s makes) (clip_blocks clip) plan.clip_names all;
+          clip_few = plan.clip_few;
+          clip_fits = plan.clip_fits;
+          points = points_then;
+          depth = recorded_depth s.history point tag;
+          few = recorded_few s.history point tag;
+          model = λ held. edit.means (samples_on (disk.reads store)) (written held);
+          needs = λ held.
+              edit.call.needs (outside (studio_of disk grown) sound) (studio_of disk grown) 0 len
+              (omega arith, short_by (samples_on (disk.reads store)) (written held));
+        }
+
+        pub grown_own : call_tests (outside (studio_of disk grown) sound) (studio_of disk grown).state c ≡ None
+        grown_own = edit.own (samples_on (disk.reads store))

@@ -1,0 +1,272 @@
+-- An edit that makes blocks, as one step.
+use Rattle.std.proofs.Common.{◌≡◌, ◌↔◌, inr, ⊎_elim, refl, sym, ap, ◌∙◌, subst, ℕ, ◌+◌, ◌≤◌, IsSome, Option, None, List, ◌++◌, length, Result, Ok, Err, IfErr, arith}
+use Rattle.pcm_base.specs.declared.answer.Reply.{Reply}
+use Rattle.pcm_base.specs.declared.answer.Reply.TheVariants.{Done}
+use Rattle.pcm_base.specs.declared.command.Call.{Call}
+use Rattle.pcm_base.specs.declared.entry.SoundMove.{SoundMove}
+use Rattle.pcm_base.specs.declared.refusal.Refusal.{Refusal}
+use Rattle.pcm_base.specs.declared.refusal.Refusal.TheVariants as refusal
+use Rattle.pcm_base.specs.Counters.{EditNeeds, Needs}
+use Rattle.pcm_base.specs.History.{History, recorded}
+use Rattle.pcm_base.specs.Refusals.{call_tests}
+use Rattle.pcm_base.specs.Run.{Answers, CarriesOut, followed, outside, refusal_of}
+use Rattle.pcm_base.specs.Studio as model
+use Rattle.disk_model.specs.declared.store.Store.{Ghosts}
+use Rattle.disk_model.proofs.Frames.{Fewer}
+use Rattle.block_ledger.specs.Counts.{Counts, IsFreshCount}
+use Rattle.clip_track.specs.declared.items.Item.{Item}
+use Rattle.edit_ops.specs.declared.types.NewBlock.{NewBlock}
+use Rattle.piece_store.specs.declared.given.Given as brings
+use Rattle.project_state.specs.declared.body.Body.{Body}
+use Rattle.project_state.specs.declared.body.Body.TheVariants.{Edit}
+use Rattle.project_state.specs.declared.track.Track.{Track}
+use Rattle.project_state.specs.Kept.{history_blocks}
+use Rattle.project_state.specs.Spelling.{spelling}
+use Rattle.editor_core.specs.Adding.{Adds, IsNoWant, stopped_by}
+use Rattle.editor_core.specs.Core.{Core}
+use Rattle.editor_core.specs.Edits.{Carried, Committed, IsEdit, IsPlanned, IsPrepared, NotPrepared}
+use Rattle.editor_core.specs.Makes.{Making}
+use Rattle.editor_core.specs.Studios.{IsHeld, IsStudio, clip_blocks, ids_of, pin_blocks, studio_of}
+use Rattle.editor_core.specs.Took.{Took}
+use Rattle.editor_core.proofs.Committing.{failed, failed_state}
+use Rattle.editor_core.proofs.EditLaws.{edit_needs, edit_own, grown_held, grown_is, grown_made, grown_own, move, pieces_there}
+use Rattle.editor_core.proofs.Flights.{IsCommit, IsTested}
+use Rattle.editor_core.proofs.Growing.{grown_state, grows}
+use Rattle.editor_core.proofs.MadeCommits.{composed, not_made}
+use Rattle.editor_core.proofs.MadeStudios.{made_state, refs}
+use Rattle.editor_core.proofs.Premises.{TookWhere}
+use Rattle.editor_core.proofs.Spaces.{counter_spent, exceeded, nothing}
+use Rattle.editor_core.proofs.Staying.{HasMade, refuses, wants}
+
+module _ {D : Type 0} (disk : Ghosts D) (s : Core D) (is : IsStudio disk s) (going : s.stopped ≡ None) (given : brings.Given) (makes : List NewBlock)
+    (tag tracks : ℕ) (point : List Track) (clip : Option (List (List Item))) (plan : IsPlanned s given makes tag tracks point clip)
+    (c : Call) (sound : SoundMove)
+    (edit : IsEdit disk s c sound tracks given makes (recorded s.history point tag) clip)
+    (fewer : (store : D) → Fewer disk store) where
+  abbrev n : ℕ
+  n = length makes
+
+  abbrev h : History (List Track)
+  h = recorded s.history point tag
+
+  abbrev track_then : ℕ
+  track_then = s.next_track + tracks
+
+  abbrev told_body : Body
+  told_body = Edit tag (s.next_block + n) track_then point
+
+  abbrev body : List ℕ
+  body = spelling told_body
+
+  abbrev t : model.Studio
+  t = studio_of disk s
+
+  need : (k : ℕ) → k ≤ n → Needs (outside t sound) t c k (length body)
+  need = edit_needs disk s is going given makes tag tracks point clip plan c sound edit
+
+  -- ---- before the first block
+
+  not_prepared : (why : Refusal) (new : Core D) → new ≡ s → NotPrepared s n tracks (length body) why → Took disk s c sound (Err why) 0 new
+  not_prepared why new same not =
+      let commit = edit.call.commit in
+      let own = edit_own disk s is going given makes tag tracks point clip plan c sound edit in
+      let test = refuses disk s c sound why is (fewer s.store) commit.quiet (length body) n (λ held. need n (omega arith)) in
+      let memory : Took disk s c sound (Err refusal.NoMemory) 0 s = wants disk s c sound is (fewer s.store) commit.quiet (length body) (λ held. (0, need 0 (omega arith))) in
+      subst (λ (z : Core D). Took disk s c sound (Err why) 0 z) (sym same)
+      (⊎_elim
+      (λ want. subst (λ (e : Refusal). Took disk s c sound (Err e) 0 s) (sym want) memory)
+      (⊎_elim
+      (λ spent. test (counter_spent t c sound tracks commit n (length body) is.counters.pin_most going own why spent))
+      (λ over. test (exceeded t c sound tracks commit n (length body) is.counters.pin_most going own over.0 over.1 (omega (arith, over.2)) why over.3)))
+      not)
+
+  -- ---- blocks that were made
+
+  module _ (prepared : IsPrepared s n tracks (length body)) (store : D) (counts : Counts)
+      (making : Making disk s given n makes (record s { store = store; counts = counts; next_block = s.next_block + n }))
+      (reads : disk.read_fault_count store ≡ disk.read_fault_count s.store) where
+    abbrev mid : Core D
+    mid = record s { store = store; counts = counts; next_block = s.next_block + n }
+
+    mid_is : IsStudio disk mid
+    mid_is = grown_is disk s is going given makes tag tracks point clip plan c sound edit store counts making prepared.blocks prepared.ids
+
+    mid_made : HasMade (IsHeld disk s) disk mid (refs makes)
+    mid_made = grown_made disk s is going given makes tag tracks point clip plan c sound edit store counts making prepared.blocks prepared.ids
+
+    mid_move : IsCommit (IsHeld disk s) disk mid (refs makes) c sound tracks told_body h clip track_then
+    mid_move = move disk s is going given makes tag tracks point clip plan c sound edit store counts making prepared.blocks prepared.ids
+
+    mid_own : call_tests (outside (studio_of disk mid) sound) (studio_of disk mid).state c ≡ None
+    mid_own = grown_own disk s is going given makes tag tracks point clip plan c sound edit store counts making prepared.blocks prepared.ids
+
+    -- the commit that is left, where the disk held the studio before the first block
+    mid_tested : IsTested (IsHeld disk s) disk mid (refs makes) c sound tracks told_body h clip track_then
+    mid_tested = record {
+      is = mid_is;
+      holds = grown_held disk s is going given makes tag tracks point clip plan c sound edit store counts making prepared.blocks prepared.ids;
+      has_made = mid_made;
+      move = mid_move;
+      going = going;
+      own = mid_own;
+      ids = prepared.ids;
+      number = prepared.number;
+    }
+
+    mid_state : IsHeld disk s
+        → studio_of disk mid ≡ record t { next_block = s.next_block + n; read_faults = disk.read_fault_count store }
+    mid_state =
+        made_state disk s is given makes n mid making going (omega arith) plan.new prepared.blocks
+        (pieces_there disk s is going given makes tag tracks point clip plan)
+
+    back : IsHeld disk s → (blocks len : ℕ) → Needs (outside (studio_of disk mid) sound) (studio_of disk mid) c blocks len → Needs (outside t sound) t c blocks len
+    back held blocks len needs =
+        let most = edit.most in
+        let at = edit.call.needed (outside (studio_of disk mid) sound) (studio_of disk mid) blocks len needs in
+        edit.call.needs (outside t sound) t blocks len
+        (subst (λ (u : model.Studio). EditNeeds (most u.block_size u.state) (outside u sound) u c blocks len) (mid_state held) at)
+
+    passes : refusal_of (outside t sound) t c n (length body) ≡ None
+    passes =
+        let own = edit_own disk s is going given makes tag tracks point clip plan c sound edit in
+        nothing t c sound tracks edit.call.commit n (length body) is.counters.pin_most going own prepared.blocks prepared.ids (omega (arith, prepared.number)) prepared.place prepared.short
+
+    carried_out : CarriesOut t c sound Done (followed (outside t sound) t c n (length body))
+    carried_out = record {
+      blocks = n;
+      len = length body;
+      needs = need n (omega arith);
+      passed = passes;
+      answers = edit.call.commit.done t.rate t.state;
+      is = refl;
+      heard = edit.call.commit.heard t.rate t.state;
+    }
+
+    -- the call from the studio that has the blocks is the call from the start
+    from_start : (told_as : Result Reply Refusal) (new : Core D) → TookWhere (IsHeld disk s) disk mid c sound told_as 0 new
+        → new.next_block ≡ mid.next_block → (IsHeld disk s → Answers t c sound told_as (studio_of disk new)) → Took disk s c sound told_as 0 new
+    from_start told_as new took next step =
+        composed disk s is given makes going plan.new prepared.blocks (pieces_there disk s is going given makes tag tracks point clip plan) c sound mid making
+        told_as new took next back (λ held. (length body, carried_out)) step
+
+    -- the record was not added
+    edit_failed : (new : Core D) → Adds {R = Unit {0}} disk mid body (Err refusal.DiskFault) new → Took disk s c sound (Err refusal.DiskFault) 0 new
+    edit_failed new adds =
+        let commit = edit.call.commit in
+        let here : Core D = stopped_by disk mid new.store in
+        let none : s.next_block + n + 0 ≡ s.next_block + n = omega arith in
+        let state = λ (held : IsHeld disk s).
+        failed_state mid_tested new adds held
+        ∙ (λ i. record (mid_state held i) {
+          stopped = here.stopped;
+          next_block = none i;
+          read_faults = disk.read_fault_count new.store;
+          change_faults = disk.change_fault_count new.store;
+        }) in
+        subst (λ (z : Core D). Took disk s c sound (Err refusal.DiskFault) 0 z) (sym adds.fields.0)
+        (from_start (Err refusal.DiskFault) here (failed mid_tested new adds) refl (λ held. inr (record {
+          breaks = record {
+            going = going;
+            blocks = n;
+            len = length body;
+            needs = need n (omega arith);
+            room = prepared.blocks;
+            is = state held;
+            leaves = commit.leaves t;
+          };
+          cause = inr (
+            commit.changes,
+            record {
+              stopped = refl;
+              rose = omega (arith, adds.fields.2.rose, making.change_faults);
+              later = omega (arith, adds.fields.2.later, making.change_faults);
+              reads = adds.read_faults ∙ reads;
+            },
+          );
+        })))
+
+    -- it was
+    module _ {Q : Type 0} (q : Q) (new : Core D) (adds : Adds disk mid body (Ok q) new) (h' : History (List Track)) (counts' : Counts) (next_track : ℕ)
+        (moved : h' ≡ h) (tracked : next_track ≡ track_then)
+        (counted : IsFreshCount (ids_of (history_blocks h ++ (pin_blocks s.pins ++ clip_blocks clip))) counts')
+        (files : (id : ℕ) → IsSome (counts' id) ↔ IsSome (counts id)) where
+      abbrev done : Core D
+      done = record mid {
+        store = new.store;
+        journal_end = s.journal_end + 5 + length body;
+        commit_number = s.commit_number + 1;
+        history = h';
+        clipboard = clip;
+        counts = counts';
+        next_track = next_track;
+      }
+
+      done_took : TookWhere (IsHeld disk s) disk mid c sound (Ok Done) 0 done
+      done_took = grows mid_tested q new adds h' counts' next_track moved tracked counted files
+
+      done_state : IsHeld disk s → studio_of disk done ≡ followed (outside t sound) t c n (length body)
+      done_state held =
+          let len = length body in
+          let one : studio_of disk done ≡ followed (outside (studio_of disk mid) sound) (studio_of disk mid) c 0 len =
+          grown_state mid_tested q new adds h' counts' next_track moved tracked counted files held in
+          let none : s.next_block + n + 0 ≡ s.next_block + n = omega arith in
+          one
+          ∙ (λ i. followed (outside (mid_state held i) sound) (mid_state held i) c 0 len)
+          ∙ (λ i. record (followed (outside t sound) t c n len) { next_block = none i; read_faults = reads i })
+
+      edit_done : Took disk s c sound (Ok Done) 0 (record new { history = h'; clipboard = clip; counts = counts'; next_track = next_track })
+      edit_done =
+          subst (λ (z : Core D). Took disk s c sound (Ok Done) 0 (record z { history = h'; clipboard = clip; counts = counts'; next_track = next_track })) (sym adds.fields.0)
+          (from_start (Ok Done) done done_took refl (λ held. record {
+            blocks = n;
+            len = length body;
+            needs = need n (omega arith);
+            passed = passes;
+            answers = edit.call.commit.done t.rate t.state;
+            is = done_state held;
+            heard = edit.call.commit.heard t.rate t.state;
+          }))
+
+  -- ---- all of it
+
+  -- a studio with blocks that were made, by its parts
+  made_so : (it : Core D) → Making disk s given n makes it
+      → Making disk s given n makes (record s { store = it.store; counts = it.counts; next_block = s.next_block + n })
+  made_so it making = subst (λ (z : Core D). Making disk s given n makes z) making.is making
+
+  pub edit_err : (why : Refusal) (new : Core D) → Carried disk s given makes tracks body (Err why) new → Took disk s c sound (Err why) 0 new
+  edit_err why new carried = ⊎_elim
+      (λ not. not_prepared why new not.0 not.1)
+      (⊎_elim
+      (λ some.
+      not_made disk s is given makes going plan.new some.0.blocks (pieces_there disk s is going given makes tag tracks point clip plan) c sound
+      (length body) edit.call.commit.changes (edit.call.commit.leaves t) (λ held. need) why new some.1)
+      (λ last.
+      let it = last.1 in
+      let adds = subst (λ (e : Refusal). Adds {R = Unit {0}} disk it.mid body (Err e) new) last.0 it.adds in
+      subst (λ (e : Refusal). Took disk s c sound (Err e) 0 new) (sym last.0)
+      (edit_failed it.prepared it.mid.store it.mid.counts (made_so it.mid it.making) it.reads new
+      (subst (λ (z : Core D). Adds {R = Unit {0}} disk z body (Err refusal.DiskFault) new) it.making.is adds))))
+      carried
+
+  pub edit_ok : (done : Unit {0}) (new : Core D) (it : Committed disk s given makes tracks body (Ok done) new) (h' : History (List Track)) (counts' : Counts) (next_track : ℕ)
+      → h' ≡ h → next_track ≡ track_then → IsFreshCount (ids_of (history_blocks h ++ (pin_blocks s.pins ++ clip_blocks clip))) counts'
+      → ((id : ℕ) → IsSome (counts' id) ↔ IsSome (it.mid.counts id))
+      → Took disk s c sound (Ok Done) 0 (record new { history = h'; clipboard = clip; counts = counts'; next_track = next_track })
+  edit_ok done new it h' counts' next_track moved tracked counted files =
+      edit_done it.prepared it.mid.store it.mid.counts (made_so it.mid it.making) it.reads done new
+      (subst (λ (z : Core D). Adds disk z body (Ok done) new) it.making.is it.adds) h' counts' next_track moved tracked counted files
+
+-- ---- how the code carries it out: after the first block was made nothing but the disk refuses
+
+pub carried_by : {D : Type 0} (disk : Ghosts D) (s mid new : Core D) (given : brings.Given) (makes : List NewBlock) (tracks : ℕ) (body : List ℕ) (result : Result (Unit {0}) Refusal)
+    → Making disk s given (length makes) makes mid → disk.read_fault_count mid.store ≡ disk.read_fault_count s.store → IsPrepared s (length makes) tracks (length body)
+    → Adds disk mid body result new → IfErr result IsNoWant → Carried disk s given makes tracks body result new
+carried_by disk s mid new given makes tracks body (Ok done) making reads prepared adds no_want = record { mid = mid; making = making; reads = reads; prepared = prepared; adds = adds }
+carried_by disk s mid new given makes tracks body (Err refusal.DiskFault) making reads prepared adds no_want =
+    inr (inr (refl, record { mid = mid; making = making; reads = reads; prepared = prepared; adds = adds }))
+carried_by disk s mid new given makes tracks body (Err refusal.NoMemory) making reads prepared adds no_want = absurd no_want
+carried_by disk s mid new given makes tracks body (Err (refusal.SpaceSpent have need)) making reads prepared adds no_want =
+    absurd (omega (arith, adds.fields.1, prepared.place, ap (λ (z : Core _). z.journal_end) making.is))
+carried_by disk s mid new given makes tracks body (Err (refusal.RecordLimit n)) making reads prepared adds no_want = absurd (omega (arith, adds.fields.2, prepared.short))
+carried_by disk s mid new given makes tracks body (Err why) making reads prepared adds no_want = absurd adds.fields

@@ -1,0 +1,84 @@
+-- The parts of a new project on a disk without blocks.
+use Rattle.std.proofs.Common.{◌≡◌, refl, sym, ap, subst, ℕ, ◌≤◌, IsTrue, List, [], ◌++◌, None, Some, Option, IsSome, arith}
+use Rattle.std.specs.List.{AllByRecursion}
+use Rattle.pcm_base.specs.History.{History, history_of_one}
+use Rattle.disk_model.specs.declared.store.Store.{Ghosts}
+use Rattle.sample_block.specs.Sources.{AllWhole}
+use Rattle.block_ledger.specs.Counts.{IsFreshCount, occurrences}
+use Rattle.block_ledger.specs.Entries as ledger
+use Rattle.undo_history.specs.Stored.{Stored}
+use Rattle.project_journal.specs.Header.{IsFormat, version_1}
+use Rattle.project_journal.specs.Journal.{IsAt, fresh}
+use Rattle.project_state.specs.Kept.{history_blocks, new_project}
+use Rattle.project_state.specs.KeptSound.{IsSoundTagged}
+use Rattle.project_state.specs.declared.track.Track.{Track}
+use Rattle.editor_core.specs.Parts.{AreParts, HasParts}
+use Rattle.editor_core.specs.Studios.{SameBlocks, ids_of}
+use Rattle.editor_core.specs.declared.assembly.Parts.{Parts}
+use Rattle.editor_core.proofs.Staying.{some_none}
+
+some_not : {A : Type 0} (o : Option A) → o ≡ None → IsSome o → ⊥
+some_not None none some = cc
+some_not (Some x) none some = some_none x none
+
+abbrev pub parts_of : (rate m depth : ℕ) → Stored (List Track) → ledger.Kept → Parts
+parts_of rate m depth h l = record {
+  rate = rate;
+  block_size = m;
+  history = h;
+  ledger = l;
+  next_block = 16;
+  next_track = 1;
+  commit_number = 0;
+  journal_end = 32;
+}
+
+module _ (rate m depth : ℕ) (h : Stored (List Track)) (l : ledger.Kept) (is : h.history ≡ history_of_one [] 0 depth)
+    (none : (id : ℕ) → ledger.count_of l id ≡ None) where
+  pub fresh_parts : IsFormat rate m depth → AreParts (parts_of rate m depth h l)
+  fresh_parts format = record {
+    format = subst (λ (z : History (List Track)). IsFormat rate m z.depth) (sym is) format;
+    counters = record {
+      block_least = omega arith;
+      block_most = omega arith;
+      track_least = omega arith;
+      track_most = omega arith;
+      pin_least = omega arith;
+      pin_most = omega arith;
+      commit_most = omega arith;
+      end_most = omega arith;
+    };
+    points = subst (λ (z : History (List Track)). AllByRecursion (IsSoundTagged m 16 1 0) z.points) (sym is)
+        ((record { few = omega arith; rising = tt; sound = tt }, omega arith), tt);
+    counted =
+        subst (λ (z : History (List Track)). IsFreshCount (ids_of (history_blocks z)) (ledger.count_of l)) (sym is)
+        (λ id. ap occurrences (none id));
+    given = λ id some. absurd (some_not (ledger.count_of l id) (none id) some);
+  }
+
+  -- a disk with the journal of a new project, and no block
+  pub fresh_has : {D : Type 0} (disk : Ghosts D) (store : D) → IsTrue (disk.tells store)
+      → IsAt version_1 disk store 32 (fresh rate m depth) → ((id : ℕ) → 16 ≤ id → disk.reads store id ≡ None)
+      → HasParts disk store (parts_of rate m depth h l)
+  fresh_has disk store tells at absent = record {
+    tells = tells;
+    whole = subst (λ (z : History (List Track)). AllWhole (disk.reads store) (history_blocks z)) (sym is) tt;
+    durable = record {
+      log = fresh rate m depth;
+      kept = new_project depth;
+      there = at;
+      told = refl;
+      rate = refl;
+      block_size = refl;
+      history = sym is;
+      next_block = omega arith;
+      next_track = refl;
+      commit = refl;
+      blocks = λ x now.
+          subst (λ (z : History (List Track)). SameBlocks (history_blocks z ++ []) (disk.reads store) x) (sym is) tt;
+      files = λ id least most. (
+        λ some. absurd (some_not (ledger.count_of l id) (none id) some),
+        λ some. absurd (some_not (disk.reads store id) (absent id least) some),
+      );
+    };
+  }

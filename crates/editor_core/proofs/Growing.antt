@@ -1,0 +1,259 @@
+-- A commit whose record was added: then the studio has another history.
+use Rattle.std.proofs.Common.{◌≡◌, ◌↔◌, sym, ap, ◌∙◌, subst, ℕ, ◌+◌, ◌-◌, ◌^◌, ◌≤◌, ◌<◌, IsTrue, List, ◌∷◌, [], ◌++◌, length, Option, None, IsSome, Ok, arith, if◌then◌else◌, ◌==◌}
+use Rattle.std.specs.List.{AllByRecursion}
+use Rattle.pcm_base.specs.declared.answer.Reply.TheVariants.{Done}
+use Rattle.pcm_base.specs.declared.block.BlockRef.{BlockRef}
+use Rattle.pcm_base.specs.declared.command.Call.{Call}
+use Rattle.pcm_base.specs.declared.entry.SoundMove.{SoundMove}
+use Rattle.pcm_base.specs.Counters.{record_bytes}
+use Rattle.pcm_base.specs.History.{History}
+use Rattle.pcm_base.specs.Outside.{Outside}
+use Rattle.pcm_base.specs.Refusals.{call_tests}
+use Rattle.pcm_base.specs.Run.{followed, outside}
+use Rattle.pcm_base.specs.Step.{after}
+use Rattle.pcm_base.specs.Studio as model
+use Rattle.disk_model.specs.declared.store.Store.{Ghosts}
+use Rattle.disk_model.proofs.Frames.{changed_wider}
+use Rattle.sample_block.specs.Sources.{IsWhole}
+use Rattle.block_ledger.specs.Counts.{Counts, IsFreshCount, times}
+use Rattle.clip_track.specs.declared.items.Item.{Item}
+use Rattle.project_journal.specs.Header.{version_1, IsFormat}
+use Rattle.project_journal.specs.Journal.{IsAt, with_body}
+use Rattle.project_state.specs.declared.body.Body.{Body}
+use Rattle.project_state.specs.declared.track.Track.{Track}
+use Rattle.project_state.specs.Kept.{Kept, new_project, LeadTo, meant_history, history_blocks}
+use Rattle.project_state.specs.KeptSound.{IsSoundPoint, IsSoundTagged}
+use Rattle.project_state.specs.Spelling.{spelling}
+use Rattle.project_state.proofs.KeptBounds.{all_append, tagged_more}
+use Rattle.editor_core.specs.Adding.{Adds}
+use Rattle.editor_core.specs.Core.{Core}
+use Rattle.editor_core.specs.Studios.{IsGiven, IsDurable, IsHeld, IsStudio, clip_blocks, clip_cells, ids_of, named_blocks, pin_blocks, studio_by, studio_of}
+use Rattle.editor_core.specs.Took.{Took}
+use Rattle.editor_core.specs.declared.studio.Pin.{Pin}
+use Rattle.editor_core.proofs.Flights.{IsCommit, IsTested, every_ids, flight, images_still, matches, passes, whole_still}
+use Rattle.editor_core.proofs.Images.{keeps_now}
+use Rattle.editor_core.proofs.Leading.{lead_more}
+use Rattle.editor_core.proofs.Lists.{all_left, all_right, all_so}
+use Rattle.editor_core.proofs.Premises.{TookWhere, took_so}
+use Rattle.editor_core.proofs.Sounds.{sources_elsewhere}
+use Rattle.editor_core.proofs.Staying.{HasMade, record_within, stopped_not}
+
+module _ {D : Type 0} {Has : Type 0} {disk : Ghosts D} {s : Core D} {made : List BlockRef} {c : Call}
+    {sound : SoundMove} {tracks : ℕ} {body : Body} {h : History (List Track)} {clip : Option (List (List Item))}
+    {track_then : ℕ} (t : IsTested Has disk s made c sound tracks body h clip track_then) where
+  abbrev before : model.Studio
+  before = studio_of disk s
+
+  abbrev out : Outside
+  out = outside before sound
+
+  abbrev len : ℕ
+  len = length (spelling body)
+
+  -- the pins and the clipboard behind it
+  abbrev rest_then : List BlockRef
+  rest_then = pin_blocks s.pins ++ clip_blocks clip
+
+  named_too : (P : BlockRef → Type 0) → AllByRecursion P (named_blocks s ++ made)
+      → AllByRecursion P (history_blocks h ++ rest_then)
+  named_too P all =
+      let pins = pin_blocks s.pins in
+      let rest =
+      all_right P (history_blocks s.history) (pins ++ clip_blocks s.clipboard) (all_left P (named_blocks s) made all) in
+      all_append P (history_blocks h) rest_then (t.move.covers P all)
+      (all_append P pins (clip_blocks clip) (all_left P pins (clip_blocks s.clipboard) rest) (t.move.clip_covers P all))
+
+  module _ {Q : Type 0} (q : Q) (mid : Core D) (adds : Adds disk s (spelling body) (Ok q) mid)
+      (h' : History (List Track)) (counts : Counts) (next_track : ℕ) (moved : h' ≡ h)
+      (tracked : next_track ≡ track_then)
+      (counted : IsFreshCount (ids_of (history_blocks h ++ rest_then)) counts)
+      (files : (id : ℕ) → IsSome (counts id) ↔ IsSome (s.counts id)) where
+    abbrev pub grown : Core D
+    grown = record s {
+      store = mid.store;
+      journal_end = s.journal_end + 5 + len;
+      commit_number = s.commit_number + 1;
+      history = h';
+      clipboard = clip;
+      counts = counts;
+      next_track = next_track;
+    }
+
+    grown_named : (P : BlockRef → Type 0) → AllByRecursion P (named_blocks s ++ made)
+        → AllByRecursion P (named_blocks grown)
+    grown_named P all =
+        subst (λ (z : History (List Track)). AllByRecursion P (history_blocks z ++ rest_then)) (sym moved)
+        (named_too P all)
+
+    grown_end : mid.journal_end ≡ s.journal_end + 5 + len
+    grown_end = ap (λ (z : Core D). z.journal_end) adds.fields.0
+
+    grown_durable : Has → IsDurable disk grown
+    grown_durable has =
+        let d = (t.holds has).durable t.going in
+        let m = d.log.block_size in
+        let k : Kept = record d.kept {
+          history = h;
+          next_block = t.move.block_then d.kept.next_block;
+          next_track = track_then;
+          commit = d.kept.commit + 1;
+        } in
+        let log = with_body d.log (spelling body) in
+        let led =
+        lead_more m (new_project d.log.depth) d.kept d.log.bodies (spelling body) body d.told
+        (t.move.next m d.kept (matches t d)) in
+        let reads = disk.reads s.store in record {
+          log = log;
+          kept = k;
+          there =
+              subst (λ (n : ℕ). IsAt version_1 disk mid.store n log) grown_end (adds.done d.log (t.holds has).tells d.there);
+          told = subst (λ (z : Kept). LeadTo m (new_project d.log.depth) (d.log.bodies ++ spelling body ∷ []) z)
+              (t.move.leads m d.kept (matches t d)) led;
+          rate = d.rate;
+          block_size = d.block_size;
+          history = sym moved;
+          next_block = t.move.block_most d.kept.next_block d.next_block;
+          next_track = sym tracked;
+          commit = ap (λ (n : ℕ). n + 1) d.commit;
+          blocks = λ x now.
+              grown_named (λ b. x b.id ≡ disk.reads mid.store b.id)
+              (images_still t (Ok q) mid adds has x now);
+          files = λ id least most.
+              let was = d.files id least most in
+              let same : disk.reads mid.store id ≡ reads id =
+              adds.changed.reads (t.holds has).tells id (λ e. absurd (omega (arith, e, least))) in (
+                λ have. subst IsSome (sym same) (was.0 ((files id).0 have)),
+                λ there. (files id).1 (was.1 (subst IsSome same there)),
+              );
+        }
+
+    grown_held : Has → IsHeld disk grown
+    grown_held has = record {
+      tells = subst IsTrue (sym adds.changed.tells) (t.holds has).tells;
+      whole = grown_named (IsWhole (disk.reads mid.store)) (whole_still t (Ok q) mid adds has);
+      durable = λ still. grown_durable has;
+    }
+
+    grown_points : AllByRecursion (IsSoundTagged s.block_size s.next_block next_track (s.commit_number + 1)) h'.points
+    grown_points =
+        subst (λ (n : ℕ). AllByRecursion (IsSoundTagged s.block_size s.next_block n (s.commit_number + 1)) h'.points)
+        (sym tracked)
+        (subst
+        (λ (z : History (List Track)). AllByRecursion
+        (IsSoundTagged s.block_size s.next_block track_then (s.commit_number + 1)) z.points)
+        (sym moved) t.move.points)
+
+    -- tracks that pins have were given before
+    pin_later : (p : Pin) → IsSoundPoint s.block_size s.next_block s.next_track p.point
+        → IsSoundPoint s.block_size s.next_block next_track p.point
+    pin_later p sound =
+        (tagged_more s.block_size s.next_block s.next_track 0 s.next_block next_track 0 (p.point, 0) (omega arith)
+        (omega (arith, tracked, t.move.gives)) (omega arith) (sound, omega arith)).0
+
+    grown_studio : IsStudio disk grown
+    grown_studio = record {
+      format = subst (λ (n : ℕ). IsFormat s.rate s.block_size n)
+          (sym (ap (λ (z : History (List Track)). z.depth) moved ∙ t.move.depth)) t.is.format;
+      counters = record {
+        block_least = t.is.counters.block_least;
+        block_most = t.is.counters.block_most;
+        track_least = omega (arith, t.is.counters.track_least, tracked, t.move.gives);
+        track_most = omega (arith, tracked, t.move.gives, t.ids);
+        pin_least = t.is.counters.pin_least;
+        pin_most = t.is.counters.pin_most;
+        commit_most = omega (arith, t.number);
+        end_most = omega (arith, adds.fields.1);
+      };
+      few_points = subst (λ (z : History (List Track)). length z.points ≤ z.depth) (sym moved) t.move.few;
+      few_clips = t.move.clip_few;
+      points = grown_points;
+      pins = all_so (λ (p : Pin). IsSoundPoint s.block_size s.next_block s.next_track p.point)
+          (λ (p : Pin). IsSoundPoint s.block_size s.next_block next_track p.point) pin_later s.pins t.is.pins;
+      numbers = t.is.numbers;
+      clipboard = t.move.clip_fits;
+      ids = grown_named (λ (b : BlockRef). IsGiven s.next_block b.id) (every_ids t);
+      counted = λ id.
+          counted id ∙ ap (λ (z : History (List Track)). times id (ids_of (history_blocks z ++ rest_then))) (sym moved);
+      given = λ id some. t.is.given id ((files id).0 some);
+    }
+
+    pub grown_state : Has → studio_of disk grown ≡ followed out before c 0 len
+    grown_state has =
+        let src = sources_elsewhere (disk.reads s.store) (disk.reads mid.store) (adds.changed.reads (t.holds has).tells) in
+        let state : (studio_of disk grown).state ≡ after out before.state c =
+        (λ i. record (studio_by (src i) disk s).state {
+          history = meant_history (src i) (moved i);
+          clipboard = clip_cells (src i) clip;
+          next_track = tracked i;
+          commit = s.commit_number + 1;
+        }) ∙ sym (t.move.model has) in
+        let none : s.next_block ≡ s.next_block + 0 = omega arith in
+        let end : s.journal_end + 5 + len ≡ s.journal_end + record_bytes c len =
+        omega arith ∙ ap (λ (k : ℕ). s.journal_end + (if k == 0 then 0 else 5 + len)) (sym t.move.call.one) in
+        λ i. record before {
+          state = state i;
+          next_block = none i;
+          journal_end = end i;
+          read_faults = adds.read_faults i;
+          change_faults = adds.fields.2 i;
+        }
+
+    pub grows : TookWhere Has disk s c sound (Ok Done) 0 grown
+    grows = record {
+      studio = grown_studio;
+      held = grown_held;
+      step = λ has. record {
+        blocks = 0;
+        len = len;
+        needs = t.move.needs has;
+        passed = passes t adds.fields.1 adds.fields.3;
+        answers = t.move.call.done before.rate before.state;
+        is = grown_state has;
+        heard = t.move.call.heard before.rate before.state;
+      };
+      any_moment = λ _ has. flight t (Ok q) mid adds has adds.fields.1 adds.fields.3;
+      refused = λ _ has still. tt;
+      now = λ still has. keeps_now disk grown still (grown_held has);
+      number = ap (λ (k : ℕ). s.commit_number + k) (sym t.move.call.one);
+      rests = λ some. absurd (stopped_not s.stopped some t.going);
+      len = len;
+      needs = λ has. (0, t.move.needs has);
+      changed =
+          changed_wider (λ d x w. tt) (record_within s.block_size (s.next_block - s.next_block) len 0) adds.changed;
+    }
+
+-- ---- of a studio that the disk holds
+module _ {D : Type 0} (disk : Ghosts D) (s : Core D) (made : List BlockRef) (c : Call) (sound : SoundMove) (tracks : ℕ)
+    (body : Body) (h : History (List Track)) (clip : Option (List (List Item))) (track_then : ℕ) (is : IsStudio disk s)
+    (has_made : HasMade (IsHeld disk s) disk s made)
+    (move : IsCommit (IsHeld disk s) disk s made c sound tracks body h clip track_then)
+    (going : s.stopped ≡ None) (own : call_tests (outside (studio_of disk s) sound) (studio_of disk s).state c ≡ None)
+    (ids : s.next_track + tracks ≤ 2 ^ 62) (number : s.commit_number < 2 ^ 62) where
+  tested : IsTested (IsHeld disk s) disk s made c sound tracks body h clip track_then
+  tested = record {
+    is = is;
+    holds = λ held. held;
+    has_made = has_made;
+    move = move;
+    going = going;
+    own = own;
+    ids = ids;
+    number = number;
+  }
+
+  module _ {Q : Type 0} (q : Q) (mid : Core D) (adds : Adds disk s (spelling body) (Ok q) mid)
+      (h' : History (List Track)) (counts : Counts) (next_track : ℕ) (moved : h' ≡ h)
+      (tracked : next_track ≡ track_then)
+      (counted : IsFreshCount (ids_of (history_blocks h ++ (pin_blocks s.pins ++ clip_blocks clip))) counts)
+      (files : (id : ℕ) → IsSome (counts id) ↔ IsSome (s.counts id)) where
+    abbrev Leaves : Core D → Type 0
+    Leaves z =
+        Took disk s c sound (Ok Done) 0
+        (record z { history = h'; clipboard = clip; counts = counts; next_track = next_track })
+
+    -- the studio that the code leaves
+    pub grows_so : Leaves mid
+    grows_so =
+        subst Leaves (sym adds.fields.0)
+        (took_so disk s c sound (Ok Done) 0 (grown tested q mid adds h' counts next_track moved tracked counted files)
+        (grows tested q mid adds h' counts next_track moved tracked counted files))

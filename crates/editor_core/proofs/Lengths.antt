@@ -1,0 +1,26 @@
+-- A record of a sound point is as short as its project asks.
+use Rattle.std.proofs.Common.{ℕ, ◌≤◌, ◌<◌, List, [], ◌∷◌, length, arith}
+use Rattle.pcm_base.specs.Pieces.{Sources}
+use Rattle.pcm_base.specs.Sizes.{project_body_most}
+use Rattle.project_state.specs.declared.body.Body.TheVariants.{Edit}
+use Rattle.project_state.specs.declared.track.Track.{Track}
+use Rattle.project_state.specs.Kept.{meant}
+use Rattle.project_state.specs.KeptSound.{IsSoundPoint}
+use Rattle.project_state.specs.Lengths.{AreHalfFull, AreLayouts}
+use Rattle.project_state.specs.Sound.{AllSoundTracks}
+use Rattle.project_state.specs.Spelling.{spelling}
+use Rattle.project_state.proofs.Lengths.{tracks_short}
+
+module _ (m next_block next_track : ℕ) where
+  layouts_of : (ts : List Track) → AllSoundTracks m next_block next_track ts → AreLayouts ts
+  layouts_of [] all = tt
+  layouts_of (t ∷ ts) all = (all.0.layout, layouts_of ts all.1)
+
+  half_full_of : (ts : List Track) → AllSoundTracks m next_block next_track ts → AreHalfFull m ts
+  half_full_of [] all = tt
+  half_full_of (t ∷ ts) all = (all.0.half_full, half_full_of ts all.1)
+
+  pub record_most : (src : Sources) (tag block_then track_then : ℕ) (ts : List Track) → 0 < m → IsSoundPoint m next_block next_track ts
+      → length (spelling (Edit tag block_then track_then ts)) ≤ project_body_most m (meant src ts)
+  record_most src tag block_then track_then ts some is =
+      omega (arith, tracks_short src m ts some is.few (layouts_of ts is.sound) (half_full_of ts is.sound))

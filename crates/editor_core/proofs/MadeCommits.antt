@@ -1,0 +1,288 @@
+-- A commit behind blocks that were made for it, and a making that failed.
+use Rattle.std.proofs.Common.{◌≡◌, inl, inr, ⊎_elim, refl, sym, ap, ◌∙◌, subst, ℕ, ◌+◌, ◌-◌, ◌^◌, ◌≤◌, IsTrue, None, List, length, Result, Ok, Err, OnErr, arith}
+use Rattle.std.specs.List.{AllByRecursion}
+use Rattle.std.proofs.lemmas.List.{take_all}
+use Rattle.pcm_base.specs.declared.answer.Reply.{Reply}
+use Rattle.pcm_base.specs.declared.answer.Reply.TheVariants.{Done}
+use Rattle.pcm_base.specs.declared.block.BlockRef.{BlockRef}
+use Rattle.pcm_base.specs.declared.command.Call.{Call}
+use Rattle.pcm_base.specs.declared.entry.SoundMove.{SoundMove}
+use Rattle.pcm_base.specs.declared.refusal.Refusal.{Refusal}
+use Rattle.pcm_base.specs.declared.refusal.Refusal.TheVariants as refusal
+use Rattle.pcm_base.specs.Counters.{Needs}
+use Rattle.pcm_base.specs.Run.{Answers, CarriesOut, Leaves, followed, may_change, outside}
+use Rattle.pcm_base.specs.Studio as model
+use Rattle.disk_model.specs.Disk.{Files}
+use Rattle.disk_model.specs.Frames.{Changed}
+use Rattle.disk_model.specs.Room.{together}
+use Rattle.disk_model.specs.declared.store.Store.{Ghosts}
+use Rattle.disk_model.proofs.Frames.{changed_turn, changed_wider}
+use Rattle.disk_model.proofs.Moments.{each_on}
+use Rattle.sample_block.specs.Sources.{IsWhole}
+use Rattle.sample_block.specs.Spelling.{size_of}
+use Rattle.project_journal.specs.Gate.{EachSince}
+use Rattle.project_state.specs.Kept.{Keeps}
+use Rattle.edit_ops.specs.declared.types.NewBlock.{NewBlock}
+use Rattle.edit_ops.specs.Plans.{AreNew, ref_of}
+use Rattle.piece_store.specs.declared.given.Given.{Given}
+use Rattle.editor_core.specs.Adding.{stopped_by}
+use Rattle.editor_core.specs.Core.{Core}
+use Rattle.editor_core.specs.Made.{PiecesThere, SameOutside}
+use Rattle.editor_core.specs.Makes.{HasMissed, Making, Stuck, Unput, Unread, made_room}
+use Rattle.editor_core.specs.Studios.{IsGiven, IsHeld, IsStudio, named_blocks, shown, studio_of}
+use Rattle.editor_core.specs.Took.{KeepsOneOf, Took, number_behind}
+use Rattle.editor_core.proofs.Images.{keeps_now}
+use Rattle.editor_core.proofs.Lists.{all_so}
+use Rattle.editor_core.proofs.Makings.{making_unread, making_next, making_size, outside_then}
+use Rattle.editor_core.proofs.MadeRooms.{within_last, within_some, within_then}
+use Rattle.editor_core.proofs.MadeStudios.{IsNewId, are_made, below_same, image_same, keeps_outside, made_held, made_state, made_studio, refs, refs_all, refs_ids, with_held, with_store}
+use Rattle.editor_core.proofs.Meanings.{same_studio}
+use Rattle.editor_core.proofs.Premises.{TookWhere}
+use Rattle.editor_core.proofs.Staying.{HasMade, some_none, stopped_not}
+
+on_err : {R E : Type 0} (result : Result R E) (P Q : Type 0) → (P → Q) → OnErr result P → OnErr result Q
+on_err (Ok r) P Q f h = tt
+on_err (Err e) P Q f h = f h
+
+module _ {D : Type 0} (disk : Ghosts D) (s : Core D) (is : IsStudio disk s) (given : Given) (makes : List NewBlock) (going : s.stopped ≡ None)
+    (fresh : AreNew s.block_size s.next_block makes) (most : s.next_block + length makes ≤ 2 ^ 62)
+    (there : IsHeld disk s → PiecesThere (disk.reads s.store) makes) (c : Call) (sound : SoundMove) where
+  abbrev n : ℕ
+  n = length makes
+
+  abbrev t : model.Studio
+  t = studio_of disk s
+
+  -- ---- all are made
+
+  module _ (mid : Core D) (making : Making disk s given n makes mid) where
+    mid_going : mid.stopped ≡ None
+    mid_going = ap (λ (z : Core D). z.stopped) making.is ∙ going
+
+    mid_state : IsHeld disk s
+        → studio_of disk mid ≡ record t { next_block = s.next_block + n; read_faults = disk.read_fault_count mid.store }
+    mid_state = made_state disk s is given makes n mid making going (omega arith) fresh most there
+
+    pub has_made : HasMade (IsHeld disk s) disk mid (refs makes)
+    has_made =
+        let next = making_next disk s given makes n mid making in
+        let ids = refs_ids s.block_size s.next_block makes fresh in
+        let reads = disk.reads mid.store in record {
+          ids = all_so (λ (b : BlockRef). IsNewId s.next_block n b.id) (λ (b : BlockRef). IsGiven mid.next_block b.id)
+              (λ b h. (omega (arith, h.0, is.counters.block_least), omega (arith, h.1, next))) (refs makes) ids;
+          whole = λ held.
+              let made = are_made disk s is given makes n mid making going (omega arith) fresh most there held in
+              let whole = subst (λ (bs : List NewBlock). AllByRecursion (λ b. IsWhole reads (ref_of b)) bs) (take_all n makes (omega arith)) made.whole in
+              refs_all (IsWhole reads) makes whole;
+          same = λ held x left.
+              let image = image_same disk s is given makes n mid making going (omega arith) fresh most there held x left in
+              all_so (λ (b : BlockRef). IsNewId s.next_block n b.id) (λ b. x b.id ≡ reads b.id) (λ b h. image b.id h.0 h.1) (refs makes) ids;
+        }
+
+    -- what opening finds in between is what it finds before, and the call carried out is the same from both
+    shown_mid : IsHeld disk s → shown (studio_of disk mid) ≡ shown t
+    shown_mid held = let same = mid_state held in λ i. shown (same i)
+
+    in_flight : (len : ℕ) → CarriesOut t c sound Done (followed (outside t sound) t c n len) → IsHeld disk s
+        → (x : Files) → KeepsOneOf (studio_of disk mid) c sound x → KeepsOneOf t c sound x
+    in_flight len carried held x keeps = ⊎_elim
+        (λ old. inl (subst (Keeps x) (shown_mid held) old))
+        (λ new.
+        let same = mid_state held in
+        let one : shown new.after ≡ shown (followed (outside (studio_of disk mid) sound) (studio_of disk mid) c 0 0) = λ i. shown (new.carried.is i) in
+        let two : shown (followed (outside (studio_of disk mid) sound) (studio_of disk mid) c 0 0) ≡ shown (followed (outside t sound) t c n len) =
+        λ i. shown (followed (outside (same i) sound) (same i) c 0 0) in
+        inr (record { reply = Done; after = followed (outside t sound) t c n len; carried = carried; keeps = subst (Keeps x) (one ∙ two) new.keeps }))
+        keeps
+
+    pub composed : (told_as : Result Reply Refusal) (new : Core D)
+        → TookWhere (IsHeld disk s) disk mid c sound told_as 0 new → new.next_block ≡ mid.next_block
+        → (IsHeld disk s → (blocks len : ℕ) → Needs (outside (studio_of disk mid) sound) (studio_of disk mid) c blocks len
+        → Needs (outside t sound) t c blocks len)
+        → (IsHeld disk s → (len : ℕ) × CarriesOut t c sound Done (followed (outside t sound) t c n len))
+        → (IsHeld disk s → Answers t c sound told_as (studio_of disk new)) → Took disk s c sound told_as 0 new
+    composed told_as new took next back carried step =
+        let images = making.changed.images in
+        let at_next = making_next disk s given makes n mid making in
+        let number : mid.commit_number ≡ s.commit_number = ap (λ (z : Core D). z.commit_number) making.is in record {
+          studio = took.studio;
+          held = took.held;
+          step = step;
+          any_moment = λ _ held.
+              let now = took.any_moment mid_going held in
+              let out = carried held in
+              each_on (KeepsOneOf t c sound) (disk.clock s.store) took.changed.images images.later
+              (λ x since. inl (keeps_outside disk s is n mid.store going held images x since))
+              (λ x since. in_flight out.0 out.1 held x (now x since));
+          refused = λ _ held still.
+              on_err told_as (EachSince disk mid.store new.store (λ x. Keeps x (shown (studio_of disk mid))))
+              (EachSince disk s.store new.store (λ x. Keeps x (shown t)))
+              (λ now. each_on (λ x. Keeps x (shown t)) (disk.clock s.store) took.changed.images images.later
+              (λ x since. keeps_outside disk s is n mid.store going held images x since)
+              (λ x since. subst (Keeps x) (shown_mid held) (now x since)))
+              (took.refused mid_going held still);
+          now = took.now;
+          number = subst (λ (k : ℕ). new.commit_number ≡ number_behind told_as c k) number took.number;
+          rests = λ some. absurd (stopped_not s.stopped some going);
+          len = took.len;
+          needs = λ held. let need = took.needs held in (need.0, back held need.0 took.len need.1);
+          changed = changed_turn (λ d x w. tt) (λ d e x w v. tt)
+              (within_then s.block_size mid.block_size n took.len (new.next_block - mid.next_block) (new.next_block - s.next_block)
+              (making_size disk s given makes n mid making) (omega (arith, next)) (omega (arith, next, at_next)))
+              making.changed took.changed;
+        }
+
+  -- ---- one is not
+
+  module _ (len : ℕ) (changes : IsTrue (may_change c)) (leaves : Leaves t c sound) (need : IsHeld disk s → (k : ℕ) → k ≤ n → Needs (outside t sound) t c k len) where
+    going_on : (why : Refusal) (k : ℕ) (new : Core D) → Making disk s given k makes new → k ≤ n
+        → (IsHeld disk s → Answers t c sound (Err why) (studio_of disk new)) → Took disk s c sound (Err why) 0 new
+    going_on why k new making few step =
+        let studio = made_studio disk s is given makes k new making going few fresh most there in
+        let holds = made_held disk s is given makes k new making going few fresh most there in
+        let images = making.changed.images in record {
+          studio = studio;
+          held = holds;
+          step = step;
+          any_moment = λ _ held x since. inl (keeps_outside disk s is k new.store going held images x since);
+          refused = λ _ held still. keeps_outside disk s is k new.store going held images;
+          now = λ still held. keeps_now disk new still (holds held);
+          number = ap (λ (z : Core D). z.commit_number) making.is;
+          rests = λ some. absurd (stopped_not s.stopped some going);
+          len = len;
+          needs = λ held. (k, need held k few);
+          changed = changed_wider (λ d x w. tt)
+              (within_some s.block_size k len (new.next_block - s.next_block) (omega (arith, making_next disk s given makes k new making))) making.changed;
+        }
+
+    -- a read failed, or found a file that is not as it has to be
+    module _ (k : ℕ) (mid new : Core D) (was : Making disk s given k makes mid) (few : k ≤ n)
+        (reads : disk.read_fault_count mid.store ≡ disk.read_fault_count s.store) (un : Unread disk mid new) where
+      making : Making disk s given k makes new
+      making = making_unread disk s given makes k mid new was un
+
+      still_going : new.stopped ≡ None
+      still_going = ap (λ (z : Core D). z.stopped) making.is ∙ going
+
+      new_state : IsHeld disk s → studio_of disk new ≡ record t {
+        stopped = new.stopped;
+        next_block = s.next_block + k;
+        read_faults = disk.read_fault_count new.store;
+        change_faults = disk.change_fault_count new.store;
+      }
+      new_state held =
+          let stopped : new.stopped ≡ s.stopped = ap (λ (z : Core D). z.stopped) making.is in
+          made_state disk s is given makes k new making going few fresh most there held
+          ∙ (λ i. record t {
+            stopped = sym stopped i;
+            next_block = s.next_block + k;
+            read_faults = disk.read_fault_count new.store;
+            change_faults = sym making.change_faults i;
+          })
+
+      unread : HasMissed disk mid.store new.store → Took disk s c sound (Err refusal.DiskFault) 0 new
+      unread missed = going_on refusal.DiskFault k new making few (λ held. inr (record {
+        breaks = record { going = going; blocks = k; len = len; needs = need held k few; room = omega (arith, most, few); is = new_state held; leaves = leaves };
+        cause = inl (record { goes_on = still_going; rose = omega (arith, missed.rose, reads); later = omega (arith, missed.later, reads); changes = making.change_faults });
+      }))
+
+      damaged : (file at want have : ℕ) → disk.read_fault_count new.store ≡ disk.read_fault_count mid.store
+          → Took disk s c sound (Err (refusal.Damaged file at want have)) 0 new
+      damaged file at want have same = going_on (refusal.Damaged file at want have) k new making few (λ held. inr (record {
+        breaks = record { going = going; blocks = k; len = len; needs = need held k few; room = omega (arith, most, few); is = new_state held; leaves = leaves };
+        stopped = still_going;
+        reads = same ∙ reads;
+        changes = making.change_faults;
+      }))
+
+    -- the disk failed as a block was put
+    module _ (k : ℕ) (mid new : Core D) (was : Making disk s given k makes mid) (few : k ≤ n)
+        (reads : disk.read_fault_count mid.store ≡ disk.read_fault_count s.store) (un : Unput disk mid new) where
+      abbrev store : D
+      store = new.store
+
+      abbrev here : Core D
+      here = record s { store = store; counts = mid.counts; next_block = s.next_block + k; stopped = (stopped_by disk s store).stopped }
+
+      at_here : new ≡ here
+      at_here = un.is ∙ (λ i. record (was.is i) { store = store; stopped = (stopped_by disk s store).stopped })
+
+      next : mid.next_block ≡ s.next_block + k
+      next = making_next disk s given makes k mid was
+
+      changed : Changed disk (SameOutside s.next_block (k + 1)) (together (made_room (size_of s.block_size) k) (made_room (size_of mid.block_size) 1)) s.store store
+      changed = changed_turn (λ d x w f apart. w f (⊎_elim (λ low. inl low) (λ high. inr (omega (arith, high))) apart))
+          (λ d e x w v. outside_then s.next_block k mid.next_block d e x next w v) (record { files = omega arith; bytes = omega arith; calls = omega arith }) was.changed un.changed
+
+      here_studio : IsStudio disk here
+      here_studio =
+          with_store disk s is store k mid.counts (stopped_by disk s store).stopped (omega (arith, most, few)) was.ledger
+
+      here_held : IsHeld disk s → IsHeld disk here
+      here_held held =
+          with_held disk s is store k mid.counts (stopped_by disk s store).stopped changed.tells (k + 1)
+          (changed.reads held.tells) (λ none. absurd (some_none _ none)) held
+
+      here_state : IsHeld disk s → studio_of disk here ≡ record t {
+        stopped = (stopped_by disk s store).stopped;
+        next_block = s.next_block + k;
+        read_faults = disk.read_fault_count store;
+        change_faults = disk.change_fault_count store;
+      }
+      here_state held =
+          let old = disk.reads s.store in
+          let now = disk.reads store in
+          let same = same_studio old now disk s (below_same s.next_block (k + 1) (named_blocks s) old now is.ids (changed.reads held.tells)) in
+          λ i. record (same i) {
+            stopped = (stopped_by disk s store).stopped;
+            next_block = s.next_block + k;
+            read_faults = disk.read_fault_count store;
+            change_faults = disk.change_fault_count store;
+          }
+
+      here_took : Took disk s c sound (Err refusal.DiskFault) 0 here
+      here_took = record {
+        studio = here_studio;
+        held = here_held;
+        step = λ held. inr (record {
+          breaks = record {
+            going = going;
+            blocks = k;
+            len = len;
+            needs = need held k few;
+            room = omega (arith, most, few);
+            is = here_state held;
+            leaves = leaves;
+          };
+          cause = inr (
+            changes,
+            record {
+              stopped = refl;
+              rose = omega (arith, un.failed.rose, was.change_faults);
+              later = omega (arith, un.failed.later, was.change_faults);
+              reads = un.read_faults ∙ reads;
+            },
+          );
+        });
+        any_moment = λ _ held x since. inl (keeps_outside disk s is (k + 1) store going held changed.images x since);
+        refused = λ _ held none. absurd (some_none _ none);
+        now = λ none held. absurd (some_none _ none);
+        number = refl;
+        rests = λ some. absurd (stopped_not s.stopped some going);
+        len = len;
+        needs = λ held. (k, need held k few);
+        changed = changed_wider (λ d x w. tt)
+            (within_last s.block_size mid.block_size k len (here.next_block - s.next_block) (making_size disk s given makes k mid was) (omega arith)) changed;
+      }
+
+      unput : Took disk s c sound (Err refusal.DiskFault) 0 new
+      unput = subst (λ (z : Core D). Took disk s c sound (Err refusal.DiskFault) 0 z) (sym at_here) here_took
+
+    pub not_made : (why : Refusal) (new : Core D) → Stuck disk s given makes why new → Took disk s c sound (Err why) 0 new
+    not_made refusal.DiskFault new stuck = ⊎_elim
+        (λ un. unread stuck.made stuck.mid new stuck.before (omega (arith, stuck.some_left)) stuck.read_faults un.0 un.1)
+        (λ un. unput stuck.made stuck.mid new stuck.before (omega (arith, stuck.some_left)) stuck.read_faults un)
+        stuck.by
+    not_made (refusal.Damaged file at want have) new stuck =
+        damaged stuck.made stuck.mid new stuck.before (omega (arith, stuck.some_left)) stuck.read_faults stuck.by.0 file at want have stuck.by.1
+    not_made why new stuck = absurd stuck.by

@@ -1,0 +1,51 @@
+-- What one call does, by another premise than that the disk holds the studio: where blocks are made before the call's
+-- record, that the disk held it before the first of them.
+use Rattle.std.proofs.Common.{◌≡◌, ℕ, ◌-◌, None, IsSome, Result, OnErr}
+use Rattle.pcm_base.specs.declared.answer.Reply.{Reply}
+use Rattle.pcm_base.specs.declared.command.Call.{Call}
+use Rattle.pcm_base.specs.declared.entry.SoundMove.{SoundMove}
+use Rattle.pcm_base.specs.declared.refusal.Refusal.{Refusal}
+use Rattle.pcm_base.specs.Counters.{Needs}
+use Rattle.pcm_base.specs.Run.{outside, Answers}
+use Rattle.disk_model.specs.Frames.{Changed}
+use Rattle.disk_model.specs.declared.store.Store.{Ghosts}
+use Rattle.project_journal.specs.Gate.{EachNow, EachSince}
+use Rattle.project_state.specs.Kept.{Keeps}
+use Rattle.editor_core.specs.Core.{Core}
+use Rattle.editor_core.specs.Studios.{IsHeld, IsStudio, shown, studio_of}
+use Rattle.editor_core.specs.Took.{AnyStep, KeepsOneOf, Took, asks, number_behind}
+
+-- as `Took`, where `Has` stands for that the disk holds the studio
+pub record TookWhere {D : Type 0} (Has : Type 0) (disk : Ghosts D) (old : Core D) (call : Call) (sound : SoundMove)
+    (told : Result Reply Refusal) (removed : ℕ) (new : Core D) : Type 0 where
+  pub studio : IsStudio disk new
+  pub held : Has → IsHeld disk new
+  pub step : Has → Answers (studio_of disk old) call sound told (studio_of disk new)
+  pub any_moment : old.stopped ≡ None → Has
+      → EachSince disk old.store new.store (KeepsOneOf (studio_of disk old) call sound)
+  pub refused : old.stopped ≡ None → Has → new.stopped ≡ None
+      → OnErr told (EachSince disk old.store new.store (λ c. Keeps c (shown (studio_of disk old))))
+  pub now : new.stopped ≡ None → Has → EachNow disk new.store (λ c. Keeps c (shown (studio_of disk new)))
+  pub number : new.commit_number ≡ number_behind told call old.commit_number
+  pub rests : IsSome old.stopped → new ≡ record old { pins = new.pins; counts = new.counts }
+  pub len : ℕ
+  pub needs : Has → (blocks : ℕ) × Needs (outside (studio_of disk old) sound) (studio_of disk old) call blocks len
+  pub changed : Changed disk AnyStep (asks old.block_size (new.next_block - old.next_block) len removed)
+      old.store new.store
+
+pub took_so : {D : Type 0} (disk : Ghosts D) (old : Core D) (call : Call) (sound : SoundMove)
+    (told : Result Reply Refusal) (removed : ℕ) (new : Core D)
+    → TookWhere (IsHeld disk old) disk old call sound told removed new → Took disk old call sound told removed new
+took_so disk old call sound told removed new took = record {
+  studio = took.studio;
+  held = took.held;
+  step = took.step;
+  any_moment = took.any_moment;
+  refused = took.refused;
+  now = took.now;
+  number = took.number;
+  rests = took.rests;
+  len = took.len;
+  needs = took.needs;
+  changed = took.changed;
+}

@@ -1,0 +1,90 @@
+-- A call that is refused before the disk is asked, and what a record asks of it.
+use Rattle.std.proofs.Common.{◌≡◌, inl, inr, refl, sym, ℕ, List, [], Option, Some, None, IsSome, Err, arith}
+use Rattle.std.proofs.lemmas.Option.{none-some}
+use Rattle.std.specs.List.{AllByRecursion}
+use Rattle.pcm_base.specs.declared.block.BlockRef.{BlockRef}
+use Rattle.pcm_base.specs.declared.command.Call.{Call}
+use Rattle.pcm_base.specs.declared.entry.SoundMove.{SoundMove}
+use Rattle.pcm_base.specs.declared.refusal.Refusal.{Refusal}
+use Rattle.pcm_base.specs.declared.refusal.Refusal.TheVariants as refusal
+use Rattle.pcm_base.specs.Counters.{Needs}
+use Rattle.pcm_base.specs.Run.{Answers, outside, refusal_of}
+use Rattle.disk_model.specs.Room.{IsWithin}
+use Rattle.disk_model.specs.declared.store.Store.{Ghosts}
+use Rattle.disk_model.proofs.Frames.{Fewer, changed_none}
+use Rattle.sample_block.specs.Sources.{AllWhole}
+use Rattle.project_journal.specs.Gate.{EachNow}
+use Rattle.editor_core.specs.Adding.{record_room}
+use Rattle.editor_core.specs.Core.{Core}
+use Rattle.editor_core.specs.Studios.{IsGiven, IsHeld, IsStudio, SameBlocks, studio_of}
+use Rattle.editor_core.specs.Took.{Took, asks}
+use Rattle.editor_core.proofs.Images.{keeps_now}
+
+pub some_none : {A : Type 0} (x : A) → Some x ≡ None → ⊥
+some_none x e = none-some x (sym e)
+
+pub stopped_not : (o : Option ℕ) → IsSome o → o ≡ None → ⊥
+stopped_not None some none = cc
+stopped_not (Some n) some none = some_none n none
+
+-- a record asks no more than a call may
+pub record_within : (m blocks len removed : ℕ) → IsWithin (record_room len) (asks m blocks len removed)
+record_within m blocks len removed = record { files = omega arith; bytes = omega arith; calls = omega arith }
+
+-- Blocks that were made for a commit: where `Has`, each is on the disk, in each image.
+pub record HasMade {D : Type 0} (Has : Type 0) (disk : Ghosts D) (s : Core D) (made : List BlockRef) : Type 0 where
+  pub ids : AllByRecursion (λ (b : BlockRef). IsGiven s.next_block b.id) made
+  pub whole : Has → AllWhole (disk.reads s.store) made
+  pub same : Has → EachNow disk s.store (SameBlocks made (disk.reads s.store))
+
+pub none_made : {D : Type 0} (disk : Ghosts D) (s : Core D) → HasMade (IsHeld disk s) disk s []
+none_made disk s = record { ids = tt; whole = λ held. tt; same = λ held c now. tt }
+
+-- what a call may need of a studio
+abbrev pub MayNeed : {D : Type 0} → Ghosts D → Core D → Call → SoundMove → ℕ → Type 0
+MayNeed disk s call sound len =
+    IsHeld disk s → (blocks : ℕ) × Needs (outside (studio_of disk s) sound) (studio_of disk s) call blocks len
+
+module _ {D : Type 0} (disk : Ghosts D) (s : Core D) (call : Call) (sound : SoundMove) (why : Refusal)
+    (is : IsStudio disk s) (fewer : Fewer disk s.store) (quiet : sound.after ≡ sound.before) (len : ℕ) where
+  -- a refusal that asked nothing of the disk
+  pub stays : MayNeed disk s call sound len
+      → (IsHeld disk s → Answers (studio_of disk s) call sound (Err why) (studio_of disk s))
+      → Took disk s call sound (Err why) 0 s
+  stays needs step = record {
+    studio = is;
+    held = λ held. held;
+    step = step;
+    any_moment = λ going held c now. inl (keeps_now disk s going held c now);
+    refused = λ going held still c now. keeps_now disk s going held c now;
+    now = λ going held. keeps_now disk s going held;
+    number = refl;
+    rests = λ some. refl;
+    len = len;
+    needs = needs;
+    changed = changed_none s.store (λ c. tt) fewer;
+  }
+
+  -- by a test
+  pub refuses : (blocks : ℕ)
+      → (IsHeld disk s → Needs (outside (studio_of disk s) sound) (studio_of disk s) call blocks len)
+      → refusal_of (outside (studio_of disk s) sound) (studio_of disk s) call blocks len ≡ Some why
+      → Took disk s call sound (Err why) 0 s
+  refuses blocks needs first =
+      stays (λ held. (blocks, needs held))
+      (λ held. inl (record {
+        blocks = blocks;
+        len = len;
+        needs = needs held;
+        first = first;
+        same = refl;
+        quiet = quiet;
+      }))
+
+-- for want of memory
+pub wants : {D : Type 0} (disk : Ghosts D) (s : Core D) (call : Call) (sound : SoundMove) → IsStudio disk s
+    → Fewer disk s.store → sound.after ≡ sound.before → (len : ℕ) → MayNeed disk s call sound len
+    → Took disk s call sound (Err refusal.NoMemory) 0 s
+wants disk s call sound is fewer quiet len needs =
+    stays disk s call sound refusal.NoMemory is fewer quiet len needs
+    (λ held. inr (record { same = refl; quiet = quiet }))

@@ -1,0 +1,169 @@
+-- The plan of an edit of one track: what it leaves, and why there is none.
+use Rattle.std.proofs.Common.{◌≡◌, ◌⊎◌, inl, inr, ⊎_elim, refl, sym, ap, ◌∙◌, subst, ℕ, ◌+◌, ◌≤◌, ℤ, Some, None, List, [], ◌∷◌, ◌++◌, length, Contains, arith}
+use Rattle.std.specs.List.{AllByRecursion}
+use Rattle.std.proofs.lemmas.List.{length-map}
+use Rattle.std.proofs.lemmas.List.Elements.{Contains-append_left}
+use Rattle.pcm_base.specs.declared.block.BlockRef.{BlockRef}
+use Rattle.pcm_base.specs.declared.refusal.Refusal.{Refusal}
+use Rattle.pcm_base.specs.declared.refusal.Refusal.TheVariants as refusal
+use Rattle.pcm_base.specs.Cells.{cells_of_first, changed_at, with_cells}
+use Rattle.disk_model.specs.declared.store.Store.{Ghosts}
+use Rattle.sample_block.specs.Sources.{IsNamed}
+use Rattle.clip_track.specs.Clips.{end_of, layout_blocks, layout_cells}
+use Rattle.edit_ops.specs.declared.types.NewBlock.{NewBlock}
+use Rattle.edit_ops.specs.Plans.{AllNewFrom, AreNew, AreOldOrNew, AreWritten}
+use Rattle.piece_store.specs.declared.given.Given.{Given}
+use Rattle.piece_store.specs.Bringing.{brought, brought_count}
+use Rattle.project_state.specs.declared.track.Track.{Track}
+use Rattle.project_state.specs.Kept.{history_blocks, meant, meant_track, point_blocks}
+use Rattle.project_state.specs.KeptSound.{IsSoundPoint}
+use Rattle.project_state.specs.Sound.{IsSoundTrack}
+use Rattle.project_state.specs.Tracks.{track_of}
+use Rattle.editor_core.specs.Core.{Core}
+use Rattle.editor_core.specs.Edits.{AreAmong, IsPlanned, alone, beside, blocks_with}
+use Rattle.editor_core.specs.Points.{current_tracks, put_in, put_one}
+use Rattle.editor_core.specs.Studios.{IsGiven, IsStudio, clip_blocks, named_blocks, pin_blocks}
+use Rattle.editor_core.specs.TrackEdits.{IsTrackPlan, NoTrackPlan, TrackEdit, track_refusal, with_layout}
+use Rattle.editor_core.proofs.Contained.{among_itself}
+use Rattle.editor_core.proofs.Currents.{current_may_read}
+use Rattle.editor_core.proofs.Editing.{current_sound, old_names}
+use Rattle.editor_core.proofs.Lists.{all_left, all_right, all_so}
+use Rattle.editor_core.proofs.MadeStudios.{IsNewId, point_more, refs, refs_ids}
+use Rattle.editor_core.proofs.PlanBlocks.{all_readable, clips_ids, ids_clips, new_from_more, old_or_new}
+use Rattle.editor_core.proofs.Sounds.{SameSound, same_point}
+use Rattle.editor_core.proofs.Tracks.{id_of, layout_of, put_all, put_means, put_rising, put_sound, sound_of}
+
+-- ---- the track, and why there is no plan
+
+pub current_track : {D : Type 0} (disk : Ghosts D) (s : Core D) → IsStudio disk s → (id : ℕ) (t : Track) → track_of id (current_tracks s.history) ≡ Some t
+    → IsSoundTrack s.block_size s.next_block s.next_track t
+current_track disk s is id t found =
+    sound_of s.block_size s.next_block s.next_track id (current_tracks s.history) t found (current_sound disk s is).sound
+
+pub no_such_track : (e : TrackEdit) (id : ℕ) (old : List Track) (why : Refusal) → why ≡ refusal.NoTrack id → track_of id old ≡ None → NoTrackPlan e id old why
+no_such_track e id old why is none = inl ((λ i. track_refusal id e.test (none i)) ∙ ap Some (sym is))
+
+pub test_fails : (e : TrackEdit) (id : ℕ) (old : List Track) (t : Track) (why : Refusal) → track_of id old ≡ Some t
+    → (e.test (end_of 0 t.layout) ≡ Some why) ⊎ ((e.test (end_of 0 t.layout) ≡ None) × (why ≡ refusal.NoMemory)) → NoTrackPlan e id old why
+test_fails e id old t why found not = ⊎_elim
+    (λ own. inl ((λ i. track_refusal id e.test (found i)) ∙ own))
+    (λ memory. inr memory.1)
+    not
+
+-- ---- what a plan leaves
+
+-- what a command brings changes no block
+pub layout_given : (block : ℕ → ℕ → ℤ) (given : ℕ → ℤ) (t : Track) → layout_cells (alone block) t.layout ≡ layout_cells (beside block given) t.layout
+layout_given block given t = ap cells_of_first (same_point (beside block given) (alone block) (t ∷ []) (all (point_blocks (t ∷ []))))
+  where
+    all : (bs : List BlockRef) → AllByRecursion (SameSound (beside block given) (alone block)) bs
+    all [] = tt
+    all (b ∷ bs) = (refl, all bs)
+
+module _ {D : Type 0} (disk : Ghosts D) (s : Core D) (is : IsStudio disk s) (e : TrackEdit) (given : Given) (id : ℕ) (new : List Track) (makes : List NewBlock)
+    (after_id : ℕ) (p : IsTrackPlan e (brought_count given) id s.block_size s.next_block (current_tracks s.history) new makes after_id) where
+  abbrev old : List Track
+  old = current_tracks s.history
+
+  old_sound : IsSoundPoint s.block_size s.next_block s.next_track old
+  old_sound = current_sound disk s is
+
+  abbrev was : Track
+  was = p.track
+
+  abbrev now : Track
+  now = with_layout was p.plan.layout
+
+  abbrev n : ℕ
+  n = length makes
+
+  abbrev every : List BlockRef
+  every = blocks_with s makes
+
+  was_sound : IsSoundTrack s.block_size s.next_block s.next_track was
+  was_sound = current_track disk s is id was p.found
+
+  fresh : AreNew s.block_size s.next_block makes
+  fresh = subst (AreNew s.block_size s.next_block) (sym p.makes_is) p.is_plan.new
+
+  origin : AllNewFrom (layout_blocks was.layout) (brought_count given) makes
+  origin = subst (AllNewFrom (layout_blocks was.layout) (brought_count given)) (sym p.makes_is) p.is_plan.origin
+
+  laid : AreOldOrNew (layout_blocks was.layout) (layout_blocks p.plan.layout) makes
+  laid = subst (AreOldOrNew (layout_blocks was.layout) (layout_blocks p.plan.layout)) (sym p.makes_is) p.is_plan.blocks
+
+  -- the track's blocks are named by the studio
+  old_named : AreAmong (named_blocks s) (point_blocks old)
+  old_named = old_names disk s is (Contains (named_blocks s)) (among_itself (named_blocks s))
+
+  was_named : AreAmong (named_blocks s) (layout_blocks was.layout)
+  was_named = layout_of (Contains (named_blocks s)) id old was p.found old_named
+
+  more : AreAmong (named_blocks s) (layout_blocks was.layout) → AreAmong every (layout_blocks was.layout)
+  more h = all_so (Contains (named_blocks s)) (Contains every) (λ b k. Contains-append_left (named_blocks s) (refs makes) b k) (layout_blocks was.layout) h
+
+  made_named : AreAmong every (refs makes)
+  made_named = all_right (Contains every) (named_blocks s) (refs makes) (among_itself every)
+
+  now_sound : IsSoundTrack s.block_size (s.next_block + n) s.next_track now
+  now_sound =
+      let Q : BlockRef → Type 0 = λ b. IsGiven (s.next_block + n) b.id in
+      let old_ids = all_so (λ (b : BlockRef). IsGiven s.next_block b.id) Q (λ b h. (h.0, omega (arith, h.1))) (layout_blocks was.layout) (clips_ids s.next_block was.layout was_sound.blocks) in
+      let new_ids = all_so (λ (b : BlockRef). IsNewId s.next_block n b.id) Q (λ b h. (omega (arith, h.0, is.counters.block_least), h.1)) (refs makes) (refs_ids s.block_size s.next_block makes fresh) in
+      record {
+        given = was_sound.given;
+        gain = was_sound.gain;
+        layout = p.layout;
+        half_full = p.is_plan.half_full;
+        blocks = ids_clips (s.next_block + n) p.plan.layout (old_or_new Q (layout_blocks was.layout) (layout_blocks p.plan.layout) makes laid old_ids new_ids);
+      }
+
+  put_few : length (put_in now old) ≤ 64
+  put_few = omega (arith, old_sound.few, length-map old (put_one now))
+
+  put_is_sound : IsSoundPoint s.block_size (s.next_block + n) (s.next_track + 0) (put_in now old)
+  put_is_sound =
+      let later = point_more s.block_size s.next_block s.next_track (s.next_block + n) s.next_track old (omega arith) (omega arith) old_sound in
+      let put : IsSoundPoint s.block_size (s.next_block + n) s.next_track (put_in now old) = record {
+        few = put_few;
+        rising = put_rising now 1 old old_sound.rising;
+        sound = put_sound s.block_size (s.next_block + n) s.next_track now old now_sound later.sound;
+      } in
+      point_more s.block_size (s.next_block + n) s.next_track (s.next_block + n) (s.next_track + 0) (put_in now old) (omega arith) (omega arith) put
+
+  put_names : AreAmong every (point_blocks (put_in now old))
+  put_names =
+      let C : BlockRef → Type 0 = Contains every in
+      let mine = old_or_new C (layout_blocks was.layout) (layout_blocks p.plan.layout) makes laid (more was_named) made_named in
+      let rest = all_so (Contains (named_blocks s)) C (λ b k. Contains-append_left (named_blocks s) (refs makes) b k) (point_blocks old) old_named in
+      put_all C now old mine rest
+
+  pub track_planned : (tag : ℕ) → tag ≤ s.commit_number → IsPlanned s given makes tag 0 new s.clipboard
+  track_planned tag tag_given = record {
+    new = fresh;
+    readable = all_readable s.block_size s.next_block (brought_count given) (layout_blocks was.layout) makes
+        (layout_of IsNamed id old was p.found (current_may_read disk s is)) origin fresh;
+    origin = new_from_more (layout_blocks was.layout) (named_blocks s) (brought_count given) makes was_named origin;
+    tag_given = tag_given;
+    sound = subst (IsSoundPoint s.block_size (s.next_block + n) (s.next_track + 0)) (sym p.is) put_is_sound;
+    names = subst (λ (q : List Track). AreAmong every (point_blocks q)) (sym p.is) put_names;
+    clip_names = all_right (Contains every) (pin_blocks s.pins) (clip_blocks s.clipboard)
+        (all_right (Contains every) (history_blocks s.history) (pin_blocks s.pins ++ clip_blocks s.clipboard) (all_left (Contains every) (named_blocks s) (refs makes) (among_itself every)));
+    clip_few = is.few_clips;
+    clip_fits = is.clipboard;
+  }
+
+  pub track_next : after_id ≡ s.next_block + n
+  track_next = p.after_is ∙ p.is_plan.next_id ∙ ap (λ (bs : List NewBlock). s.next_block + length bs) (sym p.makes_is)
+
+  pub point_means : (block : ℕ → ℕ → ℤ) → AreWritten (beside block (brought given)) makes
+      → meant (alone block) new ≡ changed_at id (with_cells (e.cells (brought given))) (meant (alone block) old)
+  point_means block written =
+      let src = alone block in
+      let with = beside block (brought given) in
+      let f = e.cells (brought given) in
+      let at = p.means with (subst (AreWritten with) p.makes_is written) in
+      let cells : layout_cells src now.layout ≡ f (layout_cells src was.layout) =
+      layout_given block (brought given) now ∙ at ∙ ap f (sym (layout_given block (brought given) was)) in
+      let changes : meant_track src now ≡ with_cells f (meant_track src was) = λ i. record { id = was.id; gain = was.gain; side = was.side; mute = was.mute; cells = cells i } in
+      ap (meant src) p.is ∙ put_means src id now was (with_cells f) (id_of id old was p.found) changes 1 old old_sound.rising p.found

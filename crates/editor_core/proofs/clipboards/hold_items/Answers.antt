@@ -1,0 +1,43 @@
+-- The items so far.
+use Rattle.std.proofs.Common.{sym, subst, ◌+◌, take}
+use Rattle.std.proofs.lemmas.Option.{slice_get-get_or}
+use Rattle.block_ledger.specs.Entries.{count_of}
+use Rattle.clip_track.specs.declared.items.Item.{Item}
+use Rattle.clip_track.specs.declared.items.Item.TheVariants.{Gap}
+use Rattle.clip_track.specs.Items.{item_blocks}
+use Rattle.editor_core.specs.Occurrences.{HasIds, Held}
+use Rattle.editor_core.proofs.Copying.{strip_flat}
+use Rattle.editor_core.proofs.Times.{Few}
+use Rattle.editor_core.proofs.Turns.{there_here, few_here, held_on}
+use Rattle.editor_core.proofs.clipboards.hold_items.Goals as goal
+
+pub hold_item-requires-clause-there : goal.hold_item-requires-clause-there
+hold_item-requires-clause-there c =
+    let none : Item = Gap 0 in
+    let items = c.args.items.now in
+    let i = c.loop-item.item-index in
+    let o = count_of c.args.ledger.now in
+    let m = count_of c.loop-item.ledger in
+    there_here item_blocks items i _ (slice_get-get_or items i none c.loop-item-test.true) o m
+    (subst (HasIds o) (strip_flat items) c.requires.there) (subst (Held o m) (strip_flat (take i items)) c.loop-item.invariant)
+
+pub hold_item-requires-clause-few : goal.hold_item-requires-clause-few
+hold_item-requires-clause-few c =
+    let none : Item = Gap 0 in
+    let items = c.args.items.now in
+    let i = c.loop-item.item-index in
+    let o = count_of c.args.ledger.now in
+    let m = count_of c.loop-item.ledger in
+    few_here item_blocks items i _ (slice_get-get_or items i none c.loop-item-test.true) o m
+    (subst (Few o) (strip_flat items) c.requires.few) (subst (Held o m) (strip_flat (take i items)) c.loop-item.invariant)
+
+pub loop-item-preserved : goal.loop-item-preserved
+loop-item-preserved c =
+    let none : Item = Gap 0 in
+    let items = c.args.items.now in
+    let i = c.loop-item.item-index in
+    let o = count_of c.args.ledger.now in
+    let m = count_of c.loop-item.ledger in
+    let n = count_of c.hold_item.new.ledger in
+    subst (Held o n) (sym (strip_flat (take (i + 1) items)))
+    (held_on item_blocks items i _ (slice_get-get_or items i none c.loop-item-test.true) o m n (subst (Held o m) (strip_flat (take i items)) c.loop-item.invariant) c.hold_item.ensures)

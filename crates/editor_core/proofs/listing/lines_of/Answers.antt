@@ -1,0 +1,17 @@
+-- One track more.
+use Rattle.std.proofs.Common.{sym, ap, ◌∙◌, List, [], ◌∷◌, ◌++◌, map, take}
+use Rattle.pcm_base.specs.declared.sound.TrackLine.{TrackLine}
+use Rattle.pcm_base.specs.Step.{line_of_track}
+use Rattle.project_state.specs.declared.track.Track.{Track}
+use Rattle.project_state.specs.Kept.{meant}
+use Rattle.project_state.proofs.Parts.{take_some}
+use Rattle.editor_core.proofs.Telling.{lines_more}
+use Rattle.editor_core.proofs.listing.lines_of.Goals as goal
+
+pub loop-i-preserved : goal.loop-i-preserved
+loop-i-preserved c = λ src.
+    let ts = c.args.point.now in
+    let t = c.track_at.result.now in
+    let i = c.loop-i.i in
+    c.in_ok-push.ensures.items ∙ ap (λ (z : List TrackLine). z ++ c.line_of.result ∷ []) (c.loop-i.invariant src) ∙ ap (λ (x : TrackLine). map line_of_track (meant src (take i ts)) ++ x ∷ []) (c.line_of.ensures src)
+    ∙ sym (ap (λ (z : List Track). map line_of_track (meant src z)) (take_some ts i t c.track_at.ensures) ∙ lines_more src (take i ts) t)

@@ -1,0 +1,7 @@
+-- None of the pins so far has the number.
+use Rattle.std.proofs.Common.{take}
+use Rattle.editor_core.specs.Pins.{LacksPin}
+use Rattle.editor_core.proofs.pinned.point_of.Given as goal
+
+abbrev pub invariant-loop-pin : goal.invariant-loop-pin
+invariant-loop-pin l = LacksPin l.number (take l.pin-index l.pins)

@@ -1,0 +1,20 @@
+-- The blocks of one track more.
+use Rattle.std.proofs.Common.{◌++◌, List, take, sym, ap, ◌∙◌, append_assoc}
+use Rattle.pcm_base.specs.declared.block.BlockRef.{BlockRef}
+use Rattle.clip_track.specs.Clips.{layout_blocks}
+use Rattle.project_state.specs.Kept.{point_blocks}
+use Rattle.project_state.specs.declared.track.Track.{Track}
+use Rattle.editor_core.proofs.Turns.{next}
+use Rattle.editor_core.proofs.scans.add_point.Goals as goal
+
+pub loop-i-preserved : goal.loop-i-preserved
+loop-i-preserved c =
+    let old = c.args.blocks.now.items in
+    let ts = c.args.point.now in
+    let t = c.track_at.result.now in
+    let before = point_blocks (take c.loop-i.i ts) in
+    c.in_ok-add_clips.ensures
+    ∙ ap (λ cs. c.loop-i.blocks.items ++ layout_blocks cs) c.as_slice.ensures.value
+    ∙ ap (λ (bs : List BlockRef). bs ++ layout_blocks t.layout) c.loop-i.invariant
+    ∙ append_assoc old before (layout_blocks t.layout)
+    ∙ ap (λ (bs : List BlockRef). old ++ bs) (sym (next (λ (x : Track). layout_blocks x.layout) ts c.loop-i.i t c.track_at.ensures))

@@ -1,0 +1,16 @@
+-- Sorted, and then each once.
+use Rattle.std.proofs.Common.{rules, sym, subst}
+use Rattle.std.proofs.lemmas.List.Filters.{dedup_is}
+use Rattle.std.proofs.lemmas.List.Sorted.{IsNonDecreasingBy-from_sort_by_key}
+use Rattle.pcm_base.specs.declared.block.BlockRef.{BlockRef}
+use Rattle.editor_core.specs.Scans.{AreListed}
+use Rattle.editor_core.proofs.Rising.{are_listed}
+use Rattle.editor_core.proofs.scans.by_id.Goals as goal
+
+pub returns : goal.returns
+returns c =
+    let rising = IsNonDecreasingBy-from_sort_by_key (λ (b : BlockRef). b.id) _ c.sort_unstable_by_key.ensures.sorted
+    (λ a r q k. search rules) in
+    let is = dedup_is _ _ _ c.dedup.ensures.filtered in
+    subst (AreListed c.args.blocks.items) (sym is)
+    (are_listed c.args.blocks.items _ c.sort_unstable_by_key.ensures.permutation rising)

@@ -1,0 +1,78 @@
+-- An edit of a range is a step.
+use Rattle.std.proofs.Common.{◌∙◌, sym, ap, subst, ℕ, IfErr, List, Option, Err, arith}
+use Rattle.std.proofs.lemmas.Result.{err_from_is_err_and}
+use Rattle.pcm_base.specs.declared.answer.Reply.TheVariants.{Done}
+use Rattle.pcm_base.specs.declared.command.Call.TheVariants.{Line}
+use Rattle.pcm_base.specs.History.{recorded}
+use Rattle.piece_store.specs.declared.given.Given.TheVariants.{Nothing}
+use Rattle.clip_track.specs.declared.items.Item.{Item}
+use Rattle.envelope_view.specs.Answers.{IsUndamaged}
+use Rattle.editor_core.specs.Core.{core_of}
+use Rattle.editor_core.specs.Edits.{IsEdit, IsPlanned, clip_then}
+use Rattle.editor_core.specs.Points.{current_tracks}
+use Rattle.editor_core.specs.Ranges.{range_edit, range_line}
+use Rattle.editor_core.specs.Took.{Took, silent, told_by}
+use Rattle.editor_core.proofs.NoDamage.{no_plan_tells, range_tells}
+use Rattle.editor_core.proofs.RangeLaws.{range_call}
+use Rattle.editor_core.proofs.TrackLaws.{track_edit, track_refused, track_stopped}
+use Rattle.editor_core.proofs.TrackPlans.{track_next, track_planned}
+use Rattle.editor_core.proofs.studio.Studio.edit_range.Goals as goal
+
+pub returns-in-Some-clause-took : goal.returns-in-Some-clause-took
+returns-in-Some-clause-took g c =
+    let s = core_of c.args.self.now in
+    let range = c.args.range in
+    let e = range_edit c.args.edit range.from range.to in
+    let line = range_call c.args.edit range.track range.from range.to in
+    track_stopped g.S.Store s c.requires (Line (range_line c.args.edit range.track range.from range.to)) silent e Nothing range.track 0 line c.in-Some.faults (g.met.S.Store.may_fewer s.store) c.in-Some.is
+
+pub returns-in_err-planned-clause-took : goal.returns-in_err-planned-clause-took
+returns-in_err-planned-clause-took g c =
+    let s = core_of c.args.self.now in
+    let range = c.args.range in
+    let e = range_edit c.args.edit range.from range.to in
+    let call = Line (range_line c.args.edit range.track range.from range.to) in
+    let line = range_call c.args.edit range.track range.from range.to in
+    let r = err_from_is_err_and c.from_residual.result c.from_residual.ensures.1 in
+    let why = c.in_err-planned.field-0.0 in
+    subst (λ x. Took g.S.Store s call silent (told_by (λ (n : ℕ). Done) x) 0 s) (sym (r.1 ∙ ap Err r.2))
+    (track_refused g.S.Store s c.requires call silent e Nothing range.track 0 line why (g.met.S.Store.may_fewer s.store) c.in_default.is c.in_err-planned.ensures.err)
+
+pub returns-in_err-planned-clause-sound : goal.returns-in_err-planned-clause-sound
+returns-in_err-planned-clause-sound g c = λ held.
+    let s = core_of c.args.self.now in
+    let range = c.args.range in
+    let e = range_edit c.args.edit range.from range.to in
+    let r = err_from_is_err_and c.from_residual.result c.from_residual.ensures.1 in
+    subst (λ x. IfErr x IsUndamaged) (sym (r.1 ∙ ap Err r.2))
+    (no_plan_tells e range.track (current_tracks s.history) c.in_err-planned.field-0.0 (λ len. range_tells range.from range.to len) c.in_err-planned.ensures.err)
+
+pub carry_out-requires-clause-planned : goal.carry_out-requires-clause-planned
+carry_out-requires-clause-planned g c =
+    let s = core_of c.args.self.now in
+    let range = c.args.range in
+    let e = range_edit c.args.edit range.from range.to in
+    let p = c.in_ok-planned.planned in
+    subst (λ (z : Option (List (List Item))). IsPlanned s Nothing p.makes 0 p.tracks p.point (clip_then z s.clipboard)) (sym c.in_ok-planned.ensures.clip)
+    (subst (λ (k : ℕ). IsPlanned s Nothing p.makes 0 k p.point s.clipboard) (sym c.in_ok-planned.ensures.tracks)
+    (track_planned g.S.Store s c.requires e Nothing range.track p.point p.makes p.next c.in_ok-planned.ensures.plan 0 (omega arith)))
+
+pub carry_out-requires-clause-next : goal.carry_out-requires-clause-next
+carry_out-requires-clause-next g c =
+    let s = core_of c.args.self.now in
+    let range = c.args.range in
+    let p = c.in_ok-planned.planned in
+    track_next g.S.Store s c.requires (range_edit c.args.edit range.from range.to) Nothing range.track p.point p.makes p.next c.in_ok-planned.ensures.plan
+
+pub returns-clause-took : goal.returns-clause-took
+returns-clause-took g c =
+    let s = core_of c.args.self.now in
+    let range = c.args.range in
+    let e = range_edit c.args.edit range.from range.to in
+    let call = Line (range_line c.args.edit range.track range.from range.to) in
+    let line = range_call c.args.edit range.track range.from range.to in
+    let p = c.in_ok-planned.planned in
+    c.carry_out.ensures.took call silent
+    (subst (λ (z : Option (List (List Item))). IsEdit g.S.Store s call silent p.tracks Nothing p.makes (recorded s.history p.point 0) (clip_then z s.clipboard)) (sym c.in_ok-planned.ensures.clip)
+    (subst (λ (k : ℕ). IsEdit g.S.Store s call silent k Nothing p.makes (recorded s.history p.point 0) s.clipboard) (sym c.in_ok-planned.ensures.tracks)
+    (track_edit g.S.Store s c.requires call silent e Nothing range.track 0 line p.point p.makes p.next c.in_ok-planned.ensures.plan)))

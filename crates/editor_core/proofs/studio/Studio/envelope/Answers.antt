@@ -1,0 +1,67 @@
+-- Scanning a track is a step that changes nothing.
+use Rattle.std.proofs.Common.{◌∙◌, sym, ap, subst, Ok, Err}
+use Rattle.std.proofs.lemmas.Result.{err_from_is_err_and}
+use Rattle.pcm_base.specs.declared.answer.Reply.TheVariants as reply
+use Rattle.pcm_base.specs.declared.command.Call.TheVariants.{Line}
+use Rattle.pcm_base.specs.declared.command.Command.TheVariants.{Envelope}
+use Rattle.pcm_base.specs.declared.refusal.Refusal.TheVariants as refusal
+use Rattle.editor_core.specs.Core.{core_of}
+use Rattle.editor_core.specs.Points.{lacks}
+use Rattle.editor_core.specs.Reads.{Looks}
+use Rattle.editor_core.specs.Took.{told_by}
+use Rattle.editor_core.proofs.Currents.{layout_may_read, layout_whole}
+use Rattle.editor_core.proofs.Seeing.{idle_looks, read_looks, unread_looks}
+use Rattle.editor_core.proofs.Showing.{scan_stopped, scan_lacks, scan_done, scan_failed}
+use Rattle.editor_core.proofs.studio.Studio.envelope.Goals as goal
+
+pub returns-in-Some : goal.returns-in-Some
+returns-in-Some g c =
+    let s = core_of c.args.self.now in
+    let fewer = g.met.S.Store.may_fewer s.store in
+    idle_looks g.S.Store s (Line (Envelope c.args.track c.args.from c.args.to c.args.columns)) fewer (refusal.Stopped c.in-Some.faults) tt
+    (scan_stopped g.S.Store s c.requires c.args.track c.args.from c.args.to fewer c.args.columns c.in-Some.faults c.in-Some.is)
+
+pub returns-in_err-layout : goal.returns-in_err-layout
+returns-in_err-layout g c =
+    let p = err_from_is_err_and c.from_residual.result c.from_residual.ensures.1 in
+    let s = core_of c.args.self.now in
+    let fewer = g.met.S.Store.may_fewer s.store in
+    let call = Line (Envelope c.args.track c.args.from c.args.to c.args.columns) in
+    let why = refusal.NoTrack c.args.track in
+    subst (λ r. Looks g.S.Store s call (told_by reply.Columns r) s) (sym (p.1 ∙ ap Err (p.2 ∙ c.in_err-layout.ensures.0)))
+    (idle_looks g.S.Store s call fewer why tt
+    (scan_lacks g.S.Store s c.requires c.args.track c.args.from c.args.to fewer c.args.columns why c.in_default.is (ap (lacks c.args.track) c.in_err-layout.ensures.1)))
+
+pub columns-requires : goal.columns-requires
+columns-requires g c =
+    let s = core_of c.args.self.now in
+    record { named = layout_may_read g.S.Store s c.requires c.args.track c.in_ok-layout.layout.now c.in_ok-layout.ensures }
+
+pub returns-in_err-scans : goal.returns-in_err-scans
+returns-in_err-scans g c =
+    let p = err_from_is_err_and c.from_residual-in_err-scans.result c.from_residual-in_err-scans.ensures.1 in
+    let s = core_of c.args.self.now in
+    let fewer = g.met.S.Store.may_fewer s.store in
+    let call = Line (Envelope c.args.track c.args.from c.args.to c.args.columns) in
+    let store = c.columns.new.store in
+    let layout = c.in_ok-layout.layout.now in
+    let has = c.in_ok-layout.ensures in
+    let why = c.in_err-scans.field-0.0 in
+    subst (λ r. Looks g.S.Store s call (told_by reply.Columns r) (record s { store = store })) (sym (p.1 ∙ ap Err p.2))
+    (unread_looks g.S.Store s call store c.columns.ensures.kept why
+    (λ held. c.in_err-scans.ensures.sound held.tells (layout_whole g.S.Store s c.requires c.args.track layout has held))
+    (scan_failed g.S.Store s c.requires c.args.track c.args.from c.args.to fewer c.args.columns layout has c.in_default.is store c.columns.ensures.kept why c.in_err-scans.ensures.tests c.in_err-scans.ensures.faults))
+
+pub returns : goal.returns
+returns g c =
+    let s = core_of c.args.self.now in
+    let fewer = g.met.S.Store.may_fewer s.store in
+    let call = Line (Envelope c.args.track c.args.from c.args.to c.args.columns) in
+    let store = c.columns.new.store in
+    let layout = c.in_ok-layout.layout.now in
+    let has = c.in_ok-layout.ensures in
+    let found = c.in_ok-scans.scans.items in
+    subst (λ xs. Looks g.S.Store s call (Ok (reply.Columns xs)) (record s { store = store })) (sym c.new.ensures)
+    (read_looks g.S.Store s call store c.columns.ensures.kept (reply.Columns found)
+    (scan_done g.S.Store s c.requires c.args.track c.args.from c.args.to fewer c.args.columns layout has c.in_default.is store c.columns.ensures.kept found c.in_ok-scans.ensures.tests c.in_ok-scans.ensures.faults
+    (λ held. c.in_ok-scans.ensures.read held.tells (layout_whole g.S.Store s c.requires c.args.track layout has held))))

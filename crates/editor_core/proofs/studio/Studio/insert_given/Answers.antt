@@ -1,0 +1,75 @@
+-- Samples that a command brings, put in, are a step.
+use Rattle.std.proofs.Common.{◌∙◌, sym, ap, subst, ℕ, IfErr, List, Option, Err}
+use Rattle.std.proofs.lemmas.Result.{err_from_is_err_and}
+use Rattle.pcm_base.specs.declared.answer.Reply.TheVariants.{Done}
+use Rattle.pcm_base.specs.History.{recorded}
+use Rattle.piece_store.specs.Bringing.{brought_count}
+use Rattle.clip_track.specs.declared.items.Item.{Item}
+use Rattle.envelope_view.specs.Answers.{IsUndamaged}
+use Rattle.editor_core.specs.Core.{core_of}
+use Rattle.editor_core.specs.Edits.{IsEdit, IsPlanned, clip_then}
+use Rattle.editor_core.specs.Inserts.{place_edit}
+use Rattle.editor_core.specs.Points.{current_tracks}
+use Rattle.editor_core.specs.Took.{Took, told_by}
+use Rattle.editor_core.specs.TrackEdits.{IsTrackPlan, NoTrackPlan}
+use Rattle.editor_core.proofs.InsertLaws.{place_tells}
+use Rattle.editor_core.proofs.NoDamage.{no_plan_tells}
+use Rattle.editor_core.proofs.TrackLaws.{track_edit, track_refused, track_stopped}
+use Rattle.editor_core.proofs.TrackPlans.{track_next, track_planned}
+use Rattle.editor_core.proofs.studio.Studio.insert_given.Goals as goal
+
+pub returns-in-Some-clause-took : goal.returns-in-Some-clause-took
+returns-in-Some-clause-took g c = λ call sound line.
+    let s = core_of c.args.self.now in
+    let given = c.args.given.now in
+    let e = place_edit c.args.place (brought_count given) in
+    track_stopped g.S.Store s c.requires.studio call sound e given c.args.track c.args.tag line c.in-Some.faults (g.met.S.Store.may_fewer s.store) c.in-Some.is
+
+pub returns-in_err-planned-clause-took : goal.returns-in_err-planned-clause-took
+returns-in_err-planned-clause-took g c = λ call sound line.
+    let s = core_of c.args.self.now in
+    let given = c.args.given.now in
+    let e = place_edit c.args.place (brought_count given) in
+    let r = err_from_is_err_and c.from_residual.result c.from_residual.ensures.1 in
+    let why = c.in_err-planned.field-0.0 in
+    let not = subst (λ (k : ℕ). NoTrackPlan (place_edit c.args.place k) c.args.track (current_tracks s.history) why) c.count_of.ensures.value c.in_err-planned.ensures.err in
+    subst (λ x. Took g.S.Store s call sound (told_by (λ (n : ℕ). Done) x) 0 s) (sym (r.1 ∙ ap Err r.2))
+    (track_refused g.S.Store s c.requires.studio call sound e given c.args.track c.args.tag line why (g.met.S.Store.may_fewer s.store) c.in_default.is not)
+
+pub returns-in_err-planned-clause-sound : goal.returns-in_err-planned-clause-sound
+returns-in_err-planned-clause-sound g c = λ held.
+    let s = core_of c.args.self.now in
+    let count = c.count_of.result in
+    let r = err_from_is_err_and c.from_residual.result c.from_residual.ensures.1 in
+    subst (λ x. IfErr x IsUndamaged) (sym (r.1 ∙ ap Err r.2))
+    (no_plan_tells (place_edit c.args.place count) c.args.track (current_tracks s.history) c.in_err-planned.field-0.0 (λ len. place_tells c.args.place count len) c.in_err-planned.ensures.err)
+
+pub carry_out-requires-clause-planned : goal.carry_out-requires-clause-planned
+carry_out-requires-clause-planned g c =
+    let s = core_of c.args.self.now in
+    let given = c.args.given.now in
+    let p = c.in_ok-planned.planned in
+    let plan = subst (λ (k : ℕ). IsTrackPlan (place_edit c.args.place k) k c.args.track s.block_size s.next_block (current_tracks s.history) p.point p.makes p.next) c.count_of.ensures.value c.in_ok-planned.ensures.plan in
+    subst (λ (z : Option (List (List Item))). IsPlanned s given p.makes c.args.tag p.tracks p.point (clip_then z s.clipboard)) (sym c.in_ok-planned.ensures.clip)
+    (subst (λ (k : ℕ). IsPlanned s given p.makes c.args.tag k p.point s.clipboard) (sym c.in_ok-planned.ensures.tracks)
+    (track_planned g.S.Store s c.requires.studio (place_edit c.args.place (brought_count given)) given c.args.track p.point p.makes p.next plan c.args.tag c.requires.tag))
+
+pub carry_out-requires-clause-next : goal.carry_out-requires-clause-next
+carry_out-requires-clause-next g c =
+    let s = core_of c.args.self.now in
+    let given = c.args.given.now in
+    let p = c.in_ok-planned.planned in
+    let plan = subst (λ (k : ℕ). IsTrackPlan (place_edit c.args.place k) k c.args.track s.block_size s.next_block (current_tracks s.history) p.point p.makes p.next) c.count_of.ensures.value c.in_ok-planned.ensures.plan in
+    track_next g.S.Store s c.requires.studio (place_edit c.args.place (brought_count given)) given c.args.track p.point p.makes p.next plan
+
+pub returns-clause-took : goal.returns-clause-took
+returns-clause-took g c = λ call sound line.
+    let s = core_of c.args.self.now in
+    let given = c.args.given.now in
+    let e = place_edit c.args.place (brought_count given) in
+    let p = c.in_ok-planned.planned in
+    let plan = subst (λ (k : ℕ). IsTrackPlan (place_edit c.args.place k) k c.args.track s.block_size s.next_block (current_tracks s.history) p.point p.makes p.next) c.count_of.ensures.value c.in_ok-planned.ensures.plan in
+    c.carry_out.ensures.took call sound
+    (subst (λ (z : Option (List (List Item))). IsEdit g.S.Store s call sound p.tracks given p.makes (recorded s.history p.point c.args.tag) (clip_then z s.clipboard)) (sym c.in_ok-planned.ensures.clip)
+    (subst (λ (k : ℕ). IsEdit g.S.Store s call sound k given p.makes (recorded s.history p.point c.args.tag) s.clipboard) (sym c.in_ok-planned.ensures.tracks)
+    (track_edit g.S.Store s c.requires.studio call sound e given c.args.track c.args.tag line p.point p.makes p.next plan)))

@@ -1,0 +1,29 @@
+-- The tracks of the run are half full, and each has at most one plan.
+use Rattle.std.proofs.Common.{◌≡◌, ◌∙◌, sym, ap, subst, ℕ, ◌≤◌, length, List, Some}
+use Rattle.clip_track.specs.declared.clips.Clip.{Clip}
+use Rattle.edit_ops.specs.Runs.{AllTracksHalfFull, layouts}
+use Rattle.project_state.specs.Tracks.{track_of}
+use Rattle.editor_core.specs.Copies.{run_of}
+use Rattle.editor_core.specs.Core.{core_of}
+use Rattle.editor_core.specs.Cuts.{cut_cells}
+use Rattle.editor_core.specs.Points.{current_tracks}
+use Rattle.editor_core.proofs.CutLaws.{cuts_few, run_half_full}
+use Rattle.editor_core.proofs.studio.Studio.planned_cut.Goals as goal
+
+pub plan_cut-requires-clause-half_full : goal.plan_cut-requires-clause-half_full
+plan_cut-requires-clause-half_full g c =
+    let s = core_of c.args.self.now in
+    let id = c.args.range.track in
+    let project = c.current-project.ensures in
+    let found : track_of id (current_tracks s.history) ≡ Some c.in_ok-track.field-0.now = ap (track_of id) (sym project) ∙ c.in_ok-track.ensures in
+    let run : layouts c.deref.result.now ≡ run_of id (current_tracks s.history) = ap layouts c.deref.ensures.value ∙ c.in_ok-run.ensures ∙ ap (run_of id) project in
+    subst (λ (m : ℕ). AllTracksHalfFull m (layouts c.deref.result.now)) (sym c.block_size.ensures.value)
+    (subst (AllTracksHalfFull s.block_size) (sym run) (run_half_full g.S.Store s c.requires id c.in_ok-track.field-0.now found))
+
+pub planned_run-requires-clause-fits : goal.planned_run-requires-clause-fits
+planned_run-requires-clause-fits g c =
+    let s = core_of c.args.self.now in
+    let range = c.args.range in
+    let run : layouts c.deref.result.now ≡ run_of range.track c.current-project.result.now = ap layouts c.deref.ensures.value ∙ c.in_ok-run.ensures in
+    subst (λ (z : List (List Clip)). length c.in_ok-strips.plans ≤ length z) run
+    (cuts_few (cut_cells c.args.edit range.from range.to) c.block_size.result s.next_block range.count (layouts c.deref.result.now) c.in_ok-strips.plans c.in_ok-strips.ensures.plans)

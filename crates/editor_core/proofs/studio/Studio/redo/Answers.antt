@@ -1,0 +1,94 @@
+-- Redo is a step.
+use Rattle.std.proofs.Common.{◌≡◌, ◌∙◌, refl, sym, ap, subst, ℕ, ◌+◌, ◌<◌, ◌==◌, [], ◌∷◌, length, Err, Some, IfErr, IfOk}
+use Rattle.std.proofs.lemmas.Result.{err_from_is_err_and}
+use Rattle.pcm_base.specs.declared.answer.Reply.TheVariants.{Done}
+use Rattle.pcm_base.specs.declared.command.Call.TheVariants.{Line}
+use Rattle.pcm_base.specs.declared.command.Command.TheVariants as command
+use Rattle.pcm_base.specs.declared.refusal.Refusal.{Refusal}
+use Rattle.pcm_base.specs.declared.refusal.Refusal.TheVariants.{NothingToRedo}
+use Rattle.pcm_base.specs.History.{at_cursor}
+use Rattle.envelope_view.specs.Answers.{IsUndamaged}
+use Rattle.project_state.specs.declared.body.Body.TheVariants.{Redo}
+use Rattle.editor_core.specs.Adding.{Adds, IsNoWant}
+use Rattle.editor_core.specs.Core.{Core, core_of}
+use Rattle.editor_core.specs.Took.{Took, silent, told_by}
+use Rattle.editor_core.proofs.Committing.{fails}
+use Rattle.editor_core.proofs.Moved.{behind, own_is, redone}
+use Rattle.editor_core.proofs.Moving.{redo_call, redoes, moved, tested_out, no_want, other_reason}
+use Rattle.editor_core.proofs.NoDamage.{TellsNone, one_tells, undamaged_test}
+use Rattle.editor_core.proofs.Staying.{none_made}
+use Rattle.editor_core.proofs.studio.Studio.redo.Goals as goal
+
+pub returns-in_err-may_commit-clause-took : goal.returns-in_err-may_commit-clause-took
+returns-in_err-may_commit-clause-took g c =
+    let p = err_from_is_err_and c.from_residual.result c.from_residual.ensures.1 in
+    let s = core_of c.args.self.now in
+    subst (λ r. Took g.S.Store s (Line command.Redo) silent (told_by (λ (n : ℕ). Done) r) 0 s) (sym (p.1 ∙ ap Err p.2))
+    (tested_out g.S.Store s (Line command.Redo) 0 1 c.redo_refusal.result c.in_err-may_commit.field-0.0 c.requires (g.met.S.Store.may_fewer s.store) redo_call (λ held. (refl, refl))
+    (own_is g.S.Store s c.redo_refusal.result c.redo_refusal.ensures.value) c.in_err-may_commit.ensures)
+
+pub returns-in_err-may_commit-clause-number : goal.returns-in_err-may_commit-clause-number
+returns-in_err-may_commit-clause-number g c =
+    let p = err_from_is_err_and c.from_residual.result c.from_residual.ensures.1 in
+    subst (λ r. IfOk r (λ (n : ℕ). n ≡ c.args.self.now.commit_number)) (sym (p.1 ∙ ap Err p.2)) tt
+
+pub returns-in_err-may_commit-clause-memory : goal.returns-in_err-may_commit-clause-memory
+returns-in_err-may_commit-clause-memory g c =
+    let p = err_from_is_err_and c.from_residual.result c.from_residual.ensures.1 in
+    let s = core_of c.args.self.now in
+    let why = c.in_err-may_commit.field-0.0 in
+    let reason : (r : Refusal) → c.redo_refusal.result ≡ Some r → IsNoWant r = λ r e. other_reason (s.history.cursor + 1 == length s.history.points) NothingToRedo tt r (sym (c.redo_refusal.ensures.value) ∙ e) in
+    let is : IsNoWant why = no_want s.stopped c.redo_refusal.result s.next_track 0 s.commit_number why reason c.in_err-may_commit.ensures in
+    subst (λ r. IfErr r IsNoWant) (sym (p.1 ∙ ap Err p.2)) is
+
+pub returns-in_err-may_commit-clause-undamaged : goal.returns-in_err-may_commit-clause-undamaged
+returns-in_err-may_commit-clause-undamaged g c =
+    let p = err_from_is_err_and c.from_residual.result c.from_residual.ensures.1 in
+    let s = core_of c.args.self.now in
+    let why = c.in_err-may_commit.field-0.0 in
+    let own : TellsNone c.redo_refusal.result = subst TellsNone (sym (c.redo_refusal.ensures.value)) (one_tells (s.history.cursor + 1 == length s.history.points) NothingToRedo tt) in
+    let is : IsUndamaged why = undamaged_test s.stopped c.redo_refusal.result s.next_track 0 s.commit_number why own c.in_err-may_commit.ensures in
+    subst (λ r. IfErr r IsUndamaged) (sym (p.1 ∙ ap Err p.2)) is
+
+pub returns-in_err-commit_small-clause-took : goal.returns-in_err-commit_small-clause-took
+returns-in_err-commit_small-clause-took g c =
+    let p = err_from_is_err_and c.from_residual-in_err-commit_small.result c.from_residual-in_err-commit_small.ensures.1 in
+    let s = core_of c.args.self.now in
+    let mid = core_of c.commit_small.new.self in
+    let may = c.in_ok-may_commit.ensures in
+    let own = sym (own_is g.S.Store s c.redo_refusal.result c.redo_refusal.ensures.value) ∙ may.1 in
+    let some = behind s.history NothingToRedo c.redo_refusal.ensures.whole (sym c.redo_refusal.ensures.value ∙ may.1) in
+    let why = c.in_err-commit_small.field-0.0 in
+    let adds = c.in_err-commit_small.ensures.record in
+    subst (λ r. Took g.S.Store s (Line command.Redo) silent (told_by (λ (n : ℕ). Done) r) 0 mid) (sym (p.1 ∙ ap Err p.2))
+    (fails g.S.Store s [] (Line command.Redo) silent 0 Redo (at_cursor s.history (s.history.cursor + 1)) s.clipboard s.next_track c.requires (none_made g.S.Store s)
+    (redoes g.S.Store s c.requires some) may.0 own may.2 may.3 why mid (g.met.S.Store.may_fewer s.store) adds)
+
+pub returns-in_err-commit_small-clause-number : goal.returns-in_err-commit_small-clause-number
+returns-in_err-commit_small-clause-number g c =
+    let p = err_from_is_err_and c.from_residual-in_err-commit_small.result c.from_residual-in_err-commit_small.ensures.1 in
+    subst (λ r. IfOk r (λ (n : ℕ). n ≡ c.commit_small.new.self.commit_number)) (sym (p.1 ∙ ap Err p.2)) tt
+
+pub returns-in_err-commit_small-clause-memory : goal.returns-in_err-commit_small-clause-memory
+returns-in_err-commit_small-clause-memory g c =
+    let p = err_from_is_err_and c.from_residual-in_err-commit_small.result c.from_residual-in_err-commit_small.ensures.1 in
+    subst (λ r. IfErr r IsNoWant) (sym (p.1 ∙ ap Err p.2)) c.in_err-commit_small.ensures.memory
+
+pub returns-in_err-commit_small-clause-undamaged : goal.returns-in_err-commit_small-clause-undamaged
+returns-in_err-commit_small-clause-undamaged g c =
+    let p = err_from_is_err_and c.from_residual-in_err-commit_small.result c.from_residual-in_err-commit_small.ensures.1 in
+    subst (λ r. IfErr r IsUndamaged) (sym (p.1 ∙ ap Err p.2)) c.in_err-commit_small.ensures.undamaged
+
+pub returns-clause-took : goal.returns-clause-took
+returns-clause-took g c =
+    let s = core_of c.args.self.now in
+    let mid = core_of c.commit_small.new.self in
+    let may = c.in_ok-may_commit.ensures in
+    let own = sym (own_is g.S.Store s c.redo_refusal.result c.redo_refusal.ensures.value) ∙ may.1 in
+    let some = behind s.history NothingToRedo c.redo_refusal.ensures.whole (sym c.redo_refusal.ensures.value ∙ may.1) in
+    let adds = subst (λ r. Adds g.S.Store s (3 ∷ []) r mid) c.in_ok-commit_small.was c.commit_small.ensures.record in
+    let same : mid.history ≡ s.history = ap (λ (z : Core g.row.S.Denot). z.history) adds.fields.0 in
+    let some' = subst (λ h. h.cursor + 1 < length h.points) (sym same) some in
+    let gone = redone c.commit_small.new.self.history c.redo.new.self c.redo.result some' c.redo.ensures.ok c.redo.ensures.err in
+    moved g.S.Store s c.requires (Line command.Redo) Redo (at_cursor s.history (s.history.cursor + 1)) mid c.redo.new.self.history (redoes g.S.Store s c.requires some) refl may.0 own may.3 adds
+    (gone ∙ ap (λ h. at_cursor h (h.cursor + 1)) same)

@@ -1,0 +1,19 @@
+-- A scan changes nothing, and tells of the block that was read.
+use Rattle.editor_core.specs.Core.{core_of}
+use Rattle.editor_core.proofs.Scanning.{point_named, point_short, scans_block}
+use Rattle.editor_core.proofs.studio.Studio.scan.Goals as goal
+
+pub check-requires-clause-block : goal.check-requires-clause-block
+check-requires-clause-block g c = point_named g.S.Store (core_of c.args.self.now) c.requires.studio c.args.block
+    c.requires.named
+
+pub check-requires-clause-room : goal.check-requires-clause-room
+check-requires-clause-room g c = point_short g.S.Store (core_of c.args.self.now) c.requires.studio c.args.block
+    c.requires.named
+
+pub returns : goal.returns
+returns g c =
+    scans_block g.S.Store (core_of c.args.self.now) c.requires.studio c.requires.going c.args.block c.requires.named
+    c.check.result c.check.new.store c.check.ensures.kept
+    c.check.new.self c.check.ensures.same c.check.ensures.whole c.check.ensures.checked c.check.ensures.sound
+    c.check.ensures.faults

@@ -1,0 +1,76 @@
+-- Showing a track is a step that changes nothing.
+use Rattle.std.proofs.Common.{◌∙◌, sym, ap, subst, Err}
+use Rattle.std.proofs.lemmas.Result.{err_from_is_err_and}
+use Rattle.pcm_base.specs.declared.answer.Reply.TheVariants.{Cells}
+use Rattle.pcm_base.specs.declared.command.Call.TheVariants.{Line}
+use Rattle.pcm_base.specs.declared.command.Command.TheVariants.{Show}
+use Rattle.pcm_base.specs.declared.refusal.Refusal.TheVariants as refusal
+use Rattle.editor_core.specs.Core.{core_of}
+use Rattle.editor_core.specs.Points.{lacks}
+use Rattle.editor_core.specs.Reads.{Sees}
+use Rattle.editor_core.proofs.Currents.{layout_may_read, layout_whole}
+use Rattle.editor_core.proofs.Seeing.{idle_sees, read_sees, unread_sees}
+use Rattle.editor_core.proofs.Showing.{show_stopped, show_lacks, show_beyond, show_done, show_failed}
+use Rattle.editor_core.proofs.studio.Studio.show.Goals as goal
+
+pub returns-in-Some : goal.returns-in-Some
+returns-in-Some g c =
+    let s = core_of c.args.self.now in
+    let fewer = g.met.S.Store.may_fewer s.store in
+    let call = Line (Show c.args.track c.args.from c.args.to) in
+    idle_sees g.S.Store s call Cells c.args.out.now fewer (refusal.Stopped c.in-Some.faults) tt tt
+    (show_stopped g.S.Store s c.requires.studio c.args.track c.args.from c.args.to fewer c.in-Some.faults c.in-Some.is)
+
+pub returns-in_err-layout : goal.returns-in_err-layout
+returns-in_err-layout g c =
+    let p = err_from_is_err_and c.from_residual.result c.from_residual.ensures.1 in
+    let s = core_of c.args.self.now in
+    let fewer = g.met.S.Store.may_fewer s.store in
+    let call = Line (Show c.args.track c.args.from c.args.to) in
+    let why = refusal.NoTrack c.args.track in
+    subst (λ r. Sees g.S.Store s call Cells c.args.out.now r s) (sym (p.1 ∙ ap Err (p.2 ∙ c.in_err-layout.ensures.0)))
+    (idle_sees g.S.Store s call Cells c.args.out.now fewer why tt tt
+    (show_lacks g.S.Store s c.requires.studio c.args.track c.args.from c.args.to fewer why c.in_default.is (ap (lacks c.args.track) c.in_err-layout.ensures.1)))
+
+pub returns-in_err-may_view : goal.returns-in_err-may_view
+returns-in_err-may_view g c =
+    let p = err_from_is_err_and c.from_residual-in_err-may_view.result c.from_residual-in_err-may_view.ensures.1 in
+    let s = core_of c.args.self.now in
+    let fewer = g.met.S.Store.may_fewer s.store in
+    let call = Line (Show c.args.track c.args.from c.args.to) in
+    subst (λ r. Sees g.S.Store s call Cells c.args.out.now r s) (sym (p.1 ∙ ap Err (p.2 ∙ c.in_err-may_view.ensures.0)))
+    (idle_sees g.S.Store s call Cells c.args.out.now fewer refusal.BadRange tt tt
+    (show_beyond g.S.Store s c.requires.studio c.args.track c.args.from c.args.to fewer c.in_ok-layout.layout.now c.in_ok-layout.ensures c.in_default.is refusal.BadRange c.in_err-may_view.ensures.1))
+
+pub read_view-requires-clause-named : goal.read_view-requires-clause-named
+read_view-requires-clause-named g c =
+    let s = core_of c.args.self.now in
+    layout_may_read g.S.Store s c.requires.studio c.args.track c.in_ok-layout.layout.now c.in_ok-layout.ensures
+
+pub returns-in_err-count : goal.returns-in_err-count
+returns-in_err-count g c =
+    let p = err_from_is_err_and c.from_residual-in_err-count.result c.from_residual-in_err-count.ensures.1 in
+    let s = core_of c.args.self.now in
+    let fewer = g.met.S.Store.may_fewer s.store in
+    let call = Line (Show c.args.track c.args.from c.args.to) in
+    let store = c.read_view.new.store in
+    let layout = c.in_ok-layout.layout.now in
+    let has = c.in_ok-layout.ensures in
+    let fault = c.in_err-count.field-0.0 in
+    subst (λ r. Sees g.S.Store s call Cells c.read_view.new.out r (record s { store = store })) (sym (p.1 ∙ ap Err p.2))
+    (unread_sees g.S.Store s call store c.read_view.ensures.kept Cells c.read_view.new.out fault
+    (λ held. c.in_err-count.ensures.sound held.tells (layout_whole g.S.Store s c.requires.studio c.args.track layout has held))
+    (show_failed g.S.Store s c.requires.studio c.args.track c.args.from c.args.to fewer layout has c.in_default.is store c.read_view.ensures.kept fault c.in_err-count.ensures.faults))
+
+pub returns : goal.returns
+returns g c =
+    let s = core_of c.args.self.now in
+    let fewer = g.met.S.Store.may_fewer s.store in
+    let call = Line (Show c.args.track c.args.from c.args.to) in
+    let store = c.read_view.new.store in
+    let layout = c.in_ok-layout.layout.now in
+    let has = c.in_ok-layout.ensures in
+    let n = c.in_ok-count.count in
+    read_sees g.S.Store s call store c.read_view.ensures.kept Cells c.read_view.new.out n c.in_ok-count.ensures.count
+    (show_done g.S.Store s c.requires.studio c.args.track c.args.from c.args.to fewer layout has c.in_default.is store c.read_view.ensures.kept _ c.in_ok-may_view.ensures c.in_ok-count.ensures.faults
+    (λ held. c.in_ok-count.ensures.read held.tells (layout_whole g.S.Store s c.requires.studio c.args.track layout has held)))

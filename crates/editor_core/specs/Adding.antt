@@ -1,0 +1,98 @@
+-- What the parts of a commit do.
+use Rattle.std.specs.Prelude.{◌≡◌, ℕ, ◌+◌, ◌^◌, ◌≤◌, ◌<◌, IsTrue, Option, Some, None, List, length, Result, Ok, Err, MatchResult, OnOk}
+use Rattle.pcm_base.specs.Causes.{Rose}
+use Rattle.pcm_base.specs.Counters.{no_room}
+use Rattle.pcm_base.specs.Refusals.{◌otherwise◌}
+use Rattle.pcm_base.specs.Run.{stop_of}
+use Rattle.pcm_base.specs.Sizes.{LONGEST_BODY}
+use Rattle.pcm_base.specs.Studio.{fault_sum}
+use Rattle.pcm_base.specs.declared.refusal.Refusal.{Refusal}
+use Rattle.pcm_base.specs.declared.refusal.Refusal.TheVariants as refusal
+use Rattle.disk_model.specs.Disk.{SameElsewhere}
+use Rattle.disk_model.specs.Frames.{Changed}
+use Rattle.disk_model.specs.Room.{Room}
+use Rattle.disk_model.specs.declared.store.Store.{Ghosts}
+use Rattle.project_journal.specs.Gate.{EachSince}
+use Rattle.project_journal.specs.Header.{version_1}
+use Rattle.project_journal.specs.Journal.{Log, IsAt, HasOneOf, with_body}
+use Rattle.project_journal.specs.declared.fault.JournalFault.{JournalFault}
+use Rattle.project_journal.specs.declared.fault.JournalFault.TheVariants as journal
+use Rattle.editor_core.specs.Core.{Core}
+
+-- the first that refuses a commit that needs so many track ids: that the studio is stopped, its own tests, or that a
+-- counter has no room
+abbrev pub Tested : Option ℕ → Option Refusal → ℕ → ℕ → ℕ → Result (Unit {0}) Refusal → Type 0
+Tested stopped own next_track tracks number result = MatchResult result
+    (λ _. (stopped ≡ None) × (own ≡ None) × (next_track + tracks ≤ 2 ^ 62) × (number < 2 ^ 62))
+    (λ why. (stop_of stopped) otherwise own otherwise (no_room next_track tracks) otherwise (no_room number 1)
+    ≡ Some why)
+
+-- a refusal that is not for want of memory
+abbrev pub IsNoWant : Refusal → Type 0
+IsNoWant refusal.NoMemory = ⊥
+IsNoWant why = Unit {0}
+
+-- what refuses a record of so many bytes before the disk is asked
+abbrev pub Exceeds : ℕ → ℕ → Refusal → Type 0
+Exceeds end len (refusal.SpaceSpent have need) = (2 ^ 62 < end + (6 + len)) × (have ≡ end) × (need ≡ 6 + len)
+Exceeds end len (refusal.RecordLimit n) = (n ≡ len) × (LONGEST_BODY < len) × (end + (6 + len) ≤ 2 ^ 62)
+Exceeds end len why = ⊥
+
+-- the studio that a failed change of its disk has stopped
+abbrev pub stopped_by : {D : Type 0} → Ghosts D → Core D → D → Core D
+stopped_by disk old store =
+    record old {
+      store = store;
+      stopped = Some (fault_sum (disk.read_fault_count store) (disk.change_fault_count store));
+    }
+
+-- a change of the disk failed, and no read
+pub record HasFailed {D : Type 0} (disk : Ghosts D) (old new : D) : Type 0 where
+  pub rose : Rose (disk.change_fault_count old) (disk.change_fault_count new)
+  pub later : disk.change_fault_count old ≤ disk.change_fault_count new
+
+-- The fields after a record of so many bytes was to be added.
+abbrev pub Fields : {D R : Type 0} → Ghosts D → Core D → ℕ → Result R Refusal → Core D → Type 0
+Fields disk old len (Ok _) new =
+    (new ≡ record old {
+      store = new.store;
+      journal_end = old.journal_end + 5 + len;
+      commit_number = old.commit_number + 1;
+    })
+    × (old.journal_end + (6 + len) ≤ 2 ^ 62)
+    × (disk.change_fault_count new.store ≡ disk.change_fault_count old.store) × (len ≤ LONGEST_BODY)
+Fields disk old len (Err (refusal.SpaceSpent have need)) new =
+    (new ≡ old) × (2 ^ 62 < old.journal_end + (6 + len)) × (have ≡ old.journal_end) × (need ≡ 6 + len)
+Fields disk old len (Err refusal.NoMemory) new = new ≡ old
+Fields disk old len (Err (refusal.RecordLimit n)) new =
+    (new ≡ old) × (n ≡ len) × (LONGEST_BODY < len) × (old.journal_end + (6 + len) ≤ 2 ^ 62)
+Fields disk old len (Err refusal.DiskFault) new =
+    (new ≡ stopped_by disk old new.store) × (old.journal_end + (6 + len) ≤ 2 ^ 62)
+    × HasFailed disk old.store new.store × (len ≤ LONGEST_BODY)
+Fields disk old len (Err why) new = ⊥
+
+-- what the answer of an append of the journal makes of a studio that has its store already
+abbrev pub Settles : {D : Type 0} → Ghosts D → Core D → Result ℕ JournalFault → Result (Unit {0}) Refusal → Core D
+    → Type 0
+Settles disk old (Ok next) result new =
+    (result ≡ Ok (tt {0})) × (new ≡ record old { journal_end = next; commit_number = old.commit_number + 1 })
+Settles disk old (Err journal.DiskFault) result new = (result ≡ Err refusal.DiskFault)
+    × (new ≡ stopped_by disk old old.store)
+Settles disk old (Err (journal.SpaceSpent have need)) result new = (result ≡ Err (refusal.SpaceSpent have need))
+    × (new ≡ old)
+Settles disk old (Err fault) result new = (result ≡ Err refusal.NoMemory) × (new ≡ old)
+
+-- what a record with a body of so many bytes asks of the disk
+abbrev pub record_room : ℕ → Room
+record_room len = record { files = 1; bytes = 6 + len; calls = 4 }
+
+-- a record added to the journal, or not
+pub record Adds {D R : Type 0} (disk : Ghosts D) (old : Core D) (body : List ℕ) (result : Result R Refusal)
+    (new : Core D) : Type 0 where
+  pub fields : Fields disk old (length body) result new
+  pub any_moment : (log : Log) → IsTrue (disk.tells old.store) → IsAt version_1 disk old.store old.journal_end log
+      → EachSince disk old.store new.store (HasOneOf version_1 log (with_body log body))
+  pub done : (log : Log) → IsTrue (disk.tells old.store) → IsAt version_1 disk old.store old.journal_end log
+      → OnOk result (IsAt version_1 disk new.store new.journal_end (with_body log body))
+  pub changed : Changed disk (SameElsewhere 0) (record_room (length body)) old.store new.store
+  pub read_faults : disk.read_fault_count new.store ≡ disk.read_fault_count old.store

@@ -1,0 +1,43 @@
+-- What is seen of a studio: all but what its buffers hold, and for how much there is memory.
+use Rattle.std.specs.Prelude.{ℕ, Option, List}
+use Rattle.pcm_base.specs.History.{History}
+use Rattle.block_ledger.specs.Counts.{Counts}
+use Rattle.block_ledger.specs.Entries.{count_of}
+use Rattle.clip_track.specs.declared.items.Item.{Item}
+use Rattle.project_state.specs.declared.track.Track.{Track}
+use Rattle.editor_core.specs.declared.studio.Studio.{Studio}
+use Rattle.editor_core.specs.declared.studio.Pin.{Pin}
+
+pub record Core (D : Type 0) : Type 0 where
+  pub store : D
+  pub history : History (List Track)
+  pub clipboard : Option (List (List Item))
+  pub pins : List Pin
+  -- how often each block is named
+  pub counts : Counts
+  pub next_block : ℕ
+  pub next_track : ℕ
+  pub next_pin : ℕ
+  pub commit_number : ℕ
+  pub journal_end : ℕ
+  -- the count of faults at which it stopped
+  pub stopped : Option ℕ
+  pub rate : ℕ
+  pub block_size : ℕ
+
+abbrev pub core_of : {D : Type 0} → Studio D → Core D
+core_of s = record {
+  store = s.store;
+  history = s.history.history;
+  clipboard = s.clipboard;
+  pins = s.pins.items;
+  counts = count_of s.ledger;
+  next_block = s.next_block;
+  next_track = s.next_track;
+  next_pin = s.next_pin;
+  commit_number = s.commit_number;
+  journal_end = s.journal_end;
+  stopped = s.stopped;
+  rate = s.rate;
+  block_size = s.buffers;
+}

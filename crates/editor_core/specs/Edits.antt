@@ -1,0 +1,135 @@
+-- An edit that makes blocks: what is known of it before anything of the disk is changed, and what carrying it out leaves.
+use Rattle.std.specs.Prelude.{◌≡◌, ◌⊎◌, ℕ, ◌+◌, ◌^◌, ◌≤◌, ◌<◌, ℤ, pos, Option, Some, None, List, ◌++◌, length, map, Result, Ok, Err, Contains}
+use Rattle.std.specs.List.{AllByRecursion}
+use Rattle.pcm_base.specs.declared.block.BlockRef.{BlockRef}
+use Rattle.pcm_base.specs.declared.command.Call.{Call}
+use Rattle.pcm_base.specs.declared.entry.SoundMove.{SoundMove}
+use Rattle.pcm_base.specs.declared.refusal.Refusal.{Refusal}
+use Rattle.pcm_base.specs.declared.refusal.Refusal.TheVariants as refusal
+use Rattle.pcm_base.specs.Counters.{EditNeeds, Needs, no_room}
+use Rattle.pcm_base.specs.History.{History}
+use Rattle.pcm_base.specs.Outside.{Outside}
+use Rattle.pcm_base.specs.Pieces.{Sources}
+use Rattle.pcm_base.specs.Refusals.{◌otherwise◌, call_tests}
+use Rattle.pcm_base.specs.Run.{outside}
+use Rattle.pcm_base.specs.Sizes.{LONGEST_BODY}
+use Rattle.pcm_base.specs.State.{State}
+use Rattle.pcm_base.specs.Step.{after}
+use Rattle.pcm_base.specs.Studio as model
+use Rattle.disk_model.specs.declared.store.Store.{Ghosts}
+use Rattle.clip_track.specs.declared.items.Item.{Item}
+use Rattle.edit_ops.specs.declared.types.NewBlock.{NewBlock}
+use Rattle.edit_ops.specs.Plans.{AreNew, AreWritten, AllNewFrom, ref_of}
+use Rattle.piece_store.specs.declared.given.Given.{Given}
+use Rattle.piece_store.specs.Bringing.{brought, brought_count}
+use Rattle.project_state.specs.declared.track.Track.{Track}
+use Rattle.project_state.specs.Kept.{meant_history, point_blocks}
+use Rattle.project_state.specs.KeptSound.{IsSoundPoint}
+use Rattle.editor_core.specs.Adding.{Adds, Exceeds}
+use Rattle.editor_core.specs.Commits.{IsCommitCall}
+use Rattle.editor_core.specs.Core.{Core}
+use Rattle.editor_core.specs.Made.{PiecesReadable}
+use Rattle.editor_core.specs.Makes.{Making, Stuck}
+use Rattle.editor_core.specs.Studios.{MayPaste, clip_blocks, clip_cells, named_blocks, studio_by}
+
+-- ---- what is planned
+
+-- the blocks that an edit may name: those that the studio names, and those that are made for it
+abbrev pub blocks_with : {D : Type 0} → Core D → List NewBlock → List BlockRef
+blocks_with s makes = named_blocks s ++ map ref_of makes
+
+abbrev pub AreAmong : List BlockRef → List BlockRef → Type 0
+AreAmong every bs = AllByRecursion (Contains every) bs
+
+-- A new point for the history, with its tag, what the clipboard becomes, and the blocks that are to be made for both: of
+-- blocks that the studio names, and of what the command brings. So many track ids are given.
+pub record IsPlanned {D : Type 0} (s : Core D) (given : Given) (makes : List NewBlock) (tag tracks : ℕ) (point : List Track)
+    (clip : Option (List (List Item))) : Type 0 where
+  pub new : AreNew s.block_size s.next_block makes
+  pub readable : PiecesReadable (brought_count given) makes
+  pub origin : AllNewFrom (named_blocks s) (brought_count given) makes
+  pub tag_given : tag ≤ s.commit_number
+  pub sound : IsSoundPoint s.block_size (s.next_block + length makes) (s.next_track + tracks) point
+  pub names : AreAmong (blocks_with s makes) (point_blocks point)
+  pub clip_names : AreAmong (blocks_with s makes) (clip_blocks clip)
+  pub clip_few : length (clip_blocks clip) ≤ 2 ^ 71
+  pub clip_fits : MayPaste s.block_size clip
+
+-- the clipboard behind an edit: what it takes out, or what was there
+abbrev pub clip_then : {A : Type 0} → Option A → Option A → Option A
+clip_then None old = old
+clip_then (Some new) old = Some new
+
+-- ---- what it means
+
+-- A call that is an edit: so many blocks it may make, by the block size and the state before it.
+pub record IsEditCall (c : Call) (sound : SoundMove) (tracks : ℕ) (most : ℕ → State → ℕ) : Type 0 where
+  pub commit : IsCommitCall c sound tracks
+  pub needs : (out : Outside) (t : model.Studio) (blocks len : ℕ) → EditNeeds (most t.block_size t.state) out t c blocks len → Needs out t c blocks len
+  pub needed : (out : Outside) (t : model.Studio) (blocks len : ℕ) → Needs out t c blocks len → EditNeeds (most t.block_size t.state) out t c blocks len
+
+-- blocks of these samples, by their ids, and what a command brings beside them
+abbrev pub beside : (ℕ → ℕ → ℤ) → (ℕ → ℤ) → Sources
+beside block given = record { block = block; given = given }
+
+abbrev pub alone : (ℕ → ℕ → ℤ) → Sources
+alone block = beside block (λ _. pos 0)
+
+-- The call leads to this history and this clipboard, once its blocks are made, whatever samples the blocks have.
+pub record IsEdit {D : Type 0} (disk : Ghosts D) (s : Core D) (c : Call) (sound : SoundMove) (tracks : ℕ) (given : Given) (makes : List NewBlock)
+    (h : History (List Track)) (clip : Option (List (List Item))) : Type 0 where
+  pub most : ℕ → State → ℕ
+  pub call : IsEditCall c sound tracks most
+  pub few : (block : ℕ → ℕ → ℤ) → length makes ≤ most s.block_size (studio_by (alone block) disk s).state
+  pub own : (block : ℕ → ℕ → ℤ) → call_tests (outside (studio_by (alone block) disk s) sound) (studio_by (alone block) disk s).state c ≡ None
+  pub means : (block : ℕ → ℕ → ℤ) → AreWritten (beside block (brought given)) makes
+      → after (outside (studio_by (alone block) disk s) sound) (studio_by (alone block) disk s).state c
+      ≡ record (studio_by (alone block) disk s).state {
+        history = meant_history (alone block) h;
+        clipboard = clip_cells (alone block) clip;
+        next_track = s.next_track + tracks;
+        commit = s.commit_number + 1;
+      }
+
+-- ---- what carrying it out leaves
+
+-- the next block, the next track or the commit number has no room
+abbrev pub Spends : (next count track tracks number : ℕ) → Refusal → Type 0
+Spends next count track tracks number why =
+    (no_room next count) otherwise (no_room track tracks) otherwise (no_room number 1) ≡ Some why
+
+-- what is prepared for so many blocks and track ids and a record with a body of this length, so that nothing but the disk
+-- can refuse
+pub record IsPrepared {D : Type 0} (s : Core D) (count tracks len : ℕ) : Type 0 where
+  pub blocks : s.next_block + count ≤ 2 ^ 62
+  pub ids : s.next_track + tracks ≤ 2 ^ 62
+  pub number : s.commit_number < 2 ^ 62
+  pub place : s.journal_end + (6 + len) ≤ 2 ^ 62
+  pub short : len ≤ LONGEST_BODY
+
+-- a counter has no room, or else the journal has none for the record
+abbrev pub Unprepared : {D : Type 0} → Core D → ℕ → ℕ → ℕ → Refusal → Type 0
+Unprepared s count tracks len why =
+    Spends s.next_block count s.next_track tracks s.commit_number why
+    ⊎ ((s.next_block + count ≤ 2 ^ 62) × (s.next_track + tracks ≤ 2 ^ 62) × (s.commit_number < 2 ^ 62) × Exceeds s.journal_end len why)
+
+-- why it is not prepared: that, or memory
+abbrev pub NotPrepared : {D : Type 0} → Core D → ℕ → ℕ → ℕ → Refusal → Type 0
+NotPrepared s count tracks len why = (why ≡ refusal.NoMemory) ⊎ Unprepared s count tracks len why
+
+-- blocks made, and then a record added
+pub record Committed {D : Type 0} (disk : Ghosts D) (old : Core D) (given : Given) (makes : List NewBlock) (tracks : ℕ) (body : List ℕ)
+    (result : Result (Unit {0}) Refusal) (new : Core D) : Type 0 where
+  pub mid : Core D
+  pub making : Making disk old given (length makes) makes mid
+  pub reads : disk.read_fault_count mid.store ≡ disk.read_fault_count old.store
+  pub prepared : IsPrepared old (length makes) tracks (length body)
+  pub adds : Adds disk mid body result new
+
+-- All of it: want of memory comes before the first block is made, and then the disk alone refuses.
+abbrev pub Carried : {D : Type 0} → Ghosts D → Core D → Given → List NewBlock → ℕ → List ℕ → Result (Unit {0}) Refusal → Core D → Type 0
+Carried disk old given makes tracks body (Ok done) new = Committed disk old given makes tracks body (Ok done) new
+Carried disk old given makes tracks body (Err why) new =
+    ((new ≡ old) × NotPrepared old (length makes) tracks (length body) why)
+    ⊎ ((IsPrepared old (length makes) tracks (length body) × Stuck disk old given makes why new)
+    ⊎ ((why ≡ refusal.DiskFault) × Committed disk old given makes tracks body (Err why) new))

@@ -1,0 +1,101 @@
+-- New blocks that are made before a record names them, and what a making that failed leaves.
+use Rattle.std.specs.Prelude.{◌≡◌, ◌↔◌, ◌⊎◌, ℕ, ◌+◌, ◌*◌, ◌≤◌, ◌<◌, IsTrue, IsSome, Some, None, List, length, Result, MatchResult}
+use Rattle.pcm_base.specs.Causes.{Rose}
+use Rattle.pcm_base.specs.Pieces.{all_samples}
+use Rattle.pcm_base.specs.declared.refusal.Refusal.{Refusal}
+use Rattle.pcm_base.specs.declared.refusal.Refusal.TheVariants as refusal
+use Rattle.disk_model.specs.Disk.{SameElsewhere}
+use Rattle.disk_model.specs.Frames.{Kept, Changed}
+use Rattle.disk_model.specs.Room.{Room}
+use Rattle.disk_model.specs.declared.store.Store.{Ghosts}
+use Rattle.sample_block.specs.Blocks.{blocks}
+use Rattle.sample_block.specs.Sources.{sources_with}
+use Rattle.sample_block.specs.Spelling.{size_of}
+use Rattle.block_ledger.specs.Counts.{Counts, occurrences}
+use Rattle.project_journal.specs.Gate.{EachNow}
+use Rattle.edit_ops.specs.declared.types.NewBlock.{NewBlock}
+use Rattle.piece_store.specs.declared.given.Given.{Given}
+use Rattle.piece_store.specs.Bringing.{brought}
+use Rattle.piece_store.specs.Reading.{AllThere}
+use Rattle.editor_core.specs.Adding.{HasFailed, stopped_by}
+use Rattle.editor_core.specs.Core.{Core}
+use Rattle.editor_core.specs.Made.{PiecesThere, SameOutside, SameInside, AreAbsent, AreMade}
+
+-- no occurrence comes or goes, and the ids from one number on, so many, are there too
+pub record AddsFree (next n : ℕ) (old new : Counts) : Type 0 where
+  pub counts : (id : ℕ) → occurrences (new id) ≡ occurrences (old id)
+  pub ids : (id : ℕ) → IsSome (new id) ↔ (IsSome (old id) ⊎ ((next ≤ id) × (id < next + n)))
+
+-- what so many blocks ask of a disk whose files have at most so many bytes
+abbrev pub made_room : (bytes n : ℕ) → Room
+made_room bytes n = record { files = n; bytes = n * bytes; calls = 2 * n }
+
+-- a piece of the next block could not be read: the disk is as it was, and the studio goes on
+pub record Unread {D : Type 0} (disk : Ghosts D) (old new : Core D) : Type 0 where
+  pub is : new ≡ record old { store = new.store }
+  pub kept : Kept disk old.store new.store
+
+-- the disk failed as the next block was put: the studio is stopped
+pub record Unput {D : Type 0} (disk : Ghosts D) (old new : Core D) : Type 0 where
+  pub is : new ≡ stopped_by disk old new.store
+  pub changed : Changed disk (SameElsewhere old.next_block) (made_room (size_of old.block_size) 1) old.store new.store
+  pub failed : HasFailed disk old.store new.store
+  pub read_faults : disk.read_fault_count new.store ≡ disk.read_fault_count old.store
+
+-- a read of the disk failed
+pub record HasMissed {D : Type 0} (disk : Ghosts D) (old new : D) : Type 0 where
+  pub rose : Rose (disk.read_fault_count old) (disk.read_fault_count new)
+  pub later : disk.read_fault_count old ≤ disk.read_fault_count new
+
+-- why the next block was not made
+abbrev pub NotMade : {D : Type 0} → Ghosts D → Core D → Refusal → Core D → Type 0
+NotMade disk old refusal.DiskFault new =
+    (Unread disk old new × HasMissed disk old.store new.store) ⊎ Unput disk old new
+NotMade disk old (refusal.Damaged file at want have) new =
+    Unread disk old new × (disk.read_fault_count new.store ≡ disk.read_fault_count old.store)
+NotMade disk old why new = ⊥
+
+-- One block is made, and the ledger has its id.
+pub record MadeOne {D : Type 0} (disk : Ghosts D) (old : Core D) (given : Given) (b : NewBlock) (new : Core D) : Type 0 where
+  pub is : new ≡ record old { store = new.store; counts = new.counts; next_block = old.next_block + 1 }
+  pub ledger : AddsFree old.next_block 1 old.counts new.counts
+  pub stored : IsTrue (disk.tells old.store) → AllThere (disk.reads old.store) b.pieces → disk.reads old.store b.id ≡ None
+      → blocks (disk.reads new.store) b.id ≡ Some (all_samples (sources_with (disk.reads old.store) (brought given)) b.pieces)
+  pub durable : IsTrue (disk.tells old.store) → disk.reads old.store b.id ≡ None
+      → EachNow disk new.store (λ c. c b.id ≡ disk.reads new.store b.id)
+  pub changed : Changed disk (SameElsewhere b.id) (record { files = 1; bytes = size_of b.len; calls = 2 }) old.store new.store
+  pub read_faults : disk.read_fault_count new.store ≡ disk.read_fault_count old.store
+  pub change_faults : disk.change_fault_count new.store ≡ disk.change_fault_count old.store
+
+-- The first n of some new blocks are made, and the ledger has their ids. Of failed reads it says nothing.
+pub record Making {D : Type 0} (disk : Ghosts D) (old : Core D) (given : Given) (n : ℕ) (bs : List NewBlock) (new : Core D) : Type 0 where
+  pub is : new ≡ record old { store = new.store; counts = new.counts; next_block = old.next_block + n }
+  pub ledger : AddsFree old.next_block n old.counts new.counts
+  pub made : IsTrue (disk.tells old.store) → PiecesThere (disk.reads old.store) bs
+      → AreAbsent old.next_block (length bs) (disk.reads old.store)
+      → AreMade (brought given) old.next_block n bs (disk.reads old.store) (disk.reads new.store)
+  -- in each image as the store reads
+  pub same : IsTrue (disk.tells old.store) → PiecesThere (disk.reads old.store) bs
+      → AreAbsent old.next_block (length bs) (disk.reads old.store)
+      → EachNow disk new.store (SameInside old.next_block n (disk.reads new.store))
+  pub changed : Changed disk (SameOutside old.next_block n) (made_room (size_of old.block_size) n) old.store new.store
+  pub change_faults : disk.change_fault_count new.store ≡ disk.change_fault_count old.store
+
+-- Some were made, and the next one was not. Where the disk has the blocks of all pieces, the disk failed.
+pub record Stuck {D : Type 0} (disk : Ghosts D) (old : Core D) (given : Given) (bs : List NewBlock) (why : Refusal) (new : Core D) : Type 0 where
+  pub made : ℕ
+  pub some_left : made < length bs
+  pub mid : Core D
+  pub before : Making disk old given made bs mid
+  pub read_faults : disk.read_fault_count mid.store ≡ disk.read_fault_count old.store
+  pub by : NotMade disk mid why new
+  pub sound : IsTrue (disk.tells old.store) → PiecesThere (disk.reads old.store) bs
+      → AreAbsent old.next_block (length bs) (disk.reads old.store) → why ≡ refusal.DiskFault
+
+abbrev pub MakesOne : {D : Type 0} → Ghosts D → Core D → Given → NewBlock → Result (Unit {0}) Refusal → Core D → Type 0
+MakesOne disk old given b result new = MatchResult result (λ _. MadeOne disk old given b new) (λ why. NotMade disk old why new)
+
+abbrev pub Makes : {D : Type 0} → Ghosts D → Core D → Given → List NewBlock → Result (Unit {0}) Refusal → Core D → Type 0
+Makes disk old given bs result new = MatchResult result
+    (λ _. Making disk old given (length bs) bs new × (disk.read_fault_count new.store ≡ disk.read_fault_count old.store))
+    (λ why. Stuck disk old given bs why new)

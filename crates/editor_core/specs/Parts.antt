@@ -1,0 +1,49 @@
+-- The parts that a studio is made of, as opening a disk finds them.
+use Rattle.std.specs.Prelude.{ℕ, IsTrue, [], None, IsSome}
+use Rattle.std.specs.List.{AllByRecursion}
+use Rattle.disk_model.specs.declared.store.Store.{Ghosts}
+use Rattle.sample_block.specs.Sources.{AllWhole}
+use Rattle.block_ledger.specs.Counts.{IsFreshCount}
+use Rattle.block_ledger.specs.Entries.{count_of}
+use Rattle.project_journal.specs.Header.{IsFormat}
+use Rattle.project_state.specs.Kept.{history_blocks}
+use Rattle.project_state.specs.KeptSound.{IsSoundTagged}
+use Rattle.editor_core.specs.Core.{Core}
+use Rattle.editor_core.specs.Studios.{AreCounters, IsDurable, IsGiven, ids_of}
+use Rattle.editor_core.specs.declared.assembly.Parts.{Parts}
+
+-- the studio of these parts: it is not stopped, nothing was copied, there are no pins, and the next pin is 1
+abbrev pub assembled : {D : Type 0} → D → Parts → Core D
+assembled store p = record {
+  store = store;
+  history = p.history.history;
+  clipboard = None;
+  pins = [];
+  counts = count_of p.ledger;
+  next_block = p.next_block;
+  next_track = p.next_track;
+  next_pin = 1;
+  commit_number = p.commit_number;
+  journal_end = p.journal_end;
+  stopped = None;
+  rate = p.rate;
+  block_size = p.block_size;
+}
+
+-- What is asked of the parts, on every store: the numbers are within their bounds, layouts, ids and tags are sound, and
+-- the ledger counts the blocks of the history, and has ids alone that were given.
+pub record AreParts (p : Parts) : Type 0 where
+  pub format : IsFormat p.rate p.block_size p.history.history.depth
+  pub counters : AreCounters p.next_block p.next_track 1 p.commit_number p.journal_end
+  pub points : AllByRecursion (IsSoundTagged p.block_size p.next_block p.next_track p.commit_number)
+      p.history.history.points
+  pub counted : IsFreshCount (ids_of (history_blocks p.history.history)) (count_of p.ledger)
+  pub given : (id : ℕ) → IsSome (count_of p.ledger id) → IsGiven p.next_block id
+
+-- The disk has what the parts stand for: it tells its bytes, each block that the history names is whole as it reads,
+-- the records of the journal lead to the history, next track and commit number, each image has the named blocks, and
+-- the ledger's ids are the block files.
+pub record HasParts {D : Type 0} (disk : Ghosts D) (store : D) (p : Parts) : Type 0 where
+  pub tells : IsTrue (disk.tells store)
+  pub whole : AllWhole (disk.reads store) (history_blocks p.history.history)
+  pub durable : IsDurable disk (assembled store p)

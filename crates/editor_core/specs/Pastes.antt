@@ -1,0 +1,56 @@
+-- The strips of the clipboard, put into a run of tracks.
+use Rattle.std.specs.Prelude.{◌≡◌, ◌⊎◌, ℕ, Option, Some, None, List, length, take}
+use Rattle.std.specs.List.{AllByRecursion}
+use Rattle.pcm_base.specs.declared.command.Command.{Command}
+use Rattle.pcm_base.specs.declared.command.Command.TheVariants as command
+use Rattle.pcm_base.specs.declared.refusal.Refusal.{Refusal}
+use Rattle.pcm_base.specs.declared.refusal.Refusal.TheVariants as refusal
+use Rattle.pcm_base.specs.declared.sound.Cell.{Cell}
+use Rattle.pcm_base.specs.Edits.{inserted, pasted_over}
+use Rattle.pcm_base.specs.Refusals.{◌otherwise◌, covered_length, inserted_length}
+use Rattle.clip_track.specs.declared.items.Item.{Item}
+use Rattle.clip_track.specs.Items.{AreItems}
+use Rattle.edit_ops.specs.declared.types.NewBlock.{NewBlock}
+use Rattle.edit_ops.specs.declared.types.Plan.{Plan}
+use Rattle.edit_ops.specs.Runs.{ArePastes, clipboard_tests}
+use Rattle.project_state.specs.declared.track.Track.{Track}
+use Rattle.project_state.specs.Tracks.{track_of}
+use Rattle.editor_core.specs.declared.pastes.PasteEdit.{PasteEdit}
+use Rattle.editor_core.specs.declared.pastes.PasteEdit.TheVariants.{Insert, Cover}
+use Rattle.editor_core.specs.Copies.{run_of}
+use Rattle.editor_core.specs.Points.{lacks}
+use Rattle.editor_core.specs.RunEdits.{IsRunPlan}
+
+-- the line that asks for it
+abbrev pub paste_line : PasteEdit → (id at : ℕ) → Command
+paste_line Insert id at = command.Paste id at
+paste_line Cover id at = command.PasteOver id at
+
+-- what it makes of a track's cells, by those of the strip
+abbrev pub paste_cells : PasteEdit → ℕ → List Cell → List Cell → List Cell
+paste_cells Insert at = inserted at
+paste_cells Cover at = pasted_over at
+
+-- and of a track's length, by the strip's
+abbrev pub paste_length : PasteEdit → ℕ → ℕ → ℕ → ℕ
+paste_length Insert at = inserted_length at
+paste_length Cover at = covered_length at
+
+-- what refuses it
+abbrev pub paste_refusal : PasteEdit → (id at : ℕ) → Option (List (List Item)) → List Track → Option Refusal
+paste_refusal e id at clip ts = (lacks id (track_of id ts)) otherwise (clipboard_tests (paste_length e at) clip (run_of id ts))
+
+-- the tracks with the strips put in, the blocks that are to be made for them, and the id after them
+pub record IsPastePlan (e : PasteEdit) (id at m next : ℕ) (clip : Option (List (List Item))) (old new : List Track) (makes : List NewBlock)
+    (after : ℕ) : Type 0 where
+  pub tests : paste_refusal e id at clip old ≡ None
+  pub strips : List (List Item)
+  pub clip_is : clip ≡ Some strips
+  pub items : AllByRecursion AreItems strips
+  pub plans : List Plan
+  pub pastes : ArePastes (paste_cells e at) m next strips (take (length strips) (run_of id old)) plans
+  pub laid : IsRunPlan id next old new plans makes after
+
+-- there are none: an own test refuses it, or there is no memory
+abbrev pub NoPastePlan : PasteEdit → (id at : ℕ) → Option (List (List Item)) → List Track → Refusal → Type 0
+NoPastePlan e id at clip old why = (paste_refusal e id at clip old ≡ Some why) ⊎ (why ≡ refusal.NoMemory)

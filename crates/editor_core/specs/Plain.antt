@@ -1,0 +1,77 @@
+-- Edits that make no blocks: what each refuses, and the project that it makes.
+use Rattle.std.specs.Prelude.{◌≡◌, ℕ, ◌+◌, ◌≤◌, nat_lt, ◌==◌, if◌then◌else◌, false, List, [], ◌∷◌, ◌++◌, length, Option, Some}
+use Rattle.std.specs.List.{flat_map}
+use Rattle.pcm_base.specs.declared.sound.Side.TheVariants.{Both}
+use Rattle.pcm_base.specs.declared.command.Command.{Command}
+use Rattle.pcm_base.specs.declared.command.Command.TheVariants as command
+use Rattle.pcm_base.specs.declared.refusal.Refusal.{Refusal}
+use Rattle.pcm_base.specs.declared.refusal.Refusal.TheVariants.{TrackLimit}
+use Rattle.pcm_base.specs.Refusals.{refused_if}
+use Rattle.project_state.specs.Tracks.{track_of}
+use Rattle.project_state.specs.declared.track.Track.{Track}
+use Rattle.editor_core.specs.declared.plain.PlainEdit.{PlainEdit}
+use Rattle.editor_core.specs.declared.plain.PlainEdit.TheVariants as edit
+use Rattle.editor_core.specs.Points.{put_in, lacks}
+
+-- the line that asks for it
+abbrev pub line_of : PlainEdit → Command
+line_of edit.Track = command.Track
+line_of (edit.Drop id) = command.Drop id
+line_of (edit.Level id gain) = command.Level id gain
+line_of (edit.Side id side) = command.Side id side
+line_of (edit.Mute id mute) = command.Mute id mute
+
+abbrev pub IsGood : PlainEdit → Type 0
+IsGood edit.Track = Unit {0}
+IsGood (edit.Drop id) = Unit {0}
+IsGood (edit.Level id gain) = gain ≤ 1048576
+IsGood (edit.Side id side) = Unit {0}
+IsGood (edit.Mute id mute) = Unit {0}
+
+abbrev pub tracks_by : PlainEdit → ℕ
+tracks_by edit.Track = 1
+tracks_by (edit.Drop id) = 0
+tracks_by (edit.Level id gain) = 0
+tracks_by (edit.Side id side) = 0
+tracks_by (edit.Mute id mute) = 0
+
+-- what refuses it
+abbrev pub refusal_by : PlainEdit → List Track → Option Refusal
+refusal_by edit.Track ts = refused_if (nat_lt 64 (length ts + 1)) TrackLimit
+refusal_by (edit.Drop id) ts = lacks id (track_of id ts)
+refusal_by (edit.Level id gain) ts = lacks id (track_of id ts)
+refusal_by (edit.Side id side) ts = lacks id (track_of id ts)
+refusal_by (edit.Mute id mute) ts = lacks id (track_of id ts)
+
+-- what it makes of a track
+abbrev pub set_by : PlainEdit → Track → Track
+set_by edit.Track t = t
+set_by (edit.Drop id) t = t
+set_by (edit.Level id gain) t = record t { gain = gain }
+set_by (edit.Side id side) t = record t { side = side }
+set_by (edit.Mute id mute) t = record t { mute = mute }
+
+-- the tracks with the one of an id changed
+pub record IsSet (id : ℕ) (f : Track → Track) (old new : List Track) : Type 0 where
+  pub track : Track
+  pub found : track_of id old ≡ Some track
+  pub is : new ≡ put_in (f track) old
+
+-- the tracks without the one of an id
+abbrev pub other_one : ℕ → Track → List Track
+other_one id t = if t.id == id then [] else t ∷ []
+
+abbrev pub without : ℕ → List Track → List Track
+without id ts = flat_map (other_one id) ts
+
+-- a track without clips
+abbrev pub empty_track : ℕ → Track
+empty_track id = record { id = id; gain = 65536; side = Both; mute = false; layout = [] }
+
+-- the project that it makes, where the next track has this id
+abbrev pub IsEdited : PlainEdit → ℕ → List Track → List Track → Type 0
+IsEdited edit.Track next old new = new ≡ old ++ empty_track next ∷ []
+IsEdited (edit.Drop id) next old new = new ≡ without id old
+IsEdited (edit.Level id gain) next old new = IsSet id (set_by (edit.Level id gain)) old new
+IsEdited (edit.Side id side) next old new = IsSet id (set_by (edit.Side id side)) old new
+IsEdited (edit.Mute id mute) next old new = IsSet id (set_by (edit.Mute id mute)) old new

@@ -1,0 +1,37 @@
+-- Calls that only look.
+use Rattle.std.specs.Prelude.{◌≡◌, ℕ, ◌≤◌, Some, List, length, take, Result, IfOk, IfErr}
+use Rattle.pcm_base.specs.declared.answer.Reply.{Reply}
+use Rattle.pcm_base.specs.declared.command.Call.{Call}
+use Rattle.pcm_base.specs.declared.refusal.Refusal.{Refusal}
+use Rattle.clip_track.specs.declared.clips.Clip.{Clip}
+use Rattle.disk_model.specs.Frames.{Kept}
+use Rattle.disk_model.specs.declared.store.Store.{Ghosts}
+use Rattle.envelope_view.specs.Answers.{IsUndamaged}
+use Rattle.project_state.specs.declared.track.Track.{Track}
+use Rattle.project_state.specs.Tracks.{track_of}
+use Rattle.editor_core.specs.Adding.{IsNoWant}
+use Rattle.editor_core.specs.Core.{Core}
+use Rattle.editor_core.specs.Studios.{IsHeld}
+use Rattle.editor_core.specs.Took.{Took, silent, told_by}
+
+-- A call that only looks: it is one step; whatever the disk tells, nothing of the studio changes, and nothing of its
+-- disk; and a disk that holds what the studio stands for shows no damaged file.
+pub record Looks {D : Type 0} (disk : Ghosts D) (old : Core D) (call : Call) (told : Result Reply Refusal)
+    (new : Core D) : Type 0 where
+  pub took : Took disk old call silent told 0 new
+  pub same : new ≡ record old { store = new.store }
+  pub kept : Kept disk old.store new.store
+  pub sound : IsHeld disk old → IfErr told IsUndamaged
+
+-- The same of a call that takes no memory, and replies by what it put at the front of a buffer.
+pub record Sees {D A : Type 0} (disk : Ghosts D) (old : Core D) (call : Call) (reply : List A → Reply) (out : List A)
+    (result : Result ℕ Refusal) (new : Core D) : Type 0 where
+  pub looks : Looks disk old call (told_by (λ n. reply (take n out)) result) new
+  pub count : IfOk result (λ n. n ≤ length out)
+  pub memory : IfErr result IsNoWant
+
+-- the layout of the track with this id
+pub record HasLayout (id : ℕ) (ts : List Track) (layout : List Clip) : Type 0 where
+  pub track : Track
+  pub found : track_of id ts ≡ Some track
+  pub is : layout ≡ track.layout

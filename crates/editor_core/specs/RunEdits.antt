@@ -1,0 +1,42 @@
+-- Edits of a run: a track and those after it in the project, each by a plan of its new layout.
+use Rattle.std.specs.Prelude.{◌≡◌, ℕ, ◌+◌, ◌≤◌, nat_le, if◌then◌else◌, List, [], ◌∷◌, ◌++◌, drop, length}
+use Rattle.std.specs.List.{flat_map, AllByRecursion}
+use Rattle.clip_track.specs.Clips.{IsLayout}
+use Rattle.edit_ops.specs.declared.types.NewBlock.{NewBlock}
+use Rattle.edit_ops.specs.declared.types.Plan.{Plan}
+use Rattle.project_state.specs.declared.track.Track.{Track}
+use Rattle.editor_core.specs.Copies.{run_of}
+use Rattle.editor_core.specs.TrackEdits.{with_layout}
+
+-- a track with the layout of the first of some plans
+abbrev pub laid_by : List Plan → Track → Track
+laid_by [] t = t
+laid_by (p ∷ ps) t = with_layout t p.layout
+
+-- the tracks whose ids are this one or greater with the layouts of plans, one after another, as far as there are plans
+abbrev pub laid_from : ℕ → List Plan → List Track → List Track
+laid_from id ps [] = []
+laid_from id ps (t ∷ ts) =
+    if nat_le id t.id then laid_by ps t ∷ laid_from id (drop 1 ps) ts else t ∷ laid_from id ps ts
+
+-- the blocks that are to be made for plans
+abbrev pub made_by : List Plan → List NewBlock
+made_by ps = flat_map (λ (p : Plan). p.makes) ps
+
+abbrev pub AreLayouts : List Plan → Type 0
+AreLayouts ps = AllByRecursion (λ (p : Plan). IsLayout p.layout) ps
+
+-- One track is laid out, by the next plan where it is in the run: some plans are left, and their blocks come to others.
+pub record Lays (id : ℕ) (old new : List Plan) (made more : List NewBlock) (t laid : Track) : Type 0 where
+  pub id_is : laid.id ≡ t.id
+  pub track : (ts : List Track) → laid_from id old (t ∷ ts) ≡ laid ∷ laid_from id new ts
+  pub makes : more ++ made_by new ≡ made ++ made_by old
+  pub layouts : AreLayouts new → AreLayouts old
+  pub fits : (ts : List Track) → length old ≤ length (run_of id (t ∷ ts)) → length new ≤ length (run_of id ts)
+
+-- the tracks with a run laid out by plans, the blocks that are to be made for them, and the id after them
+pub record IsRunPlan (id next : ℕ) (old new : List Track) (plans : List Plan) (makes : List NewBlock) (after : ℕ) : Type 0 where
+  pub is : new ≡ laid_from id plans old
+  pub makes_is : makes ≡ made_by plans
+  pub after_is : after ≡ next + length makes
+  pub layouts : AreLayouts plans

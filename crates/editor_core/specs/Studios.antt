@@ -1,0 +1,159 @@
+-- What a studio stands for, and what always holds of it.
+use Rattle.std.specs.Prelude.{◌≡◌, ◌↔◌, ℕ, ◌+◌, ◌≤◌, ◌<◌, ◌^◌, ◌==◌, if◌then◌else◌, IsTrue, Option, Some, None, IsSome, List, [], ◌∷◌, ◌++◌, length, map}
+use Rattle.std.specs.Option.{option_map}
+use Rattle.std.specs.List.{flat_map, AllByRecursion}
+use Rattle.pcm_base.specs.declared.block.BlockRef.{BlockRef}
+use Rattle.pcm_base.specs.declared.sound.Cell.{Cell}
+use Rattle.pcm_base.specs.Cells.{Project}
+use Rattle.pcm_base.specs.Pieces.{Sources}
+use Rattle.pcm_base.specs.Studio as model
+use Rattle.disk_model.specs.Disk.{Files}
+use Rattle.disk_model.specs.declared.store.Store.{Ghosts}
+use Rattle.sample_block.specs.Sources.{sources_of, AllWhole}
+use Rattle.block_ledger.specs.Counts.{IsFreshCount}
+use Rattle.clip_track.specs.declared.items.Item.{Item}
+use Rattle.clip_track.specs.Items.{strip_len, strip_cells, strip_blocks}
+use Rattle.edit_ops.specs.Runs.{AreClips}
+use Rattle.project_journal.specs.Gate.{EachNow}
+use Rattle.project_journal.specs.Header.{version_1, IsFormat}
+use Rattle.project_journal.specs.Journal.{Log, IsAt}
+use Rattle.project_state.specs.Kept.{Kept, Opened, new_project, LeadTo, meant, meant_history, point_blocks, history_blocks}
+use Rattle.project_state.specs.KeptSound.{IsSoundPoint, IsSoundTagged}
+use Rattle.editor_core.specs.Core.{Core}
+use Rattle.editor_core.specs.declared.studio.Pin.{Pin}
+
+-- ---- what it stands for
+
+-- the project of the pin with this number
+abbrev pub pin_at : Sources → List Pin → ℕ → Option Project
+pin_at src [] n = None
+pin_at src (p ∷ ps) n = if n == p.number then Some (meant src p.point) else pin_at src ps n
+
+-- the cells of what was copied
+abbrev pub clip_cells : Sources → Option (List (List Item)) → Option (List (List Cell))
+clip_cells src clip = option_map (map (strip_cells src)) clip
+
+module _ {D : Type 0} where
+  -- by where the samples of its blocks come from
+  abbrev pub studio_by : Sources → Ghosts D → Core D → model.Studio
+  studio_by src disk s = record {
+    state = record {
+      history = meant_history src s.history;
+      clipboard = clip_cells src s.clipboard;
+      pins = pin_at src s.pins;
+      next_track = s.next_track;
+      next_pin = s.next_pin;
+      commit = s.commit_number;
+    };
+    stopped = s.stopped;
+    rate = s.rate;
+    block_size = s.block_size;
+    next_block = s.next_block;
+    journal_end = s.journal_end;
+    read_faults = disk.read_fault_count s.store;
+    change_faults = disk.change_fault_count s.store;
+  }
+
+  -- by the samples that its store reads
+  abbrev pub studio_of : Ghosts D → Core D → model.Studio
+  studio_of disk s = studio_by (sources_of (disk.reads s.store)) disk s
+
+-- what opening a disk that keeps it finds
+abbrev pub shown : model.Studio → Opened
+shown t = record {
+  rate = t.rate;
+  block_size = t.block_size;
+  history = t.state.history;
+  next_track = t.state.next_track;
+  commit = t.state.commit;
+}
+
+-- ---- the blocks that it names
+
+abbrev pub clip_blocks : Option (List (List Item)) → List BlockRef
+clip_blocks None = []
+clip_blocks (Some strips) = flat_map strip_blocks strips
+
+abbrev pub pin_blocks : List Pin → List BlockRef
+pin_blocks pins = flat_map (λ (p : Pin). point_blocks p.point) pins
+
+-- of its points, its pins and its clipboard
+abbrev pub named_blocks : {D : Type 0} → Core D → List BlockRef
+named_blocks s = history_blocks s.history ++ (pin_blocks s.pins ++ clip_blocks s.clipboard)
+
+abbrev pub ids_of : List BlockRef → List ℕ
+ids_of bs = map (λ (b : BlockRef). b.id) bs
+
+-- ---- what holds of it
+
+-- the files of these blocks are the same
+abbrev pub SameBlocks : List BlockRef → Files → Files → Type 0
+SameBlocks bs files other = AllByRecursion (λ (b : BlockRef). other b.id ≡ files b.id) bs
+
+-- an id of a block that was given
+abbrev pub IsGiven : ℕ → ℕ → Type 0
+IsGiven next id = (16 ≤ id) × (id < next)
+
+-- the numbers of pins rise, and are below the next one
+abbrev pub PinsRise : ℕ → ℕ → List Pin → Type 0
+PinsRise least next [] = Unit {0}
+PinsRise least next (p ∷ ps) = (least ≤ p.number) × (p.number < next) × PinsRise (p.number + 1) next ps
+
+-- what was copied can be put in again at this block size: at most 64 strips, each of at most 2^32 cells
+pub record IsClipboard (m : ℕ) (strips : List (List Item)) : Type 0 where
+  pub few : length strips ≤ 64
+  pub short : AllByRecursion (λ strip. strip_len strip ≤ 2 ^ 32) strips
+  pub fits : AreClips m strips
+
+abbrev pub MayPaste : ℕ → Option (List (List Item)) → Type 0
+MayPaste m None = Unit {0}
+MayPaste m (Some strips) = IsClipboard m strips
+
+-- the counters are within their bounds
+pub record AreCounters (next_block next_track next_pin commit end : ℕ) : Type 0 where
+  pub block_least : 16 ≤ next_block
+  pub block_most : next_block ≤ 2 ^ 62
+  pub track_least : 1 ≤ next_track
+  pub track_most : next_track ≤ 2 ^ 62
+  pub pin_least : 1 ≤ next_pin
+  pub pin_most : next_pin ≤ 2 ^ 62
+  pub commit_most : commit ≤ 2 ^ 62
+  pub end_most : end ≤ 2 ^ 62
+
+-- The records of the disk's journal lead to the studio's history, next track and commit number; a stop leaves each
+-- block that the studio names as the store reads it; and the ids that are counted are the block files.
+pub record IsDurable {D : Type 0} (disk : Ghosts D) (s : Core D) : Type 0 where
+  pub log : Log
+  pub kept : Kept
+  pub there : IsAt version_1 disk s.store s.journal_end log
+  pub told : LeadTo log.block_size (new_project log.depth) log.bodies kept
+  pub rate : log.rate ≡ s.rate
+  pub block_size : log.block_size ≡ s.block_size
+  pub history : kept.history ≡ s.history
+  pub next_block : kept.next_block ≤ s.next_block
+  pub next_track : kept.next_track ≡ s.next_track
+  pub commit : kept.commit ≡ s.commit_number
+  pub blocks : EachNow disk s.store (SameBlocks (named_blocks s) (disk.reads s.store))
+  pub files : (id : ℕ) → 16 ≤ id → id < 2 ^ 62 → IsSome (s.counts id) ↔ IsSome (disk.reads s.store id)
+
+-- What holds of a studio whenever no call of it is under way, on every store, whatever it tells.
+pub record IsStudio {D : Type 0} (disk : Ghosts D) (s : Core D) : Type 0 where
+  pub format : IsFormat s.rate s.block_size s.history.depth
+  pub counters : AreCounters s.next_block s.next_track s.next_pin s.commit_number s.journal_end
+  pub few_points : length s.history.points ≤ s.history.depth
+  pub few_clips : length (clip_blocks s.clipboard) ≤ 2 ^ 71
+  pub points : AllByRecursion (IsSoundTagged s.block_size s.next_block s.next_track s.commit_number) s.history.points
+  pub pins : AllByRecursion (λ (p : Pin). IsSoundPoint s.block_size s.next_block s.next_track p.point) s.pins
+  pub numbers : PinsRise 1 s.next_pin s.pins
+  pub clipboard : MayPaste s.block_size s.clipboard
+  pub ids : AllByRecursion (λ (b : BlockRef). IsGiven s.next_block b.id) (named_blocks s)
+  -- each block is counted as often as a point, a pin or the clipboard names it
+  pub counted : IsFreshCount (ids_of (named_blocks s)) s.counts
+  pub given : (id : ℕ) → IsSome (s.counts id) → IsGiven s.next_block id
+
+-- The disk has what the studio stands for: it tells its bytes, each block that the studio names is whole as it reads,
+-- and, as long as no change of it failed, its journal leads to the studio's history and a stop leaves all of this.
+pub record IsHeld {D : Type 0} (disk : Ghosts D) (s : Core D) : Type 0 where
+  pub tells : IsTrue (disk.tells s.store)
+  pub whole : AllWhole (disk.reads s.store) (named_blocks s)
+  pub durable : s.stopped ≡ None → IsDurable disk s

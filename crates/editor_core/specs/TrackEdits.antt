@@ -1,0 +1,68 @@
+-- Edits of one track, each by a plan of its new layout.
+use Rattle.std.specs.Prelude.{◌≡◌, ◌⊎◌, ℕ, ◌+◌, ◌≤◌, ℤ, Option, Some, None, List, length}
+use Rattle.pcm_base.specs.declared.command.Call.{Call}
+use Rattle.pcm_base.specs.declared.entry.SoundMove.{SoundMove}
+use Rattle.pcm_base.specs.declared.refusal.Refusal.{Refusal}
+use Rattle.pcm_base.specs.declared.refusal.Refusal.TheVariants as refusal
+use Rattle.pcm_base.specs.declared.sound.Cell.{Cell}
+use Rattle.pcm_base.specs.Cells.{cells_at, edited_at}
+use Rattle.pcm_base.specs.History.{recorded}
+use Rattle.pcm_base.specs.Outside.{Outside}
+use Rattle.pcm_base.specs.Pieces.{Sources}
+use Rattle.pcm_base.specs.Refusals.{◌otherwise◌, call_tests, no_track}
+use Rattle.pcm_base.specs.State.{State, current}
+use Rattle.pcm_base.specs.Step.{after}
+use Rattle.clip_track.specs.declared.clips.Clip.{Clip}
+use Rattle.clip_track.specs.Clips.{end_of, IsLayout, layout_blocks, layout_cells}
+use Rattle.edit_ops.specs.declared.types.NewBlock.{NewBlock}
+use Rattle.edit_ops.specs.declared.types.Plan.{Plan}
+use Rattle.edit_ops.specs.Plans.{IsPlan, Means}
+use Rattle.piece_store.specs.declared.given.Given.{Given}
+use Rattle.piece_store.specs.Bringing.{brought}
+use Rattle.project_state.specs.declared.track.Track.{Track}
+use Rattle.project_state.specs.Tracks.{track_of}
+use Rattle.editor_core.specs.Edits.{IsEditCall}
+use Rattle.editor_core.specs.Points.{put_in, lacks}
+
+abbrev pub with_layout : Track → List Clip → Track
+with_layout t layout = record t { layout = layout }
+
+abbrev pub end_of_track : Option Track → ℕ
+end_of_track None = 0
+end_of_track (Some t) = end_of 0 t.layout
+
+-- what refuses the edit of a track: that there is none, or what its length says
+abbrev pub track_refusal : ℕ → (ℕ → Option Refusal) → Option Track → Option Refusal
+track_refusal id test found = (lacks id found) otherwise (test (end_of_track found))
+
+-- What an edit makes of the cells of a track, by the samples that the command brings; what refuses it, by the track's
+-- length; and how many blocks it may make, by the block size and the cells before it.
+pub record TrackEdit : Type 0 where
+  pub cells : (ℕ → ℤ) → List Cell → List Cell
+  pub test : ℕ → Option Refusal
+  pub most : ℕ → List Cell → ℕ
+
+-- the tracks with one edited, the blocks that are to be made for it, and the id after them
+pub record IsTrackPlan (e : TrackEdit) (count id m next : ℕ) (old new : List Track) (makes : List NewBlock) (after : ℕ) : Type 0 where
+  pub track : Track
+  pub found : track_of id old ≡ Some track
+  pub tests : e.test (end_of 0 track.layout) ≡ None
+  pub plan : Plan
+  pub is_plan : IsPlan m next (layout_blocks track.layout) count plan
+  pub means : Means (λ src. e.cells src.given) track.layout plan
+  pub layout : IsLayout plan.layout
+  pub few : (src : Sources) → length plan.makes ≤ e.most m (layout_cells src track.layout)
+  pub is : new ≡ put_in (with_layout track plan.layout) old
+  pub makes_is : makes ≡ plan.makes
+  pub after_is : after ≡ plan.next
+
+-- there is none: an own test refuses it, or there is no memory
+abbrev pub NoTrackPlan : TrackEdit → ℕ → List Track → Refusal → Type 0
+NoTrackPlan e id old why = (track_refusal id e.test (track_of id old) ≡ Some why) ⊎ (why ≡ refusal.NoMemory)
+
+-- A call that makes this edit of a track, with what it brings, under this tag. Of each such call these are all `refl`.
+pub record IsTrackCall (c : Call) (sound : SoundMove) (e : TrackEdit) (given : Given) (id tag : ℕ) : Type 0 where
+  pub call : IsEditCall c sound 0 (λ m s. e.most m (cells_at id (current s)))
+  pub own : (out : Outside) (s : State) → call_tests out s c ≡ ((no_track s id) otherwise (e.test (length (cells_at id (current s)))))
+  pub after_is : (out : Outside) (s : State) → after out s c
+      ≡ record s { history = recorded s.history (edited_at id (e.cells (brought given)) (current s)) tag; commit = s.commit + 1 }

@@ -1,0 +1,194 @@
+// An edit that makes blocks, from its plan to its commit.
+ghost use Rattle.std.specs.Prelude.{◌≡◌, ℕ, ◌+◌, ◌≤◌, ◌<◌, ◌^◌, length, vec_capacity, IfErr, IfOk, MatchResult, None, OnOk, Some};
+ghost use Rattle.pcm_base.specs.declared.answer.Reply.TheVariants as reply;
+ghost use Rattle.pcm_base.specs.declared.command.Call.{Call};
+ghost use Rattle.pcm_base.specs.declared.entry.SoundMove.{SoundMove};
+ghost use Rattle.pcm_base.specs.Counters.{no_room};
+ghost use Rattle.pcm_base.specs.History.{recorded};
+ghost use Rattle.block_ledger.specs.Counts.{occurrences};
+ghost use Rattle.block_ledger.specs.Entries.{count_of};
+ghost use Rattle.edit_ops.specs.Plans.{AreNew};
+ghost use Rattle.piece_store.specs.Bringing.{brought_count};
+ghost use Rattle.envelope_view.specs.Answers.{IsUndamaged};
+ghost use Rattle.project_state.specs.Spelling.{spelling};
+ghost use Rattle.editor_core.specs.Core.{core_of};
+ghost use Rattle.editor_core.specs.Edits.{Spends, IsPlanned, IsEdit, IsPrepared, NotPrepared, Carried, clip_then};
+ghost use Rattle.editor_core.specs.Made.{PiecesReadable};
+ghost use Rattle.editor_core.specs.Occurrences.{HasAll, HasIds, Moves};
+ghost use Rattle.editor_core.specs.Studios.{IsHeld, IsStudio, MayPaste, clip_blocks};
+ghost use Rattle.editor_core.specs.Took.{Took, told_by};
+
+use super::commits::MOST;
+use super::studio::Studio;
+use disk_model::Store;
+use edit_ops::{NewBlock, NewBlocks, Strips};
+use pcm_base::{NoMemory, Refusal};
+use piece_store::Given;
+use project_state::{Body, Point, body_len, write_body};
+
+/// A new point, the blocks that are to be made for it, the id of the next block after them, how many track ids it
+/// gives, and what it puts into the clipboard, if anything.
+pub(crate) struct Planned {
+    pub(crate) point: Point,
+    pub(crate) makes: NewBlocks,
+    pub(crate) next: u64,
+    pub(crate) tracks: u64,
+    pub(crate) clip: Option<Strips>,
+}
+
+// Whether a counter has room for so many more.
+fn has_room(have: u64, need: u64) -> Result<(), Refusal>
+    requires { have ≤ 2 ^ 62 }
+    ensures { MatchResult result (λ _. have + need ≤ 2 ^ 62) (λ e. no_room have need ≡ Some e) }
+{
+    if need > MOST - have {
+        return Err(Refusal::SpaceSpent { have, need });
+    }
+    Ok(())
+}
+
+impl<S: Store> Studio<S> {
+    // Whether the counters have room for so many blocks and track ids, and for a commit.
+    fn may_make(&self, blocks: u64, tracks: u64) -> Result<(), Refusal>
+        requires next { self.now.next_block ≤ 2 ^ 62 }
+        requires ids { self.now.next_track ≤ 2 ^ 62 }
+        requires number { self.now.commit_number ≤ 2 ^ 62 }
+        ensures blocks { OnOk result (self.now.next_block + blocks ≤ 2 ^ 62) }
+        ensures ids { OnOk result (self.now.next_track + tracks ≤ 2 ^ 62) }
+        ensures number { OnOk result (self.now.commit_number < 2 ^ 62) }
+        ensures err { IfErr result (Spends self.now.next_block blocks self.now.next_track tracks self.now.commit_number) }
+    {
+        has_room(self.next_block, blocks)?;
+        has_room(self.next_track, tracks)?;
+        has_room(self.commit_number, 1)
+    }
+
+    // Writes the body of a record, and makes room for the row of the journal.
+    fn ready_row(&mut self, body: &Body, len: usize) -> Result<(), NoMemory>
+        requires few { len ≤ 2 ^ 44 }
+        ensures same { core_of self.new ≡ core_of self.old }
+        ensures body { OnOk result (self.new.body.items ≡ spelling body.now) }
+        ensures row { OnOk result (5 + len ≤ vec_capacity self.new.row) }
+        ensures history { self.new.history ≡ self.old.history }
+        ensures ledger { self.new.ledger ≡ self.old.ledger }
+    {
+        write_body(body, &mut self.body)?;
+        self.row.clear();
+        self.row.reserve(len + 5)?;
+        Ok(())
+    }
+
+    // Makes room for so many blocks in the ledger, and for a point in the history.
+    fn ready_counts(&mut self, count: u64) -> Result<(), NoMemory>
+        ensures same { core_of self.new ≡ core_of self.old }
+        ensures spare { OnOk result (count ≤ self.new.ledger.spare) }
+        ensures point { OnOk result (length self.new.history.history.points < self.new.history.capacity) }
+    {
+        self.ledger.reserve(count)?;
+        self.make_room()
+    }
+
+    // Tests the counters and the journal's places, and takes all memory that is needed. Nothing is asked of the disk.
+    fn prepare(&mut self, body: &Body, blocks: u64, tracks: u64) -> Result<(), Refusal>
+        requires next { self.old.next_block ≤ 2 ^ 62 }
+        requires ids { self.old.next_track ≤ 2 ^ 62 }
+        requires number { self.old.commit_number ≤ 2 ^ 62 }
+        requires end { self.old.journal_end ≤ 2 ^ 62 }
+        ensures same { core_of self.new ≡ core_of self.old }
+        ensures prepared { OnOk result (IsPrepared (core_of self.old) blocks tracks (length (spelling body.now))) }
+        ensures body { OnOk result (self.new.body.items ≡ spelling body.now) }
+        ensures row { OnOk result (5 + length (spelling body.now) ≤ vec_capacity self.new.row) }
+        ensures spare { OnOk result (blocks ≤ self.new.ledger.spare) }
+        ensures point { OnOk result (length self.new.history.history.points < self.new.history.capacity) }
+        ensures err { IfErr result (NotPrepared (core_of self.old) blocks tracks (length (spelling body.now))) }
+    {
+        self.may_make(blocks, tracks)?;
+        let len = body_len(body);
+        self.may_add(len as u64)?;
+        self.ready_counts(blocks)?;
+        self.ready_row(body, len)?;
+        Ok(())
+    }
+
+    // Makes the blocks of an edit, and adds its record.
+    fn carry(
+        &mut self,
+        body: &Body,
+        makes: &[NewBlock],
+        tracks: u64,
+        given: &Given,
+    ) -> Result<(), Refusal>
+        requires studio { IsStudio S.Store (core_of self.old) }
+        requires new { AreNew self.old.buffers self.old.next_block makes.now }
+        requires pieces { PiecesReadable (brought_count given.now) makes.now }
+        ensures carried { Carried S.Store (core_of self.old) given.now makes.now tracks (spelling body.now) result
+            (core_of self.new) }
+        ensures history { self.new.history.history ≡ self.old.history.history }
+        ensures point { OnOk result (length self.new.history.history.points < self.new.history.capacity) }
+    {
+        self.prepare(body, makes.len() as u64, tracks)?;
+        self.make_blocks(makes, given)?;
+        self.commit_written()
+    }
+
+    // Puts what an edit takes out, if anything, into the clipboard. It takes no memory.
+    fn take_out(&mut self, clip: Option<Strips>)
+        requires there { HasIds (count_of self.old.ledger) (clip_blocks (clip_then clip self.old.clipboard)) }
+        requires room { (id : ℕ) → occurrences (count_of self.old.ledger id) < 2 ^ 102 }
+        requires fits { MayPaste self.old.buffers (clip_then clip self.old.clipboard) }
+        requires named { HasAll (count_of self.old.ledger) (clip_blocks self.old.clipboard) }
+        ensures fields { core_of self.new ≡ record (core_of self.old) {
+          clipboard = clip_then clip self.old.clipboard;
+          counts = count_of self.new.ledger;
+        } }
+        ensures moves { Moves (count_of self.old.ledger) (count_of self.new.ledger)
+            (clip_blocks self.old.clipboard) (clip_blocks (clip_then clip self.old.clipboard)) }
+    {
+        match clip {
+            Some(strips) => self.take_clip(strips),
+            None => {}
+        }
+    }
+
+    // Carries an edit out: makes its blocks, adds its record, records its point under this tag, where 0 is none, and
+    // puts what it takes out into the clipboard.
+    pub(crate) fn carry_out(
+        &mut self,
+        edit: Planned,
+        tag: u64,
+        given: &Given,
+    ) -> Result<u64, Refusal>
+        requires studio { IsStudio S.Store (core_of self.old) }
+        requires going { self.old.stopped ≡ None }
+        requires planned { IsPlanned (core_of self.old) given.now edit.makes tag edit.tracks edit.point
+            (clip_then edit.clip self.old.clipboard) }
+        requires next { edit.next ≡ self.old.next_block + length edit.makes }
+        requires few { edit.tracks ≤ 64 }
+        ensures took { (c : Call) → (sound : SoundMove) → IsEdit S.Store (core_of self.old) c sound edit.tracks given.now
+            edit.makes (recorded self.old.history.history edit.point tag) (clip_then edit.clip self.old.clipboard)
+            → Took S.Store (core_of self.old) c sound (told_by (λ _. reply.Done) result) 0 (core_of self.new) }
+        ensures number { IfOk result (λ n. n ≡ self.new.commit_number) }
+        ensures sound { IsHeld S.Store (core_of self.old) → IfErr result IsUndamaged }
+    {
+        let Planned {
+            point,
+            makes,
+            next,
+            tracks,
+            clip,
+        } = edit;
+        let body = Body::Edit {
+            tag,
+            next_block: next,
+            next_track: self.next_track + tracks,
+            point,
+        };
+        self.carry(&body, makes.as_slice(), tracks, given)?;
+        let Body::Edit { point, .. } = body else {
+            unreachable!();
+        };
+        self.take_recorded(point, tag, tracks);
+        self.take_out(clip);
+        Ok(self.commit_number)
+    }
+}

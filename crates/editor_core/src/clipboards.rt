@@ -1,0 +1,131 @@
+// Which blocks the clipboard names, counted.
+ghost use Rattle.std.specs.Prelude.{◌≡◌, ◌+◌, ◌≤◌, ◌<◌, ◌^◌, ℕ, length, Some};
+ghost use Rattle.block_ledger.specs.Counts.{occurrences};
+ghost use Rattle.block_ledger.specs.Entries.{count_of};
+ghost use Rattle.clip_track.specs.Items.{item_blocks, strip_blocks};
+ghost use Rattle.editor_core.specs.Copies.{blocks_in, strips_blocks};
+ghost use Rattle.editor_core.specs.Core.{core_of};
+ghost use Rattle.editor_core.specs.Occurrences.{HasAll, HasIds, Dropped, Held, Moves, times_named};
+ghost use Rattle.editor_core.specs.Studios.{clip_blocks};
+
+use super::counting::{drop_blocks, hold_blocks};
+use super::studio::Studio;
+use block_ledger::Ledger;
+use clip_track::{Item, Strip};
+use disk_model::Store;
+use edit_ops::Strips;
+use pcm_base::{BlockRef, Piece};
+
+// The block that an item names, if any.
+fn block_of(item: Item) -> Option<BlockRef>
+    ensures { blocks_in result ≡ item_blocks item }
+{
+    match item {
+        Item::Sound {
+            piece: Piece::Old { block, .. } | Piece::Scaled { block, .. },
+        } => Some(block),
+        Item::Gap { .. } | Item::Sound { .. } => None,
+    }
+}
+
+fn hold_item(ledger: &mut Ledger, item: Item)
+    requires there { HasIds (count_of ledger.old) (item_blocks item) }
+    requires few { (id : ℕ) → occurrences (count_of ledger.old id) + times_named id (item_blocks item) < 2 ^ 128 }
+    ensures { Held (count_of ledger.old) (count_of ledger.new) (item_blocks item) }
+{
+    if let Some(block) = block_of(item) {
+        hold_blocks(ledger, &[block]);
+    }
+}
+
+fn hold_items(ledger: &mut Ledger, items: &[Item])
+    requires there { HasIds (count_of ledger.old) (strip_blocks items.now) }
+    requires few { (id : ℕ) → occurrences (count_of ledger.old id) + times_named id (strip_blocks items.now) < 2 ^ 128 }
+    ensures { Held (count_of ledger.old) (count_of ledger.new) (strip_blocks items.now) }
+{
+    for item in items {
+        hold_item(ledger, *item);
+    }
+}
+
+fn hold_strips(ledger: &mut Ledger, strips: &[Strip])
+    requires there { HasIds (count_of ledger.old) (strips_blocks strips.now) }
+    requires room { (id : ℕ) → occurrences (count_of ledger.old id) < 2 ^ 102 }
+    requires few { length strips.now ≤ 64 }
+    ensures held { Held (count_of ledger.old) (count_of ledger.new) (strips_blocks strips.now) }
+    ensures most { length (strips_blocks strips.now) ≤ 2 ^ 71 }
+{
+    for strip in strips {
+        hold_items(ledger, strip.as_slice());
+    }
+}
+
+fn drop_item(ledger: &mut Ledger, item: Item)
+    requires { HasAll (count_of ledger.old) (item_blocks item) }
+    ensures { Dropped (count_of ledger.old) (count_of ledger.new) (item_blocks item) }
+{
+    if let Some(block) = block_of(item) {
+        drop_blocks(ledger, &[block]);
+    }
+}
+
+fn drop_items(ledger: &mut Ledger, items: &[Item])
+    requires { HasAll (count_of ledger.old) (strip_blocks items.now) }
+    ensures { Dropped (count_of ledger.old) (count_of ledger.new) (strip_blocks items.now) }
+{
+    for item in items {
+        drop_item(ledger, *item);
+    }
+}
+
+fn drop_strips(ledger: &mut Ledger, strips: &[Strip])
+    requires { HasAll (count_of ledger.old) (strips_blocks strips.now) }
+    ensures { Dropped (count_of ledger.old) (count_of ledger.new) (strips_blocks strips.now) }
+{
+    for strip in strips {
+        drop_items(ledger, strip.as_slice());
+    }
+}
+
+fn drop_clip(ledger: &mut Ledger, clip: &Option<Strips>)
+    requires { HasAll (count_of ledger.old) (clip_blocks clip.now) }
+    ensures { Dropped (count_of ledger.old) (count_of ledger.new) (clip_blocks clip.now) }
+{
+    if let Some(strips) = clip {
+        drop_strips(ledger, strips.as_slice());
+    }
+}
+
+// Other strips come in the place of those of the clipboard. They come first, so that no block that stays is ever
+// counted as named by nothing.
+fn count_clip(ledger: &mut Ledger, old: &Option<Strips>, new: &Strips)
+    requires there { HasIds (count_of ledger.old) (strips_blocks new.now) }
+    requires room { (id : ℕ) → occurrences (count_of ledger.old id) < 2 ^ 102 }
+    requires few { length new.now ≤ 64 }
+    requires named { HasAll (count_of ledger.old) (clip_blocks old.now) }
+    ensures moves { Moves (count_of ledger.old) (count_of ledger.new) (clip_blocks old.now) (strips_blocks new.now) }
+    ensures most { length (strips_blocks new.now) ≤ 2 ^ 71 }
+{
+    hold_strips(ledger, new.as_slice());
+    drop_clip(ledger, old);
+}
+
+impl<S: Store> Studio<S> {
+    // Puts strips into the clipboard.
+    pub(crate) fn take_clip(&mut self, strips: Strips)
+        requires there { HasIds (count_of self.old.ledger) (strips_blocks strips) }
+        requires room { (id : ℕ) → occurrences (count_of self.old.ledger id) < 2 ^ 102 }
+        requires few { length strips ≤ 64 }
+        requires named { HasAll (count_of self.old.ledger) (clip_blocks self.old.clipboard) }
+        ensures fields { core_of self.new ≡ record (core_of self.old) {
+          clipboard = Some strips;
+          counts = count_of self.new.ledger;
+        } }
+        ensures moves { Moves (count_of self.old.ledger) (count_of self.new.ledger)
+            (clip_blocks self.old.clipboard) (strips_blocks strips) }
+        ensures most { length (strips_blocks strips) ≤ 2 ^ 71 }
+    {
+        count_clip(&mut self.ledger, &self.clipboard, &strips);
+        self.clipboard = Some(strips);
+    }
+}

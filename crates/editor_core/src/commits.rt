@@ -1,0 +1,118 @@
+// A commit: whether it may be made, and its record.
+ghost use Rattle.std.specs.Prelude.{◌≡◌, ◌+◌, ◌≤◌, ◌<◌, ◌^◌, length, vec_capacity, IfErr, OnOk};
+ghost use Rattle.pcm_base.specs.Sizes.{LONGEST_BODY};
+ghost use Rattle.envelope_view.specs.Answers.{IsUndamaged};
+ghost use Rattle.editor_core.specs.Adding.{Adds, Exceeds, IsNoWant, Settles, Tested};
+ghost use Rattle.editor_core.specs.Core.{core_of};
+
+use super::studio::Studio;
+use disk_model::Store;
+use pcm_base::Refusal;
+use project_journal::{JournalFault, append, append_small};
+
+// No counter passes this.
+pub(crate) const MOST: u64 = 1 << 62;
+
+// The longest body of a record.
+const LONGEST: u64 = 4_294_901_760;
+
+impl<S: Store> Studio<S> {
+    // Whether a commit may be made that its own tests answer so, and that needs so many track ids.
+    pub(crate) fn may_commit(&self, own: Option<Refusal>, tracks: u64) -> Result<(), Refusal>
+        requires number { self.now.commit_number ≤ 2 ^ 62 }
+        requires ids { self.now.next_track ≤ 2 ^ 62 }
+        ensures { Tested self.now.stopped own self.now.next_track tracks self.now.commit_number result }
+    {
+        if let Some(faults) = self.stopped {
+            return Err(Refusal::Stopped { faults });
+        }
+        if let Some(reason) = own {
+            return Err(reason);
+        }
+        if tracks > MOST - self.next_track {
+            let have = self.next_track;
+            return Err(Refusal::SpaceSpent { have, need: tracks });
+        }
+        if self.commit_number == MOST {
+            return Err(Refusal::SpaceSpent {
+                have: MOST,
+                need: 1,
+            });
+        }
+        Ok(())
+    }
+
+    // Whether the journal has the places for a record with a body of so many bytes, and the body is short enough.
+    pub(crate) fn may_add(&self, len: u64) -> Result<(), Refusal>
+        requires small { len ≤ 2 ^ 44 }
+        requires end { self.now.journal_end ≤ 2 ^ 62 }
+        ensures ok { OnOk result ((self.now.journal_end + (6 + len) ≤ 2 ^ 62) × (len ≤ LONGEST_BODY)) }
+        ensures err { IfErr result (Exceeds self.now.journal_end len) }
+    {
+        if len + 6 > MOST - self.journal_end {
+            return Err(Refusal::SpaceSpent {
+                have: self.journal_end,
+                need: len + 6,
+            });
+        }
+        if len > LONGEST {
+            return Err(Refusal::RecordLimit { len });
+        }
+        Ok(())
+    }
+
+    // Adds a small record, and counts the commit. After a fault of the disk the studio is stopped. It takes no memory.
+    pub(crate) fn commit_small(&mut self, body: &[u8]) -> Result<(), Refusal>
+        requires small { length body.now ≤ 9 }
+        requires room { self.old.commit_number < 2 ^ 62 }
+        ensures record { Adds S.Store (core_of self.old) body.now result (core_of self.new) }
+        ensures memory { IfErr result IsNoWant }
+        ensures undamaged { IfErr result IsUndamaged }
+    {
+        let added = append_small(&mut self.store, self.journal_end, body);
+        self.settle(added)
+    }
+
+    // Adds the record whose body was written, and counts the commit. After a fault of the disk the studio is stopped.
+    pub(crate) fn commit_written(&mut self) -> Result<(), Refusal>
+        requires room { self.old.commit_number < 2 ^ 62 }
+        requires short { length self.old.body.items ≤ LONGEST_BODY }
+        ensures record { Adds S.Store (core_of self.old) self.old.body.items result (core_of self.new) }
+        ensures memory { 5 + length self.old.body.items ≤ vec_capacity self.old.row → IfErr result IsNoWant }
+        ensures undamaged { IfErr result IsUndamaged }
+        ensures history { self.new.history ≡ self.old.history }
+        ensures ledger { self.new.ledger ≡ self.old.ledger }
+    {
+        let added = append(&mut self.store, self.journal_end, &self.body, &mut self.row);
+        self.settle(added)
+    }
+
+    // Counts the commit whose record was added, or stops the studio after a fault of the disk.
+    fn settle(&mut self, added: Result<u64, JournalFault>) -> Result<(), Refusal>
+        requires { self.old.commit_number < 2 ^ 62 }
+        ensures fields { Settles S.Store (core_of self.old) added result (core_of self.new) }
+        ensures history { self.new.history ≡ self.old.history }
+        ensures ledger { self.new.ledger ≡ self.old.ledger }
+    {
+        match added {
+            Ok(next) => {
+                self.journal_end = next;
+                self.commit_number += 1;
+                Ok(())
+            }
+            Err(JournalFault::DiskFault) => {
+                self.stopped = Some(self.store.faults());
+                Err(Refusal::DiskFault)
+            }
+            Err(JournalFault::SpaceSpent { have, need }) => {
+                Err(Refusal::SpaceSpent { have, need })
+            }
+            Err(
+                JournalFault::Absent
+                | JournalFault::Exists
+                | JournalFault::Damaged { .. }
+                | JournalFault::NoMemory,
+            ) => Err(Refusal::NoMemory),
+        }
+    }
+}

@@ -1,0 +1,192 @@
+// Ranges of a run of tracks, which are taken out and put into the clipboard.
+ghost use Rattle.std.specs.Prelude.{◌≡◌, ◌≤◌, ◌<◌, ◌^◌, IfErr, IfOk, take};
+ghost use Rattle.std.specs.List.{AllByRecursion};
+ghost use Rattle.pcm_base.specs.declared.answer.Reply.TheVariants as reply;
+ghost use Rattle.pcm_base.specs.declared.command.Call.TheVariants.{Line};
+ghost use Rattle.pcm_base.specs.declared.command.Command.TheVariants as command;
+ghost use Rattle.clip_track.specs.Items.{AreItems};
+ghost use Rattle.edit_ops.specs.Plans.{AnswersTest};
+ghost use Rattle.edit_ops.specs.Runs.{AllTracksHalfFull, AreCopies, AreCuts, copy_tests, layouts};
+ghost use Rattle.envelope_view.specs.Answers.{IsUndamaged};
+ghost use Rattle.editor_core.specs.Core.{core_of};
+ghost use Rattle.editor_core.specs.Cuts.{IsCutPlan, NoCutPlan, cut_cells, cut_line};
+ghost use Rattle.editor_core.specs.Points.{current_tracks};
+ghost use Rattle.editor_core.specs.Studios.{IsHeld, IsStudio};
+ghost use Rattle.editor_core.specs.Took.{Took, silent, told_by};
+
+use super::carrying::Planned;
+use super::copies::run_from;
+use super::laying::planned_run;
+use super::studio::Studio;
+use clip_track::{Layout, Strip};
+use disk_model::Store;
+use edit_ops::{Plans, Strips, cut, split_cut};
+use pcm_base::Refusal;
+use piece_store::Given;
+use std::alloc::Global;
+
+/// What becomes of the place that was cut out: the cells behind it move up, or it stays as gaps.
+#[derive(Clone, Copy)]
+pub(crate) enum CutEdit {
+    Close,
+    Leave,
+}
+
+/// The cells of as many tracks as `count`, from a track on, from one place to another.
+#[derive(Clone, Copy)]
+pub(crate) struct RunRange {
+    pub(crate) track: u64,
+    pub(crate) count: u64,
+    pub(crate) from: u64,
+    pub(crate) to: u64,
+}
+
+// The strips of what goes, and the plans of the tracks without it.
+fn plan_cut(
+    alloc: Global,
+    run: &[&Layout],
+    range: RunRange,
+    edit: CutEdit,
+    block_size: u32,
+    next: u64,
+) -> Result<(Strips, Plans), Refusal>
+    requires some { 0 < block_size }
+    requires half_full { AllTracksHalfFull block_size (layouts run.now) }
+    requires room { next ≤ 2 ^ 62 }
+    ensures copies { IfOk result (λ v. AreCopies range.from range.to (take range.count (layouts run.now)) v.0) }
+    ensures plans { IfOk result (λ v. AreCuts (cut_cells edit range.from range.to) block_size next
+        (take range.count (layouts run.now)) v.1) }
+    ensures tests { AnswersTest (copy_tests (layouts run.now) range.count range.from range.to) result }
+{
+    let RunRange {
+        count,
+        from,
+        to,
+        ..
+    } = range;
+    match edit {
+        CutEdit::Close => cut(alloc, run, count, from, to, block_size, next),
+        CutEdit::Leave => split_cut(alloc, run, count, from, to, block_size, next),
+    }
+}
+
+// Each strip is one of items, none of which is empty.
+pub(crate) fn see_items(strips: &[Strip])
+    ensures { AllByRecursion AreItems strips.now }
+{
+    for strip in strips {
+        let _items = strip.as_slice();
+    }
+}
+
+impl<S: Store> Studio<S> {
+    /// Takes a range of as many tracks as `count`, from a track on, out into the clipboard: the cells behind it move
+    /// to its place. It answers the commit number.
+    ///
+    /// # Errors
+    ///
+    /// `Stopped` where a change of the disk failed in an earlier call; else `NoTrack` where the project lacks the
+    /// track; else `TooNarrow` where there are fewer tracks from it on; else `BadRange` where not `from < to <= L`,
+    /// where L is the greatest length of these tracks; else `SpaceSpent` where a counter or the journal has no room, or
+    /// `RecordLimit` where the record would be too long; or `NoMemory`. Nothing has changed then. `DiskFault` where the
+    /// disk failed: the clipboard is as it was, and after a failed change the studio is stopped.
+    pub fn cut(
+        &mut self,
+        alloc: Global,
+        track: u64,
+        count: u64,
+        from: u64,
+        to: u64,
+    ) -> Result<u64, Refusal>
+        requires { IsStudio S.Store (core_of self.old) }
+        ensures took { Took S.Store (core_of self.old) (Line (command.Cut track count from to)) silent
+            (told_by (λ _. reply.Done) result) 0 (core_of self.new) }
+        ensures number { IfOk result (λ n. n ≡ self.new.commit_number) }
+        ensures sound { IsHeld S.Store (core_of self.old) → IfErr result IsUndamaged }
+    {
+        let range = RunRange {
+            track,
+            count,
+            from,
+            to,
+        };
+        self.cut_range(alloc, range, CutEdit::Close)
+    }
+
+    /// Moves a range of as many tracks as `count`, from a track on, into the clipboard, and leaves gaps in its place.
+    /// It answers the commit number.
+    ///
+    /// # Errors
+    ///
+    /// Those of `cut`.
+    pub fn split_cut(
+        &mut self,
+        alloc: Global,
+        track: u64,
+        count: u64,
+        from: u64,
+        to: u64,
+    ) -> Result<u64, Refusal>
+        requires { IsStudio S.Store (core_of self.old) }
+        ensures took { Took S.Store (core_of self.old) (Line (command.SplitCut track count from to)) silent
+            (told_by (λ _. reply.Done) result) 0 (core_of self.new) }
+        ensures number { IfOk result (λ n. n ≡ self.new.commit_number) }
+        ensures sound { IsHeld S.Store (core_of self.old) → IfErr result IsUndamaged }
+    {
+        let range = RunRange {
+            track,
+            count,
+            from,
+            to,
+        };
+        self.cut_range(alloc, range, CutEdit::Leave)
+    }
+
+    // Takes a range of a run out.
+    fn cut_range(&mut self, alloc: Global, range: RunRange, edit: CutEdit) -> Result<u64, Refusal>
+        requires { IsStudio S.Store (core_of self.old) }
+        ensures took { Took S.Store (core_of self.old)
+            (Line (cut_line edit range.track range.count range.from range.to)) silent
+            (told_by (λ _. reply.Done) result) 0 (core_of self.new) }
+        ensures number { IfOk result (λ n. n ≡ self.new.commit_number) }
+        ensures sound { IsHeld S.Store (core_of self.old) → IfErr result IsUndamaged }
+    {
+        if let Some(faults) = self.stopped {
+            return Err(Refusal::Stopped { faults });
+        }
+        let planned = self.planned_cut(alloc, range, edit)?;
+        self.carry_out(planned, 0, &Given::Nothing)
+    }
+
+    // The project without the range, and the clipboard with it.
+    fn planned_cut(&self, alloc: Global, range: RunRange, edit: CutEdit) -> Result<Planned, Refusal>
+        requires { IsStudio S.Store (core_of self.now) }
+        ensures plan { IfOk result (λ p. IsCutPlan edit range.track range.count range.from range.to self.now.buffers
+            self.now.next_block (current_tracks self.now.history.history) p.point p.makes p.next p.clip) }
+        ensures tracks { IfOk result (λ p. p.tracks ≡ 0) }
+        ensures err { IfErr result (NoCutPlan range.track range.count range.from range.to
+            (current_tracks self.now.history.history)) }
+    {
+        let project = self.current();
+        project.track(range.track)?;
+        let run = run_from(alloc, project, range.track)?;
+        let (strips, plans) = plan_cut(
+            alloc,
+            &run,
+            range,
+            edit,
+            self.buffers.block_size(),
+            self.next_block,
+        )?;
+        see_items(strips.as_slice());
+        let planned = planned_run(
+            alloc,
+            project,
+            range.track,
+            plans,
+            self.next_block,
+            Some(strips),
+        )?;
+        Ok(planned)
+    }
+}

@@ -1,0 +1,205 @@
+// Samples that a command brings, put in at a place of a track or at its end.
+ghost use Rattle.std.specs.Prelude.{◌≡◌, ◌≤◌, ◌<◌, ◌^◌, IfErr, IfOk, None, length};
+ghost use Rattle.pcm_base.specs.declared.answer.Reply.TheVariants as reply;
+ghost use Rattle.pcm_base.specs.declared.command.Call.{Call};
+ghost use Rattle.pcm_base.specs.declared.command.Call.TheVariants as call;
+ghost use Rattle.pcm_base.specs.declared.command.Command.TheVariants as command;
+ghost use Rattle.pcm_base.specs.declared.entry.SoundMove.{SoundMove};
+ghost use Rattle.pcm_base.specs.Sizes.{blocks_of_samples};
+ghost use Rattle.clip_track.specs.Clips.{AllHalfFull, IsLayout, end_of, layout_blocks};
+ghost use Rattle.edit_ops.specs.Plans.{AnswersTest, IsPlan, Means};
+ghost use Rattle.piece_store.specs.Bringing.{brought_count};
+ghost use Rattle.envelope_view.specs.Answers.{IsUndamaged};
+ghost use Rattle.editor_core.specs.Core.{core_of};
+ghost use Rattle.editor_core.specs.Inserts.{IsPlace, place_cells, place_edit, place_test};
+ghost use Rattle.editor_core.specs.Points.{current_tracks};
+ghost use Rattle.editor_core.specs.Studios.{IsHeld, IsStudio};
+ghost use Rattle.editor_core.specs.Took.{Took, silent, told_by};
+ghost use Rattle.editor_core.specs.TrackEdits.{IsTrackCall, IsTrackPlan, NoTrackPlan};
+
+use super::carrying::Planned;
+use super::planning::planned;
+use super::studio::Studio;
+use clip_track::Layout;
+use disk_model::Store;
+use edit_ops::{Plan, insert};
+use pcm_base::Refusal;
+use piece_store::Given;
+use std::alloc::Global;
+
+/// Where in a track samples are put in: at a place, to which a shorter track is continued by gaps, or at its end.
+#[derive(Clone, Copy)]
+pub(crate) enum Place {
+    At { at: u64 },
+    End,
+}
+
+// How many samples there are: a sample takes two bytes.
+fn len_of(samples: &[i16]) -> u64
+    ensures value { result ≡ length samples.now }
+    ensures few { result ≤ 2 ^ 62 }
+{
+    samples.len() as u64
+}
+
+// How many samples a command brings.
+fn count_of(given: &Given) -> u64
+    ensures value { result ≡ brought_count given.now }
+    ensures few { result ≤ 2 ^ 62 }
+{
+    match *given {
+        Given::Nothing => 0,
+        Given::Samples { samples } => len_of(samples),
+        Given::Ramp { count, .. } => u64::from(count),
+    }
+}
+
+// The plan of so many samples in a track.
+fn plan_insert(
+    alloc: Global,
+    layout: &Layout,
+    place: Place,
+    count: u64,
+    block_size: u32,
+    next: u64,
+) -> Result<Plan, Refusal>
+    requires some { 0 < block_size }
+    requires half_full { AllHalfFull block_size layout.now }
+    requires apart { IsLayout layout.now }
+    requires room { next ≤ 2 ^ 62 }
+    requires place { IsPlace place }
+    requires count { count ≤ 2 ^ 62 }
+    ensures plan { IfOk result (λ p. IsPlan block_size next (layout_blocks layout.now) count p) }
+    ensures cells { IfOk result (λ p. Means (λ src. place_cells place count src.given) layout.now p) }
+    ensures few { IfOk result (λ p. length p.makes ≤ blocks_of_samples block_size count) }
+    ensures tests { AnswersTest (place_test place count (end_of 0 layout.now)) result }
+{
+    match place {
+        Place::At { at } => insert(alloc, layout, at, count, block_size, next),
+        Place::End => insert(alloc, layout, layout.len(), count, block_size, next),
+    }
+}
+
+impl<S: Store> Studio<S> {
+    /// Puts samples in at a place of a track: those behind it move on, and a shorter track is first continued by gaps.
+    pub fn put(
+        &mut self,
+        alloc: Global,
+        track: u64,
+        at: u64,
+        samples: &[i16],
+    ) -> Result<u64, Refusal>
+        requires studio { IsStudio S.Store (core_of self.old) }
+        requires in_form { at < 2 ^ 63 }
+        ensures took { Took S.Store (core_of self.old) (call.Line (command.Put track at samples.now)) silent
+            (told_by (λ _. reply.Done) result) 0 (core_of self.new) }
+        ensures number { IfOk result (λ n. n ≡ self.new.commit_number) }
+        ensures sound { IsHeld S.Store (core_of self.old) → IfErr result IsUndamaged }
+    {
+        self.insert_given(
+            alloc,
+            track,
+            Place::At { at },
+            0,
+            &Given::Samples { samples },
+        )
+    }
+
+    /// Puts so many samples in at a place of a track, from `start` on in steps, each limited to what a sample can be.
+    pub fn ramp(
+        &mut self,
+        alloc: Global,
+        track: u64,
+        at: u64,
+        count: u32,
+        start: i16,
+        step: i16,
+    ) -> Result<u64, Refusal>
+        requires studio { IsStudio S.Store (core_of self.old) }
+        requires in_form { at < 2 ^ 63 }
+        ensures took { Took S.Store (core_of self.old) (call.Line (command.Ramp track at count start step)) silent
+            (told_by (λ _. reply.Done) result) 0 (core_of self.new) }
+        ensures number { IfOk result (λ n. n ≡ self.new.commit_number) }
+        ensures sound { IsHeld S.Store (core_of self.old) → IfErr result IsUndamaged }
+    {
+        let given = Given::Ramp { start, step, count };
+        self.insert_given(alloc, track, Place::At { at }, 0, &given)
+    }
+
+    /// Puts samples of a recording in at the end of a track. The tag is the recording's number, from 1 to the number of
+    /// the last commit. Where the current project is of the same recording they go into it, and what could be redone
+    /// goes; else they make a new point.
+    pub fn piece(
+        &mut self,
+        alloc: Global,
+        track: u64,
+        tag: u64,
+        samples: &[i16],
+    ) -> Result<u64, Refusal>
+        requires studio { IsStudio S.Store (core_of self.old) }
+        requires tag { (1 ≤ tag) × (tag ≤ self.old.commit_number) }
+        ensures took { Took S.Store (core_of self.old) (call.Piece track tag samples.now) silent
+            (told_by (λ _. reply.Done) result) 0 (core_of self.new) }
+        ensures number { IfOk result (λ n. n ≡ self.new.commit_number) }
+        ensures sound { IsHeld S.Store (core_of self.old) → IfErr result IsUndamaged }
+    {
+        self.insert_given(alloc, track, Place::End, tag, &Given::Samples { samples })
+    }
+
+    // Puts what a command brings in, as a point with this tag, where 0 is none.
+    fn insert_given(
+        &mut self,
+        alloc: Global,
+        track: u64,
+        place: Place,
+        tag: u64,
+        given: &Given,
+    ) -> Result<u64, Refusal>
+        requires studio { IsStudio S.Store (core_of self.old) }
+        requires place { IsPlace place }
+        requires tag { tag ≤ self.old.commit_number }
+        ensures took { (c : Call) → (sound : SoundMove)
+            → IsTrackCall c sound (place_edit place (brought_count given.now)) given.now track tag
+            → Took S.Store (core_of self.old) c sound (told_by (λ _. reply.Done) result) 0 (core_of self.new) }
+        ensures number { IfOk result (λ n. n ≡ self.new.commit_number) }
+        ensures sound { IsHeld S.Store (core_of self.old) → IfErr result IsUndamaged }
+    {
+        if let Some(faults) = self.stopped {
+            return Err(Refusal::Stopped { faults });
+        }
+        let planned = self.planned_insert(alloc, track, place, count_of(given))?;
+        self.carry_out(planned, tag, given)
+    }
+
+    // The project that so many samples in a track make of the current one.
+    fn planned_insert(
+        &self,
+        alloc: Global,
+        track: u64,
+        place: Place,
+        count: u64,
+    ) -> Result<Planned, Refusal>
+        requires studio { IsStudio S.Store (core_of self.now) }
+        requires place { IsPlace place }
+        requires count { count ≤ 2 ^ 62 }
+        ensures plan { IfOk result (λ p. IsTrackPlan (place_edit place count) count track self.now.buffers
+            self.now.next_block (current_tracks self.now.history.history) p.point p.makes p.next) }
+        ensures tracks { IfOk result (λ p. p.tracks ≡ 0) }
+        ensures clip { IfOk result (λ p. p.clip ≡ None) }
+        ensures err { IfErr result (NoTrackPlan (place_edit place count) track
+            (current_tracks self.now.history.history)) }
+    {
+        let project = self.current();
+        let old = project.track(track)?;
+        let plan = plan_insert(
+            alloc,
+            &old.layout,
+            place,
+            count,
+            self.buffers.block_size(),
+            self.next_block,
+        )?;
+        let planned = planned(alloc, project, old, plan)?;
+        Ok(planned)
+    }
+}

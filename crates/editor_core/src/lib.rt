@@ -1,0 +1,40 @@
+//! The core of the editor over a disk: one call of a `Studio` is one step of the model, and at every moment of the call
+//! a stop of the machine leaves the project of before or of after.
+#![tactic(auto)]
+
+mod assembly;
+mod buffers;
+mod carrying;
+mod clipboards;
+mod commits;
+mod copies;
+mod counting;
+mod current;
+mod cuts;
+mod edits;
+mod envelopes;
+mod facts;
+mod inserts;
+mod laying;
+mod listing;
+mod makes;
+mod mixes;
+mod moves;
+mod pastes;
+mod pinned;
+mod pins;
+mod plain;
+mod planning;
+mod points;
+mod ranges;
+mod reclaims;
+mod recording;
+mod scans;
+mod shows;
+mod studio;
+mod taking;
+
+pub use assembly::Parts;
+pub use facts::Facts;
+pub use shows::MAX_VIEW;
+pub use studio::{Pin, Studio};

@@ -1,0 +1,85 @@
+// New blocks, which are put before a record names them.
+ghost use Rattle.std.specs.Prelude.{◌≡◌, ℕ, IsSome, ◌+◌, ◌≤◌, ◌<◌, ◌^◌, IsTrue, IfErr, None, length};
+ghost use Rattle.pcm_base.specs.Pieces.{total};
+ghost use Rattle.pcm_base.specs.declared.refusal.Refusal.TheVariants as refusal;
+ghost use Rattle.sample_block.specs.Spelling.{IsBlock};
+ghost use Rattle.block_ledger.specs.Entries.{count_of};
+ghost use Rattle.piece_store.specs.Bringing.{brought_count};
+ghost use Rattle.piece_store.specs.Reading.{AllReadable, AllThere};
+ghost use Rattle.edit_ops.specs.Plans.{AreNew};
+ghost use Rattle.editor_core.specs.Core.{core_of};
+ghost use Rattle.editor_core.specs.Made.{PiecesReadable};
+ghost use Rattle.editor_core.specs.Makes.{AddsFree, MakesOne, Makes};
+
+use super::studio::Studio;
+use block_ledger::Ledger;
+use disk_model::Store;
+use edit_ops::NewBlock;
+use pcm_base::Refusal;
+use piece_store::{Given, MakeFault};
+
+// The ledger has the id of a file that nothing names.
+fn count_free(ledger: &mut Ledger, id: u64)
+    requires spare { 0 < ledger.old.spare }
+    requires fresh { count_of ledger.old id ≡ None }
+    ensures counts { AddsFree id 1 (count_of ledger.old) (count_of ledger.new) }
+    ensures spare { ledger.old.spare ≤ ledger.new.spare + 1 }
+{
+    ledger.hold(id);
+    ledger.drop_one(id);
+}
+
+impl<S: Store> Studio<S> {
+    // Makes the next block. After a failed change the studio is stopped.
+    fn make_one(&mut self, block: &NewBlock, given: &Given) -> Result<(), Refusal>
+        requires id { block.now.id ≡ self.old.next_block }
+        requires block { IsBlock block.now.id block.now.len }
+        requires pieces { AllReadable (brought_count given.now) block.now.pieces }
+        requires total { total block.now.pieces ≡ block.now.len }
+        requires size { block.now.len ≤ self.old.buffers }
+        requires spare { 0 < self.old.ledger.spare }
+        requires fresh { count_of self.old.ledger block.now.id ≡ None }
+        requires few { self.old.next_block < 2 ^ 62 }
+        ensures made { MakesOne S.Store (core_of self.old) given.now block.now result (core_of self.new) }
+        ensures sound { IsTrue (S.tells self.old.store) → AllThere (S.reads self.old.store) block.now.pieces
+            → IfErr result (λ e. e ≡ refusal.DiskFault) }
+        ensures spare { self.old.ledger.spare ≤ self.new.ledger.spare + 1 }
+        ensures history { self.new.history ≡ self.old.history }
+        ensures body { self.new.body ≡ self.old.body }
+        ensures row { self.new.row ≡ self.old.row }
+    {
+        match self.buffers.make(&mut self.store, block, given) {
+            Ok(()) => {
+                count_free(&mut self.ledger, block.id);
+                self.next_block += 1;
+                Ok(())
+            }
+            Err(MakeFault::Read { fault }) => Err(Refusal::from(fault)),
+            Err(MakeFault::Put) => {
+                self.stopped = Some(self.store.faults());
+                Err(Refusal::DiskFault)
+            }
+        }
+    }
+
+    // Makes new blocks, one after another. After a fault the blocks so far are there, and nothing names them. It takes
+    // no memory.
+    pub(crate) fn make_blocks(&mut self, makes: &[NewBlock], given: &Given) -> Result<(), Refusal>
+        requires new { AreNew self.old.buffers self.old.next_block makes.now }
+        requires pieces { PiecesReadable (brought_count given.now) makes.now }
+        requires least { 16 ≤ self.old.next_block }
+        requires most { self.old.next_block + length makes.now ≤ 2 ^ 62 }
+        requires size { self.old.buffers ≤ 262144 }
+        requires spare { length makes.now ≤ self.old.ledger.spare }
+        requires below { (id : ℕ) → IsSome (count_of self.old.ledger id) → id < self.old.next_block }
+        ensures made { Makes S.Store (core_of self.old) given.now makes.now result (core_of self.new) }
+        ensures history { self.new.history ≡ self.old.history }
+        ensures body { self.new.body ≡ self.old.body }
+        ensures row { self.new.row ≡ self.old.row }
+    {
+        'rows: for block in makes {
+            self.make_one(block, given)?;
+        }
+        Ok(())
+    }
+}

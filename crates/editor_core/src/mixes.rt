@@ -1,0 +1,110 @@
+// What is heard of a project.
+ghost use Rattle.std.specs.Prelude.{◌≡◌, ◌+◌, ◌-◌, ◌^◌, ◌<◌, ◌≤◌, length, min, take, drop, IsTrue, IsOkUnless, IfOk};
+ghost use Rattle.pcm_base.specs.declared.answer.Reply.TheVariants.{Frames};
+ghost use Rattle.pcm_base.specs.declared.command.Call.TheVariants.{Line, ReadPin};
+ghost use Rattle.pcm_base.specs.declared.command.Command.TheVariants.{Mix};
+ghost use Rattle.pcm_base.specs.Mix.{mix_of, mix_length};
+ghost use Rattle.pcm_base.specs.Pieces.{Sources};
+ghost use Rattle.disk_model.specs.Frames.{Kept};
+ghost use Rattle.sample_block.specs.Sources.{sources_of, AllNamed, AllWhole};
+ghost use Rattle.block_store.specs.declared.fault.BlockFault.TheVariants as fault;
+ghost use Rattle.block_store.specs.Reads.{Counted};
+ghost use Rattle.project_state.specs.Kept.{meant, point_blocks};
+ghost use Rattle.mix_view.specs.Voices.{mix_length_of};
+ghost use Rattle.editor_core.specs.Core.{core_of};
+ghost use Rattle.editor_core.specs.Reads.{Sees};
+ghost use Rattle.editor_core.specs.Studios.{IsStudio};
+
+use super::current::current_of;
+use super::pinned::point_of;
+use super::shows::may_view;
+use super::studio::Studio;
+use block_store::BlockFault;
+use disk_model::Store;
+use mix_view::{mix_len, read_frames};
+use pcm_base::{Cell, Frame, Refusal};
+use project_state::Point;
+
+// How many cells of tracks are read at a time, all tracks together.
+const MIX_CELLS: usize = 8192;
+
+// Puts the frames of a project's mix from a place on at the front of `out`, as many as there are, up to a number, and
+// answers how many.
+fn read_mix<S: Store>(
+    store: &mut S,
+    point: &Point,
+    from: u64,
+    most: usize,
+    out: &mut [Frame],
+) -> Result<usize, BlockFault>
+    requires named { AllNamed (point_blocks point.now) }
+    requires room { most ≤ length out.old }
+    ensures fits { IfOk result (λ n. n ≤ length out.new) }
+    ensures count { IfOk result (λ n. n ≡ min most (mix_length_of point.now - from)) }
+    ensures len { (src : Sources) → mix_length (meant src point.now) ≡ mix_length_of point.now }
+    ensures limit { IfOk result (λ n. 0 < n → from + n ≤ 2 ^ 32) }
+    ensures read { IsTrue (S.tells store.old) → AllWhole (S.reads store.old) (point_blocks point.now)
+        → IfOk result (λ n. take n out.new
+        ≡ take n (drop from (mix_of (meant (sources_of (S.reads store.old)) point.now)))) }
+    ensures sound { IsTrue (S.tells store.old) → AllWhole (S.reads store.old) (point_blocks point.now)
+        → IsOkUnless result fault.DiskFault }
+    ensures kept { Kept S.Store store.old store.new }
+    ensures faults { Counted result (S.read_fault_count store.old) (S.read_fault_count store.new) }
+{
+    let left = mix_len(point).saturating_sub(from);
+    let count = (most as u64).min(left) as usize;
+    let mut cells = [Cell::Gap; MIX_CELLS];
+    read_frames(store, point, from, &mut cells, &mut out[..count])
+}
+
+impl<S: Store> Studio<S> {
+    /// Puts the frames of the mix from one place to another at the front of `out`, as many as there are, and answers
+    /// how many. It takes no memory, and nothing is changed. No sample before or behind them is read. After an error
+    /// `out` may have been written in part.
+    ///
+    /// # Errors
+    ///
+    /// `Stopped` where a change of the disk failed in an earlier call; else `BadRange` where not
+    /// `from < to <= from + 4096`; else `DiskFault` where a read fails: the studio goes on. A disk that holds what the
+    /// studio stands for shows no damaged file.
+    pub fn mix(&mut self, from: u64, to: u64, out: &mut [Frame]) -> Result<usize, Refusal>
+        requires studio { IsStudio S.Store (core_of self.old) }
+        // There is room for what may be shown.
+        requires room { min 4096 (to - from) ≤ length out.old }
+        ensures { Sees S.Store (core_of self.old) (Line (Mix from to)) Frames out.new result (core_of self.new) }
+    {
+        if let Some(faults) = self.stopped {
+            return Err(Refusal::Stopped { faults });
+        }
+        may_view(from, to)?;
+        let point = current_of(&self.history);
+        let count = read_mix(&mut self.store, point, from, (to - from) as usize, out)?;
+        Ok(count)
+    }
+
+    /// Puts the frames of the mix of a pinned project from a place on at the front of `out`, as many as there are and
+    /// as it has room for, and answers how many. It takes no memory, and nothing is changed. After an error `out` may
+    /// have been written in part.
+    ///
+    /// # Errors
+    ///
+    /// `Stopped` where a change of the disk failed in an earlier call; else `NoPin` where no pin has the number; else
+    /// `DiskFault` where a read fails: the studio goes on. A disk that holds what the studio stands for shows no
+    /// damaged file.
+    pub fn read_pin(&mut self, pin: u64, from: u64, out: &mut [Frame]) -> Result<usize, Refusal>
+        requires { IsStudio S.Store (core_of self.old) }
+        ensures seen { Sees S.Store (core_of self.old) (ReadPin pin from (length out.old)) Frames out.new result
+            (core_of self.new) }
+        // No mix is longer.
+        ensures limit { IfOk result (λ n. 0 < n → from + n ≤ 2 ^ 32) }
+    {
+        if let Some(faults) = self.stopped {
+            return Err(Refusal::Stopped { faults });
+        }
+        let point = point_of(&self.pins, pin)?;
+        match read_mix(&mut self.store, point, from, out.len(), out) {
+            Ok(count) => Ok(count),
+            Err(fault) => Err(fault.into()),
+        }
+    }
+}

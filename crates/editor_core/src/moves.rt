@@ -1,0 +1,116 @@
+// Undo, redo and purge.
+ghost use Rattle.std.specs.Prelude.{◌≡◌, ◌+◌, ◌==◌, ◌∷◌, length, IfErr, IfOk};
+ghost use Rattle.byteorder.specs.Endian.{little_bytes};
+ghost use Rattle.pcm_base.specs.declared.answer.Reply.TheVariants as reply;
+ghost use Rattle.pcm_base.specs.declared.command.Call.TheVariants.{Line};
+ghost use Rattle.pcm_base.specs.declared.command.Command.TheVariants as command;
+ghost use Rattle.pcm_base.specs.declared.refusal.Refusal.TheVariants.{NothingToUndo, NothingToRedo};
+ghost use Rattle.pcm_base.specs.History.{IsHistory};
+ghost use Rattle.pcm_base.specs.Refusals.{refused_if, bad_range};
+ghost use Rattle.envelope_view.specs.Answers.{IsUndamaged};
+ghost use Rattle.editor_core.specs.Adding.{IsNoWant};
+ghost use Rattle.editor_core.specs.Core.{core_of};
+ghost use Rattle.editor_core.specs.Studios.{IsStudio};
+ghost use Rattle.editor_core.specs.Took.{Took, silent, told_by};
+
+use super::counting::drop_points;
+use super::studio::Studio;
+use byteorder::{ByteOrder, LittleEndian};
+use disk_model::Store;
+use pcm_base::Refusal;
+
+// The body of the record of a purge.
+fn purge_body(count: u64) -> [u8; 9]
+    ensures { result ≡ 4 ∷ little_bytes 8 count }
+{
+    let mut body = [4u8; 9];
+    LittleEndian::write_u64(&mut body[1..], count);
+    body
+}
+
+impl<S: Store> Studio<S> {
+    /// Goes back to the point before. It takes no memory.
+    pub fn undo(&mut self) -> Result<u64, Refusal>
+        requires { IsStudio S.Store (core_of self.old) }
+        ensures took { Took S.Store (core_of self.old) (Line command.Undo) silent
+            (told_by (λ _. reply.Done) result) 0 (core_of self.new) }
+        ensures number { IfOk result (λ n. n ≡ self.new.commit_number) }
+        ensures memory { IfErr result IsNoWant }
+        ensures undamaged { IfErr result IsUndamaged }
+    {
+        self.may_commit(self.undo_refusal(), 0)?;
+        self.commit_small(&[2])?;
+        let _ = self.history.undo();
+        Ok(self.commit_number)
+    }
+
+    // What refuses an undo.
+    fn undo_refusal(&self) -> Option<Refusal>
+        ensures { result ≡ refused_if (self.now.history.history.cursor == 0) NothingToUndo }
+    {
+        if self.history.cursor() == 0 {
+            Some(Refusal::NothingToUndo)
+        } else {
+            None
+        }
+    }
+
+    /// Goes on to the point that was undone last. It takes no memory.
+    pub fn redo(&mut self) -> Result<u64, Refusal>
+        requires { IsStudio S.Store (core_of self.old) }
+        ensures took { Took S.Store (core_of self.old) (Line command.Redo) silent
+            (told_by (λ _. reply.Done) result) 0 (core_of self.new) }
+        ensures number { IfOk result (λ n. n ≡ self.new.commit_number) }
+        ensures memory { IfErr result IsNoWant }
+        ensures undamaged { IfErr result IsUndamaged }
+    {
+        self.may_commit(self.redo_refusal(), 0)?;
+        self.commit_small(&[3])?;
+        let _ = self.history.redo();
+        Ok(self.commit_number)
+    }
+
+    // What refuses a redo.
+    fn redo_refusal(&self) -> Option<Refusal>
+        ensures value { result ≡ refused_if
+            (self.now.history.history.cursor + 1 == length self.now.history.history.points) NothingToRedo }
+        ensures whole { IsHistory self.now.history.history }
+    {
+        let len = self.history.len();
+        if self.history.cursor() + 1 == len {
+            Some(Refusal::NothingToRedo)
+        } else {
+            None
+        }
+    }
+
+    /// Forgets the oldest points, as many as are asked for, at least one and none from the current one on. It takes no
+    /// memory.
+    pub fn purge(&mut self, count: u64) -> Result<u64, Refusal>
+        requires { IsStudio S.Store (core_of self.old) }
+        ensures took { Took S.Store (core_of self.old) (Line (command.Purge count)) silent
+            (told_by (λ _. reply.Done) result) 0 (core_of self.new) }
+        ensures number { IfOk result (λ n. n ≡ self.new.commit_number) }
+        ensures memory { IfErr result IsNoWant }
+        ensures undamaged { IfErr result IsUndamaged }
+    {
+        self.may_commit(self.purge_refusal(count), 0)?;
+        self.commit_small(&purge_body(count))?;
+        drop_points(&mut self.ledger, &self.history, 0, count as usize);
+        let _ = self.history.purge(count);
+        Ok(self.commit_number)
+    }
+
+    // What refuses a purge.
+    fn purge_refusal(&self, count: u64) -> Option<Refusal>
+        ensures value { result ≡ bad_range 0 count self.now.history.history.cursor }
+        ensures whole { IsHistory self.now.history.history }
+    {
+        let most = self.history.cursor() as u64;
+        if count > 0 && count <= most {
+            None
+        } else {
+            Some(Refusal::BadRange)
+        }
+    }
+}

@@ -1,0 +1,158 @@
+// The strips of the clipboard, put into a run of tracks.
+ghost use Rattle.std.specs.Prelude.{◌≡◌, ◌≤◌, ◌<◌, ◌^◌, IfErr, IfOk, None, length, take};
+ghost use Rattle.pcm_base.specs.declared.answer.Reply.TheVariants as reply;
+ghost use Rattle.pcm_base.specs.declared.command.Call.TheVariants.{Line};
+ghost use Rattle.pcm_base.specs.declared.command.Command.TheVariants as command;
+ghost use Rattle.edit_ops.specs.Placing.{SumsFit};
+ghost use Rattle.edit_ops.specs.Plans.{AnswersTest};
+ghost use Rattle.edit_ops.specs.Runs.{AllTracksHalfFull, AreClips, ArePastes, layouts, paste_tests};
+ghost use Rattle.envelope_view.specs.Answers.{IsUndamaged};
+ghost use Rattle.editor_core.specs.Core.{core_of};
+ghost use Rattle.editor_core.specs.Pastes.{IsPastePlan, NoPastePlan, paste_cells, paste_length, paste_line};
+ghost use Rattle.editor_core.specs.Points.{current_tracks};
+ghost use Rattle.editor_core.specs.Studios.{IsHeld, IsStudio};
+ghost use Rattle.editor_core.specs.Took.{Took, silent, told_by};
+
+use super::carrying::Planned;
+use super::copies::run_from;
+use super::cuts::see_items;
+use super::laying::planned_run;
+use super::studio::Studio;
+use clip_track::Layout;
+use disk_model::Store;
+use edit_ops::{Plans, Strips, paste, paste_over};
+use pcm_base::Refusal;
+use piece_store::Given;
+use std::alloc::Global;
+
+/// How a strip is put into a track: the cells from its place on move behind it, or as many of them go as it has.
+#[derive(Clone, Copy)]
+pub(crate) enum PasteEdit {
+    Insert,
+    Cover,
+}
+
+// The plans of the tracks with the strips put in.
+fn plan_paste(
+    alloc: Global,
+    run: &[&Layout],
+    clip: &Strips,
+    at: u64,
+    edit: PasteEdit,
+    block_size: u32,
+    next: u64,
+) -> Result<Plans, Refusal>
+    requires some { 0 < block_size }
+    requires half_full { AllTracksHalfFull block_size (layouts run.now) }
+    requires clips { AreClips block_size clip.now }
+    requires room { next ≤ 2 ^ 62 }
+    requires sums { SumsFit at clip.now (layouts run.now) }
+    ensures plans { IfOk result (λ v. ArePastes (paste_cells edit at) block_size next clip.now
+        (take (length clip.now) (layouts run.now)) v) }
+    ensures tests { AnswersTest (paste_tests (paste_length edit at) clip.now (layouts run.now)) result }
+{
+    match edit {
+        PasteEdit::Insert => paste(alloc, run, Some(clip), at, block_size, next),
+        PasteEdit::Cover => paste_over(alloc, run, Some(clip), at, block_size, next),
+    }
+}
+
+impl<S: Store> Studio<S> {
+    /// Puts what was copied or cut in at a place, its first strip into this track, and each other one into the next
+    /// track: the cells behind it move on, and a shorter track is first continued by gaps. It answers the commit
+    /// number.
+    ///
+    /// # Errors
+    ///
+    /// `Stopped` where a change of the disk failed in an earlier call; else `NoTrack` where the project lacks the
+    /// track; else `EmptyClipboard` where nothing was copied or cut; else `TooNarrow` where there are fewer tracks from
+    /// it on than strips; else `LengthLimit` where a track would have more than 2^32 cells; else `SpaceSpent` where a
+    /// counter or the journal has no room, or `RecordLimit` where the record would be too long; or `NoMemory`. Nothing
+    /// has changed then. `DiskFault` where the disk failed: after a failed change the studio is stopped.
+    pub fn paste(&mut self, alloc: Global, track: u64, at: u64) -> Result<u64, Refusal>
+        requires studio { IsStudio S.Store (core_of self.old) }
+        requires in_form { at < 2 ^ 63 }
+        ensures took { Took S.Store (core_of self.old) (Line (command.Paste track at)) silent
+            (told_by (λ _. reply.Done) result) 0 (core_of self.new) }
+        ensures number { IfOk result (λ n. n ≡ self.new.commit_number) }
+        ensures sound { IsHeld S.Store (core_of self.old) → IfErr result IsUndamaged }
+    {
+        self.paste_strips(alloc, track, at, PasteEdit::Insert)
+    }
+
+    /// Puts what was copied or cut in the place of as many cells, its first strip into this track, and each other one
+    /// into the next track; a shorter track is first continued by gaps. It answers the commit number.
+    ///
+    /// # Errors
+    ///
+    /// Those of `paste`.
+    pub fn paste_over(&mut self, alloc: Global, track: u64, at: u64) -> Result<u64, Refusal>
+        requires studio { IsStudio S.Store (core_of self.old) }
+        requires in_form { at < 2 ^ 63 }
+        ensures took { Took S.Store (core_of self.old) (Line (command.PasteOver track at)) silent
+            (told_by (λ _. reply.Done) result) 0 (core_of self.new) }
+        ensures number { IfOk result (λ n. n ≡ self.new.commit_number) }
+        ensures sound { IsHeld S.Store (core_of self.old) → IfErr result IsUndamaged }
+    {
+        self.paste_strips(alloc, track, at, PasteEdit::Cover)
+    }
+
+    // Puts the strips of the clipboard into a run.
+    fn paste_strips(
+        &mut self,
+        alloc: Global,
+        track: u64,
+        at: u64,
+        edit: PasteEdit,
+    ) -> Result<u64, Refusal>
+        requires studio { IsStudio S.Store (core_of self.old) }
+        requires in_form { at < 2 ^ 63 }
+        ensures took { Took S.Store (core_of self.old) (Line (paste_line edit track at)) silent
+            (told_by (λ _. reply.Done) result) 0 (core_of self.new) }
+        ensures number { IfOk result (λ n. n ≡ self.new.commit_number) }
+        ensures sound { IsHeld S.Store (core_of self.old) → IfErr result IsUndamaged }
+    {
+        if let Some(faults) = self.stopped {
+            return Err(Refusal::Stopped { faults });
+        }
+        let planned = self.planned_paste(alloc, track, at, edit)?;
+        self.carry_out(planned, 0, &Given::Nothing)
+    }
+
+    // The project with the strips of the clipboard in it.
+    fn planned_paste(
+        &self,
+        alloc: Global,
+        track: u64,
+        at: u64,
+        edit: PasteEdit,
+    ) -> Result<Planned, Refusal>
+        requires studio { IsStudio S.Store (core_of self.now) }
+        requires in_form { at < 2 ^ 63 }
+        ensures plan { IfOk result (λ p. IsPastePlan edit track at self.now.buffers self.now.next_block
+            self.now.clipboard (current_tracks self.now.history.history) p.point p.makes p.next) }
+        ensures tracks { IfOk result (λ p. p.tracks ≡ 0) }
+        ensures clip { IfOk result (λ p. p.clip ≡ None) }
+        ensures err { IfErr result (NoPastePlan edit track at self.now.clipboard
+            (current_tracks self.now.history.history)) }
+    {
+        let project = self.current();
+        project.track(track)?;
+        let Some(clip) = &self.clipboard else {
+            return Err(Refusal::EmptyClipboard);
+        };
+        see_items(clip.as_slice());
+        let run = run_from(alloc, project, track)?;
+        let plans = plan_paste(
+            alloc,
+            &run,
+            clip,
+            at,
+            edit,
+            self.buffers.block_size(),
+            self.next_block,
+        )?;
+        let planned = planned_run(alloc, project, track, plans, self.next_block, None)?;
+        Ok(planned)
+    }
+}

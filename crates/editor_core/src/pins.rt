@@ -1,0 +1,114 @@
+// Projects that are kept as they were.
+ghost use Rattle.std.specs.Prelude.{◌≡◌, ◌+◌, ◌≤◌, ◌<◌, ◌^◌, ℕ, [], ◌∷◌, ◌++◌, IfErr, OnOk, OnErr};
+ghost use Rattle.pcm_base.specs.declared.answer.Reply.TheVariants as reply;
+ghost use Rattle.pcm_base.specs.declared.command.Call.TheVariants as call;
+ghost use Rattle.pcm_base.specs.declared.refusal.Refusal.TheVariants as refusal;
+ghost use Rattle.block_ledger.specs.Counts.{occurrences};
+ghost use Rattle.block_ledger.specs.Entries.{count_of};
+ghost use Rattle.envelope_view.specs.Answers.{IsUndamaged};
+ghost use Rattle.project_state.specs.Kept.{point_blocks};
+ghost use Rattle.editor_core.specs.declared.studio.Pin.{Pin};
+ghost use Rattle.editor_core.specs.Core.{core_of};
+ghost use Rattle.editor_core.specs.Occurrences.{HasIds, Held, times_named};
+ghost use Rattle.editor_core.specs.Pins.{MayTake, AnswersPin, AnswersUnpin};
+ghost use Rattle.editor_core.specs.Points.{current_tracks};
+ghost use Rattle.editor_core.specs.Studios.{IsStudio};
+ghost use Rattle.editor_core.specs.Took.{Took, silent, told_by};
+
+use super::commits::MOST;
+use super::counting::{drop_point, hold_point};
+use super::current::current_of;
+use super::studio::{Pin, Studio};
+use block_ledger::Ledger;
+use disk_model::Store;
+use pcm_base::Refusal;
+use project_state::Point;
+use undo_history::History;
+
+// Takes the pin with this number out of the others.
+fn take_pin(pins: &mut Vec<Pin>, number: u64) -> Option<Pin>
+    ensures { MayTake pins.old.items pins.new.items number result }
+{
+    for i in 0..pins.len() {
+        if pins[i].number == number {
+            return Some(pins.remove(i));
+        }
+    }
+    None
+}
+
+// The current project is named once more.
+fn hold_current(ledger: &mut Ledger, history: &History<Point>)
+    requires there { HasIds (count_of ledger.old) (point_blocks (current_tracks history.now.history)) }
+    requires few { (id : ℕ) → occurrences (count_of ledger.old id)
+        + times_named id (point_blocks (current_tracks history.now.history)) < 2 ^ 128 }
+    ensures { Held (count_of ledger.old) (count_of ledger.new) (point_blocks (current_tracks history.now.history)) }
+{
+    hold_point(ledger, current_of(history));
+}
+
+impl<S: Store> Studio<S> {
+    /// Keeps the current project by a number of its own, whatever is undone, purged or edited. It takes memory for a
+    /// copy of the tracks and the references to blocks. No sample is copied, and nothing is asked of the disk.
+    ///
+    /// # Errors
+    ///
+    /// `Stopped` where a change of the disk failed in an earlier call; else `SpaceSpent` where all 2^62 numbers were
+    /// given; else `NoMemory` where there is none for the copy. Nothing has changed then.
+    pub fn pin(&mut self) -> Result<u64, Refusal>
+        requires { IsStudio S.Store (core_of self.old) }
+        ensures took { Took S.Store (core_of self.old) call.Pin silent (told_by reply.Pinned result) 0
+            (core_of self.new) }
+        ensures pinned { AnswersPin (core_of self.old) result (core_of self.new) }
+        ensures undamaged { IfErr result IsUndamaged }
+    {
+        if let Some(faults) = self.stopped {
+            return Err(Refusal::Stopped { faults });
+        }
+        if self.next_pin == MOST {
+            return Err(Refusal::SpaceSpent {
+                have: MOST,
+                need: 1,
+            });
+        }
+        self.add_pin()?;
+        hold_current(&mut self.ledger, &self.history);
+        self.next_pin += 1;
+        Ok(self.next_pin - 1)
+    }
+
+    // Puts a copy of the current project behind the pins.
+    fn add_pin(&mut self) -> Result<(), Refusal>
+        ensures ok { OnOk result (core_of self.new ≡ record (core_of self.old) {
+          pins = self.old.pins.items
+              ++ (record { number = self.old.next_pin; point = current_tracks self.old.history.history }) ∷ [];
+        }) }
+        ensures err { OnErr result (core_of self.new ≡ core_of self.old) }
+        ensures memory { IfErr result (λ e. e ≡ refusal.NoMemory) }
+        ensures history { self.new.history ≡ self.old.history }
+        ensures ledger { self.new.ledger ≡ self.old.ledger }
+    {
+        let number = self.next_pin;
+        let point = current_of(&self.history).copy()?;
+        self.pins.push(Pin { number, point })?;
+        Ok(())
+    }
+
+    /// Lets a pinned project go. It takes no memory, asks nothing of the disk, and serves a stopped studio too.
+    ///
+    /// # Errors
+    ///
+    /// `NoPin` where no pin has the number.
+    pub fn unpin(&mut self, pin: u64) -> Result<(), Refusal>
+        requires { IsStudio S.Store (core_of self.old) }
+        ensures took { Took S.Store (core_of self.old) (call.Unpin pin) silent
+            (told_by (λ _. reply.Done) result) 0 (core_of self.new) }
+        ensures unpinned { AnswersUnpin (core_of self.old) pin result (core_of self.new) }
+    {
+        let Some(gone) = take_pin(&mut self.pins, pin) else {
+            return Err(Refusal::NoPin { pin });
+        };
+        drop_point(&mut self.ledger, &gone.point);
+        Ok(())
+    }
+}

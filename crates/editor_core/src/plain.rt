@@ -1,0 +1,41 @@
+// Edits that make no blocks.
+ghost use Rattle.std.specs.Prelude.{◌≡◌};
+ghost use Rattle.editor_core.specs.Plain.{tracks_by, set_by};
+
+use pcm_base::Side;
+use project_state::Track;
+
+/// An edit that makes no blocks.
+#[derive(Clone, Copy)]
+pub(crate) enum PlainEdit {
+    Track,
+    Drop { track: u64 },
+    Level { track: u64, gain: u32 },
+    Side { track: u64, side: Side },
+    Mute { track: u64, mute: bool },
+}
+
+// How many track ids it needs.
+pub(crate) fn tracks_for(edit: &PlainEdit) -> u64
+    ensures { result ≡ tracks_by edit.now }
+{
+    match edit {
+        PlainEdit::Track => 1,
+        PlainEdit::Drop { .. }
+        | PlainEdit::Level { .. }
+        | PlainEdit::Side { .. }
+        | PlainEdit::Mute { .. } => 0,
+    }
+}
+
+// Sets what it sets of a track.
+pub(crate) fn set_track(edit: &PlainEdit, track: &mut Track)
+    ensures { track.new ≡ set_by edit.now track.old }
+{
+    match edit {
+        PlainEdit::Level { gain, .. } => track.gain = *gain,
+        PlainEdit::Side { side, .. } => track.side = *side,
+        PlainEdit::Mute { mute, .. } => track.mute = *mute,
+        PlainEdit::Track | PlainEdit::Drop { .. } => {}
+    }
+}

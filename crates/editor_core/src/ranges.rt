@@ -1,0 +1,201 @@
+// Edits of a range of one track.
+ghost use Rattle.std.specs.Prelude.{◌≡◌, ◌≤◌, ◌<◌, ◌^◌, IfErr, IfOk, None, length};
+ghost use Rattle.pcm_base.specs.declared.answer.Reply.TheVariants as reply;
+ghost use Rattle.pcm_base.specs.declared.command.Call.TheVariants.{Line};
+ghost use Rattle.pcm_base.specs.declared.command.Command.TheVariants as command;
+ghost use Rattle.pcm_base.specs.Pieces.{Sources};
+ghost use Rattle.pcm_base.specs.Refusals.{bad_range};
+ghost use Rattle.clip_track.specs.Clips.{AllHalfFull, IsLayout, end_of, layout_blocks, layout_cells};
+ghost use Rattle.edit_ops.specs.Plans.{AnswersTest, IsPlan, Means};
+ghost use Rattle.envelope_view.specs.Answers.{IsUndamaged};
+ghost use Rattle.editor_core.specs.Core.{core_of};
+ghost use Rattle.editor_core.specs.Points.{current_tracks};
+ghost use Rattle.editor_core.specs.Ranges.{range_cells, range_edit, range_line, range_most};
+ghost use Rattle.editor_core.specs.Studios.{IsHeld, IsStudio};
+ghost use Rattle.editor_core.specs.Took.{Took, silent, told_by};
+ghost use Rattle.editor_core.specs.TrackEdits.{IsTrackPlan, NoTrackPlan};
+
+use super::carrying::Planned;
+use super::planning::planned;
+use super::studio::Studio;
+use clip_track::Layout;
+use disk_model::Store;
+use edit_ops::{Plan, delete, gain, silence, split_delete, trim};
+use pcm_base::Refusal;
+use piece_store::Given;
+use std::alloc::Global;
+
+/// An edit of a range of one track.
+#[derive(Clone, Copy)]
+pub(crate) enum RangeEdit {
+    Delete,
+    SplitDelete,
+    Silence,
+    Trim,
+    Gain { gain: u32 },
+}
+
+/// The cells of a track from one place to another.
+#[derive(Clone, Copy)]
+pub(crate) struct TrackRange {
+    pub(crate) track: u64,
+    pub(crate) from: u64,
+    pub(crate) to: u64,
+}
+
+// The plan of it.
+fn plan_range(
+    alloc: Global,
+    layout: &Layout,
+    range: TrackRange,
+    edit: RangeEdit,
+    block_size: u32,
+    next: u64,
+) -> Result<Plan, Refusal>
+    requires some { 0 < block_size }
+    requires half_full { AllHalfFull block_size layout.now }
+    requires apart { IsLayout layout.now }
+    requires room { next ≤ 2 ^ 62 }
+    ensures plan { IfOk result (λ p. IsPlan block_size next (layout_blocks layout.now) 0 p) }
+    ensures cells { IfOk result (λ p. Means (λ src. range_cells edit range.from range.to) layout.now p) }
+    ensures few { IfOk result (λ p. (src : Sources) →
+        length p.makes ≤ range_most edit range.from range.to block_size (layout_cells src layout.now)) }
+    ensures tests { AnswersTest (bad_range range.from range.to (end_of 0 layout.now)) result }
+{
+    let TrackRange { from, to, .. } = range;
+    match edit {
+        RangeEdit::Delete => delete(alloc, layout, from, to, block_size, next),
+        RangeEdit::SplitDelete => split_delete(alloc, layout, from, to, block_size, next),
+        RangeEdit::Silence => silence(alloc, layout, from, to, block_size, next),
+        RangeEdit::Trim => trim(alloc, layout, from, to, block_size, next),
+        RangeEdit::Gain { gain: factor } => gain(alloc, layout, from, to, factor, block_size, next),
+    }
+}
+
+impl<S: Store> Studio<S> {
+    /// Takes the cells of a range out of a track: those behind it move to its place.
+    pub fn delete(&mut self, alloc: Global, track: u64, from: u64, to: u64) -> Result<u64, Refusal>
+        requires { IsStudio S.Store (core_of self.old) }
+        ensures took { Took S.Store (core_of self.old) (Line (command.Delete track from to)) silent
+            (told_by (λ _. reply.Done) result) 0 (core_of self.new) }
+        ensures number { IfOk result (λ n. n ≡ self.new.commit_number) }
+        ensures sound { IsHeld S.Store (core_of self.old) → IfErr result IsUndamaged }
+    {
+        self.edit_range(alloc, TrackRange { track, from, to }, RangeEdit::Delete)
+    }
+
+    /// Makes the cells of a range of a track gaps.
+    pub fn split_delete(
+        &mut self,
+        alloc: Global,
+        track: u64,
+        from: u64,
+        to: u64,
+    ) -> Result<u64, Refusal>
+        requires { IsStudio S.Store (core_of self.old) }
+        ensures took { Took S.Store (core_of self.old) (Line (command.SplitDelete track from to)) silent
+            (told_by (λ _. reply.Done) result) 0 (core_of self.new) }
+        ensures number { IfOk result (λ n. n ≡ self.new.commit_number) }
+        ensures sound { IsHeld S.Store (core_of self.old) → IfErr result IsUndamaged }
+    {
+        self.edit_range(
+            alloc,
+            TrackRange { track, from, to },
+            RangeEdit::SplitDelete,
+        )
+    }
+
+    /// Makes the samples of a range of a track 0; its gaps stay.
+    pub fn silence(&mut self, alloc: Global, track: u64, from: u64, to: u64) -> Result<u64, Refusal>
+        requires { IsStudio S.Store (core_of self.old) }
+        ensures took { Took S.Store (core_of self.old) (Line (command.Silence track from to)) silent
+            (told_by (λ _. reply.Done) result) 0 (core_of self.new) }
+        ensures number { IfOk result (λ n. n ≡ self.new.commit_number) }
+        ensures sound { IsHeld S.Store (core_of self.old) → IfErr result IsUndamaged }
+    {
+        self.edit_range(alloc, TrackRange { track, from, to }, RangeEdit::Silence)
+    }
+
+    /// Makes all cells of a track but those of a range gaps.
+    pub fn trim(&mut self, alloc: Global, track: u64, from: u64, to: u64) -> Result<u64, Refusal>
+        requires { IsStudio S.Store (core_of self.old) }
+        ensures took { Took S.Store (core_of self.old) (Line (command.Trim track from to)) silent
+            (told_by (λ _. reply.Done) result) 0 (core_of self.new) }
+        ensures number { IfOk result (λ n. n ≡ self.new.commit_number) }
+        ensures sound { IsHeld S.Store (core_of self.old) → IfErr result IsUndamaged }
+    {
+        self.edit_range(alloc, TrackRange { track, from, to }, RangeEdit::Trim)
+    }
+
+    /// Puts the samples of a range of a track under a gain, where 65,536 is unity; each is rounded and limited to what a
+    /// sample can be, and gaps stay.
+    pub fn gain(
+        &mut self,
+        alloc: Global,
+        track: u64,
+        from: u64,
+        to: u64,
+        gain: u32,
+    ) -> Result<u64, Refusal>
+        requires { IsStudio S.Store (core_of self.old) }
+        ensures took { Took S.Store (core_of self.old) (Line (command.Gain track from to gain)) silent
+            (told_by (λ _. reply.Done) result) 0 (core_of self.new) }
+        ensures number { IfOk result (λ n. n ≡ self.new.commit_number) }
+        ensures sound { IsHeld S.Store (core_of self.old) → IfErr result IsUndamaged }
+    {
+        self.edit_range(
+            alloc,
+            TrackRange { track, from, to },
+            RangeEdit::Gain { gain },
+        )
+    }
+
+    // An edit of a range of one track.
+    fn edit_range(
+        &mut self,
+        alloc: Global,
+        range: TrackRange,
+        edit: RangeEdit,
+    ) -> Result<u64, Refusal>
+        requires { IsStudio S.Store (core_of self.old) }
+        ensures took { Took S.Store (core_of self.old) (Line (range_line edit range.track range.from range.to)) silent
+            (told_by (λ _. reply.Done) result) 0 (core_of self.new) }
+        ensures number { IfOk result (λ n. n ≡ self.new.commit_number) }
+        ensures sound { IsHeld S.Store (core_of self.old) → IfErr result IsUndamaged }
+    {
+        if let Some(faults) = self.stopped {
+            return Err(Refusal::Stopped { faults });
+        }
+        let planned = self.planned_range(alloc, range, edit)?;
+        self.carry_out(planned, 0, &Given::Nothing)
+    }
+
+    // The project that it makes of the current one.
+    fn planned_range(
+        &self,
+        alloc: Global,
+        range: TrackRange,
+        edit: RangeEdit,
+    ) -> Result<Planned, Refusal>
+        requires { IsStudio S.Store (core_of self.now) }
+        ensures plan { IfOk result (λ p. IsTrackPlan (range_edit edit range.from range.to) 0 range.track self.now.buffers
+            self.now.next_block (current_tracks self.now.history.history) p.point p.makes p.next) }
+        ensures tracks { IfOk result (λ p. p.tracks ≡ 0) }
+        ensures clip { IfOk result (λ p. p.clip ≡ None) }
+        ensures err { IfErr result (NoTrackPlan (range_edit edit range.from range.to) range.track
+            (current_tracks self.now.history.history)) }
+    {
+        let project = self.current();
+        let old = project.track(range.track)?;
+        let plan = plan_range(
+            alloc,
+            &old.layout,
+            range,
+            edit,
+            self.buffers.block_size(),
+            self.next_block,
+        )?;
+        let planned = planned(alloc, project, old, plan)?;
+        Ok(planned)
+    }
+}

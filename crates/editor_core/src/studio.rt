@@ -1,0 +1,37 @@
+// The studio.
+use super::buffers::BlockBuffers;
+use block_ledger::Ledger;
+use edit_ops::Strips;
+use project_state::Point;
+use undo_history::History;
+
+/// A project that is kept as it was, by its number.
+#[derive(Drop)]
+pub struct Pin {
+    pub(crate) number: u64,
+    pub(crate) point: Point,
+}
+
+/// The editor of one project on a store.
+#[derive(Drop)]
+pub struct Studio<S> {
+    pub(crate) store: S,
+    pub(crate) history: History<Point>,
+    pub(crate) clipboard: Option<Strips>,
+    pub(crate) pins: Vec<Pin>,
+    pub(crate) ledger: Ledger,
+    pub(crate) next_block: u64,
+    pub(crate) next_track: u64,
+    pub(crate) next_pin: u64,
+    pub(crate) commit_number: u64,
+    pub(crate) journal_end: u64,
+    /// The count of the disk's faults at which a failed change stopped it.
+    pub(crate) stopped: Option<u64>,
+    /// How many frames there are in a second.
+    pub(crate) rate: u32,
+    /// The body of a record, and the row of the journal that it is written by.
+    pub(crate) body: Vec<u8>,
+    pub(crate) row: Vec<u8>,
+    /// What a block is made in. They say how many samples a block has at most.
+    pub(crate) buffers: BlockBuffers,
+}

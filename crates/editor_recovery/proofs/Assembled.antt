@@ -1,0 +1,50 @@
+-- What opening answers with the studio of the parts that were found, or with the store where there was no memory.
+use Rattle.std.proofs.Common.{◌≡◌, Result, Ok, Err, refl, sym, ap, subst}
+use Rattle.std.specs.Prelude.{IfErr, IfOk}
+use Rattle.disk_model.specs.Disk.{Files}
+use Rattle.disk_model.specs.declared.store.Store.{Ghosts}
+use Rattle.project_journal.specs.Journal.{Log}
+use Rattle.project_state.specs.Kept.{Kept, meant_history, opened}
+use Rattle.sample_block.specs.Sources.{sources_of}
+use Rattle.editor_core.specs.Core.{Core, core_of}
+use Rattle.editor_core.specs.Parts.{assembled}
+use Rattle.editor_core.specs.Studios.{shown, studio_of}
+use Rattle.editor_core.specs.declared.assembly.Parts.{Parts}
+use Rattle.editor_core.specs.declared.studio.Studio.{Studio}
+use Rattle.editor_recovery.specs.declared.fault.OpenFault.{OpenFault}
+use Rattle.editor_recovery.specs.declared.fault.OpenFault.TheVariants as fault
+use Rattle.editor_recovery.specs.Found.{Found, IsNew, found_by, found_in}
+use Rattle.editor_recovery.specs.Opening.{IsFound}
+use Rattle.editor_recovery.specs.Stores.{answer_of, store_of}
+
+module _ {D : Type 0} (store : D) (p : Parts) where
+  pub same_store : (r : Result (Studio D) (OpenFault × D)) → IfOk r (λ s. core_of s ≡ assembled store p)
+      → IfErr r (λ e. (e.0 ≡ fault.NoMemory) × (e.1 ≡ store)) → store_of r ≡ store
+  same_store (Ok s) is none = ap (λ (c : Core D). c.store) is
+  same_store (Err e) is none = none.1
+
+  pub answers : (P : Result Found OpenFault → Type 0) (r : Result (Studio D) (OpenFault × D))
+      → IfOk r (λ s. core_of s ≡ assembled store p) → IfErr r (λ e. (e.0 ≡ fault.NoMemory) × (e.1 ≡ store))
+      → P (Ok (found_in p)) → P (Err fault.NoMemory) → P (answer_of r)
+  answers P (Ok s) is none ok refused = subst (λ (c : Core D). P (Ok (found_by c))) (sym is) ok
+  answers P (Err e) is none ok refused = subst (λ (f : OpenFault). P (Err f)) (sym none.0) refused
+
+  pub each : (Q : Core D → Type 0) (r : Result (Studio D) (OpenFault × D)) → IfOk r (λ s. core_of s ≡ assembled store p)
+      → Q (assembled store p) → IfOk r (λ s. Q (core_of s))
+  each Q (Ok s) is q = subst Q (sym is) q
+  each Q (Err e) is q = tt
+
+  pub new_studio : IsNew (assembled store p)
+  new_studio = record { clipboard = refl; pins = refl; next_pin = refl; stopped = refl }
+
+-- what each image keeps is what the studio shows
+pub shows_found : {D : Type 0} (disk : Ghosts D) (store : D) (p : Parts) (files : Files) (log : Log) (kept : Kept)
+    → IsFound files log kept (found_in p) → disk.reads store ≡ files
+    → opened log kept files ≡ shown (studio_of disk (assembled store p))
+shows_found disk store p files log kept found same = λ i. record {
+  rate = sym found.rate i;
+  block_size = sym found.block_size i;
+  history = meant_history (sources_of (sym same i)) (sym found.history i);
+  next_track = sym found.next_track i;
+  commit = sym found.commit i;
+}
