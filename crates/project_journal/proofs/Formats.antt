@@ -1,16 +1,14 @@
 -- What a journal says that was read: a format that it may have, and records that lie in its file.
-use Rattle.std.proofs.Common.{◌≡◌, ℕ, zero, suc, ◌+◌, ◌*◌, ◌%◌, ◌<◌, ◌≤◌, ◌^◌, min, max, Bool, true, false, if◌then◌else◌, List, [], ◌∷◌, ◌++◌, length, map, get_or, Option, None, Some, Result, Ok, Err, refl, sym, ap, subst, ◌∙◌, arith, length-append}
-use Rattle.std.specs.Prelude.{IfOk, slice_index}
+use Rattle.std.proofs.Common.{◌≡◌, ℕ, zero, suc, ◌+◌, ◌*◌, ◌%◌, ◌<◌, ◌≤◌, ◌^◌, min, max, Bool, true, false, if◌then◌else◌, List, [], ◌∷◌, ◌++◌, length, map, get_or, Option, None, Some, refl, sym, ap, subst, ◌∙◌, arith, length-append}
+use Rattle.std.specs.Prelude.{slice_index}
 use Rattle.std.specs.List.{flat_map, All, AllByRecursion}
 use Rattle.std.specs.List.Sorted.{IsStrictlyIncreasing}
 use Rattle.std.proofs.lemmas.Bool.{eqb-true}
 use Rattle.std.proofs.lemmas.List.{length-map}
 use Rattle.project_journal.specs.declared.fault.Damaged.{Damaged}
-use Rattle.project_journal.specs.declared.fault.JournalFault.{JournalFault}
-use Rattle.project_journal.specs.Answer.{Reads}
 use Rattle.project_journal.specs.Fields.{field}
 use Rattle.project_journal.specs.Header.{nearest_size, number_tests, version_1, IsFormat}
-use Rattle.project_journal.specs.Journal.{Log, Entry, entry, body_of, body_at, placed, IsEntry, IsHeader, Contents}
+use Rattle.project_journal.specs.Journal.{Log, Entry, entry, body_of, body_at, placed, IsEntry, IsHeader, Contents, IsJournal}
 use Rattle.project_journal.specs.Readable.{IsReadable, LiesBelow, place_of}
 use Rattle.project_journal.proofs.Splits.{length-entry}
 
@@ -78,10 +76,8 @@ places_within p end (body ∷ bodies) least le = λ k d lt. below k d lt (places
     below zero d lt rest = (omega (arith, least), omega (arith, le, past_count (p + 5 + length body) bodies))
     below (suc k) d lt rest = rest k d (omega (arith, lt))
 
-pub readable : (bytes : List ℕ) (r : Result Contents JournalFault) → length bytes ≤ 2 ^ 62 → Reads version_1 bytes r → IfOk r IsReadable
-readable bytes (Err e) few read = tt
-readable bytes (Ok j) few read =
-    let is = read.1 in
+pub readable : (bytes : List ℕ) (j : Contents) → length bytes ≤ 2 ^ 62 → IsJournal version_1 bytes j → IsReadable j
+readable bytes j few is =
     let log = is.spelled in
     let bodies = map body_at j.records in
     let front : length is.front ≡ 32 + length (flat_map entry log.entries) = omega (arith, ap length log.parts, length-append log.head (flat_map entry log.entries), log.header.size) in

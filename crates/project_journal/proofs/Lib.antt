@@ -8,4 +8,8 @@ mod Logs
 mod Starts
 pub mod Parses
 mod Splits
+mod RowParts
+mod Standing
+pub mod Begun
+pub mod Readings
 mod Headers

@@ -5,10 +5,7 @@ use Rattle.std.proofs.lemmas.List.{take_at, drop_at}
 use Rattle.std.specs.List.{flat_map, AllByRecursion}
 use Rattle.byteorder.specs.Endian.{little_number}
 use Rattle.byteorder.specs.Numbers.{little_from-append}
-use Rattle.std.specs.Prelude.{Result, Ok, Err, IfOk}
-use Rattle.disk_model.specs.Disk.{Files, bytes_of}
-use Rattle.project_journal.specs.declared.fault.JournalFault.{JournalFault}
-use Rattle.project_journal.specs.Answer.{Reads}
+use Rattle.disk_model.specs.Disk.{Files}
 use Rattle.project_journal.specs.declared.fault.Damaged.{Damaged}
 use Rattle.project_journal.specs.declared.records.Next.TheVariants.{Whole, Shut, Early}
 use Rattle.project_journal.specs.Fields.{field}
@@ -72,7 +69,7 @@ same_entries (a ∷ xs) (b ∷ ys) x y p q s t e =
       rest = more.rest;
     }
 
-log_same : (a b : Log) → a.rate ≡ b.rate → a.block_size ≡ b.block_size → a.depth ≡ b.depth → a.bodies ≡ b.bodies → a ≡ b
+pub log_same : (a b : Log) → a.rate ≡ b.rate → a.block_size ≡ b.block_size → a.depth ≡ b.depth → a.bodies ≡ b.bodies → a ≡ b
 log_same a b rate block_size depth bodies = λ i. record { rate = rate i; block_size = block_size i; depth = depth i; bodies = bodies i }
 
 record SameLog (a b : Log) (f g x y : List ℕ) : Type 0 where
@@ -143,14 +140,3 @@ journal_once form bytes i j p q =
     let end : i.end ≡ j.end = p.place ∙ ap length same.front ∙ sym q.place in
     let ends : Ends j.end q.rest i.early = subst (λ (l : List ℕ). Ends j.end l i.early) same.rest (subst (λ (n : ℕ). Ends n p.rest i.early) end p.ends) in
     contents_same i j same.log (p.records ∙ ap (λ (l : Log). placed form.header_size l.bodies) same.log ∙ sym q.records) end (ends_once j.end q.rest i.early j.early ends q.ends)
-
--- where the disk has a journal, that is what a reading gives
-pub read_log : (form : Form) (log : Log) (c : Files) (j : Contents) → HasLog form log c → IsJournal form (bytes_of (c form.file)) j → log_of j ≡ log
-read_log form log c j has is =
-    let stop : Stopped is.rest = λ at len e. ends_stop j.end is.rest j.early is.ends len (any_place at j.end is.rest len e) in
-    let same = same_log form (log_of j) log is.front has.0 is.rest (0 ∷ has.2.0) is.spelled has.1 stop (shut_stops has.2.0) (sym is.parts ∙ ap bytes_of has.2.1) in
-    same.log
-
-pub reads_log : (form : Form) (log : Log) (c : Files) (r : Result Contents JournalFault) → HasLog form log c → Reads form (bytes_of (c form.file)) r → IfOk r (λ j. log_of j ≡ log)
-reads_log form log c (Ok j) has read = read_log form log c j has read.1
-reads_log form log c (Err e) has read = tt

@@ -1,27 +1,21 @@
 -- The bytes of a file as a journal.
-use Rattle.std.proofs.Common.{◌≡◌, ℕ, zero, suc, ◌+◌, ◌-◌, ◌≤◌, Bool, true, false, cond, eqb, ltb, Option, Some, None, Result, Ok, Err, List, [], ◌∷◌, ◌++◌, length, map, take, drop, refl, sym, ◌∙◌, ap, subst, arith, length-append}
-use Rattle.std.specs.Prelude.{slice_index, IfOk}
+use Rattle.std.proofs.Common.{◌≡◌, ℕ, zero, suc, ◌+◌, ◌-◌, ◌≤◌, Bool, true, false, cond, eqb, ltb, Option, Some, None, List, [], ◌∷◌, ◌++◌, length, map, take, drop, refl, sym, ◌∙◌, ap, subst, arith}
+use Rattle.std.specs.Prelude.{slice_index}
 use Rattle.std.proofs.lemmas.Bool.{eqb-true}
 use Rattle.project_journal.specs.declared.records.Next.{Next}
 use Rattle.project_journal.specs.declared.records.Next.TheVariants.{Whole, Shut, Early}
-use Rattle.std.proofs.lemmas.List.{get_or-take, drop-take, length-take-le}
-use Rattle.std.specs.List.{flat_map}
+use Rattle.std.proofs.lemmas.List.{get_or-take, drop-take}
 use Rattle.byteorder.specs.Endian.{little_number}
 use Rattle.byteorder.specs.Numbers.{little_from-take}
 use Rattle.disk_model.specs.Disk.{Files, bytes_of}
-use Rattle.disk_model.specs.declared.store.Store.{Ghosts}
 use Rattle.project_journal.specs.declared.fault.Damaged.{Damaged}
-use Rattle.project_journal.specs.declared.fault.JournalFault.{JournalFault}
-use Rattle.project_journal.specs.declared.fault.JournalFault.TheVariants.{Absent, Exists, Damaged as Fault, SpaceSpent, DiskFault, NoMemory}
 use Rattle.project_journal.specs.Fields.{field}
-use Rattle.project_journal.specs.Header.{Form, IsProject, header_tests, number_tests, the_zeros, zero_tests, first_failed}
-use Rattle.project_journal.specs.Gate.{IsShut, IsDurable}
-use Rattle.project_journal.specs.Journal.{entry, body_of, placed, body_at, Contents, log_of, Ends, next_of, IsJournal, IsAt}
-use Rattle.project_journal.specs.Split.{IsSplit}
-use Rattle.project_journal.specs.Answer.{Reads, IsRefusal}
+use Rattle.project_journal.specs.Header.{Form, IsProject, header_tests, number_tests, the_zeros, zero_tests}
+use Rattle.project_journal.specs.Gate.{IsShut}
+use Rattle.project_journal.specs.Journal.{placed, body_at, Contents, Ends, next_of, IsJournal}
 
 -- a field within the first m bytes
-field_take : (at n m : ℕ) (bytes : List ℕ) → at + n ≤ m → field at n (take m bytes) ≡ field at n bytes
+pub field_take : (at n m : ℕ) (bytes : List ℕ) → at + n ≤ m → field at n (take m bytes) ≡ field at n bytes
 field_take at n m bytes le =
     let k : m ≡ at + (m - at) = omega arith in
     let front : drop at (take m bytes) ≡ take (m - at) (drop at bytes) = ap (λ (i : ℕ). drop at (take i bytes)) k ∙ drop-take at (m - at) bytes in
@@ -48,48 +42,6 @@ pub bodies_placed : (p : ℕ) (bodies : List (List ℕ)) → map body_at (placed
 bodies_placed p [] = refl
 bodies_placed p (body ∷ bodies) = ap (λ (l : List (List ℕ)). body ∷ l) (bodies_placed (p + 5 + length body) bodies)
 
-pub is_journal : (form : Form) (bytes : List ℕ) (j : Contents) → 21 ≤ form.header_size → form.header_size ≤ length bytes → form.tests (take form.header_size bytes) ≡ form.tests bytes
-    → IsProject bytes → first_failed (form.tests bytes) ≡ None → j.rate ≡ field 9 4 bytes → j.block_size ≡ field 13 4 bytes → j.depth ≡ field 17 4 bytes
-    → IsSplit form.header_size bytes j.records j.end → Ends j.end (drop j.end bytes) j.early → IsJournal form bytes j
-is_journal form bytes j least long same project sound rate block_size depth split ends =
-    let n = form.header_size in
-    let head = take n bytes in
-    let all = flat_map entry split.entries in
-    let size : length head ≡ n = length-take-le n bytes long in
-    let bodies : map body_at j.records ≡ map body_of split.entries = ap (map body_at) split.told ∙ bodies_placed n (map body_of split.entries) in
-    let first : slice_index head 0 ≡ slice_index bytes 0 = get_or-take n bytes 0 0 (omega (arith, least)) in
-    record {
-      front = head ++ all;
-      rest = drop j.end bytes;
-      parts = split.parts;
-      spelled = record {
-        head = head;
-        entries = split.entries;
-        parts = refl;
-        header = record {
-          size = size;
-          gate = λ shut. project.1 (sym first ∙ shut);
-          sound = ap first_failed same ∙ sound;
-          rate = field_take 9 4 n bytes (omega (arith, least)) ∙ sym rate;
-          block_size = field_take 13 4 n bytes (omega (arith, least)) ∙ sym block_size;
-          depth = field_take 17 4 n bytes (omega (arith, least)) ∙ sym depth;
-        };
-        each = split.each;
-        bodies = sym bodies;
-      };
-      place = omega (arith, split.place, size, length-append head all);
-      records = split.told ∙ ap (placed n) (sym bodies);
-      ends = ends;
-    }
-
-pub refused : (form : Form) (bytes : List ℕ) (e : JournalFault) → IsRefusal e → Reads form bytes (Err e)
-refused form bytes DiskFault is = tt
-refused form bytes NoMemory is = tt
-refused form bytes Absent is = absurd is
-refused form bytes Exists is = absurd is
-refused form bytes (Fault file at want have) is = absurd is
-refused form bytes (SpaceSpent have need) is = absurd is
-
 none_shut : (b t : Bool) (x y : Damaged) (len : ℕ) → cond b (Early x) (cond t (Early y) (Whole len)) ≡ Shut → ⊥
 none_shut true t x y len e = absurd cc
 none_shut false true x y len e = absurd cc
@@ -114,22 +66,3 @@ pub shut_there : (form : Form) (files : Files) (j : Contents) → IsProject (byt
 shut_there form files j project is whole =
     let shut = shut_rest j.end is.rest (subst (Ends j.end is.rest) whole is.ends) in
     (shut.0, there (files form.file) project ∙ ap (λ (l : List ℕ). Some l) (is.parts ∙ ap (λ (l : List ℕ). is.front ++ l) shut.1))
-
-is_at : (form : Form) {D : Type 0} (disk : Ghosts D) (store : D) (j : Contents) → IsProject (bytes_of (disk.reads store form.file)) → IsJournal form (bytes_of (disk.reads store form.file)) j
-    → IsDurable disk store form.file → j.early ≡ None → IsAt form disk store j.end (log_of j)
-is_at form disk store j project is same whole =
-    let shut = shut_there form (disk.reads store) j project is whole in
-    record {
-      front = is.front;
-      place = sym is.place;
-      spelled = is.spelled;
-      read = shut;
-      images = λ c now. (shut.0, same c now ∙ shut.1);
-    }
-
-pub at_rest : (form : Form) {D : Type 0} (disk : Ghosts D) (store : D) (bytes : List ℕ) (r : Result Contents JournalFault) → bytes ≡ bytes_of (disk.reads store form.file) → Reads form bytes r
-    → IsDurable disk store form.file → IfOk r (λ j. j.early ≡ None → IsAt form disk store j.end (log_of j))
-at_rest form disk store bytes (Ok j) is told same = λ whole.
-    let here = subst (λ (b : List ℕ). IsProject b × IsJournal form b j) is told in
-    is_at form disk store j here.0 here.1 same whole
-at_rest form disk store bytes (Err e) is told same = tt

@@ -1,9 +1,8 @@
 -- When each answer of a call comes.
-use Rattle.std.specs.Prelude.{◌≡◌, ◌⊎◌, ℕ, ◌+◌, ◌^◌, ◌<◌, ◌≤◌, Some, List, Result, Ok, Err}
+use Rattle.std.specs.Prelude.{◌≡◌, ◌⊎◌, ℕ, ◌+◌, ◌^◌, ◌<◌, ◌≤◌, None, Some, List, length, Result, Ok, Err}
 use Rattle.pcm_base.specs.Causes.{Rose}
 use Rattle.disk_model.specs.declared.store.Store.{Ghosts}
 use Rattle.project_journal.specs.Header.{Form, IsProject, first_failed}
-use Rattle.project_journal.specs.Journal.{Contents, IsJournal}
 use Rattle.project_journal.specs.declared.fault.JournalFault.{JournalFault}
 use Rattle.project_journal.specs.declared.fault.JournalFault.TheVariants.{Absent, Exists, Damaged, SpaceSpent, DiskFault, NoMemory}
 
@@ -41,15 +40,22 @@ Creates bytes (Err Exists) = IsProject bytes
 Creates bytes (Err DiskFault) = Unit {0}
 Creates bytes (Err _) = ⊥
 
--- A reading of these bytes.
-abbrev pub Reads : Form → List ℕ → Result Contents JournalFault → Type 0
-Reads form bytes (Ok j) = IsProject bytes × IsJournal form bytes j
-Reads form bytes (Err Absent) = IsProject bytes → ⊥
-Reads form bytes (Err (Damaged file at want have)) = IsProject bytes × (file ≡ form.file) × (first_failed (form.tests bytes) ≡ Some (record { at = at; want = want; have = have }))
-Reads form bytes (Err DiskFault) = Unit {0}
-Reads form bytes (Err NoMemory) = Unit {0}
-Reads form bytes (Err Exists) = ⊥
-Reads form bytes (Err (SpaceSpent have need)) = ⊥
+-- What the first bytes of these say of the header.
+abbrev pub Starts : {T : Type 0} → Form → List ℕ → Result T JournalFault → Type 0
+Starts form bytes (Ok _) = IsProject bytes × (first_failed (form.tests bytes) ≡ None)
+Starts form bytes (Err Absent) = IsProject bytes → ⊥
+Starts form bytes (Err (Damaged file at want have)) = IsProject bytes × (file ≡ form.file) × (first_failed (form.tests bytes) ≡ Some (record { at = at; want = want; have = have }))
+Starts form bytes (Err DiskFault) = Unit {0}
+Starts form bytes (Err NoMemory) = Unit {0}
+Starts form bytes (Err Exists) = ⊥
+Starts form bytes (Err (SpaceSpent have need)) = ⊥
+
+-- The answer is that of some bytes, which are no more than a file may have. A store that does not tell its bytes may
+-- have given any.
+pub record StartsSome {T : Type 0} (form : Form) (result : Result T JournalFault) : Type 0 where
+  pub bytes : List ℕ
+  pub few : length bytes ≤ 2 ^ 62
+  pub starts : Starts form bytes result
 
 -- want of memory, or the disk's refusal
 abbrev pub IsRefusal : JournalFault → Type 0

@@ -13,18 +13,18 @@ mod form;
 mod front;
 mod gate;
 mod header;
-mod journal;
-mod reading;
+mod reader;
 mod records;
 mod rows;
+mod window;
 
 pub use adding::{append, append_small};
 pub use creating::create;
 pub use fault::{Damaged, JournalFault};
 pub use fields::{u8_at, u32_at, u64_at};
 pub use header::first_failure;
-pub use journal::Journal;
-pub use reading::read_all;
+pub use reader::{Reader, open_journal};
+pub use records::Next;
 
 #[cfg(test)]
 mod tests;

@@ -1,4 +1,6 @@
 // A journal byte by byte, journals that are damaged, and what a stop leaves after each call.
+ghost use Rattle.std.specs.Prelude.{◌≡◌, length, IfOk};
+
 use super::*;
 use disk_model::{RamStore, Store};
 use pcm_base::Numbers;
@@ -39,9 +41,60 @@ fn hostile(alloc: Global, count: usize, at: usize, byte: u8) -> Result<RamStore,
     Ok(store)
 }
 
+// A journal that was read, of at most two records: its numbers, its bodies with the first one's place, and its end.
+#[derive(Drop)]
+struct Read {
+    numbers: (u32, u32, u32),
+    count: usize,
+    place: u64,
+    bodies: [Vec<u8>; 2],
+    end: u64,
+    early: Option<Damaged>,
+}
+
+fn ended(read: Read, reader: &Reader, next: Next) -> Read {
+    let early = match next {
+        Next::Early(early) => Some(early),
+        _ => None,
+    };
+    Read {
+        end: reader.end(),
+        early,
+        ..read
+    }
+}
+
+fn read_two(alloc: Global, store: &mut RamStore) -> Result<Read, JournalFault> {
+    let mut reader = open_journal(alloc, store)?;
+    let mut read = Read {
+        numbers: (reader.rate(), reader.block_size(), reader.depth()),
+        count: 0,
+        place: 0,
+        bodies: [Vec::new(alloc), Vec::new(alloc)],
+        end: 0,
+        early: None,
+    };
+    let first = reader.next(store)?;
+    if !matches!(first, Next::Whole(_)) {
+        return Ok(ended(read, &reader, first));
+    }
+    let (place, body) = reader.record();
+    read.place = place;
+    read.count = 1;
+    read.bodies[0].extend_from_slice(body)?;
+    let second = reader.next(store)?;
+    if !matches!(second, Next::Whole(_)) {
+        return Ok(ended(read, &reader, second));
+    }
+    read.count = 2;
+    read.bodies[1].extend_from_slice(reader.record().1)?;
+    let third = reader.next(store)?;
+    Ok(ended(read, &reader, third))
+}
+
 fn fault(rt: &impl Abort, alloc: Global, at: usize, byte: u8) -> Result<(u64, u128, u128), Fail> {
     let mut store = hostile(alloc, 85, at, byte)?;
-    match read_all(alloc, &mut store) {
+    match open_journal(alloc, &mut store) {
         Err(
             JournalFault::Damaged {
                 file,
@@ -63,7 +116,7 @@ fn one_record_byte_by_byte(rt: HostRuntime) -> Result<(), Fail> {
     let mut store = disk(alloc)?;
     let mut head = [9u8; 33];
     let mut whole = [9u8; 85];
-    assert!(rt; matches!(read_all(alloc, &mut store), Err(JournalFault::Absent)));
+    assert!(rt; matches!(open_journal(alloc, &mut store), Err(JournalFault::Absent)));
     assert!(rt; create(&mut store, 8000, 4, 256).is_ok());
     assert!(rt; matches!(create(&mut store, 8000, 4, 256), Err(JournalFault::Exists)));
     assert!(rt; store.size(0) == Ok(Some(33)));
@@ -75,13 +128,11 @@ fn one_record_byte_by_byte(rt: HostRuntime) -> Result<(), Fail> {
     assert!(rt; store.read_at(0, 0, &mut whole) == Ok(85));
     assert_eq!(rt; whole.as_slice(), JOURNAL.as_slice());
     assert!(rt; append_small(&mut store, 84, &[2]) == Ok(90));
-    let journal = read_all(alloc, &mut store).ok().ok_or("a journal")?;
-    assert_eq!(rt;
-        (journal.rate(), journal.block_size(), journal.depth()),
-        (8000, 4, 256)
-    );
-    assert_eq!(rt; (journal.len(), journal.end()), (2, 90));
-    assert_eq!(rt; journal.early(), None);
+    let journal = read_two(alloc, &mut store).ok().ok_or("a journal")?;
+    assert_eq!(rt; journal.numbers, (8000, 4, 256));
+    assert_eq!(rt; (journal.count, journal.end), (2, 90));
+    assert_eq!(rt; journal.early, None);
+    assert_eq!(rt; journal.bodies[1].as_slice(), [2].as_slice());
     Ok(())
 }
 
@@ -90,21 +141,18 @@ fn the_first_gate_decides(rt: HostRuntime) -> Result<(), Fail> {
     let alloc = rt.alloc();
     let mut shut = hostile(alloc, 85, 32, 0)?;
     let mut odd = hostile(alloc, 85, 32, 7)?;
-    let none = read_all(alloc, &mut shut).ok().ok_or("a journal")?;
-    let one = read_all(alloc, &mut odd).ok().ok_or("a journal")?;
-    assert_eq!(rt; none.len(), 0);
-    assert_eq!(rt; one.len(), 1);
-    if one.len() == 1 {
-        let (place, body) = one.record(0);
-        assert_eq!(rt; place, 37);
-        assert_eq!(rt; body, &JOURNAL[37..84]);
-        // Kind 1, next block 16, one track.
-        if body.len() == 47 {
-            assert_eq!(rt;
-                (u8_at(body, 0), u64_at(body, 9), u32_at(body, 25)),
-                (1, 16, 1)
-            );
-        }
+    let none = read_two(alloc, &mut shut).ok().ok_or("a journal")?;
+    let one = read_two(alloc, &mut odd).ok().ok_or("a journal")?;
+    assert_eq!(rt; none.count, 0);
+    assert_eq!(rt; (one.count, one.place), (1, 37));
+    let body = one.bodies[0].as_slice();
+    assert_eq!(rt; body, &JOURNAL[37..84]);
+    // Kind 1, next block 16, one track.
+    if body.len() == 47 {
+        assert_eq!(rt;
+            (u8_at(body, 0), u64_at(body, 9), u32_at(body, 25)),
+            (1, 16, 1)
+        );
     }
     Ok(())
 }
@@ -137,15 +185,15 @@ fn an_early_end(rt: HostRuntime) -> Result<(), Fail> {
         (84, 84, 85),
     ] {
         let mut store = hostile(alloc, count, 0, 1)?;
-        let journal = read_all(alloc, &mut store).ok().ok_or("a journal")?;
-        let early = journal.early().ok_or("an early end")?;
+        let journal = read_two(alloc, &mut store).ok().ok_or("a journal")?;
+        let early = journal.early.ok_or("an early end")?;
         assert_eq!(rt;
             (early.at, early.want, early.have),
             (at, want, count as u128)
         );
     }
     let mut short = hostile(alloc, 32, 0, 1)?;
-    assert!(rt; matches!(read_all(alloc, &mut short), Err(JournalFault::Absent)));
+    assert!(rt; matches!(open_journal(alloc, &mut short), Err(JournalFault::Absent)));
     Ok(())
 }
 
@@ -177,17 +225,19 @@ fn stopped(alloc: Global, calls: u64) -> Result<RamStore, Fail> {
 // How far an image came: 0 without a project, else 1 more than it has records, which are the first of the two.
 fn progress(rt: &impl Abort, alloc: Global, store: &RamStore, choice: u64) -> Result<usize, Fail> {
     let mut left = store.image(alloc, choice).ok().ok_or("no memory")?;
-    let journal = match read_all(alloc, &mut left) {
+    let journal = match read_two(alloc, &mut left) {
         Ok(journal) => journal,
         Err(JournalFault::Absent) => return Ok(0),
         Err(_) => return Err("damaged".into()),
     };
-    assert_eq!(rt; journal.early(), None);
-    let bodies = [&JOURNAL[37..84], &[2]];
-    for i in 0..journal.len().min(2) {
-        assert_eq!(rt; journal.record(i).1, bodies[i]);
+    assert_eq!(rt; journal.early, None);
+    if journal.count >= 1 {
+        assert_eq!(rt; journal.bodies[0].as_slice(), &JOURNAL[37..84]);
     }
-    Ok(1 + journal.len())
+    if journal.count >= 2 {
+        assert_eq!(rt; journal.bodies[1].as_slice(), [2].as_slice());
+    }
+    Ok(1 + journal.count.min(2))
 }
 
 #[test]
@@ -236,5 +286,41 @@ fn a_stop_after_each_call(rt: HostRuntime) -> Result<(), Fail> {
             );
         }
     }
+    Ok(())
+}
+
+/// So many bytes of 7.
+fn sevens(alloc: Global, count: usize) -> Result<Vec<u8>, Fail>
+    ensures { IfOk result (λ bytes. length bytes.items ≡ count) }
+{
+    let mut bytes = Vec::new(alloc);
+    bytes.resize(count, 7)?;
+    Ok(bytes)
+}
+
+// A journal whose records are longer than what is read at once, and two that meet its end.
+#[test]
+fn records_of_several_pieces(rt: HostRuntime) -> Result<(), Fail> {
+    let alloc = rt.alloc();
+    let fails = Numbers::new(Vec::new(alloc));
+    let mut store = RamStore::new(alloc, 1, 400_000, 64, fails)
+        .ok()
+        .ok_or("no memory")?;
+    let mut scratch = Vec::new(alloc);
+    let short = sevens(alloc, 65_490)?;
+    let long = sevens(alloc, 200_000)?;
+    assert!(rt; create(&mut store, 8000, 4, 256).is_ok());
+    assert!(rt; append(&mut store, 32, &short, &mut scratch) == Ok(65_527));
+    assert!(rt; append(&mut store, 65_527, &long, &mut scratch) == Ok(265_532));
+    let two = read_two(alloc, &mut store).ok().ok_or("a journal")?;
+    assert_eq!(rt; (two.count, two.end, two.early), (2, 265_532, None));
+    assert_eq!(rt; two.bodies[0].as_slice(), short.as_slice());
+    assert_eq!(rt; two.bodies[1].as_slice(), long.as_slice());
+    // The second length is that of more bytes than the file has: none of them is read.
+    assert!(rt; store.write_at(0, 65_531, &[1]).is_ok());
+    let one = read_two(alloc, &mut store).ok().ok_or("a journal")?;
+    let early = one.early.ok_or("an early end")?;
+    assert_eq!(rt; (one.count, early.at, early.have), (1, 65_532, 265_533));
+    assert_eq!(rt; early.want, 65_532 + 200_000 + (1 << 24));
     Ok(())
 }

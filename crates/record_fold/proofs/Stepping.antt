@@ -1,27 +1,17 @@
 -- One record more.
-use Rattle.std.proofs.Common.{◌≡◌, ℕ, suc, ◌+◌, List, ◌∷◌, map, drop, Some, None, Err, refl, sym, ap, subst, ◌∙◌}
-use Rattle.std.specs.Prelude.{slice_get}
+use Rattle.std.proofs.Common.{◌≡◌, ℕ, ◌+◌, List, [], ◌∷◌, ◌++◌, map, Some, None, refl, sym, ap, subst, ◌∙◌, append_assoc}
 use Rattle.std.specs.Option.{option_or}
-use Rattle.std.proofs.Math.Seq.{drop-cons}
-use Rattle.std.proofs.Math.Numerals.{add-one}
-use Rattle.std.proofs.lemmas.Option.{slice_get_within, get_or_from_slice_get}
+use Rattle.std.proofs.lemmas.List.{append-nil}
+use Rattle.disk_model.specs.declared.store.Store.{Ghosts}
 use Rattle.project_journal.specs.declared.fault.Damaged.{Damaged}
 use Rattle.project_journal.specs.Header.{first_failed}
+use Rattle.project_journal.specs.declared.reader.Reader.{Reader}
 use Rattle.project_journal.specs.Journal.{body_at}
-use Rattle.project_state.specs.declared.limits.BadBody.{BadBody}
-use Rattle.project_state.specs.declared.limits.BadBody.TheVariants as bad
+use Rattle.project_journal.specs.Reader.{IsReading}
 use Rattle.project_state.specs.declared.body.Body.{Body}
 use Rattle.project_state.specs.declared.body.Body.TheVariants.{Edit, Undo, Redo, Purge}
-use Rattle.project_state.specs.FirstFault.{Finds}
-use Rattle.project_state.specs.Kept.{Kept, after_body, IsNext, LeadTo}
-use Rattle.record_fold.specs.Folds.{FoldsRecords}
+use Rattle.project_state.specs.Kept.{Kept, new_project, after_body, IsNext, LeadTo}
 use Rattle.record_fold.specs.Faults.{record_tests, first_fault, says}
-
--- the list from a place on begins with what stands there
-pub drop_at_get : {X : Type 0} (xs : List X) (i : ℕ) (x : X) → slice_get xs i ≡ Some x → drop i xs ≡ x ∷ drop (i + 1) xs
-drop_at_get xs i x e =
-    rw (add-one) (drop-cons xs i x (slice_get_within xs i x e)
-    ∙ ap (λ y. y ∷ drop (suc i) xs) (get_or_from_slice_get xs i x x e))
 
 -- where the first record has no fault, the others decide
 pub fault_behind : (m : ℕ) (k : Kept) (r : ℕ × List ℕ) (rs : List (ℕ × List ℕ))
@@ -56,26 +46,45 @@ folded_more m first now next all left more r is folded none one e = record {
       (says r.1, one, subst (λ (k : Kept). LeadTo m k (map body_at more) end) e lead));
 }
 
-pub folded_step : (m m' : ℕ) (first now next : Kept) (all : List (ℕ × List ℕ)) (i : ℕ) (r : ℕ × List ℕ) → m' ≡ m
-    → slice_get all i ≡ Some r → Folded m first all now (drop i all)
-    → first_failed (record_tests m' now r) ≡ None → IsNext m' now r.1 (says r.1) → next ≡ after_body now (says r.1)
-    → Folded m first all next (drop (i + 1) all)
-folded_step m m' first now next all i r same here folded none one e =
-    folded_more m first now next all (drop i all) (drop (i + 1) all) r (drop_at_get all i r here) folded
-    (subst (λ (n : ℕ). first_failed (record_tests n now r) ≡ None) same none)
-    (subst (λ (n : ℕ). IsNext n now r.1 (says r.1)) same one) e
+-- Records that were folded, whatever follows them.
+pub record Came (m : ℕ) (first : Kept) (records : List (ℕ × List ℕ)) (now : Kept) : Type 0 where
+  pub folded : (more : List (ℕ × List ℕ)) → Folded m first (records ++ more) now more
 
-pub fold_fails : {T : Type 0} (P : T → Type 0) (m m' : ℕ) (first now : Kept) (all : List (ℕ × List ℕ)) (i : ℕ)
-    (r : ℕ × List ℕ) (e : BadBody) → m' ≡ m → slice_get all i ≡ Some r → Folded m first all now (drop i all)
-    → Finds (record_tests m' now r) P (Err e) → FoldsRecords m first all (Err e)
-fold_fails P m m' first now all i r bad.NoMemory same here folded found = tt
-fold_fails P m m' first now all i r (bad.Damaged d) same here folded found =
-    sym folded.fault ∙ ap (first_fault m now) (drop_at_get all i r here)
-    ∙ fault_here m now r (drop (i + 1) all) d
-    (subst (λ (n : ℕ). first_failed (record_tests n now r) ≡ Some d) same found)
+pub came_none : (m : ℕ) (first now : Kept) → now ≡ first → Came m first [] now
+came_none m first now e = record { folded = λ more. folded_none m first now more e }
+
+pub came_more : (m : ℕ) (first now next : Kept) (records : List (ℕ × List ℕ)) (r : ℕ × List ℕ) → Came m first records now
+    → first_failed (record_tests m now r) ≡ None → IsNext m now r.1 (says r.1) → next ≡ after_body now (says r.1)
+    → Came m first (records ++ r ∷ []) next
+came_more m first now next records r came none one e = record {
+  folded = λ more. subst (λ (all : List (ℕ × List ℕ)). Folded m first all next more)
+      (sym (append_assoc records (r ∷ []) more))
+      (folded_more m first now next (records ++ r ∷ more) (r ∷ more) more r refl (came.folded (r ∷ more)) none one e);
+}
+
+-- none of them has a fault, and they lead here
+pub came_all : (m : ℕ) (first now : Kept) (records : List (ℕ × List ℕ)) → Came m first records now
+    → (first_fault m first records ≡ None) × LeadTo m first (map body_at records) now
+came_all m first now records came =
+    let folded = came.folded [] in
+    subst (λ (all : List (ℕ × List ℕ)). (first_fault m first all ≡ None) × LeadTo m first (map body_at all) now) (append-nil records)
+    (sym folded.fault, folded.leads now refl)
+
+-- the next has the first fault
+pub came_fault : (m : ℕ) (first now : Kept) (records more : List (ℕ × List ℕ)) (r : ℕ × List ℕ) (d : Damaged) → Came m first records now
+    → first_failed (record_tests m now r) ≡ Some d → first_fault m first ((records ++ r ∷ []) ++ more) ≡ Some d
+came_fault m first now records more r d came some =
+    ap (first_fault m first) (append_assoc records (r ∷ []) more) ∙ sym (came.folded (r ∷ more)).fault
+    ∙ fault_here m now r more d some
 
 pub after_commit : (k : Kept) (body : Body) → (after_body k body).commit ≡ k.commit + 1
 after_commit k (Edit tag next_block next_track point) = refl
 after_commit k Undo = refl
 after_commit k Redo = refl
 after_commit k (Purge n) = refl
+
+-- The records that a reader has read were folded.
+pub record SoFar {D : Type 0} (disk : Ghosts D) (store : D) (reader : Reader) (m depth : ℕ) (now : Kept) : Type 0 where
+  pub records : List (ℕ × List ℕ)
+  pub reading : IsReading disk store reader records
+  pub came : Came m (new_project depth) records now

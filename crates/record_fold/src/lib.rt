@@ -3,7 +3,7 @@
 //!
 //! The layer above uses `fold_journal`: Ok exactly where no record has a fault and the file does not end too early, with
 //! the project to which the records lead; else the first fault, with its place, the value that is asked for and the one
-//! that is there. No disk is used here.
+//! that is there. Each record is read from the disk as it is folded.
 #![tactic(auto)]
 
 mod folding;

@@ -2,8 +2,7 @@
 use super::*;
 use disk_model::{RamStore, Store};
 use pcm_base::Numbers;
-use project_journal::{Damaged, read_all};
-use project_state::BadBody;
+use project_journal::{JournalFault, open_journal};
 use std::alloc::Global;
 use std::process::Abort;
 use std::test::*;
@@ -145,7 +144,7 @@ fn put(bytes: &mut Vec<u8>, change: Change) {
 }
 
 /// Folds the records of a disk whose file 0 has these bytes.
-fn folded(alloc: Global, bytes: &[u8]) -> Result<Result<Project, BadBody>, Fail> {
+fn folded(alloc: Global, bytes: &[u8]) -> Result<Result<Project, JournalFault>, Fail> {
     if bytes.len() > 4096 {
         return Err("too many bytes".into());
     }
@@ -154,17 +153,24 @@ fn folded(alloc: Global, bytes: &[u8]) -> Result<Result<Project, BadBody>, Fail>
         .ok()
         .ok_or("no memory")?;
     store.write_at(0, 0, bytes).ok().ok_or("no room")?;
-    match read_all(alloc, &mut store) {
-        Ok(journal) => Ok(fold_journal(alloc, &journal)),
+    match open_journal(alloc, &mut store) {
+        Ok(mut reader) => Ok(fold_journal(alloc, &mut store, &mut reader)),
         Err(_) => Err("no journal".into()),
     }
 }
 
 fn tells(rt: &impl Abort, alloc: Global, bytes: &[u8], told: Told) -> Result<(), Fail> {
-    let (at, want, have) = told;
     match folded(alloc, bytes)? {
-        Err(BadBody::Damaged { fault }) => {
-            assert_eq!(rt; fault, Damaged { at, want, have });
+        Err(
+            JournalFault::Damaged {
+                file,
+                at,
+                want,
+                have,
+            },
+        ) => {
+            assert_eq!(rt; file, 0);
+            assert_eq!(rt; (at, want, have), told);
             Ok(())
         }
         _ => Err("no fault is told".into()),
