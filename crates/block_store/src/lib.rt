@@ -28,4 +28,4 @@ pub use frames::{Level, read_compared_frames, read_frames};
 pub use parts::compare_header;
 pub use reads::{read_compared_samples, read_samples};
 pub use scans::scan;
-pub use writes::{drop_block, put};
+pub use writes::{drop_block, put, sync_block, write_block};

@@ -1,7 +1,8 @@
 // Blocks that are put, stopped, read, damaged and dropped on a disk in memory.
 use super::{
     BlockFault, Level, check_block, check_size, compare_header, compare_once, drop_block, put,
-    read_compared_frames, read_compared_samples, read_frames, read_samples,
+    read_compared_frames, read_compared_samples, read_frames, read_samples, sync_block,
+    write_block,
 };
 use disk_model::{RamStore, Store};
 use pcm_base::{BlockRef, Numbers};
@@ -75,6 +76,30 @@ fn a_stop_after_each_call(rt: HostRuntime) -> Result<(), Fail> {
         let left = images(rt.alloc(), &store)?;
         assert!(rt; left.as_slice() == want.as_slice());
     }
+    Ok(())
+}
+
+/// The size of a file as the last sync of it left it.
+fn synced_size(alloc: Global, store: &RamStore, id: u64) -> Result<Option<u64>, Fail> {
+    let mut left = store.image(alloc, 1).ok().ok_or("no memory")?;
+    Ok(left.size(id).ok().ok_or("size")?)
+}
+
+// Of two blocks that are written, the one that is synced first is in each image, while the other is pending.
+#[test]
+fn written_first_and_then_synced(rt: HostRuntime) -> Result<(), Fail> {
+    let mut store = disk(rt.alloc(), Vec::new(rt.alloc()))?;
+    let mut scratch = Vec::with_capacity(rt.alloc(), 44)?;
+    assert_eq!(rt; write_block(&mut store, 17, &[5], &mut scratch), Ok(()));
+    assert_eq!(rt; write_block(&mut store, 16, &[1, -2], &mut scratch), Ok(()));
+    let left = images(rt.alloc(), &store)?;
+    assert!(rt; left.as_slice() == b"Wy-n-nWy-n0nen0n-nWy".as_slice());
+    assert_eq!(rt; sync_block(&mut store, 16), Ok(()));
+    let left = images(rt.alloc(), &store)?;
+    assert!(rt; left.as_slice() == b"WyWyWyWyWyWyWyWyWyWy".as_slice());
+    assert_eq!(rt; synced_size(rt.alloc(), &store, 17)?, None);
+    assert_eq!(rt; sync_block(&mut store, 17), Ok(()));
+    assert_eq!(rt; synced_size(rt.alloc(), &store, 17)?, Some(42));
     Ok(())
 }
 

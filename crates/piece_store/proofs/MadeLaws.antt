@@ -1,5 +1,5 @@
 -- Files that are put as blocks.
-use Rattle.std.proofs.Common.{◌≡◌, ℕ, ℤ, List, Some, sym, ap, ◌∙◌}
+use Rattle.std.proofs.Common.{◌≡◌, ℕ, ℤ, List, Some, ap, ◌∙◌}
 use Rattle.disk_model.specs.Disk.{Files}
 use Rattle.sample_block.specs.Spelling.{spelling}
 use Rattle.sample_block.specs.Blocks.{blocks}
@@ -10,7 +10,3 @@ pub file_of_block : (files : Files) (id : ℕ) (xs : List ℤ) → blocks files 
 file_of_block files id xs e =
     let has = blocks_have files id xs e in
     has.file ∙ ap (λ (ys : List ℕ). Some ys) has.spelled.1
-
--- so two disks with the same block have the same file
-pub same_file : (c d : Files) (id : ℕ) (xs : List ℤ) → blocks c id ≡ Some xs → blocks d id ≡ Some xs → c id ≡ d id
-same_file c d id xs e f = file_of_block c id xs e ∙ sym (file_of_block d id xs f)

@@ -13,9 +13,58 @@ ghost use Rattle.piece_store.specs.Making.{IsDiskFault, IsFaultRead, NotPut, Mad
 use super::fault::MakeFault;
 use super::given::Given;
 use super::pieces::read_pieces;
-use block_store::put;
+use block_store::{sync_block, write_block};
 use disk_model::Store;
 use edit_ops::NewBlock;
+
+/// Writes a new block of its pieces: reads their samples into the front of `samples`, and writes the block's file, but
+/// does not wait until it is on the disk. The file is absent, the id is from 16 to below 2^62, and both buffers have
+/// room, so that no memory is taken. Each piece is a part of a block that a disk may have, zeros, or a part of what the
+/// command brings. After an error the file may be there, whole or in part, but not where a piece could not be read.
+pub fn write_new_block<S: Store>(
+    store: &mut S,
+    block: &NewBlock,
+    given: &Given,
+    samples: &mut [i16],
+    scratch: &mut Vec<u8>,
+) -> Result<(), MakeFault>
+    requires block { IsBlock block.now.id block.now.len }
+    requires pieces { AllReadable (brought_count given.now) block.now.pieces }
+    requires total { total block.now.pieces ≡ block.now.len }
+    requires room { block.now.len ≤ length samples.old }
+    requires scratch { size_of block.now.len ≤ vec_capacity scratch.old }
+    // The block has the samples of its pieces.
+    ensures stored { IsTrue (S.tells store.old) → AllThere (S.reads store.old) block.now.pieces
+        → S.reads store.old block.now.id ≡ None
+        → OnOk result (blocks (S.reads store.new) block.now.id ≡ Some (all_samples
+        (sources_with (S.reads store.old) (brought given.now)) block.now.pieces)) }
+    // A stop at any moment of the call leaves what it could leave before, but for this file. It makes one file at most,
+    // and asks for no more bytes than the block's file has.
+    ensures changed { Changed S.Store (SameElsewhere block.now.id) (record {
+      files = 1;
+      bytes = size_of block.now.len;
+      calls = 1;
+    }) store.old store.new }
+    // Where a piece could not be read the disk is as it was.
+    ensures untouched { IfErr result (λ e. NotPut e (Kept S.Store store.old store.new)) }
+    // Where the disk has all blocks of the pieces nothing but the disk refuses; a fault of a file is of one of them.
+    ensures sound { IsTrue (S.tells store.old) → AllThere (S.reads store.old) block.now.pieces
+        → IfErr result IsDiskFault }
+    ensures damaged { IsTrue (S.tells store.old)
+        → IfErr result (IsFaultRead (S.reads store.old) block.now.pieces) }
+    ensures faults { MadeCounted result (S.read_fault_count store.old) (S.read_fault_count store.new)
+        (S.change_fault_count store.old) (S.change_fault_count store.new) }
+    ensures capacity { vec_capacity scratch.old ≤ vec_capacity scratch.new }
+{
+    let out = &mut samples[..block.len as usize];
+    if let Err(fault) = read_pieces(store, block.pieces.as_slice(), given, out) {
+        return Err(MakeFault::Read { fault });
+    }
+    if let Err(_) = write_block(store, block.id, out, scratch) {
+        return Err(MakeFault::Put);
+    }
+    Ok(())
+}
 
 /// Makes a new block of its pieces: reads their samples into the front of `samples`, and puts the block. Its file is
 /// absent, its id is from 16 to below 2^62, and both buffers have room, so that no memory is taken. Each piece is a part
@@ -60,11 +109,8 @@ pub fn make_block<S: Store>(
         (S.change_fault_count store.old) (S.change_fault_count store.new) }
     ensures capacity { vec_capacity scratch.old ≤ vec_capacity scratch.new }
 {
-    let out = &mut samples[..block.len as usize];
-    if let Err(fault) = read_pieces(store, block.pieces.as_slice(), given, out) {
-        return Err(MakeFault::Read { fault });
-    }
-    if let Err(_) = put(store, block.id, out, scratch) {
+    write_new_block(store, block, given, samples, scratch)?;
+    if let Err(_) = sync_block(store, block.id) {
         return Err(MakeFault::Put);
     }
     Ok(())

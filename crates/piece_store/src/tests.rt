@@ -4,9 +4,9 @@ ghost use Rattle.pcm_base.specs.Pieces.{piece_len as len_of};
 ghost use Rattle.piece_store.specs.Bringing.{brought_count};
 ghost use Rattle.piece_store.specs.Reading.{IsReadable};
 
-use super::{Given, MakeFault, make_block};
+use super::{Given, MakeFault, make_block, write_new_block};
 use block_sequence::{Pieces, piece_len};
-use block_store::{BlockFault, put, read_samples};
+use block_store::{BlockFault, put, read_samples, sync_block};
 use disk_model::{RamStore, Store};
 use edit_ops::NewBlock;
 use pcm_base::{BlockRef, Numbers, Piece};
@@ -215,6 +215,35 @@ fn made_blocks(rt: HostRuntime) -> Result<(), Fail> {
         let mut left = store.image(rt.alloc(), 1).ok().ok_or("no memory")?;
         assert!(rt; has(&mut left, want));
     }
+    Ok(())
+}
+
+// What is written is pending until its sync.
+#[test]
+fn a_written_block_waits_for_its_sync(rt: HostRuntime) -> Result<(), Fail> {
+    let mut store = disk(rt.alloc(), Vec::new(rt.alloc()))?;
+    let block = NewBlock {
+        id: MADE,
+        len: 2,
+        pieces: Pieces::from_vec(vec![in rt.alloc(); Piece::Zero { len: 2 }]?),
+    };
+    let mut scratch = Vec::with_capacity(rt.alloc(), 44)?;
+    assert_eq!(rt;
+        write_new_block(
+            &mut store,
+            &block,
+            &Given::Nothing,
+            &mut [0; 2],
+            &mut scratch
+        ),
+        Ok(())
+    );
+    assert!(rt; has(&mut store, &[0, 0]));
+    let mut left = store.image(rt.alloc(), 1).ok().ok_or("no memory")?;
+    assert_eq!(rt; left.size(MADE), Ok(None));
+    assert_eq!(rt; sync_block(&mut store, MADE), Ok(()));
+    let mut left = store.image(rt.alloc(), 1).ok().ok_or("no memory")?;
+    assert!(rt; has(&mut left, &[0, 0]));
     Ok(())
 }
 

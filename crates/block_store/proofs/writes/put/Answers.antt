@@ -1,43 +1,27 @@
--- The file that was put is the spelling of the block.
-use Rattle.std.proofs.Common.{◌≡◌, ◌≤◌, ◌∙◌, ap, arith, length, Option, Some, None, List, ℕ, ℤ}
-use Rattle.disk_model.specs.Disk.{Files, bytes_of, written}
-use Rattle.disk_model.specs.Room.{files_made}
-use Rattle.disk_model.proofs.Frames.{changed_wider}
-use Rattle.disk_model.proofs.Writes.{written_new}
-use Rattle.sample_block.specs.Spelling.{IsBlock, IsSpelled}
-use Rattle.sample_block.specs.Blocks.{blocks}
-use Rattle.sample_block.proofs.BlockLaws.{blocks_put}
+-- A write and then a sync.
+use Rattle.std.proofs.Common.{◌≡◌, ◌^◌, ◌∙◌, ap, arith, Option, Some, None, List, ℕ, ℤ, nat_le, nat_lt, ◌&&◌, if◌then◌else◌}
+use Rattle.std.specs.Option.{option_and_then}
+use Rattle.disk_model.specs.Disk.{Files}
+use Rattle.disk_model.proofs.Frames.{changed_then_stays}
+use Rattle.sample_block.specs.Blocks.{block_in, blocks}
 use Rattle.block_store.proofs.writes.put.Goals as goal
 
--- what an absent file becomes
-put_there : (files : Files) (id : ℕ) (xs : List ℤ) (old : Option (List ℕ)) (row bytes : List ℕ) → IsBlock id (length xs) → IsSpelled id xs bytes → row ≡ bytes → old ≡ None
-    → files id ≡ Some (written (bytes_of old) 0 row) → blocks files id ≡ Some xs
-put_there files id xs old row bytes block spelled same absent file =
-    blocks_put files id xs block spelled.0
-    (file ∙ ap (λ (o : Option (List ℕ)). Some (written (bytes_of o) 0 row)) absent ∙ ap (λ (ys : List ℕ). Some ys) (written_new row ∙ same ∙ spelled.1))
+-- a block is known by its file alone
+same_block : (files other : Files) (id : ℕ) → files id ≡ other id → blocks files id ≡ blocks other id
+same_block files other id same =
+    ap (λ (o : Option (List ℕ)). if nat_le 16 id && nat_lt id (2 ^ 62) then option_and_then (block_in id) o else None) same
 
-one_file : (there : Option (List ℕ)) → files_made there ≤ 1
-one_file None = omega arith
-one_file (Some bytes) = omega arith
+pub returns-clause-stored : goal.returns-clause-stored
+returns-clause-stored g c = λ told absent.
+    ap (λ (f : Files). blocks f c.args.id) c.sync_block.ensures.reads ∙ c.in_ok-write_block.ensures.stored told absent
 
-pub returns-in-Ok-write_through-clause-stored : goal.returns-in-Ok-write_through-clause-stored
-returns-in-Ok-write_through-clause-stored g c = λ told absent.
-    put_there (g.S.Store.reads c.write_through.new.store) c.args.id c.args.samples.now (g.S.Store.reads c.args.store.now c.args.id) c.deref.result.now _ c.requires.block c.in-Ok.ensures.spelled
-    c.deref.ensures.value absent (c.in-Ok-write_through.ensures.written told)
+pub returns-clause-durable : goal.returns-clause-durable
+returns-clause-durable g c = λ told absent files left.
+    same_block files (g.S.Store.reads c.sync_block.new.store) c.args.id (c.in_ok-sync_block.ensures.durable files left)
+    ∙ ap (λ (f : Files). blocks f c.args.id) c.sync_block.ensures.reads ∙ c.in_ok-write_block.ensures.stored told absent
 
-pub returns-in-Ok-write_through-clause-durable : goal.returns-in-Ok-write_through-clause-durable
-returns-in-Ok-write_through-clause-durable g c = λ told absent files left.
-    put_there files c.args.id c.args.samples.now (g.S.Store.reads c.args.store.now c.args.id) c.deref.result.now _ c.requires.block c.in-Ok.ensures.spelled
-    c.deref.ensures.value absent (c.in-Ok-write_through.ensures.durable files left ∙ c.in-Ok-write_through.ensures.written told)
+pub returns-clause-changed : goal.returns-clause-changed
+returns-clause-changed g c = changed_then_stays (record { files = omega arith; bytes = omega arith; calls = omega arith }) c.write_block.ensures.changed c.sync_block.ensures.changed
 
-pub returns-in-Ok-write_through-clause-changed : goal.returns-in-Ok-write_through-clause-changed
-returns-in-Ok-write_through-clause-changed g c =
-    changed_wider (λ d e w. w.others)
-    (record { files = one_file (g.S.Store.reads c.args.store.now c.args.id); bytes = omega (arith, ap length c.deref.ensures.value, c.in-Ok.ensures.len); calls = omega arith })
-    c.write_through.ensures.changed
-
-pub returns-in-Err-write_through-clause-changed : goal.returns-in-Err-write_through-clause-changed
-returns-in-Err-write_through-clause-changed g c =
-    changed_wider (λ d e w. w.others)
-    (record { files = one_file (g.S.Store.reads c.args.store.now c.args.id); bytes = omega (arith, ap length c.deref.ensures.value, c.in-Ok.ensures.len); calls = omega arith })
-    c.write_through.ensures.changed
+pub returns-in_err-sync_block-clause-changed : goal.returns-in_err-sync_block-clause-changed
+returns-in_err-sync_block-clause-changed g c = changed_then_stays (record { files = omega arith; bytes = omega arith; calls = omega arith }) c.write_block.ensures.changed c.sync_block.ensures.changed

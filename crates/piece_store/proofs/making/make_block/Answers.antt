@@ -1,22 +1,22 @@
--- The file that was put is the one spelling of the block, and a block that is there has no fault.
-use Rattle.std.proofs.Common.{List, ◌∙◌, ap, subst}
+-- A write and then a sync.
+use Rattle.std.proofs.Common.{◌∙◌, ap, arith}
 use Rattle.disk_model.specs.Disk.{Files}
-use Rattle.pcm_base.specs.declared.piece.Piece.{Piece}
-use Rattle.piece_store.specs.Reading.{IsFaultAmong}
-use Rattle.piece_store.proofs.MadeLaws.{same_file}
-use Rattle.piece_store.proofs.ReadLaws.{sound_pieces}
+use Rattle.disk_model.proofs.Frames.{changed_then_stays, changed_wider}
+use Rattle.sample_block.specs.Blocks.{blocks}
 use Rattle.piece_store.proofs.making.make_block.Goals as goal
 
-pub returns-in-Err-clause-sound : goal.returns-in-Err-clause-sound
-returns-in-Err-clause-sound g c = λ told there.
-    let files : Files = g.S.Store.reads c.args.store.now in
-    let F : List Piece → Type 0 = λ ps. IsFaultAmong files ps c.in-Err.fault in
-    sound_pieces files c.args.block.now.pieces c.in-Err.fault there (subst F c.as_slice.ensures (c.in-Err.ensures.damaged told))
+pub returns-clause-stored : goal.returns-clause-stored
+returns-clause-stored g c = λ told there absent.
+    ap (λ (f : Files). blocks f c.args.block.now.id) c.sync_block.ensures.reads ∙ c.in_ok-write_new_block.ensures.stored told there absent
 
-pub returns-clause-durable : goal.returns-clause-durable
-returns-clause-durable g c = λ told absent files left.
-    let kept = c.read_pieces.ensures.kept in
-    let still = kept.same_tells ∙ told in
-    let gone = ap (λ (f : Files). f c.args.block.now.id) kept.same_reads ∙ absent in
-    same_file files (g.S.Store.reads c.put.new.store) c.args.block.now.id c.read_pieces.new.out
-    (c.in_default-put.ensures.durable still gone files left) (c.in_default-put.ensures.stored still gone)
+pub returns-clause-changed : goal.returns-clause-changed
+returns-clause-changed g c =
+    changed_then_stays (record { files = omega arith; bytes = omega arith; calls = omega arith }) c.write_new_block.ensures.changed c.sync_block.ensures.changed
+
+pub returns-in_err-write_new_block-clause-changed : goal.returns-in_err-write_new_block-clause-changed
+returns-in_err-write_new_block-clause-changed g c =
+    changed_wider (λ d e w. w) (record { files = omega arith; bytes = omega arith; calls = omega arith }) c.write_new_block.ensures.changed
+
+pub returns-in-Err-clause-changed : goal.returns-in-Err-clause-changed
+returns-in-Err-clause-changed g c =
+    changed_then_stays (record { files = omega arith; bytes = omega arith; calls = omega arith }) c.write_new_block.ensures.changed c.sync_block.ensures.changed
