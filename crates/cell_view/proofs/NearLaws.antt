@@ -14,7 +14,7 @@ use Rattle.clip_track.specs.Clips.{AreClips, IsLayout, end_of, clip_end, cells_f
 use Rattle.clip_track.proofs.Layouts.{AreClips-next}
 use Rattle.block_store.specs.Reads.{IsFaultIn}
 use Rattle.sample_block.specs.Sources.{AllNamed}
-use Rattle.cell_view.specs.declared.rest.Rest.{Rest}
+use Rattle.cell_view.specs.declared.rest.TrackRest.{TrackRest}
 use Rattle.cell_view.specs.Rests.{rest_cells, rest_cell, rest_blocks, IsRest, IsRestOf}
 use Rattle.cell_view.proofs.RestLaws.{cells_at, first_of, length_from}
 use Rattle.cell_view.proofs.SeenLaws.{fault_later, named_front, named_back}
@@ -65,7 +65,7 @@ starts_rise at (c ∷ cs) are (suc i) (suc j) d le lt =
     starts_rise (clip_end c + 1) cs are.3 i j d (omega (arith, le)) (omega (arith, lt))
 
 -- the rest from a place on before the start of a clip, behind which it has those that follow
-module _ (from : ℕ) (front more : List Clip) (c : Clip) (r : Rest) (late : end_of 0 front ≤ r.at)
+module _ (from : ℕ) (front more : List Clip) (c : Clip) (r : TrackRest) (late : end_of 0 front ≤ r.at)
     (passed : r.at ≤ from) (before : r.at ≤ c.start) (start : r.start ≡ c.start) (end : r.end ≡ clip_end c)
     (blocks : r.blocks.now ≡ c.blocks) (clips : r.clips.now ≡ more) where
   near_rest : AreClips 0 (front ++ c ∷ more) → end_of 0 (front ++ c ∷ more) ≤ 2 ^ 32

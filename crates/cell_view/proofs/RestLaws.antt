@@ -19,7 +19,7 @@ use Rattle.pcm_base.specs.Edits.{part}
 use Rattle.block_store.specs.Reads.{IsFaultIn}
 use Rattle.sample_block.specs.Sources.{AllNamed}
 use Rattle.cell_view.specs.Seen.{place_in, Puts}
-use Rattle.cell_view.specs.declared.rest.Rest.{Rest}
+use Rattle.cell_view.specs.declared.rest.TrackRest.{TrackRest}
 use Rattle.cell_view.specs.Rests.{rest_cells, rest_blocks, IsRest, IsRestOf, AreSeen}
 use Rattle.cell_view.proofs.PartLists.{take_front}
 use Rattle.cell_view.proofs.SeenLaws.{fault_later, named_front, named_back}
@@ -28,7 +28,7 @@ abbrev pub cells_at : Sources → ℕ → ℕ → ℕ → List BlockRef → List
 cells_at src at start end bs cs = replicate (start - at) cell.Gap ++ map cell.Sample (block_samples src bs) ++ cells_from src end cs
 
 -- a front of a rest's cells is passed
-moved : (from : ℕ) (cs : List Clip) (r r' : Rest) (gone : List BlockRef) (xs : Sources → List Cell) → IsRest r' → r'.at ≤ from
+moved : (from : ℕ) (cs : List Clip) (r r' : TrackRest) (gone : List BlockRef) (xs : Sources → List Cell) → IsRest r' → r'.at ≤ from
     → ((src : Sources) → r.at + length (xs src) ≡ r'.at) → ((src : Sources) → rest_cells src r ≡ xs src ++ rest_cells src r')
     → end_of r'.end r'.clips.now ≡ end_of r.end r.clips.now → rest_blocks r ≡ gone ++ rest_blocks r' → IsRestOf from cs r → IsRestOf from cs r'
 moved from cs r r' gone xs rest passed size cells same blocks is = record {
@@ -49,7 +49,7 @@ pub first_of : {A : Type 0} (xs : List A) (d : A) → 1 ≤ length xs → xs ≡
 first_of xs d some =
     drop_more xs 0 d (omega (arith, some)) ∙ ap (λ ys. get_or xs 0 d ∷ ys) (sym (take_all (length xs - 1) (drop 1 xs) (omega (arith, length-drop 1 xs))))
 
-module _ (r r' : Rest) (b : BlockRef) (same : r.blocks.now ≡ b ∷ r'.blocks.now) (at : r'.at ≡ r.start + b.len) (start : r'.start ≡ r'.at) (end : r'.end ≡ r.end) (clips : r'.clips.now ≡ r.clips.now) where
+module _ (r r' : TrackRest) (b : BlockRef) (same : r.blocks.now ≡ b ∷ r'.blocks.now) (at : r'.at ≡ r.start + b.len) (start : r'.start ≡ r'.at) (end : r'.end ≡ r.end) (clips : r'.clips.now ≡ r.clips.now) where
   pub block_rest : IsRest r → IsRest r'
   block_rest is =
       let N : List BlockRef → Type 0 = AllNamed in
@@ -86,7 +86,7 @@ module _ (r r' : Rest) (b : BlockRef) (same : r.blocks.now ≡ b ∷ r'.blocks.n
       (λ src. omega (arith, length-append (replicate (r.start - r.at) cell.Gap) (map cell.Sample (stretch (src.block b.id) 0 b.len)), length-replicate (r.start - r.at) cell.Gap, length-map (stretch (src.block b.id) 0 b.len) cell.Sample, length-stretch (src.block b.id) 0 b.len, at, ok.later))
       block_cells (ap₂ (λ n ds. end_of n ds) end clips) (ap₂ (λ bs ds. bs ++ layout_blocks ds) same (sym clips)) is
 
-module _ (r r' : Rest) (c : Clip) (same : r.clips.now ≡ c ∷ r'.clips.now) (at : r'.at ≡ r.end) (start : r'.start ≡ c.start) (end : r'.end ≡ c.start + blocks_len c.blocks) (blocks : r'.blocks.now ≡ c.blocks) where
+module _ (r r' : TrackRest) (c : Clip) (same : r.clips.now ≡ c ∷ r'.clips.now) (at : r'.at ≡ r.end) (start : r'.start ≡ c.start) (end : r'.end ≡ c.start + blocks_len c.blocks) (blocks : r'.blocks.now ≡ c.blocks) where
   pub clip_rest : IsRest r → IsRest r'
   clip_rest is =
       let C : List Clip → Type 0 = λ cs. AreClips r.end cs in
@@ -122,7 +122,7 @@ module _ (r r' : Rest) (c : Clip) (same : r.clips.now ≡ c ∷ r'.clips.now) (a
       (ap (λ (ds : List Clip). r.blocks.now ++ layout_blocks ds) same ∙ ap (λ (bs : List BlockRef). r.blocks.now ++ (bs ++ layout_blocks r'.clips.now)) (sym blocks)) is
 
 -- a rest from one place on is one from a later place on
-pub rest_later : (from to : ℕ) (cs : List Clip) (r : Rest) → from ≤ to → IsRestOf from cs r → IsRestOf to cs r
+pub rest_later : (from to : ℕ) (cs : List Clip) (r : TrackRest) → from ≤ to → IsRestOf from cs r → IsRestOf to cs r
 rest_later from to cs r le is = record {
   rest = is.rest;
   passed = omega (arith, is.passed, le);
@@ -152,7 +152,7 @@ length_from src at (c ∷ cs) are =
       are.0,
     )
 
-pub length_rest : (src : Sources) (r : Rest) → IsRest r → r.at + length (rest_cells src r) ≡ end_of r.end r.clips.now
+pub length_rest : (src : Sources) (r : TrackRest) → IsRest r → r.at + length (rest_cells src r) ≡ end_of r.end r.clips.now
 length_rest src r is =
     let gap : List Cell = replicate (r.start - r.at) cell.Gap in
     let sound : List Cell = map cell.Sample (block_samples src r.blocks.now) in
@@ -169,7 +169,7 @@ length_rest src r is =
     )
 
 -- cells that are put, and gaps behind them, are those that are seen
-pub seen : (src : Sources) (from to : ℕ) (cs : List Clip) (r : Rest) (count m : ℕ) (old mid new : List Cell) → IsRestOf from cs r → from + length mid ≡ to → count ≡ place_in from to (end_of 0 cs)
+pub seen : (src : Sources) (from to : ℕ) (cs : List Clip) (r : TrackRest) (count m : ℕ) (old mid new : List Cell) → IsRestOf from cs r → from + length mid ≡ to → count ≡ place_in from to (end_of 0 cs)
     → Puts from to r.at (rest_cells src r) old mid → m ≡ length mid - count → new ≡ take count mid ++ replicate m cell.Gap → AreSeen src from cs new
 seen src from to cs r count m old mid new is size place puts many whole k lt =
     let cells : List Cell = rest_cells src r in

@@ -12,22 +12,22 @@ use Rattle.clip_track.specs.Clips.{AreClips, end_of, cells_from, layout_cells}
 use Rattle.clip_track.specs.Clips.{layout_blocks}
 use Rattle.block_store.specs.Reads.{IsFaultIn}
 use Rattle.sample_block.specs.Sources.{AllNamed}
-use Rattle.cell_view.specs.declared.rest.Rest.{Rest}
+use Rattle.cell_view.specs.declared.rest.TrackRest.{TrackRest}
 
 -- its cells, from its place on
-abbrev pub rest_cells : Sources → Rest → List Cell
+abbrev pub rest_cells : Sources → TrackRest → List Cell
 rest_cells src r = replicate (r.start - r.at) cell.Gap ++ map cell.Sample
     (block_samples src r.blocks.now) ++ cells_from src r.end r.clips.now
 
 -- the cell at a place of the track
-abbrev pub rest_cell : Sources → Rest → ℕ → Cell
+abbrev pub rest_cell : Sources → TrackRest → ℕ → Cell
 rest_cell src r i = slice_index_or (rest_cells src r) (i - r.at) cell.Gap
 
-abbrev pub rest_blocks : Rest → List BlockRef
+abbrev pub rest_blocks : TrackRest → List BlockRef
 rest_blocks r = r.blocks.now ++ layout_blocks r.clips.now
 
 -- blocks that a disk may have, and clips behind them, each at its place
-pub record IsRest (r : Rest) : Type 0 where
+pub record IsRest (r : TrackRest) : Type 0 where
   pub later : r.at ≤ r.start
   pub whole : r.end ≡ r.start + blocks_len r.blocks.now
   pub apart : AreClips r.end r.clips.now
@@ -41,12 +41,12 @@ EndsBehind from start [] = Unit {0}
 EndsBehind from start (b ∷ bs) = from < start + b.len
 
 -- no clip and no block that ends by a place stands in front any more
-pub record IsPast (from : ℕ) (r : Rest) : Type 0 where
+pub record IsPast (from : ℕ) (r : TrackRest) : Type 0 where
   pub clip : r.clips.now ≡ [] ⊎ (from < r.end)
   pub block : EndsBehind from r.start r.blocks.now
 
 -- the rest of a track, which has all of it from a place on
-pub record IsRestOf (from : ℕ) (cs : List Clip) (r : Rest) : Type 0 where
+pub record IsRestOf (from : ℕ) (cs : List Clip) (r : TrackRest) : Type 0 where
   pub rest : IsRest r
   pub passed : r.at ≤ from
   pub same_end : end_of r.end r.clips.now ≡ end_of 0 cs

@@ -2,7 +2,7 @@
 ghost use Rattle.std.specs.Prelude.{◌≡◌, ◌≤◌, ◌<◌, ◌+◌, ◌^◌, length, IsTrue, IsOkUnless, OnOk, IfErr};
 ghost use Rattle.block_store.specs.declared.fault.BlockFault.TheVariants as fault;
 ghost use Rattle.disk_model.specs.Frames.{Kept};
-ghost use Rattle.block_store.specs.Reads.{Counted, IsFaultIn};
+ghost use Rattle.block_store.specs.Reads.{Counted, IsCompared, IsFaultIn};
 ghost use Rattle.clip_track.specs.Clips.{layout_blocks};
 ghost use Rattle.sample_block.specs.Sources.{sources_of, AllWhole};
 ghost use Rattle.cell_view.specs.Seen.{Puts};
@@ -12,22 +12,25 @@ ghost use Rattle.cell_view.specs.Stored.{stored_of};
 use super::blocks::put_blocks;
 use super::clips::put_clips;
 use super::places::{fill_gaps, place_in, put_gap};
-use super::rest::Rest;
+use super::rest::TrackRest;
 use block_store::BlockFault;
 use clip_track::Layout;
 use disk_model::Store;
-use pcm_base::Cell;
+use pcm_base::{BlockRef, Cell};
 
 /// Puts a rest where the view has it.
 fn put_rest<S: Store>(
     store: &mut S,
-    rest: &Rest,
+    last: &mut Option<BlockRef>,
+    rest: &TrackRest,
     from: u64,
     to: u64,
     out: &mut [Cell],
 ) -> Result<(), BlockFault>
     requires rest { IsRest rest.now }
     requires size { from + length out.old ≡ to }
+    requires compared { IsTrue (S.tells store.old) → IsCompared (S.reads store.old) last.old }
+    ensures compared { IsTrue (S.tells store.old) → IsCompared (S.reads store.old) last.new }
     ensures stored { IsTrue (S.tells store.old) → OnOk result
         (Puts from to rest.now.at (rest_cells (stored_of (S.reads store.old)) rest.now) out.old out.new) }
     ensures damaged { IsTrue (S.tells store.old)
@@ -36,22 +39,27 @@ fn put_rest<S: Store>(
     ensures faults { Counted result (S.read_fault_count store.old) (S.read_fault_count store.new) }
 {
     put_gap(from, to, rest.at, rest.start - rest.at, out);
-    put_blocks(store, rest.blocks, from, to, rest.start, out)?;
-    put_clips(store, rest.clips, from, to, rest.end, out)
+    put_blocks(store, last, rest.blocks, from, to, rest.start, out)?;
+    put_clips(store, last, rest.clips, from, to, rest.end, out)
 }
 
 /// Reads the cells of a track from a place on, and gaps past its end, until `out` is full. What is left of the track is
-/// handed in, so that what was passed is not looked at again. It takes no memory, and looks at no block behind those
-/// that are seen. After an error `out` may have been written in part.
+/// handed in, so that what was passed is not looked at again, and the block whose header was compared last, `None`
+/// before the first, so that of a block that lasts over several stretches the header is read once. The disk has not
+/// changed since. It takes no memory, and looks at no block behind those that are seen. After an error `out` may have
+/// been written in part.
 pub fn read_ahead<S: Store>(
     store: &mut S,
+    last: &mut Option<BlockRef>,
     layout: &Layout,
-    rest: &Rest,
+    rest: &TrackRest,
     from: u64,
     out: &mut [Cell],
 ) -> Result<(), BlockFault>
     requires rest { IsRestOf from layout.now rest.now }
     requires few { from + length out.old < 2 ^ 64 }
+    requires compared { IsTrue (S.tells store.old) → IsCompared (S.reads store.old) last.old }
+    ensures compared { IsTrue (S.tells store.old) → IsCompared (S.reads store.old) last.new }
     // They are what stands in the files of the blocks, and where the disk has all blocks their samples.
     ensures stored { IsTrue (S.tells store.old)
         → OnOk result (AreSeen (stored_of (S.reads store.old)) from layout.now out.new) }
@@ -67,7 +75,7 @@ pub fn read_ahead<S: Store>(
 {
     let to = from + out.len() as u64;
     let count = place_in(from, to, layout.len());
-    put_rest(store, rest, from, to, out)?;
+    put_rest(store, last, rest, from, to, out)?;
     fill_gaps(&mut out[count..]);
     Ok(())
 }

@@ -4,7 +4,7 @@ ghost use Rattle.disk_model.specs.Disk.{bytes_of};
 ghost use Rattle.sample_block.specs.Spelling.{IsBlock};
 ghost use Rattle.sample_block.specs.Faults.{samples_in};
 ghost use Rattle.disk_model.specs.Frames.{Kept};
-ghost use Rattle.block_store.specs.Reads.{Counted, HasHeader, IsFault, IsFaultIn};
+ghost use Rattle.block_store.specs.Reads.{Counted, HasHeader, IsCompared, IsFault, IsFaultIn};
 ghost use Rattle.pcm_base.specs.declared.sound.Cell.TheVariants.{Sample};
 ghost use Rattle.pcm_base.specs.Pieces.{stretch};
 ghost use Rattle.pcm_base.specs.Blocks.{block_samples, blocks_len};
@@ -13,7 +13,7 @@ ghost use Rattle.cell_view.specs.Seen.{Puts};
 ghost use Rattle.cell_view.specs.Stored.{stored_on, stored_of};
 
 use super::places::place_in;
-use block_store::{BlockFault, compare_header, read_compared_samples};
+use block_store::{BlockFault, compare_once, read_compared_samples};
 use disk_model::Store;
 use pcm_base::{BlockRef, Cell};
 
@@ -87,8 +87,10 @@ fn read_pieces<S: Store>(
 }
 
 /// Puts the samples of a block, which stands at a place, where the view has them. A block that is not seen is not read.
+/// Its header is compared unless it was the last that was.
 pub(crate) fn put_block<S: Store>(
     store: &mut S,
+    last: &mut Option<BlockRef>,
     block: BlockRef,
     from: u64,
     to: u64,
@@ -98,6 +100,8 @@ pub(crate) fn put_block<S: Store>(
     requires block { IsNamed block }
     requires size { from + length out.old ≡ to }
     requires few { at + block.len < 2 ^ 64 }
+    requires compared { IsTrue (S.tells store.old) → IsCompared (S.reads store.old) last.old }
+    ensures compared { IsTrue (S.tells store.old) → IsCompared (S.reads store.old) last.new }
     ensures stored { IsTrue (S.tells store.old) → OnOk result
         (Puts from to at (map Sample (stretch (stored_on (S.reads store.old) block.id) 0 block.len)) out.old out.new) }
     ensures damaged { IsTrue (S.tells store.old)
@@ -111,13 +115,14 @@ pub(crate) fn put_block<S: Store>(
         return Ok(());
     }
     let skip = from.saturating_sub(at) as u32;
-    compare_header(store, block)?;
+    compare_once(store, last, block)?;
     read_pieces(store, block, skip, &mut out[start..end])
 }
 
 /// The same of blocks one after another, and none behind the view is looked at.
 pub(crate) fn put_blocks<S: Store>(
     store: &mut S,
+    last: &mut Option<BlockRef>,
     blocks: &[BlockRef],
     from: u64,
     to: u64,
@@ -127,6 +132,8 @@ pub(crate) fn put_blocks<S: Store>(
     requires named { AllNamed blocks.now }
     requires size { from + length out.old ≡ to }
     requires few { at + blocks_len blocks.now < 2 ^ 64 }
+    requires compared { IsTrue (S.tells store.old) → IsCompared (S.reads store.old) last.old }
+    ensures compared { IsTrue (S.tells store.old) → IsCompared (S.reads store.old) last.new }
     ensures stored { IsTrue (S.tells store.old) → OnOk result
         (Puts from to at (map Sample (block_samples (stored_of (S.reads store.old)) blocks.now)) out.old out.new) }
     ensures damaged { IsTrue (S.tells store.old) → IfErr result (λ e. IsFaultIn (S.reads store.old) blocks.now e) }
@@ -138,7 +145,7 @@ pub(crate) fn put_blocks<S: Store>(
         if place >= to {
             return Ok(());
         }
-        if let Err(fault) = put_block(store, *block, from, to, place, out) {
+        if let Err(fault) = put_block(store, last, *block, from, to, place, out) {
             return Err(fault);
         }
         place += block.len as u64;

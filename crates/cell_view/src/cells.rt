@@ -45,6 +45,7 @@ pub fn read_cells<S: Store>(
 {
     let count = place_in(from, from + out.len() as u64, layout.len());
     let rest = rest_at(layout, from);
-    read_ahead(store, layout, &rest, from, &mut out[..count])?;
+    let mut last = None;
+    read_ahead(store, &mut last, layout, &rest, from, &mut out[..count])?;
     Ok(count)
 }

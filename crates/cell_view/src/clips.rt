@@ -1,7 +1,7 @@
 // The cells of clips, one after another.
 ghost use Rattle.std.specs.Prelude.{◌≡◌, ◌≤◌, ◌+◌, ◌-◌, ◌^◌, ◌++◌, length, map, replicate, IsTrue, OnOk, IfErr};
 ghost use Rattle.disk_model.specs.Frames.{Kept};
-ghost use Rattle.block_store.specs.Reads.{Counted, IsFaultIn};
+ghost use Rattle.block_store.specs.Reads.{Counted, IsCompared, IsFaultIn};
 ghost use Rattle.pcm_base.specs.declared.sound.Cell.TheVariants as cell;
 ghost use Rattle.pcm_base.specs.Blocks.{block_samples};
 ghost use Rattle.clip_track.specs.Clips.{clip_end, end_of, cells_from, layout_blocks, AreClips};
@@ -14,11 +14,12 @@ use super::places::put_gap;
 use block_store::BlockFault;
 use clip_track::Clip;
 use disk_model::Store;
-use pcm_base::Cell;
+use pcm_base::{BlockRef, Cell};
 
 /// Puts a clip, and the gap before it, where the view has them.
 fn put_clip<S: Store>(
     store: &mut S,
+    last: &mut Option<BlockRef>,
     clip: &Clip,
     from: u64,
     to: u64,
@@ -29,6 +30,8 @@ fn put_clip<S: Store>(
     requires size { from + length out.old ≡ to }
     requires later { at ≤ clip.now.start }
     requires few { clip_end clip.now ≤ 2 ^ 32 }
+    requires compared { IsTrue (S.tells store.old) → IsCompared (S.reads store.old) last.old }
+    ensures compared { IsTrue (S.tells store.old) → IsCompared (S.reads store.old) last.new }
     ensures stored { IsTrue (S.tells store.old)
         → OnOk result (Puts from to at (replicate (clip.now.start - at) cell.Gap
         ++ map cell.Sample (block_samples (stored_of (S.reads store.old)) clip.now.blocks)) out.old out.new) }
@@ -37,12 +40,21 @@ fn put_clip<S: Store>(
     ensures faults { Counted result (S.read_fault_count store.old) (S.read_fault_count store.new) }
 {
     put_gap(from, to, at, clip.start - at, out);
-    put_blocks(store, clip.blocks.as_slice(), from, to, clip.start, out)
+    put_blocks(
+        store,
+        last,
+        clip.blocks.as_slice(),
+        from,
+        to,
+        clip.start,
+        out,
+    )
 }
 
 /// Puts clips, and the gaps before them from a place on, where the view has them. None behind the view is looked at.
 pub(crate) fn put_clips<S: Store>(
     store: &mut S,
+    last: &mut Option<BlockRef>,
     clips: &[Clip],
     from: u64,
     to: u64,
@@ -53,6 +65,8 @@ pub(crate) fn put_clips<S: Store>(
     requires few { end_of start clips.now ≤ 2 ^ 32 }
     requires named { AllNamed (layout_blocks clips.now) }
     requires size { from + length out.old ≡ to }
+    requires compared { IsTrue (S.tells store.old) → IsCompared (S.reads store.old) last.old }
+    ensures compared { IsTrue (S.tells store.old) → IsCompared (S.reads store.old) last.new }
     ensures stored { IsTrue (S.tells store.old) → OnOk result
         (Puts from to start (cells_from (stored_of (S.reads store.old)) start clips.now) out.old out.new) }
     ensures damaged { IsTrue (S.tells store.old)
@@ -65,7 +79,7 @@ pub(crate) fn put_clips<S: Store>(
         if at >= to {
             return Ok(());
         }
-        if let Err(fault) = put_clip(store, clip, from, to, at, out) {
+        if let Err(fault) = put_clip(store, last, clip, from, to, at, out) {
             return Err(fault);
         }
         at = clip.start + clip.blocks.len();

@@ -1,9 +1,11 @@
-//! The cells of a track of blocks, over any store: its gaps, and the samples of its clips.
+//! The cells of a track of blocks, over any store: its gaps, and what stands in the files of its clips' blocks, which
+//! are the samples of these where all of them are whole.
 //!
 //! The layers above use two contracts. `read_cells` gives the cells of a layout from a place on, as many as there are.
 //! `read_ahead` gives them, and gaps past the end, to who goes through a track a stretch at a time: what is left of the
-//! track (`Rest`) is handed in, so that no clip or block is passed twice. No memory is taken, and no sample is read but
-//! those that are seen.
+//! track (`TrackRest`) is handed in, so that no clip or block is passed twice, and the block whose header was compared
+//! last, so that no header is read again for the next stretch of its block. No memory is taken, and no sample is read
+//! but those that are seen.
 #![tactic(auto)]
 
 mod ahead;
@@ -18,4 +20,4 @@ mod tests;
 pub use ahead::read_ahead;
 pub use cells::read_cells;
 pub use places::fill_gaps;
-pub use rest::{Rest, no_rest, pass, rest_at};
+pub use rest::{TrackRest, no_rest, pass, rest_at};

@@ -10,7 +10,7 @@ use pcm_base::BlockRef;
 
 /// The rest of a clip, and the clips behind it. What stands before is passed.
 #[derive(Clone, Copy)]
-pub struct Rest<'a> {
+pub struct TrackRest<'a> {
     /// Where the rest begins.
     pub at: u64,
     /// Where the next samples stand.
@@ -24,10 +24,10 @@ pub struct Rest<'a> {
 }
 
 /// No track at all.
-pub fn no_rest<'a>() -> Rest<'a>
+pub fn no_rest<'a>() -> TrackRest<'a>
     ensures { (from : ℕ) → IsRestOf from [] result }
 {
-    Rest {
+    TrackRest {
         at: 0,
         start: 0,
         end: 0,
@@ -46,14 +46,14 @@ fn started(clips: &[Clip], from: u64) -> usize
 }
 
 /// The last clip that starts by a place, or the first of all, and the clips behind it.
-fn near<'a>(layout: &'a Layout, from: u64) -> Rest<'a>
+fn near<'a>(layout: &'a Layout, from: u64) -> TrackRest<'a>
     requires named { AllNamed (layout_blocks layout.now) }
     ensures { IsRestOf from layout.now result }
 {
     let clips = layout.as_slice();
     let first = started(clips, from).saturating_sub(1);
     match &clips[first..] {
-        [clip, more @ ..] => Rest {
+        [clip, more @ ..] => TrackRest {
             at: from.min(clip.start),
             start: clip.start,
             end: clip.start + clip.blocks.len(),
@@ -65,7 +65,7 @@ fn near<'a>(layout: &'a Layout, from: u64) -> Rest<'a>
 }
 
 /// The same without the clips that end by a place.
-fn pass_clips<'a>(rest: Rest<'a>, from: u64) -> Rest<'a>
+fn pass_clips<'a>(rest: TrackRest<'a>, from: u64) -> TrackRest<'a>
     requires rest { IsRest rest }
     ensures rest { IsRest result }
     ensures same { (cs : List clip_of) → IsRestOf from cs rest.entry → IsRestOf from cs result }
@@ -75,7 +75,7 @@ fn pass_clips<'a>(rest: Rest<'a>, from: u64) -> Rest<'a>
     'rows: while left.end <= from {
         match left.clips {
             [clip, more @ ..] => {
-                left = Rest {
+                left = TrackRest {
                     at: left.end,
                     start: clip.start,
                     end: clip.start + clip.blocks.len(),
@@ -90,7 +90,7 @@ fn pass_clips<'a>(rest: Rest<'a>, from: u64) -> Rest<'a>
 }
 
 /// The same without the blocks that end by a place.
-fn pass_blocks<'a>(rest: Rest<'a>, from: u64) -> Rest<'a>
+fn pass_blocks<'a>(rest: TrackRest<'a>, from: u64) -> TrackRest<'a>
     requires rest { IsRest rest }
     ensures rest { IsRest result }
     ensures same { (cs : List clip_of) → IsRestOf from cs rest.entry → IsRestOf from cs result }
@@ -104,7 +104,7 @@ fn pass_blocks<'a>(rest: Rest<'a>, from: u64) -> Rest<'a>
         if from < end {
             return left;
         }
-        left = Rest {
+        left = TrackRest {
             at: end,
             start: end,
             end: left.end,
@@ -116,7 +116,7 @@ fn pass_blocks<'a>(rest: Rest<'a>, from: u64) -> Rest<'a>
 }
 
 /// What is left of a track without what ends by a place. Clips and blocks are passed one by one.
-pub fn pass<'a>(rest: Rest<'a>, from: u64) -> Rest<'a>
+pub fn pass<'a>(rest: TrackRest<'a>, from: u64) -> TrackRest<'a>
     requires rest { IsRest rest }
     ensures rest { IsRest result }
     ensures same { (cs : List clip_of) → IsRestOf from cs rest.entry → IsRestOf from cs result }
@@ -127,7 +127,7 @@ pub fn pass<'a>(rest: Rest<'a>, from: u64) -> Rest<'a>
 
 /// What is left of a track from a place on. The clip of the place is found by halves, and the blocks in it that end by
 /// the place are passed one by one.
-pub fn rest_at(layout: &Layout, from: u64) -> Rest<'_>
+pub fn rest_at(layout: &Layout, from: u64) -> TrackRest<'_>
     requires named { AllNamed (layout_blocks layout.now) }
     ensures rest { IsRestOf from layout.now result }
     ensures past { IsPast from result }

@@ -4,7 +4,7 @@ ghost use Rattle.clip_track.specs.Clips.{layout_blocks};
 ghost use Rattle.sample_block.specs.Sources.{AllNamed, IsNamed};
 ghost use Rattle.cell_view.specs.Rests.{IsRestOf};
 
-use super::{Rest, pass, read_ahead, read_cells, rest_at};
+use super::{TrackRest, pass, read_ahead, read_cells, rest_at};
 use block_sequence::Sequence;
 use block_store::{BlockFault, drop_block, put};
 use clip_track::{Clip, Layout};
@@ -87,7 +87,7 @@ fn cells_from_each_place(rt: HostRuntime) -> Result<(), Fail> {
 }
 
 /// What is left of a track from a place on, by way of an earlier one.
-fn rest_by_way(layout: &Layout, first: u64, next: u64) -> Rest<'_>
+fn rest_by_way(layout: &Layout, first: u64, next: u64) -> TrackRest<'_>
     requires named { AllNamed (layout_blocks layout.now) }
     requires order { first ≤ next }
     ensures { IsRestOf next layout.now result }
@@ -110,10 +110,46 @@ fn cells_ahead(rt: HostRuntime) -> Result<(), Fail> {
     ] {
         let rest = rest_by_way(&layout, u64::from(first.min(next)), u64::from(next));
         let mut out = [Cell::Sample(99); 2];
-        let answer = read_ahead(&mut store, &layout, &rest, u64::from(next), &mut out);
+        let mut last = None;
+        let answer = read_ahead(
+            &mut store,
+            &mut last,
+            &layout,
+            &rest,
+            u64::from(next),
+            &mut out,
+        );
         assert_eq!(rt; answer, Ok(()), "{next} from {first}");
         assert!(rt; out == want, "{next} from {first}");
     }
+    Ok(())
+}
+
+// Six calls put the blocks. Of two stretches of block 16 the header is read once: the third call, of its samples alone,
+// follows it. Block 17 takes two, and block 16 behind it again.
+#[test]
+fn one_header_for_a_run_of_stretches(rt: HostRuntime) -> Result<(), Fail> {
+    let layout = track(rt.alloc())?;
+    let mut store = disk(rt.alloc(), Vec::new(rt.alloc()))?;
+    let mut last = None;
+    let mut out = [GAP; 1];
+    let rest = rest_at(&layout, 2);
+    let answer = read_ahead(&mut store, &mut last, &layout, &rest, 2, &mut out);
+    assert_eq!(rt; answer, Ok(()));
+    assert_eq!(rt; store.call_count(), 8);
+    let rest = rest_at(&layout, 3);
+    let answer = read_ahead(&mut store, &mut last, &layout, &rest, 3, &mut out);
+    assert_eq!(rt; answer, Ok(()));
+    assert_eq!(rt; store.call_count(), 9);
+    let rest = rest_at(&layout, 5);
+    let answer = read_ahead(&mut store, &mut last, &layout, &rest, 5, &mut out);
+    assert_eq!(rt; answer, Ok(()));
+    assert_eq!(rt; store.call_count(), 11);
+    let rest = rest_at(&layout, 4);
+    let answer = read_ahead(&mut store, &mut last, &layout, &rest, 4, &mut out);
+    assert_eq!(rt; answer, Ok(()));
+    assert!(rt; out == [Cell::Sample(3)]);
+    assert_eq!(rt; store.call_count(), 13);
     Ok(())
 }
 

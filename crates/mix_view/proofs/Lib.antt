@@ -1,3 +1,3 @@
 mod AddedLaws
 pub mod CountLaws
-pub mod VoiceLaws
+pub mod TrackLaws

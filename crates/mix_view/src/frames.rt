@@ -8,15 +8,15 @@ ghost use Rattle.pcm_base.specs.Mix.{frame_at, mix_of};
 ghost use Rattle.project_state.specs.Kept.{meant, point_blocks};
 ghost use Rattle.sample_block.specs.Sources.{sources_of, AllNamed, AllWhole};
 ghost use Rattle.cell_view.specs.Stored.{stored_of};
-ghost use Rattle.mix_view.specs.Voices.{mix_length_of, stored_mix, AreRestsOf, track_gains, track_sides};
+ghost use Rattle.mix_view.specs.Readers.{HasCompared, IsReader};
+ghost use Rattle.mix_view.specs.Tracks.{mix_length_of, stored_mix};
 
+use super::reader::MixReader;
 use super::stretches::mix_stretch;
-use super::voices::{mix_len, put_gains, put_rests, put_sides};
 use block_store::BlockFault;
-use cell_view::{Rest, no_rest};
 use disk_model::Store;
-use pcm_base::{Cell, Frame, Side};
-use project_state::{MAX_TRACKS, Point};
+use pcm_base::{Cell, Frame};
+use project_state::Point;
 
 /// How long a stretch of each track may be.
 fn stretch_room(cells: usize, tracks: usize) -> usize
@@ -28,93 +28,42 @@ fn stretch_room(cells: usize, tracks: usize) -> usize
     if tracks == 0 { cells } else { cells / tracks }
 }
 
-/// Mixes the frames from a place on, a stretch of each track at a time, each as long as the buffer has room for.
-fn mix_stretches<'a, S: Store>(
+/// Mixes the next frames of a reader, a stretch of each track at a time, each as long as the buffer has room for.
+pub(crate) fn mix_stretches<'a, S: Store>(
     store: &mut S,
-    point: &Point,
-    gains: &[u32],
-    sides: &[Side],
-    rests: &mut [Rest<'a>],
-    from: u64,
+    reader: &mut MixReader<'a>,
     cells: &mut [Cell],
     out: &mut [Frame],
 ) -> Result<(), BlockFault>
-    requires gains { gains.now ≡ track_gains point.now }
-    requires sides { sides.now ≡ track_sides point.now }
-    requires rests { AreRestsOf from point.now rests.old }
-    requires tracks { length point.now ≤ length rests.old }
-    requires few_tracks { length point.now ≤ 64 }
+    requires reader { IsReader reader.old }
+    requires compared { IsTrue (S.tells store.old) → HasCompared (S.reads store.old) reader.old }
     requires room { 64 ≤ length cells.old }
-    requires few { from + length out.old < 2 ^ 64 }
+    requires few { reader.old.at + length out.old < 2 ^ 64 }
+    ensures reader { IsReader reader.new }
+    ensures compared { IsTrue (S.tells store.old) → HasCompared (S.reads store.old) reader.new }
+    ensures point { reader.new.point.now ≡ reader.old.point.now }
+    ensures place { OnOk result (reader.new.at ≡ reader.old.at + length out.old) }
+    ensures later { reader.old.at ≤ reader.new.at }
     ensures stored { IsTrue (S.tells store.old)
-        → OnOk result (out.new ≡ map (frame_at (meant (stored_of (S.reads store.old)) point.now)) (counted_from from
-        (length out.old))) }
+        → OnOk result (out.new ≡ map (frame_at (meant (stored_of (S.reads store.old)) reader.old.point.now))
+        (counted_from reader.old.at (length out.old))) }
     ensures damaged { IsTrue (S.tells store.old)
-        → IfErr result (λ e. IsFaultIn (S.reads store.old) (point_blocks point.now) e) }
+        → IfErr result (λ e. IsFaultIn (S.reads store.old) (point_blocks reader.old.point.now) e) }
     ensures kept { Kept S.Store store.old store.new }
     ensures faults { Counted result (S.read_fault_count store.old) (S.read_fault_count store.new) }
 {
-    let tracks = point.len();
+    let tracks = reader.point.len();
     let most = stretch_room(cells.len(), tracks);
     let mut done = 0;
     'stretches: while done < out.len() {
         let next = done + most.min(out.len() - done);
-        let at = from + done as u64;
         let room = tracks * (next - done);
-        if let Err(fault) = mix_stretch(
-            store,
-            point,
-            gains,
-            sides,
-            rests,
-            at,
-            &mut cells[..room],
-            &mut out[done..next],
-        ) {
+        if let Err(fault) = mix_stretch(store, reader, &mut cells[..room], &mut out[done..next]) {
             return Err(fault);
         }
         done = next;
     }
     Ok(())
-}
-
-/// Mixes the frames from a place on.
-fn mix_frames<S: Store>(
-    store: &mut S,
-    point: &Point,
-    from: u64,
-    cells: &mut [Cell],
-    out: &mut [Frame],
-) -> Result<(), BlockFault>
-    requires named { AllNamed (point_blocks point.now) }
-    requires room { 64 ≤ length cells.old }
-    requires few { from + length out.old < 2 ^ 64 }
-    ensures stored { IsTrue (S.tells store.old)
-        → OnOk result (out.new ≡ map (frame_at (meant (stored_of (S.reads store.old)) point.now)) (counted_from from
-        (length out.old))) }
-    ensures damaged { IsTrue (S.tells store.old)
-        → IfErr result (λ e. IsFaultIn (S.reads store.old) (point_blocks point.now) e) }
-    ensures kept { Kept S.Store store.old store.new }
-    ensures faults { Counted result (S.read_fault_count store.old) (S.read_fault_count store.new) }
-{
-    let tracks = point.len();
-    let mut gains = [0u32; MAX_TRACKS];
-    put_gains(point, &mut gains);
-    let mut sides = [Side::Both; MAX_TRACKS];
-    put_sides(point, &mut sides);
-    let none = no_rest();
-    let mut rests = [none; MAX_TRACKS];
-    put_rests(point, from, &mut rests);
-    mix_stretches(
-        store,
-        point,
-        &gains[..tracks],
-        &sides[..tracks],
-        &mut rests,
-        from,
-        cells,
-        out,
-    )
 }
 
 /// Reads the frames of the mix of a point's tracks from a place on, as many as there are and as `out` has room for, and
@@ -147,8 +96,6 @@ pub fn read_frames<S: Store>(
     ensures kept { Kept S.Store store.old store.new }
     ensures faults { Counted result (S.read_fault_count store.old) (S.read_fault_count store.new) }
 {
-    let left = mix_len(point).saturating_sub(from);
-    let count = (out.len() as u64).min(left) as usize;
-    mix_frames(store, point, from, cells, &mut out[..count])?;
-    Ok(count)
+    let mut reader = MixReader::new(point, from);
+    reader.read(store, cells, out)
 }

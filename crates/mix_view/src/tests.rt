@@ -93,6 +93,53 @@ fn disk(alloc: Global, fails: Vec<u64>) -> Result<RamStore, Fail> {
     Ok(store)
 }
 
+/// A track that is heard on both sides, whose one block of 40 samples starts at a place.
+fn long_track(alloc: Global, id: u64, start: u64) -> Result<Track, NoMemory>
+    requires some { 1 ≤ id }
+    requires few { id ≤ 4 }
+    requires early { start ≤ 20 }
+    ensures { IfOk result (λ track. (track.id ≡ id) × AllNamed (layout_blocks track.layout)) }
+{
+    let block = BlockRef {
+        id: 15 + id,
+        len: 40,
+    };
+    Ok(Track {
+        id,
+        gain: 65_536,
+        side: Side::Both,
+        mute: false,
+        layout: layout(alloc, start, block)?,
+    })
+}
+
+/// Four such tracks, at the places 0, 0, 8 and 20, whose mix has 60 frames.
+fn long_project(alloc: Global) -> Result<Point, Fail>
+    ensures { IfOk result (λ point. AllNamed (point_blocks point)) }
+{
+    let mut point = Point::new(alloc);
+    let track = long_track(alloc, 1, 0)?;
+    add(&mut point, track)?;
+    let track = long_track(alloc, 2, 0)?;
+    add(&mut point, track)?;
+    let track = long_track(alloc, 3, 8)?;
+    add(&mut point, track)?;
+    let track = long_track(alloc, 4, 20)?;
+    add(&mut point, track)?;
+    Ok(point)
+}
+
+/// The disk of their blocks, of ones, twos, threes and fours, which was called eight times.
+fn long_disk(alloc: Global) -> Result<RamStore, Fail> {
+    let mut store = RamStore::new(alloc, 4, 4096, 16, Numbers::new(Vec::new(alloc)))?;
+    let mut scratch = Vec::with_capacity(alloc, 256)?;
+    put(&mut store, 16, &[1; 40], &mut scratch)?;
+    put(&mut store, 17, &[2; 40], &mut scratch)?;
+    put(&mut store, 18, &[3; 40], &mut scratch)?;
+    put(&mut store, 19, &[4; 40], &mut scratch)?;
+    Ok(store)
+}
+
 /// The mix: the muted track is longer, and is not heard.
 fn mix() -> [Frame; 41] {
     let mut frames = [SILENT; 41];
@@ -154,6 +201,48 @@ fn each_read_fails(rt: HostRuntime) -> Result<(), Fail> {
         let count = read_frames(&mut store, &point, 0, &mut cells, &mut out);
         assert_eq!(rt; count, Ok(41));
         assert_eq!(rt; store.call_count(), call.wrapping_add(6));
+    }
+    Ok(())
+}
+
+/// Frames of equal samples on both sides.
+fn level(sample: i16) -> Frame {
+    Frame {
+        left: sample,
+        right: sample,
+    }
+}
+
+// With 64 cells for four tracks a stretch has 16 frames. Each track reaches into three of the four stretches, and takes a
+// call for its samples in each of them. Its header is read once: 16 calls behind the eight of the disk.
+#[test]
+fn one_header_for_each_track(rt: HostRuntime) -> Result<(), Fail> {
+    let point = long_project(rt.alloc())?;
+    let mut store = long_disk(rt.alloc())?;
+    let mut cells = [Cell::Gap; 64];
+    let mut out = [SILENT; 60];
+    let count = read_frames(&mut store, &point, 0, &mut cells, &mut out);
+    assert_eq!(rt; count, Ok(60));
+    assert_eq!(rt; store.call_count(), 24);
+    let ends = [out[7], out[8], out[19], out[20], out[39]];
+    assert!(rt; ends == [level(3), level(6), level(6), level(10), level(10)]);
+    let ends = [out[40], out[47], out[48], out[59]];
+    assert!(rt; ends == [level(7), level(7), level(4), level(4)]);
+    Ok(())
+}
+
+// Twenty frames at a time are stretches of 16 and of 4, so the samples take 6, 8 and 3 calls. With each read the headers
+// are read again, of three tracks, of four and of two.
+#[test]
+fn a_header_for_each_read(rt: HostRuntime) -> Result<(), Fail> {
+    let point = long_project(rt.alloc())?;
+    let mut store = long_disk(rt.alloc())?;
+    let mut cells = [Cell::Gap; 64];
+    let mut out = [SILENT; 20];
+    for (from, calls) in [(0u32, 17u64), (20, 29), (40, 34)] {
+        let count = read_frames(&mut store, &point, u64::from(from), &mut cells, &mut out);
+        assert_eq!(rt; count, Ok(20), "from {from}");
+        assert_eq!(rt; store.call_count(), calls, "from {from}");
     }
     Ok(())
 }

@@ -8,7 +8,7 @@ ghost use Rattle.pcm_base.specs.Outside.{SameElsewhere};
 ghost use Rattle.project_state.specs.Kept.{meant, point_blocks};
 ghost use Rattle.sample_block.specs.Sources.{sources_of, AllNamed, AllWhole};
 ghost use Rattle.wav_pcm.specs.Wavs.{FitsFile, wav_head};
-ghost use Rattle.mix_view.specs.Voices.{mix_length_of, stored_mix};
+ghost use Rattle.mix_view.specs.Tracks.{mix_length_of, stored_mix};
 ghost use Rattle.sound_export.specs.declared.fault.ExportFault.TheVariants as fault;
 ghost use Rattle.sound_export.specs.Written.{MayBegin, IsLengthFault, IsBlockFault, IsNoDamage, ExportCounted};
 

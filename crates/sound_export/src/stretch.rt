@@ -8,14 +8,15 @@ ghost use Rattle.pcm_base.specs.Outside.{SameElsewhere};
 ghost use Rattle.edit_ports.specs.Sounds.{sound_bytes, MayHaveGrown};
 ghost use Rattle.project_state.specs.Kept.{meant, point_blocks};
 ghost use Rattle.sample_block.specs.Sources.{AllNamed};
-ghost use Rattle.mix_view.specs.Voices.{mix_length_of, stored_mix};
+ghost use Rattle.mix_view.specs.Readers.{HasCompared, IsReader};
+ghost use Rattle.mix_view.specs.Tracks.{mix_length_of, stored_mix};
 ghost use Rattle.pcm_base.specs.Recordings.{frame_bytes};
 ghost use Rattle.sound_export.specs.Written.{IsOfDevice, IsBlockFault, ExportCounted};
 
 use super::fault::ExportFault;
 use disk_model::Store;
 use edit_ports::Vault;
-use mix_view::read_frames;
+use mix_view::MixReader;
 use pcm_base::{Cell, Failed, Frame};
 use project_state::Point;
 use wav_pcm::write_frames;
@@ -43,43 +44,47 @@ fn append_frames<V: Vault>(
     vault.append(name, &bytes[..room])
 }
 
-/// Appends frames of the mix from a place on, as many as there are and as fit, and answers how many.
-fn append_stretch<S: Store, V: Vault>(
+/// Appends the next frames of a mix, as many as are left and as fit, and answers how many.
+fn append_stretch<'a, S: Store, V: Vault>(
     store: &mut S,
     vault: &mut V,
     name: &str,
-    point: &Point,
-    from: u64,
+    reader: &mut MixReader<'a>,
     cells: &mut [Cell],
     frames: &mut [Frame],
     bytes: &mut [u8],
 ) -> Result<usize, ExportFault>
-    requires named { AllNamed (point_blocks point.now) }
+    requires reader { IsReader reader.old }
+    requires compared { IsTrue (S.tells store.old) → HasCompared (S.reads store.old) reader.old }
     requires cells { 64 ≤ length cells.old }
     requires bytes { 4 * length frames.old ≤ length bytes.old }
-    requires few { from + length frames.old < 2 ^ 64 }
-    ensures count { IfOk result (λ n. n ≡ min (length frames.old) (mix_length_of point.now - from)) }
+    requires few { reader.old.at + length frames.old < 2 ^ 64 }
+    ensures count { IfOk result (λ n. n ≡ min (length frames.old) (mix_length_of reader.old.point.now - reader.old.at)) }
+    ensures place { IfOk result (λ n. reader.new.at ≡ reader.old.at + n) }
+    ensures reader { IsReader reader.new }
+    ensures point { reader.new.point.now ≡ reader.old.point.now }
+    ensures compared { IsTrue (S.tells store.old) → HasCompared (S.reads store.old) reader.new }
     ensures appended { IsTrue (V.tells vault.old) → IsTrue (S.tells store.old)
         → IfOk result (λ n. V.holds vault.new name.now ≡ Some (sound_bytes (V.holds vault.old name.now)
-        ++ frame_bytes (take n (drop from (stored_mix (S.reads store.old) point.now))))) }
+        ++ frame_bytes (take n (drop reader.old.at (stored_mix (S.reads store.old) reader.old.point.now))))) }
     ensures failed { IsTrue (V.tells vault.old) → IsTrue (S.tells store.old) → OnErr result ((n : ℕ)
-        × MayHaveGrown (frame_bytes (take n (drop from (stored_mix (S.reads store.old) point.now))))
+        × MayHaveGrown (frame_bytes (take n (drop reader.old.at (stored_mix (S.reads store.old) reader.old.point.now))))
         (V.holds vault.old name.now) (V.holds vault.new name.now)) }
     ensures others { IsTrue (V.tells vault.old) → SameElsewhere name.now (V.holds vault.old) (V.holds vault.new) }
     ensures tells { V.tells vault.new ≡ V.tells vault.old }
     ensures device { IfErr result (λ e. IsOfDevice e) }
     ensures damaged { IsTrue (S.tells store.old)
-        → IfErr result (λ e. IsBlockFault (S.reads store.old) (point_blocks point.now) e) }
+        → IfErr result (λ e. IsBlockFault (S.reads store.old) (point_blocks reader.old.point.now) e) }
     ensures kept { Kept S.Store store.old store.new }
     ensures faults { ExportCounted result (S.read_fault_count store.old) (S.read_fault_count store.new)
         (V.fault_count vault.old) (V.fault_count vault.new) }
 {
-    let count = read_frames(store, point, from, cells, frames)?;
+    let count = reader.read(store, cells, frames)?;
     append_frames(vault, name, &frames[..count], bytes)?;
     Ok(count)
 }
 
-/// Appends all frames of the mix, `len` of them, to a sound that is there.
+/// Appends all frames of the mix, `len` of them, to a sound that is there, in one pass over the tracks.
 pub(crate) fn append_mix<S: Store, V: Vault>(
     store: &mut S,
     vault: &mut V,
@@ -115,11 +120,10 @@ pub(crate) fn append_mix<S: Store, V: Vault>(
     ensures faults { ExportCounted result (S.read_fault_count store.old) (S.read_fault_count store.new)
         (V.fault_count vault.old) (V.fault_count vault.new) }
 {
-    let mut at = 0;
-    'stretches: while at < len {
-        match append_stretch(store, vault, name, point, at, cells, frames, bytes) {
-            Ok(count) => at += count as u64,
-            Err(fault) => return Err(fault),
+    let mut reader = MixReader::new(point, 0);
+    'stretches: while reader.at < len {
+        if let Err(fault) = append_stretch(store, vault, name, &mut reader, cells, frames, bytes) {
+            return Err(fault);
         }
     }
     Ok(())

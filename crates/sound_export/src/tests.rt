@@ -132,6 +132,20 @@ fn each_read_fails(rt: HostRuntime) -> Result<(), Fail> {
     Ok(())
 }
 
+// From place 2 on block 16 stands in both stretches of frames. Its header is read once, and samples of it twice; block 17
+// takes two calls.
+#[test]
+fn one_header_for_two_stretches(rt: HostRuntime) -> Result<(), Fail> {
+    let point = project(rt.alloc(), 2)?;
+    let mut vault = MemVault::new(rt.alloc(), 4, 4096, Numbers::new(Vec::new(rt.alloc())))?;
+    let mut store = disk(rt.alloc(), Vec::new(rt.alloc()))?;
+    assert_eq!(rt; store.call_count(), 4);
+    let (answer, _) = export(&mut store, &mut vault, &point)?;
+    assert_eq!(rt; answer, Ok(64));
+    assert_eq!(rt; store.call_count(), 9);
+    Ok(())
+}
+
 // The file of block 17 is gone, which has 42 bytes.
 #[test]
 fn a_block_is_damaged(rt: HostRuntime) -> Result<(), Fail> {

@@ -31,9 +31,9 @@ pub returns-clause-stored : goal.returns-clause-stored
 returns-clause-stored g c = λ told.
     let a = c.args in
     let b = c.args.block in
-    let kept = c.compare_header.ensures.kept in
+    let kept = c.compare_once.ensures.kept in
     let files : Files = g.S.Store.reads c.args.store.now in
-    let still : IsTrue (g.S.Store.tells c.compare_header.new.store) =
+    let still : IsTrue (g.S.Store.tells c.compare_once.new.store) =
     subst (λ (t : Bool). IsTrue t) (sym kept.same_tells) told in
     let start = c.place_in-start.result in
     let skip = c.saturating_sub-skip.result in

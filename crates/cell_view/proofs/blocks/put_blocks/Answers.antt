@@ -4,7 +4,7 @@ use Rattle.std.proofs.lemmas.List.{length-map}
 use Rattle.std.specs.Prelude.{IsTrue}
 use Rattle.std.proofs.lemmas.List.{drop_more, drop_all, map-append}
 use Rattle.disk_model.specs.Disk.{Files, bytes_of}
-use Rattle.block_store.specs.Reads.{IsFault, IsFaultIn}
+use Rattle.block_store.specs.Reads.{IsCompared, IsFault, IsFaultIn}
 use Rattle.disk_model.proofs.Frames.{kept_none, kept_turn}
 use Rattle.pcm_base.specs.declared.block.BlockRef.{BlockRef}
 use Rattle.pcm_base.specs.declared.sound.Cell.{Cell}
@@ -23,6 +23,7 @@ rows-init g c = record {
   left = refl;
   named = c.requires.named;
   kept = kept_none _ (g.met.S.Store.may_fewer _);
+  compared = c.requires.compared;
   count = refl;
   rest_fault = λ why h. h;
   stored = λ told new puts. puts;
@@ -83,6 +84,9 @@ rows-preserved g c =
       left = omega (arith, ap blocks_len e, inv.left);
       named = (subst N e inv.named).1;
       kept = kept_turn inv.kept c.put_block.ensures.kept;
+      compared = λ told.
+          let still : IsTrue (g.S.Store.tells c.rows.store) = subst (λ (t : Bool). IsTrue t) (sym inv.kept.same_tells) told in
+          subst (λ (f : Files). IsCompared f c.put_block.new.last) inv.kept.same_reads (c.put_block.ensures.compared still);
       count = c.in_default.ensures.faults ∙ inv.count;
       rest_fault = λ why f. let F : List BlockRef → Type 0 = λ qs. IsFaultIn files qs why in inv.rest_fault why (subst F (sym e) (fault_later files (b ∷ []) rest why f));
       stored = λ told new puts.

@@ -6,7 +6,7 @@ use Rattle.pcm_base.specs.declared.sound.Cell.{Cell}
 use Rattle.pcm_base.specs.declared.sound.Cell.TheVariants.{Sample}
 use Rattle.block_store.specs.declared.fault.BlockFault.{BlockFault}
 use Rattle.disk_model.specs.Frames.{Kept}
-use Rattle.block_store.specs.Reads.{IsFaultIn}
+use Rattle.block_store.specs.Reads.{IsCompared, IsFaultIn}
 use Rattle.sample_block.specs.Sources.{AllNamed}
 use Rattle.cell_view.specs.Seen.{Puts}
 use Rattle.cell_view.specs.Stored.{stored_of}
@@ -17,6 +17,7 @@ invariant-rows g l = record {
   left : l.place + blocks_len (drop l.block-index l.blocks) ≡ l.at + blocks_len l.blocks;
   named : AllNamed (drop l.block-index l.blocks);
   kept : Kept g.S.Store l.fn.store l.store;
+  compared : IsTrue (g.S.Store.tells l.fn.store) → IsCompared (g.S.Store.reads l.fn.store) l.last;
   count : g.S.Store.read_fault_count l.store ≡ g.S.Store.read_fault_count l.fn.store;
   rest_fault : (why : BlockFault) → IsFaultIn (g.S.Store.reads l.fn.store) (drop l.block-index l.blocks) why → IsFaultIn (g.S.Store.reads l.fn.store) l.blocks why;
   stored : IsTrue (g.S.Store.tells l.fn.store) → (new : List Cell)

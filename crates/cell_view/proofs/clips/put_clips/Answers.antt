@@ -12,7 +12,7 @@ use Rattle.clip_track.specs.declared.clips.Clip.{Clip}
 use Rattle.clip_track.specs.Clips.{AreClips, end_of, clip_end, cells_from}
 use Rattle.clip_track.proofs.Layouts.{AreClips-next, end_within}
 use Rattle.clip_track.specs.Clips.{layout_blocks}
-use Rattle.block_store.specs.Reads.{IsFaultIn}
+use Rattle.block_store.specs.Reads.{IsCompared, IsFaultIn}
 use Rattle.sample_block.specs.Sources.{AllNamed}
 use Rattle.cell_view.specs.Seen.{place_in, Puts}
 use Rattle.cell_view.specs.Stored.{stored_of}
@@ -25,6 +25,7 @@ rows-init g c = record {
   same_end = refl;
   named = c.requires.named;
   kept = kept_none _ (g.met.S.Store.may_fewer _);
+  compared = c.requires.compared;
   count = refl;
   rest_fault = λ why h. h;
   stored = λ told new puts. puts;
@@ -114,6 +115,9 @@ rows-preserved g c =
       same_end = sym (ap (end_of at) e) ∙ inv.same_end;
       named = named_back x.blocks (layout_blocks rest) (subst N e inv.named);
       kept = kept_turn inv.kept c.put_clip.ensures.kept;
+      compared = λ told.
+          let still : IsTrue (g.S.Store.tells c.rows.store) = subst (λ (t : Bool). IsTrue t) (sym inv.kept.same_tells) told in
+          subst (λ (f : Files). IsCompared f c.put_clip.new.last) inv.kept.same_reads (c.put_clip.ensures.compared still);
       count = c.in_default.ensures.faults ∙ inv.count;
       rest_fault = λ why f. let F : List Clip → Type 0 = λ ds. IsFaultIn files (layout_blocks ds) why in inv.rest_fault why (subst F (sym e) (fault_later files x.blocks (layout_blocks rest) why f));
       stored = λ told new puts.

@@ -6,7 +6,7 @@ use Rattle.clip_track.specs.Clips.{AreClips, end_of, cells_from}
 use Rattle.clip_track.specs.Clips.{layout_blocks}
 use Rattle.block_store.specs.declared.fault.BlockFault.{BlockFault}
 use Rattle.disk_model.specs.Frames.{Kept}
-use Rattle.block_store.specs.Reads.{IsFaultIn}
+use Rattle.block_store.specs.Reads.{IsCompared, IsFaultIn}
 use Rattle.sample_block.specs.Sources.{AllNamed}
 use Rattle.cell_view.specs.Seen.{Puts}
 use Rattle.cell_view.specs.Stored.{stored_of}
@@ -18,6 +18,7 @@ invariant-rows g l = record {
   same_end : end_of l.at (drop l.clip-index l.clips) ≡ end_of l.start l.clips;
   named : AllNamed (layout_blocks (drop l.clip-index l.clips));
   kept : Kept g.S.Store l.fn.store l.store;
+  compared : IsTrue (g.S.Store.tells l.fn.store) → IsCompared (g.S.Store.reads l.fn.store) l.last;
   count : g.S.Store.read_fault_count l.store ≡ g.S.Store.read_fault_count l.fn.store;
   rest_fault : (why : BlockFault) → IsFaultIn (g.S.Store.reads l.fn.store) (layout_blocks (drop l.clip-index l.clips)) why → IsFaultIn (g.S.Store.reads l.fn.store) (layout_blocks l.clips) why;
   stored : IsTrue (g.S.Store.tells l.fn.store) → (new : List Cell)

@@ -12,13 +12,13 @@ use Rattle.clip_track.specs.Clips.{layout_blocks}
 use Rattle.project_state.specs.declared.track.Track.{Track}
 use Rattle.project_state.proofs.Parts.{drop_some}
 use Rattle.project_state.specs.Kept.{meant, meant_track, point_blocks}
-use Rattle.block_store.specs.Reads.{IsFaultIn}
+use Rattle.block_store.specs.Reads.{IsCompared, IsFaultIn}
 use Rattle.cell_view.specs.Stored.{stored_of}
-use Rattle.cell_view.specs.declared.rest.Rest.{Rest}
+use Rattle.mix_view.specs.declared.passes.TrackPass.{TrackPass}
 use Rattle.cell_view.specs.Rests.{IsRestOf}
 use Rattle.cell_view.proofs.SeenLaws.{fault_first}
 use Rattle.mixdown.specs.Stretches.{IsStretch, AreStretches}
-use Rattle.mix_view.proofs.VoiceLaws.{rests_at, rests_set, fault_drop, stretch_put}
+use Rattle.mix_view.proofs.TrackLaws.{compared_at, compared_set, rests_at, rests_set, fault_drop, stretch_put}
 use Rattle.mix_view.proofs.stretches.read_stretches.Goals as goal
 
 pub rows-init : goal.rows-init
@@ -27,18 +27,11 @@ rows-init g c =
     record {
       within = omega (arith, c.len-i.ensures.value);
       rests = c.requires.rests;
+      compared = c.requires.compared;
       kept = kept_none _ (g.met.S.Store.may_fewer _);
       count = refl;
       stored = λ told. subst P (sym (drop_all c.len-i.result c.args.point.now (omega (arith, c.len-i.ensures.value)))) tt;
     }
-
-pub pass-rest-requires : goal.pass-rest-requires
-pass-rest-requires g c =
-    let k = c.rows.i - 1 in
-    let t : Track = c.track_at-track.result.now in
-    let is = rests_at c.args.from c.args.point.now c.rows.rests k t c.index-rests-i.result (omega (arith, c.rows.invariant.within, c.rows-test.true)) c.rows.invariant.rests in
-    let I : Rest → Type 0 = λ r. IsRestOf c.args.from (get_or c.args.point.now k t).layout r in
-    record { rest = (subst I (sym c.index-rests-i.is) is).rest }
 
 pub overflow_mul-at : goal.overflow_mul-at
 overflow_mul-at g c =
@@ -66,19 +59,37 @@ pub read_track-requires-clause-rest : goal.read_track-requires-clause-rest
 read_track-requires-clause-rest g c =
     let k = c.rows.i - 1 in
     let t : Track = c.track_at-track.result.now in
-    let is = rests_at c.args.from c.args.point.now c.rows.rests k t c.index-rests-i.result (omega (arith, c.rows.invariant.within, c.rows-test.true)) c.rows.invariant.rests in
-    let I : Rest → Type 0 = λ r. IsRestOf c.args.from (get_or c.args.point.now k t).layout r in
-    let J : Track → Type 0 = λ u. IsRestOf c.args.from u.layout c.pass-rest.result in
-    subst J (get_or_from_slice_get c.args.point.now k t t c.track_at-track.ensures) (c.pass-rest.ensures.same _ (subst I (sym c.index-rests-i.is) is))
+    let p : TrackPass = c.index-passes-i.result in
+    let below : k < length c.args.point.now = omega (arith, c.rows.invariant.within, c.rows-test.true) in
+    let I : Track → Type 0 = λ u. IsRestOf c.args.from u.layout (get_or c.rows.passes k p).rest in
+    subst I (get_or_from_slice_get c.args.point.now k t t c.track_at-track.ensures)
+    (rests_at c.args.from c.args.point.now c.rows.passes k t p below c.rows.invariant.rests)
+
+pub read_track-requires-clause-compared : goal.read_track-requires-clause-compared
+read_track-requires-clause-compared g c = λ still.
+    let kept = c.rows.invariant.kept in
+    let told : IsTrue (g.S.Store.tells c.args.store.now) = subst (λ (b : Bool). IsTrue b) kept.same_tells still in
+    let k = c.rows.i - 1 in
+    let p : TrackPass = c.index-passes-i.result in
+    let below : k < length c.rows.passes = omega (arith, c.rows.invariant.within, c.rows-test.true, c.requires.tracks, c.rows.auto.passes) in
+    subst (λ (f : Files). IsCompared f (get_or c.rows.passes k p).last) (sym kept.same_reads)
+    (compared_at (g.S.Store.reads c.args.store.now) c.rows.passes k p below (c.rows.invariant.compared told))
 
 pub returns-in-Err-clause-rests : goal.returns-in-Err-clause-rests
 returns-in-Err-clause-rests g c =
     let k = c.rows.i - 1 in
+    let ts : List Track = c.args.point.now in
     let t : Track = c.track_at-track.result.now in
-    let is = rests_at c.args.from c.args.point.now c.rows.rests k t c.index-rests-i.result (omega (arith, c.rows.invariant.within, c.rows-test.true)) c.rows.invariant.rests in
-    let I : Rest → Type 0 = λ r. IsRestOf c.args.from (get_or c.args.point.now k t).layout r in
-    rests_set c.args.from c.args.point.now c.rows.rests k t c.pass-rest.result (omega (arith, c.rows.invariant.within, c.rows-test.true)) c.rows.invariant.rests
-    (c.pass-rest.ensures.same _ (subst I (sym c.index-rests-i.is) is))
+    let I : Track → Type 0 = λ u. IsRestOf c.args.from u.layout c.read_track.new.left.rest in
+    rests_set c.args.from ts c.rows.passes k t c.read_track.new.left (omega (arith, c.rows.invariant.within, c.rows-test.true)) c.rows.invariant.rests
+    (subst I (sym (get_or_from_slice_get ts k t t c.track_at-track.ensures)) c.read_track.ensures.rest)
+
+pub returns-in-Err-clause-compared : goal.returns-in-Err-clause-compared
+returns-in-Err-clause-compared g c = λ told.
+    let kept = c.rows.invariant.kept in
+    let still : IsTrue (g.S.Store.tells c.rows.store) = subst (λ (b : Bool). IsTrue b) (sym kept.same_tells) told in
+    compared_set (g.S.Store.reads c.args.store.now) c.rows.passes (c.rows.i - 1) c.read_track.new.left
+    (subst (λ (f : Files). IsCompared f c.read_track.new.left.last) kept.same_reads (c.read_track.ensures.compared still)) (c.rows.invariant.compared told)
 
 pub returns-in-Err-clause-damaged : goal.returns-in-Err-clause-damaged
 returns-in-Err-clause-damaged g c = λ told.
@@ -110,11 +121,14 @@ rows-preserved g c =
     let rows : (k + 1) * len ≤ length ts * len = mul-le-mul_right len (omega (arith, below)) in
     let fits : k * len + len ≤ length c.rows.cells = omega (arith, rows, c.rows.auto.cells, c.requires.room) in
     let size : length (take (k * len + len - k * len) (drop (k * len) c.rows.cells)) ≡ len = omega (arith, length-take (k * len + len - k * len) (drop (k * len) c.rows.cells), length-drop (k * len) c.rows.cells, fits) in
-    let is = rests_at c.args.from ts c.rows.rests k t c.index-rests-i.result below inv.rests in
-    let I : Rest → Type 0 = λ r. IsRestOf c.args.from (get_or ts k t).layout r in
+    let I : Track → Type 0 = λ u. IsRestOf c.args.from u.layout c.read_track.new.left.rest in
     record {
       within = omega (arith, below);
-      rests = rests_set c.args.from ts c.rows.rests k t c.pass-rest.result below inv.rests (c.pass-rest.ensures.same _ (subst I (sym c.index-rests-i.is) is));
+      rests = rests_set c.args.from ts c.rows.passes k t c.read_track.new.left below inv.rests (subst I (sym (get_or_from_slice_get ts k t t c.track_at-track.ensures)) c.read_track.ensures.rest);
+      compared = λ told.
+          let still : IsTrue (g.S.Store.tells c.rows.store) = subst (λ (b : Bool). IsTrue b) (sym inv.kept.same_tells) told in
+          compared_set files c.rows.passes k c.read_track.new.left
+          (subst (λ (f : Files). IsCompared f c.read_track.new.left.last) inv.kept.same_reads (c.read_track.ensures.compared still)) (inv.compared told);
       kept = kept_turn inv.kept c.read_track.ensures.kept;
       count = c.in_default.ensures.faults ∙ inv.count;
       stored = λ told.

@@ -11,8 +11,8 @@ use Rattle.cell_view.specs.Stored.{stored_of}
 use Rattle.wav_pcm.specs.Wavs.{wav_head}
 use Rattle.pcm_base.specs.Recordings.{frame_bytes}
 use Rattle.sound_export.specs.Written.{MayBegin}
-use Rattle.mix_view.specs.Voices.{mix_length_of}
-use Rattle.mix_view.proofs.VoiceLaws.{stored_whole}
+use Rattle.mix_view.specs.Tracks.{mix_length_of}
+use Rattle.mix_view.proofs.TrackLaws.{stored_whole}
 use Rattle.sound_export.proofs.GrowLaws.{begun_more, begun_front, length_mix, whole_text, device_fits, no_damage}
 use Rattle.sound_export.proofs.export.write_mix.Goals as goal
 

@@ -1,5 +1,5 @@
 -- One stretch more is appended.
-use Rattle.std.proofs.Common.{◌≡◌, ℕ, ◌++◌, Bool, List, take, drop, Some, refl, sym, ap, subst, ◌∙◌, arith, append-nil}
+use Rattle.std.proofs.Common.{◌≡◌, ℕ, ◌++◌, Bool, List, length, take, drop, min, ◌-◌, Some, refl, sym, ap, subst, ◌∙◌, arith, append-nil}
 use Rattle.std.specs.Prelude.{IsTrue}
 use Rattle.std.proofs.lemmas.List.{take_all}
 use Rattle.disk_model.specs.Disk.{Files}
@@ -9,20 +9,29 @@ use Rattle.pcm_base.specs.Mix.{mix_of}
 use Rattle.edit_ports.specs.Sounds.{sound_bytes, MayHaveGrown}
 use Rattle.project_state.specs.Kept.{meant}
 use Rattle.cell_view.specs.Stored.{stored_of}
-use Rattle.mix_view.specs.Voices.{stored_mix}
+use Rattle.project_state.specs.declared.track.Track.{Track}
+use Rattle.mix_view.specs.Readers.{HasCompared}
+use Rattle.mix_view.specs.Tracks.{mix_length_of, stored_mix}
 use Rattle.pcm_base.specs.Recordings.{frame_bytes}
 use Rattle.sound_export.proofs.GrowLaws.{held_more, held_failed, length_mix}
 use Rattle.sound_export.proofs.stretch.append_mix.Goals as goal
 
 pub stretches-init : goal.stretches-init
 stretches-init g c = record {
-  within = omega arith;
+  within = omega (arith, c.new-reader.ensures.place);
+  reader = c.new-reader.ensures.reader;
+  point = c.new-reader.ensures.point;
+  compared = λ told. c.new-reader.ensures.compared (g.S.Store.reads c.args.store.now);
   tells = refl;
   others = λ told other differs. refl;
   kept = kept_none _ (g.met.S.Store.may_fewer _);
   count = refl;
   faults = refl;
-  held = λ told mine. c.requires.there told ∙ ap Some (sym (append-nil (sound_bytes (g.V.Vault.holds c.args.vault.now c.args.name.now))));
+  held = λ told mine.
+      let none : take 0 (stored_mix (g.S.Store.reads c.args.store.now) c.args.point.now) ≡ take c.new-reader.result.at (stored_mix (g.S.Store.reads c.args.store.now) c.args.point.now) =
+      ap (λ (n : ℕ). take n (stored_mix (g.S.Store.reads c.args.store.now) c.args.point.now)) (sym c.new-reader.ensures.place) in
+      c.requires.there told ∙ ap Some (sym (append-nil (sound_bytes (g.V.Vault.holds c.args.vault.now c.args.name.now))))
+      ∙ ap (λ (fs : List Frame). Some (sound_bytes (g.V.Vault.holds c.args.vault.now c.args.name.now) ++ frame_bytes fs)) none;
 }
 
 pub stretches-preserved : goal.stretches-preserved
@@ -30,21 +39,30 @@ stretches-preserved g c =
     let inv = c.stretches.invariant in
     let name = c.args.name.now in
     let ts = c.args.point.now in
-    let at = c.stretches.at in
-    let n = c.in-Ok.count in
+    let at = c.stretches.reader.at in
+    let n = c.in_default.field-0 in
     let files : Files = g.S.Store.reads c.args.store.now in
     let T : Bool → Type 0 = λ b. IsTrue b in
+    let left : n ≡ min (length c.stretches.frames) (mix_length_of ts - at) =
+    c.in_default.ensures.count ∙ ap (λ (us : List Track). min (length c.stretches.frames) (mix_length_of us - at)) inv.point in
     record {
-      within = omega (arith, inv.within, c.in-Ok.ensures.count, c.requires.len);
+      within = omega (arith, inv.within, left, c.in_default.ensures.place, c.requires.len);
+      reader = c.append_stretch.ensures.reader;
+      point = c.append_stretch.ensures.point ∙ inv.point;
+      compared = λ mine.
+          subst (λ (f : Files). HasCompared f c.append_stretch.new.reader) inv.kept.same_reads (c.append_stretch.ensures.compared (subst T (sym inv.kept.same_tells) mine));
       tells = c.append_stretch.ensures.tells ∙ inv.tells;
       others = λ told other differs. c.append_stretch.ensures.others (subst T (sym inv.tells) told) other differs ∙ inv.others told other differs;
       kept = kept_turn inv.kept c.append_stretch.ensures.kept;
-      count = c.in-Ok.ensures.faults.0 ∙ inv.count;
-      faults = c.in-Ok.ensures.faults.1 ∙ inv.faults;
+      count = c.in_default.ensures.faults.0 ∙ inv.count;
+      faults = c.in_default.ensures.faults.1 ∙ inv.faults;
       held = λ told mine.
-          let P : Files → Type 0 = λ f. g.V.Vault.holds c.append_stretch.new.vault name ≡ Some (sound_bytes (g.V.Vault.holds c.stretches.vault name) ++ frame_bytes (take n (drop at (stored_mix f ts)))) in
-          held_more (g.V.Vault.holds c.args.vault.now name) (g.V.Vault.holds c.stretches.vault name) (g.V.Vault.holds c.append_stretch.new.vault name) at n (stored_mix files ts) (inv.held told mine)
-          (subst P inv.kept.same_reads (c.in-Ok.ensures.appended (subst T (sym inv.tells) told) (subst T (sym inv.kept.same_tells) mine)));
+          let P : Files → List Track → Type 0 = λ f us. g.V.Vault.holds c.append_stretch.new.vault name ≡ Some (sound_bytes (g.V.Vault.holds c.stretches.vault name) ++ frame_bytes (take n (drop at (stored_mix f us)))) in
+          let got = subst (λ (f : Files). P f c.stretches.reader.point.now) inv.kept.same_reads (c.in_default.ensures.appended (subst T (sym inv.tells) told) (subst T (sym inv.kept.same_tells) mine)) in
+          let Q : ℕ → Type 0 = λ k. g.V.Vault.holds c.append_stretch.new.vault name ≡ Some (sound_bytes (g.V.Vault.holds c.args.vault.now name) ++ frame_bytes (take k (stored_mix files ts))) in
+          subst Q (sym c.in_default.ensures.place)
+          (held_more (g.V.Vault.holds c.args.vault.now name) (g.V.Vault.holds c.stretches.vault name) (g.V.Vault.holds c.append_stretch.new.vault name) at n (stored_mix files ts) (inv.held told mine)
+          (subst (P files) inv.point got));
     }
 
 pub returns-in-Err-clause-failed : goal.returns-in-Err-clause-failed
@@ -52,11 +70,12 @@ returns-in-Err-clause-failed g c = λ told mine.
     let inv = c.stretches.invariant in
     let name = c.args.name.now in
     let ts = c.args.point.now in
-    let at = c.stretches.at in
+    let at = c.stretches.reader.at in
     let files : Files = g.S.Store.reads c.args.store.now in
     let T : Bool → Type 0 = λ b. IsTrue b in
-    let P : Files → Type 0 = λ f. (n : ℕ) × MayHaveGrown (frame_bytes (take n (drop at (stored_mix f ts)))) (g.V.Vault.holds c.stretches.vault name) (g.V.Vault.holds c.append_stretch.new.vault name) in
-    let grown = subst P inv.kept.same_reads (c.in-Err.ensures.failed (subst T (sym inv.tells) told) (subst T (sym inv.kept.same_tells) mine)) in
+    let P : Files → List Track → Type 0 = λ f us. (n : ℕ) × MayHaveGrown (frame_bytes (take n (drop at (stored_mix f us)))) (g.V.Vault.holds c.stretches.vault name) (g.V.Vault.holds c.append_stretch.new.vault name) in
+    let got = subst (λ (f : Files). P f c.stretches.reader.point.now) inv.kept.same_reads (c.in-Err.ensures.failed (subst T (sym inv.tells) told) (subst T (sym inv.kept.same_tells) mine)) in
+    let grown = subst (P files) inv.point got in
     held_failed (g.V.Vault.holds c.args.vault.now name) (g.V.Vault.holds c.stretches.vault name) (g.V.Vault.holds c.append_stretch.new.vault name) at grown.0 (stored_mix files ts) (inv.held told mine) grown.1
 
 pub returns-clause-appended : goal.returns-clause-appended
@@ -64,5 +83,5 @@ returns-clause-appended g c = λ told mine.
     let inv = c.stretches.invariant in
     let src = stored_of (g.S.Store.reads c.args.store.now) in
     let mix : List Frame = mix_of (meant src c.args.point.now) in
-    let all : take c.stretches.at mix ≡ mix = take_all c.stretches.at mix (omega (arith, length_mix (meant src c.args.point.now), c.requires.mix src)) in
+    let all : take c.stretches.reader.at mix ≡ mix = take_all c.stretches.reader.at mix (omega (arith, length_mix (meant src c.args.point.now), c.requires.mix src)) in
     inv.held told mine ∙ ap (λ (fs : List Frame). Some (sound_bytes (g.V.Vault.holds c.args.vault.now c.args.name.now) ++ frame_bytes fs)) all

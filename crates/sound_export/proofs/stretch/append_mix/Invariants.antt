@@ -4,21 +4,25 @@ use Rattle.std.specs.Prelude.{IsTrue}
 use Rattle.disk_model.specs.Frames.{Kept}
 use Rattle.pcm_base.specs.Outside.{SameElsewhere}
 use Rattle.edit_ports.specs.Sounds.{sound_bytes}
-use Rattle.mix_view.specs.Voices.{stored_mix}
+use Rattle.mix_view.specs.Readers.{HasCompared, IsReader}
+use Rattle.mix_view.specs.Tracks.{stored_mix}
 use Rattle.pcm_base.specs.Recordings.{frame_bytes}
 use Rattle.sound_export.proofs.stretch.append_mix.Given as goal
 
 abbrev pub invariant-stretches : goal.invariant-stretches
 invariant-stretches g l = record {
-  within : l.at ≤ l.len;
+  within : l.reader.at ≤ l.len;
+  reader : IsReader l.reader;
+  point : l.reader.point.now ≡ l.point;
+  compared : IsTrue (g.S.Store.tells l.fn.store) → HasCompared (g.S.Store.reads l.fn.store) l.reader;
   tells : g.V.Vault.tells l.vault ≡ g.V.Vault.tells l.fn.vault;
   others : IsTrue (g.V.Vault.tells l.fn.vault) → SameElsewhere l.name (g.V.Vault.holds l.fn.vault) (g.V.Vault.holds l.vault);
   kept : Kept g.S.Store l.fn.store l.store;
   count : g.S.Store.read_fault_count l.store ≡ g.S.Store.read_fault_count l.fn.store;
   faults : g.V.Vault.fault_count l.vault ≡ g.V.Vault.fault_count l.fn.vault;
   held : IsTrue (g.V.Vault.tells l.fn.vault) → IsTrue (g.S.Store.tells l.fn.store)
-      → g.V.Vault.holds l.vault l.name ≡ Some (sound_bytes (g.V.Vault.holds l.fn.vault l.name) ++ frame_bytes (take l.at (stored_mix (g.S.Store.reads l.fn.store) l.point)));
+      → g.V.Vault.holds l.vault l.name ≡ Some (sound_bytes (g.V.Vault.holds l.fn.vault l.name) ++ frame_bytes (take l.reader.at (stored_mix (g.S.Store.reads l.fn.store) l.point)));
 }
 
 abbrev pub decreases-stretches : goal.decreases-stretches
-decreases-stretches g l = l.len - l.at
+decreases-stretches g l = l.len - l.reader.at

@@ -7,8 +7,6 @@ use Rattle.pcm_base.specs.Mix.{mix_of}
 use Rattle.clip_track.specs.Clips.{end_of}
 use Rattle.project_state.specs.declared.track.Track.{Track}
 use Rattle.project_state.specs.Kept.{meant}
-use Rattle.cell_view.specs.declared.rest.Rest.{Rest}
-use Rattle.cell_view.specs.Rests.{IsRestOf}
 use Rattle.cell_view.specs.Stored.{stored_of}
 
 -- how many cells are heard of a track
@@ -23,12 +21,6 @@ mix_length_of (t ∷ ts) = max (heard_length t) (mix_length_of ts)
 -- the mix of tracks by what stands in the files of their blocks
 abbrev pub stored_mix : Files → List Track → List Frame
 stored_mix files ts = mix_of (meant (stored_of files) ts)
-
--- the rests of tracks from a place on, one for each, and others behind them
-abbrev pub AreRestsOf : ℕ → List Track → List Rest → Type 0
-AreRestsOf from [] rs = Unit {0}
-AreRestsOf from (t ∷ ts) [] = ⊥
-AreRestsOf from (t ∷ ts) (r ∷ rs) = IsRestOf from t.layout r × AreRestsOf from ts rs
 
 abbrev pub track_gains : List Track → List ℕ
 track_gains ts = map (λ t. t.gain) ts

@@ -5,9 +5,9 @@ use Rattle.pcm_base.specs.Mix.{mix_length}
 use Rattle.project_state.specs.Kept.{meant}
 use Rattle.project_state.specs.declared.track.Track.{Track}
 use Rattle.project_state.proofs.Parts.{drop_some}
-use Rattle.mix_view.specs.Voices.{mix_length_of}
-use Rattle.mix_view.proofs.VoiceLaws.{longest_first}
-use Rattle.mix_view.proofs.voices.mix_len.Goals as goal
+use Rattle.mix_view.specs.Tracks.{mix_length_of}
+use Rattle.mix_view.proofs.TrackLaws.{longest_first}
+use Rattle.mix_view.proofs.tracks.mix_len.Goals as goal
 
 pub rows-init : goal.rows-init
 rows-init c = record { value = omega arith; frames = λ src. omega arith; few = omega arith }

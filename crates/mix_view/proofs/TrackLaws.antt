@@ -1,6 +1,6 @@
 -- Tracks of a point, one after another.
 use Rattle.std.proofs.Common.{◌≡◌, ℕ, zero, suc, ◌≤◌, ◌<◌, Bool, true, false, List, [], ◌∷◌, ◌++◌, length, take, drop, max, get_or, refl, sym, ap, ap₂, subst, ◌∙◌, arith}
-use Rattle.std.specs.Prelude.{if◌then◌else◌}
+use Rattle.std.specs.Prelude.{if◌then◌else◌, replicate}
 use Rattle.std.proofs.lemmas.List.{length-take}
 use borrow.Rule.Slice.PartMut.{put_mid}
 use lib.ListN.{set}
@@ -16,9 +16,8 @@ use Rattle.clip_track.specs.Clips.{layout_cells}
 use Rattle.clip_track.specs.Clips.{layout_blocks}
 use Rattle.project_state.specs.declared.track.Track.{Track}
 use Rattle.project_state.specs.Kept.{meant, point_blocks}
-use Rattle.block_store.specs.Reads.{IsFaultIn}
+use Rattle.block_store.specs.Reads.{IsCompared, IsFaultIn}
 use Rattle.sample_block.specs.Sources.{sources_of, AllNamed, AllWhole}
-use Rattle.cell_view.specs.declared.rest.Rest.{Rest}
 use Rattle.cell_view.specs.Rests.{IsRestOf}
 use Rattle.cell_view.specs.Stored.{stored_of}
 use Rattle.cell_view.proofs.PartLists.{take_front, drop_front}
@@ -26,7 +25,9 @@ use Rattle.cell_view.proofs.RestLaws.{rest_later}
 use Rattle.cell_view.proofs.SeenLaws.{fault_later, whole_front, whole_back, named_back}
 use Rattle.cell_view.proofs.StoredLaws.{stored_cells}
 use Rattle.mixdown.specs.Stretches.{IsStretch, AreStretches, gains_of, sides_of}
-use Rattle.mix_view.specs.Voices.{stored_mix, AreRestsOf, track_gains, track_sides}
+use Rattle.mix_view.specs.declared.passes.TrackPass.{TrackPass}
+use Rattle.mix_view.specs.Readers.{AreCompared, AreRestsOf}
+use Rattle.mix_view.specs.Tracks.{stored_mix, track_gains, track_sides}
 
 -- facts of the tracks that are left
 pub named_drop : (i : ℕ) (ts : List Track) → AllNamed (point_blocks ts) → AllNamed (point_blocks (drop i ts))
@@ -39,23 +40,38 @@ fault_drop files why zero ts is = is
 fault_drop files why (suc i) [] is = is
 fault_drop files why (suc i) (t ∷ ts) is = fault_later files (layout_blocks t.layout) (point_blocks ts) why (fault_drop files why i ts is)
 
--- the rest of one of the tracks
-pub rests_at : (from : ℕ) (ts : List Track) (rs : List Rest) (i : ℕ) (d : Track) (e : Rest) → i < length ts → AreRestsOf from ts rs → IsRestOf from (get_or ts i d).layout (get_or rs i e)
-rests_at from [] rs i d e lt are = absurd (omega (arith, lt))
+-- what is left of one of the tracks
+pub rests_at : (from : ℕ) (ts : List Track) (ps : List TrackPass) (i : ℕ) (d : Track) (e : TrackPass) → i < length ts → AreRestsOf from ts ps → IsRestOf from (get_or ts i d).layout (get_or ps i e).rest
+rests_at from [] ps i d e lt are = absurd (omega (arith, lt))
 rests_at from (t ∷ ts) [] i d e lt are = absurd are
-rests_at from (t ∷ ts) (r ∷ rs) zero d e lt are = are.0
-rests_at from (t ∷ ts) (r ∷ rs) (suc i) d e lt are = rests_at from ts rs i d e (omega (arith, lt)) are.1
+rests_at from (t ∷ ts) (p ∷ ps) zero d e lt are = are.0
+rests_at from (t ∷ ts) (p ∷ ps) (suc i) d e lt are = rests_at from ts ps i d e (omega (arith, lt)) are.1
 
-pub rests_set : (from : ℕ) (ts : List Track) (rs : List Rest) (i : ℕ) (d : Track) (r' : Rest) → i < length ts → AreRestsOf from ts rs → IsRestOf from (get_or ts i d).layout r' → AreRestsOf from ts (set rs i r')
-rests_set from [] rs i d r' lt are is = absurd (omega (arith, lt))
-rests_set from (t ∷ ts) [] i d r' lt are is = absurd are
-rests_set from (t ∷ ts) (r ∷ rs) zero d r' lt are is = (is, are.1)
-rests_set from (t ∷ ts) (r ∷ rs) (suc i) d r' lt are is = (are.0, rests_set from ts rs i d r' (omega (arith, lt)) are.1 is)
+pub rests_set : (from : ℕ) (ts : List Track) (ps : List TrackPass) (i : ℕ) (d : Track) (p' : TrackPass) → i < length ts → AreRestsOf from ts ps → IsRestOf from (get_or ts i d).layout p'.rest → AreRestsOf from ts (set ps i p')
+rests_set from [] ps i d p' lt are is = absurd (omega (arith, lt))
+rests_set from (t ∷ ts) [] i d p' lt are is = absurd are
+rests_set from (t ∷ ts) (p ∷ ps) zero d p' lt are is = (is, are.1)
+rests_set from (t ∷ ts) (p ∷ ps) (suc i) d p' lt are is = (are.0, rests_set from ts ps i d p' (omega (arith, lt)) are.1 is)
 
-pub rests_later : (from to : ℕ) (ts : List Track) (rs : List Rest) → from ≤ to → AreRestsOf from ts rs → AreRestsOf to ts rs
-rests_later from to [] rs le are = tt
+pub rests_later : (from to : ℕ) (ts : List Track) (ps : List TrackPass) → from ≤ to → AreRestsOf from ts ps → AreRestsOf to ts ps
+rests_later from to [] ps le are = tt
 rests_later from to (t ∷ ts) [] le are = absurd are
-rests_later from to (t ∷ ts) (r ∷ rs) le are = (rest_later from to t.layout r le are.0, rests_later from to ts rs le are.1)
+rests_later from to (t ∷ ts) (p ∷ ps) le are = (rest_later from to t.layout p.rest le are.0, rests_later from to ts ps le are.1)
+
+-- the block whose header was compared last of one of the tracks
+pub compared_at : (files : Files) (ps : List TrackPass) (i : ℕ) (e : TrackPass) → i < length ps → AreCompared files ps → IsCompared files (get_or ps i e).last
+compared_at files [] i e lt are = absurd (omega (arith, lt))
+compared_at files (p ∷ ps) zero e lt are = are.0
+compared_at files (p ∷ ps) (suc i) e lt are = compared_at files ps i e (omega (arith, lt)) are.1
+
+pub compared_set : (files : Files) (ps : List TrackPass) (i : ℕ) (p' : TrackPass) → IsCompared files p'.last → AreCompared files ps → AreCompared files (set ps i p')
+compared_set files [] i p' is are = are
+compared_set files (p ∷ ps) zero p' is are = (is, are.1)
+compared_set files (p ∷ ps) (suc i) p' is are = (are.0, compared_set files ps i p' is are.1)
+
+pub none_compared : (files : Files) (n : ℕ) (p : TrackPass) → IsCompared files p.last → AreCompared files (replicate n p)
+none_compared files zero p is = tt
+none_compared files (suc n) p is = (is, none_compared files n p is)
 
 -- a stretch is put before those of the tracks behind
 pub stretch_put : (from len a k : ℕ) (xs ys : List Cell) (t : cells.Track) (ts : cells.Project) → a ≤ length xs → length ys ≡ len → k ≡ len → IsStretch from len t ys

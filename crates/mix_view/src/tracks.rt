@@ -3,13 +3,11 @@ ghost use Rattle.std.specs.Prelude.{◌≡◌, ◌≤◌, ◌^◌, length, take,
 ghost use Rattle.clip_track.specs.Clips.{layout_cells};
 ghost use Rattle.pcm_base.specs.Mix.{mix_length};
 ghost use Rattle.pcm_base.specs.Pieces.{Sources};
-ghost use Rattle.project_state.specs.Kept.{meant, point_blocks};
-ghost use Rattle.sample_block.specs.Sources.{AllNamed};
-ghost use Rattle.mix_view.specs.Voices.{heard_length, mix_length_of, AreRestsOf, track_gains, track_sides};
+ghost use Rattle.project_state.specs.Kept.{meant};
+ghost use Rattle.mix_view.specs.Tracks.{heard_length, mix_length_of, track_gains, track_sides};
 
-use cell_view::{Rest, rest_at};
 use pcm_base::Side;
-use project_state::{Point, Track};
+use project_state::{MAX_TRACKS, Point, Track};
 
 /// How many cells are heard of a track.
 fn heard_len(track: &Track) -> u64
@@ -34,35 +32,24 @@ pub fn mix_len(point: &Point) -> u64
     len
 }
 
-/// The tracks' gains into the front of `out`.
-pub(crate) fn put_gains(point: &Point, out: &mut [u32])
-    requires room { length point.now ≤ length out.old }
-    ensures { take (length point.now) out.new ≡ track_gains point.now }
+/// The tracks' gains, and others behind them.
+pub(crate) fn gains_of(point: &Point) -> [u32; MAX_TRACKS]
+    ensures { take (length point.now) result ≡ track_gains point.now }
 {
+    let mut out = [0; MAX_TRACKS];
     'rows: for i in 0..point.len() {
         out[i] = point.track_at(i).gain;
     }
+    out
 }
 
-/// The sides on which they are heard into the front of `out`.
-pub(crate) fn put_sides(point: &Point, out: &mut [Side])
-    requires room { length point.now ≤ length out.old }
-    ensures { take (length point.now) out.new ≡ track_sides point.now }
+/// The sides on which they are heard, and others behind them.
+pub(crate) fn sides_of(point: &Point) -> [Side; MAX_TRACKS]
+    ensures { take (length point.now) result ≡ track_sides point.now }
 {
+    let mut out = [Side::Both; MAX_TRACKS];
     'rows: for i in 0..point.len() {
         out[i] = point.track_at(i).side;
     }
-}
-
-/// What is left of the tracks from a place on into the front of `out`.
-pub(crate) fn put_rests<'a>(point: &'a Point, from: u64, out: &mut [Rest<'a>])
-    requires room { length point.now ≤ length out.old }
-    requires named { AllNamed (point_blocks point.now) }
-    ensures { AreRestsOf from point.now out.new }
-{
-    let mut i = point.len();
-    'rows: while 0 < i {
-        i -= 1;
-        out[i] = rest_at(&point.track_at(i).layout, from);
-    }
+    out
 }

@@ -1,0 +1,74 @@
+// A pass over one track, a stretch at a time.
+ghost use Rattle.std.specs.Prelude.{◌<◌, ◌+◌, ◌^◌, length, IsTrue, OnOk, IfErr};
+ghost use Rattle.disk_model.specs.Disk.{Files};
+ghost use Rattle.disk_model.specs.Frames.{Kept};
+ghost use Rattle.block_store.specs.Reads.{Counted, IsCompared, IsFaultIn};
+ghost use Rattle.clip_track.specs.Clips.{layout_blocks};
+ghost use Rattle.project_state.specs.Kept.{meant_track, point_blocks};
+ghost use Rattle.sample_block.specs.Sources.{AllNamed};
+ghost use Rattle.cell_view.specs.Rests.{IsRestOf};
+ghost use Rattle.cell_view.specs.Stored.{stored_of};
+ghost use Rattle.mixdown.specs.Stretches.{IsStretch};
+ghost use Rattle.mix_view.specs.Readers.{AreCompared, AreRestsOf};
+
+use block_store::BlockFault;
+use cell_view::{TrackRest, fill_gaps, no_rest, pass, read_ahead, rest_at};
+use disk_model::Store;
+use pcm_base::{BlockRef, Cell};
+use project_state::{MAX_TRACKS, Point, Track};
+
+/// What is left of a track, and the block whose header was compared last, if there was one.
+#[derive(Clone, Copy)]
+pub(crate) struct TrackPass<'a> {
+    pub(crate) rest: TrackRest<'a>,
+    pub(crate) last: Option<BlockRef>,
+}
+
+/// Passes over the tracks from a place on, and others behind them. No header was compared yet.
+pub(crate) fn passes_from<'a>(point: &'a Point, from: u64) -> [TrackPass<'a>; MAX_TRACKS]
+    requires { AllNamed (point_blocks point.now) }
+    ensures rests { AreRestsOf from point.now result }
+    ensures compared { (files : Files) → AreCompared files result }
+{
+    let none = TrackPass {
+        rest: no_rest(),
+        last: None,
+    };
+    let mut out = [none; MAX_TRACKS];
+    let mut i = point.len();
+    'rows: while 0 < i {
+        i -= 1;
+        let rest = rest_at(&point.track_at(i).layout, from);
+        out[i] = TrackPass { rest, last: None };
+    }
+    out
+}
+
+/// Reads the cells that are heard of a track from a place on: gaps, where it is muted.
+pub(crate) fn read_track<'a, S: Store>(
+    store: &mut S,
+    left: &mut TrackPass<'a>,
+    track: &Track,
+    from: u64,
+    out: &mut [Cell],
+) -> Result<(), BlockFault>
+    requires rest { IsRestOf from track.now.layout left.old.rest }
+    requires compared { IsTrue (S.tells store.old) → IsCompared (S.reads store.old) left.old.last }
+    requires few { from + length out.old < 2 ^ 64 }
+    ensures rest { IsRestOf from track.now.layout left.new.rest }
+    ensures compared { IsTrue (S.tells store.old) → IsCompared (S.reads store.old) left.new.last }
+    ensures stored { IsTrue (S.tells store.old) → OnOk result
+        (IsStretch from (length out.old) (meant_track (stored_of (S.reads store.old)) track.now) out.new) }
+    ensures damaged { IsTrue (S.tells store.old)
+        → IfErr result (λ e. IsFaultIn (S.reads store.old) (layout_blocks track.now.layout) e) }
+    ensures kept { Kept S.Store store.old store.new }
+    ensures faults { Counted result (S.read_fault_count store.old) (S.read_fault_count store.new) }
+{
+    if track.mute {
+        fill_gaps(out);
+        return Ok(());
+    }
+    let rest = pass(left.rest, from);
+    left.rest = rest;
+    read_ahead(store, &mut left.last, &track.layout, &rest, from, out)
+}

@@ -1,0 +1,96 @@
+// A reader of a mix, which lasts over several calls.
+ghost use Rattle.std.specs.Prelude.{◌≡◌, ◌≤◌, ◌<◌, ◌+◌, ◌-◌, ◌^◌, length, take, drop, min, IsTrue, IsOkUnless, IfOk, IfErr};
+ghost use Rattle.block_store.specs.declared.fault.BlockFault.TheVariants as fault;
+ghost use Rattle.disk_model.specs.Disk.{Files};
+ghost use Rattle.disk_model.specs.Frames.{Kept};
+ghost use Rattle.block_store.specs.Reads.{Counted, IsFaultIn};
+ghost use Rattle.pcm_base.specs.Mix.{mix_of};
+ghost use Rattle.project_state.specs.Kept.{meant, point_blocks};
+ghost use Rattle.sample_block.specs.Sources.{sources_of, AllNamed, AllWhole};
+ghost use Rattle.mix_view.specs.Readers.{HasCompared, IsReader};
+ghost use Rattle.mix_view.specs.Tracks.{mix_length_of, stored_mix};
+
+use super::frames::mix_stretches;
+use super::passes::{TrackPass, passes_from};
+use super::tracks::{gains_of, mix_len, sides_of};
+use block_store::BlockFault;
+use disk_model::Store;
+use pcm_base::{Cell, Frame, Side};
+use project_state::{MAX_TRACKS, Point};
+
+/// A pass over the mix of a project's tracks, from a place on. It lasts over several reads, each of which goes on where
+/// the one before ended, so that no clip or block is passed twice, and the header of a block is read once.
+#[derive(Drop)]
+pub struct MixReader<'a> {
+    /// The project.
+    pub point: &'a Point,
+    /// Where the next frame stands.
+    pub at: u64,
+    /// Of each track, at its place in the project.
+    pub(crate) gains: [u32; MAX_TRACKS],
+    pub(crate) sides: [Side; MAX_TRACKS],
+    pub(crate) passes: [TrackPass<'a>; MAX_TRACKS],
+}
+
+impl<'a> MixReader<'a> {
+    /// A reader that stands at a place. It reads nothing yet, and takes no memory.
+    pub fn new(point: &'a Point, from: u64) -> MixReader<'a>
+        requires named { AllNamed (point_blocks point.now) }
+        ensures reader { IsReader result }
+        ensures point { result.point.now ≡ point.now }
+        ensures place { result.at ≡ from }
+        // No header was compared yet, on any disk.
+        ensures compared { (files : Files) → HasCompared files result }
+    {
+        MixReader {
+            point,
+            at: from,
+            gains: gains_of(point),
+            sides: sides_of(point),
+            passes: passes_from(point, from),
+        }
+    }
+
+    /// Reads the next frames of the mix, as many as are left and as `out` has room for, and answers how many. A buffer is
+    /// handed in, of at least one cell for each track that a project may have: the more cells it has, the longer are the
+    /// stretches that are read of each track. The disk has not changed since the reader was made. It takes no memory.
+    /// After an error `out` may have been written in part, and the reader may have gone on over a part of the frames.
+    pub fn read<S: Store>(
+        &mut self,
+        store: &mut S,
+        cells: &mut [Cell],
+        out: &mut [Frame],
+    ) -> Result<usize, BlockFault>
+        requires reader { IsReader self.old }
+        requires compared { IsTrue (S.tells store.old) → HasCompared (S.reads store.old) self.old }
+        requires room { 64 ≤ length cells.old }
+        requires few { self.old.at + length out.old < 2 ^ 64 }
+        ensures count { IfOk result (λ n. n ≡ min (length out.old) (mix_length_of self.old.point.now - self.old.at)) }
+        ensures place { IfOk result (λ n. self.new.at ≡ self.old.at + n) }
+        // It goes on behind them, over the same tracks, and after an error too.
+        ensures reader { IsReader self.new }
+        ensures point { self.new.point.now ≡ self.old.point.now }
+        ensures later { self.old.at ≤ self.new.at }
+        ensures compared { IsTrue (S.tells store.old) → HasCompared (S.reads store.old) self.new }
+        // They are the mix of what stands in the files of the blocks, and where the disk has all blocks that of the
+        // model.
+        ensures stored { IsTrue (S.tells store.old) → IfOk result (λ n. take n out.new
+            ≡ take n (drop self.old.at (stored_mix (S.reads store.old) self.old.point.now))) }
+        ensures read { IsTrue (S.tells store.old) → AllWhole (S.reads store.old) (point_blocks self.old.point.now)
+            → IfOk result (λ n. take n out.new
+            ≡ take n (drop self.old.at (mix_of (meant (sources_of (S.reads store.old)) self.old.point.now)))) }
+        ensures rest { IfOk result (λ n. drop n out.new ≡ drop n out.old) }
+        // Where the disk has all blocks nothing but the disk refuses; a fault of a file is of one of them.
+        ensures sound { IsTrue (S.tells store.old) → AllWhole (S.reads store.old) (point_blocks self.old.point.now)
+            → IsOkUnless result fault.DiskFault }
+        ensures damaged { IsTrue (S.tells store.old)
+            → IfErr result (λ e. IsFaultIn (S.reads store.old) (point_blocks self.old.point.now) e) }
+        ensures kept { Kept S.Store store.old store.new }
+        ensures faults { Counted result (S.read_fault_count store.old) (S.read_fault_count store.new) }
+    {
+        let left = mix_len(self.point).saturating_sub(self.at);
+        let count = (out.len() as u64).min(left) as usize;
+        mix_stretches(store, self, cells, &mut out[..count])?;
+        Ok(count)
+    }
+}
