@@ -3,7 +3,7 @@ ghost use Rattle.editor_core.specs.Core.{core_of};
 ghost use Rattle.editor_core.specs.Studios.{IsStudio};
 
 use super::tests::{disk, new_studio};
-use disk_model::Store;
+use disk_model::{RamStore, Store};
 use editor_core::*;
 use pcm_base::Refusal;
 use std::alloc::Global;
@@ -226,6 +226,48 @@ fn a_change_that_fails_stops_the_studio(rt: HostRuntime) -> Result<(), Fail> {
         let mut studio = new_studio(alloc, disk(alloc, &[*call])?, 3)?;
         tells(&rt, alloc, &mut studio, &STOPPED);
         assert_eq!(rt; studio.commit_number(), 1);
+    }
+    Ok(())
+}
+
+// Nine samples are three blocks, of the ids 16 to 18: the calls 14 to 16 write them, 17 to 19 sync them, and 20 begins
+// the record. Where such a call fails, how many of the blocks are there as the disk reads, and how many a stop leaves
+// that keeps what was synced alone.
+const BLOCK_CALLS: [(u64, u64, u64); 7] = [
+    (14, 0, 0),
+    (15, 1, 0),
+    (16, 2, 0),
+    (17, 3, 0),
+    (18, 3, 1),
+    (19, 3, 2),
+    (20, 3, 3),
+];
+
+fn block_files(store: &mut RamStore) -> [bool; 3] {
+    [
+        matches!(store.size(16), Ok(Some(_))),
+        matches!(store.size(17), Ok(Some(_))),
+        matches!(store.size(18), Ok(Some(_))),
+    ]
+}
+
+// The first so many of three.
+fn first_of_three(count: u64) -> [bool; 3] {
+    [count > 0, count > 1, count > 2]
+}
+
+#[test]
+fn all_blocks_are_written_before_the_first_sync(rt: HostRuntime) -> Result<(), Fail> {
+    let alloc = rt.alloc();
+    for (call, there, synced) in &BLOCK_CALLS {
+        let mut studio = new_studio(alloc, disk(alloc, &[*call])?, 3)?;
+        assert_eq!(rt; studio.track(alloc), Ok(1));
+        let put = studio.put(alloc, 1, 0, &[1, -2, 3, -4, 5, -6, 7, -8, 9]);
+        assert_eq!(rt; put, Err(Refusal::DiskFault));
+        let mut store = studio.into_store();
+        assert!(rt; block_files(&mut store) == first_of_three(*there));
+        let mut left = store.image(alloc, 1).ok().ok_or("no memory")?;
+        assert!(rt; block_files(&mut left) == first_of_three(*synced));
     }
     Ok(())
 }

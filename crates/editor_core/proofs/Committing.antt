@@ -17,10 +17,14 @@ use Rattle.project_state.specs.declared.track.Track.{Track}
 use Rattle.project_state.specs.Spelling.{spelling}
 use Rattle.editor_core.specs.Adding.{Adds, Exceeds, stopped_by}
 use Rattle.editor_core.specs.Core.{Core}
+use Rattle.editor_core.specs.Left.{MayRemove}
 use Rattle.editor_core.specs.Studios.{IsHeld, IsStudio, named_blocks, studio_by, studio_of}
 use Rattle.editor_core.specs.Took.{Took}
 use Rattle.editor_core.proofs.Flights.{IsCommit, IsTested, flight, number_left, whole_still}
+use Rattle.editor_core.proofs.Grown.{stopped_studio}
 use Rattle.editor_core.proofs.Lists.{all_left}
+use Rattle.editor_core.proofs.Leaving.{left_stopped}
+use Rattle.editor_core.proofs.Others.{NoneGoes, others_record}
 use Rattle.editor_core.proofs.Premises.{TookWhere, took_so}
 use Rattle.editor_core.proofs.Sounds.{sources_elsewhere}
 use Rattle.editor_core.proofs.Spaces.{exceeded}
@@ -36,21 +40,6 @@ module _ {D : Type 0} {Has : Type 0} {disk : Ghosts D} {s : Core D} {made : List
   module _ {Q : Type 0} (mid : Core D) (adds : Adds {R = Q} disk s (spelling body) (Err refusal.DiskFault) mid) where
     abbrev pub after : Core D
     after = stopped_by disk s mid.store
-
-    failed_studio : IsStudio disk after
-    failed_studio = record {
-      format = t.is.format;
-      counters = t.is.counters;
-      few_points = t.is.few_points;
-      few_clips = t.is.few_clips;
-      points = t.is.points;
-      pins = t.is.pins;
-      numbers = t.is.numbers;
-      clipboard = t.is.clipboard;
-      ids = t.is.ids;
-      counted = t.is.counted;
-      given = t.is.given;
-    }
 
     failed_held : Has → IsHeld disk after
     failed_held has = record {
@@ -73,9 +62,9 @@ module _ {D : Type 0} {Has : Type 0} {disk : Ghosts D} {s : Core D} {made : List
         let none : s.next_block ≡ s.next_block + 0 = omega arith in
         λ i. record (studio_by (src i) disk after) { next_block = none i }
 
-    pub failed : TookWhere Has disk s c sound (Err refusal.DiskFault) 0 after
+    pub failed : TookWhere Has disk s c sound (Err refusal.DiskFault) after
     failed = record {
-      studio = failed_studio;
+      studio = stopped_studio disk s t.is mid.store;
       held = failed_held;
       step = λ has. inr (record {
         breaks = record {
@@ -105,7 +94,7 @@ module _ {D : Type 0} {Has : Type 0} {disk : Ghosts D} {s : Core D} {made : List
       len = len;
       needs = λ has. (0, t.move.needs has);
       changed =
-          changed_wider (λ d x w. tt) (record_within s.block_size (s.next_block - s.next_block) len 0) adds.changed;
+          changed_wider (others_record s.next_block s.next_block NoneGoes) (record_within s.block_size (s.next_block - s.next_block) len 0) adds.changed;
     }
 
 -- ---- of a studio that the disk holds
@@ -153,5 +142,6 @@ module _ {D : Type 0} (disk : Ghosts D) (s : Core D) (made : List BlockRef) (c :
       (unfit why fewer (adds.fields.1, adds.fields.2, adds.fields.3))
   fails refusal.DiskFault mid fewer adds =
       subst (λ (z : Core D). Took disk s c sound (Err refusal.DiskFault) 0 z) (sym adds.fields.0)
-      (took_so disk s c sound (Err refusal.DiskFault) 0 (after tested mid adds) (failed tested mid adds))
+      (took_so disk s c sound (Err refusal.DiskFault) (after tested mid adds) (failed tested mid adds)
+      (inr (refl, adds.fields.2, refl)) (left_stopped disk s (MayRemove c s.counts) mid.store adds.fields.2))
   fails why mid fewer adds = absurd adds.fields

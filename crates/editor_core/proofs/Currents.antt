@@ -1,5 +1,5 @@
 -- The point at the cursor, and its tracks.
-use Rattle.std.proofs.Common.{◌≡◌, ⊎_elim, refl, sym, ap, ◌∙◌, ℕ, zero, suc, ◌^◌, ◌≤◌, if◌then◌else◌, List, [], ◌∷◌, map, drop, slice_get, subst, None, Some, arith}
+use Rattle.std.proofs.Common.{◌≡◌, ⊎_elim, refl, sym, ap, ◌∙◌, ℕ, zero, suc, ◌^◌, ◌≤◌, if◌then◌else◌, List, [], ◌∷◌, map, drop, slice_get, subst, None, Some, Contains, arith}
 use Rattle.std.proofs.lemmas.Bool.{eq-eqb, ne_eqb}
 use Rattle.std.proofs.lemmas.Bool.Decides.{eqb_tells}
 use Rattle.std.proofs.lemmas.List.Elements.{All-from_recursion, recursion_from_All}
@@ -18,9 +18,11 @@ use Rattle.project_state.specs.KeptSound.{IsSoundPoint, IsSoundTagged}
 use Rattle.project_state.specs.Tracks.{track_of}
 use Rattle.project_state.proofs.KeptBounds.{IsBlockRef, sound_blocks}
 use Rattle.editor_core.specs.Core.{Core}
+use Rattle.editor_core.specs.Edits.{AreAmong}
 use Rattle.editor_core.specs.Points.{first_tracks, current_tracks, lacks}
 use Rattle.editor_core.specs.Reads.{HasLayout}
-use Rattle.editor_core.specs.Studios.{IsHeld, IsStudio}
+use Rattle.editor_core.specs.Studios.{IsHeld, IsStudio, named_blocks}
+use Rattle.editor_core.proofs.Contained.{among_itself}
 use Rattle.editor_core.proofs.Editing.{current_sound, old_names}
 use Rattle.editor_core.proofs.Tracks.{layout_of, sound_of}
 
@@ -77,6 +79,9 @@ module _ {D : Type 0} (disk : Ghosts D) (s : Core D) (is : IsStudio disk s) wher
   pub current_whole : IsHeld disk s → AllWhole (disk.reads s.store) (point_blocks ts)
   current_whole held = old_names disk s is (IsWhole (disk.reads s.store)) held.whole
 
+  pub current_named : AreAmong (named_blocks s) (point_blocks ts)
+  current_named = old_names disk s is (Contains (named_blocks s)) (among_itself (named_blocks s))
+
   -- ---- one track of the current project
   module _ (id : ℕ) (layout : List Clip) (has : HasLayout id ts layout) where
     pub track_there : lacks id (track_of id ts) ≡ None
@@ -90,6 +95,11 @@ module _ {D : Type 0} (disk : Ghosts D) (s : Core D) (is : IsStudio disk s) wher
     layout_whole held =
         subst (λ (z : List Clip). AllWhole (disk.reads s.store) (layout_blocks z)) (sym has.is)
         (layout_of (IsWhole (disk.reads s.store)) id ts has.track has.found (current_whole held))
+
+    pub layout_named : AreAmong (named_blocks s) (layout_blocks layout)
+    layout_named =
+        subst (λ (z : List Clip). AreAmong (named_blocks s) (layout_blocks z)) (sym has.is)
+        (layout_of (Contains (named_blocks s)) id ts has.track has.found current_named)
 
     pub layout_sound : IsLayout layout
     layout_sound =

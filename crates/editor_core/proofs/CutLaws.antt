@@ -166,13 +166,13 @@ there_of id ts rest (Some t) found none = (t, found)
 pub cut_call : (e : CutEdit) (id n from to : ℕ) → IsEditCall (Line (cut_line e id n from to)) silent 0 (λ m st. blocks_of_tracks n)
 cut_call Close id n from to = record {
   commit = record { one = refl; no_pin = refl; tracks_is = λ rate. refl; stops = λ o. refl; changes = refl; leaves = λ t. refl; heard = λ rate s. refl; quiet = refl; done = λ rate s. refl };
-  needs = λ out t blocks len h. h;
-  needed = λ out t blocks len h. h;
+  needs = λ rate t blocks len h. h;
+  needed = λ rate t blocks len h. h;
 }
 cut_call Leave id n from to = record {
   commit = record { one = refl; no_pin = refl; tracks_is = λ rate. refl; stops = λ o. refl; changes = refl; leaves = λ t. refl; heard = λ rate s. refl; quiet = refl; done = λ rate s. refl };
-  needs = λ out t blocks len h. h;
-  needed = λ out t blocks len h. h;
+  needs = λ rate t blocks len h. h;
+  needed = λ rate t blocks len h. h;
 }
 
 -- the own tests of both lines
@@ -218,7 +218,7 @@ module _ {D : Type 0} (disk : Ghosts D) (s : Core D) (is : IsStudio disk s) (e :
       let call = cut_call e id n from to in
       let own = own_is (samples_on (disk.reads s.store)) in
       let first : ((stop_of s.stopped) otherwise (call_tests (outside t silent) t.state line)) ≡ Some why = (λ i. (stop_of s.stopped) otherwise (own i)) ∙ h in
-      refuses disk s line silent why is fewer refl 0 0 (λ held. call.needs (outside t silent) t 0 0 (omega arith, omega arith))
+      refuses disk s line silent why is fewer refl 0 0 (λ held. call.needs t.rate t 0 0 (omega arith, omega arith))
       (early t line silent 0 call.commit 0 0 why first)
 
   pub cut_stopped : (faults : ℕ) → s.stopped ≡ Some faults → Took disk s line silent (Err (refusal.Stopped faults)) 0 s
@@ -229,7 +229,7 @@ module _ {D : Type 0} (disk : Ghosts D) (s : Core D) (is : IsStudio disk s) (e :
       (λ own. early_refused why ((λ i. (stop_of (going i)) otherwise (cut_refusal id n from to old)) ∙ own))
       (λ memory.
       subst (λ (r : Refusal). Took disk s line silent (Err r) 0 s) (sym memory)
-      (wants disk s line silent is fewer refl 0 (λ held. (0, (cut_call e id n from to).needs (outside t silent) t 0 0 (omega arith, omega arith)))))
+      (wants disk s line silent is fewer refl 0 (λ held. (0, (cut_call e id n from to).needs t.rate t 0 0 (omega arith, omega arith)))))
       not
 
   -- ---- the plan

@@ -39,7 +39,7 @@ use Rattle.project_state.proofs.KeptBounds.{all_append, tagged_more}
 use Rattle.editor_core.specs.Core.{Core}
 use Rattle.editor_core.specs.Edits.{IsEdit, IsPlanned, alone, beside, blocks_with}
 use Rattle.editor_core.specs.Made.{PiecesThere}
-use Rattle.editor_core.specs.Makes.{Making}
+use Rattle.editor_core.specs.Makes.{AreSynced, Making}
 use Rattle.editor_core.specs.Occurrences.{HasAll, HasIds, times_named}
 use Rattle.editor_core.specs.Studios.{IsGiven, IsHeld, IsStudio, clip_blocks, named_blocks, pin_blocks, studio_by, studio_of}
 use Rattle.editor_core.proofs.Bounds.{few_more}
@@ -140,6 +140,28 @@ module _ {D : Type 0} (disk : Ghosts D) (s : Core D) (is : IsStudio disk s) (goi
         few_more disk mid mid_is point track_then
         (subst (λ (z : Core D). IsSoundPoint z.block_size z.next_block track_then point) (sym making.is) plan.sound)
 
+  -- ---- where it leads
+
+  abbrev Holds : (BlockRef → Type 0) → Type 0
+  Holds P = AllByRecursion P (named_blocks s ++ made)
+
+  pub covers_then : (P : BlockRef → Type 0) → Holds P → AllByRecursion P (history_blocks edit_history)
+  covers_then P all =
+      let old = all_left P (history_blocks s.history) (pin_blocks s.pins ++ clip_blocks s.clipboard) (all_left P (named_blocks s) made all) in
+      blocks_recorded s.history point tag P old (among_all P (blocks_with s makes) (point_blocks point) plan.names all)
+
+  pub clip_covers_then : (P : BlockRef → Type 0) → Holds P → AllByRecursion P (clip_blocks clip)
+  clip_covers_then P all = among_all P (blocks_with s makes) (clip_blocks clip) plan.clip_names all
+
+  pub points_then : AllByRecursion (IsSoundTagged s.block_size (s.next_block + n) track_then (s.commit_number + 1)) edit_history.points
+  points_then =
+      let Here : List Track × ℕ → Type 0 = IsSoundTagged s.block_size (s.next_block + n) track_then (s.commit_number + 1) in
+      let Was : List Track × ℕ → Type 0 = IsSoundTagged s.block_size s.next_block s.next_track s.commit_number in
+      let old = all_so Was Here
+      (λ q h. tagged_more s.block_size s.next_block s.next_track s.commit_number (s.next_block + n) track_then (s.commit_number + 1) q (omega arith) (omega arith) (omega arith) h) s.history.points is.points in
+      let tags = all_so Was (λ (q : List Track × ℕ). q.1 ≤ s.commit_number) (λ q h. h.1) s.history.points is.points in
+      all_recorded s.history point tag Here old (plan.sound, omega (arith, plan.tag_given)) (plan.sound, omega (arith, tag_here s.commit_number s.history tags))
+
   -- ---- what it means
 
   module _ (c : Call) (sound : SoundMove) (edit : IsEdit disk s c sound tracks given makes edit_history clip) where
@@ -175,7 +197,7 @@ module _ {D : Type 0} (disk : Ghosts D) (s : Core D) (is : IsStudio disk s) (goi
         subst (λ (u : model.Studio). len ≤ project_body_most s.block_size (project_then u)) same (short_by new written)
 
     pub edit_needs : (k : ℕ) → k ≤ n → Needs (outside t sound) t c k len
-    edit_needs k le = edit.call.needs (outside t sound) t k len (omega (arith, le, edit.few (samples_on (disk.reads s.store))), short)
+    edit_needs k le = edit.call.needs t.rate t k len (omega (arith, le, edit.few (samples_on (disk.reads s.store))), short)
 
     pub edit_own : call_tests (outside t sound) t.state c ≡ None
     edit_own = edit.own (samples_on (disk.reads s.store))
@@ -193,22 +215,13 @@ module _ {D : Type 0} (disk : Ghosts D) (s : Core D) (is : IsStudio disk s) (goi
         pub grown_held : IsHeld disk s → IsHeld disk grown
         grown_held = made_held disk s is given makes n grown making going (omega arith) plan.new most pieces_there
 
-        pub grown_made : HasMade (IsHeld disk s) disk grown made
+        pub grown_made : AreSynced disk s.next_block n store → HasMade (IsHeld disk s) disk grown made
         grown_made = has_made disk s is given makes going plan.new most pieces_there c sound grown making
 
         written : IsHeld disk s → AreWritten (beside (samples_on (disk.reads store)) (brought given)) makes
         written held =
             let first = (are_made disk s is given makes n grown making going (omega arith) plan.new most pieces_there held).written in
             subst (AreWritten (beside (samples_on (disk.reads store)) (brought given))) (take_all n makes (omega arith)) first
-
-        points_then : AllByRecursion (IsSoundTagged s.block_size (s.next_block + n) track_then (s.commit_number + 1)) edit_history.points
-        points_then =
-            let Here : List Track × ℕ → Type 0 = IsSoundTagged s.block_size (s.next_block + n) track_then (s.commit_number + 1) in
-            let Was : List Track × ℕ → Type 0 = IsSoundTagged s.block_size s.next_block s.next_track s.commit_number in
-            let old = all_so Was Here
-            (λ q h. tagged_more s.block_size s.next_block s.next_track s.commit_number (s.next_block + n) track_then (s.commit_number + 1) q (omega arith) (omega arith) (omega arith) h) s.history.points is.points in
-            let tags = all_so Was (λ (q : List Track × ℕ). q.1 ≤ s.commit_number) (λ q h. h.1) s.history.points is.points in
-            all_recorded s.history point tag Here old (plan.sound, omega (arith, plan.tag_given)) (plan.sound, omega (arith, tag_here s.commit_number s.history tags))
 
         next_then : (m : ℕ) (k : Kept) → Matches grown m k → IsNext m k (spelling edit_body) edit_body
         next_then m k e = record {
@@ -237,10 +250,8 @@ module _ {D : Type 0} (disk : Ghosts D) (s : Core D) (is : IsStudio disk s) (goi
           block_most = λ k le. omega arith;
           next = next_then;
           leads = λ m k e. λ i. record { history = recorded (e.history i) point tag; next_block = s.next_block + n; next_track = track_then; commit = k.commit + 1 };
-          covers = λ P all.
-              let old = all_left P (history_blocks s.history) (pin_blocks s.pins ++ clip_blocks s.clipboard) (all_left P (named_blocks s) made all) in
-              blocks_recorded s.history point tag P old (among_all P (blocks_with s makes) (point_blocks point) plan.names all);
-          clip_covers = λ P all. among_all P (blocks_with s makes) (clip_blocks clip) plan.clip_names all;
+          covers = covers_then;
+          clip_covers = clip_covers_then;
           clip_few = plan.clip_few;
           clip_fits = plan.clip_fits;
           points = points_then;
@@ -248,7 +259,7 @@ module _ {D : Type 0} (disk : Ghosts D) (s : Core D) (is : IsStudio disk s) (goi
           few = recorded_few s.history point tag;
           model = λ held. edit.means (samples_on (disk.reads store)) (written held);
           needs = λ held.
-              edit.call.needs (outside (studio_of disk grown) sound) (studio_of disk grown) 0 len
+              edit.call.needs (studio_of disk grown).rate (studio_of disk grown) 0 len
               (omega arith, short_by (samples_on (disk.reads store)) (written held));
         }
 

@@ -1,5 +1,5 @@
 -- An edit that makes blocks, as one step.
-use Rattle.std.proofs.Common.{◌≡◌, ◌↔◌, inr, ⊎_elim, refl, sym, ap, ◌∙◌, subst, ℕ, ◌+◌, ◌≤◌, IsSome, Option, None, List, ◌++◌, length, Result, Ok, Err, IfErr, arith}
+use Rattle.std.proofs.Common.{◌≡◌, ◌↔◌, inl, inr, ⊎_elim, refl, sym, ap, ◌∙◌, subst, ℕ, ◌+◌, ◌≤◌, IsSome, Option, None, List, ◌++◌, length, Result, Ok, Err, IfErr, arith}
 use Rattle.pcm_base.specs.declared.answer.Reply.{Reply}
 use Rattle.pcm_base.specs.declared.answer.Reply.TheVariants.{Done}
 use Rattle.pcm_base.specs.declared.command.Call.{Call}
@@ -25,7 +25,8 @@ use Rattle.project_state.specs.Spelling.{spelling}
 use Rattle.editor_core.specs.Adding.{Adds, IsNoWant, stopped_by}
 use Rattle.editor_core.specs.Core.{Core}
 use Rattle.editor_core.specs.Edits.{Carried, Committed, IsEdit, IsPlanned, IsPrepared, NotPrepared}
-use Rattle.editor_core.specs.Makes.{Making}
+use Rattle.editor_core.specs.Left.{Left, MayRemove, Stops}
+use Rattle.editor_core.specs.Makes.{AreSynced, Making}
 use Rattle.editor_core.specs.Studios.{IsHeld, IsStudio, clip_blocks, ids_of, pin_blocks, studio_of}
 use Rattle.editor_core.specs.Took.{Took}
 use Rattle.editor_core.proofs.Committing.{failed, failed_state}
@@ -33,6 +34,7 @@ use Rattle.editor_core.proofs.EditLaws.{edit_needs, edit_own, grown_held, grown_
 use Rattle.editor_core.proofs.Flights.{IsCommit, IsTested}
 use Rattle.editor_core.proofs.Growing.{grown_state, grows}
 use Rattle.editor_core.proofs.MadeCommits.{composed, not_made}
+use Rattle.editor_core.proofs.MadeLeft.{all_failed, all_left}
 use Rattle.editor_core.proofs.MadeStudios.{made_state, refs}
 use Rattle.editor_core.proofs.Premises.{TookWhere}
 use Rattle.editor_core.proofs.Spaces.{counter_spent, exceeded, nothing}
@@ -84,7 +86,7 @@ module _ {D : Type 0} (disk : Ghosts D) (s : Core D) (is : IsStudio disk s) (goi
 
   module _ (prepared : IsPrepared s n tracks (length body)) (store : D) (counts : Counts)
       (making : Making disk s given n makes (record s { store = store; counts = counts; next_block = s.next_block + n }))
-      (reads : disk.read_fault_count store ≡ disk.read_fault_count s.store) where
+      (reads : disk.read_fault_count store ≡ disk.read_fault_count s.store) (synced : AreSynced disk s.next_block n store) where
     abbrev mid : Core D
     mid = record s { store = store; counts = counts; next_block = s.next_block + n }
 
@@ -92,7 +94,7 @@ module _ {D : Type 0} (disk : Ghosts D) (s : Core D) (is : IsStudio disk s) (goi
     mid_is = grown_is disk s is going given makes tag tracks point clip plan c sound edit store counts making prepared.blocks prepared.ids
 
     mid_made : HasMade (IsHeld disk s) disk mid (refs makes)
-    mid_made = grown_made disk s is going given makes tag tracks point clip plan c sound edit store counts making prepared.blocks prepared.ids
+    mid_made = grown_made disk s is going given makes tag tracks point clip plan c sound edit store counts making prepared.blocks prepared.ids synced
 
     mid_move : IsCommit (IsHeld disk s) disk mid (refs makes) c sound tracks told_body h clip track_then
     mid_move = move disk s is going given makes tag tracks point clip plan c sound edit store counts making prepared.blocks prepared.ids
@@ -122,8 +124,8 @@ module _ {D : Type 0} (disk : Ghosts D) (s : Core D) (is : IsStudio disk s) (goi
     back : IsHeld disk s → (blocks len : ℕ) → Needs (outside (studio_of disk mid) sound) (studio_of disk mid) c blocks len → Needs (outside t sound) t c blocks len
     back held blocks len needs =
         let most = edit.most in
-        let at = edit.call.needed (outside (studio_of disk mid) sound) (studio_of disk mid) blocks len needs in
-        edit.call.needs (outside t sound) t blocks len
+        let at = edit.call.needed (studio_of disk mid).rate (studio_of disk mid) blocks len needs in
+        edit.call.needs t.rate t blocks len
         (subst (λ (u : model.Studio). EditNeeds (most u.block_size u.state) (outside u sound) u c blocks len) (mid_state held) at)
 
     passes : refusal_of (outside t sound) t c n (length body) ≡ None
@@ -143,16 +145,18 @@ module _ {D : Type 0} (disk : Ghosts D) (s : Core D) (is : IsStudio disk s) (goi
     }
 
     -- the call from the studio that has the blocks is the call from the start
-    from_start : (told_as : Result Reply Refusal) (new : Core D) → TookWhere (IsHeld disk s) disk mid c sound told_as 0 new
-        → new.next_block ≡ mid.next_block → (IsHeld disk s → Answers t c sound told_as (studio_of disk new)) → Took disk s c sound told_as 0 new
-    from_start told_as new took next step =
+    from_start : (told_as : Result Reply Refusal) (new : Core D) → TookWhere (IsHeld disk s) disk mid c sound told_as new
+        → new.next_block ≡ mid.next_block → (IsHeld disk s → Answers t c sound told_as (studio_of disk new)) → Stops disk s told_as new
+        → IfErr told_as (Left disk s (MayRemove c s.counts) new) → Took disk s c sound told_as 0 new
+    from_start told_as new took next step stops left =
         composed disk s is given makes going plan.new prepared.blocks (pieces_there disk s is going given makes tag tracks point clip plan) c sound mid making
-        told_as new took next back (λ held. (length body, carried_out)) step
+        told_as new took next back (λ held. (length body, carried_out)) step stops left
 
     -- the record was not added
     edit_failed : (new : Core D) → Adds {R = Unit {0}} disk mid body (Err refusal.DiskFault) new → Took disk s c sound (Err refusal.DiskFault) 0 new
     edit_failed new adds =
         let commit = edit.call.commit in
+        let failed_change = all_failed disk s given makes prepared.blocks c store counts making new.store adds.fields.2 in
         let here : Core D = stopped_by disk mid new.store in
         let none : s.next_block + n + 0 ≡ s.next_block + n = omega arith in
         let state = λ (held : IsHeld disk s).
@@ -178,12 +182,12 @@ module _ {D : Type 0} (disk : Ghosts D) (s : Core D) (is : IsStudio disk s) (goi
             commit.changes,
             record {
               stopped = refl;
-              rose = omega (arith, adds.fields.2.rose, making.change_faults);
-              later = omega (arith, adds.fields.2.later, making.change_faults);
+              rose = failed_change.rose;
+              later = failed_change.later;
               reads = adds.read_faults ∙ reads;
             },
           );
-        })))
+        })) (inr (refl, failed_change, refl)) (all_left disk s given makes prepared.blocks c store counts making new.store adds.fields.2))
 
     -- it was
     module _ {Q : Type 0} (q : Q) (new : Core D) (adds : Adds disk mid body (Ok q) new) (h' : History (List Track)) (counts' : Counts) (next_track : ℕ)
@@ -201,7 +205,7 @@ module _ {D : Type 0} (disk : Ghosts D) (s : Core D) (is : IsStudio disk s) (goi
         next_track = next_track;
       }
 
-      done_took : TookWhere (IsHeld disk s) disk mid c sound (Ok Done) 0 done
+      done_took : TookWhere (IsHeld disk s) disk mid c sound (Ok Done) done
       done_took = grows mid_tested q new adds h' counts' next_track moved tracked counted files
 
       done_state : IsHeld disk s → studio_of disk done ≡ followed (outside t sound) t c n (length body)
@@ -225,7 +229,7 @@ module _ {D : Type 0} (disk : Ghosts D) (s : Core D) (is : IsStudio disk s) (goi
             answers = edit.call.commit.done t.rate t.state;
             is = done_state held;
             heard = edit.call.commit.heard t.rate t.state;
-          }))
+          }) (inl (refl, adds.fields.2 ∙ making.change_faults)) tt)
 
   -- ---- all of it
 
@@ -240,12 +244,12 @@ module _ {D : Type 0} (disk : Ghosts D) (s : Core D) (is : IsStudio disk s) (goi
       (⊎_elim
       (λ some.
       not_made disk s is given makes going plan.new some.0.blocks (pieces_there disk s is going given makes tag tracks point clip plan) c sound
-      (length body) edit.call.commit.changes (edit.call.commit.leaves t) (λ held. need) why new some.1)
+      (length body) edit.call.commit.changes (edit.call.commit.leaves t) (λ held. need) plan.origin why new some.1)
       (λ last.
       let it = last.1 in
       let adds = subst (λ (e : Refusal). Adds {R = Unit {0}} disk it.mid body (Err e) new) last.0 it.adds in
       subst (λ (e : Refusal). Took disk s c sound (Err e) 0 new) (sym last.0)
-      (edit_failed it.prepared it.mid.store it.mid.counts (made_so it.mid it.making) it.reads new
+      (edit_failed it.prepared it.mid.store it.mid.counts (made_so it.mid it.making) it.reads it.synced new
       (subst (λ (z : Core D). Adds {R = Unit {0}} disk z body (Err refusal.DiskFault) new) it.making.is adds))))
       carried
 
@@ -254,19 +258,19 @@ module _ {D : Type 0} (disk : Ghosts D) (s : Core D) (is : IsStudio disk s) (goi
       → ((id : ℕ) → IsSome (counts' id) ↔ IsSome (it.mid.counts id))
       → Took disk s c sound (Ok Done) 0 (record new { history = h'; clipboard = clip; counts = counts'; next_track = next_track })
   edit_ok done new it h' counts' next_track moved tracked counted files =
-      edit_done it.prepared it.mid.store it.mid.counts (made_so it.mid it.making) it.reads done new
+      edit_done it.prepared it.mid.store it.mid.counts (made_so it.mid it.making) it.reads it.synced done new
       (subst (λ (z : Core D). Adds disk z body (Ok done) new) it.making.is it.adds) h' counts' next_track moved tracked counted files
 
 -- ---- how the code carries it out: after the first block was made nothing but the disk refuses
 
 pub carried_by : {D : Type 0} (disk : Ghosts D) (s mid new : Core D) (given : brings.Given) (makes : List NewBlock) (tracks : ℕ) (body : List ℕ) (result : Result (Unit {0}) Refusal)
-    → Making disk s given (length makes) makes mid → disk.read_fault_count mid.store ≡ disk.read_fault_count s.store → IsPrepared s (length makes) tracks (length body)
-    → Adds disk mid body result new → IfErr result IsNoWant → Carried disk s given makes tracks body result new
-carried_by disk s mid new given makes tracks body (Ok done) making reads prepared adds no_want = record { mid = mid; making = making; reads = reads; prepared = prepared; adds = adds }
-carried_by disk s mid new given makes tracks body (Err refusal.DiskFault) making reads prepared adds no_want =
-    inr (inr (refl, record { mid = mid; making = making; reads = reads; prepared = prepared; adds = adds }))
-carried_by disk s mid new given makes tracks body (Err refusal.NoMemory) making reads prepared adds no_want = absurd no_want
-carried_by disk s mid new given makes tracks body (Err (refusal.SpaceSpent have need)) making reads prepared adds no_want =
+    → Making disk s given (length makes) makes mid → disk.read_fault_count mid.store ≡ disk.read_fault_count s.store → AreSynced disk s.next_block (length makes) mid.store
+    → IsPrepared s (length makes) tracks (length body) → Adds disk mid body result new → IfErr result IsNoWant → Carried disk s given makes tracks body result new
+carried_by disk s mid new given makes tracks body (Ok done) making reads synced prepared adds no_want = record { mid = mid; making = making; reads = reads; synced = synced; prepared = prepared; adds = adds }
+carried_by disk s mid new given makes tracks body (Err refusal.DiskFault) making reads synced prepared adds no_want =
+    inr (inr (refl, record { mid = mid; making = making; reads = reads; synced = synced; prepared = prepared; adds = adds }))
+carried_by disk s mid new given makes tracks body (Err refusal.NoMemory) making reads synced prepared adds no_want = absurd no_want
+carried_by disk s mid new given makes tracks body (Err (refusal.SpaceSpent have need)) making reads synced prepared adds no_want =
     absurd (omega (arith, adds.fields.1, prepared.place, ap (λ (z : Core _). z.journal_end) making.is))
-carried_by disk s mid new given makes tracks body (Err (refusal.RecordLimit n)) making reads prepared adds no_want = absurd (omega (arith, adds.fields.2, prepared.short))
-carried_by disk s mid new given makes tracks body (Err why) making reads prepared adds no_want = absurd adds.fields
+carried_by disk s mid new given makes tracks body (Err (refusal.RecordLimit n)) making reads synced prepared adds no_want = absurd (omega (arith, adds.fields.2, prepared.short))
+carried_by disk s mid new given makes tracks body (Err why) making reads synced prepared adds no_want = absurd adds.fields

@@ -1,5 +1,5 @@
 -- A commit whose record was added: then the studio has another history.
-use Rattle.std.proofs.Common.{◌≡◌, ◌↔◌, sym, ap, ◌∙◌, subst, ℕ, ◌+◌, ◌-◌, ◌^◌, ◌≤◌, ◌<◌, IsTrue, List, ◌∷◌, [], ◌++◌, length, Option, None, IsSome, Ok, arith, if◌then◌else◌, ◌==◌}
+use Rattle.std.proofs.Common.{◌≡◌, ◌↔◌, inl, refl, sym, ap, ◌∙◌, subst, ℕ, ◌+◌, ◌-◌, ◌^◌, ◌≤◌, ◌<◌, IsTrue, List, ◌∷◌, [], ◌++◌, length, Option, None, IsSome, Ok, arith, if◌then◌else◌, ◌==◌}
 use Rattle.std.specs.List.{AllByRecursion}
 use Rattle.pcm_base.specs.declared.answer.Reply.TheVariants.{Done}
 use Rattle.pcm_base.specs.declared.block.BlockRef.{BlockRef}
@@ -15,25 +15,23 @@ use Rattle.pcm_base.specs.Studio as model
 use Rattle.disk_model.specs.declared.store.Store.{Ghosts}
 use Rattle.disk_model.proofs.Frames.{changed_wider}
 use Rattle.sample_block.specs.Sources.{IsWhole}
-use Rattle.block_ledger.specs.Counts.{Counts, IsFreshCount, times}
+use Rattle.block_ledger.specs.Counts.{Counts, IsFreshCount}
 use Rattle.clip_track.specs.declared.items.Item.{Item}
-use Rattle.project_journal.specs.Header.{version_1, IsFormat}
+use Rattle.project_journal.specs.Header.{version_1}
 use Rattle.project_journal.specs.Journal.{IsAt, with_body}
 use Rattle.project_state.specs.declared.body.Body.{Body}
 use Rattle.project_state.specs.declared.track.Track.{Track}
 use Rattle.project_state.specs.Kept.{Kept, new_project, LeadTo, meant_history, history_blocks}
-use Rattle.project_state.specs.KeptSound.{IsSoundPoint, IsSoundTagged}
 use Rattle.project_state.specs.Spelling.{spelling}
-use Rattle.project_state.proofs.KeptBounds.{all_append, tagged_more}
 use Rattle.editor_core.specs.Adding.{Adds}
 use Rattle.editor_core.specs.Core.{Core}
-use Rattle.editor_core.specs.Studios.{IsGiven, IsDurable, IsHeld, IsStudio, clip_blocks, clip_cells, ids_of, named_blocks, pin_blocks, studio_by, studio_of}
+use Rattle.editor_core.specs.Studios.{IsDurable, IsHeld, IsStudio, clip_blocks, clip_cells, ids_of, named_blocks, pin_blocks, studio_by, studio_of}
 use Rattle.editor_core.specs.Took.{Took}
-use Rattle.editor_core.specs.declared.studio.Pin.{Pin}
-use Rattle.editor_core.proofs.Flights.{IsCommit, IsTested, every_ids, flight, images_still, matches, passes, whole_still}
+use Rattle.editor_core.proofs.Flights.{IsCommit, IsTested, flight, images_still, matches, passes, whole_still}
+use Rattle.editor_core.proofs.Grown.{LeadsOn, led_studio, named_led}
 use Rattle.editor_core.proofs.Images.{keeps_now}
 use Rattle.editor_core.proofs.Leading.{lead_more}
-use Rattle.editor_core.proofs.Lists.{all_left, all_right, all_so}
+use Rattle.editor_core.proofs.Others.{NoneGoes, others_record}
 use Rattle.editor_core.proofs.Premises.{TookWhere, took_so}
 use Rattle.editor_core.proofs.Sounds.{sources_elsewhere}
 use Rattle.editor_core.proofs.Staying.{HasMade, record_within, stopped_not}
@@ -54,14 +52,20 @@ module _ {D : Type 0} {Has : Type 0} {disk : Ghosts D} {s : Core D} {made : List
   abbrev rest_then : List BlockRef
   rest_then = pin_blocks s.pins ++ clip_blocks clip
 
-  named_too : (P : BlockRef → Type 0) → AllByRecursion P (named_blocks s ++ made)
-      → AllByRecursion P (history_blocks h ++ rest_then)
-  named_too P all =
-      let pins = pin_blocks s.pins in
-      let rest =
-      all_right P (history_blocks s.history) (pins ++ clip_blocks s.clipboard) (all_left P (named_blocks s) made all) in
-      all_append P (history_blocks h) rest_then (t.move.covers P all)
-      (all_append P pins (clip_blocks clip) (all_left P pins (clip_blocks s.clipboard) rest) (t.move.clip_covers P all))
+  on : LeadsOn s made h clip track_then
+  on = record {
+    given = t.has_made.ids;
+    later = omega (arith, t.move.gives);
+    most = omega (arith, t.move.gives, t.ids);
+    number = t.number;
+    covers = t.move.covers;
+    clip_covers = t.move.clip_covers;
+    clip_few = t.move.clip_few;
+    clip_fits = t.move.clip_fits;
+    points = t.move.points;
+    depth = t.move.depth;
+    few = t.move.few;
+  }
 
   module _ {Q : Type 0} (q : Q) (mid : Core D) (adds : Adds disk s (spelling body) (Ok q) mid)
       (h' : History (List Track)) (counts : Counts) (next_track : ℕ) (moved : h' ≡ h)
@@ -79,11 +83,14 @@ module _ {D : Type 0} {Has : Type 0} {disk : Ghosts D} {s : Core D} {made : List
       next_track = next_track;
     }
 
+    end_then : s.journal_end + 5 + len ≤ 2 ^ 62
+    end_then = omega (arith, adds.fields.1)
+
     grown_named : (P : BlockRef → Type 0) → AllByRecursion P (named_blocks s ++ made)
         → AllByRecursion P (named_blocks grown)
-    grown_named P all =
-        subst (λ (z : History (List Track)). AllByRecursion P (history_blocks z ++ rest_then)) (sym moved)
-        (named_too P all)
+    grown_named =
+        named_led disk s t.is made h clip track_then on mid.store (s.journal_end + 5 + len) end_then h' counts next_track moved
+        tracked counted files
 
     grown_end : mid.journal_end ≡ s.journal_end + 5 + len
     grown_end = ap (λ (z : Core D). z.journal_end) adds.fields.0
@@ -134,48 +141,10 @@ module _ {D : Type 0} {Has : Type 0} {disk : Ghosts D} {s : Core D} {made : List
       durable = λ still. grown_durable has;
     }
 
-    grown_points : AllByRecursion (IsSoundTagged s.block_size s.next_block next_track (s.commit_number + 1)) h'.points
-    grown_points =
-        subst (λ (n : ℕ). AllByRecursion (IsSoundTagged s.block_size s.next_block n (s.commit_number + 1)) h'.points)
-        (sym tracked)
-        (subst
-        (λ (z : History (List Track)). AllByRecursion
-        (IsSoundTagged s.block_size s.next_block track_then (s.commit_number + 1)) z.points)
-        (sym moved) t.move.points)
-
-    -- tracks that pins have were given before
-    pin_later : (p : Pin) → IsSoundPoint s.block_size s.next_block s.next_track p.point
-        → IsSoundPoint s.block_size s.next_block next_track p.point
-    pin_later p sound =
-        (tagged_more s.block_size s.next_block s.next_track 0 s.next_block next_track 0 (p.point, 0) (omega arith)
-        (omega (arith, tracked, t.move.gives)) (omega arith) (sound, omega arith)).0
-
     grown_studio : IsStudio disk grown
-    grown_studio = record {
-      format = subst (λ (n : ℕ). IsFormat s.rate s.block_size n)
-          (sym (ap (λ (z : History (List Track)). z.depth) moved ∙ t.move.depth)) t.is.format;
-      counters = record {
-        block_least = t.is.counters.block_least;
-        block_most = t.is.counters.block_most;
-        track_least = omega (arith, t.is.counters.track_least, tracked, t.move.gives);
-        track_most = omega (arith, tracked, t.move.gives, t.ids);
-        pin_least = t.is.counters.pin_least;
-        pin_most = t.is.counters.pin_most;
-        commit_most = omega (arith, t.number);
-        end_most = omega (arith, adds.fields.1);
-      };
-      few_points = subst (λ (z : History (List Track)). length z.points ≤ z.depth) (sym moved) t.move.few;
-      few_clips = t.move.clip_few;
-      points = grown_points;
-      pins = all_so (λ (p : Pin). IsSoundPoint s.block_size s.next_block s.next_track p.point)
-          (λ (p : Pin). IsSoundPoint s.block_size s.next_block next_track p.point) pin_later s.pins t.is.pins;
-      numbers = t.is.numbers;
-      clipboard = t.move.clip_fits;
-      ids = grown_named (λ (b : BlockRef). IsGiven s.next_block b.id) (every_ids t);
-      counted = λ id.
-          counted id ∙ ap (λ (z : History (List Track)). times id (ids_of (history_blocks z ++ rest_then))) (sym moved);
-      given = λ id some. t.is.given id ((files id).0 some);
-    }
+    grown_studio =
+        led_studio disk s t.is made h clip track_then on mid.store (s.journal_end + 5 + len) end_then h' counts next_track moved
+        tracked counted files
 
     pub grown_state : Has → studio_of disk grown ≡ followed out before c 0 len
     grown_state has =
@@ -198,7 +167,7 @@ module _ {D : Type 0} {Has : Type 0} {disk : Ghosts D} {s : Core D} {made : List
           change_faults = adds.fields.2 i;
         }
 
-    pub grows : TookWhere Has disk s c sound (Ok Done) 0 grown
+    pub grows : TookWhere Has disk s c sound (Ok Done) grown
     grows = record {
       studio = grown_studio;
       held = grown_held;
@@ -219,7 +188,7 @@ module _ {D : Type 0} {Has : Type 0} {disk : Ghosts D} {s : Core D} {made : List
       len = len;
       needs = λ has. (0, t.move.needs has);
       changed =
-          changed_wider (λ d x w. tt) (record_within s.block_size (s.next_block - s.next_block) len 0) adds.changed;
+          changed_wider (others_record s.next_block s.next_block NoneGoes) (record_within s.block_size (s.next_block - s.next_block) len 0) adds.changed;
     }
 
 -- ---- of a studio that the disk holds
@@ -255,5 +224,5 @@ module _ {D : Type 0} (disk : Ghosts D) (s : Core D) (made : List BlockRef) (c :
     pub grows_so : Leaves mid
     grows_so =
         subst Leaves (sym adds.fields.0)
-        (took_so disk s c sound (Ok Done) 0 (grown tested q mid adds h' counts next_track moved tracked counted files)
-        (grows tested q mid adds h' counts next_track moved tracked counted files))
+        (took_so disk s c sound (Ok Done) (grown tested q mid adds h' counts next_track moved tracked counted files)
+        (grows tested q mid adds h' counts next_track moved tracked counted files) (inl (refl, adds.fields.2)) tt)

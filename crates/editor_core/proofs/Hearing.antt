@@ -1,5 +1,5 @@
 -- Hearing frames of the mix of the current project, or of a pin.
-use Rattle.std.proofs.Common.{◌≡◌, ⊎_elim, refl, sym, ap, ◌∙◌, ℕ, zero, suc, ◌+◌, ◌-◌, min, List, length, length-drop, take, drop, Some, None, Ok, Err, arith}
+use Rattle.std.proofs.Common.{◌≡◌, ⊎_elim, refl, sym, ap, ◌∙◌, ℕ, zero, suc, ◌+◌, ◌-◌, min, IsTrue, List, length, length-drop, take, drop, Some, None, Ok, Err, arith}
 use Rattle.std.proofs.lemmas.Bool.{cases_lt}
 use Rattle.std.proofs.lemmas.List.{length-map, take_all}
 use Rattle.pcm_base.specs.declared.answer.Reply.TheVariants as reply
@@ -22,21 +22,24 @@ use Rattle.disk_model.specs.declared.store.Store.{Ghosts}
 use Rattle.disk_model.proofs.Frames.{Fewer}
 use Rattle.sample_block.specs.Sources.{sources_of}
 use Rattle.block_store.specs.declared.fault.BlockFault.{BlockFault}
-use Rattle.block_store.specs.Reads.{CountedBy}
+use Rattle.block_store.specs.Reads.{CountedBy, IsFaultIn}
 use Rattle.block_store.specs.Reasons.{reason_of}
-use Rattle.mix_view.specs.Voices.{mix_length_of}
+use Rattle.envelope_view.proofs.AnswerLaws.{reason_damaged}
+use Rattle.mix_view.specs.Tracks.{mix_length_of}
 use Rattle.project_state.specs.declared.track.Track.{Track}
-use Rattle.project_state.specs.Kept.{meant}
+use Rattle.project_state.specs.Kept.{meant, point_blocks}
 use Rattle.editor_core.specs.Core.{Core}
 use Rattle.editor_core.specs.Pins.{LacksPin, MayFind}
 use Rattle.editor_core.specs.Points.{current_tracks}
-use Rattle.editor_core.specs.Studios.{IsHeld, IsStudio, studio_of}
+use Rattle.editor_core.specs.Studios.{IsHeld, IsStudio, named_blocks, studio_of}
 use Rattle.editor_core.specs.Took.{Took, silent}
+use Rattle.editor_core.proofs.Currents.{current_named}
 use Rattle.editor_core.proofs.Editing.{current_meant}
 use Rattle.editor_core.proofs.Looking.{looked_ok, looked_failed}
+use Rattle.editor_core.proofs.NamedDamage.{fault_among}
 use Rattle.editor_core.proofs.Quiet.{IsQuiet, quiet_passes, carried, room_of, refused_own, refused_stopped, stays_answered}
 use Rattle.editor_core.proofs.Spaces.{fits}
-use Rattle.editor_core.proofs.Unpinning.{lacks_own, pin_meant, has_own}
+use Rattle.editor_core.proofs.Unpinning.{lacks_own, pin_meant, pin_named, has_own}
 
 counted_length : (from n : ℕ) → length (counted_from from n) ≡ n
 counted_length from zero = refl
@@ -91,8 +94,11 @@ module _ {D : Type 0} (disk : Ghosts D) (s : Core D) (is : IsStudio disk s) (few
           (ap reply.Frames (heard held ∙ ap (λ (p : Project). part from to (mix_of p)) (sym (current_meant disk s is)))) refl)
 
       pub mix_failed : (why : BlockFault) → CountedBy why (disk.read_fault_count s.store) (disk.read_fault_count store)
+          → (IsTrue (disk.tells s.store) → IsFaultIn (disk.reads s.store) (point_blocks (current_tracks s.history)) why)
           → Took disk s mix silent (Err (reason_of why)) 0 (record s { store = store })
-      mix_failed = looked_failed disk s is store kept mix mix_quiet going refl
+      mix_failed why counted damaged =
+          looked_failed disk s is store kept mix mix_quiet going refl why counted
+          (λ told. reason_damaged (disk.reads s.store) (named_blocks s) why (fault_among (disk.reads s.store) (named_blocks s) (point_blocks (current_tracks s.history)) why (current_named disk s is) (damaged told)))
 
   -- ---- a pin
 
@@ -137,5 +143,8 @@ module _ {D : Type 0} (disk : Ghosts D) (s : Core D) (is : IsStudio disk s) (few
             (λ held. carried t read read_quiet room (reply.Frames frames) t passed (meant src point, pin_meant disk s is pin point found, ap reply.Frames (heard held)) refl)
 
         pub read_failed : (why : BlockFault) → CountedBy why (disk.read_fault_count s.store) (disk.read_fault_count store)
+            → (IsTrue (disk.tells s.store) → IsFaultIn (disk.reads s.store) (point_blocks point) why)
             → Took disk s read silent (Err (reason_of why)) 0 (record s { store = store })
-        read_failed = looked_failed disk s is store kept read read_quiet going refl
+        read_failed why counted damaged =
+            looked_failed disk s is store kept read read_quiet going refl why counted
+            (λ told. reason_damaged (disk.reads s.store) (named_blocks s) why (fault_among (disk.reads s.store) (named_blocks s) (point_blocks point) why (pin_named disk s is pin point found) (damaged told)))

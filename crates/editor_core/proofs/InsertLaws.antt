@@ -25,6 +25,7 @@ use Rattle.piece_store.specs.Bringing.{brought, brought_count}
 use Rattle.piece_store.proofs.BroughtLaws.{ramp_brought, samples_brought}
 use Rattle.editor_core.specs.declared.inserts.Place.{Place}
 use Rattle.editor_core.specs.declared.inserts.Place.TheVariants.{At, End}
+use Rattle.editor_core.specs.Edits.{outside_at}
 use Rattle.editor_core.specs.Inserts.{place_cells, place_edit, place_test}
 use Rattle.editor_core.specs.Took.{silent}
 use Rattle.editor_core.specs.TrackEdits.{IsTrackCall}
@@ -98,8 +99,8 @@ module _ (xs : List ℤ) (given : brings.Given) (is : brought given ≡ (λ i. g
             quiet = refl;
             done = λ rate s. refl;
           };
-          needs = λ out t blocks len h. subst (λ (k : ℕ). EditNeeds (blocks_of_samples t.block_size k) out t line blocks len) count h;
-          needed = λ out t blocks len h. subst (λ (k : ℕ). EditNeeds (blocks_of_samples t.block_size k) out t line blocks len) (sym count) h;
+          needs = λ rate t blocks len h. subst (λ (k : ℕ). EditNeeds (blocks_of_samples t.block_size k) (outside_at rate silent) t line blocks len) count h;
+          needed = λ rate t blocks len h. subst (λ (k : ℕ). EditNeeds (blocks_of_samples t.block_size k) (outside_at rate silent) t line blocks len) (sym count) h;
         };
         own = λ out s. λ i. insert_tests s id at (sym count i);
         after_is = λ out s. λ i. with_project s (edited_at id (inserted at (as_cells (sym same i))) (current s));
@@ -120,8 +121,8 @@ module _ (xs : List ℤ) (given : brings.Given) (is : brought given ≡ (λ i. g
             quiet = refl;
             done = λ rate s. refl;
           };
-          needs = λ out t blocks len h. subst (λ (k : ℕ). EditNeeds (blocks_of_samples t.block_size k) out t piece blocks len) count h;
-          needed = λ out t blocks len h. subst (λ (k : ℕ). EditNeeds (blocks_of_samples t.block_size k) out t piece blocks len) (sym count) h;
+          needs = λ rate t blocks len h. subst (λ (k : ℕ). EditNeeds (blocks_of_samples t.block_size k) (outside_at rate silent) t piece blocks len) count h;
+          needed = λ rate t blocks len h. subst (λ (k : ℕ). EditNeeds (blocks_of_samples t.block_size k) (outside_at rate silent) t piece blocks len) (sym count) h;
         };
         own = λ out s. λ i. piece_tests s id (sym count i);
         after_is = λ out s. λ i. with_piece s id tag (sym same i);
@@ -142,8 +143,8 @@ ramp_call id at count start step =
           quiet = refl;
           done = λ rate s. refl;
         };
-        needs = λ out t blocks len h. h;
-        needed = λ out t blocks len h. h;
+        needs = λ rate t blocks len h. h;
+        needed = λ rate t blocks len h. h;
       };
       own = λ out s. refl;
       after_is = λ out s. λ i. with_project s (edited_at id (inserted at (sym same i)) (current s));

@@ -56,6 +56,7 @@ mod Staying
 mod Premises
 mod Flights
 mod Committing
+mod Grown
 mod Growing
 mod Histories
 mod Moving
@@ -70,3 +71,20 @@ pub mod Fresh
 mod Scanning
 mod Rising
 pub mod Rests
+mod Exporting
+mod Channels
+mod Importing
+mod ImportTests
+mod EventRuns
+mod Viewing
+pub mod Applying
+mod PinReads
+mod PinRefused
+mod ImportRefused
+mod Lasting
+mod ChannelLaws
+mod Leaving
+mod PlainTests
+pub mod Others
+mod NamedDamage
+mod MadeLeft

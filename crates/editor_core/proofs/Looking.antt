@@ -19,10 +19,14 @@ use Rattle.block_store.specs.Reasons.{reason_of}
 use Rattle.project_journal.specs.Gate.{EachNow, EachSince}
 use Rattle.project_journal.proofs.Kept.{is_at_still}
 use Rattle.project_state.specs.Kept.{Keeps}
+use Rattle.envelope_view.specs.Answers.{IsDamagedIn}
 use Rattle.editor_core.specs.Core.{Core}
+use Rattle.editor_core.specs.Left.{IsSoOf, MayRemove}
 use Rattle.editor_core.specs.Studios.{SameBlocks, IsDurable, IsHeld, IsStudio, shown, studio_by, studio_of, named_blocks}
 use Rattle.editor_core.specs.Took.{Took, silent}
 use Rattle.editor_core.proofs.Images.{keeps_now}
+use Rattle.editor_core.proofs.Leaving.{IsPlain, left_read, plain_so}
+use Rattle.editor_core.proofs.Others.{others_none}
 use Rattle.editor_core.proofs.Quiet.{IsQuiet}
 use Rattle.editor_core.proofs.Staying.{stopped_not}
 
@@ -100,12 +104,14 @@ module _ {D : Type 0} (disk : Ghosts D) (s : Core D) (is : IsStudio disk s) (sto
       rests = λ some. absurd (stopped_not s.stopped some going);
       len = 0;
       needs = λ held. (0, quiet.needs t);
-      changed = changed_kept (λ f. tt) kept;
+      changed = changed_kept (others_none s.next_block s.next_block (MayRemove c s.counts)) kept;
+      stops = inl (refl, kept.same_faults);
+      left = tt;
     }
 
-    looked_refused : (why : Refusal) → (IsHeld disk s → Answers t c silent (Err why) (studio_of disk looked))
+    looked_refused : (why : Refusal) → IsSoOf disk s looked why → (IsHeld disk s → Answers t c silent (Err why) (studio_of disk looked))
         → Took disk s c silent (Err why) 0 looked
-    looked_refused why step = record {
+    looked_refused why so step = record {
       studio = looked_studio;
       held = looked_held;
       step = step;
@@ -116,14 +122,18 @@ module _ {D : Type 0} (disk : Ghosts D) (s : Core D) (is : IsStudio disk s) (sto
       rests = λ some. absurd (stopped_not s.stopped some going);
       len = 0;
       needs = λ held. (0, quiet.needs t);
-      changed = changed_kept (λ f. tt) kept;
+      changed = changed_kept (others_none s.next_block s.next_block (MayRemove c s.counts)) kept;
+      stops = inl (refl, kept.same_faults);
+      left = left_read disk s (MayRemove c s.counts) store why so;
     }
 
     -- the disk failed, or a file was not as it has to be, and the studio goes on
-    pub looked_failed : (Leaves t c silent) → (why : BlockFault) → CountedBy why (disk.read_fault_count s.store) (disk.read_fault_count store) → Took disk s c silent (Err (reason_of why)) 0 looked
-    looked_failed leaves fault.DiskFault counted =
+    pub looked_failed : (Leaves t c silent) → (why : BlockFault) → CountedBy why (disk.read_fault_count s.store) (disk.read_fault_count store)
+        → (IsTrue (disk.tells s.store) → IsDamagedIn (disk.reads s.store) (named_blocks s) (reason_of why))
+        → Took disk s c silent (Err (reason_of why)) 0 looked
+    looked_failed leaves fault.DiskFault counted named =
         let same : s.next_block ≡ s.next_block + 0 = omega arith in
-        looked_refused refusal.DiskFault (λ held. inr (record {
+        looked_refused refusal.DiskFault (inl (record { rose = counted.0; later = counted.1 })) (λ held. inr (record {
           breaks = record {
             going = going;
             blocks = 0;
@@ -135,9 +145,9 @@ module _ {D : Type 0} (disk : Ghosts D) (s : Core D) (is : IsStudio disk s) (sto
           };
           cause = inl (record { goes_on = going; rose = counted.0; later = counted.1; changes = kept.same_faults });
         }))
-    looked_failed leaves (fault.Damaged file found) counted =
+    looked_failed leaves (fault.Damaged file found) counted named =
         let same : s.next_block ≡ s.next_block + 0 = omega arith in
-        looked_refused (refusal.Damaged file found.at found.want found.have) (λ held. inr (record {
+        looked_refused (refusal.Damaged file found.at found.want found.have) named (λ held. inr (record {
           breaks = record {
             going = going;
             blocks = 0;
@@ -153,9 +163,9 @@ module _ {D : Type 0} (disk : Ghosts D) (s : Core D) (is : IsStudio disk s) (sto
         }))
 
     -- one of its tests refused it, though the disk was asked
-    pub looked_own : (why : Refusal) → disk.read_fault_count store ≡ disk.read_fault_count s.store
+    pub looked_own : (why : Refusal) → IsPlain why → disk.read_fault_count store ≡ disk.read_fault_count s.store
         → (IsHeld disk s → refusal_of (outside t silent) t c 0 0 ≡ Some why) → Took disk s c silent (Err why) 0 looked
-    looked_own why faults first = looked_refused why (λ held. inl (record {
+    looked_own why plain faults first = looked_refused why (plain_so disk s looked why plain) (λ held. inl (record {
       blocks = 0;
       len = 0;
       needs = quiet.needs t;
@@ -166,4 +176,4 @@ module _ {D : Type 0} (disk : Ghosts D) (s : Core D) (is : IsStudio disk s) (sto
 
     -- there was no memory, before or after a read
     pub looked_wanting : disk.read_fault_count store ≡ disk.read_fault_count s.store → Took disk s c silent (Err refusal.NoMemory) 0 looked
-    looked_wanting faults = looked_refused refusal.NoMemory (λ held. inr (record { same = looked_state ∙ (λ i. record t { read_faults = faults i }); quiet = refl }))
+    looked_wanting faults = looked_refused refusal.NoMemory tt (λ held. inr (record { same = looked_state ∙ (λ i. record t { read_faults = faults i }); quiet = refl }))

@@ -1,5 +1,5 @@
 -- A commit behind blocks that were made for it, and a making that failed.
-use Rattle.std.proofs.Common.{◌≡◌, inl, inr, ⊎_elim, refl, sym, ap, ◌∙◌, subst, ℕ, ◌+◌, ◌-◌, ◌^◌, ◌≤◌, IsTrue, None, List, length, Result, Ok, Err, OnErr, arith}
+use Rattle.std.proofs.Common.{◌≡◌, ◌⊎◌, ◌<◌, inl, inr, ⊎_elim, refl, sym, ap, ◌∙◌, subst, ℕ, ◌+◌, ◌-◌, ◌^◌, ◌≤◌, IsTrue, None, List, length, Result, Ok, Err, IfErr, OnErr, arith}
 use Rattle.std.specs.List.{AllByRecursion}
 use Rattle.std.proofs.lemmas.List.{take_all}
 use Rattle.pcm_base.specs.declared.answer.Reply.{Reply}
@@ -12,30 +12,31 @@ use Rattle.pcm_base.specs.declared.refusal.Refusal.TheVariants as refusal
 use Rattle.pcm_base.specs.Counters.{Needs}
 use Rattle.pcm_base.specs.Run.{Answers, CarriesOut, Leaves, followed, may_change, outside}
 use Rattle.pcm_base.specs.Studio as model
-use Rattle.disk_model.specs.Disk.{Files}
+use Rattle.disk_model.specs.Disk.{Files, StaysStep}
 use Rattle.disk_model.specs.Frames.{Changed}
 use Rattle.disk_model.specs.Room.{together}
 use Rattle.disk_model.specs.declared.store.Store.{Ghosts}
-use Rattle.disk_model.proofs.Frames.{changed_turn, changed_wider}
 use Rattle.disk_model.proofs.Moments.{each_on}
 use Rattle.sample_block.specs.Sources.{IsWhole}
 use Rattle.sample_block.specs.Spelling.{size_of}
 use Rattle.project_journal.specs.Gate.{EachSince}
 use Rattle.project_state.specs.Kept.{Keeps}
 use Rattle.edit_ops.specs.declared.types.NewBlock.{NewBlock}
-use Rattle.edit_ops.specs.Plans.{AreNew, ref_of}
+use Rattle.edit_ops.specs.Plans.{AllNewFrom, AreNew, ref_of}
 use Rattle.piece_store.specs.declared.given.Given.{Given}
+use Rattle.piece_store.specs.Bringing.{brought_count}
 use Rattle.editor_core.specs.Adding.{stopped_by}
 use Rattle.editor_core.specs.Core.{Core}
+use Rattle.editor_core.specs.Left.{IsSoOf, Left, MayRemove, Stops}
 use Rattle.editor_core.specs.Made.{PiecesThere, SameOutside}
-use Rattle.editor_core.specs.Makes.{HasMissed, Making, Stuck, Unput, Unread, made_room}
+use Rattle.editor_core.specs.Makes.{AreSynced, HasMissed, Making, Stuck, Unput, Unread, made_room, one_call}
 use Rattle.editor_core.specs.Studios.{IsGiven, IsHeld, IsStudio, named_blocks, shown, studio_of}
 use Rattle.editor_core.specs.Took.{KeepsOneOf, Took, number_behind}
 use Rattle.editor_core.proofs.Images.{keeps_now}
 use Rattle.editor_core.proofs.Lists.{all_so}
-use Rattle.editor_core.proofs.Makings.{making_unread, making_next, making_size, outside_then}
-use Rattle.editor_core.proofs.MadeRooms.{within_last, within_some, within_then}
-use Rattle.editor_core.proofs.MadeStudios.{IsNewId, are_made, below_same, image_same, keeps_outside, made_held, made_state, made_studio, refs, refs_all, refs_ids, with_held, with_store}
+use Rattle.editor_core.proofs.Makings.{making_unread, making_next}
+use Rattle.editor_core.proofs.MadeLeft.{all_changed, damaged_so, missed_so, some_changed, some_left, some_stop, unput_changed, unput_failed, unput_files, unput_here, unput_is, unput_left}
+use Rattle.editor_core.proofs.MadeStudios.{IsNewId, are_made, below_same, keeps_outside, made_held, made_state, made_studio, refs, refs_all, refs_ids, with_held, with_store}
 use Rattle.editor_core.proofs.Meanings.{same_studio}
 use Rattle.editor_core.proofs.Premises.{TookWhere}
 use Rattle.editor_core.proofs.Staying.{HasMade, some_none, stopped_not}
@@ -63,8 +64,8 @@ module _ {D : Type 0} (disk : Ghosts D) (s : Core D) (is : IsStudio disk s) (giv
         → studio_of disk mid ≡ record t { next_block = s.next_block + n; read_faults = disk.read_fault_count mid.store }
     mid_state = made_state disk s is given makes n mid making going (omega arith) fresh most there
 
-    pub has_made : HasMade (IsHeld disk s) disk mid (refs makes)
-    has_made =
+    pub has_made : AreSynced disk s.next_block n mid.store → HasMade (IsHeld disk s) disk mid (refs makes)
+    has_made synced =
         let next = making_next disk s given makes n mid making in
         let ids = refs_ids s.block_size s.next_block makes fresh in
         let reads = disk.reads mid.store in record {
@@ -75,8 +76,7 @@ module _ {D : Type 0} (disk : Ghosts D) (s : Core D) (is : IsStudio disk s) (giv
               let whole = subst (λ (bs : List NewBlock). AllByRecursion (λ b. IsWhole reads (ref_of b)) bs) (take_all n makes (omega arith)) made.whole in
               refs_all (IsWhole reads) makes whole;
           same = λ held x left.
-              let image = image_same disk s is given makes n mid making going (omega arith) fresh most there held x left in
-              all_so (λ (b : BlockRef). IsNewId s.next_block n b.id) (λ b. x b.id ≡ reads b.id) (λ b h. image b.id h.0 h.1) (refs makes) ids;
+              all_so (λ (b : BlockRef). IsNewId s.next_block n b.id) (λ b. x b.id ≡ reads b.id) (λ b h. synced x left b.id h.0 h.1) (refs makes) ids;
         }
 
     -- what opening finds in between is what it finds before, and the call carried out is the same from both
@@ -96,12 +96,13 @@ module _ {D : Type 0} (disk : Ghosts D) (s : Core D) (is : IsStudio disk s) (giv
         keeps
 
     pub composed : (told_as : Result Reply Refusal) (new : Core D)
-        → TookWhere (IsHeld disk s) disk mid c sound told_as 0 new → new.next_block ≡ mid.next_block
+        → TookWhere (IsHeld disk s) disk mid c sound told_as new → new.next_block ≡ mid.next_block
         → (IsHeld disk s → (blocks len : ℕ) → Needs (outside (studio_of disk mid) sound) (studio_of disk mid) c blocks len
         → Needs (outside t sound) t c blocks len)
         → (IsHeld disk s → (len : ℕ) × CarriesOut t c sound Done (followed (outside t sound) t c n len))
-        → (IsHeld disk s → Answers t c sound told_as (studio_of disk new)) → Took disk s c sound told_as 0 new
-    composed told_as new took next back carried step =
+        → (IsHeld disk s → Answers t c sound told_as (studio_of disk new)) → Stops disk s told_as new
+        → IfErr told_as (Left disk s (MayRemove c s.counts) new) → Took disk s c sound told_as 0 new
+    composed told_as new took next back carried step stops left =
         let images = making.changed.images in
         let at_next = making_next disk s given makes n mid making in
         let number : mid.commit_number ≡ s.commit_number = ap (λ (z : Core D). z.commit_number) making.is in record {
@@ -126,18 +127,18 @@ module _ {D : Type 0} (disk : Ghosts D) (s : Core D) (is : IsStudio disk s) (giv
           rests = λ some. absurd (stopped_not s.stopped some going);
           len = took.len;
           needs = λ held. let need = took.needs held in (need.0, back held need.0 took.len need.1);
-          changed = changed_turn (λ d x w. tt) (λ d e x w v. tt)
-              (within_then s.block_size mid.block_size n took.len (new.next_block - mid.next_block) (new.next_block - s.next_block)
-              (making_size disk s given makes n mid making) (omega (arith, next)) (omega (arith, next, at_next)))
-              making.changed took.changed;
+          changed = all_changed disk s given makes most c took.len mid new making next took.changed;
+          stops = stops;
+          left = left;
         }
 
   -- ---- one is not
 
-  module _ (len : ℕ) (changes : IsTrue (may_change c)) (leaves : Leaves t c sound) (need : IsHeld disk s → (k : ℕ) → k ≤ n → Needs (outside t sound) t c k len) where
-    going_on : (why : Refusal) (k : ℕ) (new : Core D) → Making disk s given k makes new → k ≤ n
+  module _ (len : ℕ) (changes : IsTrue (may_change c)) (leaves : Leaves t c sound) (need : IsHeld disk s → (k : ℕ) → k ≤ n → Needs (outside t sound) t c k len)
+      (origin : AllNewFrom (named_blocks s) (brought_count given) makes) where
+    going_on : (why : Refusal) (k : ℕ) (new : Core D) → Making disk s given k makes new → k ≤ n → IsSoOf disk s new why
         → (IsHeld disk s → Answers t c sound (Err why) (studio_of disk new)) → Took disk s c sound (Err why) 0 new
-    going_on why k new making few step =
+    going_on why k new making few so step =
         let studio = made_studio disk s is given makes k new making going few fresh most there in
         let holds = made_held disk s is given makes k new making going few fresh most there in
         let images = making.changed.images in record {
@@ -151,8 +152,9 @@ module _ {D : Type 0} (disk : Ghosts D) (s : Core D) (is : IsStudio disk s) (giv
           rests = λ some. absurd (stopped_not s.stopped some going);
           len = len;
           needs = λ held. (k, need held k few);
-          changed = changed_wider (λ d x w. tt)
-              (within_some s.block_size k len (new.next_block - s.next_block) (omega (arith, making_next disk s given makes k new making))) making.changed;
+          changed = some_changed disk s given makes most c k len new making few;
+          stops = inl (some_stop disk s given makes most c k new making, making.change_faults);
+          left = some_left disk s given makes most c k new making why so;
         }
 
     -- a read failed, or found a file that is not as it has to be
@@ -181,38 +183,34 @@ module _ {D : Type 0} (disk : Ghosts D) (s : Core D) (is : IsStudio disk s) (giv
           })
 
       unread : HasMissed disk mid.store new.store → Took disk s c sound (Err refusal.DiskFault) 0 new
-      unread missed = going_on refusal.DiskFault k new making few (λ held. inr (record {
-        breaks = record { going = going; blocks = k; len = len; needs = need held k few; room = omega (arith, most, few); is = new_state held; leaves = leaves };
-        cause = inl (record { goes_on = still_going; rose = omega (arith, missed.rose, reads); later = omega (arith, missed.later, reads); changes = making.change_faults });
-      }))
+      unread missed = going_on refusal.DiskFault k new making few
+          (inl (missed_so disk s given makes most c mid.store new.store reads missed)) (λ held. inr (record {
+            breaks = record { going = going; blocks = k; len = len; needs = need held k few; room = omega (arith, most, few); is = new_state held; leaves = leaves };
+            cause = inl (record { goes_on = still_going; rose = omega (arith, missed.rose, reads); later = omega (arith, missed.later, reads); changes = making.change_faults });
+          }))
 
       damaged : (file at want have : ℕ) → disk.read_fault_count new.store ≡ disk.read_fault_count mid.store
+          → IsSoOf disk s new (refusal.Damaged file at want have)
           → Took disk s c sound (Err (refusal.Damaged file at want have)) 0 new
-      damaged file at want have same = going_on (refusal.Damaged file at want have) k new making few (λ held. inr (record {
+      damaged file at want have same so = going_on (refusal.Damaged file at want have) k new making few so (λ held. inr (record {
         breaks = record { going = going; blocks = k; len = len; needs = need held k few; room = omega (arith, most, few); is = new_state held; leaves = leaves };
         stopped = still_going;
         reads = same ∙ reads;
         changes = making.change_faults;
       }))
 
-    -- the disk failed as a block was put
+    -- the disk failed as a block was written or synced
     module _ (k : ℕ) (mid new : Core D) (was : Making disk s given k makes mid) (few : k ≤ n)
+        (left : (k < n) ⊎ Changed disk StaysStep one_call mid.store new.store)
         (reads : disk.read_fault_count mid.store ≡ disk.read_fault_count s.store) (un : Unput disk mid new) where
       abbrev store : D
       store = new.store
 
       abbrev here : Core D
-      here = record s { store = store; counts = mid.counts; next_block = s.next_block + k; stopped = (stopped_by disk s store).stopped }
-
-      at_here : new ≡ here
-      at_here = un.is ∙ (λ i. record (was.is i) { store = store; stopped = (stopped_by disk s store).stopped })
-
-      next : mid.next_block ≡ s.next_block + k
-      next = making_next disk s given makes k mid was
+      here = unput_here disk s given makes most c k mid new was few left un
 
       changed : Changed disk (SameOutside s.next_block (k + 1)) (together (made_room (size_of s.block_size) k) (made_room (size_of mid.block_size) 1)) s.store store
-      changed = changed_turn (λ d x w f apart. w f (⊎_elim (λ low. inl low) (λ high. inr (omega (arith, high))) apart))
-          (λ d e x w v. outside_then s.next_block k mid.next_block d e x next w v) (record { files = omega arith; bytes = omega arith; calls = omega arith }) was.changed un.changed
+      changed = unput_files disk s given makes most c k mid new was few left un
 
       here_studio : IsStudio disk here
       here_studio =
@@ -271,18 +269,20 @@ module _ {D : Type 0} (disk : Ghosts D) (s : Core D) (is : IsStudio disk s) (giv
         rests = λ some. absurd (stopped_not s.stopped some going);
         len = len;
         needs = λ held. (k, need held k few);
-        changed = changed_wider (λ d x w. tt)
-            (within_last s.block_size mid.block_size k len (here.next_block - s.next_block) (making_size disk s given makes k mid was) (omega arith)) changed;
+        changed = unput_changed disk s given makes most c k mid new was few left un len;
+        stops = inr (refl, unput_failed disk s given makes most c k mid new was few left un, refl);
+        left = unput_left disk s given makes most c k mid new was few left un;
       }
 
       unput : Took disk s c sound (Err refusal.DiskFault) 0 new
-      unput = subst (λ (z : Core D). Took disk s c sound (Err refusal.DiskFault) 0 z) (sym at_here) here_took
+      unput = subst (λ (z : Core D). Took disk s c sound (Err refusal.DiskFault) 0 z) (sym (unput_is disk s given makes most c k mid new was few left un)) here_took
 
     pub not_made : (why : Refusal) (new : Core D) → Stuck disk s given makes why new → Took disk s c sound (Err why) 0 new
     not_made refusal.DiskFault new stuck = ⊎_elim
-        (λ un. unread stuck.made stuck.mid new stuck.before (omega (arith, stuck.some_left)) stuck.read_faults un.0 un.1)
-        (λ un. unput stuck.made stuck.mid new stuck.before (omega (arith, stuck.some_left)) stuck.read_faults un)
+        (λ un. unread stuck.made stuck.mid new stuck.before stuck.few stuck.read_faults un.0 un.1)
+        (λ un. unput stuck.made stuck.mid new stuck.before stuck.few stuck.left stuck.read_faults un)
         stuck.by
     not_made (refusal.Damaged file at want have) new stuck =
-        damaged stuck.made stuck.mid new stuck.before (omega (arith, stuck.some_left)) stuck.read_faults stuck.by.0 file at want have stuck.by.1
+        damaged stuck.made stuck.mid new stuck.before stuck.few stuck.read_faults stuck.by.0 file at want have stuck.by.1
+        (damaged_so disk s given makes most c is origin (refusal.Damaged file at want have) new stuck)
     not_made why new stuck = absurd stuck.by

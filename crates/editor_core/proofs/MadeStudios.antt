@@ -20,7 +20,7 @@ use Rattle.project_state.specs.Kept.{Keeps}
 use Rattle.project_state.specs.KeptSound.{IsSoundPoint, IsSoundTagged}
 use Rattle.project_state.proofs.KeptBounds.{tagged_more}
 use Rattle.editor_core.specs.Core.{Core}
-use Rattle.editor_core.specs.Made.{PiecesThere, SameOutside, SameInside, AreAbsent, AreMade}
+use Rattle.editor_core.specs.Made.{PiecesThere, SameOutside, AreAbsent, AreMade}
 use Rattle.editor_core.specs.Makes.{AddsFree, Making}
 use Rattle.editor_core.specs.Studios.{IsGiven, SameBlocks, IsDurable, IsHeld, IsStudio, named_blocks, shown, studio_by, studio_of}
 use Rattle.editor_core.specs.declared.studio.Pin.{Pin}
@@ -176,9 +176,6 @@ module _ {D : Type 0} (disk : Ghosts D) (s : Core D) (is : IsStudio disk s) wher
 
     pub are_made : IsHeld disk s → AreMade (brought given) s.next_block n makes reads now
     are_made held = making.made held.tells (there held) (absent (length makes) going held most)
-
-    pub image_same : IsHeld disk s → EachNow disk mid.store (SameInside s.next_block n now)
-    image_same held = making.same held.tells (there held) (absent (length makes) going held most)
 
     named_same : IsHeld disk s → SameBlocks bs reads now
     named_same held = below_same s.next_block n bs reads now is.ids (are_made held).same

@@ -1,5 +1,5 @@
--- New blocks are made one after another.
-use Rattle.std.proofs.Common.{◌≡◌, ◌≢◌, inl, inr, ⊎_elim, refl, sym, ap, ◌∙◌, subst, ℕ, ◌+◌, ◌*◌, ◌^◌, ◌≤◌, ◌<◌, IsTrue, IsSome, Option, Some, None, List, length, get_or, slice_get, arith}
+-- New blocks are written one after another, and then synced one after another.
+use Rattle.std.proofs.Common.{◌≡◌, ◌≢◌, ◌⊎◌, inl, inr, ⊎_elim, refl, sym, ap, ◌∙◌, subst, ℕ, ◌+◌, ◌*◌, ◌^◌, ◌≤◌, ◌<◌, IsTrue, IsSome, Option, Some, None, Result, Ok, Err, List, [], ◌∷◌, length, Contains, get_or, slice_get, arith}
 use Rattle.std.proofs.lemmas.Option.{slice_get-get_or, same_Some}
 use Rattle.std.proofs.lemmas.Bool.Decides.{eqb_tells}
 use Rattle.std.proofs.lemmas.Bool.{cases_lt}
@@ -11,17 +11,19 @@ use Rattle.disk_model.specs.Disk.{Files, SameElsewhere, StaysStep}
 use Rattle.disk_model.specs.Frames.{Kept, Changed}
 use Rattle.disk_model.specs.Room.{Room, IsWithin, together}
 use Rattle.disk_model.specs.declared.store.Store.{Ghosts}
-use Rattle.disk_model.proofs.Frames.{Fewer, changed_none, changed_kept, changed_turn, changed_then_stays}
+use Rattle.disk_model.proofs.Frames.{Fewer, changed_none, changed_kept, changed_turn, changed_then_stays, changed_wider}
 use Rattle.sample_block.specs.Spelling.{IsBlock, size_of}
 use Rattle.block_ledger.specs.Counts.{Counts, SetsCount, occurrences, one_more, one_less}
+use Rattle.project_journal.specs.Gate.{EachNow}
 use Rattle.edit_ops.specs.declared.types.NewBlock.{NewBlock}
 use Rattle.edit_ops.specs.Plans.{AreNew}
 use Rattle.piece_store.specs.declared.given.Given.{Given}
 use Rattle.piece_store.specs.Bringing.{brought}
 use Rattle.piece_store.specs.Reading.{AllThere}
+use Rattle.editor_core.specs.Adding.{HasFailed, stopped_by}
 use Rattle.editor_core.specs.Core.{Core}
 use Rattle.editor_core.specs.Made.{PiecesThere, SameOutside, AreAbsent, AreMade}
-use Rattle.editor_core.specs.Makes.{AddsFree, MadeOne, Making, NotMade, Stuck, Unread, made_room}
+use Rattle.editor_core.specs.Makes.{AddsFree, AreSynced, IsDamageAmong, MadeOne, Makes, Making, NotMade, Stuck, Synced, Syncs, Unread, Unsynced, Written, made_room, one_call}
 use Rattle.editor_core.proofs.MadeBlocks.{new_at, next_there, next_absent, made_more, made_none}
 
 -- ---- the ledger
@@ -87,10 +89,29 @@ outside_then next n id d e c is one two f apart =
     two f other ∙ outside_more next n d e one f apart
 
 -- one block more asks for as much more
-pub room_more : (z s n : ℕ) → s ≤ z → IsWithin (together (made_room z n) (record { files = 1; bytes = s; calls = 2 })) (made_room z (n + 1))
+pub room_more : (z s n : ℕ) → s ≤ z → IsWithin (together (made_room z n) (record { files = 1; bytes = s; calls = 1 })) (made_room z (n + 1))
 room_more z s n le =
     let sum : (n + 1) * z ≡ n * z + z = omega arith in
     record { files = omega arith; bytes = omega (arith, sum, le); calls = omega arith }
+
+-- so many calls are counted
+called : {D : Type 0} {disk : Ghosts D} {step : Files → Files → Type 0} {much : Room} {old new : D} (n : ℕ) → disk.change_calls new ≤ disk.change_calls old + n
+    → Changed disk step much old new → Changed disk step (record { files = much.files; bytes = much.bytes; calls = n }) old new
+called n few f = record {
+  tells = f.tells;
+  model = f.model;
+  reads = f.reads;
+  images = f.images;
+  later = f.later;
+  files = f.files;
+  bytes = f.bytes;
+  calls = few;
+  room = f.room;
+  spent = f.spent;
+  unfailing = f.unfailing;
+}
+
+-- what a sync asks
 
 -- reads after other calls
 then_kept : {D : Type 0} {disk : Ghosts D} {step : Files → Files → Type 0} {much : Room} {old mid new : D} → Changed disk step much old mid → Kept disk mid new
@@ -104,6 +125,11 @@ then_kept {disk = disk} {much = much} {mid = mid} {new = new} f g =
 pub size_most : (n m : ℕ) → n ≤ m → size_of n ≤ size_of m
 size_most n m le = omega (arith, le)
 
+-- one of some
+some_block : (bs : List NewBlock) → 0 < length bs → (b : NewBlock) × Contains bs b
+some_block [] lt = absurd (omega (arith, lt))
+some_block (b ∷ bs) lt = (b, (0, omega arith, refl))
+
 module _ {D : Type 0} (disk : Ghosts D) (s : Core D) (given : Given) (bs : List NewBlock) where
   abbrev z : ℕ
   z = size_of s.block_size
@@ -114,7 +140,6 @@ module _ {D : Type 0} (disk : Ghosts D) (s : Core D) (given : Given) (bs : List 
         is = λ i. record s { next_block = none i };
         ledger = free_none s.next_block s.counts;
         made = λ told there gone. made_none (brought given) s.next_block bs (disk.reads s.store);
-        same = λ told there gone c now f low high. absurd (omega (arith, low, high));
         changed = changed_none s.store (λ c f apart. refl) fewer;
         change_faults = refl;
       }
@@ -146,41 +171,132 @@ module _ {D : Type 0} (disk : Ghosts D) (s : Core D) (given : Given) (bs : List 
             let stored = one.stored (still told) (next_there (brought given) m s.next_block n bs d old reads lt fresh gone there made)
             (next_absent (brought given) m s.next_block n bs d old reads lt fresh gone there made) in
             made_more (brought given) m s.next_block n bs d old reads lt fresh gone there made (disk.reads new.store) (one.changed.reads (still told)) stored;
-        same = λ told there gone c now f low high.
-            let made = was.made told there gone in
-            let absent = next_absent (brought given) m s.next_block n bs d old reads lt fresh gone there made in
-            let images = one.changed.images in
-            ⊎_elim
-            (λ before.
-            let e = images.from c (images.fewer (disk.clock mid.store) (disk.clock new.store) c images.later (upto_refl (disk.clock new.store)) now) in
-            let other : f ≢ b.id = λ at. absurd (omega (arith, before, at, is.id)) in
-            e.2 f other ∙ was.same told there gone e.0 e.1 f low before ∙ sym (one.changed.reads (still told) f other))
-            (λ after.
-            let at : b.id ≡ f = omega (arith, is.id, after, high) in
-            subst (λ (k : ℕ). c k ≡ disk.reads new.store k) at (one.durable (still told) absent c now))
-            (cases_lt f (s.next_block + n));
         changed = changed_turn (λ d c w. outside_more s.next_block n d c w) (λ d e c w v. outside_then s.next_block n b.id d e c is.id w v)
             (room_more z (size_of b.len) n (size_most b.len m is.few)) was.changed one.changed;
         change_faults = one.change_faults ∙ was.change_faults;
       }
 
-  -- a piece of the next block could not be read
-  pub making_unread : (n : ℕ) (mid new : Core D) → Making disk s given n bs mid → Unread disk mid new → Making disk s given n bs new
-  making_unread n mid new was un =
-      let same = un.kept.same_reads in
-      let images = un.kept.same_images in
-      let counts : new.counts ≡ mid.counts = ap (λ (x : Core D). x.counts) un.is in record {
-        is = un.is ∙ (λ i. record (was.is i) { store = new.store })
+  -- what is read stays, whatever else the calls behind the blocks do
+  making_over : (n : ℕ) (mid new : Core D) → Making disk s given n bs mid → new ≡ record mid { store = new.store } → disk.reads new.store ≡ disk.reads mid.store
+      → Changed disk (SameOutside s.next_block n) (made_room z n) s.store new.store → disk.change_fault_count new.store ≡ disk.change_fault_count mid.store
+      → Making disk s given n bs new
+  making_over n mid new was is same changed faults =
+      let counts : new.counts ≡ mid.counts = ap (λ (x : Core D). x.counts) is in record {
+        is = is ∙ (λ i. record (was.is i) { store = new.store })
             ∙ (λ i. record s { store = new.store; counts = sym counts i; next_block = s.next_block + n });
         ledger = subst (λ (k : Counts). AddsFree s.next_block n s.counts k) (sym counts) was.ledger;
         made = λ told there gone.
             subst (λ (f : Files). AreMade (brought given) s.next_block n bs (disk.reads s.store) f) (sym same) (was.made told there gone);
-        same = λ told there gone c now f low high.
-            let e = images.from c (images.fewer (disk.clock mid.store) (disk.clock new.store) c images.later (upto_refl (disk.clock new.store)) now) in
-            ap (λ (g : Files). g f) e.2 ∙ was.same told there gone e.0 e.1 f low high ∙ sym (ap (λ (g : Files). g f) same);
-        changed = then_kept was.changed un.kept;
-        change_faults = un.kept.same_faults ∙ was.change_faults;
+        changed = changed;
+        change_faults = faults ∙ was.change_faults;
       }
+
+  -- a piece of the next block could not be read
+  pub making_unread : (n : ℕ) (mid new : Core D) → Making disk s given n bs mid → Unread disk mid new → Making disk s given n bs new
+  making_unread n mid new was un = making_over n mid new was un.is un.kept.same_reads (then_kept was.changed un.kept) un.kept.same_faults
+
+  -- ---- each in one call
+
+  pub written_none : Fewer disk s.store → Written disk s given 0 bs s
+  written_none fewer = record { making = making_none fewer; calls = omega arith; read_faults = refl }
+
+  pub written_more : (n : ℕ) (d : NewBlock) (mid new : Core D) → n < length bs → AreNew s.block_size s.next_block bs → Written disk s given n bs mid
+      → MadeOne disk mid given (get_or bs n d) new → Written disk s given (n + 1) bs new
+  written_more n d mid new lt fresh was one = record {
+    making = making_more n d mid new lt fresh was.making one;
+    calls = omega (arith, was.calls, one.changed.calls);
+    read_faults = one.read_faults ∙ was.read_faults;
+  }
+
+  -- ---- and synced
+
+  synced_making : (n k : ℕ) (mid new : Core D) → k ≤ n → Written disk s given n bs mid → Synced disk mid s.next_block k new → Making disk s given n bs new
+  synced_making n k mid new le was then =
+      making_over n mid new was.making then.is then.reads
+      (changed_then_stays (record { files = omega arith; bytes = omega arith; calls = omega (arith, le) }) (called n was.calls was.making.changed) then.changed)
+      then.change_faults
+
+  makes_done : (mid new : Core D) → Written disk s given (length bs) bs mid → Synced disk mid s.next_block (length bs) new
+      → Making disk s given (length bs) bs new
+      × (disk.read_fault_count new.store ≡ disk.read_fault_count s.store)
+      × AreSynced disk s.next_block (length bs) new.store
+  makes_done mid new was then =
+      (synced_making (length bs) (length bs) mid new (omega arith) was then, then.read_faults ∙ was.read_faults, then.same)
+
+  makes_unsynced : (why : Refusal) (mid new : Core D) → Written disk s given (length bs) bs mid → Unsynced disk mid s.next_block (length bs) why new
+      → Stuck disk s given bs why new
+  makes_unsynced why mid new was un = record {
+    made = length bs;
+    few = omega arith;
+    mid = un.mid;
+    before = synced_making (length bs) un.synced mid un.mid (omega (arith, un.some_left)) was un.before;
+    read_faults = un.before.read_faults ∙ was.read_faults;
+    by = subst (λ (e : Refusal). NotMade disk un.mid e new) (sym un.is) (inr un.by);
+    left = inr un.stays;
+    block = (some_block bs (omega (arith, un.some_left))).0;
+    stands = (some_block bs (omega (arith, un.some_left))).1;
+    damaged = λ told. subst (IsDamageAmong (disk.reads un.mid.store) (some_block bs (omega (arith, un.some_left))).0.pieces) (sym un.is) tt;
+    sound = λ told there gone. un.is;
+  }
+
+  pub makes_both : (result : Result (Unit {0}) Refusal) (mid new : Core D) → Written disk s given (length bs) bs mid
+      → Syncs disk mid s.next_block (length bs) result new → Makes disk s given bs result new
+  makes_both (Ok done) mid new was then = makes_done mid new was then
+  makes_both (Err why) mid new was then = makes_unsynced why mid new was then
+
+-- ---- one sync after another
+
+module _ {D : Type 0} (disk : Ghosts D) (s : Core D) (first : ℕ) where
+  pub synced_none : Fewer disk s.store → Synced disk s first 0 s
+  synced_none fewer = record {
+    is = refl;
+    reads = refl;
+    same = λ c now f low high. absurd (omega (arith, low, high));
+    changed = changed_none s.store (λ c. refl) fewer;
+    read_faults = refl;
+    change_faults = refl;
+  }
+
+  module _ (n : ℕ) (mid new : Core D) (was : Synced disk s first n mid) where
+    pub synced_more : new ≡ record mid { store = new.store } → disk.reads new.store ≡ disk.reads mid.store
+        → EachNow disk new.store (λ c. c (first + n) ≡ disk.reads new.store (first + n)) → Changed disk StaysStep one_call mid.store new.store
+        → disk.read_fault_count new.store ≡ disk.read_fault_count mid.store → disk.change_fault_count new.store ≡ disk.change_fault_count mid.store
+        → Synced disk s first (n + 1) new
+    synced_more is reads durable changed read_faults change_faults = record {
+      is = is ∙ (λ i. record (was.is i) { store = new.store });
+      reads = reads ∙ was.reads;
+      same = λ c now f low high.
+          let images = changed.images in
+          ⊎_elim
+          (λ before.
+          let e = images.from c (images.fewer (disk.clock mid.store) (disk.clock new.store) c images.later (upto_refl (disk.clock new.store)) now) in
+          ap (λ (g : Files). g f) e.2 ∙ was.same e.0 e.1 f low before ∙ sym (ap (λ (g : Files). g f) reads))
+          (λ after.
+          let at : first + n ≡ f = omega (arith, after, high) in
+          subst (λ (k : ℕ). c k ≡ disk.reads new.store k) at (durable c now))
+          (cases_lt f (first + n));
+      changed = changed_then_stays (record { files = omega arith; bytes = omega arith; calls = omega arith }) was.changed changed;
+      read_faults = read_faults ∙ was.read_faults;
+      change_faults = change_faults ∙ was.change_faults;
+    }
+
+    -- the next sync failed
+    pub unsynced_here : (m : ℕ) → n < m → new ≡ stopped_by disk mid new.store → Changed disk StaysStep one_call mid.store new.store → HasFailed disk mid.store new.store
+        → disk.read_fault_count new.store ≡ disk.read_fault_count mid.store → Unsynced disk s first m refusal.DiskFault new
+    unsynced_here m lt is changed failed read_faults = record {
+      synced = n;
+      some_left = lt;
+      mid = mid;
+      before = was;
+      is = refl;
+      by = record {
+        is = is;
+        changed = changed_wider (λ d c same f other. ap (λ (g : Files). g f) same) (record { files = omega arith; bytes = omega arith; calls = omega arith }) changed;
+        failed = failed;
+        read_faults = read_faults;
+      };
+      stays = changed;
+    }
 
 -- ---- the next block of some
 
@@ -229,13 +345,18 @@ module _ {D : Type 0} (disk : Ghosts D) (s : Core D) (given : Given) (bs : List 
 
   -- the next block was not made
   pub stuck_here : (why : Refusal) (new : Core D) → disk.read_fault_count mid.store ≡ disk.read_fault_count s.store → NotMade disk mid why new
-      → (IsTrue (disk.tells mid.store) → AllThere (disk.reads mid.store) b.pieces → why ≡ refusal.DiskFault) → Stuck disk s given bs why new
-  stuck_here why new reads by sound = record {
+      → (IsTrue (disk.tells mid.store) → AllThere (disk.reads mid.store) b.pieces → why ≡ refusal.DiskFault)
+      → (IsTrue (disk.tells mid.store) → IsDamageAmong (disk.reads mid.store) b.pieces why) → Stuck disk s given bs why new
+  stuck_here why new reads by sound damaged = record {
     made = n;
-    some_left = lt;
+    few = omega (arith, lt);
     mid = mid;
     before = was;
     read_faults = reads;
     by = by;
+    left = inl lt;
+    block = b;
+    stands = (n, lt, item bs n b b lt here);
+    damaged = damaged;
     sound = λ told there gone. sound (subst IsTrue (sym was.changed.tells) told) (pieces_still told there gone);
   }

@@ -1,5 +1,5 @@
 -- The studio names other blocks, and nothing is asked of the disk.
-use Rattle.std.proofs.Common.{◌≡◌, ◌↔◌, inl, ℕ, ◌^◌, ◌≤◌, IsSome, List, length, Option, Ok, arith}
+use Rattle.std.proofs.Common.{◌≡◌, ◌↔◌, inl, refl, ℕ, ◌^◌, ◌≤◌, IsSome, List, length, Option, Ok, arith}
 use Rattle.std.specs.List.{AllByRecursion}
 use Rattle.pcm_base.specs.declared.answer.Reply.{Reply}
 use Rattle.pcm_base.specs.declared.block.BlockRef.{BlockRef}
@@ -13,10 +13,12 @@ use Rattle.clip_track.specs.declared.items.Item.{Item}
 use Rattle.project_state.specs.KeptSound.{IsSoundPoint}
 use Rattle.editor_core.specs.Core.{Core}
 use Rattle.editor_core.specs.declared.studio.Pin.{Pin}
+use Rattle.editor_core.specs.Left.{MayRemove}
 use Rattle.editor_core.specs.Occurrences.{times_named}
 use Rattle.editor_core.specs.Studios.{IsGiven, PinsRise, MayPaste, IsHeld, IsStudio, studio_of, named_blocks, clip_blocks}
 use Rattle.editor_core.specs.Took.{Took, silent}
 use Rattle.editor_core.proofs.Images.{keeps_now}
+use Rattle.editor_core.proofs.Others.{others_none}
 use Rattle.editor_core.proofs.Quiet.{IsQuiet}
 
 -- another clipboard, other pins and counts
@@ -101,5 +103,7 @@ module _ {D : Type 0} (disk : Ghosts D) (s : Core D) (is : IsStudio disk s) (cli
     rests = rests;
     len = 0;
     needs = λ held. (0, quiet.needs (studio_of disk s));
-    changed = changed_none s.store (λ f. tt) fewer;
+    changed = changed_none s.store (others_none s.next_block s.next_block (MayRemove c s.counts)) fewer;
+    stops = inl (refl, refl);
+    left = tt;
   }

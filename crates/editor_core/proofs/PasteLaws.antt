@@ -217,13 +217,13 @@ line_tests_are src f id m next track (Some v) ts above sound (Some t) found =
 pub paste_call : (e : PasteEdit) (id at : ℕ) → IsEditCall (Line (paste_line e id at)) silent 0 (λ m st. blocks_of_tracks (length (clip_of st)))
 paste_call Insert id at = record {
   commit = record { one = refl; no_pin = refl; tracks_is = λ rate. refl; stops = λ o. refl; changes = refl; leaves = λ t. refl; heard = λ rate s. refl; quiet = refl; done = λ rate s. refl };
-  needs = λ out t blocks len h. h;
-  needed = λ out t blocks len h. h;
+  needs = λ rate t blocks len h. h;
+  needed = λ rate t blocks len h. h;
 }
 paste_call Cover id at = record {
   commit = record { one = refl; no_pin = refl; tracks_is = λ rate. refl; stops = λ o. refl; changes = refl; leaves = λ t. refl; heard = λ rate s. refl; quiet = refl; done = λ rate s. refl };
-  needs = λ out t blocks len h. h;
-  needed = λ out t blocks len h. h;
+  needs = λ rate t blocks len h. h;
+  needed = λ rate t blocks len h. h;
 }
 
 own_by : (e : PasteEdit) (id at : ℕ) (out : Outside) (st : State) → call_tests out st (Line (paste_line e id at)) ≡ line_tests (paste_length e at) id st.clipboard (clip_of st) (current st)
@@ -266,7 +266,7 @@ module _ {D : Type 0} (disk : Ghosts D) (s : Core D) (is : IsStudio disk s) (e :
       let call = paste_call e id at in
       let own = own_is (samples_on (disk.reads s.store)) in
       let first : ((stop_of s.stopped) otherwise (call_tests (outside t silent) t.state line)) ≡ Some why = (λ i. (stop_of s.stopped) otherwise (own i)) ∙ h in
-      refuses disk s line silent why is fewer refl 0 0 (λ held. call.needs (outside t silent) t 0 0 (omega arith, omega arith))
+      refuses disk s line silent why is fewer refl 0 0 (λ held. call.needs t.rate t 0 0 (omega arith, omega arith))
       (early t line silent 0 call.commit 0 0 why first)
 
   pub paste_stopped : (faults : ℕ) → Fewer disk s.store → s.stopped ≡ Some faults → Took disk s line silent (Err (refusal.Stopped faults)) 0 s
@@ -277,7 +277,7 @@ module _ {D : Type 0} (disk : Ghosts D) (s : Core D) (is : IsStudio disk s) (e :
       (λ own. early_refused why fewer ((λ i. (stop_of (going i)) otherwise refused_by) ∙ own))
       (λ memory.
       subst (λ (r : Refusal). Took disk s line silent (Err r) 0 s) (sym memory)
-      (wants disk s line silent is fewer refl 0 (λ held. (0, (paste_call e id at).needs (outside t silent) t 0 0 (omega arith, omega arith)))))
+      (wants disk s line silent is fewer refl 0 (λ held. (0, (paste_call e id at).needs t.rate t 0 0 (omega arith, omega arith)))))
       not
 
   -- ---- the plan

@@ -1,6 +1,6 @@
 -- What one call does, by another premise than that the disk holds the studio: where blocks are made before the call's
 -- record, that the disk held it before the first of them.
-use Rattle.std.proofs.Common.{◌≡◌, ℕ, ◌-◌, None, IsSome, Result, OnErr}
+use Rattle.std.proofs.Common.{◌≡◌, ℕ, ◌-◌, None, IsSome, Result, IfErr, OnErr, arith}
 use Rattle.pcm_base.specs.declared.answer.Reply.{Reply}
 use Rattle.pcm_base.specs.declared.command.Call.{Call}
 use Rattle.pcm_base.specs.declared.entry.SoundMove.{SoundMove}
@@ -9,15 +9,19 @@ use Rattle.pcm_base.specs.Counters.{Needs}
 use Rattle.pcm_base.specs.Run.{outside, Answers}
 use Rattle.disk_model.specs.Frames.{Changed}
 use Rattle.disk_model.specs.declared.store.Store.{Ghosts}
+use Rattle.disk_model.proofs.Frames.{changed_wider}
 use Rattle.project_journal.specs.Gate.{EachNow, EachSince}
 use Rattle.project_state.specs.Kept.{Keeps}
 use Rattle.editor_core.specs.Core.{Core}
+use Rattle.editor_core.specs.Left.{Left, MayRemove, Stops}
 use Rattle.editor_core.specs.Studios.{IsHeld, IsStudio, shown, studio_of}
-use Rattle.editor_core.specs.Took.{AnyStep, KeepsOneOf, Took, asks, number_behind}
+use Rattle.editor_core.specs.Took.{KeepsOneOf, Took, asks, number_behind}
+use Rattle.editor_core.proofs.Others.{Leaving, others_more}
 
--- as `Took`, where `Has` stands for that the disk holds the studio
+-- as `Took` of a call that removes no file, where `Has` stands for that the disk holds the studio; but for what is left
+-- of it
 pub record TookWhere {D : Type 0} (Has : Type 0) (disk : Ghosts D) (old : Core D) (call : Call) (sound : SoundMove)
-    (told : Result Reply Refusal) (removed : ℕ) (new : Core D) : Type 0 where
+    (told : Result Reply Refusal) (new : Core D) : Type 0 where
   pub studio : IsStudio disk new
   pub held : Has → IsHeld disk new
   pub step : Has → Answers (studio_of disk old) call sound told (studio_of disk new)
@@ -30,13 +34,14 @@ pub record TookWhere {D : Type 0} (Has : Type 0) (disk : Ghosts D) (old : Core D
   pub rests : IsSome old.stopped → new ≡ record old { pins = new.pins; counts = new.counts }
   pub len : ℕ
   pub needs : Has → (blocks : ℕ) × Needs (outside (studio_of disk old) sound) (studio_of disk old) call blocks len
-  pub changed : Changed disk AnyStep (asks old.block_size (new.next_block - old.next_block) len removed)
-      old.store new.store
+  pub changed : Changed disk (Leaving old.next_block new.next_block)
+      (asks old.block_size (new.next_block - old.next_block) len 0) old.store new.store
 
 pub took_so : {D : Type 0} (disk : Ghosts D) (old : Core D) (call : Call) (sound : SoundMove)
-    (told : Result Reply Refusal) (removed : ℕ) (new : Core D)
-    → TookWhere (IsHeld disk old) disk old call sound told removed new → Took disk old call sound told removed new
-took_so disk old call sound told removed new took = record {
+    (told : Result Reply Refusal) (new : Core D) → TookWhere (IsHeld disk old) disk old call sound told new
+    → Stops disk old told new → IfErr told (Left disk old (MayRemove call old.counts) new)
+    → Took disk old call sound told 0 new
+took_so disk old call sound told new took stops left = record {
   studio = took.studio;
   held = took.held;
   step = took.step;
@@ -47,5 +52,9 @@ took_so disk old call sound told removed new took = record {
   rests = took.rests;
   len = took.len;
   needs = took.needs;
-  changed = took.changed;
+  changed =
+      changed_wider (others_more old.next_block new.next_block (MayRemove call old.counts))
+      (record { files = omega arith; bytes = omega arith; calls = omega arith }) took.changed;
+  stops = stops;
+  left = left;
 }

@@ -13,9 +13,11 @@ use Rattle.pcm_base.specs.Studio as model
 use Rattle.disk_model.specs.declared.store.Store.{Ghosts}
 use Rattle.disk_model.proofs.Frames.{Fewer, changed_none}
 use Rattle.editor_core.specs.Core.{Core}
+use Rattle.editor_core.specs.Left.{MayRemove}
 use Rattle.editor_core.specs.Studios.{IsHeld, IsStudio, studio_of}
 use Rattle.editor_core.specs.Took.{Took, silent}
 use Rattle.editor_core.proofs.Images.{keeps_now}
+use Rattle.editor_core.proofs.Others.{others_none}
 use Rattle.editor_core.proofs.Spaces.{fits}
 use Rattle.editor_core.proofs.Staying.{refuses, wants}
 
@@ -143,5 +145,7 @@ module _ {D : Type 0} (disk : Ghosts D) (s : Core D) (c : Call) (quiet : IsQuiet
     rests = λ some. refl;
     len = 0;
     needs = λ held. (0, quiet.needs t);
-    changed = changed_none s.store (λ f. tt) fewer;
+    changed = changed_none s.store (others_none s.next_block s.next_block (MayRemove c s.counts)) fewer;
+    stops = inl (refl, refl);
+    left = tt;
   }

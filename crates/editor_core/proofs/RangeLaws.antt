@@ -131,27 +131,27 @@ range_commit (Gain gain) id from to = record {
 
 pub range_call : (e : RangeEdit) (id from to : ℕ) → IsTrackCall (Line (range_line e id from to)) silent (range_edit e from to) Nothing id 0
 range_call Delete id from to = record {
-  call = record { commit = range_commit Delete id from to; needs = λ out t blocks len h. h; needed = λ out t blocks len h. h };
+  call = record { commit = range_commit Delete id from to; needs = λ rate t blocks len h. h; needed = λ rate t blocks len h. h };
   own = λ out s. refl;
   after_is = λ out s. refl;
 }
 range_call SplitDelete id from to = record {
-  call = record { commit = range_commit SplitDelete id from to; needs = λ out t blocks len h. h; needed = λ out t blocks len h. h };
+  call = record { commit = range_commit SplitDelete id from to; needs = λ rate t blocks len h. h; needed = λ rate t blocks len h. h };
   own = λ out s. refl;
   after_is = λ out s. refl;
 }
 range_call Silence id from to = record {
-  call = record { commit = range_commit Silence id from to; needs = λ out t blocks len h. h; needed = λ out t blocks len h. h };
+  call = record { commit = range_commit Silence id from to; needs = λ rate t blocks len h. h; needed = λ rate t blocks len h. h };
   own = λ out s. refl;
   after_is = λ out s. refl;
 }
 range_call Trim id from to = record {
-  call = record { commit = range_commit Trim id from to; needs = λ out t blocks len h. h; needed = λ out t blocks len h. h };
+  call = record { commit = range_commit Trim id from to; needs = λ rate t blocks len h. h; needed = λ rate t blocks len h. h };
   own = λ out s. refl;
   after_is = λ out s. refl;
 }
 range_call (Gain gain) id from to = record {
-  call = record { commit = range_commit (Gain gain) id from to; needs = λ out t blocks len h. h; needed = λ out t blocks len h. h };
+  call = record { commit = range_commit (Gain gain) id from to; needs = λ rate t blocks len h. h; needed = λ rate t blocks len h. h };
   own = λ out s. refl;
   after_is = λ out s. refl;
 }

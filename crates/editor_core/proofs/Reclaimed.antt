@@ -1,5 +1,5 @@
 -- What a reclaim answers.
-use Rattle.std.proofs.Common.{◌≡◌, ◌≢◌, ◌⊎◌, inl, inr, ⊎_elim, refl, sym, ap, ◌∙◌, subst, ℕ, ◌+◌, ◌^◌, ◌≤◌, IsTrue, IsSome, List, [], length, Option, Some, None, Ok, Err, arith}
+use Rattle.std.proofs.Common.{◌≡◌, ◌≢◌, ◌↔◌, ◌⊎◌, inl, inr, ⊎_elim, refl, sym, ap, ◌∙◌, subst, ℕ, ◌+◌, ◌^◌, ◌≤◌, ◌<◌, IsTrue, IsSome, List, [], length, Option, Some, None, Ok, Err, arith}
 use Rattle.std.specs.Prelude.{IfSome, unwrap_or, ◌-◌}
 use Rattle.std.proofs.lemmas.Bool.{cases_eq}
 use Rattle.pcm_base.specs.declared.answer.Reply.TheVariants.{Freed}
@@ -12,23 +12,25 @@ use Rattle.pcm_base.specs.Causes.{Rose}
 use Rattle.pcm_base.specs.Run.{stop_of}
 use Rattle.pcm_base.specs.Step.{IsWithin}
 use Rattle.pcm_base.specs.Studio as model
-use Rattle.disk_model.specs.Disk.{RemoveStep}
+use Rattle.disk_model.specs.Disk.{Files, RemoveStep}
 use Rattle.disk_model.specs.declared.store.Store.{Ghosts}
 use Rattle.disk_model.proofs.Frames.{Fewer, changed_turn, changed_wider}
 use Rattle.disk_model.proofs.Moments.{each_on}
 use Rattle.block_ledger.specs.Counts.{Counts, IsFirstFree}
 use Rattle.project_journal.specs.Gate.{EachSince}
 use Rattle.project_state.specs.Kept.{Keeps}
-use Rattle.editor_core.specs.Adding.{stopped_by}
+use Rattle.editor_core.specs.Adding.{HasFailed, stopped_by}
 use Rattle.editor_core.specs.Core.{Core}
 use Rattle.editor_core.specs.Frees.{Drops, RemovesPart, IsUnnamed, Reclaims}
+use Rattle.editor_core.specs.Left.{LeavesOthers, MayRemove}
 use Rattle.editor_core.specs.Occurrences.{times_named}
 use Rattle.editor_core.specs.Studios.{IsHeld, IsStudio, shown, studio_of, named_blocks}
 use Rattle.editor_core.proofs.Freeing.{same_meaning, keeps_since, halted_held, halted_studio}
 use Rattle.editor_core.proofs.Gone.{forgets_none, removes_part, part_none}
 use Rattle.editor_core.proofs.Images.{keeps_now}
 use Rattle.editor_core.proofs.Quiet.{IsQuiet, quiet_passes, carried, room_of, refused_stopped}
-use Rattle.editor_core.proofs.Reclaiming.{Freeing, goes, spared, free_unnamed, unnamed_free, only_named}
+use Rattle.editor_core.proofs.Others.{others_removed, others_then}
+use Rattle.editor_core.proofs.Reclaiming.{FilesFreed, Freeing, first_free, goes, spared, free_unnamed, unnamed_free, only_named}
 use Rattle.editor_core.proofs.Spaces.{fits}
 use Rattle.editor_core.proofs.Staying.{stopped_not}
 
@@ -56,6 +58,7 @@ module _ {D : Type 0} (disk : Ghosts D) (old : Core D) (limit : Option ℕ) wher
       let stop : new.stopped ≡ old.stopped = ap (λ (z : Core D). z.stopped) was.fields in
       let going : new.stopped ≡ None = stop ∙ was.going in
       let number : new.commit_number ≡ old.commit_number = ap (λ (z : Core D). z.commit_number) was.fields in
+      let next : new.next_block ≡ old.next_block = ap (λ (z : Core D). z.next_block) was.fields in
       let room = room_of disk old call is in
       let pin = fits old.next_pin 0 (omega (arith, is.counters.pin_most)) in
       let passed = quiet_passes t call quiet room (ap stop_of was.going) refl pin in record {
@@ -73,7 +76,11 @@ module _ {D : Type 0} (disk : Ghosts D) (old : Core D) (limit : Option ℕ) wher
           rests = λ some. absurd (stopped_not old.stopped some was.going);
           len = 0;
           needs = λ held. (0, quiet.needs t);
-          changed = changed_wider (λ d c step. step) (record { files = omega arith; bytes = omega arith; calls = omega arith }) was.changed;
+          changed = changed_wider
+              (λ d c step. subst (λ (n : ℕ). LeavesOthers old.next_block n (MayRemove call old.counts) d c) (sym next) step)
+              (record { files = omega arith; bytes = omega arith; calls = omega arith }) was.changed;
+          stops = inl (stop, was.change_faults);
+          left = tt;
         };
         count = refl;
         within = within;
@@ -111,6 +118,11 @@ module _ {D : Type 0} (disk : Ghosts D) (old : Core D) (limit : Option ℕ) wher
       let stop : new.stopped ≡ Some halt = ap (λ (z : Core D). z.stopped) at in
       let counts : new.counts ≡ mid.counts = ap (λ (z : Core D). z.counts) at in
       let number : new.commit_number ≡ old.commit_number = ap (λ (z : Core D). z.commit_number) at ∙ ap (λ (z : Core D). z.commit_number) was.fields in
+      let next : new.next_block ≡ old.next_block = ap (λ (z : Core D). z.next_block) at ∙ ap (λ (z : Core D). z.next_block) was.fields in
+      let failed : HasFailed disk old.store new.store =
+      record { rose = omega (arith, drops.fields.1.rose, was.change_faults); later = omega (arith, drops.fields.1.later, was.change_faults) } in
+      let at_new : (d c : Files) → FilesFreed old d c → LeavesOthers old.next_block new.next_block (MayRemove call old.counts) d c =
+      (λ d c step. subst (λ (n : ℕ). LeavesOthers old.next_block n (MayRemove call old.counts) d c) (sym next) step) in
       let blocks : t.next_block ≡ t.next_block + 0 = omega arith in
       let still : IsTrue (disk.tells old.store) → u ≡ record t { stopped = u.stopped; next_block = t.next_block + 0; read_faults = u.read_faults; change_faults = u.change_faults } =
       (λ told. ap (studio_of disk) at
@@ -154,7 +166,17 @@ module _ {D : Type 0} (disk : Ghosts D) (old : Core D) (limit : Option ℕ) wher
           rests = λ some. absurd (stopped_not old.stopped some was.going);
           len = 0;
           needs = λ held. (0, quiet.needs t);
-          changed = changed_turn (λ d c step. tt) (λ d e c one two. tt) (record { files = omega arith; bytes = omega arith; calls = omega arith }) was.changed drops.changed;
+          changed = changed_turn (λ d c step. at_new d c step)
+              (λ d e c one two. at_new d c (others_then old.next_block old.next_block (MayRemove call old.counts) d e c one
+              (others_removed old.next_block old.next_block (MayRemove call old.counts) id e c (first_free disk old mid ids id was first) two)))
+              (record { files = omega arith; bytes = omega arith; calls = omega arith }) was.changed drops.changed;
+          stops = inr (stop, failed, refl);
+          left = record {
+            same = at ∙ (λ i. record (was.fields i) { store = new.store; stopped = Some halt })
+                ∙ (λ i. record old { store = new.store; counts = sym counts i; next_block = sym next i; stopped = sym stop i });
+            ids = λ x not. ids_less x next (subst (λ (k : Counts). k x ≡ old.counts x) (sym counts) (was.counts.others x (λ one. not (was.counts.free x one))));
+            so = inr failed;
+          };
         };
         count = tt;
         within = within;
@@ -175,6 +197,13 @@ module _ {D : Type 0} (disk : Ghosts D) (old : Core D) (limit : Option ℕ) wher
         why = inl refl;
       }
     where
+      ids_less : (x : ℕ) → new.next_block ≡ old.next_block → new.counts x ≡ old.counts x
+          → IsSome (new.counts x) ↔ (IsSome (old.counts x) ⊎ ((old.next_block ≤ x) × (x < new.next_block)))
+      ids_less x next same = (
+        λ some. inl (subst IsSome same some),
+        λ cases. ⊎_elim (λ some. subst IsSome (sym same) some) (λ at. absurd (omega (arith, at.0, at.1, next))) cases,
+      )
+
       there_still : (a b : Option (List ℕ)) → (b ≡ a) ⊎ (b ≡ None) → IsSome b → IsSome a
       there_still a b (inl same) some = subst IsSome same some
       there_still a None (inr none) some = absurd (cc some)

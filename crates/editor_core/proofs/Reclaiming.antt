@@ -2,6 +2,7 @@
 use Rattle.std.proofs.Common.{◌≡◌, ◌≢◌, ◌⊎◌, inl, inr, refl, sym, ap, ◌∙◌, subst, ℕ, zero, suc, ◌*◌, ◌≤◌, ◌<◌, IsTrue, IsSome, List, [], ◌∷◌, ◌++◌, length, Option, Some, None, Ok, arith}
 use Rattle.std.proofs.lemmas.Bool.{cases_eq}
 use Rattle.pcm_base.specs.Studio as model
+use Rattle.disk_model.specs.Disk.{Files}
 use Rattle.disk_model.specs.Frames.{Changed}
 use Rattle.disk_model.specs.MomentLaws.{upto_refl}
 use Rattle.disk_model.specs.Room.{Room}
@@ -13,16 +14,21 @@ use Rattle.project_journal.specs.Gate.{EachNow, EachSince}
 use Rattle.project_state.specs.Kept.{Keeps}
 use Rattle.editor_core.specs.Core.{Core}
 use Rattle.editor_core.specs.Frees.{Drops, AreGone, HasOnlyNamed, Forgets, Removes, IsUnnamed}
+use Rattle.editor_core.specs.Left.{LeavesOthers}
 use Rattle.editor_core.specs.Occurrences.{times_named}
 use Rattle.editor_core.specs.Studios.{IsDurable, IsHeld, IsStudio, shown, studio_of, named_blocks}
-use Rattle.editor_core.specs.Took.{AnyStep}
 use Rattle.editor_core.proofs.Freeing.{same_meaning, keeps_since, less_held, less_studio}
 use Rattle.editor_core.proofs.Gone.{long, none_gone, gone_more, forgets_none, forgets_more, removes_none, removes_more}
 use Rattle.editor_core.proofs.Images.{keeps_now}
+use Rattle.editor_core.proofs.Others.{others_none, others_removed, others_then}
 
 -- what so many removals ask of the disk
 abbrev pub removals : ℕ → Room
 removals n = record { files = 0; bytes = 0; calls = 2 * n }
+
+-- what removing files of blocks that nothing names does to all files
+abbrev pub FilesFreed : {D : Type 0} → Core D → Files → Files → Type 0
+FilesFreed s = LeavesOthers s.next_block s.next_block (λ file. s.counts file ≡ Some 0)
 
 -- So many files went, and the studio is what it was but for the counts.
 pub record Freeing {D : Type 0} (disk : Ghosts D) (old : Core D) (ids : List ℕ) (new : Core D) : Type 0 where
@@ -37,7 +43,8 @@ pub record Freeing {D : Type 0} (disk : Ghosts D) (old : Core D) (ids : List ℕ
   pub for_good : IsTrue (disk.tells old.store) → EachNow disk new.store (AreGone ids)
   pub state : IsTrue (disk.tells old.store) → studio_of disk new ≡ studio_of disk old
   pub keeps : IsHeld disk old → EachSince disk old.store new.store (λ c. Keeps c (shown (studio_of disk old)))
-  pub changed : Changed disk AnyStep (removals (length ids)) old.store new.store
+  pub changed : Changed disk (FilesFreed old) (removals (length ids)) old.store new.store
+  pub change_faults : disk.change_fault_count new.store ≡ disk.change_fault_count old.store
 
 module _ {D : Type 0} (disk : Ghosts D) where
   pub freeing_none : (s : Core D) → s.stopped ≡ None → IsStudio disk s → Fewer disk s.store → Freeing disk s [] s
@@ -53,11 +60,21 @@ module _ {D : Type 0} (disk : Ghosts D) where
     for_good = λ told c now. none_gone c;
     state = λ told. refl;
     keeps = λ held c now. keeps_now disk s going held c now;
-    changed = changed_none s.store (λ c. tt) fewer;
+    changed = changed_none s.store (others_none s.next_block s.next_block (λ file. s.counts file ≡ Some 0)) fewer;
+    change_faults = refl;
   }
 
   pub goes : (old mid : Core D) (ids : List ℕ) → Freeing disk old ids mid → mid.stopped ≡ None
   goes old mid ids was = ap (λ (z : Core D). z.stopped) was.fields ∙ was.going
+
+  -- what goes next had no count before the first of them either
+  pub first_free : (old mid : Core D) (ids : List ℕ) (id : ℕ) → Freeing disk old ids mid → IsFirstFree mid.counts id → old.counts id ≡ Some 0
+  first_free old mid ids id was first =
+      sym (was.counts.others id (λ has. none_here (mid.counts id) (was.counts.gone id has) first.free)) ∙ first.free
+    where
+      none_here : (o : Option ℕ) → o ≡ None → o ≡ Some 0 → ⊥
+      none_here None e f = absurd (cc f)
+      none_here (Some n) e f = absurd (cc e)
 
   pub freeing_more : {R : Type 0} (r : R) (old mid new : Core D) (ids : List ℕ) (id : ℕ) → Freeing disk old ids mid → IsFirstFree mid.counts id → Drops disk mid id (Ok r) new
       → Freeing disk old (ids ++ id ∷ []) new
@@ -89,8 +106,11 @@ module _ {D : Type 0} (disk : Ghosts D) where
             each_on (λ c. Keeps c (shown (studio_of disk old))) (disk.clock old.store) drops.changed.images
             was.changed.images.later (was.keeps held)
             (λ c since. subst (λ (t : model.Studio). Keeps c (shown t)) (was.state held.tells) (then_keeps c since));
-        changed = changed_turn (λ d c step. tt) (λ d e c one two. tt)
+        changed = changed_turn (λ d c step. step)
+            (λ d e c one two. others_then old.next_block old.next_block (λ file. old.counts file ≡ Some 0) d e c one
+            (others_removed old.next_block old.next_block (λ file. old.counts file ≡ Some 0) id e c (first_free old mid ids id was first) two))
             (record { files = omega arith; bytes = omega arith; calls = omega (arith, long ids id) }) was.changed drops.changed;
+        change_faults = drops.fields.2 ∙ was.change_faults;
       }
     where
       none_some : (o : Option ℕ) → o ≡ None → o ≡ Some 0 → ⊥

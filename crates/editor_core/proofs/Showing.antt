@@ -1,5 +1,5 @@
 -- Showing cells of a track, and what a scan of them finds.
-use Rattle.std.proofs.Common.{◌≡◌, ◌⊎◌, inl, inr, refl, sym, ap, ◌∙◌, subst, ℕ, ◌-◌, nat_lt, nat_le, ◌==◌, ◌&&◌, ◌||◌, not, Bool, true, false, List, length, Option, Some, None, Ok, Err, arith}
+use Rattle.std.proofs.Common.{◌≡◌, ◌⊎◌, inl, inr, refl, sym, ap, ◌∙◌, subst, ℕ, ◌-◌, nat_lt, nat_le, ◌==◌, ◌&&◌, ◌||◌, not, Bool, true, false, IsTrue, List, length, Option, Some, None, Ok, Err, arith}
 use Rattle.std.proofs.lemmas.Option.{none-some, same_Some}
 use Rattle.pcm_base.specs.declared.answer.Reply.TheVariants as reply
 use Rattle.pcm_base.specs.declared.command.Call.{Call}
@@ -22,23 +22,26 @@ use Rattle.disk_model.specs.declared.store.Store.{Ghosts}
 use Rattle.disk_model.proofs.Frames.{Fewer}
 use Rattle.sample_block.specs.Sources.{sources_of}
 use Rattle.clip_track.specs.declared.clips.Clip.{Clip}
-use Rattle.clip_track.specs.Clips.{end_of, layout_cells}
+use Rattle.clip_track.specs.Clips.{end_of, layout_blocks, layout_cells}
 use Rattle.clip_track.proofs.Layouts.{length-layout}
 use Rattle.block_store.specs.declared.fault.BlockFault.{BlockFault}
 use Rattle.block_store.specs.declared.fault.BlockFault.TheVariants as fault
-use Rattle.block_store.specs.Reads.{CountedBy}
+use Rattle.block_store.specs.Reads.{CountedBy, IsFaultIn}
 use Rattle.block_store.specs.Reasons.{reason_of}
-use Rattle.envelope_view.specs.Answers.{column_tests, IsOfReads, IsCountedBy}
+use Rattle.envelope_view.specs.Answers.{column_tests, IsDamagedIn, IsOfReads, IsCountedBy}
+use Rattle.envelope_view.proofs.AnswerLaws.{reason_damaged}
 use Rattle.project_state.specs.declared.track.Track.{Track}
 use Rattle.project_state.specs.Tracks.{track_of}
 use Rattle.editor_core.specs.Core.{Core}
 use Rattle.editor_core.specs.Points.{current_tracks, lacks}
 use Rattle.editor_core.specs.Reads.{HasLayout}
-use Rattle.editor_core.specs.Studios.{IsHeld, IsStudio, studio_of}
+use Rattle.editor_core.specs.Studios.{IsHeld, IsStudio, named_blocks, studio_of}
 use Rattle.editor_core.specs.Took.{Took, silent}
-use Rattle.editor_core.proofs.Currents.{track_there, layout_sound, layout_meant}
+use Rattle.editor_core.proofs.Currents.{layout_named, track_there, layout_sound, layout_meant}
 use Rattle.editor_core.proofs.Editing.{current_meant, track_is}
 use Rattle.editor_core.proofs.Looking.{looked_ok, looked_failed, looked_own, looked_wanting}
+use Rattle.editor_core.proofs.NamedDamage.{damage_among, fault_among}
+use Rattle.editor_core.proofs.PlainTests.{own, plain_by}
 use Rattle.editor_core.proofs.Quiet.{IsQuiet, quiet_passes, carried, room_of, own_first, refused_own, refused_stopped}
 use Rattle.editor_core.proofs.Spaces.{fits}
 
@@ -96,8 +99,11 @@ module _ {D : Type 0} (disk : Ghosts D) (s : Core D) (is : IsStudio disk s) (id 
           (λ held. carried t show show_quiet room (reply.Cells cells) t passed (ap reply.Cells (seen held ∙ ap (part from to) (cells_are layout has))) refl)
 
       pub show_failed : (why : BlockFault) → CountedBy why (disk.read_fault_count s.store) (disk.read_fault_count store)
+          → (IsTrue (disk.tells s.store) → IsFaultIn (disk.reads s.store) (layout_blocks layout) why)
           → Took disk s show silent (Err (reason_of why)) 0 (record s { store = store })
-      show_failed = looked_failed disk s is store kept show show_quiet going refl
+      show_failed why counted damaged =
+          looked_failed disk s is store kept show show_quiet going refl why counted
+          (λ told. reason_damaged (disk.reads s.store) (named_blocks s) why (fault_among (disk.reads s.store) (named_blocks s) (layout_blocks layout) why (layout_named disk s is id layout has) (damaged told)))
 
   -- ---- envelope
 
@@ -140,17 +146,23 @@ module _ {D : Type 0} (disk : Ghosts D) (s : Core D) (is : IsStudio disk s) (id 
           (λ held. carried t scan scan_quiet room (reply.Columns found) t passed (ap reply.Columns (seen held ∙ ap (columns_of from to columns) (cells_are layout has))) refl)
 
       of_reads : (why : Refusal) → IsOfReads why → IsCountedBy why (disk.read_fault_count s.store) (disk.read_fault_count store)
+          → (IsTrue (disk.tells s.store) → IsDamagedIn (disk.reads s.store) (named_blocks s) why)
           → Took disk s scan silent (Err why) 0 (record s { store = store })
-      of_reads refusal.NoMemory reads counted = looked_wanting disk s is store kept scan scan_quiet going counted
-      of_reads refusal.DiskFault reads counted = looked_failed disk s is store kept scan scan_quiet going refl fault.DiskFault counted
-      of_reads (refusal.Damaged file at want have) reads counted =
-          looked_failed disk s is store kept scan scan_quiet going refl (fault.Damaged file (record { at = at; want = want; have = have })) counted
-      of_reads why reads counted = absurd reads
+      of_reads refusal.NoMemory reads counted damaged = looked_wanting disk s is store kept scan scan_quiet going counted
+      of_reads refusal.DiskFault reads counted damaged = looked_failed disk s is store kept scan scan_quiet going refl fault.DiskFault counted damaged
+      of_reads (refusal.Damaged file at want have) reads counted damaged =
+          looked_failed disk s is store kept scan scan_quiet going refl (fault.Damaged file (record { at = at; want = want; have = have })) counted damaged
+      of_reads why reads counted damaged = absurd reads
 
       pub scan_failed : (why : Refusal) → (column_tests from to columns (end_of 0 layout) ≡ Some why) ⊎ ((column_tests from to columns (end_of 0 layout) ≡ None) × IsOfReads why)
-          → IsCountedBy why (disk.read_fault_count s.store) (disk.read_fault_count store) → Took disk s scan silent (Err why) 0 (record s { store = store })
-      scan_failed why (inl test) counted =
+          → IsCountedBy why (disk.read_fault_count s.store) (disk.read_fault_count store)
+          → (IsTrue (disk.tells s.store) → IsDamagedIn (disk.reads s.store) (layout_blocks layout) why)
+          → Took disk s scan silent (Err why) 0 (record s { store = store })
+      scan_failed why (inl test) counted damaged =
           let len = end_of 0 layout in
           let faults = by_test (not (nat_lt from to && nat_le to len)) (columns == 0 || nat_lt 4096 columns || nat_lt (to - from) columns) why (disk.read_fault_count s.store) (disk.read_fault_count store) test counted in
-          looked_own disk s is store kept scan scan_quiet going why faults (λ held. own_first t scan 0 0 why (ap stop_of going) (tests_are ∙ test))
-      scan_failed why (inr read) counted = of_reads why read.1 counted
+          looked_own disk s is store kept scan scan_quiet going why
+          (plain_by (call_tests (outside t silent) t.state scan) why (own (outside t silent) t.state scan) (tests_are ∙ test)) faults (λ held. own_first t scan 0 0 why (ap stop_of going) (tests_are ∙ test))
+      scan_failed why (inr read) counted damaged =
+          of_reads why read.1 counted
+          (λ told. damage_among (disk.reads s.store) (named_blocks s) (layout_blocks layout) why (layout_named disk s is id layout has) (damaged told))

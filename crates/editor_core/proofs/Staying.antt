@@ -16,9 +16,13 @@ use Rattle.sample_block.specs.Sources.{AllWhole}
 use Rattle.project_journal.specs.Gate.{EachNow}
 use Rattle.editor_core.specs.Adding.{record_room}
 use Rattle.editor_core.specs.Core.{Core}
+use Rattle.editor_core.specs.Left.{MayRemove}
 use Rattle.editor_core.specs.Studios.{IsGiven, IsHeld, IsStudio, SameBlocks, studio_of}
 use Rattle.editor_core.specs.Took.{Took, asks}
 use Rattle.editor_core.proofs.Images.{keeps_now}
+use Rattle.editor_core.proofs.Leaving.{IsPlain, left_plain}
+use Rattle.editor_core.proofs.Others.{others_none}
+use Rattle.editor_core.proofs.PlainTests.{plain_refusal}
 
 pub some_none : {A : Type 0} (x : A) → Some x ≡ None → ⊥
 some_none x e = none-some x (sym e)
@@ -48,10 +52,10 @@ MayNeed disk s call sound len =
 module _ {D : Type 0} (disk : Ghosts D) (s : Core D) (call : Call) (sound : SoundMove) (why : Refusal)
     (is : IsStudio disk s) (fewer : Fewer disk s.store) (quiet : sound.after ≡ sound.before) (len : ℕ) where
   -- a refusal that asked nothing of the disk
-  pub stays : MayNeed disk s call sound len
+  pub stays : IsPlain why → MayNeed disk s call sound len
       → (IsHeld disk s → Answers (studio_of disk s) call sound (Err why) (studio_of disk s))
       → Took disk s call sound (Err why) 0 s
-  stays needs step = record {
+  stays plain needs step = record {
     studio = is;
     held = λ held. held;
     step = step;
@@ -62,7 +66,9 @@ module _ {D : Type 0} (disk : Ghosts D) (s : Core D) (call : Call) (sound : Soun
     rests = λ some. refl;
     len = len;
     needs = needs;
-    changed = changed_none s.store (λ c. tt) fewer;
+    changed = changed_none s.store (others_none s.next_block s.next_block (MayRemove call s.counts)) fewer;
+    stops = inl (refl, refl);
+    left = left_plain disk s (MayRemove call s.counts) s.store why plain;
   }
 
   -- by a test
@@ -71,7 +77,8 @@ module _ {D : Type 0} (disk : Ghosts D) (s : Core D) (call : Call) (sound : Soun
       → refusal_of (outside (studio_of disk s) sound) (studio_of disk s) call blocks len ≡ Some why
       → Took disk s call sound (Err why) 0 s
   refuses blocks needs first =
-      stays (λ held. (blocks, needs held))
+      stays (plain_refusal (outside (studio_of disk s) sound) (studio_of disk s) call blocks len why first)
+      (λ held. (blocks, needs held))
       (λ held. inl (record {
         blocks = blocks;
         len = len;
@@ -86,5 +93,5 @@ pub wants : {D : Type 0} (disk : Ghosts D) (s : Core D) (call : Call) (sound : S
     → Fewer disk s.store → sound.after ≡ sound.before → (len : ℕ) → MayNeed disk s call sound len
     → Took disk s call sound (Err refusal.NoMemory) 0 s
 wants disk s call sound is fewer quiet len needs =
-    stays disk s call sound refusal.NoMemory is fewer quiet len needs
+    stays disk s call sound refusal.NoMemory is fewer quiet len tt needs
     (λ held. inr (record { same = refl; quiet = quiet }))

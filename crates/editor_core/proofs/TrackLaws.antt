@@ -85,7 +85,7 @@ module _ {D : Type 0} (disk : Ghosts D) (s : Core D) (is : IsStudio disk s) (c :
   early_refused why fewer h =
       let own = own_is (samples_on (disk.reads s.store)) in
       let first : ((stop_of s.stopped) otherwise (call_tests (outside t sound) t.state c)) ≡ Some why = (λ i. (stop_of s.stopped) otherwise (own i)) ∙ h in
-      refuses disk s c sound why is fewer line.call.commit.quiet 0 0 (λ held. line.call.needs (outside t sound) t 0 0 (omega arith, omega arith))
+      refuses disk s c sound why is fewer line.call.commit.quiet 0 0 (λ held. line.call.needs t.rate t 0 0 (omega arith, omega arith))
       (early t c sound 0 line.call.commit 0 0 why first)
 
   pub track_stopped : (faults : ℕ) → Fewer disk s.store → s.stopped ≡ Some faults → Took disk s c sound (Err (refusal.Stopped faults)) 0 s
@@ -96,7 +96,7 @@ module _ {D : Type 0} (disk : Ghosts D) (s : Core D) (is : IsStudio disk s) (c :
       (λ own. early_refused why fewer ((λ i. (stop_of (going i)) otherwise (track_refusal id e.test found)) ∙ own))
       (λ memory.
       subst (λ (r : Refusal). Took disk s c sound (Err r) 0 s) (sym memory)
-      (wants disk s c sound is fewer line.call.commit.quiet 0 (λ held. (0, line.call.needs (outside t sound) t 0 0 (omega arith, omega arith)))))
+      (wants disk s c sound is fewer line.call.commit.quiet 0 (λ held. (0, line.call.needs t.rate t 0 0 (omega arith, omega arith)))))
       not
 
   -- ---- what the call means

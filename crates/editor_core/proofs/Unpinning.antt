@@ -1,5 +1,5 @@
 -- Letting a pin go is a step; and what holds of a pin that is found.
-use Rattle.std.proofs.Common.{◌≡◌, refl, sym, ap, ◌∙◌, subst, ℕ, ◌+◌, ◌≤◌, List, ◌∷◌, ◌++◌, Option, Some, None, Ok, Err, arith}
+use Rattle.std.proofs.Common.{◌≡◌, refl, sym, ap, ◌∙◌, subst, ℕ, ◌+◌, ◌≤◌, List, ◌∷◌, ◌++◌, Option, Some, None, Contains, Ok, Err, arith}
 use Rattle.std.specs.Prelude.{is_none}
 use Rattle.std.specs.List.{AllByRecursion}
 use Rattle.pcm_base.specs.declared.answer.Reply.TheVariants.{Done}
@@ -22,10 +22,12 @@ use Rattle.project_state.specs.KeptSound.{IsSoundPoint}
 use Rattle.project_state.proofs.KeptBounds.{all_append}
 use Rattle.editor_core.specs.Core.{Core}
 use Rattle.editor_core.specs.declared.studio.Pin.{Pin}
+use Rattle.editor_core.specs.Edits.{AreAmong}
 use Rattle.editor_core.specs.Occurrences.{HasAll, Dropped, times_named}
 use Rattle.editor_core.specs.Pins.{TakesPin, LacksPin, MayFind}
 use Rattle.editor_core.specs.Studios.{PinsRise, IsHeld, IsStudio, pin_at, pin_blocks, clip_blocks, named_blocks, studio_of}
 use Rattle.editor_core.specs.Took.{Took, silent}
+use Rattle.editor_core.proofs.Contained.{among_itself}
 use Rattle.editor_core.proofs.Currents.{may_read}
 use Rattle.editor_core.proofs.Lists.{all_left, all_right}
 use Rattle.editor_core.proofs.Naming.{renamed, Renames, renamed_took}
@@ -74,12 +76,18 @@ module _ {D : Type 0} (disk : Ghosts D) (s : Core D) (is : IsStudio disk s) (num
     pub pin_may_read : AllNamed (point_blocks point)
     pin_may_read = may_read disk s is point (that_one Sound found.0 found.1 it (subst (AllByRecursion Sound) found.2 is.pins))
 
-    pub pin_whole : IsHeld disk s → AllWhole (disk.reads s.store) (point_blocks point)
-    pin_whole held =
-        let P = IsWhole (disk.reads s.store) in
-        let rest = all_right P (history_blocks s.history) (pin_blocks s.pins ++ clip_blocks s.clipboard) held.whole in
+    -- what holds of all that the studio names holds of what the pin names
+    of_pin : (P : BlockRef → Type 0) → AllByRecursion P (named_blocks s) → AllByRecursion P (point_blocks point)
+    of_pin P all =
+        let rest = all_right P (history_blocks s.history) (pin_blocks s.pins ++ clip_blocks s.clipboard) all in
         let own = all_left P (pin_blocks s.pins) (clip_blocks s.clipboard) rest in
         blocks_of_one P found.0 found.1 it (subst (λ (z : List Pin). AllByRecursion P (pin_blocks z)) found.2 own)
+
+    pub pin_whole : IsHeld disk s → AllWhole (disk.reads s.store) (point_blocks point)
+    pin_whole held = of_pin (IsWhole (disk.reads s.store)) held.whole
+
+    pub pin_named : AreAmong (named_blocks s) (point_blocks point)
+    pin_named = of_pin (Contains (named_blocks s)) (among_itself (named_blocks s))
 
   -- ---- one less
 

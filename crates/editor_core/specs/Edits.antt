@@ -29,7 +29,7 @@ use Rattle.editor_core.specs.Adding.{Adds, Exceeds}
 use Rattle.editor_core.specs.Commits.{IsCommitCall}
 use Rattle.editor_core.specs.Core.{Core}
 use Rattle.editor_core.specs.Made.{PiecesReadable}
-use Rattle.editor_core.specs.Makes.{Making, Stuck}
+use Rattle.editor_core.specs.Makes.{AreSynced, Making, Stuck}
 use Rattle.editor_core.specs.Studios.{MayPaste, clip_blocks, clip_cells, named_blocks, studio_by}
 
 -- ---- what is planned
@@ -62,11 +62,17 @@ clip_then (Some new) old = Some new
 
 -- ---- what it means
 
+-- what the call meets outside, in a project of this rate
+abbrev pub outside_at : ℕ → SoundMove → Outside
+outside_at rate sound = record { rate = rate; sound = sound.before }
+
 -- A call that is an edit: so many blocks it may make, by the block size and the state before it.
 pub record IsEditCall (c : Call) (sound : SoundMove) (tracks : ℕ) (most : ℕ → State → ℕ) : Type 0 where
   pub commit : IsCommitCall c sound tracks
-  pub needs : (out : Outside) (t : model.Studio) (blocks len : ℕ) → EditNeeds (most t.block_size t.state) out t c blocks len → Needs out t c blocks len
-  pub needed : (out : Outside) (t : model.Studio) (blocks len : ℕ) → Needs out t c blocks len → EditNeeds (most t.block_size t.state) out t c blocks len
+  pub needs : (rate : ℕ) (t : model.Studio) (blocks len : ℕ) → EditNeeds (most t.block_size t.state) (outside_at rate sound) t c blocks len
+      → Needs (outside_at rate sound) t c blocks len
+  pub needed : (rate : ℕ) (t : model.Studio) (blocks len : ℕ) → Needs (outside_at rate sound) t c blocks len
+      → EditNeeds (most t.block_size t.state) (outside_at rate sound) t c blocks len
 
 -- blocks of these samples, by their ids, and what a command brings beside them
 abbrev pub beside : (ℕ → ℕ → ℤ) → (ℕ → ℤ) → Sources
@@ -117,12 +123,13 @@ Unprepared s count tracks len why =
 abbrev pub NotPrepared : {D : Type 0} → Core D → ℕ → ℕ → ℕ → Refusal → Type 0
 NotPrepared s count tracks len why = (why ≡ refusal.NoMemory) ⊎ Unprepared s count tracks len why
 
--- blocks made, and then a record added
+-- blocks made, in each image from then on, and then a record added
 pub record Committed {D : Type 0} (disk : Ghosts D) (old : Core D) (given : Given) (makes : List NewBlock) (tracks : ℕ) (body : List ℕ)
     (result : Result (Unit {0}) Refusal) (new : Core D) : Type 0 where
   pub mid : Core D
   pub making : Making disk old given (length makes) makes mid
   pub reads : disk.read_fault_count mid.store ≡ disk.read_fault_count old.store
+  pub synced : AreSynced disk old.next_block (length makes) mid.store
   pub prepared : IsPrepared old (length makes) tracks (length body)
   pub adds : Adds disk mid body result new
 

@@ -23,3 +23,8 @@ pub mod Scans
 pub mod RunEdits
 pub mod Cuts
 pub mod Pastes
+pub mod Imports
+pub mod Exports
+pub mod Applied
+pub mod Events
+pub mod Left

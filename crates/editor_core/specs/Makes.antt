@@ -1,10 +1,11 @@
--- New blocks that are made before a record names them, and what a making that failed leaves.
-use Rattle.std.specs.Prelude.{◌≡◌, ◌↔◌, ◌⊎◌, ℕ, ◌+◌, ◌*◌, ◌≤◌, ◌<◌, IsTrue, IsSome, Some, None, List, length, Result, MatchResult}
+-- New blocks that are written and then synced before a record names them, and what a failure leaves.
+use Rattle.std.specs.Prelude.{◌≡◌, ◌↔◌, ◌⊎◌, ℕ, ◌+◌, ◌*◌, ◌≤◌, ◌<◌, IsTrue, IsSome, Some, None, List, length, Contains, Result, MatchResult}
 use Rattle.pcm_base.specs.Causes.{Rose}
 use Rattle.pcm_base.specs.Pieces.{all_samples}
 use Rattle.pcm_base.specs.declared.refusal.Refusal.{Refusal}
 use Rattle.pcm_base.specs.declared.refusal.Refusal.TheVariants as refusal
-use Rattle.disk_model.specs.Disk.{SameElsewhere}
+use Rattle.pcm_base.specs.declared.piece.Piece.{Piece}
+use Rattle.disk_model.specs.Disk.{Files, SameElsewhere, StaysStep}
 use Rattle.disk_model.specs.Frames.{Kept, Changed}
 use Rattle.disk_model.specs.Room.{Room}
 use Rattle.disk_model.specs.declared.store.Store.{Ghosts}
@@ -12,11 +13,12 @@ use Rattle.sample_block.specs.Blocks.{blocks}
 use Rattle.sample_block.specs.Sources.{sources_with}
 use Rattle.sample_block.specs.Spelling.{size_of}
 use Rattle.block_ledger.specs.Counts.{Counts, occurrences}
+use Rattle.block_store.specs.declared.fault.BlockFault.TheVariants as fault
 use Rattle.project_journal.specs.Gate.{EachNow}
 use Rattle.edit_ops.specs.declared.types.NewBlock.{NewBlock}
 use Rattle.piece_store.specs.declared.given.Given.{Given}
 use Rattle.piece_store.specs.Bringing.{brought}
-use Rattle.piece_store.specs.Reading.{AllThere}
+use Rattle.piece_store.specs.Reading.{AllThere, IsFaultAmong}
 use Rattle.editor_core.specs.Adding.{HasFailed, stopped_by}
 use Rattle.editor_core.specs.Core.{Core}
 use Rattle.editor_core.specs.Made.{PiecesThere, SameOutside, SameInside, AreAbsent, AreMade}
@@ -30,12 +32,16 @@ pub record AddsFree (next n : ℕ) (old new : Counts) : Type 0 where
 abbrev pub made_room : (bytes n : ℕ) → Room
 made_room bytes n = record { files = n; bytes = n * bytes; calls = 2 * n }
 
+-- what a sync asks
+abbrev pub one_call : Room
+one_call = record { files = 0; bytes = 0; calls = 1 }
+
 -- a piece of the next block could not be read: the disk is as it was, and the studio goes on
 pub record Unread {D : Type 0} (disk : Ghosts D) (old new : Core D) : Type 0 where
   pub is : new ≡ record old { store = new.store }
   pub kept : Kept disk old.store new.store
 
--- the disk failed as the next block was put: the studio is stopped
+-- the disk failed as the next block was written, or as one was synced: the studio is stopped
 pub record Unput {D : Type 0} (disk : Ghosts D) (old new : Core D) : Type 0 where
   pub is : new ≡ stopped_by disk old new.store
   pub changed : Changed disk (SameElsewhere old.next_block) (made_room (size_of old.block_size) 1) old.store new.store
@@ -47,7 +53,13 @@ pub record HasMissed {D : Type 0} (disk : Ghosts D) (old new : D) : Type 0 where
   pub rose : Rose (disk.read_fault_count old) (disk.read_fault_count new)
   pub later : disk.read_fault_count old ≤ disk.read_fault_count new
 
--- why the next block was not made
+-- damage that is told is that of a block that one of these pieces names
+abbrev pub IsDamageAmong : Files → List Piece → Refusal → Type 0
+IsDamageAmong files ps (refusal.Damaged file at want have) =
+    IsFaultAmong files ps (fault.Damaged file (record { at = at; want = want; have = have }))
+IsDamageAmong files ps why = Unit {0}
+
+-- why the next block was not written
 abbrev pub NotMade : {D : Type 0} → Ghosts D → Core D → Refusal → Core D → Type 0
 NotMade disk old refusal.DiskFault new =
     (Unread disk old new × HasMissed disk old.store new.store) ⊎ Unput disk old new
@@ -55,47 +67,89 @@ NotMade disk old (refusal.Damaged file at want have) new =
     Unread disk old new × (disk.read_fault_count new.store ≡ disk.read_fault_count old.store)
 NotMade disk old why new = ⊥
 
--- One block is made, and the ledger has its id.
+-- One block is written, and the ledger has its id.
 pub record MadeOne {D : Type 0} (disk : Ghosts D) (old : Core D) (given : Given) (b : NewBlock) (new : Core D) : Type 0 where
   pub is : new ≡ record old { store = new.store; counts = new.counts; next_block = old.next_block + 1 }
   pub ledger : AddsFree old.next_block 1 old.counts new.counts
   pub stored : IsTrue (disk.tells old.store) → AllThere (disk.reads old.store) b.pieces → disk.reads old.store b.id ≡ None
       → blocks (disk.reads new.store) b.id ≡ Some (all_samples (sources_with (disk.reads old.store) (brought given)) b.pieces)
-  pub durable : IsTrue (disk.tells old.store) → disk.reads old.store b.id ≡ None
-      → EachNow disk new.store (λ c. c b.id ≡ disk.reads new.store b.id)
-  pub changed : Changed disk (SameElsewhere b.id) (record { files = 1; bytes = size_of b.len; calls = 2 }) old.store new.store
+  pub changed : Changed disk (SameElsewhere b.id) (record { files = 1; bytes = size_of b.len; calls = 1 }) old.store new.store
   pub read_faults : disk.read_fault_count new.store ≡ disk.read_fault_count old.store
   pub change_faults : disk.change_fault_count new.store ≡ disk.change_fault_count old.store
 
--- The first n of some new blocks are made, and the ledger has their ids. Of failed reads it says nothing.
+-- The first n of some new blocks are there as the disk reads, and the ledger has their ids. Of failed reads it says
+-- nothing, and of images no more than that all other files stay.
 pub record Making {D : Type 0} (disk : Ghosts D) (old : Core D) (given : Given) (n : ℕ) (bs : List NewBlock) (new : Core D) : Type 0 where
   pub is : new ≡ record old { store = new.store; counts = new.counts; next_block = old.next_block + n }
   pub ledger : AddsFree old.next_block n old.counts new.counts
   pub made : IsTrue (disk.tells old.store) → PiecesThere (disk.reads old.store) bs
       → AreAbsent old.next_block (length bs) (disk.reads old.store)
       → AreMade (brought given) old.next_block n bs (disk.reads old.store) (disk.reads new.store)
-  -- in each image as the store reads
-  pub same : IsTrue (disk.tells old.store) → PiecesThere (disk.reads old.store) bs
-      → AreAbsent old.next_block (length bs) (disk.reads old.store)
-      → EachNow disk new.store (SameInside old.next_block n (disk.reads new.store))
   pub changed : Changed disk (SameOutside old.next_block n) (made_room (size_of old.block_size) n) old.store new.store
   pub change_faults : disk.change_fault_count new.store ≡ disk.change_fault_count old.store
 
--- Some were made, and the next one was not. Where the disk has the blocks of all pieces, the disk failed.
+-- They are written, by a call each, and no read failed.
+pub record Written {D : Type 0} (disk : Ghosts D) (old : Core D) (given : Given) (n : ℕ) (bs : List NewBlock) (new : Core D) : Type 0 where
+  pub making : Making disk old given n bs new
+  pub calls : disk.change_calls new.store ≤ disk.change_calls old.store + n
+  pub read_faults : disk.read_fault_count new.store ≡ disk.read_fault_count old.store
+
+-- in each image n files from a number on are as the store reads
+abbrev pub AreSynced : {D : Type 0} → Ghosts D → (first n : ℕ) → D → Type 0
+AreSynced disk first n store = EachNow disk store (SameInside first n (disk.reads store))
+
+-- N files from a number on are synced, by a call each, and nothing else has changed.
+pub record Synced {D : Type 0} (disk : Ghosts D) (old : Core D) (first n : ℕ) (new : Core D) : Type 0 where
+  pub is : new ≡ record old { store = new.store }
+  pub reads : disk.reads new.store ≡ disk.reads old.store
+  pub same : AreSynced disk first n new.store
+  pub changed : Changed disk StaysStep (record { files = 0; bytes = 0; calls = n }) old.store new.store
+  pub read_faults : disk.read_fault_count new.store ≡ disk.read_fault_count old.store
+  pub change_faults : disk.change_fault_count new.store ≡ disk.change_fault_count old.store
+
+-- some were synced, and the sync of the next one failed
+pub record Unsynced {D : Type 0} (disk : Ghosts D) (old : Core D) (first n : ℕ) (why : Refusal) (new : Core D) : Type 0 where
+  pub synced : ℕ
+  pub some_left : synced < n
+  pub mid : Core D
+  pub before : Synced disk old first synced mid
+  pub is : why ≡ refusal.DiskFault
+  pub by : Unput disk mid new
+  pub stays : Changed disk StaysStep one_call mid.store new.store
+
+-- Some were written, and the next one was not; or all were, and a sync failed, which left the files as they were. Where the
+-- disk has the blocks of all pieces, the disk failed.
 pub record Stuck {D : Type 0} (disk : Ghosts D) (old : Core D) (given : Given) (bs : List NewBlock) (why : Refusal) (new : Core D) : Type 0 where
   pub made : ℕ
-  pub some_left : made < length bs
+  pub few : made ≤ length bs
   pub mid : Core D
   pub before : Making disk old given made bs mid
   pub read_faults : disk.read_fault_count mid.store ≡ disk.read_fault_count old.store
   pub by : NotMade disk mid why new
+  pub left : (made < length bs) ⊎ Changed disk StaysStep one_call mid.store new.store
+  pub block : NewBlock
+  pub stands : Contains bs block
+  pub damaged : IsTrue (disk.tells mid.store) → IsDamageAmong (disk.reads mid.store) block.pieces why
   pub sound : IsTrue (disk.tells old.store) → PiecesThere (disk.reads old.store) bs
       → AreAbsent old.next_block (length bs) (disk.reads old.store) → why ≡ refusal.DiskFault
 
 abbrev pub MakesOne : {D : Type 0} → Ghosts D → Core D → Given → NewBlock → Result (Unit {0}) Refusal → Core D → Type 0
 MakesOne disk old given b result new = MatchResult result (λ _. MadeOne disk old given b new) (λ why. NotMade disk old why new)
 
+-- all are written, or the next one was not
+abbrev pub Writes : {D : Type 0} → Ghosts D → Core D → Given → List NewBlock → Result (Unit {0}) Refusal → Core D → Type 0
+Writes disk old given bs result new = MatchResult result
+    (λ _. Written disk old given (length bs) bs new)
+    (λ why. Stuck disk old given bs why new)
+
+-- all are synced, or one is not
+abbrev pub Syncs : {D : Type 0} → Ghosts D → Core D → ℕ → ℕ → Result (Unit {0}) Refusal → Core D → Type 0
+Syncs disk old first n result new = MatchResult result (λ _. Synced disk old first n new) (λ why. Unsynced disk old first n why new)
+
+-- both in turn
 abbrev pub Makes : {D : Type 0} → Ghosts D → Core D → Given → List NewBlock → Result (Unit {0}) Refusal → Core D → Type 0
 Makes disk old given bs result new = MatchResult result
-    (λ _. Making disk old given (length bs) bs new × (disk.read_fault_count new.store ≡ disk.read_fault_count old.store))
+    (λ _. Making disk old given (length bs) bs new
+    × (disk.read_fault_count new.store ≡ disk.read_fault_count old.store)
+    × AreSynced disk old.next_block (length bs) new.store)
     (λ why. Stuck disk old given bs why new)

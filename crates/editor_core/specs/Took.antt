@@ -1,5 +1,5 @@
 -- What one call of a studio does.
-use Rattle.std.specs.Prelude.{◌≡◌, ◌⊎◌, ℕ, ◌+◌, ◌-◌, ◌*◌, None, IsSome, Result, Ok, Err, OnErr}
+use Rattle.std.specs.Prelude.{◌≡◌, ◌⊎◌, ℕ, ◌+◌, ◌-◌, ◌*◌, None, IsSome, Result, Ok, Err, IfErr, OnErr}
 use Rattle.pcm_base.specs.declared.answer.Reply.{Reply}
 use Rattle.pcm_base.specs.declared.command.Call.{Call}
 use Rattle.pcm_base.specs.declared.entry.SoundMove.{SoundMove}
@@ -15,6 +15,7 @@ use Rattle.sample_block.specs.Spelling.{size_of}
 use Rattle.project_journal.specs.Gate.{EachNow, EachSince}
 use Rattle.project_state.specs.Kept.{Keeps}
 use Rattle.editor_core.specs.Core.{Core}
+use Rattle.editor_core.specs.Left.{LeavesOthers, Left, MayRemove, Stops}
 use Rattle.editor_core.specs.Studios.{IsHeld, IsStudio, shown, studio_of}
 
 -- no sound was named
@@ -25,10 +26,6 @@ silent = record { before = None; after = None }
 abbrev pub told_by : {A : Type 0} → (A → Reply) → Result A Refusal → Result Reply Refusal
 told_by f (Ok x) = Ok (f x)
 told_by f (Err why) = Err why
-
--- anything may have happened
-abbrev pub AnyStep : Files → Files → Type 0
-AnyStep old new = Unit {0}
 
 -- the files keep the studio that the call leads to where nothing refuses it, which is so
 pub record InFlight (t : model.Studio) (call : Call) (sound : SoundMove) (files : Files) : Type 0 where
@@ -78,5 +75,9 @@ pub record Took {D : Type 0} (disk : Ghosts D) (old : Core D) (call : Call) (sou
   pub len : ℕ
   pub needs : IsHeld disk old
       → (blocks : ℕ) × Needs (outside (studio_of disk old) sound) (studio_of disk old) call blocks len
-  pub changed : Changed disk AnyStep (asks old.block_size (new.next_block - old.next_block) len removed)
-      old.store new.store
+  -- no file goes or comes but the journal and those of blocks, here and in each image
+  pub changed : Changed disk (LeavesOthers old.next_block new.next_block (MayRemove call old.counts))
+      (asks old.block_size (new.next_block - old.next_block) len removed) old.store new.store
+  -- and what is left of the studio, whatever the disk tells
+  pub stops : Stops disk old told new
+  pub left : IfErr told (Left disk old (MayRemove call old.counts) new)

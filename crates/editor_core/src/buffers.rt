@@ -4,7 +4,7 @@ ghost use Rattle.block_store.specs.Checks.{Checks, IsWhole};
 ghost use Rattle.block_store.specs.Reads.{Counted};
 ghost use Rattle.block_store.specs.declared.fault.BlockFault.TheVariants as fault;
 ghost use Rattle.pcm_base.specs.Pieces.{all_samples, total};
-ghost use Rattle.disk_model.specs.Disk.{Files, SameElsewhere, bytes_of};
+ghost use Rattle.disk_model.specs.Disk.{SameElsewhere, bytes_of};
 ghost use Rattle.disk_model.specs.Frames.{Kept, Changed};
 ghost use Rattle.sample_block.specs.Blocks.{blocks};
 ghost use Rattle.sample_block.specs.Faults.{damage_of};
@@ -19,7 +19,7 @@ use block_store::{BlockFault, check_block};
 use disk_model::Store;
 use edit_ops::NewBlock;
 use pcm_base::{BlockRef, NoMemory};
-use piece_store::{Given, MakeFault, make_block};
+use piece_store::{Given, MakeFault, write_new_block};
 use sample_block::file_size;
 use std::alloc::Global;
 use std::marker::Model;
@@ -67,8 +67,8 @@ impl BlockBuffers {
         self.block_size
     }
 
-    // As `make_block`, in these buffers. It takes no memory.
-    pub(crate) fn make<S: Store>(
+    // As `write_new_block`, in these buffers. It takes no memory.
+    pub(crate) fn write_new<S: Store>(
         &mut self,
         store: &mut S,
         block: &NewBlock,
@@ -82,13 +82,10 @@ impl BlockBuffers {
             → S.reads store.old block.now.id ≡ None
             → OnOk result (blocks (S.reads store.new) block.now.id ≡ Some (all_samples
             (sources_with (S.reads store.old) (brought given.now)) block.now.pieces)) }
-        ensures durable { IsTrue (S.tells store.old) → S.reads store.old block.now.id ≡ None
-            → OnOk result ((c : Files) → S.may_leave store.new (S.clock store.new) c
-            → c block.now.id ≡ S.reads store.new block.now.id) }
         ensures changed { Changed S.Store (SameElsewhere block.now.id) (record {
           files = 1;
           bytes = size_of block.now.len;
-          calls = 2;
+          calls = 1;
         }) store.old store.new }
         ensures untouched { IfErr result (λ e. NotPut e (Kept S.Store store.old store.new)) }
         ensures sound { IsTrue (S.tells store.old) → AllThere (S.reads store.old) block.now.pieces
@@ -99,7 +96,7 @@ impl BlockBuffers {
             (S.change_fault_count store.old) (S.change_fault_count store.new) }
         ensures same { self.new ≡ self.old }
     {
-        make_block(store, block, given, &mut self.samples, &mut self.file)
+        write_new_block(store, block, given, &mut self.samples, &mut self.file)
     }
 
     // As `check_block`, in these buffers. It takes no memory.

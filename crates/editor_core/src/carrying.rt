@@ -3,7 +3,7 @@ ghost use Rattle.std.specs.Prelude.{◌≡◌, ℕ, ◌+◌, ◌≤◌, ◌<◌,
 ghost use Rattle.pcm_base.specs.declared.answer.Reply.TheVariants as reply;
 ghost use Rattle.pcm_base.specs.declared.command.Call.{Call};
 ghost use Rattle.pcm_base.specs.declared.entry.SoundMove.{SoundMove};
-ghost use Rattle.pcm_base.specs.Counters.{no_room};
+ghost use Rattle.pcm_base.specs.Counters.{commits_of, no_room};
 ghost use Rattle.pcm_base.specs.History.{recorded};
 ghost use Rattle.block_ledger.specs.Counts.{occurrences};
 ghost use Rattle.block_ledger.specs.Entries.{count_of};
@@ -11,8 +11,10 @@ ghost use Rattle.edit_ops.specs.Plans.{AreNew};
 ghost use Rattle.piece_store.specs.Bringing.{brought_count};
 ghost use Rattle.envelope_view.specs.Answers.{IsUndamaged};
 ghost use Rattle.project_state.specs.Spelling.{spelling};
+ghost use Rattle.editor_core.specs.Applied.{Lasts};
 ghost use Rattle.editor_core.specs.Core.{core_of};
 ghost use Rattle.editor_core.specs.Edits.{Spends, IsPlanned, IsEdit, IsPrepared, NotPrepared, Carried, clip_then};
+ghost use Rattle.editor_core.specs.Imports.{IsNoVault};
 ghost use Rattle.editor_core.specs.Made.{PiecesReadable};
 ghost use Rattle.editor_core.specs.Occurrences.{HasAll, HasIds, Moves};
 ghost use Rattle.editor_core.specs.Studios.{IsHeld, IsStudio, MayPaste, clip_blocks};
@@ -167,8 +169,12 @@ impl<S: Store> Studio<S> {
         ensures took { (c : Call) → (sound : SoundMove) → IsEdit S.Store (core_of self.old) c sound edit.tracks given.now
             edit.makes (recorded self.old.history.history edit.point tag) (clip_then edit.clip self.old.clipboard)
             → Took S.Store (core_of self.old) c sound (told_by (λ _. reply.Done) result) 0 (core_of self.new) }
+        // Whatever the call means, and whatever is told.
+        ensures lasts { (c : Call) → commits_of c ≡ 1 → Lasts S.Store (core_of self.old) c
+            (told_by (λ _. reply.Done) result) 0 (core_of self.new) }
         ensures number { IfOk result (λ n. n ≡ self.new.commit_number) }
         ensures sound { IsHeld S.Store (core_of self.old) → IfErr result IsUndamaged }
+        ensures device { IfErr result IsNoVault }
     {
         let Planned {
             point,

@@ -88,8 +88,9 @@ impl<S: Store> Studio<S> {
     /// `Stopped` where a change of the disk failed in an earlier call; else `NoTrack` where the project lacks the
     /// track; else `TooNarrow` where there are fewer tracks from it on; else `BadRange` where not `from < to <= L`,
     /// where L is the greatest length of these tracks; else `SpaceSpent` where a counter or the journal has no room, or
-    /// `RecordLimit` where the record would be too long; or `NoMemory`. Nothing has changed then. `DiskFault` where the
-    /// disk failed: the clipboard is as it was, and after a failed change the studio is stopped.
+    /// `RecordLimit` where the record would be too long; or `NoMemory`. Nothing has changed then. `Damaged` where the
+    /// file of a block that is read is not as it has to be, and `DiskFault` where the disk failed: nothing but the next
+    /// block's number has changed then, and after a failed change the studio is stopped.
     pub fn cut(
         &mut self,
         alloc: Global,

@@ -37,6 +37,13 @@ fn set_in(alloc: Global, point: &Point, id: u64, edit: &PlainEdit) -> Result<Poi
 
 impl<S: Store> Studio<S> {
     /// Adds an empty track with the next id.
+    ///
+    /// # Errors
+    ///
+    /// `Stopped` where a change of the disk failed in an earlier call; else `TrackLimit` where the project has 64
+    /// tracks; else `SpaceSpent` where a counter or the journal has no room, or `RecordLimit` where the record would be
+    /// too long; or `NoMemory`. Nothing has changed then. `DiskFault` where a change of the disk failed: the studio is
+    /// stopped.
     pub fn track(&mut self, alloc: Global) -> Result<u64, Refusal>
         requires { IsStudio S.Store (core_of self.old) }
         ensures took { Took S.Store (core_of self.old) (Line command.Track) silent
@@ -48,6 +55,13 @@ impl<S: Store> Studio<S> {
     }
 
     /// Takes a track away.
+    ///
+    /// # Errors
+    ///
+    /// `Stopped` where a change of the disk failed in an earlier call; else `NoTrack` where the project lacks the
+    /// track; else `SpaceSpent` where a counter or the journal has no room, or `RecordLimit` where the record would be
+    /// too long; or `NoMemory`. Nothing has changed then. `DiskFault` where a change of the disk failed: the studio is
+    /// stopped.
     pub fn drop(&mut self, alloc: Global, track: u64) -> Result<u64, Refusal>
         requires { IsStudio S.Store (core_of self.old) }
         ensures took { Took S.Store (core_of self.old) (Line (command.Drop track)) silent
@@ -59,6 +73,10 @@ impl<S: Store> Studio<S> {
     }
 
     /// Sets the gain with which a track is heard, from 0 to 1,048,576; 65,536 is unity.
+    ///
+    /// # Errors
+    ///
+    /// Those of `drop`.
     pub fn level(&mut self, alloc: Global, track: u64, gain: u32) -> Result<u64, Refusal>
         requires studio { IsStudio S.Store (core_of self.old) }
         requires in_form { gain ≤ 1048576 }
@@ -71,6 +89,10 @@ impl<S: Store> Studio<S> {
     }
 
     /// Sets the sides on which a track is heard.
+    ///
+    /// # Errors
+    ///
+    /// Those of `drop`.
     pub fn side(&mut self, alloc: Global, track: u64, side: Side) -> Result<u64, Refusal>
         requires { IsStudio S.Store (core_of self.old) }
         ensures took { Took S.Store (core_of self.old) (Line (command.Side track side)) silent
@@ -82,6 +104,10 @@ impl<S: Store> Studio<S> {
     }
 
     /// Mutes a track, or lets it be heard again.
+    ///
+    /// # Errors
+    ///
+    /// Those of `drop`.
     pub fn mute(&mut self, alloc: Global, track: u64, mute: bool) -> Result<u64, Refusal>
         requires { IsStudio S.Store (core_of self.old) }
         ensures took { Took S.Store (core_of self.old) (Line (command.Mute track mute)) silent

@@ -82,6 +82,14 @@ fn plan_insert(
 
 impl<S: Store> Studio<S> {
     /// Puts samples in at a place of a track: those behind it move on, and a shorter track is first continued by gaps.
+    ///
+    /// # Errors
+    ///
+    /// `Stopped` where a change of the disk failed in an earlier call; else `NoTrack` where the project lacks the
+    /// track; else `LengthLimit` where it would have more than 2^32 cells; else `SpaceSpent` where a counter or the
+    /// journal has no room, or `RecordLimit` where the record would be too long; or `NoMemory`. Nothing has changed
+    /// then. `Damaged` where the file of a block that is read is not as it has to be, and `DiskFault` where the disk
+    /// failed: nothing but the next block's number has changed then, and after a failed change the studio is stopped.
     pub fn put(
         &mut self,
         alloc: Global,
@@ -106,6 +114,10 @@ impl<S: Store> Studio<S> {
     }
 
     /// Puts so many samples in at a place of a track, from `start` on in steps, each limited to what a sample can be.
+    ///
+    /// # Errors
+    ///
+    /// Those of `put`.
     pub fn ramp(
         &mut self,
         alloc: Global,
@@ -129,6 +141,10 @@ impl<S: Store> Studio<S> {
     /// Puts samples of a recording in at the end of a track. The tag is the recording's number, from 1 to the number of
     /// the last commit. Where the current project is of the same recording they go into it, and what could be redone
     /// goes; else they make a new point.
+    ///
+    /// # Errors
+    ///
+    /// Those of `put`.
     pub fn piece(
         &mut self,
         alloc: Global,

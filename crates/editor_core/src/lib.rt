@@ -2,6 +2,7 @@
 //! a stop of the machine leaves the project of before or of after.
 #![tactic(auto)]
 
+mod apply;
 mod assembly;
 mod buffers;
 mod carrying;
@@ -13,7 +14,10 @@ mod current;
 mod cuts;
 mod edits;
 mod envelopes;
+mod events;
+mod exports;
 mod facts;
+mod imports;
 mod inserts;
 mod laying;
 mod listing;

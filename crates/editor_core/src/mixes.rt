@@ -1,5 +1,5 @@
 // What is heard of a project.
-ghost use Rattle.std.specs.Prelude.{◌≡◌, ◌+◌, ◌-◌, ◌^◌, ◌<◌, ◌≤◌, length, min, take, drop, IsTrue, IsOkUnless, IfOk};
+ghost use Rattle.std.specs.Prelude.{◌≡◌, ◌+◌, ◌-◌, ◌^◌, ◌<◌, ◌≤◌, length, min, take, drop, IsTrue, IsOkUnless, IfErr, IfOk};
 ghost use Rattle.pcm_base.specs.declared.answer.Reply.TheVariants.{Frames};
 ghost use Rattle.pcm_base.specs.declared.command.Call.TheVariants.{Line, ReadPin};
 ghost use Rattle.pcm_base.specs.declared.command.Command.TheVariants.{Mix};
@@ -8,9 +8,9 @@ ghost use Rattle.pcm_base.specs.Pieces.{Sources};
 ghost use Rattle.disk_model.specs.Frames.{Kept};
 ghost use Rattle.sample_block.specs.Sources.{sources_of, AllNamed, AllWhole};
 ghost use Rattle.block_store.specs.declared.fault.BlockFault.TheVariants as fault;
-ghost use Rattle.block_store.specs.Reads.{Counted};
+ghost use Rattle.block_store.specs.Reads.{Counted, IsFaultIn};
 ghost use Rattle.project_state.specs.Kept.{meant, point_blocks};
-ghost use Rattle.mix_view.specs.Voices.{mix_length_of};
+ghost use Rattle.mix_view.specs.Tracks.{mix_length_of};
 ghost use Rattle.editor_core.specs.Core.{core_of};
 ghost use Rattle.editor_core.specs.Reads.{Sees};
 ghost use Rattle.editor_core.specs.Studios.{IsStudio};
@@ -48,6 +48,8 @@ fn read_mix<S: Store>(
         ≡ take n (drop from (mix_of (meant (sources_of (S.reads store.old)) point.now)))) }
     ensures sound { IsTrue (S.tells store.old) → AllWhole (S.reads store.old) (point_blocks point.now)
         → IsOkUnless result fault.DiskFault }
+    ensures damaged { IsTrue (S.tells store.old)
+        → IfErr result (λ e. IsFaultIn (S.reads store.old) (point_blocks point.now) e) }
     ensures kept { Kept S.Store store.old store.new }
     ensures faults { Counted result (S.read_fault_count store.old) (S.read_fault_count store.new) }
 {

@@ -30,6 +30,12 @@ fn purge_body(count: u64) -> [u8; 9]
 
 impl<S: Store> Studio<S> {
     /// Goes back to the point before. It takes no memory.
+    ///
+    /// # Errors
+    ///
+    /// `Stopped` where a change of the disk failed in an earlier call; else `NothingToUndo` at the oldest point; else
+    /// `SpaceSpent` where the commit number or the journal has no room. Nothing has changed then. `DiskFault` where a
+    /// change of the disk failed: the studio is stopped.
     pub fn undo(&mut self) -> Result<u64, Refusal>
         requires { IsStudio S.Store (core_of self.old) }
         ensures took { Took S.Store (core_of self.old) (Line command.Undo) silent
@@ -56,6 +62,12 @@ impl<S: Store> Studio<S> {
     }
 
     /// Goes on to the point that was undone last. It takes no memory.
+    ///
+    /// # Errors
+    ///
+    /// `Stopped` where a change of the disk failed in an earlier call; else `NothingToRedo` at the newest point; else
+    /// `SpaceSpent` where the commit number or the journal has no room. Nothing has changed then. `DiskFault` where a
+    /// change of the disk failed: the studio is stopped.
     pub fn redo(&mut self) -> Result<u64, Refusal>
         requires { IsStudio S.Store (core_of self.old) }
         ensures took { Took S.Store (core_of self.old) (Line command.Redo) silent
@@ -86,6 +98,12 @@ impl<S: Store> Studio<S> {
 
     /// Forgets the oldest points, as many as are asked for, at least one and none from the current one on. It takes no
     /// memory.
+    ///
+    /// # Errors
+    ///
+    /// `Stopped` where a change of the disk failed in an earlier call; else `BadRange` where the count is 0 or reaches
+    /// the current point; else `SpaceSpent` where the commit number or the journal has no room. Nothing has changed
+    /// then. `DiskFault` where a change of the disk failed: the studio is stopped.
     pub fn purge(&mut self, count: u64) -> Result<u64, Refusal>
         requires { IsStudio S.Store (core_of self.old) }
         ensures took { Took S.Store (core_of self.old) (Line (command.Purge count)) silent

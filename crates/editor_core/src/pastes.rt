@@ -68,7 +68,9 @@ impl<S: Store> Studio<S> {
     /// track; else `EmptyClipboard` where nothing was copied or cut; else `TooNarrow` where there are fewer tracks from
     /// it on than strips; else `LengthLimit` where a track would have more than 2^32 cells; else `SpaceSpent` where a
     /// counter or the journal has no room, or `RecordLimit` where the record would be too long; or `NoMemory`. Nothing
-    /// has changed then. `DiskFault` where the disk failed: after a failed change the studio is stopped.
+    /// has changed then. `Damaged` where the file of a block that is read is not as it has to be, and `DiskFault` where
+    /// the disk failed: nothing but the next block's number has changed then, and after a failed change the studio is
+    /// stopped.
     pub fn paste(&mut self, alloc: Global, track: u64, at: u64) -> Result<u64, Refusal>
         requires studio { IsStudio S.Store (core_of self.old) }
         requires in_form { at < 2 ^ 63 }

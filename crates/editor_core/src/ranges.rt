@@ -74,6 +74,15 @@ fn plan_range(
 
 impl<S: Store> Studio<S> {
     /// Takes the cells of a range out of a track: those behind it move to its place.
+    ///
+    /// # Errors
+    ///
+    /// `Stopped` where a change of the disk failed in an earlier call; else `NoTrack` where the project lacks the
+    /// track; else `BadRange` where not `from < to <= L`, where L is the track's length; else `SpaceSpent` where a
+    /// counter or the journal has no room, or `RecordLimit` where the record would be too long; or `NoMemory`. Nothing
+    /// has changed then. `Damaged` where the file of a block that is read is not as it has to be, and `DiskFault` where
+    /// the disk failed: nothing but the next block's number has changed then, and after a failed change the studio is
+    /// stopped.
     pub fn delete(&mut self, alloc: Global, track: u64, from: u64, to: u64) -> Result<u64, Refusal>
         requires { IsStudio S.Store (core_of self.old) }
         ensures took { Took S.Store (core_of self.old) (Line (command.Delete track from to)) silent
@@ -85,6 +94,10 @@ impl<S: Store> Studio<S> {
     }
 
     /// Makes the cells of a range of a track gaps.
+    ///
+    /// # Errors
+    ///
+    /// Those of `delete`.
     pub fn split_delete(
         &mut self,
         alloc: Global,
@@ -106,6 +119,10 @@ impl<S: Store> Studio<S> {
     }
 
     /// Makes the samples of a range of a track 0; its gaps stay.
+    ///
+    /// # Errors
+    ///
+    /// Those of `delete`.
     pub fn silence(&mut self, alloc: Global, track: u64, from: u64, to: u64) -> Result<u64, Refusal>
         requires { IsStudio S.Store (core_of self.old) }
         ensures took { Took S.Store (core_of self.old) (Line (command.Silence track from to)) silent
@@ -117,6 +134,10 @@ impl<S: Store> Studio<S> {
     }
 
     /// Makes all cells of a track but those of a range gaps.
+    ///
+    /// # Errors
+    ///
+    /// Those of `delete`.
     pub fn trim(&mut self, alloc: Global, track: u64, from: u64, to: u64) -> Result<u64, Refusal>
         requires { IsStudio S.Store (core_of self.old) }
         ensures took { Took S.Store (core_of self.old) (Line (command.Trim track from to)) silent
@@ -129,6 +150,10 @@ impl<S: Store> Studio<S> {
 
     /// Puts the samples of a range of a track under a gain, where 65,536 is unity; each is rounded and limited to what a
     /// sample can be, and gaps stay.
+    ///
+    /// # Errors
+    ///
+    /// Those of `delete`.
     pub fn gain(
         &mut self,
         alloc: Global,

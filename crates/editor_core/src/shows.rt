@@ -1,5 +1,5 @@
 // What is shown of a track.
-ghost use Rattle.std.specs.Prelude.{◌≡◌, ◌+◌, ◌-◌, ◌≤◌, length, min, take, IsTrue, IsOkUnless, IfOk, MatchResult, None, Some};
+ghost use Rattle.std.specs.Prelude.{◌≡◌, ◌+◌, ◌-◌, ◌≤◌, length, min, take, IsTrue, IsOkUnless, IfErr, IfOk, MatchResult, None, Some};
 ghost use Rattle.pcm_base.specs.declared.answer.Reply.TheVariants.{Cells};
 ghost use Rattle.pcm_base.specs.declared.command.Call.TheVariants.{Line};
 ghost use Rattle.pcm_base.specs.declared.command.Command.TheVariants.{Show};
@@ -9,7 +9,7 @@ ghost use Rattle.pcm_base.specs.Refusals.{bad_view};
 ghost use Rattle.disk_model.specs.Frames.{Kept};
 ghost use Rattle.sample_block.specs.Sources.{sources_of, AllNamed, AllWhole};
 ghost use Rattle.block_store.specs.declared.fault.BlockFault.TheVariants as fault;
-ghost use Rattle.block_store.specs.Reads.{Counted};
+ghost use Rattle.block_store.specs.Reads.{Counted, IsFaultIn};
 ghost use Rattle.clip_track.specs.Clips.{layout_blocks, layout_cells};
 ghost use Rattle.editor_core.specs.Core.{core_of};
 ghost use Rattle.editor_core.specs.Reads.{Sees};
@@ -55,6 +55,8 @@ fn read_view<S: Store>(
         → IfOk result (λ n. take n out.new ≡ part from to (layout_cells (sources_of (S.reads store.old)) layout.now)) }
     ensures sound { IsTrue (S.tells store.old) → AllWhole (S.reads store.old) (layout_blocks layout.now)
         → IsOkUnless result fault.DiskFault }
+    ensures damaged { IsTrue (S.tells store.old)
+        → IfErr result (λ e. IsFaultIn (S.reads store.old) (layout_blocks layout.now) e) }
     ensures kept { Kept S.Store store.old store.new }
     ensures faults { Counted result (S.read_fault_count store.old) (S.read_fault_count store.new) }
 {

@@ -40,7 +40,7 @@ no_names rate block_size depth c id has names =
 no_project_names : (c : Files) (id : ℕ) → NoProject 0 c → Names c id → ⊥
 no_project_names c id none names = none (is_project version_1 names.log c (omega arith) names.there)
 
-not_journal : (file : ℕ) → IsTrue (is_foreign file) → file ≢ 0
+pub not_journal : (file : ℕ) → IsTrue (is_foreign file) → file ≢ 0
 not_journal file foreign = λ e. let no : false ≡ true = ap is_foreign (sym e) ∙ foreign in absurd cc
 
 module _ {D : Type 0} (disk : Ghosts D) (old new : D) where

@@ -13,3 +13,5 @@ pub mod Resting
 pub mod OneFault
 pub mod Assembled
 pub mod Checked
+pub mod Folding
+pub mod StayingHonest

@@ -1,18 +1,22 @@
 -- A journal that is at rest stays so while nothing is written.
-use Rattle.std.proofs.Common.{◌≡◌, ℕ, None, Result, Ok, Err, refl, sym, ap, subst, ◌∙◌}
-use Rattle.std.specs.Prelude.{IfOk, OnOk}
+use Rattle.std.proofs.Common.{◌≡◌, ℕ, [], Result, Ok, Err, sym, ap, subst, ◌∙◌}
+use Rattle.std.specs.Prelude.{IfOk, OnOk, IsTrue}
 use Rattle.disk_model.specs.Disk.{Files}
 use Rattle.disk_model.specs.Frames.{Kept}
 use Rattle.disk_model.specs.declared.store.Store.{Ghosts}
 use Rattle.project_journal.specs.Gate.{IsDurable}
 use Rattle.project_journal.specs.Header.{version_1}
-use Rattle.project_journal.specs.Journal.{Log, HasLog, IsAt, Contents, log_of}
-use Rattle.project_journal.proofs.Found.{whole_log}
+use Rattle.project_journal.specs.Journal.{Log, HasLog, IsAt, log_of}
+use Rattle.project_journal.proofs.Found.{whole_log, stored_here, stored_rest}
 use Rattle.project_journal.proofs.Kept.{is_at_still}
+use Rattle.project_journal.specs.declared.reader.Reader.{Reader}
+use Rattle.project_journal.specs.Reader.{IsReading}
+use Rattle.project_journal.proofs.Readings.{reading_kept}
 use Rattle.editor_recovery.specs.declared.disk.Disk.{Disk}
+use Rattle.editor_recovery.specs.declared.disk.Folded.{Folded}
 use Rattle.editor_core.specs.declared.assembly.Parts.{Parts}
 use Rattle.editor_recovery.specs.declared.fault.OpenFault.{OpenFault}
-use Rattle.editor_recovery.specs.Reading.{IsRead}
+use Rattle.editor_recovery.specs.Finding.{FoldsDisk}
 
 module _ {D : Type 0} {disk : Ghosts D} where
   still_at : (mid new : D) (at : ℕ) (log : Log) → Kept disk mid new → IsAt version_1 disk mid at log
@@ -31,23 +35,22 @@ module _ {D : Type 0} {disk : Ghosts D} where
   durable_after mid new (Ok x) kept here = still_durable mid new 0 kept here
   durable_after mid new (Err e) kept here = tt
 
-  -- the journal of what was read
-  pub still_rest : (mid new : D) (j : Contents) (r : Result Disk OpenFault)
-      → (j.early ≡ None → IsAt version_1 disk mid j.end (log_of j)) → IfOk r (λ d. d.journal ≡ j) → Kept disk mid new
-      → IfOk r (λ d. d.journal.early ≡ None → IsAt version_1 disk new d.journal.end (log_of d.journal))
-  still_rest mid new j (Err e) rest is kept = tt
-  still_rest mid new j (Ok d) rest is kept = λ early.
-      subst (λ (k : Contents). IsAt version_1 disk new k.end (log_of k)) (sym is)
-      (still_at mid new j.end (log_of j) kept (rest (subst (λ (k : Contents). k.early ≡ None) is early)))
+  -- and so does a reader of the journal
+  pub still_reading : (mid new : D) (reader : Reader) (r : Result Disk OpenFault) → IsReading disk mid reader [] → IfOk r (λ d. d.reader ≡ reader) → Kept disk mid new
+      → IfOk r (λ d. IsReading disk new d.reader [])
+  still_reading mid new reader (Err e) here is kept = tt
+  still_reading mid new reader (Ok d) here is kept = subst (λ (x : Reader). IsReading disk new x []) (sym is) (reading_kept reader [] kept here)
 
-  -- and that of what was found
-  pub rest_after : (files : Files) (mid new : D) (d : Disk) (r : Result Parts OpenFault) → IsRead files d
-      → (d.journal.early ≡ None → IsAt version_1 disk mid d.journal.end (log_of d.journal))
-      → IfOk r (λ p. (p.journal_end ≡ d.journal.end) × (d.journal.early ≡ None)) → Kept disk mid new
-      → IfOk r (λ p. (log : Log) → HasLog version_1 log files → IsAt version_1 disk new p.journal_end log)
-  rest_after files mid new d (Err e) is rest end kept = tt
-  rest_after files mid new d (Ok p) is rest end kept = λ log has.
-      let same = (whole_log log files d.journal has is.journal).says in
-      subst (λ (n : ℕ). IsAt version_1 disk new n log) (sym end.0)
-      (subst (λ (l : Log). IsAt version_1 disk new d.journal.end l) same
-      (still_at mid new d.journal.end (log_of d.journal) kept (rest end.1)))
+  -- the journal that was folded, after what was found beside it
+  pub rest_after : (old mid new : D) (f : Folded) (r : Result Parts OpenFault) → disk.reads mid ≡ disk.reads old → IsTrue (disk.tells mid) → IsDurable disk mid 0
+      → FoldsDisk disk mid (Ok f) → IfOk r (λ p. p.journal_end ≡ f.end) → Kept disk mid new
+      → IfOk r (λ p. (log : Log) → HasLog version_1 log (disk.reads old) → IsAt version_1 disk new p.journal_end log)
+  rest_after old mid new f (Err e) same tells here fold end kept = tt
+  rest_after old mid new f (Ok p) same tells here fold end kept = λ log has.
+      let j = fold.0 in
+      let there = subst (λ (files : Files). HasLog version_1 log files) (sym same) has in
+      let says : log_of j ≡ log = (whole_log log (disk.reads mid) j there (stored_here disk mid j fold.1 tells).1).says in
+      let place : j.end ≡ p.journal_end = sym (end ∙ fold.2.end) in
+      still_at mid new p.journal_end log kept
+      (subst (λ (n : ℕ). IsAt version_1 disk mid n log) place
+      (subst (λ (l : Log). IsAt version_1 disk mid j.end l) says (stored_rest disk mid j fold.1 tells here fold.2.early)))

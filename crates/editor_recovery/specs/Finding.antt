@@ -1,15 +1,20 @@
 -- What the steps of opening answer.
-use Rattle.std.specs.Prelude.{◌≡◌, ℕ, ◌≤◌, ◌^◌, None, Some, List, map, Result, Ok, Err}
+use Rattle.std.specs.Prelude.{◌≡◌, ℕ, ◌≤◌, ◌^◌, None, Some, List, length, map, Result, Ok, Err}
 use Rattle.pcm_base.specs.declared.block.BlockRef.{BlockRef}
 use Rattle.disk_model.specs.Disk.{Files}
 use Rattle.sample_block.specs.Spelling.{size_of}
+use Rattle.disk_model.specs.declared.store.Store.{Ghosts}
+use Rattle.project_journal.specs.declared.fault.JournalFault.{JournalFault}
+use Rattle.project_journal.specs.declared.fault.JournalFault.TheVariants as journal
 use Rattle.project_journal.specs.Journal.{Contents, body_at}
+use Rattle.project_journal.specs.Readable.{IsReadable}
+use Rattle.project_journal.specs.Reader.{IsStored}
 use Rattle.block_ledger.specs.Entries.{count_of}
 use Rattle.project_state.specs.Kept.{new_project, LeadTo, history_blocks}
-use Rattle.record_fold.specs.declared.project.Project.{Project}
+use Rattle.project_state.specs.KeptSound.{IsSoundKept}
 use Rattle.record_fold.specs.Faults.{journal_fault}
 use Rattle.record_fold.specs.Folds.{kept_of}
-use Rattle.editor_recovery.specs.declared.disk.Disk.{Disk}
+use Rattle.editor_recovery.specs.declared.disk.Folded.{Folded}
 use Rattle.editor_core.specs.declared.assembly.Parts.{Parts}
 use Rattle.editor_recovery.specs.declared.fault.OpenFault.{OpenFault}
 use Rattle.editor_recovery.specs.declared.fault.OpenFault.TheVariants as fault
@@ -17,12 +22,38 @@ use Rattle.editor_recovery.specs.Files.{IsAbove}
 use Rattle.editor_recovery.specs.Ledgers.{IsCounted}
 use Rattle.editor_recovery.specs.Sizes.{AllHaveSize, IsFirstWrong, file_size, first_wrong}
 
--- the project to which the records lead, or their first fault, which is in file 0
-abbrev pub FoldsDisk : Contents → Result Project OpenFault → Type 0
-FoldsDisk j (Ok p) = (journal_fault j ≡ None) × (j.early ≡ None) × LeadTo j.block_size (new_project j.depth) (map body_at j.records) (kept_of p)
-FoldsDisk j (Err (fault.Damaged file at want have)) = (file ≡ 0) × (journal_fault j ≡ Some (record { at = at; want = want; have = have }))
-FoldsDisk j (Err fault.NoMemory) = Unit {0}
-FoldsDisk j (Err _) = ⊥
+-- what a journal says whose records have no fault
+pub record IsFoldOf (j : Contents) (f : Folded) : Type 0 where
+  pub rate : f.rate ≡ j.rate
+  pub block_size : f.block_size ≡ j.block_size
+  pub end : f.end ≡ j.end
+  pub sound : journal_fault j ≡ None
+  pub early : j.early ≡ None
+  pub leads : LeadTo j.block_size (new_project j.depth) (map body_at j.records) (kept_of f.project)
+
+-- that of the store's journal, or the first fault of its records, which is in file 0
+abbrev pub FoldsDisk : {D : Type 0} → Ghosts D → D → Result Folded OpenFault → Type 0
+FoldsDisk disk store (Ok f) = (j : Contents) × IsStored disk store j × IsFoldOf j f
+FoldsDisk disk store (Err (fault.Damaged file at want have)) = (j : Contents) × IsStored disk store j × (file ≡ 0) × (journal_fault j ≡ Some (record { at = at; want = want; have = have }))
+FoldsDisk disk store (Err fault.NoMemory) = Unit {0}
+FoldsDisk disk store (Err fault.DiskFault) = Unit {0}
+FoldsDisk disk store (Err _) = ⊥
+
+-- why records are not folded, as it is told
+abbrev pub records_fault : JournalFault → OpenFault
+records_fault (journal.Damaged file at want have) = fault.Damaged file at want have
+records_fault journal.DiskFault = fault.DiskFault
+records_fault journal.NoMemory = fault.NoMemory
+records_fault _ = fault.Exists
+
+-- whatever the store tells, a project that was folded is sound
+pub record IsSoundFolded (f : Folded) : Type 0 where
+  pub journal : Contents
+  pub readable : IsReadable journal
+  pub rate : f.rate ≡ journal.rate
+  pub block_size : f.block_size ≡ journal.block_size
+  pub end : f.end ≡ journal.end
+  pub kept : IsSoundKept journal.block_size journal.depth (length journal.records) (kept_of f.project)
 
 -- no file has another size than its block asks, by the sizes that were measured, or the first that has
 abbrev pub TestsMeasured : {T : Type 0} → (ℕ → ℕ) → List BlockRef → Result T OpenFault → Type 0
@@ -41,14 +72,14 @@ TestsSizes files blocks (Err fault.NoMemory) = Unit {0}
 TestsSizes files blocks (Err fault.DiskFault) = Unit {0}
 TestsSizes files blocks (Err _) = ⊥
 
--- what a journal, its files and its project amount to
-pub record ArePartsOf (d : Disk) (project : Project) (p : Parts) : Type 0 where
-  pub rate : p.rate ≡ d.journal.rate
-  pub block_size : p.block_size ≡ d.journal.block_size
-  pub history : p.history.history ≡ project.history.history
-  pub ledger : IsCounted d.files.items (history_blocks project.history.history) (count_of p.ledger)
-  pub next_block : IsAbove d.files.items project.next_block p.next_block
+-- what a journal, the files and the journal's project amount to
+pub record ArePartsOf (files : List ℕ) (f : Folded) (p : Parts) : Type 0 where
+  pub rate : p.rate ≡ f.rate
+  pub block_size : p.block_size ≡ f.block_size
+  pub history : p.history.history ≡ f.project.history.history
+  pub ledger : IsCounted files (history_blocks f.project.history.history) (count_of p.ledger)
+  pub next_block : IsAbove files f.project.next_block p.next_block
   pub bound : p.next_block ≤ 2 ^ 62
-  pub next_track : p.next_track ≡ project.next_track
-  pub commit : p.commit_number ≡ project.commit
-  pub end : p.journal_end ≡ d.journal.end
+  pub next_track : p.next_track ≡ f.project.next_track
+  pub commit : p.commit_number ≡ f.project.commit
+  pub end : p.journal_end ≡ f.end

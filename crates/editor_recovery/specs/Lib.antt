@@ -15,3 +15,4 @@ pub mod Bounds
 pub mod Reading
 pub mod Finding
 pub mod Laws
+pub mod StayingHonest

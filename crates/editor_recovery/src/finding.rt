@@ -1,18 +1,20 @@
 // What the journal and the files of a disk amount to.
-ghost use Rattle.std.specs.Prelude.{◌≡◌, ◌^◌, ◌≤◌, ◌≢◌, ℕ, None, Ok, IsTrue, IfOk, IfErr, IsErrOf, OnOk, Contains, length, find};
+ghost use Rattle.std.specs.Prelude.{◌≡◌, ◌^◌, ◌≤◌, ◌≢◌, [], None, IsTrue, IfOk, IfErr, IsErrOf, OnOk, Contains, find};
 ghost use Rattle.std.specs.List.{All};
 ghost use Rattle.std.specs.List.Sorted.{IsStrictlyIncreasing};
 ghost use Rattle.sample_block.specs.Spelling.{IsBlock, size_of};
-ghost use Rattle.project_journal.specs.Readable.{IsReadable};
+ghost use Rattle.project_journal.specs.Gate.{IsDurable};
+ghost use Rattle.project_journal.specs.Header.{IsProject, version_1};
+ghost use Rattle.project_journal.specs.Journal.{Contents, Log, HasLog, IsAt};
+ghost use Rattle.project_journal.specs.Reader.{IsReading};
 ghost use Rattle.project_state.specs.Kept.{point_blocks, history_blocks};
-ghost use Rattle.project_state.specs.KeptSound.{IsSoundKept};
-ghost use Rattle.record_fold.specs.Folds.{kept_of};
 ghost use Rattle.disk_model.specs.Frames.{Kept};
+ghost use Rattle.disk_model.specs.Disk.{bytes_of};
 ghost use Rattle.editor_recovery.specs.Bounds.{IsSoundParts};
 ghost use Rattle.editor_recovery.specs.Listing.{AreFiles};
-ghost use Rattle.editor_recovery.specs.Files.{is_foreign};
+ghost use Rattle.editor_recovery.specs.Files.{is_foreign, NoForeign};
 ghost use Rattle.editor_recovery.specs.Found.{answer_in};
-ghost use Rattle.editor_recovery.specs.Finding.{FoldsDisk, TestsMeasured, TestsSizes, ArePartsOf};
+ghost use Rattle.editor_recovery.specs.Finding.{FoldsDisk, IsFoldOf, IsSoundFolded, records_fault, TestsMeasured, TestsSizes, ArePartsOf};
 ghost use Rattle.editor_recovery.specs.Measured.{size_in};
 ghost use Rattle.editor_recovery.specs.Causes.{Causes};
 ghost use Rattle.editor_core.specs.Scans.{HaveOneLength};
@@ -20,7 +22,7 @@ ghost use Rattle.editor_recovery.specs.Opening.{Opens};
 ghost use Rattle.editor_recovery.specs.Reading.{IsRead};
 
 use super::counting::count_blocks;
-use super::disk::Disk;
+use super::disk::{Disk, Folded};
 use super::fault::OpenFault;
 use super::listing::block_above;
 use super::measuring::measure;
@@ -28,29 +30,56 @@ use super::sizes::{Sizes, wrong_block};
 use disk_model::Store;
 use editor_core::Parts;
 use pcm_base::BlockRef;
-use project_journal::Journal;
-use project_state::{BadBody, Point};
-use record_fold::{Project, fold_journal};
+use project_journal::{JournalFault, Reader};
+use project_state::Point;
+use record_fold::fold_journal;
 use sample_block::file_size;
 use std::alloc::Global;
 use undo_history::History;
 
-/// The project to which the records lead. Faults of the records are in file 0.
-fn fold_disk(alloc: Global, journal: &Journal) -> Result<Project, OpenFault>
-    requires { IsReadable journal.now }
-    ensures folds { FoldsDisk journal.now result }
-    ensures sound { IfOk result (λ p. IsSoundKept journal.now.block_size journal.now.depth (length journal.now.records) (kept_of p)) }
-    ensures no_fault { IsErrOf result OpenFault.DiskFault → ⊥ }
+/// Why the records are not folded.
+fn unfolded(fault: JournalFault) -> OpenFault
+    ensures { result ≡ records_fault fault }
 {
-    match fold_journal(alloc, journal) {
-        Ok(project) => Ok(project),
-        Err(BadBody::NoMemory) => Err(OpenFault::NoMemory),
-        Err(BadBody::Damaged { fault }) => Err(OpenFault::Damaged {
-            file: 0,
-            at: fault.at,
-            want: fault.want,
-            have: fault.have,
+    match fault {
+        JournalFault::Damaged {
+            file,
+            at,
+            want,
+            have,
+        } => OpenFault::Damaged {
+            file,
+            at,
+            want,
+            have,
+        },
+        JournalFault::DiskFault => OpenFault::DiskFault,
+        JournalFault::NoMemory => OpenFault::NoMemory,
+        // A fold has none of these answers.
+        JournalFault::Absent | JournalFault::Exists | JournalFault::SpaceSpent { .. } => {
+            OpenFault::Exists
+        }
+    }
+}
+
+/// The project to which the records lead, and what the journal says beside it. The reader's bytes are given back with
+/// its return.
+fn fold_disk<S: Store>(alloc: Global, store: &mut S, reader: Reader) -> Result<Folded, OpenFault>
+    requires { IsReading S.Store store.old reader [] }
+    ensures folds { FoldsDisk S.Store store.new result }
+    ensures sound { IfOk result IsSoundFolded }
+    ensures kept { Kept S.Store store.old store.new }
+    ensures cause { Causes S.Store store.old store.new result }
+{
+    let mut reader = reader;
+    match fold_journal(alloc, store, &mut reader) {
+        Ok(project) => Ok(Folded {
+            rate: reader.rate(),
+            block_size: reader.block_size(),
+            end: reader.end(),
+            project,
         }),
+        Err(fault) => Err(unfolded(fault)),
     }
 }
 
@@ -100,26 +129,31 @@ fn test_files<S: Store>(
 }
 
 /// The parts of a project whose blocks are all among the files.
-fn parts_of(alloc: Global, disk: Disk, project: Project) -> Result<Parts, OpenFault>
-    requires known { find is_foreign disk.files.items ≡ None }
-    requires rising { IsStrictlyIncreasing disk.files.items }
-    requires block { project.next_block ≤ 2 ^ 62 }
-    requires named { All (λ p. All (λ b. (b.id ≢ 0) × Contains disk.files.items b.id) (point_blocks p.0)) project.history.history.points }
-    ensures parts { IfOk result (ArePartsOf disk project) }
+fn parts_of(alloc: Global, files: &[u64], folded: Folded) -> Result<Parts, OpenFault>
+    requires known { find is_foreign files.now ≡ None }
+    requires rising { IsStrictlyIncreasing files.now }
+    requires block { folded.project.next_block ≤ 2 ^ 62 }
+    requires named { All (λ p. All (λ b. (b.id ≢ 0) × Contains files.now b.id) (point_blocks p.0)) folded.project.history.history.points }
+    ensures parts { IfOk result (ArePartsOf files.now folded) }
     ensures memory { IfErr result (λ e. e ≡ OpenFault.NoMemory) }
 {
-    let ledger = count_blocks(alloc, &disk.files, &project.history)?;
-    let next_block = block_above(&disk.files, project.next_block);
-    let Disk { journal, .. } = disk;
+    let ledger = count_blocks(alloc, files, &folded.project.history)?;
+    let next_block = block_above(files, folded.project.next_block);
+    let Folded {
+        rate,
+        block_size,
+        end,
+        project,
+    } = folded;
     Ok(Parts {
-        rate: journal.rate(),
-        block_size: journal.block_size(),
+        rate,
+        block_size,
         history: project.history,
         ledger,
         next_block,
         next_track: project.next_track,
         commit_number: project.commit,
-        journal_end: journal.end(),
+        journal_end: end,
     })
 }
 
@@ -127,21 +161,20 @@ fn parts_of(alloc: Global, disk: Disk, project: Project) -> Result<Parts, OpenFa
 fn size_parts<S: Store>(
     alloc: Global,
     store: &mut S,
-    disk: Disk,
-    project: Project,
+    files: &[u64],
+    folded: Folded,
 ) -> Result<Parts, OpenFault>
-    requires known { find is_foreign disk.files.items ≡ None }
-    requires rising { IsStrictlyIncreasing disk.files.items }
-    requires readable { IsReadable disk.journal }
-    requires sound { IsSoundKept disk.journal.block_size disk.journal.depth (length disk.journal.records) (kept_of project) }
-    ensures opens { IsTrue (S.tells store.old) → IsRead (S.reads store.old) disk → FoldsDisk disk.journal (Ok project) → Opens (S.reads store.old) (answer_in result) }
+    requires known { find is_foreign files.now ≡ None }
+    requires rising { IsStrictlyIncreasing files.now }
+    requires sound { IsSoundFolded folded }
+    ensures opens { (j : Contents) → IsTrue (S.tells store.old) → IsRead (S.reads store.old) j files.now → IsFoldOf j folded → Opens (S.reads store.old) (answer_in result) }
     ensures sound { IfOk result IsSoundParts }
-    ensures end { IfOk result (λ p. p.journal_end ≡ disk.journal.end) }
+    ensures end { IfOk result (λ p. p.journal_end ≡ folded.end) }
     ensures kept { Kept S.Store store.old store.new }
     ensures cause { Causes S.Store store.old store.new result }
 {
-    match test_files(alloc, store, &disk.files, &project.history) {
-        Ok(()) => parts_of(alloc, disk, project),
+    match test_files(alloc, store, files, &folded.project.history) {
+        Ok(()) => parts_of(alloc, files, folded),
         Err(fault) => Err(fault),
     }
 }
@@ -154,15 +187,18 @@ pub(crate) fn find_parts<S: Store>(
 ) -> Result<Parts, OpenFault>
     requires known { find is_foreign disk.files.items ≡ None }
     requires rising { IsStrictlyIncreasing disk.files.items }
-    requires readable { IsReadable disk.journal }
-    ensures opens { IsTrue (S.tells store.old) → IsRead (S.reads store.old) disk → Opens (S.reads store.old) (answer_in result) }
+    requires reading { IsReading S.Store store.old disk.reader [] }
+    ensures opens { IsTrue (S.tells store.old) → AreFiles (S.reads store.old) disk.files.items → NoForeign (S.reads store.old) → IsProject (bytes_of (S.reads store.old 0))
+        → Opens (S.reads store.old) (answer_in result) }
+    ensures at_rest { IsTrue (S.tells store.old) → IsDurable S.Store store.old 0 → IfOk result (λ p. (log : Log) → HasLog version_1 log (S.reads store.old)
+        → IsAt version_1 S.Store store.new p.journal_end log) }
     ensures sound { IfOk result IsSoundParts }
-    ensures end { IfOk result (λ p. (p.journal_end ≡ disk.journal.end) × (disk.journal.early ≡ None)) }
     ensures kept { Kept S.Store store.old store.new }
     ensures cause { Causes S.Store store.old store.new result }
 {
-    match fold_disk(alloc, &disk.journal) {
-        Ok(project) => size_parts(alloc, store, disk, project),
+    let Disk { reader, files } = disk;
+    match fold_disk(alloc, store, reader) {
+        Ok(folded) => size_parts(alloc, store, &files, folded),
         Err(fault) => Err(fault),
     }
 }

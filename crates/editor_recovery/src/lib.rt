@@ -27,5 +27,5 @@ mod walk;
 pub use checking::check;
 pub use creating::create;
 pub use fault::OpenFault;
-pub use laws::a_disk_has_one_fault;
+pub use laws::{a_disk_has_one_fault, calls_stay_honest};
 pub use opening::open_store;

@@ -1,10 +1,8 @@
 // The journal of a disk, and the files beside it.
-ghost use Rattle.std.specs.Prelude.{◌≡◌, None, IsTrue, IfOk, OnOk, find};
+ghost use Rattle.std.specs.Prelude.{◌≡◌, [], None, IsTrue, IfOk, OnOk, find};
 ghost use Rattle.std.specs.List.Sorted.{IsStrictlyIncreasing};
-ghost use Rattle.project_journal.specs.Header.{version_1};
 ghost use Rattle.project_journal.specs.Gate.{IsDurable};
-ghost use Rattle.project_journal.specs.Journal.{IsAt, log_of};
-ghost use Rattle.project_journal.specs.Readable.{IsReadable};
+ghost use Rattle.project_journal.specs.Reader.{IsReading};
 ghost use Rattle.disk_model.specs.Disk.{StaysStep};
 ghost use Rattle.disk_model.specs.Frames.{Kept, Changed};
 ghost use Rattle.editor_recovery.specs.Listing.{Lists};
@@ -16,12 +14,12 @@ use super::disk::Disk;
 use super::fault::OpenFault;
 use super::listing::list_files;
 use disk_model::Store;
-use project_journal::{Journal, JournalFault, read_all};
+use project_journal::{JournalFault, Reader, open_journal};
 use std::alloc::Global;
 
-/// The files beside a journal that was read.
-fn with_files<S: Store>(alloc: Global, store: &mut S, journal: Journal) -> Result<Disk, OpenFault>
-    ensures journal { IfOk result (λ d. d.journal ≡ journal) }
+/// The files beside a journal whose header was read.
+fn with_files<S: Store>(alloc: Global, store: &mut S, reader: Reader) -> Result<Disk, OpenFault>
+    ensures reader { IfOk result (λ d. d.reader ≡ reader) }
     ensures lists { IsTrue (S.tells store.old) → Lists (S.reads store.old) (λ d. d.files.items) result }
     ensures known { IfOk result (λ d. find is_foreign d.files.items ≡ None) }
     ensures rising { IfOk result (λ d. IsStrictlyIncreasing d.files.items) }
@@ -29,7 +27,7 @@ fn with_files<S: Store>(alloc: Global, store: &mut S, journal: Journal) -> Resul
     ensures cause { Causes S.Store store.old store.new result }
 {
     match list_files(alloc, store) {
-        Ok(files) => Ok(Disk { journal, files }),
+        Ok(files) => Ok(Disk { reader, files }),
         Err(fault) => Err(fault),
     }
 }
@@ -58,26 +56,24 @@ fn refused<S: Store>(
     }
 }
 
-/// Reads the journal and lists the files. Absent comes first, then the first foreign file, and then the header's fault.
+/// Reads the journal's header and lists the files. Absent comes first, then the first foreign file, and then the header's fault.
 pub(crate) fn read_disk<S: Store>(alloc: Global, store: &mut S) -> Result<Disk, OpenFault>
     ensures reads { IsTrue (S.tells store.old) → ReadsDisk (S.reads store.old) result }
-    ensures readable { IfOk result (λ d. IsReadable d.journal) }
+    ensures reading { IfOk result (λ d. IsReading S.Store store.new d.reader []) }
     ensures known { IfOk result (λ d. find is_foreign d.files.items ≡ None) }
     ensures rising { IfOk result (λ d. IsStrictlyIncreasing d.files.items) }
-    ensures at_rest { IsTrue (S.tells store.old) → IfOk result (λ d. d.journal.early ≡ None
-        → IsAt version_1 S.Store store.new d.journal.end (log_of d.journal)) }
     ensures cause { Causes S.Store store.old store.new result }
     ensures reads_same { S.reads store.new ≡ S.reads store.old }
     ensures durable { OnOk result (IsDurable S.Store store.new 0) }
     ensures changed { Changed S.Store StaysStep (record { files = 0; bytes = 0; calls = 1 }) store.old store.new }
 {
-    match read_all(alloc, store) {
-        Ok(journal) => with_files(alloc, store, journal),
+    match open_journal(alloc, store) {
+        Ok(reader) => with_files(alloc, store, reader),
         Err(JournalFault::Damaged { at, want, have, .. }) => refused(alloc, store, at, want, have),
         Err(JournalFault::Absent) => Err(OpenFault::Absent),
         Err(JournalFault::DiskFault) => Err(OpenFault::DiskFault),
         Err(JournalFault::NoMemory) => Err(OpenFault::NoMemory),
-        // A reading has neither of these answers.
+        // An opening has neither of these answers.
         Err(JournalFault::Exists | JournalFault::SpaceSpent { .. }) => Err(OpenFault::Exists),
     }
 }

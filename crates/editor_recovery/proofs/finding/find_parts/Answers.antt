@@ -1,12 +1,36 @@
--- Nothing was called where the records have a fault.
-use Rattle.disk_model.proofs.Frames.{kept_none}
-use Rattle.record_fold.specs.declared.project.Project.{Project}
-use Rattle.editor_core.specs.declared.assembly.Parts.{Parts}
-use Rattle.editor_recovery.proofs.Counted.{refused_none, no_fault}
+-- The fold of the journal, and then the sizes and the parts.
+use Rattle.std.proofs.Common.{◌∙◌, List, ℕ, sym, subst}
+use Rattle.disk_model.specs.Disk.{Files}
+use Rattle.disk_model.proofs.Frames.{kept_turn}
+use Rattle.editor_recovery.specs.Found.{answer_in}
+use Rattle.editor_recovery.specs.Listing.{AreFiles}
+use Rattle.editor_recovery.specs.Opening.{Opens}
+use Rattle.editor_recovery.specs.Reading.{IsRead}
+use Rattle.editor_recovery.proofs.Counted.{causes_turn}
+use Rattle.editor_recovery.proofs.Opens.{stored_read}
+use Rattle.editor_recovery.proofs.Resting.{rest_after, still_durable}
 use Rattle.editor_recovery.proofs.finding.find_parts.Goals as goal
 
-pub returns-in-Err-clause-kept : goal.returns-in-Err-clause-kept
-returns-in-Err-clause-kept g c = kept_none c.args.store.now (g.met.S.Store.may_fewer c.args.store.now)
+pub returns-in-Ok-clause-opens : goal.returns-in-Ok-clause-opens
+returns-in-Ok-clause-opens g c = λ tells are foreign project.
+    let old = g.S.Store.reads c.args.store.now in
+    let mid = c.fold_disk.new.store in
+    let kept = c.fold_disk.ensures.kept in
+    let told = kept.same_tells ∙ tells in
+    let fold = c.in-Ok.ensures.folds in
+    let listed = subst (λ (l : List ℕ). AreFiles old l) (sym c.deref.ensures.value) are in
+    let is = stored_read g.S.Store mid old fold.0 c.deref.result.now kept.same_reads told fold.1 listed foreign in
+    subst (λ (f : Files). Opens f (answer_in c.size_parts.result)) kept.same_reads
+    (c.size_parts.ensures.opens fold.0 told (subst (λ (f : Files). IsRead f fold.0 c.deref.result.now) (sym kept.same_reads) is) fold.2)
 
-pub returns-in-Err-clause-cause : goal.returns-in-Err-clause-cause
-returns-in-Err-clause-cause g c = refused_none g.S.Store Project Parts c.args.store.now c.args.store.now c.in-Err.fault (no_fault g.S.Store c.args.store.now) c.in-Err.ensures.no_fault
+pub returns-in-Ok-clause-at_rest : goal.returns-in-Ok-clause-at_rest
+returns-in-Ok-clause-at_rest g c = λ tells here.
+    let kept = c.fold_disk.ensures.kept in
+    rest_after {disk = g.S.Store} c.args.store.now c.fold_disk.new.store c.size_parts.new.store c.in-Ok.folded c.size_parts.result kept.same_reads (kept.same_tells ∙ tells)
+    (still_durable {disk = g.S.Store} c.args.store.now c.fold_disk.new.store 0 kept here) c.in-Ok.ensures.folds c.size_parts.ensures.end c.size_parts.ensures.kept
+
+pub returns-in-Ok-clause-kept : goal.returns-in-Ok-clause-kept
+returns-in-Ok-clause-kept g c = kept_turn c.fold_disk.ensures.kept c.size_parts.ensures.kept
+
+pub returns-in-Ok-clause-cause : goal.returns-in-Ok-clause-cause
+returns-in-Ok-clause-cause g c = causes_turn g.S.Store c.args.store.now c.fold_disk.new.store c.size_parts.new.store c.size_parts.result c.in-Ok.ensures.cause c.size_parts.ensures.cause

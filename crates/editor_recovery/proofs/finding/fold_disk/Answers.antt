@@ -1,13 +1,11 @@
--- Each project to which records lead is sound.
-use Rattle.std.proofs.Common.{ℕ, length, map, subst}
-use Rattle.std.proofs.lemmas.List.{length-map}
-use Rattle.project_journal.specs.Journal.{body_at}
-use Rattle.project_state.specs.KeptSound.{IsSoundKept}
-use Rattle.project_state.proofs.KeptBounds.{kept_sound}
-use Rattle.record_fold.specs.Folds.{kept_of}
+-- What the fold says of the journal, told of the disk.
+use Rattle.editor_recovery.proofs.Folding.{folds, folded_sound}
 use Rattle.editor_recovery.proofs.finding.fold_disk.Goals as goal
 
+pub returns-in-Ok-clause-folds : goal.returns-in-Ok-clause-folds
+returns-in-Ok-clause-folds g c =
+    folds g.S.Store c.fold_journal.new.store c.fold_journal.new.reader (record { rate = c.rate.result; block_size = c.block_size.result; end = c.end.result; project = c.in-Ok.project }) c.in-Ok.ensures.folds c.rate.ensures c.block_size.ensures c.end.ensures
+
 pub returns-in-Ok-clause-sound : goal.returns-in-Ok-clause-sound
-returns-in-Ok-clause-sound c =
-    let j = c.args.journal.now in
-    subst (λ (n : ℕ). IsSoundKept j.block_size j.depth n (kept_of c.in-Ok.project)) (length-map j.records body_at) (kept_sound j.block_size j.depth (kept_of c.in-Ok.project) (map body_at j.records) c.in-Ok.ensures.2)
+returns-in-Ok-clause-sound g c =
+    folded_sound g.S.Store c.fold_journal.new.store c.fold_journal.new.reader (record { rate = c.rate.result; block_size = c.block_size.result; end = c.end.result; project = c.in-Ok.project }) c.in-Ok.ensures.folds c.rate.ensures c.block_size.ensures c.end.ensures

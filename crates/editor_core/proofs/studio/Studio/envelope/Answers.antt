@@ -50,7 +50,7 @@ returns-in_err-scans g c =
     subst (λ r. Looks g.S.Store s call (told_by reply.Columns r) (record s { store = store })) (sym (p.1 ∙ ap Err p.2))
     (unread_looks g.S.Store s call store c.columns.ensures.kept why
     (λ held. c.in_err-scans.ensures.sound held.tells (layout_whole g.S.Store s c.requires c.args.track layout has held))
-    (scan_failed g.S.Store s c.requires c.args.track c.args.from c.args.to fewer c.args.columns layout has c.in_default.is store c.columns.ensures.kept why c.in_err-scans.ensures.tests c.in_err-scans.ensures.faults))
+    (scan_failed g.S.Store s c.requires c.args.track c.args.from c.args.to fewer c.args.columns layout has c.in_default.is store c.columns.ensures.kept why c.in_err-scans.ensures.tests c.in_err-scans.ensures.faults c.in_err-scans.ensures.damaged))
 
 pub returns : goal.returns
 returns g c =

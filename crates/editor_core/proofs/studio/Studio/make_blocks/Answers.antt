@@ -1,97 +1,18 @@
--- One block after another.
-use Rattle.std.proofs.Common.{◌∙◌, refl, sym, ap, subst, arith, Err}
-use Rattle.std.proofs.lemmas.Option.{slice_get_read}
+-- All blocks are written, and then they are synced.
+use Rattle.std.proofs.Common.{◌∙◌, sym, ap, subst, Err}
 use Rattle.std.proofs.lemmas.Result.{err_from_is_err_and}
-use Rattle.edit_ops.specs.declared.types.NewBlock.{NewBlock}
-use Rattle.block_ledger.specs.Entries.{count_of}
 use Rattle.editor_core.specs.Core.{core_of}
-use Rattle.editor_core.specs.Makes.{MadeOne, Makes}
-use Rattle.editor_core.proofs.Makings.{making_none, making_more, making_next, making_size, item, ready_item, fresh_next, stuck_here}
+use Rattle.editor_core.specs.Makes.{Makes}
+use Rattle.editor_core.proofs.Makings.{makes_both}
 use Rattle.editor_core.proofs.studio.Studio.make_blocks.Goals as goal
 
-pub rows-init : goal.rows-init
-rows-init g c = record {
-  making = making_none g.S.Store (core_of c.args.self.now) c.args.given.now c.args.makes.now (g.met.S.Store.may_fewer c.args.self.now.store);
-  read_faults = refl;
-  spare = omega arith;
-  history = refl;
-  body = refl;
-  row = refl;
-}
-
-pub make_one-requires-clause-id : goal.make_one-requires-clause-id
-make_one-requires-clause-id g c =
-    let s = core_of c.args.self.now in
-    let bs = c.args.makes.now in
-    let n = c.rows.block-index in
-    let here = slice_get_read bs _ n c.block-item.result refl c.rows-test.true c.block-item.is in
-    let ready = ready_item s.block_size s.next_block n bs c.block-item.result c.rows-test.true here c.requires.new c.requires.least c.requires.most c.requires.size in
-    ready.id ∙ sym (making_next g.S.Store s c.args.given.now bs n (core_of c.rows.self) c.rows.invariant.making)
-
-pub make_one-requires-clause-block : goal.make_one-requires-clause-block
-make_one-requires-clause-block g c =
-    let s = core_of c.args.self.now in
-    let bs = c.args.makes.now in
-    let n = c.rows.block-index in
-    let here = slice_get_read bs _ n c.block-item.result refl c.rows-test.true c.block-item.is in
-    (ready_item s.block_size s.next_block n bs c.block-item.result c.rows-test.true here c.requires.new c.requires.least c.requires.most c.requires.size).block
-
-pub make_one-requires-clause-total : goal.make_one-requires-clause-total
-make_one-requires-clause-total g c =
-    let s = core_of c.args.self.now in
-    let bs = c.args.makes.now in
-    let n = c.rows.block-index in
-    let here = slice_get_read bs _ n c.block-item.result refl c.rows-test.true c.block-item.is in
-    (ready_item s.block_size s.next_block n bs c.block-item.result c.rows-test.true here c.requires.new c.requires.least c.requires.most c.requires.size).total
-
-pub make_one-requires-clause-size : goal.make_one-requires-clause-size
-make_one-requires-clause-size g c =
-    let s = core_of c.args.self.now in
-    let bs = c.args.makes.now in
-    let n = c.rows.block-index in
-    let here = slice_get_read bs _ n c.block-item.result refl c.rows-test.true c.block-item.is in
-    let ready = ready_item s.block_size s.next_block n bs c.block-item.result c.rows-test.true here c.requires.new c.requires.least c.requires.most c.requires.size in
-    omega (arith, ready.few, making_size g.S.Store s c.args.given.now bs n (core_of c.rows.self) c.rows.invariant.making)
-
-pub make_one-requires-clause-fresh : goal.make_one-requires-clause-fresh
-make_one-requires-clause-fresh g c =
-    let s = core_of c.args.self.now in
-    let bs = c.args.makes.now in
-    let n = c.rows.block-index in
-    let here = slice_get_read bs _ n c.block-item.result refl c.rows-test.true c.block-item.is in
-    let ready = ready_item s.block_size s.next_block n bs c.block-item.result c.rows-test.true here c.requires.new c.requires.least c.requires.most c.requires.size in
-    fresh_next s.next_block n s.counts (count_of c.rows.self.ledger) c.block-item.result.id c.rows.invariant.making.ledger c.requires.below ready.id
-
-pub returns-in_err-make_one-clause-made : goal.returns-in_err-make_one-clause-made
-returns-in_err-make_one-clause-made g c =
-    let s = core_of c.args.self.now in
-    let bs = c.args.makes.now in
-    let n = c.rows.block-index in
-    let b : NewBlock = c.block-item.result in
-    let here = slice_get_read bs _ n b refl c.rows-test.true c.block-item.is in
+pub returns-in_err-write_blocks-clause-made : goal.returns-in_err-write_blocks-clause-made
+returns-in_err-write_blocks-clause-made g c =
     let e = err_from_is_err_and c.from_residual.result c.from_residual.ensures.1 in
-    let new = core_of c.make_one.new.self in
-    let failed = c.in_err-make_one.ensures in
-    subst (λ r. Makes g.S.Store s c.args.given.now bs r new) (sym (e.1 ∙ ap Err e.2))
-    (stuck_here g.S.Store s c.args.given.now bs n (core_of c.rows.self) c.rows.invariant.making c.rows-test.true c.requires.new b here
-    c.in_err-make_one.field-0.0 new c.rows.invariant.read_faults failed.made failed.sound)
+    subst (λ r. Makes g.S.Store (core_of c.args.self.now) c.args.given.now c.args.makes.now r (core_of c.write_blocks.new.self)) (sym (e.1 ∙ ap Err e.2))
+    c.in_err-write_blocks.ensures.written
 
-pub rows-preserved : goal.rows-preserved
-rows-preserved g c =
-    let s = core_of c.args.self.now in
-    let bs = c.args.makes.now in
-    let n = c.rows.block-index in
-    let b : NewBlock = c.block-item.result in
-    let here = slice_get_read bs _ n b refl c.rows-test.true c.block-item.is in
-    let is = item bs n b b c.rows-test.true here in
-    let mid = core_of c.rows.self in
-    let new = core_of c.make_one.new.self in
-    let done = c.in_ok-make_one.ensures in
-    let one = subst (λ (x : NewBlock). MadeOne g.S.Store mid c.args.given.now x new) (sym is) done.made in record {
-      making = making_more g.S.Store s c.args.given.now bs n b mid new c.rows-test.true c.requires.new c.rows.invariant.making one;
-      read_faults = done.made.read_faults ∙ c.rows.invariant.read_faults;
-      spare = omega (arith, done.spare, c.rows.invariant.spare);
-      history = done.history ∙ c.rows.invariant.history;
-      body = done.body ∙ c.rows.invariant.body;
-      row = done.row ∙ c.rows.invariant.row;
-    }
+pub returns-clause-made : goal.returns-clause-made
+returns-clause-made g c =
+    makes_both g.S.Store (core_of c.args.self.now) c.args.given.now c.args.makes.now c.sync_blocks.result (core_of c.write_blocks.new.self) (core_of c.sync_blocks.new.self)
+    c.in_ok-write_blocks.ensures.written c.sync_blocks.ensures.synced

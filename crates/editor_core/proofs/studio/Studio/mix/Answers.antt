@@ -1,5 +1,5 @@
 -- Hearing the mix is a step that changes nothing.
-use Rattle.std.proofs.Common.{◌∙◌, sym, ap, subst, ◌-◌, List, Err}
+use Rattle.std.proofs.Common.{◌∙◌, sym, ap, subst, ◌-◌, IsTrue, List, Err}
 use Rattle.std.proofs.lemmas.Result.{err_from_is_err_and}
 use Rattle.pcm_base.specs.declared.answer.Reply.TheVariants.{Frames}
 use Rattle.pcm_base.specs.declared.command.Call.TheVariants.{Line}
@@ -7,6 +7,7 @@ use Rattle.pcm_base.specs.declared.command.Command.TheVariants.{Mix}
 use Rattle.pcm_base.specs.declared.refusal.Refusal.TheVariants as refusal
 use Rattle.pcm_base.specs.Edits.{part}
 use Rattle.pcm_base.specs.Mix.{mix_of}
+use Rattle.block_store.specs.Reads.{IsFaultIn}
 use Rattle.sample_block.specs.Sources.{sources_of, AllNamed, AllWhole}
 use Rattle.project_state.specs.declared.track.Track.{Track}
 use Rattle.project_state.specs.Kept.{meant, point_blocks}
@@ -53,7 +54,9 @@ returns-in_err-count g c =
     (unread_sees g.S.Store s call store c.read_mix.ensures.kept Frames c.read_mix.new.out fault
     (λ held. c.in_err-count.ensures.sound held.tells
     (subst (λ (z : List Track). AllWhole (g.S.Store.reads s.store) (point_blocks z)) (sym c.current_of-point.ensures) (current_whole g.S.Store s c.requires.studio held)))
-    (mix_failed g.S.Store s c.requires.studio fewer c.args.from c.args.to c.in_default.is store c.read_mix.ensures.kept fault c.in_err-count.ensures.faults))
+    (mix_failed g.S.Store s c.requires.studio fewer c.args.from c.args.to c.in_default.is store c.read_mix.ensures.kept fault c.in_err-count.ensures.faults
+    (subst (λ (z : List Track). IsTrue (g.S.Store.tells s.store) → IsFaultIn (g.S.Store.reads s.store) (point_blocks z) fault) c.current_of-point.ensures
+    c.in_err-count.ensures.damaged)))
 
 pub returns : goal.returns
 returns g c =

@@ -72,4 +72,4 @@ returns-in-Err-clause-seen g c =
     subst (λ (z : Refusal). Sees g.S.Store s (ReadPin c.args.pin c.args.from count) Frames c.read_mix.new.out (Err z) (record s { store = store })) (sym c.into.ensures)
     (unread_sees g.S.Store s (ReadPin c.args.pin c.args.from count) store c.read_mix.ensures.kept Frames c.read_mix.new.out fault
     (λ held. c.in-Err.ensures.sound held.tells (pin_whole g.S.Store s c.requires c.args.pin point found held))
-    (read_failed g.S.Store s c.requires fewer c.args.pin c.args.from count c.in_default.is point found store c.read_mix.ensures.kept fault c.in-Err.ensures.faults))
+    (read_failed g.S.Store s c.requires fewer c.args.pin c.args.from count c.in_default.is point found store c.read_mix.ensures.kept fault c.in-Err.ensures.faults c.in-Err.ensures.damaged))

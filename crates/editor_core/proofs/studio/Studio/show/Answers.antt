@@ -60,7 +60,7 @@ returns-in_err-count g c =
     subst (λ r. Sees g.S.Store s call Cells c.read_view.new.out r (record s { store = store })) (sym (p.1 ∙ ap Err p.2))
     (unread_sees g.S.Store s call store c.read_view.ensures.kept Cells c.read_view.new.out fault
     (λ held. c.in_err-count.ensures.sound held.tells (layout_whole g.S.Store s c.requires.studio c.args.track layout has held))
-    (show_failed g.S.Store s c.requires.studio c.args.track c.args.from c.args.to fewer layout has c.in_default.is store c.read_view.ensures.kept fault c.in_err-count.ensures.faults))
+    (show_failed g.S.Store s c.requires.studio c.args.track c.args.from c.args.to fewer layout has c.in_default.is store c.read_view.ensures.kept fault c.in_err-count.ensures.faults c.in_err-count.ensures.damaged))
 
 pub returns : goal.returns
 returns g c =

@@ -1,0 +1,85 @@
+// A disk that stops after any of its calls in a script, and what is found on it.
+use super::every_line::{DEPTH, FILES, LAST, SCRIPT};
+use super::projects::{Kept, found, opened, project, vault};
+use super::scripts::Ask::Line;
+use super::scripts::{Played, Row, play};
+use disk_model::RamStore;
+use editor_recovery::open_store;
+use std::alloc::Global;
+use std::process::Abort;
+use std::test::*;
+
+const SHORT: [Row; 2] = [(Line("track"), "ok 1"), (Line("put 1 0 1 2 3"), "ok 2")];
+
+// Opens a new project and plays a script on a disk that stops after so many calls.
+fn stopped(alloc: Global, rows: &[Row], calls: u64) -> Result<(Played, RamStore), Fail> {
+    let mut store = project(alloc, 4, DEPTH)?;
+    store.stop_after(calls);
+    match open_store(alloc, store) {
+        Ok(mut studio) => {
+            let played = play(alloc, &mut studio, &mut vault(alloc)?, rows)?;
+            Ok((played, studio.into_store()))
+        }
+        Err((_fault, store)) => {
+            let nothing = Played {
+                rows: 0,
+                commit: 0,
+                other: None,
+            };
+            Ok((nothing, store))
+        }
+    }
+}
+
+// What is found where a script was played whole.
+fn played_whole(rt: &impl Abort, alloc: Global, rows: &[Row]) -> Result<Kept, Fail> {
+    let mut studio = opened(alloc, project(alloc, 4, DEPTH)?)?;
+    let played = play(alloc, &mut studio, &mut vault(alloc)?, rows)?;
+    assert_eq!(rt; played.rows, rows.len());
+    let kept = found(rt, alloc, studio.into_store())?;
+    Ok(kept)
+}
+
+#[test]
+fn every_line_is_answered(rt: HostRuntime) -> Result<(), Fail> {
+    let kept = played_whole(&rt, rt.alloc(), &SCRIPT)?;
+    assert_eq!(rt; kept.number, LAST);
+    assert!(rt; kept.files.as_slice() == FILES.as_slice());
+    Ok(())
+}
+
+// Each image has the project of the last commit that was told, or of the next.
+fn images_keep(
+    rt: &impl Abort,
+    alloc: Global,
+    store: &RamStore,
+    acknowledged: u64,
+) -> Result<(), Fail> {
+    for choice in 0..10 {
+        let image = store.image(alloc, choice)?;
+        let number = found(rt, alloc, image)?.number;
+        assert!(rt;
+            number == acknowledged || number.checked_sub(1) == Some(acknowledged),
+            "image {choice} has {number} after {acknowledged}"
+        );
+    }
+    Ok(())
+}
+
+// Stops a script after each of its calls, up to the first with which it is played whole.
+fn stops_keep(rt: &impl Abort, alloc: Global, rows: &[Row]) -> Result<(), Fail> {
+    for calls in 0..1000 {
+        let (played, store) = stopped(alloc, rows, calls)?;
+        images_keep(rt, alloc, &store, played.commit)?;
+        if played.rows == rows.len() {
+            return Ok(());
+        }
+    }
+    Err("it goes on".into())
+}
+
+#[test]
+fn a_stop_after_each_call(rt: HostRuntime) -> Result<(), Fail> {
+    stops_keep(&rt, rt.alloc(), &SCRIPT)?;
+    stops_keep(&rt, rt.alloc(), &SHORT)
+}

@@ -1,0 +1,112 @@
+-- What a call does over a vault, from what it does by itself.
+use Rattle.std.proofs.Common.{◌≡◌, ◌∙◌, inl, IfErr, refl, sym, ap, subst, ℕ, ◌+◌, Bool, IsTrue, Option, Some, None, is_some, List, Result, Ok, Err}
+use Rattle.pcm_base.specs.declared.answer.Reply.{Reply}
+use Rattle.pcm_base.specs.declared.command.Call.{Call}
+use Rattle.pcm_base.specs.declared.refusal.Refusal.{Refusal}
+use Rattle.pcm_base.specs.Outside.{SameElsewhere, Sounds}
+use Rattle.pcm_base.specs.declared.command.Command.{Command}
+use Rattle.pcm_base.specs.declared.command.Command.TheVariants as command
+use Rattle.pcm_base.specs.Run.{Heard, name_in, name_in_line}
+use Rattle.disk_model.specs.Frames.{Kept}
+use Rattle.disk_model.specs.declared.store.Store.{Ghosts}
+use Rattle.disk_model.proofs.Frames.{Fewer, changed_kept, changed_none}
+use Rattle.editor_core.specs.Applied.{Lasts, TookOver, move_of}
+use Rattle.editor_core.specs.Core.{Core}
+use Rattle.editor_core.specs.Exports.{moved_from}
+use Rattle.editor_core.specs.Left.{Left, MayRemove}
+use Rattle.editor_core.specs.Studios.{IsStudio}
+use Rattle.editor_core.specs.Took.{Took, number_behind, silent}
+use Rattle.editor_core.proofs.Leaving.{IsPlain, left_plain}
+use Rattle.editor_core.proofs.Looking.{looked, looked_studio}
+use Rattle.editor_core.proofs.Others.{others_none}
+use Rattle.editor_core.proofs.Staying.{stopped_not}
+
+module _ {D : Type 0} (disk : Ghosts D) (s : Core D) where
+  -- a step lasts
+  pub lasts_took : (call : Call) (told : Result Reply Refusal) (removed : ℕ) (new : Core D) → Took disk s call silent told removed new → Lasts disk s call told removed new
+  lasts_took call told removed new took = record {
+    studio = took.studio;
+    number = took.number;
+    rests = took.rests;
+    len = took.len;
+    changed = took.changed;
+    stops = took.stops;
+    left = took.left;
+  }
+
+  -- nothing was done
+  pub lasts_idle : IsStudio disk s → Fewer disk s.store → (call : Call) (why : Refusal) → IsPlain why → Lasts disk s call (Err why) 0 s
+  lasts_idle is fewer call why plain = record {
+    studio = is;
+    number = refl;
+    rests = λ some. refl;
+    len = 0;
+    changed = changed_none s.store (others_none s.next_block s.next_block (MayRemove call s.counts)) fewer;
+    stops = inl (refl, refl);
+    left = left_plain disk s (MayRemove call s.counts) s.store why plain;
+  }
+
+  -- nothing was changed
+  pub lasts_looked : (is : IsStudio disk s) (call : Call) → s.stopped ≡ None → (store : D) (kept : Kept disk s.store store) (told : Result Reply Refusal)
+      → s.commit_number ≡ number_behind told call s.commit_number → IfErr told (Left disk s (MayRemove call s.counts) (record s { store = store }))
+      → Lasts disk s call told 0 (record s { store = store })
+  lasts_looked is call going store kept told number left = record {
+    studio = looked_studio disk s is store kept;
+    number = number;
+    rests = λ some. absurd (stopped_not s.stopped some going);
+    len = 0;
+    changed = changed_kept (others_none s.next_block s.next_block (MayRemove call s.counts)) kept;
+    stops = inl (refl, kept.same_faults);
+    left = left;
+  }
+
+  -- a call that names no sound
+  pub over_silent : (tells : Bool) (sounds : Sounds) (call : Call) (told : Result Reply Refusal) (removed : ℕ) (new : Core D) → name_in call ≡ None
+      → Took disk s call silent told removed new → TookOver disk tells sounds sounds s call told new
+  over_silent tells sounds call told removed new none took = record {
+    removed = removed;
+    took = λ is. subst (λ (o : Option (List ℕ)). Took disk s call (move_of o sounds sounds) told removed new) (sym none) took;
+    heard = λ is. subst (λ (o : Option (List ℕ)). Heard o (move_of o sounds sounds) sounds sounds) (sym none) refl;
+    lasts = lasts_took call told removed new took;
+  }
+
+  -- one that names a sound
+  pub over_sound : (tells : Bool) (before after : Sounds) (call : Call) (name : List ℕ) (told : Result Reply Refusal) (new : Core D) → name_in call ≡ Some name
+      → (IsTrue tells → Took disk s call (moved_from (before name) (after name)) told 0 new)
+      → (IsTrue tells → SameElsewhere name before after) → Lasts disk s call told 0 new → TookOver disk tells before after s call told new
+  over_sound tells before after call name told new named took others lasts = record {
+    removed = 0;
+    took = λ is. subst (λ (o : Option (List ℕ)). Took disk s call (move_of o before after) told 0 new) (sym named) (took (is (ap is_some named)));
+    heard = λ is. subst (λ (o : Option (List ℕ)). Heard o (move_of o before after) before after) (sym named) (refl, refl, others (is (ap is_some named)));
+    lasts = lasts;
+  }
+
+-- every line but an import and an export names no sound
+pub names_none : (c : Command) → ((name : List ℕ) → c ≡ command.Import name → ⊥) → ((name : List ℕ) → c ≡ command.Export name → ⊥) → name_in_line c ≡ None
+names_none command.Track a b = refl
+names_none (command.Drop id) a b = refl
+names_none (command.Level id gain) a b = refl
+names_none (command.Side id side) a b = refl
+names_none (command.Mute id mute) a b = refl
+names_none (command.Put id at samples) a b = refl
+names_none (command.Ramp id at n start step) a b = refl
+names_none (command.Delete id from to) a b = refl
+names_none (command.SplitDelete id from to) a b = refl
+names_none (command.Silence id from to) a b = refl
+names_none (command.Trim id from to) a b = refl
+names_none (command.Gain id from to gain) a b = refl
+names_none (command.Cut id n from to) a b = refl
+names_none (command.SplitCut id n from to) a b = refl
+names_none (command.Copy id n from to) a b = refl
+names_none (command.Paste id at) a b = refl
+names_none (command.PasteOver id at) a b = refl
+names_none command.Undo a b = refl
+names_none command.Redo a b = refl
+names_none (command.Purge n) a b = refl
+names_none (command.Show id from to) a b = refl
+names_none (command.Mix from to) a b = refl
+names_none (command.Envelope id from to columns) a b = refl
+names_none command.Tracks a b = refl
+names_none (command.Reclaim limit) a b = refl
+names_none (command.Import name) a b = absurd (a name refl)
+names_none (command.Export name) a b = absurd (b name refl)

@@ -1,0 +1,272 @@
+-- An export: the mix of the current project as a sound of a vault, with nothing of the studio changed.
+use Rattle.std.proofs.Common.{◌≡◌, ◌⊎◌, inl, inr, ⊎_elim, refl, sym, ap, ◌∙◌, subst, ℕ, ◌+◌, ◌*◌, ◌^◌, ◌≤◌, ◌<◌, ◌==◌, if◌then◌else◌, IsTrue, Option, Some, None, List, [], ◌∷◌, length, take, max, Result, Ok, Err, OnErr, arith}
+use Rattle.std.proofs.lemmas.Bool.{le-ltb, lt-ltb}
+use Rattle.std.proofs.lemmas.List.Concat.{flat_map-cons}
+use Rattle.std.proofs.lemmas.List.{length-map}
+use Rattle.pcm_base.specs.declared.answer.Reply.{Reply}
+use Rattle.pcm_base.specs.declared.answer.Reply.TheVariants as reply
+use Rattle.pcm_base.specs.declared.command.Call.{Call}
+use Rattle.pcm_base.specs.declared.command.Call.TheVariants.{Line}
+use Rattle.pcm_base.specs.declared.command.Command.TheVariants as command
+use Rattle.pcm_base.specs.declared.entry.SoundMove.{SoundMove}
+use Rattle.pcm_base.specs.declared.refusal.Refusal.{Refusal}
+use Rattle.pcm_base.specs.declared.refusal.Refusal.TheVariants as refusal
+use Rattle.pcm_base.specs.declared.sound.Frame.{Frame}
+use Rattle.pcm_base.specs.Causes.{Rose}
+use Rattle.pcm_base.specs.Cells.{Project}
+use Rattle.pcm_base.specs.Counters.{no_room}
+use Rattle.pcm_base.specs.Mix.{mix_of, mix_length}
+use Rattle.pcm_base.specs.Outside.{Outside}
+use Rattle.pcm_base.specs.Pieces.{Sources}
+use Rattle.pcm_base.specs.Recordings.{bytes_of_frame, frame_bytes}
+use Rattle.pcm_base.specs.Refusals.{◌otherwise◌, refused_if, too_long}
+use Rattle.pcm_base.specs.Run.{Answers, BreaksOff, CarriesOut, IsPartOfMix, followed, outside, refusal_of, stop_of}
+use Rattle.pcm_base.specs.State.{current}
+use Rattle.pcm_base.specs.Step.{mix_file}
+use Rattle.pcm_base.specs.Studio as model
+use Rattle.pcm_base.specs.Wave.{wav_text}
+use Rattle.disk_model.specs.Disk.{Files}
+use Rattle.disk_model.specs.Frames.{Kept}
+use Rattle.disk_model.specs.declared.store.Store.{Ghosts}
+use Rattle.disk_model.proofs.Frames.{Fewer, changed_kept}
+use Rattle.sample_block.specs.Sources.{sources_of}
+use Rattle.block_store.specs.declared.fault.BlockFault.{BlockFault}
+use Rattle.block_store.specs.declared.fault.BlockFault.TheVariants as fault
+use Rattle.clip_track.proofs.Layouts.{length-layout}
+use Rattle.project_journal.specs.Gate.{EachSince}
+use Rattle.project_state.specs.declared.track.Track.{Track}
+use Rattle.project_state.specs.Sound.{AllSoundTracks}
+use Rattle.mix_view.specs.Tracks.{mix_length_of}
+use Rattle.mix_view.proofs.TrackLaws.{longest_first}
+use Rattle.project_state.specs.Kept.{Keeps, meant}
+use Rattle.wav_pcm.specs.Wavs.{FitsFile}
+use Rattle.sound_export.specs.declared.fault.ExportFault.{ExportFault}
+use Rattle.sound_export.specs.declared.fault.ExportFault.TheVariants.{TooLong, Block, VaultFault}
+use Rattle.sound_export.specs.Written.{ExportCountedBy, IsBlockFault, IsLengthFault, IsNoDamage, IsOfDevice, MayBegin, refusal_of as reason_of_export}
+use Rattle.sound_export.proofs.GrowLaws.{length_mix}
+use Rattle.envelope_view.specs.Answers.{IsUndamaged}
+use Rattle.editor_core.specs.Core.{Core}
+use Rattle.editor_core.specs.Left.{IsSoOf, Left}
+use Rattle.editor_core.specs.Points.{current_tracks}
+use Rattle.editor_core.specs.Studios.{IsHeld, IsStudio, named_blocks, shown, studio_by, studio_of}
+use Rattle.editor_core.specs.Took.{Took}
+use Rattle.editor_core.proofs.Editing.{current_meant, current_sound}
+use Rattle.editor_core.proofs.Images.{keeps_now}
+use Rattle.editor_core.proofs.Leaving.{left_read}
+use Rattle.editor_core.proofs.Looking.{looked, looked_held, looked_studio}
+use Rattle.editor_core.proofs.Others.{NoneGoes, others_none}
+use Rattle.editor_core.proofs.Spaces.{fits}
+use Rattle.editor_core.proofs.Staying.{refuses, stopped_not}
+
+-- ---- how long the file is
+
+length_frames : (frames : List Frame) → length (frame_bytes frames) ≡ 4 * length frames
+length_frames [] = refl
+length_frames (f ∷ fs) = ap length (flat_map-cons bytes_of_frame f fs) ∙ omega (arith, length_frames fs)
+
+length_text : (frames : List Frame) (rate : ℕ) → length (wav_text frames rate) ≡ 44 + 4 * length frames
+length_text frames rate = omega (arith, length_frames frames)
+
+-- how long a mix is, by the layouts of its tracks
+mix_len_by : (src : Sources) (m next_block next_track : ℕ) (ts : List Track) → AllSoundTracks m next_block next_track ts
+    → mix_length (meant src ts) ≡ mix_length_of ts
+mix_len_by src m next_block next_track [] all = refl
+mix_len_by src m next_block next_track (t ∷ ts) all =
+    longest_first src t ts ∙ (λ i. max (if t.mute then 0 else (length-layout src t.layout all.0.layout.apart) i) (mix_len_by src m next_block next_track ts all.1 i))
+
+-- a fault where the disk has all blocks shows no damaged file
+abbrev is_disk : BlockFault → Type 0
+is_disk fault.DiskFault = Unit {0}
+is_disk (fault.Damaged file found) = ⊥
+
+pub export_undamaged : (why : ExportFault) → IsNoDamage why → IsUndamaged (reason_of_export why)
+export_undamaged (TooLong frames) none = tt
+export_undamaged (Block fault.DiskFault) none = tt
+export_undamaged (Block (fault.Damaged file found)) none = absurd (subst is_disk (sym none) tt)
+export_undamaged VaultFault none = tt
+
+module _ {D : Type 0} (disk : Ghosts D) (s : Core D) (is : IsStudio disk s) (name : List ℕ) (sound : SoundMove) where
+  abbrev call : Call
+  call = Line (command.Export name)
+
+  abbrev t : model.Studio
+  t = studio_of disk s
+
+  abbrev out : Outside
+  out = outside t sound
+
+  abbrev point_mix : List Frame
+  point_mix = mix_of (meant (sources_of (disk.reads s.store)) (current_tracks s.history))
+
+  -- what the model would write
+  file_is : mix_file t.rate t.state ≡ wav_text point_mix s.rate
+  file_is = ap (λ (p : Project). wav_text (mix_of p) s.rate) (current_meant disk s is)
+
+  -- how long it is, by the layouts
+  pub export_len : mix_length_of (current_tracks s.history) ≡ length point_mix
+  export_len =
+      let src = sources_of (disk.reads s.store) in
+      sym (mix_len_by src s.block_size s.next_block s.next_track (current_tracks s.history) (current_sound disk s is).sound)
+      ∙ sym (length_mix (meant src (current_tracks s.history)))
+
+  len_is : mix_length (current t.state) ≡ length point_mix
+  len_is = ap mix_length (current_meant disk s is) ∙ sym (length_mix (meant (sources_of (disk.reads s.store)) (current_tracks s.history)))
+
+  -- ---- it had stopped before
+
+  pub export_stopped : Fewer disk s.store → sound.after ≡ sound.before → (faults : ℕ) → s.stopped ≡ Some faults
+      → Took disk s call sound (Err (refusal.Stopped faults)) 0 s
+  export_stopped fewer quiet faults stopped =
+      refuses disk s call sound (refusal.Stopped faults) is fewer quiet 0 0 (λ held. (refl, refl))
+      (ap (λ (z : Option Refusal). z otherwise rest) (ap stop_of stopped))
+    where
+      rest : Option Refusal
+      rest = (too_long (mix_length (current t.state))) otherwise ((no_room t.next_block 0) otherwise (no_room t.state.next_track 0)
+          otherwise (no_room t.state.commit 0) otherwise (no_room t.state.next_pin 0) otherwise (no_room t.journal_end 0)) otherwise None
+
+  module _ (going : s.stopped ≡ None) (store : D) (kept : Kept disk s.store store) where
+    abbrev here : Core D
+    here = looked disk s is store kept
+
+    -- ---- what it leaves
+
+    state_is : studio_of disk here ≡ record t { read_faults = disk.read_fault_count store }
+    state_is = λ i. record (studio_by (sources_of (kept.same_reads i)) disk s) { read_faults = disk.read_fault_count store; change_faults = kept.same_faults i }
+
+    still : IsHeld disk s → EachSince disk s.store store (λ c. Keeps c (shown t))
+    still held c since =
+        let from = kept.same_images.from c since in
+        subst (λ (f : Files). Keeps f (shown t)) (sym from.2) (keeps_now disk s going held from.0 from.1)
+
+    done : (bytes : ℕ) → (IsHeld disk s → CarriesOut t call sound (reply.Wrote bytes) (studio_of disk here))
+        → Took disk s call sound (Ok (reply.Wrote bytes)) 0 here
+    done bytes step = record {
+      studio = looked_studio disk s is store kept;
+      held = looked_held disk s is store kept;
+      step = step;
+      any_moment = λ on held c since. inl (still held c since);
+      refused = λ on held left. tt;
+      now = λ left held. keeps_now disk here left (looked_held disk s is store kept held);
+      number = omega arith;
+      rests = λ some. absurd (stopped_not s.stopped some going);
+      len = 0;
+      needs = λ held. (0, (refl, refl));
+      changed = changed_kept (others_none s.next_block s.next_block NoneGoes) kept;
+      stops = inl (refl, kept.same_faults);
+      left = tt;
+    }
+
+    failed : (why : Refusal) → IsSoOf disk s here why → (IsHeld disk s → Answers t call sound (Err why) (studio_of disk here)) → Took disk s call sound (Err why) 0 here
+    failed why so step = record {
+      studio = looked_studio disk s is store kept;
+      held = looked_held disk s is store kept;
+      step = step;
+      any_moment = λ on held c since. inl (still held c since);
+      refused = λ on held left c since. still held c since;
+      now = λ left held. keeps_now disk here left (looked_held disk s is store kept held);
+      number = refl;
+      rests = λ some. absurd (stopped_not s.stopped some going);
+      len = 0;
+      needs = λ held. (0, (refl, refl));
+      changed = changed_kept (others_none s.next_block s.next_block NoneGoes) kept;
+      stops = inl (refl, kept.same_faults);
+      left = left_read disk s NoneGoes store why so;
+    }
+
+    -- ---- carried out
+
+    passes : too_long (mix_length (current t.state)) ≡ None → refusal_of out t call 0 0 ≡ None
+    passes own =
+        let block = fits t.next_block 0 (omega (arith, is.counters.block_most)) in
+        let track = fits t.state.next_track 0 (omega (arith, is.counters.track_most)) in
+        let commit = fits t.state.commit 0 (omega (arith, is.counters.commit_most)) in
+        let pin = fits t.state.next_pin 0 (omega (arith, is.counters.pin_most)) in
+        let end = fits t.journal_end 0 (omega (arith, is.counters.end_most)) in
+        λ i. (stop_of (going i)) otherwise (own i) otherwise ((block i) otherwise (track i) otherwise (commit i) otherwise (pin i) otherwise (end i)) otherwise None
+
+    follows : disk.read_fault_count store ≡ disk.read_fault_count s.store → studio_of disk here ≡ followed out t call 0 0
+    follows faults =
+        let block : t.next_block ≡ t.next_block + 0 = omega arith in
+        let end : t.journal_end ≡ t.journal_end + 0 = omega arith in
+        state_is ∙ (λ i. record t { next_block = block i; journal_end = end i; read_faults = faults i })
+
+    pub exported : (bytes len : ℕ) → len ≡ length point_mix → FitsFile len → bytes ≡ 44 + 4 * len
+        → disk.read_fault_count store ≡ disk.read_fault_count s.store
+        → (IsHeld disk s → sound.after ≡ Some (wav_text point_mix s.rate)) → Took disk s call sound (Ok (reply.Wrote bytes)) 0 here
+    exported bytes len long few size faults written = done bytes (λ held. record {
+      blocks = 0;
+      len = 0;
+      needs = (refl, refl);
+      passed = passes (ap too_long (len_is ∙ sym long) ∙ ap (λ b. refused_if b (refusal.TooLong len)) (le-ltb 4294967295 (36 + 4 * len) (omega (arith, few))));
+      answers = ap reply.Wrote (omega (arith, size, long, length_text point_mix s.rate, ap length file_is));
+      is = follows faults;
+      heard = written held ∙ ap Some (sym file_is);
+    })
+
+    -- ---- not carried out
+
+    part : MayBegin (wav_text point_mix s.rate) sound.before sound.after → IsPartOfMix t.rate t sound
+    part (inl same) = inl same
+    part (inr (count, within, front)) = inr (count, front ∙ ap (λ (bytes : List ℕ). Some (take count bytes)) (sym file_is))
+
+    breaks : (IsHeld disk s → MayBegin (wav_text point_mix s.rate) sound.before sound.after) → IsHeld disk s → BreaksOff t call sound (studio_of disk here)
+    breaks begun held =
+        let same : s.next_block ≡ s.next_block + 0 = omega arith in record {
+          going = going;
+          blocks = 0;
+          len = 0;
+          needs = (refl, refl);
+          room = omega (arith, is.counters.block_most);
+          is = state_is ∙ (λ i. record t { next_block = same i; read_faults = disk.read_fault_count store; change_faults = sym kept.same_faults i });
+          leaves = part (begun held);
+        }
+
+    -- what it leaves, whatever the vault tells
+    pub export_left : (why : ExportFault) (faults faults' : ℕ) → ExportCountedBy why (disk.read_fault_count s.store) (disk.read_fault_count store) faults faults'
+        → (IsTrue (disk.tells s.store) → IsBlockFault (disk.reads s.store) (named_blocks s) why) → Left disk s NoneGoes here (reason_of_export why)
+    export_left (TooLong frames) faults faults' counted named = left_read disk s NoneGoes store (refusal.TooLong frames) tt
+    export_left (Block fault.DiskFault) faults faults' counted named =
+        left_read disk s NoneGoes store refusal.DiskFault (inl (record { rose = counted.0.0; later = counted.0.1 }))
+    export_left (Block (fault.Damaged file found)) faults faults' counted named =
+        left_read disk s NoneGoes store (refusal.Damaged file found.at found.want found.have) named
+    export_left VaultFault faults faults' counted named = left_read disk s NoneGoes store refusal.VaultFault tt
+
+    pub export_failed : (why : ExportFault) (len faults faults' : ℕ) → len ≡ length point_mix → IsLengthFault len why
+        → ExportCountedBy why (disk.read_fault_count s.store) (disk.read_fault_count store) faults faults'
+        → (IsOfDevice why ⊎ (sound.after ≡ sound.before))
+        → (IsHeld disk s → MayBegin (wav_text point_mix s.rate) sound.before sound.after)
+        → (IsTrue (disk.tells s.store) → IsBlockFault (disk.reads s.store) (named_blocks s) why)
+        → Took disk s call sound (Err (reason_of_export why)) 0 here
+    export_failed (TooLong frames) len faults faults' long fault counted untouched begun named = failed (refusal.TooLong frames) tt (λ held. inl (record {
+      blocks = 0;
+      len = 0;
+      needs = (refl, refl);
+      first =
+          let own : too_long (mix_length (current t.state)) ≡ Some (refusal.TooLong frames) =
+          ap too_long (len_is ∙ sym long) ∙ ap (λ b. refused_if b (refusal.TooLong len)) (lt-ltb 4294967295 (36 + 4 * len) fault.1)
+          ∙ ap (λ (n : ℕ). Some (refusal.TooLong n)) (sym fault.0) in
+          λ i. (stop_of (going i)) otherwise (own i) otherwise ((no_room t.next_block 0) otherwise (no_room t.state.next_track 0)
+          otherwise (no_room t.state.commit 0) otherwise (no_room t.state.next_pin 0) otherwise (no_room t.journal_end 0)) otherwise None;
+      same = state_is ∙ (λ i. record t { read_faults = counted.0 i });
+      quiet = ⊎_elim (λ of. absurd of) (λ same. same) untouched;
+    }))
+    export_failed (Block fault.DiskFault) len faults faults' long of counted untouched begun named = failed refusal.DiskFault (inl (record { rose = counted.0.0; later = counted.0.1 })) (λ held. inr (record {
+      breaks = breaks begun held;
+      cause = inl (record { goes_on = going; rose = counted.0.0; later = counted.0.1; changes = kept.same_faults });
+    }))
+    export_failed (Block (fault.Damaged file found)) len faults faults' long of counted untouched begun named =
+        failed (refusal.Damaged file found.at found.want found.have) named (λ held. inr (record {
+          breaks = breaks begun held;
+          stopped = going;
+          reads = counted.0;
+          changes = kept.same_faults;
+        }))
+    export_failed VaultFault len faults faults' long of counted untouched begun named = failed refusal.VaultFault tt (λ held. inr (
+      refl,
+      record {
+        breaks = breaks begun held;
+        stopped = going;
+        reads = counted.0;
+        changes = kept.same_faults;
+      },
+    ))

@@ -1,0 +1,259 @@
+-- What holds of an edit that makes blocks, whatever its call means and whatever is told; and that no vault refuses it.
+use Rattle.std.proofs.Common.{◌≡◌, ◌↔◌, ◌⊎◌, ◌<◌, inl, inr, ⊎_elim, refl, sym, ap, ◌∙◌, subst, ℕ, nat_lt, ◌+◌, ◌-◌, ◌^◌, ◌≤◌, IfErr, Bool, true, false, IsSome, Option, Some, None, List, ◌++◌, length, Result, Ok, Err, arith}
+use Rattle.pcm_base.specs.declared.answer.Reply.{Reply}
+use Rattle.pcm_base.specs.declared.answer.Reply.TheVariants.{Done}
+use Rattle.pcm_base.specs.declared.block.BlockRef.{BlockRef}
+use Rattle.pcm_base.specs.declared.command.Call.{Call}
+use Rattle.pcm_base.specs.declared.refusal.Refusal.{Refusal}
+use Rattle.pcm_base.specs.declared.refusal.Refusal.TheVariants as refusal
+use Rattle.pcm_base.specs.Counters.{commits_of, no_room}
+use Rattle.pcm_base.specs.History.{History}
+use Rattle.pcm_base.specs.Refusals.{◌otherwise◌, refused_if}
+use Rattle.disk_model.specs.Disk.{StaysStep}
+use Rattle.disk_model.specs.Frames.{Changed}
+use Rattle.disk_model.specs.declared.store.Store.{Ghosts}
+use Rattle.disk_model.proofs.Frames.{Fewer, changed_wider}
+use Rattle.block_ledger.specs.Counts.{Counts, IsFreshCount}
+use Rattle.clip_track.specs.declared.items.Item.{Item}
+use Rattle.edit_ops.specs.declared.types.NewBlock.{NewBlock}
+use Rattle.piece_store.specs.declared.given.Given as brings
+use Rattle.project_state.specs.declared.body.Body.TheVariants.{Edit}
+use Rattle.project_state.specs.declared.track.Track.{Track}
+use Rattle.project_state.specs.Kept.{history_blocks}
+use Rattle.project_state.specs.Spelling.{spelling}
+use Rattle.editor_core.specs.Adding.{Adds, Exceeds, stopped_by}
+use Rattle.editor_core.specs.Applied.{Lasts}
+use Rattle.editor_core.specs.Core.{Core}
+use Rattle.editor_core.specs.Edits.{Carried, Committed, IsPlanned, IsPrepared, NotPrepared}
+use Rattle.editor_core.specs.Imports.{IsNoVault}
+use Rattle.editor_core.specs.Left.{IsSoOf, Left, LeavesOthers, MayRemove, Stops}
+use Rattle.editor_core.specs.Made.{PiecesThere}
+use Rattle.editor_core.specs.Makes.{Making, NotMade, Stuck, Unput, Unread, one_call}
+use Rattle.editor_core.specs.Studios.{IsGiven, IsHeld, IsStudio, clip_blocks, ids_of, pin_blocks}
+use Rattle.editor_core.specs.Took.{asks, number_behind}
+use Rattle.editor_core.proofs.Applying.{lasts_idle}
+use Rattle.editor_core.proofs.EditLaws.{clip_covers_then, covers_then, edit_history, pieces_there, points_then}
+use Rattle.editor_core.proofs.Grown.{LeadsOn, led_studio, stopped_studio}
+use Rattle.editor_core.proofs.Lists.{all_so}
+use Rattle.editor_core.proofs.MadeLeft.{all_changed, all_failed, all_left, damaged_so, missed_so, some_changed, some_left, some_stop, unput_changed, unput_failed, unput_here, unput_is, unput_left}
+use Rattle.editor_core.proofs.MadeStudios.{IsNewId, made_studio, refs, refs_ids, with_store}
+use Rattle.editor_core.proofs.Makings.{making_unread}
+use Rattle.editor_core.proofs.Others.{NoneGoes, others_record}
+use Rattle.editor_core.proofs.PlainTests.{unprepared_plain}
+use Rattle.editor_core.proofs.Recorded.{recorded_depth, recorded_few}
+use Rattle.editor_core.proofs.Staying.{record_within, stopped_not}
+
+-- ---- no vault refuses it
+
+-- a test tells of no vault
+abbrev AsksNone : Option Refusal → Type 0
+AsksNone None = Unit {0}
+AsksNone (Some why) = IsNoVault why
+
+spent_asks : (b : Bool) (have need : ℕ) → AsksNone (refused_if b (refusal.SpaceSpent have need))
+spent_asks true have need = tt
+spent_asks false have need = tt
+
+either_asks : (a b : Option Refusal) → AsksNone a → AsksNone b → AsksNone (a otherwise b)
+either_asks None b x y = y
+either_asks (Some why) b x y = x
+
+exceeding_asks : (end len : ℕ) (why : Refusal) → Exceeds end len why → IsNoVault why
+exceeding_asks end len (refusal.SpaceSpent have need) h = tt
+exceeding_asks end len (refusal.RecordLimit n) h = tt
+exceeding_asks end len why h = absurd h
+
+not_made_asks : {D : Type 0} (disk : Ghosts D) (old new : Core D) (why : Refusal) → NotMade disk old why new → IsNoVault why
+not_made_asks disk old new refusal.DiskFault by = tt
+not_made_asks disk old new (refusal.Damaged file at want have) by = tt
+not_made_asks disk old new why by = absurd by
+
+unprepared_asks : {D : Type 0} (s : Core D) (n tracks len : ℕ) (why : Refusal) → NotPrepared s n tracks len why → IsNoVault why
+unprepared_asks s n tracks len why not = ⊎_elim
+    (λ memory. subst IsNoVault (sym memory) tt)
+    (⊎_elim
+    (λ spent.
+    let block = no_room s.next_block n in
+    let track = no_room s.next_track tracks in
+    let number = no_room s.commit_number 1 in
+    subst AsksNone spent
+    (either_asks block (track otherwise number) (spent_asks (nat_lt (2 ^ 62) (s.next_block + n)) s.next_block n)
+    (either_asks track number (spent_asks (nat_lt (2 ^ 62) (s.next_track + tracks)) s.next_track tracks) (spent_asks (nat_lt (2 ^ 62) (s.commit_number + 1)) s.commit_number 1))))
+    (λ over. exceeding_asks s.journal_end len why over.3))
+    not
+
+pub carried_asks : {D : Type 0} (disk : Ghosts D) (s new : Core D) (given : brings.Given) (makes : List NewBlock) (tracks : ℕ) (body : List ℕ) (why : Refusal)
+    → Carried disk s given makes tracks body (Err why) new → IsNoVault why
+carried_asks disk s new given makes tracks body why carried = ⊎_elim
+    (λ not. unprepared_asks s (length makes) tracks (length body) why not.1)
+    (⊎_elim
+    (λ some. not_made_asks disk some.1.mid new why some.1.by)
+    (λ last. subst IsNoVault (sym last.0) tt))
+    carried
+
+-- ---- the studio behind it
+
+module _ {D : Type 0} (disk : Ghosts D) (s : Core D) (is : IsStudio disk s) (going : s.stopped ≡ None) (given : brings.Given) (makes : List NewBlock)
+    (tag tracks : ℕ) (point : List Track) (clip : Option (List (List Item))) (plan : IsPlanned s given makes tag tracks point clip)
+    (c : Call) (one : commits_of c ≡ 1) where
+  abbrev n : ℕ
+  n = length makes
+
+  abbrev track_then : ℕ
+  track_then = s.next_track + tracks
+
+  abbrev body : List ℕ
+  body = spelling (Edit tag (s.next_block + n) track_then point)
+
+  abbrev h : History (List Track)
+  h = edit_history disk s is going given makes tag tracks point clip plan
+
+  there : IsHeld disk s → PiecesThere (disk.reads s.store) makes
+  there = pieces_there disk s is going given makes tag tracks point clip plan
+
+  lasts_going : (told : Result Reply Refusal) (new : Core D) → IsStudio disk new → new.commit_number ≡ number_behind told c s.commit_number → (len : ℕ)
+      → Changed disk (LeavesOthers s.next_block new.next_block (MayRemove c s.counts)) (asks s.block_size (new.next_block - s.next_block) len 0) s.store new.store
+      → Stops disk s told new → IfErr told (Left disk s (MayRemove c s.counts) new) → Lasts disk s c told 0 new
+  lasts_going told new studio number len changed stops left = record {
+    studio = studio;
+    number = number;
+    rests = λ some. absurd (stopped_not s.stopped some going);
+    len = len;
+    changed = changed;
+    stops = stops;
+    left = left;
+  }
+
+  -- ---- some of the blocks are made
+
+  module _ (fits : s.next_block + n ≤ 2 ^ 62) (k : ℕ) (few : k ≤ n) where
+    unread_lasts : (why : Refusal) (mid new : Core D) → Making disk s given k makes mid → Unread disk mid new → IsSoOf disk s new why → Lasts disk s c (Err why) 0 new
+    unread_lasts why mid new was un so =
+        let making = making_unread disk s given makes k mid new was un in
+        lasts_going (Err why) new (made_studio disk s is given makes k new making going few plan.new fits there)
+        (ap (λ (z : Core D). z.commit_number) making.is) 0 (some_changed disk s given makes fits c k 0 new making few)
+        (inl (some_stop disk s given makes fits c k new making, making.change_faults)) (some_left disk s given makes fits c k new making why so)
+
+    module _ (mid new : Core D) (was : Making disk s given k makes mid)
+        (left : (k < n) ⊎ Changed disk StaysStep one_call mid.store new.store) (un : Unput disk mid new) where
+      abbrev here : Core D
+      here = unput_here disk s given makes fits c k mid new was few left un
+
+      unput_lasts : Lasts disk s c (Err refusal.DiskFault) 0 new
+      unput_lasts =
+          let studio : IsStudio disk here = with_store disk s is new.store k mid.counts here.stopped (omega (arith, fits, few)) was.ledger in
+          subst (λ (z : Core D). Lasts disk s c (Err refusal.DiskFault) 0 z) (sym (unput_is disk s given makes fits c k mid new was few left un))
+          (lasts_going (Err refusal.DiskFault) here studio refl 0 (unput_changed disk s given makes fits c k mid new was few left un 0)
+          (inr (refl, unput_failed disk s given makes fits c k mid new was few left un, refl)) (unput_left disk s given makes fits c k mid new was few left un))
+
+  module _ (fits : s.next_block + n ≤ 2 ^ 62) where
+    stuck_lasts : (why : Refusal) (new : Core D) → Stuck disk s given makes why new → Lasts disk s c (Err why) 0 new
+    stuck_lasts refusal.DiskFault new stuck =
+        ⊎_elim
+        (λ un.
+        unread_lasts fits stuck.made stuck.few refusal.DiskFault stuck.mid new stuck.before un.0
+        (inl (missed_so disk s given makes fits c stuck.mid.store new.store stuck.read_faults un.1)))
+        (λ un. unput_lasts fits stuck.made stuck.few stuck.mid new stuck.before stuck.left un)
+        stuck.by
+    stuck_lasts (refusal.Damaged file at want have) new stuck =
+        let why = refusal.Damaged file at want have in
+        unread_lasts fits stuck.made stuck.few why stuck.mid new stuck.before stuck.by.0
+        (damaged_so disk s given makes fits c is plan.origin why new stuck)
+    stuck_lasts why new stuck = absurd stuck.by
+
+  -- ---- all of them
+
+  module _ (prepared : IsPrepared s n tracks (length body)) (store : D) (counts : Counts)
+      (making : Making disk s given n makes (record s { store = store; counts = counts; next_block = s.next_block + n })) where
+    abbrev mid : Core D
+    mid = record s { store = store; counts = counts; next_block = s.next_block + n }
+
+    mid_is : IsStudio disk mid
+    mid_is = made_studio disk s is given makes n mid making going (omega arith) plan.new prepared.blocks there
+
+    leads : LeadsOn mid (refs makes) h clip track_then
+    leads = record {
+      given = all_so (λ (b : BlockRef). IsNewId s.next_block n b.id) (λ (b : BlockRef). IsGiven (s.next_block + n) b.id)
+          (λ b k. (omega (arith, k.0, is.counters.block_least), k.1)) (refs makes) (refs_ids s.block_size s.next_block makes plan.new);
+      later = omega arith;
+      most = prepared.ids;
+      number = prepared.number;
+      covers = covers_then disk s is going given makes tag tracks point clip plan;
+      clip_covers = clip_covers_then disk s is going given makes tag tracks point clip plan;
+      clip_few = plan.clip_few;
+      clip_fits = plan.clip_fits;
+      points = points_then disk s is going given makes tag tracks point clip plan;
+      depth = recorded_depth s.history point tag;
+      few = recorded_few s.history point tag;
+    }
+
+    -- the record was not added
+    failed_lasts : (new : Core D) → Adds {R = Unit {0}} disk mid body (Err refusal.DiskFault) new → Lasts disk s c (Err refusal.DiskFault) 0 new
+    failed_lasts new adds =
+        let halted = stopped_by disk mid new.store in
+        subst (λ (z : Core D). Lasts disk s c (Err refusal.DiskFault) 0 z) (sym adds.fields.0)
+        (lasts_going (Err refusal.DiskFault) halted (stopped_studio disk mid mid_is new.store) refl (length body)
+        (all_changed disk s given makes prepared.blocks c (length body) mid halted making refl
+        (changed_wider (others_record mid.next_block mid.next_block NoneGoes) (record_within mid.block_size (mid.next_block - mid.next_block) (length body) 0) adds.changed))
+        (inr (refl, all_failed disk s given makes prepared.blocks c store counts making new.store adds.fields.2, refl))
+        (all_left disk s given makes prepared.blocks c store counts making new.store adds.fields.2))
+
+    -- it was
+    module _ {Q : Type 0} (q : Q) (new : Core D) (adds : Adds disk mid body (Ok q) new) (h' : History (List Track)) (counts' : Counts) (next_track : ℕ)
+        (moved : h' ≡ h) (tracked : next_track ≡ track_then)
+        (counted : IsFreshCount (ids_of (history_blocks h ++ (pin_blocks s.pins ++ clip_blocks clip))) counts')
+        (files : (id : ℕ) → IsSome (counts' id) ↔ IsSome (counts id)) where
+      abbrev done : Core D
+      done = record mid {
+        store = new.store;
+        journal_end = s.journal_end + 5 + length body;
+        commit_number = s.commit_number + 1;
+        history = h';
+        clipboard = clip;
+        counts = counts';
+        next_track = next_track;
+      }
+
+      done_studio : IsStudio disk done
+      done_studio =
+          led_studio disk mid mid_is (refs makes) h clip track_then leads new.store (s.journal_end + 5 + length body) (omega (arith, adds.fields.1)) h' counts' next_track
+          moved tracked counted files
+
+      done_lasts : Lasts disk s c (Ok Done) 0 (record new { history = h'; clipboard = clip; counts = counts'; next_track = next_track })
+      done_lasts =
+          let number : s.commit_number + 1 ≡ s.commit_number + commits_of c = ap (λ (k : ℕ). s.commit_number + k) (sym one) in
+          subst (λ (z : Core D). Lasts disk s c (Ok Done) 0 (record z { history = h'; clipboard = clip; counts = counts'; next_track = next_track })) (sym adds.fields.0)
+          (lasts_going (Ok Done) done done_studio number (length body)
+          (all_changed disk s given makes prepared.blocks c (length body) mid done making refl
+          (changed_wider (others_record mid.next_block mid.next_block NoneGoes) (record_within mid.block_size (mid.next_block - mid.next_block) (length body) 0) adds.changed))
+          (inl (refl, adds.fields.2 ∙ making.change_faults)) tt)
+
+  -- ---- all of it
+
+  -- a studio with blocks that were made, by its parts
+  made_so : (it : Core D) → Making disk s given n makes it
+      → Making disk s given n makes (record s { store = it.store; counts = it.counts; next_block = s.next_block + n })
+  made_so it making = subst (λ (z : Core D). Making disk s given n makes z) making.is making
+
+  pub lasts_err : Fewer disk s.store → (why : Refusal) (new : Core D) → Carried disk s given makes tracks body (Err why) new → Lasts disk s c (Err why) 0 new
+  lasts_err fewer why new carried = ⊎_elim
+      (λ not.
+      subst (λ (z : Core D). Lasts disk s c (Err why) 0 z) (sym not.0)
+      (lasts_idle disk s is fewer c why (unprepared_plain s n tracks (length body) why not.1)))
+      (⊎_elim
+      (λ some. stuck_lasts some.0.blocks why new some.1)
+      (λ last.
+      let it = last.1 in
+      let adds = subst (λ (e : Refusal). Adds {R = Unit {0}} disk it.mid body (Err e) new) last.0 it.adds in
+      subst (λ (e : Refusal). Lasts disk s c (Err e) 0 new) (sym last.0)
+      (failed_lasts it.prepared it.mid.store it.mid.counts (made_so it.mid it.making) new
+      (subst (λ (z : Core D). Adds {R = Unit {0}} disk z body (Err refusal.DiskFault) new) it.making.is adds))))
+      carried
+
+  pub lasts_ok : (done : Unit {0}) (new : Core D) (it : Committed disk s given makes tracks body (Ok done) new) (h' : History (List Track)) (counts' : Counts) (next_track : ℕ)
+      → h' ≡ h → next_track ≡ track_then → IsFreshCount (ids_of (history_blocks h ++ (pin_blocks s.pins ++ clip_blocks clip))) counts'
+      → ((id : ℕ) → IsSome (counts' id) ↔ IsSome (it.mid.counts id))
+      → Lasts disk s c (Ok Done) 0 (record new { history = h'; clipboard = clip; counts = counts'; next_track = next_track })
+  lasts_ok done new it h' counts' next_track moved tracked counted files =
+      done_lasts it.prepared it.mid.store it.mid.counts (made_so it.mid it.making) done new
+      (subst (λ (z : Core D). Adds disk z body (Ok done) new) it.making.is it.adds) h' counts' next_track moved tracked counted files

@@ -1,0 +1,100 @@
+-- A call that only looks, refused as another one that asks as much.
+use Rattle.std.proofs.Common.{◌≡◌, ⊎_elim, inl, inr, sym, ap, ◌∙◌, subst, ℕ, IsTrue, IsSome, Some, Err}
+use Rattle.pcm_base.specs.declared.answer.Reply.{Reply}
+use Rattle.pcm_base.specs.declared.command.Call.{Call}
+use Rattle.pcm_base.specs.declared.command.Call.TheVariants.{PinLen, ReadPin}
+use Rattle.pcm_base.specs.declared.refusal.Refusal.{Refusal}
+use Rattle.pcm_base.specs.declared.refusal.Refusal.TheVariants as refusal
+use Rattle.pcm_base.specs.Run.{Answers, Breaks, BreaksOff, CarriesOut, GoesOn}
+use Rattle.pcm_base.specs.Studio as model
+use Rattle.disk_model.specs.Disk.{Files}
+use Rattle.disk_model.specs.declared.store.Store.{Ghosts}
+use Rattle.project_state.specs.Kept.{Keeps}
+use Rattle.editor_core.specs.Core.{Core}
+use Rattle.editor_core.specs.Studios.{IsHeld, shown, studio_of}
+use Rattle.editor_core.specs.Took.{KeepsOneOf, Took, silent}
+
+module _ {D : Type 0} (disk : Ghosts D) (s : Core D) (pin from count : ℕ) where
+  abbrev t : model.Studio
+  t = studio_of disk s
+
+  abbrev read : Call
+  read = ReadPin pin from count
+
+  -- ---- of the call that asks how long a pin is
+
+  module _ (why : Refusal) (new : Core D) (took : Took disk s (PinLen pin) silent (Err why) 0 new) where
+    off : (u : model.Studio) → BreaksOff t (PinLen pin) silent u → BreaksOff t read silent u
+    off u b = record { going = b.going; blocks = b.blocks; len = b.len; needs = b.needs; room = b.room; is = b.is; leaves = b.leaves }
+
+    breaks : (e : Refusal) (u : model.Studio) → Breaks t (PinLen pin) silent e u → Breaks t read silent e u
+    breaks (refusal.Damaged file at want have) u b = record { breaks = off u b.breaks; stopped = b.stopped; reads = b.reads; changes = b.changes }
+    breaks refusal.DiskFault u b = record { breaks = off u b.breaks; cause = b.cause }
+    breaks refusal.VaultFault u b = (b.0, record { breaks = off u b.1.breaks; stopped = b.1.stopped; reads = b.1.reads; changes = b.1.changes })
+    breaks refusal.NoMemory u b = b
+    breaks e u b = absurd b
+
+    answers : (u : model.Studio) → Answers t (PinLen pin) silent (Err why) u → Answers t read silent (Err why) u
+    answers u a = ⊎_elim
+        (λ r. inl (record { blocks = r.blocks; len = r.len; needs = r.needs; first = r.first; same = r.same; quiet = r.quiet }))
+        (λ b. inr (breaks why u b))
+        a
+
+    still : (c : Files) → KeepsOneOf t (PinLen pin) silent c → KeepsOneOf t read silent c
+    still c k = ⊎_elim (λ old. inl old) (λ flight. inl (subst (Keeps c) (ap shown flight.carried.is) flight.keeps)) k
+
+    pub len_refused : Took disk s read silent (Err why) 0 new
+    len_refused = record {
+      studio = took.studio;
+      held = took.held;
+      step = λ held. answers (studio_of disk new) (took.step held);
+      any_moment = λ going held c since. still c (took.any_moment going held c since);
+      refused = took.refused;
+      now = took.now;
+      number = took.number;
+      rests = took.rests;
+      len = took.len;
+      needs = took.needs;
+      changed = took.changed;
+      stops = took.stops;
+      left = took.left;
+    }
+
+  -- ---- of the same call for fewer frames
+
+  module _ (n : ℕ) (why : Refusal) (new : Core D) (took : Took disk s (ReadPin pin from n) silent (Err why) 0 new) where
+    off_fewer : (u : model.Studio) → BreaksOff t (ReadPin pin from n) silent u → BreaksOff t read silent u
+    off_fewer u b = record { going = b.going; blocks = b.blocks; len = b.len; needs = b.needs; room = b.room; is = b.is; leaves = b.leaves }
+
+    breaks_fewer : (e : Refusal) (u : model.Studio) → Breaks t (ReadPin pin from n) silent e u → Breaks t read silent e u
+    breaks_fewer (refusal.Damaged file at want have) u b = record { breaks = off_fewer u b.breaks; stopped = b.stopped; reads = b.reads; changes = b.changes }
+    breaks_fewer refusal.DiskFault u b = record { breaks = off_fewer u b.breaks; cause = b.cause }
+    breaks_fewer refusal.VaultFault u b = (b.0, record { breaks = off_fewer u b.1.breaks; stopped = b.1.stopped; reads = b.1.reads; changes = b.1.changes })
+    breaks_fewer refusal.NoMemory u b = b
+    breaks_fewer e u b = absurd b
+
+    answers_fewer : (u : model.Studio) → Answers t (ReadPin pin from n) silent (Err why) u → Answers t read silent (Err why) u
+    answers_fewer u a = ⊎_elim
+        (λ r. inl (record { blocks = r.blocks; len = r.len; needs = r.needs; first = r.first; same = r.same; quiet = r.quiet }))
+        (λ b. inr (breaks_fewer why u b))
+        a
+
+    still_fewer : (c : Files) → KeepsOneOf t (ReadPin pin from n) silent c → KeepsOneOf t read silent c
+    still_fewer c k = ⊎_elim (λ old. inl old) (λ flight. inl (subst (Keeps c) (ap shown flight.carried.is) flight.keeps)) k
+
+    pub read_refused : Took disk s read silent (Err why) 0 new
+    read_refused = record {
+      studio = took.studio;
+      held = took.held;
+      step = λ held. answers_fewer (studio_of disk new) (took.step held);
+      any_moment = λ going held c since. still_fewer c (took.any_moment going held c since);
+      refused = took.refused;
+      now = took.now;
+      number = took.number;
+      rests = took.rests;
+      len = took.len;
+      needs = took.needs;
+      changed = took.changed;
+      stops = took.stops;
+      left = took.left;
+    }

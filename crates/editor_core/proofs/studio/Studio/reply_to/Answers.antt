@@ -1,0 +1,59 @@
+-- A line is a step, of which the vault's move is a part.
+use Rattle.std.proofs.Common.{◌≡◌, ◌∙◌, refl, sym, ap, subst, ℕ, List, Some, Result}
+use Rattle.pcm_base.specs.declared.answer.Reply.{Reply}
+use Rattle.pcm_base.specs.declared.answer.Reply.TheVariants as reply
+use Rattle.pcm_base.specs.declared.command.Command.{Command}
+use Rattle.pcm_base.specs.declared.command.Call.TheVariants.{Line}
+use Rattle.pcm_base.specs.declared.command.Command.TheVariants as command
+use Rattle.pcm_base.specs.declared.refusal.Refusal.{Refusal}
+use Rattle.pcm_base.specs.Outside.{Sounds}
+use Rattle.editor_core.specs.Applied.{TookOver}
+use Rattle.editor_core.specs.Core.{core_of}
+use Rattle.editor_core.specs.Exports.{moved_from}
+use Rattle.editor_core.specs.Took.{Took, told_by}
+use Rattle.editor_core.proofs.Applying.{names_none, over_silent, over_sound}
+use Rattle.editor_core.proofs.studio.Studio.reply_to.Goals as goal
+
+pub returns-in-Import-clause-took : goal.returns-in-Import-clause-took
+returns-in-Import-clause-took g c =
+    let s = core_of c.args.self.now in
+    let new = core_of c.import.new.self in
+    let tells = g.V.Vault.tells c.args.vault.now in
+    let before = g.V.Vault.holds c.args.vault.now in
+    let after = g.V.Vault.holds c.import.new.vault in
+    let name = c.as_str.result.now in
+    let told = told_by (λ _. reply.Done) c.import.result in
+    let line = Line (command.Import name) in
+    let same = c.import.ensures.same in
+    let over : TookOver g.S.Store tells before after s line told new =
+    over_sound g.S.Store s tells before after line name told new refl
+    (λ is. subst (λ (z : Sounds). Took g.S.Store s line (moved_from (before name) (z name)) told 0 new) (sym same) (c.import.ensures.took is))
+    (λ is other ne. ap (λ (z : Sounds). z other) same) c.import.ensures.lasts in
+    let command_is : command.Import name ≡ c.args.command.now = ap command.Import c.as_str.ensures ∙ sym c.in-Import.is in
+    subst (λ (k : Command). TookOver g.S.Store tells before after s (Line k) c.done.result new) command_is
+    (subst (λ (r : Result Reply Refusal). TookOver g.S.Store tells before after s line r new) (sym c.done.ensures) over)
+
+pub returns-in-Export-clause-took : goal.returns-in-Export-clause-took
+returns-in-Export-clause-took g c =
+    let s = core_of c.args.self.now in
+    let new = core_of c.export.new.self in
+    let tells = g.V.Vault.tells c.args.vault.now in
+    let before = g.V.Vault.holds c.args.vault.now in
+    let after = g.V.Vault.holds c.export.new.vault in
+    let name = c.as_str-in-Export.result.now in
+    let told = told_by reply.Wrote c.export.result in
+    let line = Line (command.Export name) in
+    let over : TookOver g.S.Store tells before after s line told new =
+    over_sound g.S.Store s tells before after line name told new refl c.export.ensures.took c.export.ensures.others c.export.ensures.lasts in
+    let command_is : command.Export name ≡ c.args.command.now = ap command.Export c.as_str-in-Export.ensures ∙ sym c.in-Export.is in
+    subst (λ (k : Command). TookOver g.S.Store tells before after s (Line k) c.wrote.result new) command_is
+    (subst (λ (r : Result Reply Refusal). TookOver g.S.Store tells before after s line r new) (sym c.wrote.ensures) over)
+
+pub returns-in_default : goal.returns-in_default
+returns-in_default g c =
+    let s = core_of c.args.self.now in
+    let silent_now = names_none c.args.command.now c.in_default.not-Import c.in_default.not-Export in record {
+      took = over_silent g.S.Store s (g.V.Vault.tells c.args.vault.now) (g.V.Vault.holds c.args.vault.now) (Line c.args.command.now) c.silent_reply.result c.silent_reply.ensures.0
+          (core_of c.silent_reply.new.self) silent_now c.silent_reply.ensures.1;
+      tells = refl;
+    }

@@ -1,0 +1,27 @@
+-- A line or another call.
+use Rattle.std.proofs.Common.{sym, subst}
+use Rattle.pcm_base.specs.declared.command.Call.{Call}
+use Rattle.editor_core.specs.Applied.{TookOver}
+use Rattle.editor_core.specs.Core.{core_of}
+use Rattle.editor_core.proofs.Applying.{over_silent}
+use Rattle.editor_core.proofs.EventRuns.{other_none, other_of}
+use Rattle.editor_core.proofs.studio.Studio.reply_to_call.Goals as goal
+
+pub returns-in-Line-clause-took : goal.returns-in-Line-clause-took
+returns-in-Line-clause-took g c = (
+  c.reply_to.result,
+  c.reply_of.ensures,
+  subst (λ (k : Call). TookOver g.S.Store (g.V.Vault.tells c.args.vault.now) (g.V.Vault.holds c.args.vault.now) (g.V.Vault.holds c.reply_to.new.vault)
+      (core_of c.args.self.now) k c.reply_to.result (core_of c.reply_to.new.self)) (sym c.in-Line.is) c.reply_to.ensures.took,
+)
+
+pub other_reply-requires-clause-other : goal.other_reply-requires-clause-other
+other_reply-requires-clause-other g c = other_of c.args.call.now c.in_default.not-Line
+
+pub returns-in_default-clause-took : goal.returns-in_default-clause-took
+returns-in_default-clause-took g c = (
+  c.other_reply.result,
+  c.reply_of-in_default.ensures,
+  over_silent g.S.Store (core_of c.args.self.now) (g.V.Vault.tells c.args.vault.now) (g.V.Vault.holds c.args.vault.now) c.args.call.now c.other_reply.result 0
+      (core_of c.other_reply.new.self) (other_none c.args.call.now (other_of c.args.call.now c.in_default.not-Line)) c.other_reply.ensures.took,
+)

@@ -1,0 +1,70 @@
+-- What a call does that may name a sound of a vault.
+use Rattle.std.specs.Prelude.{◌≡◌, ℕ, Bool, IsTrue, IsSome, Option, Some, None, List, Result, Ok, Err, IfErr, ◌-◌}
+use Rattle.pcm_base.specs.declared.answer.Answer.{Answer}
+use Rattle.pcm_base.specs.declared.answer.Reply.{Reply}
+use Rattle.pcm_base.specs.declared.answer.Reply.TheVariants as reply
+use Rattle.pcm_base.specs.declared.command.Call.{Call}
+use Rattle.pcm_base.specs.declared.entry.SoundMove.{SoundMove}
+use Rattle.pcm_base.specs.declared.refusal.Refusal.{Refusal}
+use Rattle.pcm_base.specs.Outside.{Sounds}
+use Rattle.pcm_base.specs.Run.{Heard, name_in}
+use Rattle.disk_model.specs.Frames.{Changed}
+use Rattle.disk_model.specs.declared.store.Store.{Ghosts}
+use Rattle.editor_core.specs.Core.{Core}
+use Rattle.editor_core.specs.Exports.{moved_from}
+use Rattle.editor_core.specs.Left.{Left, LeavesOthers, MayRemove, Stops}
+use Rattle.editor_core.specs.Studios.{IsStudio}
+use Rattle.editor_core.specs.Took.{Took, asks, number_behind, silent}
+
+-- what becomes of the sound that a call names, where a vault has these sounds before it and after it
+abbrev pub move_of : Option (List ℕ) → Sounds → Sounds → SoundMove
+move_of None old new = silent
+move_of (Some name) old new = moved_from (old name) (new name)
+
+-- the vault tells its bytes, where the call names a sound
+abbrev pub IsTold : Call → Bool → Type 0
+IsTold call tells = IsSome (name_in call) → IsTrue tells
+
+-- What holds of a call whatever disk and vault tell: the studio is one still, its commit number is that behind the answer,
+-- one that had stopped does nothing but give a pin back, no other file changes, and a refusal leaves what was there.
+pub record Lasts {D : Type 0} (disk : Ghosts D) (old : Core D) (call : Call) (told : Result Reply Refusal)
+    (removed : ℕ) (new : Core D) : Type 0 where
+  pub studio : IsStudio disk new
+  pub number : new.commit_number ≡ number_behind told call old.commit_number
+  pub rests : IsSome old.stopped → new ≡ record old { pins = new.pins; counts = new.counts }
+  pub len : ℕ
+  pub changed : Changed disk (LeavesOthers old.next_block new.next_block (MayRemove call old.counts))
+      (asks old.block_size (new.next_block - old.next_block) len removed) old.store new.store
+  pub stops : Stops disk old told new
+  pub left : IfErr told (Left disk old (MayRemove call old.counts) new)
+
+-- One call, over a vault: where the vault tells its bytes it is a step, of which the vault's move is a part.
+pub record TookOver {D : Type 0} (disk : Ghosts D) (tells : Bool) (before after : Sounds) (old : Core D) (call : Call)
+    (told : Result Reply Refusal) (new : Core D) : Type 0 where
+  -- how many files of blocks went
+  pub removed : ℕ
+  pub took : IsTold call tells → Took disk old call (move_of (name_in call) before after) told removed new
+  pub heard : IsTold call tells → Heard (name_in call) (move_of (name_in call) before after) before after
+  pub lasts : Lasts disk old call told removed new
+
+-- an answer as what a line is told: the commit number, and the reply or why there is none
+abbrev pub reply_of : Result Reply Refusal → Reply
+reply_of (Ok r) = r
+reply_of (Err why) = reply.Refused why
+
+-- both are answers, or both tell the same reason
+abbrev pub EndsAlike : {A B : Type 0} → Result A Refusal → Result B Refusal → Type 0
+EndsAlike (Ok a) (Ok b) = Unit {0}
+EndsAlike (Ok a) (Err why) = ⊥
+EndsAlike (Err why) (Ok b) = ⊥
+EndsAlike (Err why) (Err other) = other ≡ why
+
+-- A line carried out or refused: the answer has the commit number after it and its reply, and the result says whether it
+-- was carried out.
+pub record Applies {D R : Type 0} (disk : Ghosts D) (tells : Bool) (before after : Sounds) (old : Core D) (call : Call)
+    (result : Result R Refusal) (answer : Answer) (new : Core D) : Type 0 where
+  pub told : Result Reply Refusal
+  pub over : TookOver disk tells before after old call told new
+  pub commit : answer.commit ≡ new.commit_number
+  pub reply : answer.reply ≡ reply_of told
+  pub ends : EndsAlike told result

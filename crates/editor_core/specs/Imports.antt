@@ -1,0 +1,152 @@
+-- New tracks of a sound's channels. What is brought is the samples of all channels, those of each behind those of the one
+-- before.
+use Rattle.std.specs.Prelude.{◌≡◌, ℕ, ◌+◌, ◌/◌, ◌^◌, ◌<◌, ◌≤◌, nat_lt, ℤ, false, Option, Some, None, List, [], ◌∷◌, ◌++◌, length, map, Result, Ok, Err}
+use Rattle.std.specs.List.{AllByRecursion}
+use Rattle.pcm_base.specs.declared.entry.SoundMove.{SoundMove}
+use Rattle.pcm_base.specs.declared.piece.Piece.{Piece}
+use Rattle.pcm_base.specs.declared.piece.Piece.TheVariants.{Old, Scaled, Zero, Given}
+use Rattle.pcm_base.specs.declared.refusal.Refusal.{Refusal}
+use Rattle.pcm_base.specs.declared.refusal.Refusal.TheVariants as refusal
+use Rattle.pcm_base.specs.declared.sound.Side.TheVariants.{Both}
+use Rattle.pcm_base.specs.Causes.{Rose}
+use Rattle.pcm_base.specs.Edits.{as_cells}
+use Rattle.pcm_base.specs.Pieces.{Sources, stretch}
+use Rattle.pcm_base.specs.Refusals.{◌otherwise◌, length_limit, refused_if}
+use Rattle.pcm_base.specs.Sizes.{blocks_of_samples, blocks_of_tracks}
+use Rattle.pcm_base.specs.Step.{channel_tracks}
+use Rattle.pcm_base.specs.Wave.{wav_of}
+use Rattle.clip_track.specs.declared.clips.Clip.{Clip}
+use Rattle.clip_track.specs.Clips.{IsLayout, layout_cells}
+use Rattle.edit_ops.specs.declared.types.NewBlock.{NewBlock}
+use Rattle.edit_ops.specs.declared.types.Plan.{Plan}
+use Rattle.edit_ops.specs.Plans.{AllNewFrom, AreNew, AreWritten, IsPlan, ref_of}
+use Rattle.project_state.specs.declared.track.Track.{Track}
+use Rattle.project_state.specs.Kept.{meant, point_blocks}
+use Rattle.project_state.specs.Sound.{AllSoundTracks}
+use Rattle.project_state.specs.Tracks.{AreAbove}
+use Rattle.editor_core.specs.declared.carrying.Planned.{Planned}
+use Rattle.editor_core.specs.declared.imports.Growing.{Growing}
+use Rattle.editor_core.specs.Edits.{AreAmong, alone, beside}
+
+-- ---- pieces of one channel, and of all
+
+-- a piece of a channel's samples, as a piece of all, where so many stand before the channel's
+abbrev pub piece_behind : ℕ → Piece → Piece
+piece_behind skip (Old b from to) = Old b from to
+piece_behind skip (Scaled b from to gain) = Scaled b from to gain
+piece_behind skip (Zero len) = Zero len
+piece_behind skip (Given from to) = Given (from + skip) (to + skip)
+
+abbrev pub block_behind : ℕ → NewBlock → NewBlock
+block_behind skip b = record b { pieces = map (piece_behind skip) b.pieces }
+
+-- its places can be counted
+abbrev pub FitsBehind : ℕ → Piece → Type 0
+FitsBehind skip (Old b from to) = Unit {0}
+FitsBehind skip (Scaled b from to gain) = Unit {0}
+FitsBehind skip (Zero len) = Unit {0}
+FitsBehind skip (Given from to) = (from + skip < 2 ^ 64) × (to + skip < 2 ^ 64)
+
+abbrev pub AllFitBehind : ℕ → List NewBlock → Type 0
+AllFitBehind skip bs = AllByRecursion (λ (b : NewBlock). AllByRecursion (FitsBehind skip) b.pieces) bs
+
+-- ---- one channel
+
+-- The plan of a new track of so many of the samples that are brought, from a place among them on.
+pub record IsChannelPlan (from count m next : ℕ) (p : Plan) : Type 0 where
+  pub plan : IsPlan m next [] (from + count) p
+  pub means : (src : Sources) → AreWritten src p.makes → layout_cells src p.layout ≡ as_cells (stretch src.given from count)
+  pub few : length p.makes ≤ blocks_of_samples m count
+  pub layout : IsLayout p.layout
+
+-- a track that is new, with these clips
+abbrev pub track_with : ℕ → List Clip → Track
+track_with id layout = record { id = id; gain = 65536; side = Both; mute = false; layout = layout }
+
+-- ---- all channels
+
+abbrev pub total_of : List ℕ → ℕ
+total_of [] = 0
+total_of (n ∷ ns) = n + total_of ns
+
+-- lists one behind another
+abbrev pub all_of : List (List ℤ) → List ℤ
+all_of [] = []
+all_of (xs ∷ more) = xs ++ all_of more
+
+-- so many samples each, from a place on
+abbrev pub parts_from : (ℕ → ℤ) → ℕ → List ℕ → List (List ℤ)
+parts_from given from [] = []
+parts_from given from (n ∷ ns) = stretch given from n ∷ parts_from given (from + n) ns
+
+-- Tracks for channels of so many samples each stand behind the old ones, and the blocks that are to be made for them have
+-- the ids from one on. The first new track has the id that is given.
+pub record AreGrown (m next id : ℕ) (counts : List ℕ) (old : List Track) (g : Growing) : Type 0 where
+  pub news : List Track
+  pub point : g.point ≡ old ++ news
+  pub ids : AreAbove id news
+  pub many : length news ≡ length counts
+  pub sound : AllSoundTracks m (next + length g.makes.items) (id + length counts) news
+  pub new : AreNew m next g.makes.items
+  pub origin : AllNewFrom [] g.brought g.makes.items
+  pub names : AreAmong (map ref_of g.makes.items) (point_blocks news)
+  pub few : length g.makes.items ≤ blocks_of_tracks (length counts) + g.brought / m
+  pub next_is : g.next ≡ next + length g.makes.items
+  pub brought : g.brought ≡ total_of counts
+  pub means : (block : ℕ → ℕ → ℤ) (given : ℕ → ℤ) → AreWritten (beside block given) g.makes.items
+      → meant (alone block) news ≡ channel_tracks id (parts_from given 0 counts)
+
+-- a track for a channel of so many samples comes behind the others
+pub record AddsChannel (m id count : ℕ) (old new : Growing) : Type 0 where
+  pub plan : Plan
+  pub is : IsChannelPlan old.brought count m old.next plan
+  pub point : new.point ≡ old.point ++ track_with id plan.layout ∷ []
+  pub makes : new.makes.items ≡ old.makes.items ++ plan.makes
+  pub next : new.next ≡ plan.next
+  pub brought : new.brought ≡ old.brought + count
+
+-- the plan of a project that has grown by a track for each channel
+pub record IsChannelsPlan (m next id : ℕ) (counts : List ℕ) (old : List Track) (p : Planned) : Type 0 where
+  pub grown : Growing
+  pub are : AreGrown m next id counts old grown
+  pub point_is : p.point ≡ grown.point
+  pub makes_is : p.makes ≡ grown.makes.items
+  pub next_is : p.next ≡ grown.next
+  pub tracks_is : p.tracks ≡ length counts
+
+-- why there is none: memory, or that the ids of blocks are spent, of which so many are needed at least
+abbrev pub NoChannelsPlan : (m next : ℕ) → List ℕ → Refusal → Type 0
+NoChannelsPlan m next counts refusal.NoMemory = Unit {0}
+NoChannelsPlan m next counts (refusal.SpaceSpent have need) =
+    (have ≡ next) × (need ≤ blocks_of_tracks (length counts) + total_of counts / m) × (2 ^ 62 < next + need)
+NoChannelsPlan m next counts why = ⊥
+
+-- what refuses new tracks of so many samples each in a project of so many tracks
+abbrev pub channels_refusal : ℕ → List ℕ → Option Refusal
+channels_refusal tracks counts =
+    (refused_if (nat_lt 64 (tracks + length counts)) refusal.TrackLimit) otherwise (length_limit counts)
+
+-- ---- the vault
+
+-- the sound is there, and says these channels at this rate
+abbrev pub HasChannels : Option (List ℕ) → ℕ → List (List ℤ) → Type 0
+HasChannels None rate channels = ⊥
+HasChannels (Some bytes) rate channels = wav_of bytes ≡ Ok (record { rate = rate; channels = channels })
+
+-- a sound that a call reads, and leaves as it was
+abbrev pub left_as : Option (List ℕ) → SoundMove
+left_as sound = record { before = sound; after = sound }
+
+-- a refusal that is not of the vault
+abbrev pub IsNoVault : Refusal → Type 0
+IsNoVault refusal.VaultFault = ⊥
+IsNoVault why = Unit {0}
+
+-- the vault's count of faults rises where it failed, and stays elsewhere
+abbrev pub VaultCountedBy : Refusal → ℕ → ℕ → Type 0
+VaultCountedBy refusal.VaultFault old new = Rose old new × (old ≤ new)
+VaultCountedBy why old new = new ≡ old
+
+abbrev pub VaultCounted : {T : Type 0} → Result T Refusal → ℕ → ℕ → Type 0
+VaultCounted (Ok x) old new = new ≡ old
+VaultCounted (Err why) old new = VaultCountedBy why old new

@@ -1,0 +1,254 @@
+// A line of the script, carried out by the call that is its own.
+ghost use Rattle.std.specs.Prelude.{◌≡◌, ◌-◌, ℕ, min, None};
+ghost use Rattle.pcm_base.specs.declared.answer.Reply.TheVariants as reply;
+ghost use Rattle.pcm_base.specs.declared.command.Call.TheVariants.{Line};
+ghost use Rattle.pcm_base.specs.declared.command.Command.TheVariants as command;
+ghost use Rattle.pcm_base.specs.Form.{IsInForm};
+ghost use Rattle.pcm_base.specs.Run.{name_in_line};
+ghost use Rattle.editor_core.specs.Applied.{Applies, TookOver};
+ghost use Rattle.editor_core.specs.Core.{core_of};
+ghost use Rattle.editor_core.specs.Studios.{IsStudio};
+ghost use Rattle.editor_core.specs.Took.{Took, silent, told_by};
+
+use super::shows::MAX_VIEW;
+use super::studio::Studio;
+use disk_model::Store;
+use edit_ports::Vault;
+use pcm_base::{Answer, Cell, CellList, Command, Frame, Frames, Refusal, Reply};
+use std::alloc::Global;
+
+// The reply to a commit.
+pub(crate) fn done(answer: Result<u64, Refusal>) -> Result<Reply, Refusal>
+    ensures { result ≡ told_by (λ _. reply.Done) answer }
+{
+    match answer {
+        Ok(_number) => Ok(Reply::Done),
+        Err(reason) => Err(reason),
+    }
+}
+
+// The reply to a copy.
+fn copied(answer: Result<(), Refusal>) -> Result<Reply, Refusal>
+    ensures { result ≡ told_by (λ _. reply.Copied) answer }
+{
+    match answer {
+        Ok(()) => Ok(Reply::Copied),
+        Err(reason) => Err(reason),
+    }
+}
+
+// The reply to a reclaim.
+fn freed(answer: Result<u64, Refusal>) -> Result<Reply, Refusal>
+    ensures { result ≡ told_by reply.Freed answer }
+{
+    match answer {
+        Ok(count) => Ok(Reply::Freed { count }),
+        Err(reason) => Err(reason),
+    }
+}
+
+// The reply to an export.
+fn wrote(answer: Result<u64, Refusal>) -> Result<Reply, Refusal>
+    ensures { result ≡ told_by reply.Wrote answer }
+{
+    match answer {
+        Ok(bytes) => Ok(Reply::Wrote { bytes }),
+        Err(reason) => Err(reason),
+    }
+}
+
+// How many cells or frames a range may show.
+fn view_len(from: u64, to: u64) -> usize
+    ensures value { result ≡ min 4096 (to - from) }
+{
+    to.saturating_sub(from).min(MAX_VIEW) as usize
+}
+
+impl<S: Store> Studio<S> {
+    /// Carries a line out by the call that is its own, and fills the answer: the commit number after it, and its reply, or
+    /// the reason that refuses it, which is told besides. A sound that the line names is looked for in the vault.
+    ///
+    /// It takes the memory that the line's own call takes; `show` and `mix` take 4,096 cells or frames at most for their
+    /// answer. Nothing else is copied, and the answer of before is let go.
+    ///
+    /// # Errors
+    ///
+    /// Those of the call.
+    pub fn apply<V: Vault>(
+        &mut self,
+        alloc: Global,
+        vault: &mut V,
+        command: &Command,
+        answer: &mut Answer,
+    ) -> Result<(), Refusal>
+        requires studio { IsStudio S.Store (core_of self.old) }
+        requires in_form { IsInForm command.now }
+        ensures applied { Applies S.Store (V.tells vault.old) (V.holds vault.old) (V.holds vault.new) (core_of self.old)
+            (Line command.now) result answer.new (core_of self.new) }
+        ensures tells { V.tells vault.new ≡ V.tells vault.old }
+    {
+        let told = self.reply_to(alloc, vault, command);
+        answer.commit = self.commit_number;
+        match told {
+            Ok(reply) => {
+                answer.reply = reply;
+                Ok(())
+            }
+            Err(reason) => {
+                answer.reply = Reply::Refused { reason };
+                Err(reason)
+            }
+        }
+    }
+
+    // The reply to a line, or what refuses it.
+    pub(crate) fn reply_to<V: Vault>(
+        &mut self,
+        alloc: Global,
+        vault: &mut V,
+        command: &Command,
+    ) -> Result<Reply, Refusal>
+        requires studio { IsStudio S.Store (core_of self.old) }
+        requires in_form { IsInForm command.now }
+        ensures took { TookOver S.Store (V.tells vault.old) (V.holds vault.old) (V.holds vault.new) (core_of self.old)
+            (Line command.now) result (core_of self.new) }
+        ensures tells { V.tells vault.new ≡ V.tells vault.old }
+    {
+        match command {
+            Command::Import { name } => done(self.import(alloc, vault, name.as_str())),
+            Command::Export { name } => wrote(self.export(vault, name.as_str())),
+            _ => self.silent_reply(alloc, command),
+        }
+    }
+
+    // The reply to a line that names no sound, or what refuses it.
+    fn silent_reply(&mut self, alloc: Global, command: &Command) -> Result<Reply, Refusal>
+        requires studio { IsStudio S.Store (core_of self.old) }
+        requires in_form { IsInForm command.now }
+        requires silent { name_in_line command.now ≡ None }
+        ensures { (removed : ℕ) × Took S.Store (core_of self.old) (Line command.now) silent result removed
+            (core_of self.new) }
+    {
+        match command {
+            Command::Track => done(self.track(alloc)),
+            Command::Drop { track } => done(self.drop(alloc, *track)),
+            Command::Level { track, gain } => done(self.level(alloc, *track, *gain)),
+            Command::Side { track, side } => done(self.side(alloc, *track, *side)),
+            Command::Mute { track, mute } => done(self.mute(alloc, *track, *mute)),
+            Command::Put { track, at, samples } => {
+                done(self.put(alloc, *track, *at, samples.as_slice()))
+            }
+            Command::Ramp {
+                track,
+                at,
+                count,
+                start,
+                step,
+            } => done(self.ramp(alloc, *track, *at, *count, *start, *step)),
+            Command::Delete { track, from, to } => done(self.delete(alloc, *track, *from, *to)),
+            Command::SplitDelete { track, from, to } => {
+                done(self.split_delete(alloc, *track, *from, *to))
+            }
+            Command::Silence { track, from, to } => done(self.silence(alloc, *track, *from, *to)),
+            Command::Trim { track, from, to } => done(self.trim(alloc, *track, *from, *to)),
+            Command::Gain {
+                track,
+                from,
+                to,
+                gain,
+            } => done(self.gain(alloc, *track, *from, *to, *gain)),
+            Command::Cut {
+                track,
+                count,
+                from,
+                to,
+            } => done(self.cut(alloc, *track, *count, *from, *to)),
+            Command::SplitCut {
+                track,
+                count,
+                from,
+                to,
+            } => done(self.split_cut(alloc, *track, *count, *from, *to)),
+            Command::Copy {
+                track,
+                count,
+                from,
+                to,
+            } => copied(self.copy(alloc, *track, *count, *from, *to)),
+            Command::Paste { track, at } => done(self.paste(alloc, *track, *at)),
+            Command::PasteOver { track, at } => done(self.paste_over(alloc, *track, *at)),
+            Command::Undo => done(self.undo()),
+            Command::Redo => done(self.redo()),
+            Command::Purge { count } => done(self.purge(*count)),
+            Command::Show { track, from, to } => self.show_reply(alloc, *track, *from, *to),
+            Command::Mix { from, to } => self.mix_reply(alloc, *from, *to),
+            Command::Envelope {
+                track,
+                from,
+                to,
+                columns,
+            } => self.envelope_reply(alloc, *track, *from, *to, *columns),
+            Command::Tracks => self.tracks_reply(alloc),
+            Command::Reclaim { limit } => freed(self.reclaim(*limit)),
+            Command::Import { .. } | Command::Export { .. } => unreachable!(),
+        }
+    }
+
+    // The cells of a range of a track.
+    fn show_reply(
+        &mut self,
+        alloc: Global,
+        track: u64,
+        from: u64,
+        to: u64,
+    ) -> Result<Reply, Refusal>
+        requires { IsStudio S.Store (core_of self.old) }
+        ensures { Took S.Store (core_of self.old) (Line (command.Show track from to)) silent result 0 (core_of self.new) }
+    {
+        let mut cells = vec![in alloc; Cell::Gap; view_len(from, to)]?;
+        let count = self.show(track, from, to, cells.as_mut_slice())?;
+        cells.truncate(count);
+        Ok(Reply::Cells {
+            cells: CellList::new(cells),
+        })
+    }
+
+    // The frames of a range of the mix.
+    fn mix_reply(&mut self, alloc: Global, from: u64, to: u64) -> Result<Reply, Refusal>
+        requires { IsStudio S.Store (core_of self.old) }
+        ensures { Took S.Store (core_of self.old) (Line (command.Mix from to)) silent result 0 (core_of self.new) }
+    {
+        let mut frames = vec![in alloc; Frame { left: 0, right: 0 }; view_len(from, to)]?;
+        let count = self.mix(from, to, frames.as_mut_slice())?;
+        frames.truncate(count);
+        Ok(Reply::Frames {
+            frames: Frames::new(frames),
+        })
+    }
+
+    // What a scan of each column of a range finds.
+    fn envelope_reply(
+        &mut self,
+        alloc: Global,
+        track: u64,
+        from: u64,
+        to: u64,
+        columns: u64,
+    ) -> Result<Reply, Refusal>
+        requires { IsStudio S.Store (core_of self.old) }
+        ensures { Took S.Store (core_of self.old) (Line (command.Envelope track from to columns)) silent result 0
+            (core_of self.new) }
+    {
+        let columns = self.envelope(alloc, track, from, to, columns)?;
+        Ok(Reply::Columns { columns })
+    }
+
+    // What is told of the tracks.
+    fn tracks_reply(&self, alloc: Global) -> Result<Reply, Refusal>
+        requires { IsStudio S.Store (core_of self.now) }
+        ensures { Took S.Store (core_of self.now) (Line command.Tracks) silent result 0 (core_of self.now) }
+    {
+        let tracks = self.tracks(alloc)?;
+        Ok(Reply::Tracks { tracks })
+    }
+}

@@ -1,0 +1,157 @@
+// A list of events, carried out one after another.
+ghost use Rattle.std.specs.Prelude.{◌≡◌, ◌-◌, ◌++◌, min, OnErr, OnOk, List, Result};
+ghost use Rattle.pcm_base.specs.declared.answer.Reply.{Reply};
+ghost use Rattle.pcm_base.specs.declared.answer.Reply.TheVariants as reply;
+ghost use Rattle.pcm_base.specs.declared.command.Call.TheVariants as call;
+ghost use Rattle.pcm_base.specs.declared.refusal.Refusal.{Refusal};
+ghost use Rattle.pcm_base.specs.Form.{IsCallInForm};
+ghost use Rattle.editor_core.specs.Applied.{TookOver, reply_of as told_reply};
+ghost use Rattle.editor_core.specs.Core.{core_of};
+ghost use Rattle.editor_core.specs.Events.{AreInForm, IsOther, RanOver};
+ghost use Rattle.editor_core.specs.Studios.{IsStudio};
+ghost use Rattle.editor_core.specs.Took.{Took, silent, told_by};
+
+use super::apply::done;
+use super::studio::Studio;
+use disk_model::Store;
+use edit_ports::Vault;
+use pcm_base::{Call, Event, Frame, Frames, NoMemory, Refusal, Reply};
+use std::alloc::Global;
+
+// A reason as a reply.
+fn reply_of(told: Result<Reply, Refusal>) -> Reply
+    ensures { result ≡ told_reply told }
+{
+    match told {
+        Ok(reply) => reply,
+        Err(reason) => Reply::Refused { reason },
+    }
+}
+
+// The reply to a call that keeps the current project.
+fn pinned(answer: Result<u64, Refusal>) -> Result<Reply, Refusal>
+    ensures { result ≡ told_by reply.Pinned answer }
+{
+    match answer {
+        Ok(pin) => Ok(Reply::Pinned { pin }),
+        Err(reason) => Err(reason),
+    }
+}
+
+// The reply to a call that lets a pin go.
+fn let_go(answer: Result<(), Refusal>) -> Result<Reply, Refusal>
+    ensures { result ≡ told_by (λ _. reply.Done) answer }
+{
+    match answer {
+        Ok(()) => Ok(Reply::Done),
+        Err(reason) => Err(reason),
+    }
+}
+
+// The reply to a call that asks how long a pin's mix is.
+fn length(answer: Result<u64, Refusal>) -> Result<Reply, Refusal>
+    ensures { result ≡ told_by reply.Length answer }
+{
+    match answer {
+        Ok(frames) => Ok(Reply::Length { frames }),
+        Err(reason) => Err(reason),
+    }
+}
+
+// How many frames there are from a place on, up to a number.
+fn frames_left(len: u64, from: u64, most: u64) -> usize
+    ensures { result ≡ min most (len - from) }
+{
+    len.saturating_sub(from).min(most) as usize
+}
+
+impl<S: Store> Studio<S> {
+    /// Carries out a list of events of any actors, in order, and puts a reply to each behind the replies. Whatever an event
+    /// is replied, the next one follows.
+    ///
+    /// It takes the room for the replies first, and then what each event's own call takes. Where there is no room for the
+    /// replies nothing is carried out, and the replies are as they were.
+    ///
+    /// # Errors
+    ///
+    /// There is no memory for the replies.
+    pub fn run_events<V: Vault>(
+        &mut self,
+        alloc: Global,
+        vault: &mut V,
+        events: &[Event],
+        replies: &mut Vec<Reply>,
+    ) -> Result<(), NoMemory>
+        requires studio { IsStudio S.Store (core_of self.old) }
+        requires in_form { AreInForm self.old.commit_number events.now }
+        ensures ran { OnOk result ((told : List Reply) × (replies.new.items ≡ replies.old.items ++ told)
+            × RanOver S.Store (V.tells vault.old) (V.holds vault.old) (V.holds vault.new) (core_of self.old) events.now told
+            (core_of self.new)) }
+        ensures err { OnErr result ((core_of self.new ≡ core_of self.old) × (vault.new ≡ vault.old)
+            × (replies.new.items ≡ replies.old.items)) }
+        ensures tells { V.tells vault.new ≡ V.tells vault.old }
+    {
+        replies.reserve(events.len())?;
+        'events: for event in events {
+            let reply = self.reply_to_call(alloc, vault, &event.call);
+            replies.push(reply)?;
+        }
+        Ok(())
+    }
+
+    // The reply to a call.
+    fn reply_to_call<V: Vault>(&mut self, alloc: Global, vault: &mut V, call: &Call) -> Reply
+        requires studio { IsStudio S.Store (core_of self.old) }
+        requires in_form { IsCallInForm self.old.commit_number call.now }
+        ensures took { (told : Result Reply Refusal) × (result ≡ told_reply told)
+            × TookOver S.Store (V.tells vault.old) (V.holds vault.old) (V.holds vault.new) (core_of self.old) call.now told
+            (core_of self.new) }
+        ensures tells { V.tells vault.new ≡ V.tells vault.old }
+    {
+        match call {
+            Call::Line { command } => reply_of(self.reply_to(alloc, vault, command)),
+            _ => reply_of(self.other_reply(alloc, call)),
+        }
+    }
+
+    // The reply to a call that is no line, or what refuses it.
+    fn other_reply(&mut self, alloc: Global, call: &Call) -> Result<Reply, Refusal>
+        requires studio { IsStudio S.Store (core_of self.old) }
+        requires in_form { IsCallInForm self.old.commit_number call.now }
+        requires other { IsOther call.now }
+        ensures took { Took S.Store (core_of self.old) call.now silent result 0 (core_of self.new) }
+    {
+        match call {
+            Call::Piece {
+                track,
+                tag,
+                samples,
+            } => done(self.piece(alloc, *track, *tag, samples.as_slice())),
+            Call::Pin => pinned(self.pin()),
+            Call::PinLen { pin } => length(self.pin_len(*pin)),
+            Call::ReadPin { pin, from, count } => self.read_reply(alloc, *pin, *from, *count),
+            Call::Unpin { pin } => let_go(self.unpin(*pin)),
+            Call::Line { .. } => unreachable!(),
+        }
+    }
+
+    // The frames of a pin's mix from a place on, as many as there are, up to a number.
+    fn read_reply(
+        &mut self,
+        alloc: Global,
+        pin: u64,
+        from: u64,
+        count: u64,
+    ) -> Result<Reply, Refusal>
+        requires { IsStudio S.Store (core_of self.old) }
+        ensures { Took S.Store (core_of self.old) (call.ReadPin pin from count) silent result 0 (core_of self.new) }
+    {
+        let most = frames_left(self.pin_len(pin)?, from, count);
+        let mut frames = vec![in alloc; Frame { left: 0, right: 0 }; most]?;
+        let read = self.read_pin(pin, from, frames.as_mut_slice())?;
+        frames.truncate(read);
+        Ok(Reply::Frames {
+            frames: Frames::new(frames),
+        })
+    }
+}

@@ -1,0 +1,118 @@
+// The mix of the current project as a sound of a vault.
+ghost use Rattle.std.specs.Prelude.{◌≡◌, ◌⊎◌, ◌+◌, ◌*◌, IsTrue, IfErr, IfOk, MatchResult};
+ghost use Rattle.pcm_base.specs.declared.answer.Reply.TheVariants as reply;
+ghost use Rattle.pcm_base.specs.declared.command.Call.TheVariants.{Line};
+ghost use Rattle.pcm_base.specs.declared.command.Command.TheVariants as command;
+ghost use Rattle.pcm_base.specs.Mix.{mix_of};
+ghost use Rattle.pcm_base.specs.Outside.{SameElsewhere};
+ghost use Rattle.pcm_base.specs.Wave.{wav_text};
+ghost use Rattle.disk_model.specs.Frames.{Kept};
+ghost use Rattle.sample_block.specs.Sources.{sources_of, AllNamed, AllWhole};
+ghost use Rattle.project_state.specs.Kept.{meant, point_blocks};
+ghost use Rattle.wav_pcm.specs.Wavs.{FitsFile};
+ghost use Rattle.mix_view.specs.Tracks.{mix_length_of};
+ghost use Rattle.sound_export.specs.Written.{ExportCounted, IsBlockFault, IsLengthFault, IsNoDamage, IsOfDevice};
+ghost use Rattle.envelope_view.specs.Answers.{IsUndamaged};
+ghost use Rattle.editor_core.specs.Adding.{IsNoWant};
+ghost use Rattle.editor_core.specs.Applied.{Lasts};
+ghost use Rattle.editor_core.specs.Core.{core_of};
+ghost use Rattle.editor_core.specs.Exports.{Writes, moved_from};
+ghost use Rattle.editor_core.specs.Imports.{VaultCounted};
+ghost use Rattle.editor_core.specs.Studios.{IsHeld, IsStudio};
+ghost use Rattle.editor_core.specs.Took.{Took, told_by};
+
+use super::current::current_of;
+use super::studio::Studio;
+use disk_model::Store;
+use edit_ports::Vault;
+use pcm_base::{Cell, Frame, Refusal};
+use project_state::Point;
+use sound_export::{ExportFault, write_mix};
+
+// How many cells of tracks are read at a time, all tracks together.
+const EXPORT_CELLS: usize = 8192;
+
+// How many frames are written at a time, and their bytes.
+const EXPORT_FRAMES: usize = 4096;
+
+const EXPORT_BYTES: usize = 16_384;
+
+// Writes the mix of a project in stretches, by buffers of its own, and answers how many bytes the sound has.
+fn write_stretches<S: Store, V: Vault>(
+    store: &mut S,
+    vault: &mut V,
+    name: &str,
+    point: &Point,
+    rate: u32,
+) -> Result<u64, ExportFault>
+    requires { AllNamed (point_blocks point.now) }
+    ensures written { IsTrue (V.tells vault.old) → IsTrue (S.tells store.old)
+        → AllWhole (S.reads store.old) (point_blocks point.now)
+        → Writes (wav_text (mix_of (meant (sources_of (S.reads store.old)) point.now)) rate)
+        (V.holds vault.old name.now) (V.holds vault.new name.now) result }
+    ensures len { IfOk result (λ n. n ≡ 44 + 4 * mix_length_of point.now) }
+    ensures fits { MatchResult result (λ n. FitsFile (mix_length_of point.now))
+        (IsLengthFault (mix_length_of point.now)) }
+    ensures untouched { IsTrue (V.tells vault.old) → IfErr result (λ e. IsOfDevice e
+        ⊎ (V.holds vault.new name.now ≡ V.holds vault.old name.now)) }
+    ensures sound { IsTrue (S.tells store.old) → AllWhole (S.reads store.old) (point_blocks point.now)
+        → IfErr result IsNoDamage }
+    ensures damaged { IsTrue (S.tells store.old)
+        → IfErr result (λ e. IsBlockFault (S.reads store.old) (point_blocks point.now) e) }
+    ensures kept { Kept S.Store store.old store.new }
+    ensures others { IsTrue (V.tells vault.old) → SameElsewhere name.now (V.holds vault.old) (V.holds vault.new) }
+    ensures tells { V.tells vault.new ≡ V.tells vault.old }
+    ensures faults { ExportCounted result (S.read_fault_count store.old) (S.read_fault_count store.new)
+        (V.fault_count vault.old) (V.fault_count vault.new) }
+{
+    let mut cells = [Cell::Gap; EXPORT_CELLS];
+    let mut frames = [Frame { left: 0, right: 0 }; EXPORT_FRAMES];
+    let mut bytes = [0; EXPORT_BYTES];
+    write_mix(
+        store,
+        vault,
+        name,
+        point,
+        rate,
+        &mut cells,
+        &mut frames,
+        &mut bytes,
+    )
+}
+
+impl<S: Store> Studio<S> {
+    /// Writes the mix of the current project to a vault as a WAV file of two channels, and answers how many bytes it has.
+    /// The length is tested before the sound is touched; then the header is written, and stretches of 4,096 frames are
+    /// read, mixed and appended. It takes no memory: the stretches stand on the stack, in 64 KiB. Nothing of the studio and
+    /// its disk changes.
+    ///
+    /// # Errors
+    ///
+    /// `Stopped` where a change of the disk failed in an earlier call; else `TooLong` where the sizes in the file would
+    /// pass 32 bits, and then the sound is as it was. `DiskFault` where a read fails, `VaultFault` where the vault does:
+    /// the studio goes on, and the sound is as it was or holds the first bytes of the file. A disk that holds what the
+    /// studio stands for shows no damaged file.
+    pub fn export<V: Vault>(&mut self, vault: &mut V, name: &str) -> Result<u64, Refusal>
+        requires { IsStudio S.Store (core_of self.old) }
+        ensures took { IsTrue (V.tells vault.old) → Took S.Store (core_of self.old) (Line (command.Export name.now))
+            (moved_from (V.holds vault.old name.now) (V.holds vault.new name.now)) (told_by reply.Wrote result) 0
+            (core_of self.new) }
+        // Whatever the vault tells, nothing of the studio and its disk changes.
+        ensures lasts { Lasts S.Store (core_of self.old) (Line (command.Export name.now)) (told_by reply.Wrote result)
+            0 (core_of self.new) }
+        ensures same { core_of self.new ≡ record (core_of self.old) { store = self.new.store } }
+        ensures kept { Kept S.Store self.old.store self.new.store }
+        ensures sound { IsHeld S.Store (core_of self.old) → IfErr result IsUndamaged }
+        ensures memory { IfErr result IsNoWant }
+        ensures others { IsTrue (V.tells vault.old) → SameElsewhere name.now (V.holds vault.old) (V.holds vault.new) }
+        ensures tells { V.tells vault.new ≡ V.tells vault.old }
+        ensures faults { VaultCounted result (V.fault_count vault.old) (V.fault_count vault.new) }
+    {
+        if let Some(faults) = self.stopped {
+            return Err(Refusal::Stopped { faults });
+        }
+        let point = current_of(&self.history);
+        let bytes = write_stretches(&mut self.store, vault, name, point, self.rate)?;
+        Ok(bytes)
+    }
+}
