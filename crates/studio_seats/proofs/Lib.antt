@@ -1,0 +1,10 @@
+-- The lemmas, lowest first.
+pub mod Refused
+pub mod Grown
+pub mod Turns
+pub mod Lines
+pub mod PinLemmas
+pub mod FrameLemmas
+pub mod PieceLemmas
+pub mod MergeLemmas
+pub mod OnwardLemmas

@@ -1,0 +1,44 @@
+-- What a line did, over a vault.
+use Rattle.std.proofs.Common.{◌≡◌, ◌∙◌, refl, sym, ap, subst, ℕ, Bool, IsTrue, List, Option, Some, None, Result, Ok, Err}
+use Rattle.std.specs.Prelude.{IfErr}
+use Rattle.pcm_base.specs.declared.answer.Answer.{Answer}
+use Rattle.pcm_base.specs.declared.answer.Reply.{Reply}
+use Rattle.pcm_base.specs.declared.answer.Reply.TheVariants.{Refused}
+use Rattle.pcm_base.specs.declared.command.Call.TheVariants.{Line}
+use Rattle.pcm_base.specs.declared.command.Command.{Command}
+use Rattle.pcm_base.specs.declared.refusal.Refusal.{Refusal}
+use Rattle.pcm_base.specs.Outside.{Sounds}
+use Rattle.pcm_base.specs.Run.{Heard, name_in_line}
+use Rattle.disk_model.specs.declared.store.Store.{Ghosts}
+use Rattle.editor_core.specs.Applied.{Applies, EndsAlike, move_of, reply_of}
+use Rattle.editor_core.specs.Core.{Core}
+use Rattle.editor_core.specs.Took.{told_by}
+use Rattle.studio_seats.specs.Stands.{Does}
+
+module _ {R : Type 0} where
+  -- the answer and the result tell what the line was told
+  told_is : (told : Result Reply Refusal) (result : Result R Refusal) (reply : Reply) → reply ≡ reply_of told → EndsAlike told result → told ≡ told_by (λ _. reply) result
+  told_is (Ok r) (Ok x) reply is ends = ap Ok (sym is)
+  told_is (Ok r) (Err why) reply is ends = absurd ends
+  told_is (Err why) (Ok x) reply is ends = absurd ends
+  told_is (Err why) (Err other) reply is ends = ap Err (sym ends)
+
+  pub does_line : {D : Type 0} (disk : Ghosts D) (tells : Bool) (told : Type 0) (before after : Sounds) (old : Core D) (c : Command) (result : Result R Refusal) (answer : Answer)
+      (new : Core D) → (told → IsTrue tells) → Applies disk tells before after old (Line c) result answer new
+      → Does disk told old (Line c) (told_by (λ _. answer.reply) result) (move_of (name_in_line c) before after) new
+  does_line disk tells told before after old c result answer new tell a =
+      subst (λ (z : Result Reply Refusal). Does disk told old (Line c) z (move_of (name_in_line c) before after) new)
+      (told_is a.told result answer.reply a.reply a.ends)
+      (record { removed = a.over.removed; took = λ may. a.over.took (λ some. tell (may some)); lasts = a.over.lasts })
+
+  -- a refusal stands in the answer too
+  pub refused_reply : (told : Result Reply Refusal) (result : Result R Refusal) (reply : Reply) → reply ≡ reply_of told → EndsAlike told result → IfErr result (λ why. reply ≡ Refused why)
+  refused_reply (Ok r) (Ok x) reply is ends = tt
+  refused_reply (Ok r) (Err why) reply is ends = absurd ends
+  refused_reply (Err why) (Ok x) reply is ends = absurd ends
+  refused_reply (Err why) (Err other) reply is ends = is ∙ ap Refused (sym ends)
+
+-- nothing became of a sound
+pub heard_still : (name : Option (List ℕ)) (sounds : Sounds) → Heard name (move_of name sounds sounds) sounds sounds
+heard_still None sounds = refl
+heard_still (Some name) sounds = (refl, refl, λ other differs. refl)

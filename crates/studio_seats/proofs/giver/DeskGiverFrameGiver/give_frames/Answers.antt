@@ -1,0 +1,38 @@
+-- A read is one turn of the seat.
+use Rattle.std.proofs.Common.{ℕ, length, ap}
+use Rattle.pcm_base.specs.declared.command.Call.TheVariants.{ReadPin}
+use Rattle.pin_turn.specs.Calls.{known}
+use Rattle.studio_seats.specs.Desks.{start_at}
+use Rattle.studio_seats.specs.Onward.{IsReadOf}
+use Rattle.studio_seats.proofs.FrameLemmas.{back_frames, gives, same_frames, still_made}
+use Rattle.studio_seats.proofs.OnwardLemmas.{onward_on, onward_turn}
+use Rattle.studio_seats.proofs.giver.DeskGiverFrameGiver.give_frames.Goals as goal
+
+pub invariant_of-self : goal.invariant_of-self
+invariant_of-self g c =
+    let s = c.args.self.now in record {
+      at = c.read_pin-said.ensures.same;
+      made = still_made g.S.Store g.V.Vault (start_at s.desk.now) s.pin c.args.from c.args.out.now c.read_pin-said.new.out (known s.seat) (known c.read_pin-said.new.seat) c.read_pin-said.result c.read_pin-said.ensures.says s.made;
+    }
+
+pub returns-clause-given : goal.returns-clause-given
+returns-clause-given g c =
+    let s = c.args.self.now in
+    gives g.S.Store g.V.Vault (start_at s.desk.now) s.pin c.args.from c.args.out.now c.read_pin-said.new.out (known s.seat) (known c.read_pin-said.new.seat) c.read_pin-said.result c.read_pin-said.ensures.says
+
+pub returns-clause-same : goal.returns-clause-same
+returns-clause-same g c = λ all.
+    let s = c.args.self.now in (
+      same_frames g.S.Store g.V.Vault (start_at s.desk.now) s.pin c.args.from c.args.out.now c.read_pin-said.new.out (known s.seat) (known c.read_pin-said.new.seat) c.read_pin-said.result c.read_pin-said.ensures.says all,
+      back_frames g.S.Store g.V.Vault (start_at s.desk.now) s.pin c.args.from c.args.out.now c.read_pin-said.new.out (known s.seat) (known c.read_pin-said.new.seat) c.read_pin-said.result c.read_pin-said.ensures.says s.made all,
+    )
+
+pub returns-clause-goes : goal.returns-clause-goes
+returns-clause-goes g c = λ first h.
+    let s = c.args.self.now in (
+      h.0,
+      h.1,
+      onward_on (IsReadOf first.pin) (known first.seat) (known s.seat) (known c.read_pin-said.new.seat) h.2
+          (onward_turn (IsReadOf first.pin) g.S.Store g.V.Vault (start_at s.desk.now) (known s.seat) (known c.read_pin-said.new.seat) _ _ _ c.read_pin-said.result
+          (c.args.from, length c.args.out.now, ap (λ (n : ℕ). ReadPin n c.args.from (length c.args.out.now)) h.1) c.read_pin-said.ensures.says),
+    )

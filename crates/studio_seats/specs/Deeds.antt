@@ -1,0 +1,42 @@
+-- What the turns of a desk do.
+use Rattle.std.specs.Prelude.{ℕ, ◌+◌, ◌==◌, Bool, true, false, List, [], ◌∷◌, Result, Ok, Err}
+use Rattle.pcm_base.specs.declared.answer.Reply.{Reply}
+use Rattle.pcm_base.specs.declared.command.Call.{Call}
+use Rattle.pcm_base.specs.declared.entry.Entry.{Entry}
+use Rattle.pcm_base.specs.declared.entry.SoundMove.{SoundMove}
+use Rattle.pcm_base.specs.declared.refusal.Refusal.{Refusal}
+use Rattle.pcm_base.specs.Counters.{commits_of}
+use Rattle.editor_core.specs.Applied.{reply_of}
+use Rattle.studio_seats.specs.declared.deed.Deed.{Deed}
+
+abbrev pub deed : ℕ → Call → Result Reply Refusal → SoundMove → Deed
+deed actor call what sound = record { actor = actor; call = call; what = what; sound = sound }
+
+abbrev pub actor_of : Deed → ℕ
+actor_of d = d.actor
+
+-- as entries of a run
+abbrev pub entry_of : Deed → Entry
+entry_of d = record { actor = d.actor; call = d.call; reply = reply_of d.what; sound = d.sound }
+
+abbrev pub entries_of : List Deed → List Entry
+entries_of [] = []
+entries_of (d ∷ ds) = entry_of d ∷ entries_of ds
+
+-- whether a call was carried out that is a commit
+abbrev pub commits : Result Reply Refusal → Call → Bool
+commits (Ok r) call = commits_of call == 1
+commits (Err why) call = false
+
+abbrev pub is_commit : Deed → Bool
+is_commit d = commits d.what d.call
+
+-- one more where it is a commit
+abbrev pub raised : Bool → ℕ → ℕ
+raised true n = n + 1
+raised false n = n
+
+-- the commit number to which deeds lead from this one
+abbrev pub number_after : ℕ → List Deed → ℕ
+number_after n [] = n
+number_after n (d ∷ ds) = number_after (raised (is_commit d) n) ds

@@ -1,0 +1,11 @@
+-- What the contracts cite, lowest first.
+pub mod Deeds
+pub mod Stands
+pub mod Holding
+pub mod Desks
+pub mod Pins
+pub mod PinLaws
+pub mod Shows
+pub mod Pieces
+pub mod Merge
+pub mod Onward

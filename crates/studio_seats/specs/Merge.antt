@@ -1,0 +1,96 @@
+-- One list of deeds, by their makers.
+use Rattle.std.specs.Prelude.{◌≡◌, ℕ, ◌+◌, ◌<◌, ◌==◌, ◌&&◌, if◌then◌else◌, ℤ, Bool, true, false, List, [], ◌∷◌, ◌++◌, length, take}
+use Rattle.std.specs.List.{zip}
+use Rattle.pin_turn.specs.Counts.{Each, times, once_below}
+use Rattle.pin_turn.specs.Rule.{ByOthers}
+use Rattle.pcm_base.specs.declared.command.Call.{Call}
+use Rattle.pcm_base.specs.declared.command.Call.TheVariants as call
+use Rattle.studio_seats.specs.declared.deed.Deed.{Deed}
+use Rattle.studio_seats.specs.Deeds.{actor_of, is_commit, number_after, raised}
+use Rattle.studio_seats.specs.Pieces.{pieces_by}
+
+abbrev pub by_seat : ℕ → Deed → Bool
+by_seat seat e = seat == e.actor
+
+abbrev pub any_seat : Deed → Bool
+any_seat e = true
+
+-- the number of a commit, where it is of a kind
+abbrev pub number_if : Bool → Bool → ℕ → List ℕ
+number_if kind commit n = if kind && commit then n ∷ [] else []
+
+-- the commit numbers of the deeds of a kind, by the number before the list
+abbrev pub numbers_of : (Deed → Bool) → ℕ → List Deed → List ℕ
+numbers_of kind n [] = []
+numbers_of kind n (e ∷ es) = number_if (kind e) (is_commit e) (raised (is_commit e) n) ++ numbers_of kind (raised (is_commit e) n) es
+
+-- the deeds of a kind, in order
+abbrev pub deeds_of : (Deed → Bool) → List Deed → List Deed
+deeds_of kind [] = []
+deeds_of kind (e ∷ es) = (if kind e then e ∷ [] else []) ++ deeds_of kind es
+
+-- each number is above the one before, and the first above n
+abbrev pub Rises : ℕ → List ℕ → Type 0
+Rises n [] = Unit {0}
+Rises n (x ∷ xs) = (n < x) × Rises x xs
+
+abbrev pub one_if : Bool → ℕ
+one_if b = if b then 1 else 0
+
+-- each commit is of exactly one of two kinds
+abbrev pub SplitsIn : (Deed → Bool) → (Deed → Bool) → List Deed → Type 0
+SplitsIn one two es = Each (λ e. is_commit e ≡ true → one_if (one e) + one_if (two e) ≡ 1) es
+
+-- The list that all seats made together, by the number before it. The first seat did some things alone, of which the
+-- last commit is the recording's own. Then the script, by the first seat, and the recorder, by another, made all the
+-- commits.
+pub record Merged (first : ℕ) (log : List Deed) (script recorder : ℕ) (opening_commits script_commits piece_commits : List ℕ) : Type 0 where
+  pub opening : List Deed
+  pub rest : List Deed
+  pub split : log ≡ opening ++ rest
+  pub kinds : SplitsIn (by_seat script) (by_seat recorder) rest
+  pub opening_is : opening_commits ≡ numbers_of any_seat first opening
+  pub script_is : script_commits ≡ numbers_of (by_seat script) (number_after first opening) rest
+  pub pieces_is : piece_commits ≡ numbers_of (by_seat recorder) (number_after first opening) rest
+
+-- the numbers are together all from above the first to the last, each once, and each list rises
+pub record Numbers (first last : ℕ) (opening_commits script_commits piece_commits : List ℕ) : Type 0 where
+  pub each : (k : ℕ) → once_below k (first + 1) + (times k opening_commits + times k script_commits + times k piece_commits) ≡ once_below k (last + 1)
+  pub opening_rises : Rises first opening_commits
+  pub script_rises : Rises first script_commits
+  pub pieces_rise : Rises first piece_commits
+
+abbrev pub MergedNumbers : Type 0
+MergedNumbers = (first : ℕ) (log : List Deed) (script recorder : ℕ) (opening_commits script_commits piece_commits : List ℕ)
+    → Merged first log script recorder opening_commits script_commits piece_commits → Numbers first (number_after first log) opening_commits script_commits piece_commits
+
+abbrev pub is_piece : ℕ → ℕ → Call → Bool
+is_piece to by (call.Line c) = false
+is_piece to by (call.Piece track tag samples) = (to == track) && (by == tag)
+is_piece to by call.Pin = false
+is_piece to by (call.PinLen pin) = false
+is_piece to by (call.ReadPin pin from count) = false
+is_piece to by (call.Unpin pin) = false
+
+-- the seat made no commits but pieces of this recording
+abbrev pub OnlyPieces : ℕ → ℕ → ℕ → List Deed → Type 0
+OnlyPieces to by seat es = Each (λ e. by_seat seat e && is_commit e ≡ true → is_piece to by e.call ≡ true) es
+
+abbrev pub numbers_in : List (List ℤ × ℕ) → List ℕ
+numbers_in [] = []
+numbers_in (x ∷ xs) = x.1 ∷ numbers_in xs
+
+-- A seat had seen nothing of its own, its pieces were then those of these chunks, and what came after is not by it:
+-- then the pieces of the whole list are those of the chunks, the first of the first, and their numbers are its commits.
+abbrev pub PieceNumbers : Type 0
+PieceNumbers = (to by seat first : ℕ) (before seen more : List Deed) (chunks : List (List ℤ)) (numbers : List ℕ)
+    → Each (λ e. e.actor < seat) before
+    → pieces_by to by seat first seen ≡ pieces_by to by seat first before ++ zip (take (length numbers) chunks) numbers
+    → ByOthers actor_of (seat ∷ []) more
+    → OnlyPieces to by seat (seen ++ more)
+    → (pieces_by to by seat first (seen ++ more) ≡ zip (take (length numbers) chunks) numbers) × (numbers_of (by_seat seat) first (seen ++ more) ≡ numbers_in (zip (take (length numbers) chunks) numbers))
+
+-- a turn of a seat comes behind its earlier ones
+abbrev pub OwnOrder : Type 0
+OwnOrder = (seat : ℕ) (seen between : List Deed) (e : Deed) → e.actor ≡ seat → ByOthers actor_of (seat ∷ []) between
+    → deeds_of (by_seat seat) ((seen ++ between) ++ e ∷ []) ≡ deeds_of (by_seat seat) seen ++ e ∷ []

@@ -1,0 +1,114 @@
+// Undo, redo and purge, each in one turn.
+ghost use Rattle.std.specs.Prelude.{◌≡◌, IfOk};
+ghost use Rattle.pcm_base.specs.declared.answer.Reply.TheVariants.{Done};
+ghost use Rattle.pcm_base.specs.declared.command.Call.TheVariants.{Line};
+ghost use Rattle.pcm_base.specs.declared.command.Command.TheVariants.{Undo, Redo, Purge};
+ghost use Rattle.pin_turn.specs.Calls.{known};
+ghost use Rattle.editor_core.specs.Core.{core_of};
+ghost use Rattle.editor_core.specs.Studios.{IsStudio};
+ghost use Rattle.editor_core.specs.Took.{Took, silent, told_by};
+ghost use Rattle.studio_seats.specs.Desks.{IsAt, Says, start_at};
+
+use super::Desk;
+use super::said::said_by;
+use crate::held::{DeskSeat, Held};
+use disk_model::Store;
+use edit_ports::Vault;
+use pcm_base::Said;
+use std::marker::Brand;
+use std::sync::Wait;
+
+impl<S: Store, V: Vault> Desk<S, V> {
+    /// Goes back to the point before, and answers the commit number. It takes no memory.
+    ///
+    /// # Errors
+    ///
+    /// Those of [`Studio::undo`](editor_core::Studio::undo); `Spent` where no turn is left.
+    pub fn undo<R: Wait>(&self, rt: &R, seat: &mut DeskSeat<S, V>) -> Said<u64>
+        requires { IsAt self.now seat.old }
+        ensures same { IsAt self.now seat.new }
+        ensures says { Says S.Store V.Vault (start_at self.now) (known seat.old) (Line Undo)
+            (told_by (λ _. Done) result.what) silent result (known seat.new) }
+        ensures number { IfOk result.what (λ n. n ≡ result.at) }
+    {
+        said_by(
+            self.turn.with::<R, Said<u64>, _, Brand>(
+                rt,
+                seat,
+                &mut |held: &mut Held<S, V>| -> Said<u64>
+                    requires { IsStudio S.Store (core_of held.old.studio) }
+                    ensures took { Took S.Store (core_of held.old.studio) (Line Undo) silent
+                        (told_by (λ _. Done) result.what) 0 (core_of held.new.studio) }
+                    ensures at { result.at ≡ (core_of held.new.studio).commit_number }
+                    ensures number { IfOk result.what (λ n. n ≡ result.at) }
+                {
+                    let what = held.studio.undo();
+                    let at = held.studio.commit_number();
+                    Said { at, what }
+                },
+            ),
+        )
+    }
+
+    /// Goes on to the point that was undone last, and answers the commit number. It takes no memory.
+    ///
+    /// # Errors
+    ///
+    /// Those of [`Studio::redo`](editor_core::Studio::redo); `Spent` where no turn is left.
+    pub fn redo<R: Wait>(&self, rt: &R, seat: &mut DeskSeat<S, V>) -> Said<u64>
+        requires { IsAt self.now seat.old }
+        ensures same { IsAt self.now seat.new }
+        ensures says { Says S.Store V.Vault (start_at self.now) (known seat.old) (Line Redo)
+            (told_by (λ _. Done) result.what) silent result (known seat.new) }
+        ensures number { IfOk result.what (λ n. n ≡ result.at) }
+    {
+        said_by(
+            self.turn.with::<R, Said<u64>, _, Brand>(
+                rt,
+                seat,
+                &mut |held: &mut Held<S, V>| -> Said<u64>
+                    requires { IsStudio S.Store (core_of held.old.studio) }
+                    ensures took { Took S.Store (core_of held.old.studio) (Line Redo) silent
+                        (told_by (λ _. Done) result.what) 0 (core_of held.new.studio) }
+                    ensures at { result.at ≡ (core_of held.new.studio).commit_number }
+                    ensures number { IfOk result.what (λ n. n ≡ result.at) }
+                {
+                    let what = held.studio.redo();
+                    let at = held.studio.commit_number();
+                    Said { at, what }
+                },
+            ),
+        )
+    }
+
+    /// Forgets the oldest points, as many as are asked for, and answers the commit number. It takes no memory.
+    ///
+    /// # Errors
+    ///
+    /// Those of [`Studio::purge`](editor_core::Studio::purge); `Spent` where no turn is left.
+    pub fn purge<R: Wait>(&self, rt: &R, seat: &mut DeskSeat<S, V>, count: u64) -> Said<u64>
+        requires { IsAt self.now seat.old }
+        ensures same { IsAt self.now seat.new }
+        ensures says { Says S.Store V.Vault (start_at self.now) (known seat.old) (Line (Purge count))
+            (told_by (λ _. Done) result.what) silent result (known seat.new) }
+        ensures number { IfOk result.what (λ n. n ≡ result.at) }
+    {
+        said_by(
+            self.turn.with::<R, Said<u64>, _, Brand>(
+                rt,
+                seat,
+                &mut |held: &mut Held<S, V>| -> Said<u64>
+                    requires { IsStudio S.Store (core_of held.old.studio) }
+                    ensures took { Took S.Store (core_of held.old.studio) (Line (Purge count)) silent
+                        (told_by (λ _. Done) result.what) 0 (core_of held.new.studio) }
+                    ensures at { result.at ≡ (core_of held.new.studio).commit_number }
+                    ensures number { IfOk result.what (λ n. n ≡ result.at) }
+                {
+                    let what = held.studio.purge(count);
+                    let at = held.studio.commit_number();
+                    Said { at, what }
+                },
+            ),
+        )
+    }
+}

@@ -1,0 +1,152 @@
+// Pins, each call in one turn.
+ghost use Rattle.std.specs.Prelude.{◌≡◌, ◌+◌, ◌^◌, ◌<◌, ◌≤◌, true, IsTrue, length, take, IfOk};
+ghost use Rattle.pcm_base.specs.declared.answer.Reply.TheVariants as reply;
+ghost use Rattle.pcm_base.specs.declared.command.Call.TheVariants as call;
+ghost use Rattle.pin_turn.specs.Calls.{known};
+ghost use Rattle.editor_core.specs.Core.{core_of};
+ghost use Rattle.editor_core.specs.Studios.{IsStudio};
+ghost use Rattle.editor_core.specs.Took.{Took, silent, told_by};
+ghost use Rattle.studio_seats.specs.Deeds.{entries_of};
+ghost use Rattle.studio_seats.specs.Desks.{IsAt, Says, start_at};
+ghost use Rattle.studio_seats.specs.Pins.{is_made};
+
+use super::Desk;
+use super::said::said_by;
+use crate::held::{DeskSeat, Held};
+use disk_model::Store;
+use edit_ports::Vault;
+use pcm_base::{Frame, Said};
+use std::marker::Brand;
+use std::sync::Wait;
+
+impl<S: Store, V: Vault> Desk<S, V> {
+    /// Keeps the current project by a number of its own, as [`Studio::pin`](editor_core::Studio::pin) does.
+    ///
+    /// # Errors
+    ///
+    /// Those of that call; `Spent` where no turn is left.
+    pub fn pin<R: Wait>(&self, rt: &R, seat: &mut DeskSeat<S, V>) -> Said<u64>
+        requires { IsAt self.now seat.old }
+        ensures same { IsAt self.now seat.new }
+        ensures says { Says S.Store V.Vault (start_at self.now) (known seat.old) call.Pin
+            (told_by reply.Pinned result.what) silent result (known seat.new) }
+        ensures made { IfOk result.what (λ pin. IsTrue (is_made pin (entries_of (known seat.new).seen))) }
+    {
+        said_by(
+            self.turn.with::<R, Said<u64>, _, Brand>(
+                rt,
+                seat,
+                &mut |held: &mut Held<S, V>| -> Said<u64>
+                    requires { IsStudio S.Store (core_of held.old.studio) }
+                    ensures took { Took S.Store (core_of held.old.studio) call.Pin silent
+                        (told_by reply.Pinned result.what) 0 (core_of held.new.studio) }
+                    ensures at { result.at ≡ (core_of held.new.studio).commit_number }
+                {
+                    let what = held.studio.pin();
+                    let at = held.studio.commit_number();
+                    Said { at, what }
+                },
+            ),
+        )
+    }
+
+    /// Lets a pinned project go. A studio that was stopped is served too.
+    ///
+    /// # Errors
+    ///
+    /// Those of [`Studio::unpin`](editor_core::Studio::unpin); `Spent` where no turn is left.
+    pub fn unpin<R: Wait>(&self, rt: &R, seat: &mut DeskSeat<S, V>, pin: u64) -> Said<()>
+        requires { IsAt self.now seat.old }
+        ensures same { IsAt self.now seat.new }
+        ensures says { Says S.Store V.Vault (start_at self.now) (known seat.old) (call.Unpin pin)
+            (told_by (λ _. reply.Done) result.what) silent result (known seat.new) }
+    {
+        said_by(
+            self.turn.with::<R, Said<()>, _, Brand>(
+                rt,
+                seat,
+                &mut |held: &mut Held<S, V>| -> Said<()>
+                    requires { IsStudio S.Store (core_of held.old.studio) }
+                    ensures took { Took S.Store (core_of held.old.studio) (call.Unpin pin) silent
+                        (told_by (λ _. reply.Done) result.what) 0 (core_of held.new.studio) }
+                    ensures at { result.at ≡ (core_of held.new.studio).commit_number }
+                {
+                    let what = held.studio.unpin(pin);
+                    let at = held.studio.commit_number();
+                    Said { at, what }
+                },
+            ),
+        )
+    }
+
+    /// How many frames the mix of a pinned project has.
+    ///
+    /// # Errors
+    ///
+    /// Those of [`Studio::pin_len`](editor_core::Studio::pin_len); `Spent` where no turn is left.
+    pub fn pin_len<R: Wait>(&self, rt: &R, seat: &mut DeskSeat<S, V>, pin: u64) -> Said<u64>
+        requires { IsAt self.now seat.old }
+        ensures same { IsAt self.now seat.new }
+        ensures says { Says S.Store V.Vault (start_at self.now) (known seat.old) (call.PinLen pin)
+            (told_by reply.Length result.what) silent result (known seat.new) }
+    {
+        said_by(
+            self.turn.with::<R, Said<u64>, _, Brand>(
+                rt,
+                seat,
+                &mut |held: &mut Held<S, V>| -> Said<u64>
+                    requires { IsStudio S.Store (core_of held.old.studio) }
+                    ensures took { Took S.Store (core_of held.old.studio) (call.PinLen pin) silent
+                        (told_by reply.Length result.what) 0 (core_of held.new.studio) }
+                    ensures at { result.at ≡ (core_of held.new.studio).commit_number }
+                {
+                    let what = held.studio.pin_len(pin);
+                    let at = held.studio.commit_number();
+                    Said { at, what }
+                },
+            ),
+        )
+    }
+
+    /// Puts the frames of the mix of a pinned project from a place on at the front of `out`, as many as there are and as it
+    /// has room for, and answers how many. Where no turn is left `out` is as it was.
+    ///
+    /// # Errors
+    ///
+    /// Those of [`Studio::read_pin`](editor_core::Studio::read_pin); `Spent` where no turn is left.
+    pub fn read_pin<R: Wait>(
+        &self,
+        rt: &R,
+        seat: &mut DeskSeat<S, V>,
+        pin: u64,
+        from: u64,
+        out: &mut [Frame],
+    ) -> Said<usize>
+        requires { IsAt self.now seat.old }
+        ensures same { IsAt self.now seat.new }
+        ensures says { Says S.Store V.Vault (start_at self.now) (known seat.old) (call.ReadPin pin from (length out.old))
+            (told_by (λ n. reply.Frames (take n out.new)) result.what) silent result (known seat.new) }
+        ensures bound { IfOk result.what (λ n. n ≤ length out.new) }
+        ensures limit { IfOk result.what (λ n. 0 < n → from + n ≤ 2 ^ 32) }
+        ensures spent { (known seat.new).used_up ≡ true → out.new ≡ out.old }
+    {
+        said_by(
+            self.turn.with::<R, Said<usize>, _, Brand>(
+                rt,
+                seat,
+                &mut |held: &mut Held<S, V>| -> Said<usize>
+                    requires { IsStudio S.Store (core_of held.old.studio) }
+                    ensures took { Took S.Store (core_of held.old.studio) (call.ReadPin pin from (length out.entry.now)) silent
+                        (told_by (λ n. reply.Frames (take n out.exit.now)) result.what) 0 (core_of held.new.studio) }
+                    ensures at { result.at ≡ (core_of held.new.studio).commit_number }
+                    ensures bound { IfOk result.what (λ n. n ≤ length out.exit.now) }
+                    ensures limit { IfOk result.what (λ n. 0 < n → from + n ≤ 2 ^ 32) }
+                {
+                    let what = held.studio.read_pin(pin, from, out);
+                    let at = held.studio.commit_number();
+                    Said { at, what }
+                },
+            ),
+        )
+    }
+}

@@ -1,0 +1,24 @@
+// What the list of all seats says of each. These functions do nothing: their contracts are the laws.
+ghost use Rattle.studio_seats.specs.Merge.{MergedNumbers, PieceNumbers, OwnOrder};
+ghost use Rattle.studio_seats.specs.PinLaws.{PinsStay};
+
+/// The commits of the opening, of the first seat and of the recorder are together all commits, each once.
+pub fn numbers_are_merged()
+    ensures { MergedNumbers }
+{}
+
+/// The pieces of the recorder are those of its chunks, in order, and so are their commit numbers.
+pub fn pieces_are_chunks()
+    ensures { PieceNumbers }
+{}
+
+/// Each seat's deeds stand in the order of its turns.
+pub fn turns_keep_order()
+    ensures { OwnOrder }
+{}
+
+/// A pin that was made in a run, and that nobody let go, shows the mix of the project that was current then, and all that
+/// is asked of it is answered so.
+pub fn pins_stay()
+    ensures { PinsStay }
+{}

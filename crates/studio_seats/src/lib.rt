@@ -1,0 +1,18 @@
+//! The desk: one studio, which threads use in turns, each from a seat of its own. Each call of a seat takes the turn,
+//! makes one call of the studio, and gives the turn back; what all seats did is one list, a run of the model.
+#![tactic(auto)]
+
+mod deed;
+mod desk;
+mod first;
+mod giver;
+mod held;
+mod laws;
+mod taker;
+
+pub use deed::Deed;
+pub use desk::Desk;
+pub use giver::DeskGiver;
+pub use held::{DeskSeat, Held};
+pub use laws::{numbers_are_merged, pieces_are_chunks, pins_stay, turns_keep_order};
+pub use taker::DeskTaker;
