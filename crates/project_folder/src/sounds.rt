@@ -1,0 +1,154 @@
+// The sounds of a folder, by calls of the system. No fault is counted here.
+ghost use Rattle.std.specs.Prelude.{◌≤◌, length, IfOk, OnOk};
+ghost use Rattle.pcm_base.specs.Form.{IsName};
+
+use crate::names::is_name;
+use crate::paths::{Paths, with_slash};
+use crate::plain::{Made, length_at, make_folder, make_new, open_plain, plain_length, read_full};
+use pcm_base::Failed;
+use std::alloc::{AllocError, Global};
+use std::fs::{OpenFile, OpenOptions};
+use std::io::Write;
+use std::os::unix::fs::FileExt;
+use std::rt::Files;
+
+/// No sound has a byte so far from its start.
+const FARTHEST: u64 = 1 << 62;
+
+/// The sound of a name is `sounds/NAME` of a folder. The one that was used last stays open.
+#[derive(Drop)]
+pub(crate) struct Sounds<R: Files> {
+    files: R,
+    home: String,
+    paths: Paths,
+    open: Option<R::File>,
+    is_writable: bool,
+}
+
+// Options by which what is written goes to the file's end.
+fn appending() -> OpenOptions {
+    let mut how = OpenOptions::new();
+    how.read(true).append(true);
+    how
+}
+
+impl<R: Files + Drop> Sounds<R> {
+    // Nothing is opened yet.
+    pub(crate) fn new(files: R, alloc: Global, home: &str) -> Result<Sounds<R>, AllocError> {
+        Ok(Sounds {
+            files,
+            home: with_slash(alloc, home)?,
+            paths: Paths::new(alloc, home, "sounds")?,
+            open: None,
+            is_writable: false,
+        })
+    }
+
+    // Whether the open file is the sound, and may be written where that is asked for.
+    fn has_open(&self, name: &str, writes: bool) -> bool {
+        self.open.is_some() && self.paths.is_at(name) && (self.is_writable || !writes)
+    }
+
+    pub(crate) fn size(&mut self, name: &str) -> Result<Option<u64>, Failed>
+        ensures named { OnOk result (IsName name.now) }
+    {
+        if !is_name(name.as_bytes()) {
+            return Err(Failed);
+        }
+        if self.has_open(name, false) {
+            if let Some(file) = &self.open {
+                let Ok(metadata) = file.metadata() else {
+                    return Err(Failed);
+                };
+                return Ok(Some(plain_length(&metadata)?));
+            }
+        }
+        self.open = None;
+        length_at(&self.files, self.paths.named(name)?)
+    }
+
+    pub(crate) fn read_at(&mut self, name: &str, at: u64, buf: &mut [u8]) -> Result<usize, Failed>
+    where
+        R::File: FileExt,
+        ensures named { OnOk result (IsName name.now) }
+        ensures within { IfOk result (λ n. n ≤ length buf.old) }
+    {
+        if !is_name(name.as_bytes()) {
+            return Err(Failed);
+        }
+        if !self.has_open(name, false) {
+            self.open = None;
+            self.is_writable = false;
+            let path = self.paths.named(name)?;
+            self.open = open_plain(&self.files, OpenOptions::new().read(true), path)?;
+        }
+        let Some(file) = &self.open else {
+            return Ok(0);
+        };
+        if at > FARTHEST || buf.len() as u64 > FARTHEST {
+            return Ok(0);
+        }
+        read_full(file, at, buf)
+    }
+
+    // Has the sound open to be written at its end, and makes it where it is absent.
+    fn open_to_append(&mut self, name: &str) -> Result<(), Failed>
+        ensures named { OnOk result (IsName name.now) }
+    {
+        if !is_name(name.as_bytes()) {
+            return Err(Failed);
+        }
+        if self.has_open(name, true) {
+            return Ok(());
+        }
+        self.open = None;
+        self.is_writable = true;
+        let path = self.paths.named(name)?;
+        self.open = open_plain(&self.files, &appending(), path)?;
+        if self.open.is_none() {
+            self.open = Some(self.make(name)?);
+        }
+        Ok(())
+    }
+
+    fn make(&mut self, name: &str) -> Result<R::File, Failed> {
+        let mut how = appending();
+        let how = how.create_new(true);
+        let path = self.paths.named(name)?;
+        if let Made::New(file) = make_new(&self.files, how, path)? {
+            return Ok(file);
+        }
+        let _ = make_folder(&self.files, self.home.as_str())?;
+        let _ = make_folder(&self.files, self.paths.folder())?;
+        match make_new(&self.files, how, self.paths.named(name)?)? {
+            Made::New(file) => Ok(file),
+            _ => Err(Failed),
+        }
+    }
+
+    pub(crate) fn start(&mut self, name: &str) -> Result<(), Failed>
+        ensures named { OnOk result (IsName name.now) }
+    {
+        self.open_to_append(name)?;
+        let Some(file) = &self.open else {
+            return Err(Failed);
+        };
+        match file.set_len(0) {
+            Ok(()) => Ok(()),
+            Err(_) => Err(Failed),
+        }
+    }
+
+    pub(crate) fn append(&mut self, name: &str, bytes: &[u8]) -> Result<(), Failed>
+        ensures named { OnOk result (IsName name.now) }
+    {
+        self.open_to_append(name)?;
+        let Some(file) = &mut self.open else {
+            return Err(Failed);
+        };
+        match file.write_all(bytes) {
+            Ok(()) => Ok(()),
+            Err(_) => Err(Failed),
+        }
+    }
+}
