@@ -1,0 +1,13 @@
+pub mod Editing
+pub mod LineLists
+pub mod LineSteps
+pub mod Needing
+pub mod Passing
+pub mod PlaceSteps
+pub mod Places
+pub mod Points
+pub mod Rooms
+pub mod Runs
+pub mod Samples
+pub mod Scripts
+pub mod Valid

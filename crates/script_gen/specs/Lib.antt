@@ -1,0 +1,5 @@
+pub mod Bounds
+pub mod Draws
+pub mod Room
+pub mod Script
+pub mod Validity
