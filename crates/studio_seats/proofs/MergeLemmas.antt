@@ -113,7 +113,7 @@ pieces_are_chunks to by seat first before seen more chunks numbers fresh took ot
     ∙ (took ∙ ap (λ (l : List (List ℤ × ℕ)). l ++ zip (take (length numbers) chunks) numbers) (pieces_others to by seat first before (lower_others seat before fresh))))) in
     (whole, sym (piece_numbers to by seat first (seen ++ more) only) ∙ ap numbers_in whole)
 
-deeds_append : (kind : Deed → Bool) (xs ys : List Deed) → deeds_of kind (xs ++ ys) ≡ deeds_of kind xs ++ deeds_of kind ys
+pub deeds_append : (kind : Deed → Bool) (xs ys : List Deed) → deeds_of kind (xs ++ ys) ≡ deeds_of kind xs ++ deeds_of kind ys
 deeds_append kind [] ys = refl
 deeds_append kind (e ∷ es) ys = ap (λ (l : List Deed). (if kind e then e ∷ [] else []) ++ l) (deeds_append kind es ys) ∙ sym (append_assoc (if kind e then e ∷ [] else []) (deeds_of kind es) (deeds_of kind ys))
 
@@ -121,9 +121,31 @@ not_its : (b : Bool) (e : Deed) → (if b then 1 else 0) + 0 ≡ 0 → (if b the
 not_its true e h = absurd (omega (arith, h))
 not_its false e h = refl
 
-deeds_others : (seat : ℕ) (more : List Deed) → ByOthers actor_of (seat ∷ []) more → deeds_of (by_seat seat) more ≡ []
+pub deeds_others : (seat : ℕ) (more : List Deed) → ByOthers actor_of (seat ∷ []) more → deeds_of (by_seat seat) more ≡ []
 deeds_others seat [] h = refl
 deeds_others seat (e ∷ es) h = ap (λ (l : List Deed). l ++ deeds_of (by_seat seat) es) (not_its (by_seat seat e) e h.0) ∙ deeds_others seat es h.1
+
+pub numbers_append : (kind : Deed → Bool) (n : ℕ) (xs ys : List Deed)
+    → numbers_of kind n (xs ++ ys) ≡ numbers_of kind n xs ++ numbers_of kind (number_after n xs) ys
+numbers_append kind n [] ys = refl
+numbers_append kind n (e ∷ es) ys =
+    let here = number_if (kind e) (is_commit e) (raised (is_commit e) n) in
+    ap (λ (l : List ℕ). here ++ l) (numbers_append kind (raised (is_commit e) n) es ys)
+    ∙ sym (append_assoc here (numbers_of kind (raised (is_commit e) n) es)
+    (numbers_of kind (number_after (raised (is_commit e) n) es) ys))
+
+no_number : (b commit : Bool) (n : ℕ) → (if b then 1 else 0) + 0 ≡ 0 → number_if b commit n ≡ []
+no_number true commit n h = absurd (omega (arith, h))
+no_number false commit n h = refl
+
+-- deeds of others have no numbers of the seat
+pub numbers_others : (seat n : ℕ) (more : List Deed) → ByOthers actor_of (seat ∷ []) more
+    → numbers_of (by_seat seat) n more ≡ []
+numbers_others seat n [] h = refl
+numbers_others seat n (e ∷ es) h =
+    ap (λ (l : List ℕ). l ++ numbers_of (by_seat seat) (raised (is_commit e) n) es)
+    (no_number (by_seat seat e) (is_commit e) (raised (is_commit e) n) h.0)
+    ∙ numbers_others seat (raised (is_commit e) n) es h.1
 
 pub own_order : OwnOrder
 own_order seat seen between e mine others = deeds_append (by_seat seat) (seen ++ between) (e ∷ [])

@@ -1,0 +1,3 @@
+-- The lemmas, lowest first.
+pub mod SeatLemmas
+pub mod CallLemmas

@@ -1,0 +1,68 @@
+-- A seat that split one off takes it in again.
+use Rattle.std.proofs.Common.{◌≡◌, ℕ, ◌<◌, if◌then◌else◌, Bool, true, false, List, [], ◌∷◌, ◌++◌, length, nat_lt}
+use Rattle.std.proofs.Common.{refl, sym, ap, ◌∙◌, subst}
+use Rattle.pcm_base.specs.declared.command.Call.{Call}
+use Rattle.pin_turn.specs.declared.view.View.{View}
+use Rattle.pin_turn.specs.Counts.{longer, times}
+use Rattle.pin_turn.specs.Rule.{IsNewNumber}
+use Rattle.pin_turn.specs.Views.{joined}
+use Rattle.pin_turn.proofs.Calls.{rejoins}
+use Rattle.studio_seats.specs.declared.deed.Deed.{Deed}
+use Rattle.studio_seats.specs.declared.held.Held.{Held}
+use Rattle.studio_seats.specs.Deeds.{actor_of}
+use Rattle.studio_seats.specs.Onward.{Asks, Onward}
+use Rattle.seat_examples.specs.Jobs.{StaysSeat}
+
+either : (c : Bool) (xs a b : List Deed) → (more : List Deed) × ((if c then xs ++ b else xs ++ a) ≡ xs ++ more)
+either true xs a b = (b, refl)
+either false xs a b = (a, refl)
+
+-- of two lists that go on from one, the longer goes on from it too
+longer_on : (xs ys zs a b : List Deed) → ys ≡ xs ++ a → zs ≡ xs ++ b → (more : List Deed) × (longer ys zs ≡ xs ++ more)
+longer_on xs ys zs a b p q =
+    let c = nat_lt (length ys) (length zs) in
+    let e = either c xs a b in
+    (e.0, (λ i. if c then q i else p i) ∙ e.1)
+
+asks_if : (one two : Call → Type 0) → ((c : Call) → one c → two c) → (seat : ℕ) (ds : List Deed) → Asks one seat ds
+    → Asks two seat ds
+asks_if one two f seat [] h = tt
+asks_if one two f seat (d ∷ ds) h = ((λ is. f d.call (h.0 is)), asks_if one two f seat ds h.1)
+
+module _ {D V : Type 0} where
+  -- what fits, fits in other words
+  pub onward_if : (one two : Call → Type 0) (v w : View (Held D V) Deed) → ((c : Call) → one c → two c) → Onward one v w
+      → Onward two v w
+  onward_if one two v w f h = record {
+    added = h.added;
+    seen = h.seen;
+    asks = asks_if one two f v.number h.added h.asks;
+    number = h.number;
+    away = h.away;
+    mine = h.mine;
+  }
+
+  -- a seat that went on is the one that it was
+  pub stays_on : (fits : Call → Type 0) (v w : View (Held D V) Deed) → Onward fits v w → StaysSeat v w
+  stays_on fits v w h = record { number = h.number; away = h.away; more = h.added; seen = h.seen }
+
+  module _ (v v1 w1 o w2 : View (Held D V) Deed) (kept : v1 ≡ record v { away = v.away ++ o.number ∷ [] })
+      (new : o ≡ record v { number = o.number; mine = []; away = [] }) (number : IsNewNumber actor_of v o.number) where
+    -- it may take the other in
+    pub may_rejoin : StaysSeat v1 w1 → StaysSeat o w2 → (0 < times w2.number w1.away) × (w2.away ≡ [])
+    may_rejoin a b = let h = rejoins actor_of v v1 w1 o w2 kept new number a.away b.number b.away in (h.0, h.1)
+
+    -- and is then the one that it was
+    pub stays_rejoined : (w : View (Held D V) Deed) → w ≡ joined w1 w2 → StaysSeat v1 w1 → StaysSeat o w2
+        → StaysSeat v w
+    stays_rejoined w is a b =
+        let h = rejoins actor_of v v1 w1 o w2 kept new number a.away b.number b.away in
+        let one = a.seen ∙ ap (λ (z : View (Held D V) Deed). z.seen ++ a.more) kept in
+        let two = b.seen ∙ ap (λ (z : View (Held D V) Deed). z.seen ++ b.more) new in
+        let seen = longer_on v.seen w1.seen w2.seen a.more b.more one two in
+        subst (StaysSeat v) (sym is) (record {
+          number = a.number ∙ ap (λ (z : View (Held D V) Deed). z.number) kept;
+          away = h.2;
+          more = seen.0;
+          seen = seen.1;
+        })
