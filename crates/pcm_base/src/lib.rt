@@ -2,7 +2,7 @@
 //! that every editor is proved against: cells and tracks, the edits, the history, the state, and the step.
 //!
 //! The layers above use the types, the three formulas and the definitions. No state is kept here and nothing
-//! is carried out: what does that is `plain_editor`.
+//! is carried out: what does that is `editor_core`.
 #![tactic(auto)]
 
 mod answer;

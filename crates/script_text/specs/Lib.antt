@@ -4,3 +4,7 @@ pub mod Lines
 pub mod Text
 pub mod Words
 pub mod Faults
+pub mod CallFault
+pub mod Last
+pub mod Project
+pub mod Summary

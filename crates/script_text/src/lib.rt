@@ -1,27 +1,42 @@
-//! The text of a script and of its answers: a line to its command by `parse`, an answer to its line by `write_answer`.
+//! The text of a script and of its answers: a line to its command by `parse`, an answer to its line by `write_answer`;
+//! and the lines that the words of the program print as a whole, by a `write_` function each.
 //!
 //! The layer above uses that `parse` gives the command, or the column of the first bad word, that the grammar of
-//! `specs/Grammar.antt` says, and that what is written is the text of `specs/Text.antt`. Lines are cut out of the
-//! script by the layer above, and nothing is carried out here.
+//! `specs/Grammar.antt` says, and that what is written is the text that `specs/` says: of an answer in `Text.antt`, of
+//! a call that is refused in `CallFault.antt`, of a project in `Project.antt`, of the end of a session in `Last.antt`,
+//! and of a script that was made in `Summary.antt`. Lines are cut out of the script by the layer above, and nothing is
+//! carried out here.
 #![tactic(auto)]
 
 ghost use Rattle.std.specs.Prelude.{◌≡◌, ◌<◌, MatchResult};
 ghost use Rattle.script_text.specs.declared.LineFault.TheVariants.{NoMemory};
 ghost use Rattle.script_text.specs.Faults.{refusal_of};
 
+mod call_fault;
+mod columns;
 mod forms;
 mod gathered;
 mod kinds;
+mod last;
+mod numbers;
 mod parsing;
-#[cfg(test)]
+mod project;
 mod reasons;
+mod summary;
+#[cfg(test)]
+mod tests;
 mod text;
+mod tracks;
 mod words;
 
+pub use call_fault::{CallFault, write_refused};
+pub use last::{PlayEnd, PlayLine, RecordEnd, RecordLine, write_end, write_last};
 pub use parsing::parse;
 use pcm_base::Refusal;
+pub use project::{ProjectLines, write_checked, write_made, write_project};
 use std::alloc::{AllocError, AllocFailed};
-pub use text::{write_answer, write_end};
+pub use summary::{Summary, write_summary};
+pub use text::write_answer;
 pub use words::is_silent;
 
 /// Why a line gives no command.

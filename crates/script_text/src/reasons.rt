@@ -1,164 +1,90 @@
-// The text of each reason, once.
-use super::write_answer;
-use edit_ports::MemSink;
-use pcm_base::{Answer, NoMemory, Numbers, Refusal, Reply, WavFault};
-use std::alloc::Global;
-use std::test::*;
+// Why a line is refused: the name of the reason, and its numbers.
+ghost use Rattle.script_text.specs.Gathering.{Adds, Counts};
+ghost use Rattle.script_text.specs.Text.{wav_text, damage_text, reason_text};
 
-/// A reason, and how its line ends.
-struct Case {
-    reason: Refusal,
-    text: &'static [u8],
+use super::gathered::Gathered;
+use super::numbers::{put_named, put_pair, put_wide};
+use edit_ports::Sink;
+use pcm_base::{Refusal, WavFault};
+
+fn put_wav_fault<O: Sink>(text: &mut Gathered, out: &mut O, fault: &WavFault)
+    ensures bytes { Adds text.old (O.written out.old) text.new (O.written out.new) (wav_text fault.now) }
+    ensures cause { Counts text.old (O.fault_count out.old) text.new (O.fault_count out.new) }
+{
+    match fault {
+        WavFault::NotRiff => text.put(out, b"NotRiff"),
+        WavFault::NoFmt => text.put(out, b"NoFmt"),
+        WavFault::NoData => text.put(out, b"NoData"),
+        WavFault::FmtShort => text.put(out, b"FmtShort"),
+        WavFault::BadTag { tag } => put_named(text, out, b"BadTag", u64::from(*tag)),
+        WavFault::BadBits { bits } => put_named(text, out, b"BadBits", u64::from(*bits)),
+        WavFault::BadChannels { count } => put_named(text, out, b"BadChannels", u64::from(*count)),
+        WavFault::BadAlign { align } => put_named(text, out, b"BadAlign", u64::from(*align)),
+        WavFault::BadRate { rate } => put_named(text, out, b"BadRate", u64::from(*rate)),
+        WavFault::Truncated { want, have } => put_pair(text, out, b"Truncated", *want, *have),
+    }
 }
 
-const REASONS: [Case; 23] = [
-    Case {
-        reason: Refusal::BadLine { column: 10 },
-        text: b"BadLine 10",
-    },
-    Case {
-        reason: Refusal::Spent {
-            turns: 4611686018427387904,
-        },
-        text: b"Spent 4611686018427387904",
-    },
-    Case {
-        reason: Refusal::Stopped { faults: 1 },
-        text: b"Stopped 1",
-    },
-    Case {
-        reason: Refusal::NoTrack { id: 9 },
-        text: b"NoTrack 9",
-    },
-    Case {
-        reason: Refusal::BadRange,
-        text: b"BadRange",
-    },
-    Case {
-        reason: Refusal::BadColumns,
-        text: b"BadColumns",
-    },
-    Case {
-        reason: Refusal::TrackLimit,
-        text: b"TrackLimit",
-    },
-    Case {
-        reason: Refusal::LengthLimit { len: 4294967297 },
-        text: b"LengthLimit 4294967297",
-    },
-    Case {
-        reason: Refusal::EmptyClipboard,
-        text: b"EmptyClipboard",
-    },
-    Case {
-        reason: Refusal::TooNarrow { have: 1, need: 2 },
-        text: b"TooNarrow 1 2",
-    },
-    Case {
-        reason: Refusal::NothingToUndo,
-        text: b"NothingToUndo",
-    },
-    Case {
-        reason: Refusal::NothingToRedo,
-        text: b"NothingToRedo",
-    },
-    Case {
-        reason: Refusal::NoFile,
-        text: b"NoFile",
-    },
-    Case {
-        reason: Refusal::BadWav {
-            fault: WavFault::Truncated { want: 4, have: 3 },
-        },
-        text: b"BadWav Truncated 4 3",
-    },
-    Case {
-        reason: Refusal::RateDiffers {
-            have: 8001,
-            want: 8000,
-        },
-        text: b"RateDiffers 8001 8000",
-    },
-    Case {
-        reason: Refusal::TooLong { frames: 1100000001 },
-        text: b"TooLong 1100000001",
-    },
-    Case {
-        reason: Refusal::SpaceSpent {
-            have: 4611686018427387904,
-            need: 1,
-        },
-        text: b"SpaceSpent 4611686018427387904 1",
-    },
-    Case {
-        reason: Refusal::RecordLimit { len: 4294901761 },
-        text: b"RecordLimit 4294901761",
-    },
-    Case {
-        reason: Refusal::Damaged {
-            file: 0,
-            at: 1,
-            want: 827214401,
-            have: 340282366920938463463374607431768211455,
-        },
-        text: b"Damaged 0 1 827214401 340282366920938463463374607431768211455",
-    },
-    Case {
-        reason: Refusal::DiskFault,
-        text: b"DiskFault",
-    },
-    Case {
-        reason: Refusal::VaultFault,
-        text: b"VaultFault",
-    },
-    Case {
-        reason: Refusal::NoPin { pin: 3 },
-        text: b"NoPin 3",
-    },
-    Case {
-        reason: Refusal::NoMemory,
-        text: b"NoMemory",
-    },
-];
-
-const WAV_FAULTS: [(WavFault, &[u8]); 10] = [
-    (WavFault::NotRiff, b"NotRiff"),
-    (WavFault::NoFmt, b"NoFmt"),
-    (WavFault::NoData, b"NoData"),
-    (WavFault::FmtShort, b"FmtShort"),
-    (WavFault::BadTag { tag: 3 }, b"BadTag 3"),
-    (WavFault::BadBits { bits: 24 }, b"BadBits 24"),
-    (WavFault::BadChannels { count: 9 }, b"BadChannels 9"),
-    (WavFault::BadAlign { align: 4 }, b"BadAlign 4"),
-    (WavFault::BadRate { rate: 0 }, b"BadRate 0"),
-    (WavFault::Truncated { want: 4, have: 3 }, b"Truncated 4 3"),
-];
-
-// Whether the line of a reason is these words, a space after each but the last.
-fn is_said(alloc: Global, reason: Refusal, words: &[&[u8]]) -> Result<bool, NoMemory> {
-    let mut sink = MemSink::new(alloc, 256, 256, Numbers::new(Vec::new(alloc)))?;
-    let answer = Answer {
-        commit: 7,
-        reply: Reply::Refused { reason },
-    };
-    let mut want = Vec::from_slice(alloc, b"no 7")?;
-    for word in words {
-        want.extend_from_slice(b" ")?;
-        want.extend_from_slice(word)?;
-    }
-    want.extend_from_slice(b"\n")?;
-    Ok(write_answer(&mut sink, &answer).is_ok() && sink.bytes() == want.as_slice())
+// A file, a place in it, what is wanted there, and what is found.
+pub fn put_damage<O: Sink>(
+    text: &mut Gathered,
+    out: &mut O,
+    file: u64,
+    at: u64,
+    want: u128,
+    have: u128,
+)
+    ensures bytes { Adds text.old (O.written out.old) text.new (O.written out.new) (damage_text file at want have) }
+    ensures cause { Counts text.old (O.fault_count out.old) text.new (O.fault_count out.new) }
+{
+    put_pair(text, out, b"Damaged", file, at);
+    put_wide(text, out, want);
+    put_wide(text, out, have);
 }
 
-#[test]
-fn reasons(rt: HostRuntime) -> Result<(), NoMemory> {
-    let alloc = rt.alloc();
-    for case in &REASONS {
-        assert!(rt; is_said(alloc, case.reason, &[case.text])?);
+pub fn put_reason<O: Sink>(text: &mut Gathered, out: &mut O, reason: &Refusal)
+    ensures bytes { Adds text.old (O.written out.old) text.new (O.written out.new) (reason_text reason.now) }
+    ensures cause { Counts text.old (O.fault_count out.old) text.new (O.fault_count out.new) }
+{
+    match reason {
+        Refusal::BadLine { column } => put_named(text, out, b"BadLine", *column),
+        Refusal::Spent { turns } => put_named(text, out, b"Spent", *turns),
+        Refusal::Stopped { faults } => put_named(text, out, b"Stopped", *faults),
+        Refusal::NoTrack { id } => put_named(text, out, b"NoTrack", *id),
+        Refusal::BadRange => text.put(out, b"BadRange"),
+        Refusal::BadColumns => text.put(out, b"BadColumns"),
+        Refusal::TrackLimit => text.put(out, b"TrackLimit"),
+        Refusal::LengthLimit { len } => put_named(text, out, b"LengthLimit", *len),
+        Refusal::EmptyClipboard => text.put(out, b"EmptyClipboard"),
+        Refusal::TooNarrow { have, need } => put_pair(text, out, b"TooNarrow", *have, *need),
+        Refusal::NothingToUndo => text.put(out, b"NothingToUndo"),
+        Refusal::NothingToRedo => text.put(out, b"NothingToRedo"),
+        Refusal::NoFile => text.put(out, b"NoFile"),
+        Refusal::BadWav { fault } => {
+            text.put(out, b"BadWav ");
+            put_wav_fault(text, out, fault);
+        }
+        Refusal::RateDiffers { have, want } => {
+            put_pair(
+                text,
+                out,
+                b"RateDiffers",
+                u64::from(*have),
+                u64::from(*want),
+            )
+        }
+        Refusal::TooLong { frames } => put_named(text, out, b"TooLong", *frames),
+        Refusal::SpaceSpent { have, need } => put_pair(text, out, b"SpaceSpent", *have, *need),
+        Refusal::RecordLimit { len } => put_named(text, out, b"RecordLimit", *len),
+        Refusal::Damaged {
+            file,
+            at,
+            want,
+            have,
+        } => put_damage(text, out, *file, *at, *want, *have),
+        Refusal::DiskFault => text.put(out, b"DiskFault"),
+        Refusal::VaultFault => text.put(out, b"VaultFault"),
+        Refusal::NoPin { pin } => put_named(text, out, b"NoPin", *pin),
+        Refusal::NoMemory => text.put(out, b"NoMemory"),
     }
-    for (fault, text) in &WAV_FAULTS {
-        let reason = Refusal::BadWav { fault: *fault };
-        assert!(rt; is_said(alloc, reason, &[b"BadWav", *text])?);
-    }
-    Ok(())
 }

@@ -1,85 +1,83 @@
--- What the call of the word `try` does.
-use Rattle.std.specs.Prelude.{◌≡◌, ◌⊎◌, ℕ, ◌≤◌, ◌<◌, ◌^◌, List, [], ◌∷◌, length, take, Bool, true, false, if◌then◌else◌, Option, Some, flat_map, codes, bytes_eq}
-use Rattle.std.specs.List.{list_any}
-use Rattle.pcm_base.specs.declared.answer.Answer.{Answer}
-use Rattle.pcm_base.specs.State.{State}
-use Rattle.pcm_base.specs.Causes.{Rose}
-use Rattle.edit_ports.specs.Told.{grown, preceded}
-use Rattle.script_text.specs.Text.{text_of, end_text}
-use Rattle.session_run.specs.declared.stop.Stop.{Stop}
-use Rattle.session_run.specs.declared.stop.Stop.TheVariants as stop
-use Rattle.session_run.specs.Session.{Session}
-use Rattle.session_run.specs.Progress.{IsCut, BreaksOff, says_no}
+-- What the call of the program does.
+use Rattle.std.specs.Prelude.{◌≡◌, ◌⊎◌, ◌||◌, Bool, true, false, IsTrue, List, [], Option, Some, None, if◌then◌else◌, nat_lt}
+use Rattle.disk_model.specs.declared.store.Store.{Ghosts}
+use Rattle.edit_ports.specs.declared.sink.Sink as sink
+use Rattle.edit_ports.specs.declared.source.Source as source
+use Rattle.edit_ports.specs.declared.vault.Vault as vault
+use Rattle.pcm_base.specs.Studio.{fault_sum}
+use Rattle.call_words.specs.declared.asked.Words.{Words}
+use Rattle.call_words.specs.declared.asked.Words.TheVariants as words
+use Rattle.call_words.specs.Words.{is_new, words_of}
+use Rattle.call_words.specs.Texts.{Text}
+use Rattle.script_text.specs.declared.call_fault.CallFault.{CallFault}
+use Rattle.script_text.specs.declared.call_fault.CallFault.TheVariants as call
+use Rattle.session_run.specs.declared.counts.FaultCounts.{FaultCounts}
+use Rattle.session_run.specs.declared.ending.Done.{Done}
+use Rattle.session_run.specs.declared.ending.Ending.{Ending}
+use Rattle.session_run.specs.Projects.{Checks, Lists, Makes}
+use Rattle.session_run.specs.Refused.{IsRefused}
+use Rattle.session_run.specs.Runs.{Runs}
+use Rattle.session_run.specs.Streams.{Streams, Unread}
+use Rattle.session_run.specs.Tries.{Tries}
 
--- the words are the program's name and `try`
-abbrev pub is_try : List (List ℕ) → Bool
-is_try [] = false
-is_try (name ∷ []) = false
-is_try (name ∷ word ∷ []) = bytes_eq word (codes "try")
-is_try (name ∷ word ∷ more ∷ words) = false
+-- nothing was opened, and the store comes back as it was
+abbrev pub Turns : {D : Type 0} → CallFault → D → Streams → Done D → Type 0
+Turns fault store s done = IsRefused fault s done × (done.store ≡ store)
 
--- a text was written: all of it where the count of faults did not rise, and else a part of it from its front
-abbrev pub Prints : ℕ → ℕ → Option (List ℕ) → Option (List ℕ) → List ℕ → Type 0
-Prints count count' old new text =
-    ((n : ℕ) × (n ≤ length text) × (new ≡ grown old (take n text)))
-    × ((Rose count count' → ⊥) → new ≡ grown old text)
+-- What is done for the words, where `ram` is the disk in memory.
+abbrev pub DoesWords : {M D V : Type 0} → Ghosts M → Ghosts D → vault.Ghosts V → Option Words → D → V → V → Streams
+    → Done D → Type 0
+DoesWords ram disk vaults None store before after s done = Turns call.Usage store s done × Unread s × (after ≡ before)
+DoesWords ram disk vaults (Some (words.New project)) store before after s done =
+    Makes disk project store s done × Unread s × (after ≡ before)
+DoesWords ram disk vaults (Some (words.Run false false)) store before after s done =
+    Runs disk vaults store before after s done
+DoesWords ram disk vaults (Some (words.Run false true)) store before after s done =
+    Turns call.Usage store s done × Unread s × (after ≡ before)
+DoesWords ram disk vaults (Some (words.Run true plays)) store before after s done =
+    Turns call.Usage store s done × Unread s × (after ≡ before)
+DoesWords ram disk vaults (Some words.Try) store before after s done = Tries ram vaults store before after s done
+DoesWords ram disk vaults (Some words.List) store before after s done =
+    Lists disk store s done × Unread s × (after ≡ before)
+DoesWords ram disk vaults (Some words.Check) store before after s done =
+    Checks disk store s done × Unread s × (after ≡ before)
+DoesWords ram disk vaults (Some (words.Gen number lines)) store before after s done =
+    Turns call.Usage store s done × Unread s × (after ≡ before)
 
--- all the answers were written, and then the last line so
-abbrev pub PrintsAll : ℕ → ℕ → Option (List ℕ) → Option (List ℕ) → List Answer → ℕ → Type 0
-PrintsAll count count' old new answers commit = Prints count count' (grown old (flat_map text_of answers)) new (end_text commit)
+-- The same, or there was no memory to read the options of a new project.
+abbrev pub Does : {M D V : Type 0} → Ghosts M → Ghosts D → vault.Ghosts V → List Text → D → V → V → Streams → Done D
+    → Type 0
+Does ram disk vaults texts store before after s done =
+    DoesWords ram disk vaults (words_of texts) store before after s done
+    ⊎ (IsTrue (is_new texts) × Turns call.NoMemory store s done × Unread s × (after ≡ before))
 
--- what a session printed, by what stopped it: the answers and then the last line; after a fault of the output the answers break off, and nothing follows
-abbrev pub IsPrinted : Stop → ℕ → ℕ → Option (List ℕ) → Option (List ℕ) → List Answer → ℕ → Type 0
-IsPrinted stop.End count count' old new answers commit = PrintsAll count count' old new answers commit
-IsPrinted stop.Limit count count' old new answers commit = PrintsAll count count' old new answers commit
-IsPrinted stop.SourceFault count count' old new answers commit = PrintsAll count count' old new answers commit
-IsPrinted stop.OutFault count count' old new answers commit = BreaksOff old new answers
+-- the counts of faults of all devices
+abbrev pub counts : {A O D V M P : Type 0} → source.Ghosts A → sink.Ghosts O → Ghosts D → vault.Ghosts V → source.Ghosts M
+    → sink.Ghosts P → A → O → D → V → M → P → FaultCounts
+counts sources sinks disk vaults mics speakers script out store sounds mic speaker = record {
+  script = sources.fault_count script;
+  out = sinks.fault_count out;
+  store = fault_sum (disk.read_fault_count store) (disk.change_fault_count store);
+  vault = vaults.fault_count sounds;
+  mic = mics.fault_count mic;
+  speaker = speakers.fault_count speaker;
+}
 
--- the status by what stopped the session, and whether a line was refused
-abbrev pub status_of : Stop → Bool → ℕ
-status_of stop.End refused = if refused then 1 else 0
-status_of stop.Limit refused = 6
-status_of stop.SourceFault refused = 4
-status_of stop.OutFault refused = 4
+-- whether one is higher afterwards
+abbrev pub any_rose : FaultCounts → FaultCounts → Bool
+any_rose old new = nat_lt old.script new.script || (nat_lt old.out new.out || (nat_lt old.store new.store
+    || (nat_lt old.vault new.vault || (nat_lt old.mic new.mic || nat_lt old.speaker new.speaker))))
 
--- what stopped a session, by the counts of faults of its source and of its sink
-abbrev pub IsStoppedBy : Stop → ℕ → ℕ → ℕ → ℕ → Type 0
-IsStoppedBy stop.End source source' count count' = source' ≡ source
-IsStoppedBy stop.Limit source source' count count' = source' ≡ source
-IsStoppedBy stop.SourceFault source source' count count' = Rose source source'
-IsStoppedBy stop.OutFault source source' count count' = (source' ≡ source) × Rose count count'
-
--- A session from state s over a source with `left` and a sink with `old`, with their counts of faults.
-pub record Transcript (status : ℕ) (s : State) (left left' old new : Option (List ℕ)) (source source' count count' : ℕ) : Type 0 where
-  pub stop : Stop
-  pub read : List ℕ
-  pub lines : List (List ℕ)
-  pub answers : List Answer
-  pub last : State
-  -- these bytes were read
-  pub bytes : left ≡ preceded read left'
-  -- these of their lines were carried out
-  pub cut : IsCut stop read lines left'
-  pub stopped : IsStoppedBy stop source source' count count'
-  -- their answers are one run of the model
-  pub session : Session s lines answers last
-  -- and were printed, and then the last commit number
-  pub printed : IsPrinted stop count count' old new answers last.commit
-  pub status_is : (status ≡ 4) ⊎ (status ≡ status_of stop (list_any says_no answers))
-
--- a line `refused ..` was printed and nothing else done
-abbrev pub Refuses : List ℕ → ℕ → ℕ → Option (List ℕ) → Option (List ℕ) → Option (List ℕ) → Option (List ℕ) → ℕ → ℕ → Type 0
-Refuses line status plain left left' old new count count' =
-    (left' ≡ left) × Prints count count' old new line × ((status ≡ 4) ⊎ (status ≡ plain))
-
--- where the source tells its bytes and no count rose: 6 exactly where 2 ^ 32 bytes came with no end, else 1 exactly where a line was refused, else 0
-abbrev pub IsExact : ℕ → List ℕ → List Answer → Type 0
-IsExact status bytes answers =
-    ((2 ^ 32 ≤ length bytes) × (status ≡ 6))
-    ⊎ ((length bytes < 2 ^ 32) × (list_any says_no answers ≡ true) × (status ≡ 1))
-    ⊎ ((length bytes < 2 ^ 32) × (list_any says_no answers ≡ false) × (status ≡ 0))
-
-abbrev pub StatusesAreExact : Type 0
-StatusesAreExact =
-    (status : ℕ) (s : State) (bytes : List ℕ) (left' old new : Option (List ℕ)) (source source' count count' : ℕ)
-    (told : Transcript status s (Some bytes) left' old new source source' count count') → (status ≡ 4 → ⊥) → IsExact status bytes told.answers
+-- What the call leaves, by what the words left of the store, and whether a count of faults rose.
+pub record EndsAs {D M P : Type 0} (rose : Bool) (done : Done D) (mic : M) (speaker : P) (ending : Ending D M P)
+    : Type 0 where
+  pub status : ending.status ≡ (if rose then 4 else done.status)
+  pub opened : ending.opened ≡ done.opened
+  pub store : ending.store ≡ done.store
+  pub mic_is : ending.mic ≡ mic
+  pub speaker_is : ending.speaker ≡ speaker
+  pub first : ending.first_commit ≡ done.first_commit
+  pub last : ending.last_commit ≡ done.last_commit
+  pub record_none : ending.record_commit ≡ None
+  pub script : ending.script_commits ≡ done.commits
+  pub pieces : ending.piece_commits ≡ []

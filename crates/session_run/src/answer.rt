@@ -3,7 +3,7 @@ ghost use Rattle.std.specs.Prelude.{◌≡◌, ◌∷◌, [], ◌++◌, ◌||◌
 ghost use Rattle.pcm_base.specs.Causes.{HasCause};
 ghost use Rattle.script_text.specs.Grammar.{line_of, is_silent};
 ghost use Rattle.pcm_base.specs.Form.{IsInForm};
-ghost use Rattle.pcm_base.specs.State.{State};
+ghost use Rattle.session_run.specs.Place.{Place};
 ghost use Rattle.session_run.specs.Kept.{Holds};
 ghost use Rattle.session_run.specs.Session.{Turn, Answers, is_refusal};
 ghost use Rattle.session_run.specs.Progress.{Printed, says_no};
@@ -12,7 +12,9 @@ use super::editor::Editor;
 use super::line::LineBuffer;
 use edit_ports::Sink;
 use pcm_base::{Answer, Command, Failed, Refusal, Reply};
+use script_text::LineFault;
 use std::alloc::Global;
+use std::sync::Wait;
 
 /// A session: the editor, the line that has not ended yet, and whether a line was refused.
 #[derive(Drop)]
@@ -40,40 +42,51 @@ fn is_refusal(reply: &Reply) -> bool
     }
 }
 
-fn command_reply<E: Editor>(alloc: Global, editor: &mut E, command: &Command) -> Reply
+fn command_reply<R: Wait, E: Editor>(
+    rt: &R,
+    alloc: Global,
+    editor: &mut E,
+    command: &Command,
+) -> Reply
     requires { IsInForm command.now }
-    ensures { Turn (E.state editor.old) (Ok command.now) result (E.state editor.new) }
+    ensures turn { Turn (E.place editor.old) (Ok command.now) result (E.place editor.new) }
+    ensures follows { (first : E) → E.follows first editor.old → E.follows first editor.new }
 {
-    match editor.apply(alloc, command) {
+    match editor.apply(rt, alloc, command) {
         Ok(reply) => reply,
         Err(reason) => Reply::Refused { reason },
     }
 }
 
-fn line_reply<E: Editor>(alloc: Global, editor: &mut E, line: &LineBuffer) -> Reply
-    ensures { (part : List ℕ) → Holds line.now part →
-        Turn (E.state editor.old) (line_of part) result (E.state editor.new) }
+fn line_reply<R: Wait, E: Editor>(rt: &R, alloc: Global, editor: &mut E, line: &LineBuffer) -> Reply
+    ensures turn { (part : List ℕ) → Holds line.now part →
+        Turn (E.place editor.old) (line_of part) result (E.place editor.new) }
+    ensures follows { (first : E) → E.follows first editor.old → E.follows first editor.new }
 {
     match line.get() {
         None => Reply::Refused {
             reason: Refusal::BadLine { column: 65537 },
         },
         Some(bytes) => match script_text::parse(alloc, bytes) {
-            Ok(command) => command_reply(alloc, editor, &command),
-            Err(fault) => Reply::Refused {
-                reason: Refusal::from(fault),
+            Ok(command) => command_reply(rt, alloc, editor, &command),
+            Err(LineFault::BadLine { column }) => Reply::Refused {
+                reason: Refusal::BadLine { column },
+            },
+            Err(LineFault::NoMemory) => Reply::Refused {
+                reason: Refusal::NoMemory,
             },
         },
     }
 }
 
-fn next_answer<E: Editor>(alloc: Global, session: &mut Session<E>) -> Answer
+fn next_answer<R: Wait, E: Editor>(rt: &R, alloc: Global, session: &mut Session<E>) -> Answer
     ensures answers { (part : List ℕ) → Holds session.old.line part →
-        Answers (E.state session.old.editor) part result (E.state session.new.editor) }
+        Answers (E.place session.old.editor) part result (E.place session.new.editor) }
     ensures cleared { Holds session.new.line [] }
     ensures no { session.new.refused ≡ (session.old.refused || says_no result) }
+    ensures follows { (first : E) → E.follows first session.old.editor → E.follows first session.new.editor }
 {
-    let reply = line_reply(alloc, &mut session.editor, &session.line);
+    let reply = line_reply(rt, alloc, &mut session.editor, &session.line);
     session.line.clear();
     session.refused = session.refused || is_refusal(&reply);
     Answer {
@@ -83,23 +96,25 @@ fn next_answer<E: Editor>(alloc: Global, session: &mut Session<E>) -> Answer
 }
 
 /// Answers the line that is kept.
-pub fn answer_line<E: Editor, O: Sink>(
+pub fn answer_line<R: Wait, E: Editor, O: Sink>(
+    rt: &R,
     alloc: Global,
     session: &mut Session<E>,
     out: &mut O,
 ) -> Result<(), Failed>
-    ensures printed { (s : State) (start : Option (List ℕ)) (lines : List (List ℕ)) (part : List ℕ) →
+    ensures printed { (s : Place) (start : Option (List ℕ)) (lines : List (List ℕ)) (part : List ℕ) →
         Holds session.old.line part →
-        Printed s (E.state session.old.editor) start (O.written out.old) session.old.refused (Ok tt) lines →
-        Printed s (E.state session.new.editor) start (O.written out.new) session.new.refused result
+        Printed s (E.place session.old.editor) start (O.written out.old) session.old.refused (Ok tt) lines →
+        Printed s (E.place session.new.editor) start (O.written out.new) session.new.refused result
         (lines ++ part ∷ []) }
     ensures cleared { Holds session.new.line [] }
     ensures cause { HasCause (O.fault_count out.old) (O.fault_count out.new) result }
+    ensures follows { (first : E) → E.follows first session.old.editor → E.follows first session.new.editor }
 {
     if is_silent_line(&session.line) {
         session.line.clear();
         return Ok(());
     }
-    let answer = next_answer(alloc, session);
+    let answer = next_answer(rt, alloc, session);
     script_text::write_answer(out, &answer)
 }

@@ -1,13 +1,17 @@
-// Laws of sessions.
-ghost use Rattle.session_run.specs.Call.{StatusesAreExact};
-ghost use Rattle.session_run.specs.Session.{SessionsAreRuns};
+// What follows of sessions. These functions do nothing: their contracts are the laws.
+ghost use Rattle.session_run.specs.Added.{SessionsAdd};
+ghost use Rattle.session_run.specs.Runs.{RunsSurvive};
 
-/// The replies to the commands of a session are one run of the model.
-pub fn sessions_are_runs()
-    ensures { SessionsAreRuns }
+use disk_model::Store;
+use edit_ports::Vault;
+
+/// What a script adds to the list of a desk: its own deeds are those of its lines, in order, its numbers are those of its
+/// commits, and the sounds of the vault follow its deeds.
+pub fn sessions_add()
+    ensures { SessionsAdd }
 {}
 
-/// Where the source tells its bytes, each status but 4 comes exactly where its cause stands.
-pub fn statuses_are_exact()
-    ensures { StatusesAreExact }
+/// What a stop may leave of a script that ran on the project of an honest disk.
+pub fn runs_survive<S: Store, V: Vault>()
+    ensures { RunsSurvive S.Store V.Vault }
 {}

@@ -1,59 +1,112 @@
 // The call of the program.
-ghost use Rattle.std.specs.Prelude.{◌≡◌, ◌⊎◌, ◌<◌, IsTrue, IsFalse, map, codes, string_bytes};
-ghost use Rattle.pcm_base.specs.State.{new_state};
-ghost use Rattle.pcm_base.specs.Causes.{Rose};
-ghost use Rattle.plain_editor.specs.View.{state_of};
-ghost use Rattle.session_run.specs.Call.{is_try, Refuses, Transcript};
+ghost use Rattle.std.specs.Prelude.{◌≡◌, if◌then◌else◌, map, string_bytes};
+ghost use Rattle.session_run.specs.Call.{Does, EndsAs, any_rose, counts};
+ghost use Rattle.session_run.specs.declared.ending.Done.{Done};
+ghost use Rattle.session_run.specs.Streams.{streams};
 
-use super::call;
-use super::editor::Editor;
-use edit_ports::{Sink, Source};
-use pcm_base::{Command, Refusal, Reply};
-use plain_editor::PlainEditor;
+use super::counts::count_faults;
+use super::ending::{Done, Ending};
+use super::projects::{check_project, list_project, make_project};
+use super::refusing::refuse;
+use super::running::run_project;
+use super::trying::try_script;
+use call_words::{Words, WordsFault, read_words};
+use disk_model::{RamStore, Store};
+use edit_ports::{Gate, Sink, Source, Vault};
+use pcm_base::Numbers;
+use script_text::CallFault;
 use std::alloc::Global;
+use std::sync::Wait;
+use std::thread::Threads;
 
-impl Editor for PlainEditor {
-    ghost state = { state_of };
-
-    fn apply(&mut self, alloc: Global, command: &Command) -> Result<Reply, Refusal> {
-        PlainEditor::apply(self, alloc, command)
-    }
-
-    fn commit_number(&self) -> u64 {
-        PlainEditor::commit_number(self)
-    }
-}
-
-/// Does what the words ask for: `try` runs a script on a fresh project, and answers its lines on the output.
-pub fn studio_call<A: Source, O: Sink>(
+// Does what the words ask for.
+fn carry_out<R: Wait, A: Source, O: Sink, S: Store, V: Vault>(
+    rt: &R,
     alloc: Global,
     words: &[String],
     script: &mut A,
     out: &mut O,
-) -> u8
-    // Other words are refused.
-    ensures usage { IsFalse (is_try (map string_bytes words.now)) →
-        Refuses (codes "refused usage\n") result 2 (A.left script.old) (A.left script.new)
-        (O.written out.old) (O.written out.new) (O.fault_count out.old) (O.fault_count out.new) }
-    ensures unread { IsFalse (is_try (map string_bytes words.now)) → A.fault_count script.new ≡ A.fault_count script.old }
-    // The word `try` is a session from the fresh project, or memory is wanting before its first line.
-    ensures session { IsTrue (is_try (map string_bytes words.now)) →
-        Transcript result (new_state 256) (A.left script.old) (A.left script.new)
-        (O.written out.old) (O.written out.new)
-        (A.fault_count script.old) (A.fault_count script.new) (O.fault_count out.old) (O.fault_count out.new)
-        ⊎ Refuses (codes "refused NoMemory\n") result 5 (A.left script.old) (A.left script.new)
-        (O.written out.old) (O.written out.new) (O.fault_count out.old) (O.fault_count out.new) }
-    // The status is 4 exactly where a count of faults rose.
-    ensures only { result ≡ 4 → Rose (A.fault_count script.old) (A.fault_count script.new)
-        ⊎ Rose (O.fault_count out.old) (O.fault_count out.new) }
-    ensures source { A.fault_count script.old < A.fault_count script.new → result ≡ 4 }
-    ensures sink { O.fault_count out.old < O.fault_count out.new → result ≡ 4 }
+    store: S,
+    vault: &mut V,
+) -> Done<S>
+    ensures { Does ⟦<RamStore as Store>⟧ S.Store V.Vault (map string_bytes words.now) store vault.old vault.new
+        (streams A.Source O.Sink script.old script.new out.old out.new) result }
 {
-    if !call::is_try(words) {
-        return call::refuse(out, b"refused usage\n", 2);
+    match read_words(alloc, words) {
+        Ok(Words::New(project)) => make_project(alloc, out, store, project),
+        Ok(
+            Words::Run {
+                records: false,
+                plays: false,
+            },
+        ) => run_project(rt, alloc, script, out, store, vault),
+        Ok(Words::Try) => try_script(rt, alloc, script, out, store, vault),
+        Ok(Words::List) => list_project(alloc, out, store),
+        Ok(Words::Check) => check_project(alloc, out, store),
+        Ok(Words::Run { .. }) | Ok(Words::Gen { .. }) | Err(WordsFault::Usage) => {
+            refuse(alloc, out, store, CallFault::Usage)
+        }
+        Err(WordsFault::NoMemory) => refuse(alloc, out, store, CallFault::NoMemory),
     }
-    match PlainEditor::new(alloc) {
-        Ok(editor) => call::try_call(alloc, script, out, editor),
-        Err(_) => call::refuse(out, b"refused NoMemory\n", 5),
+}
+
+// The status of a call, by whether a count of faults rose.
+fn status_of(rose: bool, status: u8) -> u8
+    ensures { result ≡ (if rose then 4 else status) }
+{
+    if rose { 4 } else { status }
+}
+
+/// Does what the words ask for.
+pub fn studio_call<R, A, O, S, V, M, P, G>(
+    rt: &R,
+    alloc: Global,
+    words: &[String],
+    script: &mut A,
+    out: &mut O,
+    store: S,
+    vault: &mut V,
+    mic: M,
+    speaker: P,
+    _gate: &G,
+) -> Ending<S, M, P>
+where
+    R: Threads + Wait + Sync,
+    A: Source + Send,
+    O: Sink + Send,
+    S: Store + Send,
+    V: Vault + Send,
+    M: Source + Send,
+    P: Sink + Send,
+    G: Gate + Sync,
+    ensures does { (done : Done S) × Does ⟦<RamStore as Store>⟧ S.Store V.Vault (map string_bytes words.now) store
+        vault.old vault.new (streams A.Source O.Sink script.old script.new out.old out.new) done
+        × EndsAs (any_rose
+        (counts A.Source O.Sink S.Store V.Vault M.Source P.Sink script.old out.old store vault.old mic speaker)
+        (counts A.Source O.Sink S.Store V.Vault M.Source P.Sink script.new out.new result.store vault.new result.mic
+        result.speaker))
+        done mic speaker result }
+{
+    let before = count_faults(script, out, &store, vault, &mic, &speaker);
+    let Done {
+        status,
+        opened,
+        store,
+        first_commit,
+        last_commit,
+        commits,
+    } = carry_out(rt, alloc, words, script, out, store, vault);
+    let now = count_faults(script, out, &store, vault, &mic, &speaker);
+    Ending {
+        status: status_of(before.any_rose(&now), status),
+        opened,
+        store,
+        mic,
+        speaker,
+        first_commit,
+        last_commit,
+        record_commit: None,
+        script_commits: commits,
+        piece_commits: Numbers::new(Vec::new(alloc)),
     }
 }

@@ -1,0 +1,6 @@
+mod NewOptions
+mod OddLemmas
+mod OptionLemmas
+mod RowLemmas
+mod TurnLemmas
+mod WalkLemmas

@@ -1,0 +1,5 @@
+pub mod Texts
+pub mod Options
+pub mod Command
+pub mod Bounds
+pub mod Words

@@ -1,7 +1,0 @@
--- The cells so far, changed.
-use Rattle.std.proofs.Common.{◌≡◌, ◌++◌, take, map}
-use Rattle.pcm_base.specs.Edits.{quieted}
-use Rattle.plain_editor.proofs.moves.push_quieted.Given as goal
-
-abbrev pub invariant-loop-cell : goal.invariant-loop-cell
-invariant-loop-cell l = l.made.items ≡ l.fn.made.items ++ map quieted (take l.cell-index l.cells)

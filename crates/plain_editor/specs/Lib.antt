@@ -1,6 +1,0 @@
-pub mod Places
-pub mod Runs
-pub mod Scans
-pub mod Takes
-pub mod View
-pub mod Steps

@@ -1,0 +1,3 @@
+// Each text once, by hand.
+mod lines;
+mod reasons;

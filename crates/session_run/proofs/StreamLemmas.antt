@@ -1,0 +1,14 @@
+-- What was written to a sink, by its count of faults.
+use Rattle.std.proofs.Common.{ℕ, List, length, Option, Result, Ok, Err, sym, ap, ◌∙◌, arith}
+use Rattle.std.proofs.lemmas.List.{take_all}
+use Rattle.pcm_base.specs.declared.failed.Failed.{Failed}
+use Rattle.pcm_base.specs.Causes.{HasCause}
+use Rattle.edit_ports.specs.Told.{grown, Writes}
+use Rattle.session_run.specs.Streams.{PrintsFrom}
+
+pub prints : (r : Result (Unit {0}) Failed) (count count_now : ℕ) (old new : Option (List ℕ)) (text : List ℕ)
+    → HasCause count count_now r → Writes r old new text → PrintsFrom count count_now old new text
+prints (Ok u) count count_now old new text c w =
+    ((length text, omega arith, w ∙ ap (grown old) (sym (take_all (length text) text (omega arith)))), λ quiet. w)
+prints (Err failed) count count_now old new text c (n, within, is) =
+    ((n, omega (arith, within), is), λ quiet. absurd (quiet c.failed))

@@ -1,0 +1,6 @@
+-- What a stop may leave of a script that ran.
+use Rattle.session_run.proofs.SurviveLemmas as survive
+use Rattle.session_run.proofs.laws.runs_survive.Goals as goal
+
+pub returns : goal.returns
+returns g c = survive.runs_survive g.S.Store g.V.Vault

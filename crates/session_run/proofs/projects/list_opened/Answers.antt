@@ -1,0 +1,35 @@
+-- What is told of a project.
+use Rattle.std.proofs.Common.{inl, refl, ◌∙◌, List, subst}
+use Rattle.pcm_base.specs.declared.sound.TrackLine.{TrackLine}
+use Rattle.script_text.specs.declared.project.ProjectLines.{ProjectLines}
+use Rattle.script_text.specs.Project.{project_text}
+use Rattle.session_run.specs.Streams.{Prints, from_sink}
+use Rattle.session_run.proofs.ProjectLemmas.{same_tracks}
+use Rattle.session_run.proofs.StreamLemmas.{prints}
+use Rattle.session_run.proofs.projects.list_opened.Goals as goal
+
+pub returns-clause-listed : goal.returns-clause-listed
+returns-clause-listed g c = λ source. inl (
+    let facts = c.facts-facts.ensures in
+    let s = from_sink g.O.Sink source c.args.out.now c.write_project.new.out in record {
+      tracks = c.in-Ok.tracks;
+      are = λ held. same_tracks _ _ (c.in-Ok.ensures.took.step held).answers;
+      printed = subst (λ (x : ProjectLines × List TrackLine). Prints s (project_text x.0 x.1))
+          (λ i. (
+            record {
+              rate = facts.rate i;
+              block_size = facts.block_size i;
+              depth = facts.depth i;
+              commit = c.commit_number-commit.ensures i;
+              points = facts.points i;
+              cursor = facts.cursor i;
+            },
+            c.as_slice.ensures i,
+          ))
+          (prints _ _ _ _ _ _ c.write_project.ensures.cause c.write_project.ensures.bytes);
+      status = refl;
+      opened = refl;
+      first = c.commit_number-commit.ensures;
+      last = c.commit_number-commit.ensures;
+      commits = c.new-2.ensures ∙ c.new.ensures.items;
+    })

@@ -1,0 +1,20 @@
+-- A script on a fresh project.
+use Rattle.std.proofs.Common.{refl, subst, ap, ◌∙◌, ◌≡◌, ℕ, nat_lt, if◌then◌else◌}
+use Rattle.pcm_base.specs.Studio.{fault_sum}
+use Rattle.disk_model.specs.declared.ram.RamStore.{RamStore}
+use Rattle.editor_core.specs.Core.{core_of}
+use Rattle.session_run.specs.Streams.{streams}
+use Rattle.session_run.proofs.TryLemmas.{tried}
+use Rattle.session_run.proofs.trying.try_script.Goals as goal
+
+pub returns-in-Ok : goal.returns-in-Ok
+returns-in-Ok g c =
+    let done = c.run_opened-done in (
+      refl,
+      tried _ g.V.Vault (core_of c.in-Ok.studio) c.args.vault.now done.new.vault
+          (streams g.A.Source g.O.Sink c.args.script.now done.new.script c.args.out.now done.new.out) done.result c.args.store
+          c.status_with.result c.in-Ok.ensures.fresh done.ensures
+          (subst (λ (n : ℕ). c.status_with.result ≡ (if nat_lt 0 n then 4 else done.result.status))
+          (c.faults.ensures ∙ ap (λ (z : RamStore). fault_sum z.tally.read_faults z.tally.change_faults) done.ensures.1)
+          c.status_with.ensures),
+    )
