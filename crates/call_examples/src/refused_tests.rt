@@ -6,7 +6,7 @@ use std::sync::Wait;
 use std::test::*;
 use std::thread::Threads;
 
-// What is no command, and what is none yet.
+// What is no command.
 const NO_COMMANDS: [&str; 10] = [
     "",
     "studio",
@@ -15,9 +15,9 @@ const NO_COMMANDS: [&str; 10] = [
     "studio new --rate 0",
     "studio try more",
     "studio --help",
-    "studio run --record",
-    "studio run --play",
-    "studio gen 0 2",
+    "studio run --record --record",
+    "studio try --play",
+    "studio gen 0 1",
 ];
 
 // A call on a disk, whose first read would fail, is refused so: its script is not read.

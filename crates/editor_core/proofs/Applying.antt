@@ -1,5 +1,5 @@
 -- What a call does over a vault, from what it does by itself.
-use Rattle.std.proofs.Common.{◌≡◌, ◌∙◌, inl, IfErr, refl, sym, ap, subst, ℕ, ◌+◌, Bool, IsTrue, Option, Some, None, is_some, List, Result, Ok, Err}
+use Rattle.std.proofs.Common.{◌≡◌, inl, IfErr, refl, sym, ap, subst, ℕ, Bool, IsTrue, Option, Some, None, is_some, List, Result, Ok, Err}
 use Rattle.pcm_base.specs.declared.answer.Reply.{Reply}
 use Rattle.pcm_base.specs.declared.command.Call.{Call}
 use Rattle.pcm_base.specs.declared.refusal.Refusal.{Refusal}
@@ -13,11 +13,12 @@ use Rattle.disk_model.proofs.Frames.{Fewer, changed_kept, changed_none}
 use Rattle.editor_core.specs.Applied.{Lasts, TookOver, move_of}
 use Rattle.editor_core.specs.Core.{Core}
 use Rattle.editor_core.specs.Exports.{moved_from}
+use Rattle.editor_core.specs.Imports.{VaultCounted}
 use Rattle.editor_core.specs.Left.{Left, MayRemove}
 use Rattle.editor_core.specs.Studios.{IsStudio}
-use Rattle.editor_core.specs.Took.{Took, number_behind, silent}
+use Rattle.editor_core.specs.Took.{Took, number_behind, silent, told_by}
 use Rattle.editor_core.proofs.Leaving.{IsPlain, left_plain}
-use Rattle.editor_core.proofs.Looking.{looked, looked_studio}
+use Rattle.editor_core.proofs.Looking.{looked_studio}
 use Rattle.editor_core.proofs.Others.{others_none}
 use Rattle.editor_core.proofs.Staying.{stopped_not}
 
@@ -80,6 +81,11 @@ module _ {D : Type 0} (disk : Ghosts D) (s : Core D) where
     heard = λ is. subst (λ (o : Option (List ℕ)). Heard o (move_of o before after) before after) (sym named) (refl, refl, others (is (ap is_some named)));
     lasts = lasts;
   }
+
+-- a reply tells of the vault's count what the answer told
+pub counted_told : {A : Type 0} (f : A → Reply) (answer : Result A Refusal) (old new : ℕ) → VaultCounted answer old new → VaultCounted (told_by f answer) old new
+counted_told f (Ok x) old new counted = counted
+counted_told f (Err why) old new counted = counted
 
 -- every line but an import and an export names no sound
 pub names_none : (c : Command) → ((name : List ℕ) → c ≡ command.Import name → ⊥) → ((name : List ℕ) → c ≡ command.Export name → ⊥) → name_in_line c ≡ None

@@ -87,4 +87,5 @@ mod Leaving
 mod PlainTests
 pub mod Others
 mod NamedDamage
+pub mod Unharmed
 mod MadeLeft

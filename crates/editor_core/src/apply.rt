@@ -1,5 +1,5 @@
 // A line of the script, carried out by the call that is its own.
-ghost use Rattle.std.specs.Prelude.{◌≡◌, ◌-◌, ℕ, min, None};
+ghost use Rattle.std.specs.Prelude.{◌≡◌, ◌-◌, ℕ, min, IsSome, None};
 ghost use Rattle.pcm_base.specs.declared.answer.Reply.TheVariants as reply;
 ghost use Rattle.pcm_base.specs.declared.command.Call.TheVariants.{Line};
 ghost use Rattle.pcm_base.specs.declared.command.Command.TheVariants as command;
@@ -7,6 +7,7 @@ ghost use Rattle.pcm_base.specs.Form.{IsInForm};
 ghost use Rattle.pcm_base.specs.Run.{name_in_line};
 ghost use Rattle.editor_core.specs.Applied.{Applies, TookOver};
 ghost use Rattle.editor_core.specs.Core.{core_of};
+ghost use Rattle.editor_core.specs.Imports.{VaultCounted};
 ghost use Rattle.editor_core.specs.Studios.{IsStudio};
 ghost use Rattle.editor_core.specs.Took.{Took, silent, told_by};
 
@@ -66,7 +67,8 @@ fn view_len(from: u64, to: u64) -> usize
 
 impl<S: Store> Studio<S> {
     /// Carries a line out by the call that is its own, and fills the answer: the commit number after it, and its reply, or
-    /// the reason that refuses it, which is told besides. A sound that the line names is looked for in the vault.
+    /// the reason that refuses it, which is told besides. A sound that the line names is looked for in the vault. Where it
+    /// names none, the vault is as it was.
     ///
     /// It takes the memory that the line's own call takes; `show` and `mix` take 4,096 cells or frames at most for their
     /// answer. Nothing else is copied, and the answer of before is let go.
@@ -86,6 +88,9 @@ impl<S: Store> Studio<S> {
         ensures applied { Applies S.Store (V.tells vault.old) (V.holds vault.old) (V.holds vault.new) (core_of self.old)
             (Line command.now) result answer.new (core_of self.new) }
         ensures tells { V.tells vault.new ≡ V.tells vault.old }
+        ensures faults { IsSome (name_in_line command.now)
+            → VaultCounted result (V.fault_count vault.old) (V.fault_count vault.new) }
+        ensures untouched { name_in_line command.now ≡ None → vault.new ≡ vault.old }
     {
         let told = self.reply_to(alloc, vault, command);
         answer.commit = self.commit_number;
@@ -113,6 +118,9 @@ impl<S: Store> Studio<S> {
         ensures took { TookOver S.Store (V.tells vault.old) (V.holds vault.old) (V.holds vault.new) (core_of self.old)
             (Line command.now) result (core_of self.new) }
         ensures tells { V.tells vault.new ≡ V.tells vault.old }
+        ensures faults { IsSome (name_in_line command.now)
+            → VaultCounted result (V.fault_count vault.old) (V.fault_count vault.new) }
+        ensures untouched { name_in_line command.now ≡ None → vault.new ≡ vault.old }
     {
         match command {
             Command::Import { name } => done(self.import(alloc, vault, name.as_str())),

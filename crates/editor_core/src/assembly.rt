@@ -67,6 +67,13 @@ impl<S: Store> Studio<S> {
         self.commit_number
     }
 
+    /// The id that the next new track gets.
+    pub fn next_track(&self) -> u64
+        ensures { result ≡ (core_of self.now).next_track }
+    {
+        self.next_track
+    }
+
     /// The count of the disk's faults at which a change that failed stopped it, none while it goes on.
     pub fn stopped(&self) -> Option<u64>
         ensures { result ≡ (core_of self.now).stopped }

@@ -1,15 +1,5 @@
-pub mod AddedLemmas
-pub mod MakerLemmas
 pub mod CallLemmas
-pub mod CutLemmas
-pub mod GoingLemmas
-pub mod MemoryLemmas
-pub mod PieceLemmas
 pub mod ProjectLemmas
-pub mod ReadingLemmas
-pub mod ScriptedLemmas
-pub mod SeatLemmas
-pub mod SessionLemmas
 pub mod StreamLemmas
 pub mod SurviveLemmas
 pub mod TryLemmas

@@ -2,6 +2,8 @@
 use Rattle.std.proofs.Common.{◌⊎◌, inl, inr, ⊎_elim, List, sym, subst}
 use Rattle.disk_model.specs.Disk.{Files}
 use Rattle.disk_model.specs.declared.store.Store.{Ghosts}
+use Rattle.edit_ports.specs.declared.sink.Sink as sink
+use Rattle.edit_ports.specs.declared.source.Source as source
 use Rattle.edit_ports.specs.declared.vault.Vault as vault
 use Rattle.editor_core.specs.Core.{Core}
 use Rattle.editor_core.specs.Events.{KeepsPrefix}
@@ -40,6 +42,7 @@ module _ {D V : Type 0} (disk : Ghosts D) (vaults : vault.Ghosts V) (store : D) 
     stopped = λ stopped. stands.stopped told opens.fresh.stopped stopped held;
   }
 
-pub runs_survive : {D V : Type 0} (disk : Ghosts D) (vaults : vault.Ghosts V) → RunsSurvive disk vaults
-runs_survive {D} {V} disk vaults store start final before after commits s opens ran honest told =
-    survives disk vaults store start final ran.scripted.deeds opens ran.scripted.stands honest told
+pub runs_survive : {D V M P : Type 0} (disk : Ghosts D) (vaults : vault.Ghosts V) (mics : source.Ghosts M)
+    (speakers : sink.Ghosts P) → RunsSurvive disk vaults mics speakers
+runs_survive {D} {V} {M} {P} disk vaults mics speakers store start final before after d beside s opens ran honest told =
+    survives disk vaults store start final ran.session.deeds opens ran.session.stands honest told

@@ -1,5 +1,5 @@
 -- Projects made, listed and checked.
-use Rattle.std.specs.Prelude.{◌≡◌, ◌⊎◌, ℕ, IsTrue, true, List, [], length, map, Result, Err, MatchResult, OnOk}
+use Rattle.std.specs.Prelude.{◌≡◌, ◌⊎◌, ℕ, IsTrue, true, List, [], length, map, Result, Err, MatchResult, OnOk, None}
 use Rattle.pcm_base.specs.declared.sound.TrackLine.{TrackLine}
 use Rattle.pcm_base.specs.State.{current}
 use Rattle.pcm_base.specs.Step.{line_of_track}
@@ -76,7 +76,9 @@ pub record Listed {D : Type 0} (disk : Ghosts D) (start : Core D) (s : Streams) 
   pub opened : done.opened ≡ true
   pub first : done.first_commit ≡ start.commit_number
   pub last : done.last_commit ≡ start.commit_number
+  pub record_none : done.record_commit ≡ None
   pub commits : done.commits ≡ []
+  pub pieces : done.pieces ≡ []
 
 -- The word `list`.
 abbrev pub Lists : {D : Type 0} → Ghosts D → D → Streams → Done D → Type 0

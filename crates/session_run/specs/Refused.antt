@@ -1,5 +1,5 @@
 -- A call that is refused as a whole, and what is printed.
-use Rattle.std.specs.Prelude.{◌≡◌, ℕ, [], false}
+use Rattle.std.specs.Prelude.{◌≡◌, ℕ, [], false, None}
 use Rattle.editor_recovery.specs.declared.fault.OpenFault.{OpenFault}
 use Rattle.editor_recovery.specs.declared.fault.OpenFault.TheVariants as fault
 use Rattle.script_text.specs.declared.call_fault.CallFault.{CallFault}
@@ -32,7 +32,9 @@ pub record IsDone {D : Type 0} (status : ℕ) (done : Done D) : Type 0 where
   pub opened : done.opened ≡ false
   pub first : done.first_commit ≡ 0
   pub last : done.last_commit ≡ 0
+  pub record_none : done.record_commit ≡ None
   pub commits : done.commits ≡ []
+  pub pieces : done.pieces ≡ []
 
 -- The line `refused ..` was printed, and nothing was opened.
 pub record IsRefused {D : Type 0} (fault : CallFault) (s : Streams) (done : Done D) : Type 0 where

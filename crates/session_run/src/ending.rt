@@ -1,5 +1,9 @@
 // What a call leaves.
+ghost use Rattle.std.specs.Prelude.{◌≡◌, [], true, None};
+ghost use Rattle.session_run.specs.Refused.{IsDone};
+
 use pcm_base::Numbers;
+use std::alloc::Global;
 
 /// What a call of the program leaves.
 #[derive(Drop)]
@@ -33,5 +37,47 @@ pub struct Done<S> {
     pub store: S,
     pub first_commit: u64,
     pub last_commit: u64,
+    pub record_commit: Option<u64>,
+    /// The numbers of the commits of the script, rising.
     pub commits: Numbers,
+    /// Those of the pieces that were recorded.
+    pub pieces: Numbers,
+}
+
+impl<S> Done<S> {
+    /// What a word leaves that opened no project, or does not say so.
+    pub(crate) fn without_script(alloc: Global, status: u8, store: S) -> Done<S>
+        ensures done { IsDone status result }
+        ensures store { result.store ≡ store }
+    {
+        Done {
+            status,
+            opened: false,
+            store,
+            first_commit: 0,
+            last_commit: 0,
+            record_commit: None,
+            commits: Numbers::new(Vec::new(alloc)),
+            pieces: Numbers::new(Vec::new(alloc)),
+        }
+    }
+
+    /// What a word leaves that opened a project, and made no commit.
+    pub(crate) fn without_commits(alloc: Global, commit: u64, store: S) -> Done<S>
+        ensures status { (result.status ≡ 0) × (result.opened ≡ true) }
+        ensures commits { (result.first_commit ≡ commit) × (result.last_commit ≡ commit) × (result.record_commit ≡ None)
+            × (result.commits ≡ []) × (result.pieces ≡ []) }
+        ensures store { result.store ≡ store }
+    {
+        Done {
+            status: 0,
+            opened: true,
+            store,
+            first_commit: commit,
+            last_commit: commit,
+            record_commit: None,
+            commits: Numbers::new(Vec::new(alloc)),
+            pieces: Numbers::new(Vec::new(alloc)),
+        }
+    }
 }

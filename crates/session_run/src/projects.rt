@@ -15,7 +15,6 @@ use disk_model::Store;
 use edit_ports::Sink;
 use editor_core::Studio;
 use editor_recovery::{check, create, open_store};
-use pcm_base::Numbers;
 use script_text::{CallFault, ProjectLines, write_checked, write_made, write_project};
 use std::alloc::Global;
 
@@ -38,14 +37,7 @@ pub fn make_project<S: Store, O: Sink>(
     ) {
         Ok(()) => {
             let _ = write_made(out);
-            Done {
-                status: 0,
-                opened: false,
-                store,
-                first_commit: 0,
-                last_commit: 0,
-                commits: Numbers::new(Vec::new(alloc)),
-            }
+            Done::without_script(alloc, 0, store)
         }
         Err(fault) => refuse(alloc, out, store, call_fault(fault)),
     }
@@ -73,14 +65,7 @@ fn list_opened<S: Store, O: Sink>(alloc: Global, out: &mut O, studio: Studio<S>)
         cursor: facts.cursor,
     };
     let _ = write_project(out, &lines, tracks.as_slice());
-    Done {
-        status: 0,
-        opened: true,
-        store: studio.into_store(),
-        first_commit: commit,
-        last_commit: commit,
-        commits: Numbers::new(Vec::new(alloc)),
-    }
+    Done::without_commits(alloc, commit, studio.into_store())
 }
 
 /// Shows the project of a store.
@@ -101,14 +86,7 @@ pub fn check_project<S: Store, O: Sink>(alloc: Global, out: &mut O, store: S) ->
         Ok(mut studio) => match check(alloc, &mut studio) {
             Ok(count) => {
                 let _ = write_checked(out, count, studio.commit_number());
-                Done {
-                    status: 0,
-                    opened: false,
-                    store: studio.into_store(),
-                    first_commit: 0,
-                    last_commit: 0,
-                    commits: Numbers::new(Vec::new(alloc)),
-                }
+                Done::without_script(alloc, 0, studio.into_store())
             }
             Err(fault) => refuse(alloc, out, studio.into_store(), call_fault(fault)),
         },

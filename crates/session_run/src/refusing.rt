@@ -7,7 +7,6 @@ ghost use Rattle.session_run.specs.Streams.{PrintsFrom};
 use super::ending::Done;
 use edit_ports::Sink;
 use editor_recovery::OpenFault;
-use pcm_base::Numbers;
 use script_text::{CallFault, write_refused};
 use std::alloc::Global;
 
@@ -57,12 +56,5 @@ pub fn refuse<O: Sink, S>(alloc: Global, out: &mut O, store: S, fault: CallFault
     ensures store { result.store ≡ store }
 {
     let _ = write_refused(out, fault);
-    Done {
-        status: status_of_fault(fault),
-        opened: false,
-        store,
-        first_commit: 0,
-        last_commit: 0,
-        commits: Numbers::new(Vec::new(alloc)),
-    }
+    Done::without_script(alloc, status_of_fault(fault), store)
 }

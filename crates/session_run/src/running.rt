@@ -1,113 +1,165 @@
-// A script on the project of a store.
-ghost use Rattle.std.specs.Prelude.{◌≡◌, true};
+// A script on the project of a store, and beside it a recording and a playback.
+ghost use Rattle.std.specs.Prelude.{◌≡◌, ◌||◌, true};
 ghost use Rattle.editor_core.specs.Core.{core_of};
 ghost use Rattle.editor_core.specs.Studios.{IsStudio};
-ghost use Rattle.session_run.specs.Runs.{Runs, RunsOpened, WritesEnd, status_of};
+ghost use Rattle.desk_session.specs.Sounds.{piece_numbers};
+ghost use Rattle.script_text.specs.Last.{last_text};
+ghost use Rattle.session_run.specs.Devices.{devices};
+ghost use Rattle.session_run.specs.Last.{
+  WritesEnd,
+  mic_failed,
+  play_line,
+  play_refused,
+  record_commit,
+  record_line,
+  record_refused,
+  speaker_failed,
+  status_of,
+};
+ghost use Rattle.session_run.specs.Runs.{Runs, RunsOpened};
 ghost use Rattle.session_run.specs.Streams.{streams};
 
 use super::ending::Done;
-use super::line::LineBuffer;
+use super::last::{
+    any_refused, end_lines, mic_failed, play_line, record_commit, record_line, speaker_failed,
+    status_of,
+};
 use super::refusing::{call_fault, refuse};
-use super::scripted::{Scripted, Seated};
-use super::stop::Stop;
+use desk_session::{Beside, Ended, Kept, Seated};
 use disk_model::Store;
-use edit_ports::{Sink, Source, Vault};
+use edit_ports::{Gate, Sink, Source, Vault};
 use editor_core::Studio;
 use editor_recovery::open_store;
-use script_text::{CallFault, write_end};
+use pcm_base::Numbers;
+use script_text::CallFault;
 use std::alloc::Global;
 use std::sync::Wait;
+use std::thread::Threads;
 
-fn status_of(stop: Stop, refused: bool) -> u8
-    ensures { result ≡ status_of stop refused }
+// The numbers of the pieces.
+fn piece_numbers(alloc: Global, kept: Option<Kept>) -> Numbers
+    ensures { result ≡ piece_numbers kept }
 {
-    match stop {
-        Stop::End => { if refused { 1 } else { 0 } }
-        Stop::Limit => 6,
-        Stop::SourceFault | Stop::OutFault => 4,
-    }
-}
-
-// Prints the last line, unless the output failed before. A fault is told by its count.
-fn end_lines<O: Sink>(out: &mut O, stop: Stop, commit: u64)
-    ensures { WritesEnd stop (O.fault_count out.old) (O.fault_count out.new) (O.written out.old) (O.written out.new)
-        commit }
-{
-    match stop {
-        Stop::OutFault => {}
-        Stop::End | Stop::Limit | Stop::SourceFault => {
-            let _ = write_end(out, commit);
-        }
+    match kept {
+        Some(kept) => kept.numbers,
+        None => Numbers::new(Vec::new(alloc)),
     }
 }
 
 // Ends what is printed, and hands the store out.
-fn finish<S: Store, O: Sink>(out: &mut O, first_commit: u64, scripted: Scripted<S>) -> Done<S>
-    ensures ended { WritesEnd scripted.stop (O.fault_count out.old) (O.fault_count out.new)
-        (O.written out.old) (O.written out.new) (core_of scripted.studio).commit_number }
-    ensures status { (result.status ≡ status_of scripted.stop scripted.refused) × (result.opened ≡ true) }
-    ensures store { result.store ≡ (core_of scripted.studio).store }
+fn finish<S: Store, O: Sink>(
+    alloc: Global,
+    out: &mut O,
+    first_commit: u64,
+    ended: Ended<S>,
+) -> Done<S>
+    ensures ended { WritesEnd ended.told.stop (O.fault_count out.old) (O.fault_count out.new)
+        (O.written out.old) (O.written out.new) (last_text
+        (record_line ended.track ended.opened.recording ended.kept) (play_line ended.opened.pin ended.heard)
+        (core_of ended.studio).commit_number) }
+    ensures status { (result.status ≡ status_of ended.told.stop (mic_failed ended.kept || speaker_failed ended.heard)
+        (ended.told.refused || (record_refused (record_line ended.track ended.opened.recording ended.kept)
+        || play_refused (play_line ended.opened.pin ended.heard)))) × (result.opened ≡ true) }
+    ensures store { result.store ≡ (core_of ended.studio).store }
     ensures numbers { (result.first_commit ≡ first_commit)
-        × (result.last_commit ≡ (core_of scripted.studio).commit_number) × (result.commits ≡ scripted.commits) }
+        × (result.last_commit ≡ (core_of ended.studio).commit_number)
+        × (result.record_commit ≡ record_commit ended.opened.recording) × (result.commits ≡ ended.told.commits)
+        × (result.pieces ≡ piece_numbers ended.kept) }
 {
-    let Scripted {
+    let Ended {
         studio,
-        stop,
-        refused,
-        commits,
-    } = scripted;
+        opened,
+        track,
+        told,
+        kept,
+        heard,
+    } = ended;
+    let record = record_line(track, opened.recording, &kept);
+    let play = play_line(opened.pin, &heard);
+    let fault = mic_failed(&kept) || speaker_failed(&heard);
+    let refused = told.refused || any_refused(&record, &play);
     let last_commit = studio.commit_number();
-    end_lines(out, stop, last_commit);
+    end_lines(out, told.stop, record, play, last_commit);
     Done {
-        status: status_of(stop, refused),
+        status: status_of(told.stop, fault, refused),
         opened: true,
         store: studio.into_store(),
         first_commit,
         last_commit,
-        commits,
+        record_commit: record_commit(opened.recording),
+        commits: told.commits,
+        pieces: piece_numbers(alloc, kept),
     }
 }
 
-/// Runs a script on a studio that was opened, or tells want of memory before its first line.
-pub fn run_opened<R: Wait, S: Store, V: Vault, A: Source, O: Sink>(
+/// Runs a script on a studio that was opened, and beside it what is asked for, or tells want of memory before its first
+/// line.
+pub fn run_opened<R, S, V, A, O, M, P, G>(
     rt: &R,
     alloc: Global,
     script: &mut A,
     out: &mut O,
     studio: Studio<S>,
     vault: &mut V,
+    mic: &mut M,
+    speaker: &mut P,
+    gate: &G,
+    beside: Beside,
 ) -> Done<S>
+where
+    R: Threads + Wait + Sync,
+    S: Store + Send,
+    V: Vault + Send,
+    A: Source + Send,
+    O: Sink + Send,
+    M: Source + Send,
+    P: Sink + Send,
+    G: Gate + Sync,
     requires { IsStudio S.Store (core_of studio) }
-    ensures { RunsOpened S.Store V.Vault (core_of studio) vault.old vault.new
+    ensures { RunsOpened S.Store V.Vault M.Source P.Sink (core_of studio) vault.old vault.new
+        (devices mic.old mic.new speaker.old speaker.new) beside
         (streams A.Source O.Sink script.old script.new out.old out.new) result }
 {
-    let Ok(line) = LineBuffer::new(alloc) else {
-        return refuse(alloc, out, studio.into_store(), CallFault::NoMemory);
-    };
     let first = studio.commit_number();
-    match Seated::new(alloc, studio) {
+    match Seated::new(alloc, studio, beside) {
         Ok(seated) => {
-            let scripted = seated.run(rt, alloc, line, vault, script, out);
-            finish(out, first, scripted)
+            let ended = seated.run(rt, alloc, vault, script, out, mic, speaker, gate);
+            finish(alloc, out, first, ended)
         }
         Err(studio) => refuse(alloc, out, studio.into_store(), CallFault::NoMemory),
     }
 }
 
-/// Opens the project of a store and runs a script on it.
-pub fn run_project<R: Wait, S: Store, V: Vault, A: Source, O: Sink>(
+/// Opens the project of a store and runs a script on it, and beside it what is asked for.
+pub fn run_project<R, S, V, A, O, M, P, G>(
     rt: &R,
     alloc: Global,
     script: &mut A,
     out: &mut O,
     store: S,
     vault: &mut V,
+    mic: &mut M,
+    speaker: &mut P,
+    gate: &G,
+    beside: Beside,
 ) -> Done<S>
-    ensures { Runs S.Store V.Vault store vault.old vault.new
+where
+    R: Threads + Wait + Sync,
+    S: Store + Send,
+    V: Vault + Send,
+    A: Source + Send,
+    O: Sink + Send,
+    M: Source + Send,
+    P: Sink + Send,
+    G: Gate + Sync,
+    ensures { Runs S.Store V.Vault M.Source P.Sink store vault.old vault.new
+        (devices mic.old mic.new speaker.old speaker.new) beside
         (streams A.Source O.Sink script.old script.new out.old out.new) result }
 {
     match open_store(alloc, store) {
-        Ok(studio) => run_opened(rt, alloc, script, out, studio, vault),
+        Ok(studio) => run_opened(
+            rt, alloc, script, out, studio, vault, mic, speaker, gate, beside,
+        ),
         Err((fault, store)) => refuse(alloc, out, store, call_fault(fault)),
     }
 }

@@ -2,25 +2,27 @@
 ghost use Rattle.std.specs.Prelude.{◌≡◌, if◌then◌else◌, map, string_bytes};
 ghost use Rattle.session_run.specs.Call.{Does, EndsAs, any_rose, counts};
 ghost use Rattle.session_run.specs.declared.ending.Done.{Done};
+ghost use Rattle.session_run.specs.Devices.{devices};
 ghost use Rattle.session_run.specs.Streams.{streams};
 
 use super::counts::count_faults;
 use super::ending::{Done, Ending};
+use super::generated::run_gen;
 use super::projects::{check_project, list_project, make_project};
 use super::refusing::refuse;
 use super::running::run_project;
 use super::trying::try_script;
 use call_words::{Words, WordsFault, read_words};
+use desk_session::Beside;
 use disk_model::{RamStore, Store};
 use edit_ports::{Gate, Sink, Source, Vault};
-use pcm_base::Numbers;
 use script_text::CallFault;
 use std::alloc::Global;
 use std::sync::Wait;
 use std::thread::Threads;
 
 // Does what the words ask for.
-fn carry_out<R: Wait, A: Source, O: Sink, S: Store, V: Vault>(
+fn carry_out<R, A, O, S, V, M, P, G>(
     rt: &R,
     alloc: Global,
     words: &[String],
@@ -28,24 +30,36 @@ fn carry_out<R: Wait, A: Source, O: Sink, S: Store, V: Vault>(
     out: &mut O,
     store: S,
     vault: &mut V,
+    mic: &mut M,
+    speaker: &mut P,
+    gate: &G,
 ) -> Done<S>
-    ensures { Does ⟦<RamStore as Store>⟧ S.Store V.Vault (map string_bytes words.now) store vault.old vault.new
+where
+    R: Threads + Wait + Sync,
+    A: Source + Send,
+    O: Sink + Send,
+    S: Store + Send,
+    V: Vault + Send,
+    M: Source + Send,
+    P: Sink + Send,
+    G: Gate + Sync,
+    ensures { Does ⟦<RamStore as Store>⟧ S.Store V.Vault M.Source P.Sink (map string_bytes words.now) store vault.old
+        vault.new (devices mic.old mic.new speaker.old speaker.new)
         (streams A.Source O.Sink script.old script.new out.old out.new) result }
 {
     match read_words(alloc, words) {
         Ok(Words::New(project)) => make_project(alloc, out, store, project),
-        Ok(
-            Words::Run {
-                records: false,
-                plays: false,
-            },
-        ) => run_project(rt, alloc, script, out, store, vault),
-        Ok(Words::Try) => try_script(rt, alloc, script, out, store, vault),
+        Ok(Words::Run { records, plays }) => {
+            let beside = Beside { records, plays };
+            run_project(
+                rt, alloc, script, out, store, vault, mic, speaker, gate, beside,
+            )
+        }
+        Ok(Words::Try) => try_script(rt, alloc, script, out, store, vault, mic, speaker, gate),
         Ok(Words::List) => list_project(alloc, out, store),
         Ok(Words::Check) => check_project(alloc, out, store),
-        Ok(Words::Run { .. }) | Ok(Words::Gen { .. }) | Err(WordsFault::Usage) => {
-            refuse(alloc, out, store, CallFault::Usage)
-        }
+        Ok(Words::Gen { number, lines }) => run_gen(alloc, out, store, number, lines),
+        Err(WordsFault::Usage) => refuse(alloc, out, store, CallFault::Usage),
         Err(WordsFault::NoMemory) => refuse(alloc, out, store, CallFault::NoMemory),
     }
 }
@@ -66,9 +80,9 @@ pub fn studio_call<R, A, O, S, V, M, P, G>(
     out: &mut O,
     store: S,
     vault: &mut V,
-    mic: M,
-    speaker: P,
-    _gate: &G,
+    mut mic: M,
+    mut speaker: P,
+    gate: &G,
 ) -> Ending<S, M, P>
 where
     R: Threads + Wait + Sync,
@@ -79,13 +93,14 @@ where
     M: Source + Send,
     P: Sink + Send,
     G: Gate + Sync,
-    ensures does { (done : Done S) × Does ⟦<RamStore as Store>⟧ S.Store V.Vault (map string_bytes words.now) store
-        vault.old vault.new (streams A.Source O.Sink script.old script.new out.old out.new) done
+    ensures does { (done : Done S) × Does ⟦<RamStore as Store>⟧ S.Store V.Vault M.Source P.Sink
+        (map string_bytes words.now) store vault.old vault.new (devices mic result.mic speaker result.speaker)
+        (streams A.Source O.Sink script.old script.new out.old out.new) done
         × EndsAs (any_rose
         (counts A.Source O.Sink S.Store V.Vault M.Source P.Sink script.old out.old store vault.old mic speaker)
         (counts A.Source O.Sink S.Store V.Vault M.Source P.Sink script.new out.new result.store vault.new result.mic
         result.speaker))
-        done mic speaker result }
+        done result }
 {
     let before = count_faults(script, out, &store, vault, &mic, &speaker);
     let Done {
@@ -94,8 +109,21 @@ where
         store,
         first_commit,
         last_commit,
+        record_commit,
         commits,
-    } = carry_out(rt, alloc, words, script, out, store, vault);
+        pieces,
+    } = carry_out(
+        rt,
+        alloc,
+        words,
+        script,
+        out,
+        store,
+        vault,
+        &mut mic,
+        &mut speaker,
+        gate,
+    );
     let now = count_faults(script, out, &store, vault, &mic, &speaker);
     Ending {
         status: status_of(before.any_rose(&now), status),
@@ -105,8 +133,8 @@ where
         speaker,
         first_commit,
         last_commit,
-        record_commit: None,
+        record_commit,
         script_commits: commits,
-        piece_commits: Numbers::new(Vec::new(alloc)),
+        piece_commits: pieces,
     }
 }

@@ -1,49 +1,32 @@
 // A script on a fresh project in memory.
-ghost use Rattle.std.specs.Prelude.{◌≡◌, nat_lt, if◌then◌else◌, IfOk, IfErr};
-ghost use Rattle.editor_core.specs.Core.{core_of};
-ghost use Rattle.session_run.specs.Memory.{IsMade};
+ghost use Rattle.std.specs.Prelude.{◌≡◌, nat_lt, if◌then◌else◌};
+ghost use Rattle.session_run.specs.Devices.{devices};
 ghost use Rattle.session_run.specs.Streams.{streams};
-ghost use Rattle.session_run.specs.Tries.{IsFresh, Tries};
+ghost use Rattle.session_run.specs.Tries.{Tries, tried_project};
 
 use super::ending::Done;
-use super::refusing::{call_fault, refuse};
+use super::refusing::refuse;
 use super::running::run_opened;
+use desk_session::Beside;
 use disk_model::{RamStore, Store};
-use edit_ports::{Sink, Source, Vault};
-use editor_core::Studio;
-use editor_recovery::{OpenFault, calls_stay_honest, create, open_store};
-use pcm_base::Numbers;
+use edit_ports::{Gate, Sink, Source, Vault};
+use memory_project::{FreshProject, fresh_studio};
+use script_text::CallFault;
 use std::alloc::Global;
 use std::sync::Wait;
+use std::thread::Threads;
 
-/// The room of the memory store: files, bytes and changing calls.
-const FILES: usize = 65536;
-
-const BYTES: usize = 67108864;
-
-const CALLS: usize = 1048576;
-
-// A disk in memory with a project on it.
-fn fresh_store(alloc: Global) -> Result<RamStore, OpenFault>
-    ensures made { IfOk result (λ s. IsMade ⟦<RamStore as Store>⟧ s) }
-    ensures wants { IfErr result (λ e. e ≡ OpenFault.NoMemory) }
+// The project of a script that is tried, with its room.
+fn tried_project() -> FreshProject
+    ensures { result ≡ tried_project }
 {
-    let none = Numbers::new(Vec::new(alloc));
-    let mut store = RamStore::new(alloc, FILES, BYTES, CALLS, none)?;
-    calls_stay_honest::<RamStore>();
-    create(alloc, &mut store, 8000, 4, 256)?;
-    Ok(store)
-}
-
-// The studio of a fresh project in memory.
-fn fresh_studio(alloc: Global) -> Result<Studio<RamStore>, OpenFault>
-    ensures fresh { IfOk result (λ s. IsFresh ⟦<RamStore as Store>⟧ (core_of s)) }
-    ensures wants { IfErr result (λ e. e ≡ OpenFault.NoMemory) }
-{
-    let store = fresh_store(alloc)?;
-    match open_store(alloc, store) {
-        Ok(studio) => Ok(studio),
-        Err((fault, _store)) => Err(fault),
+    FreshProject {
+        rate: 8000,
+        block_size: 4,
+        depth: 256,
+        files: 65536,
+        bytes: 67108864,
+        calls: 1048576,
     }
 }
 
@@ -56,29 +39,47 @@ fn status_with(faults: u64, status: u8) -> u8
 
 /// Runs a script on a fresh project in memory: 8,000 samples a second, blocks of 4 samples, 256 points. The store that
 /// was handed in comes back untouched.
-pub fn try_script<R: Wait, S, V: Vault, A: Source, O: Sink>(
+pub fn try_script<R, C, V, A, O, M, P, G>(
     rt: &R,
     alloc: Global,
     script: &mut A,
     out: &mut O,
-    store: S,
+    store: C,
     vault: &mut V,
-) -> Done<S>
-    ensures { Tries ⟦<RamStore as Store>⟧ V.Vault store vault.old vault.new
+    mic: &mut M,
+    speaker: &mut P,
+    gate: &G,
+) -> Done<C>
+where
+    R: Threads + Wait + Sync,
+    V: Vault + Send,
+    A: Source + Send,
+    O: Sink + Send,
+    M: Source + Send,
+    P: Sink + Send,
+    G: Gate + Sync,
+    ensures { Tries ⟦<RamStore as Store>⟧ V.Vault M.Source P.Sink store vault.old vault.new
+        (devices mic.old mic.new speaker.old speaker.new)
         (streams A.Source O.Sink script.old script.new out.old out.new) result }
 {
-    match fresh_studio(alloc) {
-        Ok(studio) => {
-            let done = run_opened(rt, alloc, script, out, studio, vault);
-            Done {
-                status: status_with(done.store.faults(), done.status),
-                opened: done.opened,
-                store,
-                first_commit: done.first_commit,
-                last_commit: done.last_commit,
-                commits: done.commits,
-            }
-        }
-        Err(fault) => refuse(alloc, out, store, call_fault(fault)),
+    let Ok(studio) = fresh_studio(alloc, &tried_project()) else {
+        return refuse(alloc, out, store, CallFault::NoMemory);
+    };
+    let nothing = Beside {
+        records: false,
+        plays: false,
+    };
+    let done = run_opened(
+        rt, alloc, script, out, studio, vault, mic, speaker, gate, nothing,
+    );
+    Done {
+        status: status_with(done.store.faults(), done.status),
+        opened: done.opened,
+        store,
+        first_commit: done.first_commit,
+        last_commit: done.last_commit,
+        record_commit: done.record_commit,
+        commits: done.commits,
+        pieces: done.pieces,
     }
 }

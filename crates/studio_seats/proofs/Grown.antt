@@ -1,10 +1,12 @@
 -- A list of deeds that is one longer.
-use Rattle.std.proofs.Common.{◌≡◌, ◌⊎◌, inl, inr, ⊎_elim, refl, sym, ap, ◌∙◌, subst, ℕ, ◌-◌, IsSome, Option, Some, None, List, [], ◌∷◌, ◌++◌, append_assoc, Result}
+use Rattle.std.proofs.Common.{◌≡◌, ◌⊎◌, inl, inr, ⊎_elim, refl, sym, ap, ◌∙◌, subst, ℕ, ◌-◌, IsSome, Option, Some, None, List, [], ◌∷◌, ◌++◌, append_assoc, Result, Ok, Err}
+use Rattle.std.specs.Prelude.{IfErr}
 use Rattle.pcm_base.specs.declared.answer.Reply.{Reply}
 use Rattle.pcm_base.specs.declared.command.Call.{Call}
 use Rattle.pcm_base.specs.declared.entry.Entry.{Entry}
 use Rattle.pcm_base.specs.declared.entry.SoundMove.{SoundMove}
 use Rattle.pcm_base.specs.declared.refusal.Refusal.{Refusal}
+use Rattle.pcm_base.specs.declared.refusal.Refusal.TheVariants as refusal
 use Rattle.pcm_base.specs.Run.{Run, Step}
 use Rattle.pcm_base.specs.Studio as model
 use Rattle.disk_model.specs.Disk.{Files}
@@ -16,14 +18,17 @@ use Rattle.project_journal.specs.Gate.{EachNow, EachSince}
 use Rattle.project_state.specs.Kept.{Keeps}
 use Rattle.editor_core.specs.Core.{Core}
 use Rattle.editor_core.specs.Events.{KeepsPrefix, NextInFlight}
+use Rattle.editor_core.specs.Left.{Left, MayRemove}
 use Rattle.editor_core.specs.Studios.{IsHeld, IsStudio, shown, studio_of}
 use Rattle.editor_core.specs.Took.{Took, asks, silent}
 use Rattle.editor_core.proofs.Applying.{lasts_took}
 use Rattle.editor_core.proofs.Others.{foreign_more, foreign_none}
 use Rattle.editor_core.proofs.Rests.{rests_keeps}
+use Rattle.editor_core.proofs.Unharmed.{held_undamaged}
+use Rattle.pin_turn.proofs.Sums.{Each-append}
 use Rattle.studio_seats.specs.declared.deed.Deed.{Deed}
 use Rattle.studio_seats.specs.Deeds.{deed, entry_of, entries_of, is_commit, number_after, raised}
-use Rattle.studio_seats.specs.Stands.{Does, StandsFor, StopsInFlight}
+use Rattle.studio_seats.specs.Stands.{Does, IsUnharmed, StandsFor, StopsInFlight}
 use Rattle.studio_seats.proofs.Refused.{number_raised, step_of, stopped_not, stopped_shown}
 
 -- ---- lists
@@ -77,6 +82,14 @@ flight_more t es e c h = record {
 pub does_silent : {D : Type 0} (disk : Ghosts D) (told : Type 0) (old : Core D) (call : Call) (what : Result Reply Refusal) (removed : ℕ) (new : Core D)
     → Took disk old call silent what removed new → Does disk told old call what silent new
 does_silent disk told old call what removed new took = record { removed = removed; took = λ may. took; lasts = lasts_took disk old call what removed new took }
+
+-- where the disk held the studio, no call tells a damaged file
+unharmed : {D : Type 0} (disk : Ghosts D) (old new : Core D) (call : Call) (what : Result Reply Refusal) → IsHeld disk old
+    → IfErr what (Left disk old (MayRemove call old.counts) new) → IfErr what IsUnharmed
+unharmed disk old new call (Ok r) held left = tt
+unharmed disk old new call (Err (refusal.Damaged file at want have)) held left =
+    absurd (held_undamaged disk old new (MayRemove call old.counts) (refusal.Damaged file at want have) held left)
+unharmed disk old new call (Err why) held left = tt
 
 module _ {D : Type 0} (disk : Ghosts D) (told : Type 0) (start old new : Core D) (deeds : List Deed) (was : StandsFor disk told start old deeds)
     (actor : ℕ) (call : Call) (what : Result Reply Refusal) (sound : SoundMove) (does : Does disk told old call what sound new) where
@@ -170,6 +183,8 @@ module _ {D : Type 0} (disk : Ghosts D) (told : Type 0) (start old new : Core D)
     held = λ tell held. (took tell).held (was.held tell held);
     run = λ tell held. subst (λ (es : List Entry). Run t es (studio_of disk new)) (sym more)
         (run_more t (studio_of disk old) (studio_of disk new) (entries_of deeds) (entry_of d) (was.run tell held) (step tell held));
+    whole = λ tell held. Each-append (λ (z : Deed). IfErr z.what IsUnharmed) deeds (d ∷ []) (was.whole tell held)
+        (unharmed disk old new call what (was.held tell held) does.lasts.left, tt);
     any_moment = λ tell going held. subst (λ (es : List Entry). EachSince disk start.store new.store (KeepsPrefix t es)) (sym more) (stays old.stopped refl tell going held);
     going = λ tell still held. (took tell).now still (was.held tell held);
     stopped = λ tell going some held. subst (λ (es : List Entry). EachNow disk new.store (λ c. Keeps c (shown (studio_of disk new)) ⊎ StopsInFlight t es c)) (sym more)
@@ -185,6 +200,7 @@ begins disk told start is fewer = record {
   number = refl;
   held = λ tell held. held;
   run = λ tell held. refl;
+  whole = λ tell held. tt;
   any_moment = λ tell going held c since. record {
     front = [];
     back = [];

@@ -7,4 +7,5 @@ pub mod PinLemmas
 pub mod FrameLemmas
 pub mod PieceLemmas
 pub mod MergeLemmas
+pub mod FaultLemmas
 pub mod OnwardLemmas

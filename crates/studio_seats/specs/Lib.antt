@@ -9,3 +9,4 @@ pub mod Shows
 pub mod Pieces
 pub mod Merge
 pub mod Onward
+pub mod Faults

@@ -1,15 +1,17 @@
 -- What a studio stands for behind the deeds of a desk.
-use Rattle.std.specs.Prelude.{◌≡◌, ◌⊎◌, ℕ, IsTrue, IsSome, None, List, ◌∷◌, ◌++◌, Result}
+use Rattle.std.specs.Prelude.{◌≡◌, ◌⊎◌, ℕ, IsTrue, IsSome, None, List, ◌∷◌, ◌++◌, Result, IfErr}
 use Rattle.pcm_base.specs.declared.answer.Reply.{Reply}
 use Rattle.pcm_base.specs.declared.command.Call.{Call}
 use Rattle.pcm_base.specs.declared.entry.Entry.{Entry}
 use Rattle.pcm_base.specs.declared.entry.SoundMove.{SoundMove}
 use Rattle.pcm_base.specs.declared.refusal.Refusal.{Refusal}
+use Rattle.pcm_base.specs.declared.refusal.Refusal.TheVariants as refusal
 use Rattle.pcm_base.specs.Run.{Run, Step, name_in}
 use Rattle.pcm_base.specs.Studio as model
 use Rattle.disk_model.specs.Disk.{Files}
 use Rattle.disk_model.specs.declared.store.Store.{Ghosts}
 use Rattle.edit_ports.specs.declared.vault.Vault as vault
+use Rattle.pin_turn.specs.Counts.{Each}
 use Rattle.project_journal.specs.Gate.{EachNow, EachSince}
 use Rattle.project_state.specs.Kept.{Keeps}
 use Rattle.editor_core.specs.Applied.{Lasts}
@@ -24,6 +26,11 @@ use Rattle.studio_seats.specs.Deeds.{entries_of, number_after}
 -- the vaults of a type tell their bytes
 abbrev pub AllTell : {V : Type 0} → vault.Ghosts V → Type 0
 AllTell {V} vaults = (v : V) → IsTrue (vaults.tells v)
+
+-- no file is told to be damaged
+abbrev pub IsUnharmed : Refusal → Type 0
+IsUnharmed (refusal.Damaged file at want have) = ⊥
+IsUnharmed why = Unit {0}
 
 -- An entry stopped the studio, and the files keep what the entry leads to where nothing refuses it.
 pub record StopsInFlight (t : model.Studio) (entries : List Entry) (files : Files) : Type 0 where
@@ -56,6 +63,8 @@ pub record StandsFor {D : Type 0} (disk : Ghosts D) (told : Type 0) (start now :
   -- deeds are a run
   pub held : told → IsHeld disk start → IsHeld disk now
   pub run : told → IsHeld disk start → Run (studio_of disk start) (entries_of deeds) (studio_of disk now)
+  -- and no deed tells a damaged file
+  pub whole : told → IsHeld disk start → Each (λ d. IfErr d.what IsUnharmed) deeds
   -- at any moment since the start each image has the project behind some of the first entries, the one in flight counted
   -- last
   pub any_moment : told → start.stopped ≡ None → IsHeld disk start

@@ -1,6 +1,10 @@
 // What the list of all seats says of each. These functions do nothing: their contracts are the laws.
+ghost use Rattle.studio_seats.specs.Faults.{DesksServe, FaultsAreCounted};
 ghost use Rattle.studio_seats.specs.Merge.{MergedNumbers, PieceNumbers, OwnOrder};
 ghost use Rattle.studio_seats.specs.PinLaws.{PinsStay};
+
+use disk_model::Store;
+use edit_ports::Vault;
 
 /// The commits of the opening, of the first seat and of the recorder are together all commits, each once.
 pub fn numbers_are_merged()
@@ -21,4 +25,15 @@ pub fn turns_keep_order()
 /// is asked of it is answered so.
 pub fn pins_stay()
     ensures { PinsStay }
+{}
+
+/// In a run from a studio that goes on, in which no count of faults of the store rises, the store is behind no refusal.
+pub fn faults_are_counted()
+    ensures { FaultsAreCounted }
+{}
+
+/// Where vaults tell their bytes, the disk held a studio that goes on, and no count of its faults rises, no deed tells
+/// DiskFault, Stopped or Damaged, and none but one that names a sound VaultFault.
+pub fn deeds_are_served<S: Store, V: Vault>()
+    ensures { DesksServe S.Store V.Vault }
 {}

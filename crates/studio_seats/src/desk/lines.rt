@@ -1,5 +1,5 @@
 // A line of the script in one turn.
-ghost use Rattle.std.specs.Prelude.{◌≡◌, true, false, IfErr};
+ghost use Rattle.std.specs.Prelude.{◌≡◌, true, false, IfErr, IsSome, None};
 ghost use Rattle.pcm_base.specs.declared.answer.Reply.TheVariants.{Refused};
 ghost use Rattle.pcm_base.specs.declared.command.Call.TheVariants.{Line};
 ghost use Rattle.pcm_base.specs.Form.{IsInForm};
@@ -7,6 +7,7 @@ ghost use Rattle.pcm_base.specs.Run.{Heard, name_in_line};
 ghost use Rattle.pin_turn.specs.Calls.{known};
 ghost use Rattle.editor_core.specs.Applied.{Applies, IsTold, move_of};
 ghost use Rattle.editor_core.specs.Core.{core_of};
+ghost use Rattle.editor_core.specs.Imports.{VaultCounted};
 ghost use Rattle.editor_core.specs.Studios.{IsStudio};
 ghost use Rattle.editor_core.specs.Took.{told_by};
 ghost use Rattle.studio_seats.specs.Desks.{IsAt, Says, start_at};
@@ -23,8 +24,8 @@ use std::sync::Wait;
 
 impl<S: Store, V: Vault> Desk<S, V> {
     /// Carries a line out and fills the answer: the commit number behind it, and its reply, or the reason that refuses it,
-    /// which is told besides. A sound that the line names is looked for in the vault, while the turn is kept. Where no turn
-    /// is left the answer and the vault are as they were.
+    /// which is told besides. A sound that the line names is looked for in the vault, while the turn is kept. Where it
+    /// names none, the vault is as it was; where no turn is left, the answer too.
     ///
     /// # Errors
     ///
@@ -52,6 +53,9 @@ impl<S: Store, V: Vault> Desk<S, V> {
             (move_of (name_in_line command.now) (V.holds vault.old) (V.holds vault.new)) (V.holds vault.old)
             (V.holds vault.new) }
         ensures tells { V.tells vault.new ≡ V.tells vault.old }
+        ensures faults { (known seat.new).used_up ≡ false → IsSome (name_in_line command.now)
+            → VaultCounted result.what (V.fault_count vault.old) (V.fault_count vault.new) }
+        ensures untouched { name_in_line command.now ≡ None → vault.new ≡ vault.old }
     {
         said_by(
             self.turn.with::<R, Said<()>, _, Brand>(
@@ -65,6 +69,10 @@ impl<S: Store, V: Vault> Desk<S, V> {
                         answer.exit.now (core_of held.new.studio) }
                     ensures at { result.at ≡ (core_of held.new.studio).commit_number }
                     ensures tells { V.tells vault.exit.now ≡ V.tells vault.entry.now }
+                    ensures faults { IsSome (name_in_line command.entry.now) → VaultCounted result.what
+                        (V.fault_count vault.entry.now) (V.fault_count vault.exit.now) }
+                    ensures untouched { name_in_line command.entry.now ≡ None
+                        → vault.exit.now ≡ vault.entry.now }
                 {
                     let what = held.studio.apply(alloc, vault, command, answer);
                     let at = held.studio.commit_number();

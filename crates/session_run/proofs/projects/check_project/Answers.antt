@@ -1,7 +1,8 @@
 -- The project is opened, and its blocks are checked.
-use Rattle.std.proofs.Common.{ℕ, Ok, Err, inl, refl, ap, subst, ◌∙◌}
+use Rattle.std.proofs.Common.{ℕ, Ok, Err, inl, inr, ap, subst, sym, ◌∙◌}
 use Rattle.editor_core.specs.Core.{core_of}
 use Rattle.script_text.specs.Project.{checked_text}
+use Rattle.session_run.specs.Opening.{Looks}
 use Rattle.session_run.specs.Streams.{Prints, from_sink}
 use Rattle.session_run.proofs.ProjectLemmas.{refused_as}
 use Rattle.session_run.proofs.StreamLemmas.{prints}
@@ -29,18 +30,12 @@ returns-in-Ok-check g c = λ source. inl (
       };
       answer = Ok c.in-Ok-check.count;
       checks = c.in-Ok-check.ensures;
-      store_is = c.into_store.ensures;
+      store_is = c.without_script.ensures.store ∙ c.into_store.ensures;
       said = (
         subst (λ (n : ℕ). Prints s (checked_text c.in-Ok-check.count n))
             (c.commit_number.ensures ∙ ap (λ z. z.commit_number) c.check.ensures.same)
             (prints _ _ _ _ _ _ c.write_checked.ensures.cause c.write_checked.ensures.bytes),
-        record {
-          status_is = refl;
-          opened = refl;
-          first = refl;
-          last = refl;
-          commits = c.new-in-Ok-check.ensures ∙ c.new.ensures.items;
-        },
+        c.without_script.ensures.done,
       );
     })
 
@@ -68,3 +63,18 @@ returns-in-Err-check g c = λ source. inl (
       store_is = c.refuse.ensures.store ∙ c.into_store-in-Err-check.ensures;
       said = refused_as _ _ _ c.refuse.result c.call_fault.ensures c.refuse.ensures.printed c.refuse.ensures.done;
     })
+
+pub returns-in-Err : goal.returns-in-Err
+returns-in-Err g c = λ source.
+    let e = c.in-Err.ensures in inr (
+      c.in-Err.fault,
+      subst (λ z. Looks g.S.Store c.args.store z (Err c.in-Err.fault)) (sym c.refuse-in-Err.ensures.store) (record {
+        opens = e.opens;
+        honest = e.honest;
+        cause = e.cause;
+        reads = e.reads;
+        changed = e.changed;
+        stays_honest = e.stays_honest;
+      }),
+      refused_as _ _ _ c.refuse-in-Err.result c.call_fault-in-Err.ensures c.refuse-in-Err.ensures.printed c.refuse-in-Err.ensures.done,
+    )

@@ -1,5 +1,5 @@
 -- What is told of a project.
-use Rattle.std.proofs.Common.{inl, refl, ◌∙◌, List, subst}
+use Rattle.std.proofs.Common.{inl, ◌∙◌, List, subst}
 use Rattle.pcm_base.specs.declared.sound.TrackLine.{TrackLine}
 use Rattle.script_text.specs.declared.project.ProjectLines.{ProjectLines}
 use Rattle.script_text.specs.Project.{project_text}
@@ -27,9 +27,11 @@ returns-clause-listed g c = λ source. inl (
             c.as_slice.ensures i,
           ))
           (prints _ _ _ _ _ _ c.write_project.ensures.cause c.write_project.ensures.bytes);
-      status = refl;
-      opened = refl;
-      first = c.commit_number-commit.ensures;
-      last = c.commit_number-commit.ensures;
-      commits = c.new-2.ensures ∙ c.new.ensures.items;
+      status = c.without_commits.ensures.status.0;
+      opened = c.without_commits.ensures.status.1;
+      first = c.without_commits.ensures.commits.0 ∙ c.commit_number-commit.ensures;
+      last = c.without_commits.ensures.commits.1 ∙ c.commit_number-commit.ensures;
+      record_none = c.without_commits.ensures.commits.2;
+      commits = c.without_commits.ensures.commits.3;
+      pieces = c.without_commits.ensures.commits.4;
     })

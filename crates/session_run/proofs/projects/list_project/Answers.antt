@@ -1,6 +1,8 @@
 -- The project is opened, and told.
-use Rattle.std.proofs.Common.{inl}
+use Rattle.std.proofs.Common.{Err, inl, inr, subst, sym}
 use Rattle.editor_core.specs.Core.{core_of}
+use Rattle.session_run.specs.Opening.{Looks}
+use Rattle.session_run.proofs.ProjectLemmas.{refused_as}
 use Rattle.session_run.proofs.projects.list_project.Goals as goal
 
 pub returns-in-Ok : goal.returns-in-Ok
@@ -23,3 +25,18 @@ returns-in-Ok g c = λ source. inl (
   c.list_opened.ensures.store,
   c.list_opened.ensures.listed source,
 )
+
+pub returns-in-Err : goal.returns-in-Err
+returns-in-Err g c = λ source.
+    let e = c.in-Err.ensures in inr (
+      c.in-Err.fault,
+      subst (λ z. Looks g.S.Store c.args.store z (Err c.in-Err.fault)) (sym c.refuse.ensures.store) (record {
+        opens = e.opens;
+        honest = e.honest;
+        cause = e.cause;
+        reads = e.reads;
+        changed = e.changed;
+        stays_honest = e.stays_honest;
+      }),
+      refused_as _ _ _ c.refuse.result c.call_fault.ensures c.refuse.ensures.printed c.refuse.ensures.done,
+    )

@@ -1,53 +1,66 @@
--- A script on a studio that was opened.
-use Rattle.std.proofs.Common.{inl, inr, refl, subst, sym, ap, ◌∙◌, List, ℕ}
+-- A session on a studio that was opened.
+use Rattle.std.proofs.Common.{inl, inr, refl, ap, subst, ◌∙◌, ◌≡◌, ◌||◌, ℕ}
 use Rattle.editor_core.specs.Core.{Core, core_of}
-use Rattle.session_run.specs.Scripted.{IsScripted}
+use Rattle.script_text.specs.Last.{last_text}
+use Rattle.desk_session.specs.Sessions.{IsSession}
+use Rattle.session_run.specs.Last.{WritesEnd, mic_failed, play_line, play_refused, record_line, record_refused, speaker_failed, status_of}
 use Rattle.session_run.proofs.running.run_opened.Goals as goal
 
-pub returns-in_default : goal.returns-in_default
-returns-in_default g c = (
-  core_of c.args.studio,
-  c.refuse.ensures.store ∙ c.into_store.ensures,
-  inr (record {
-    refused = record { printed = c.refuse.ensures.printed; done_is = c.refuse.ensures.done };
-    unread = (refl, refl);
-    same = (refl, refl);
-  }),
-)
-
-pub returns-in-Ok-new : goal.returns-in-Ok-new
-returns-in-Ok-new g c =
-    let ran = c.run-scripted in (
-      core_of ran.result.studio,
-      c.finish.ensures.store,
+pub returns-in-Ok : goal.returns-in-Ok
+returns-in-Ok g c =
+    let ran = c.run-ended in
+    let e = ran.result in
+    let end = c.finish in
+    let s = c.in-Ok.seated in
+    let begun : core_of c.args.studio ≡ core_of c.args.studio = refl in
+    let track : e.track ≡ (core_of c.args.studio).next_track =
+    ran.ensures.track ∙ ap (λ (z : Core g.row.S.Denot). z.next_track) c.in-Ok.ensures.ok.0 in (
+      core_of e.studio,
+      end.ensures.store,
       inl (record {
         ran = record {
-          stop = ran.result.stop;
-          refused = ran.result.refused;
+          told = e.told;
+          opened = e.opened;
+          kept = e.kept;
+          heard = e.heard;
           mid = g.O.Sink.written ran.new.out;
           faults = g.O.Sink.fault_count ran.new.out;
-          scripted = subst (λ (z : Core g.row.S.Denot × List ℕ). IsScripted g.S.Store g.V.Vault z.0 (core_of ran.result.studio)
-              c.args.vault.now ran.new.vault ran.result.stop ran.result.refused z.1
+          session = subst (λ (z : Core g.row.S.Denot). IsSession g.S.Store g.V.Vault g.M.Source g.P.Sink z (core_of e.studio)
+              c.args.vault.now ran.new.vault c.args.mic.now ran.new.mic c.args.speaker.now ran.new.speaker
               (g.A.Source.left c.args.script.now) (g.A.Source.left ran.new.script)
-              (g.O.Sink.written c.args.out.now) (g.O.Sink.written ran.new.out))
-              (λ i. (c.in-Ok-new.ensures.ok.0 i, sym c.finish.ensures.numbers.2 i)) ran.ensures.scripted;
+              (g.O.Sink.written c.args.out.now) (g.O.Sink.written ran.new.out) e.told e.opened e.kept e.heard)
+              c.in-Ok.ensures.ok.0 ran.ensures.session;
+          asked = (
+            ran.ensures.asked.0 ∙ ap (λ b. b.records) c.in-Ok.ensures.ok.1,
+            ran.ensures.asked.1 ∙ ap (λ b. b.plays) c.in-Ok.ensures.ok.1,
+          );
           cause = ran.ensures.cause;
-          ended = c.finish.ensures.ended;
+          ended = subst (λ (t : ℕ). WritesEnd e.told.stop (g.O.Sink.fault_count ran.new.out) (g.O.Sink.fault_count end.new.out)
+              (g.O.Sink.written ran.new.out) (g.O.Sink.written end.new.out)
+              (last_text (record_line t e.opened.recording e.kept) (play_line e.opened.pin e.heard)
+              (core_of e.studio).commit_number)) track end.ensures.ended;
         };
-        status_is = c.finish.ensures.status.0;
-        opened = c.finish.ensures.status.1;
-        first = c.finish.ensures.numbers.0 ∙ c.commit_number-first.ensures;
-        last = c.finish.ensures.numbers.1;
+        status_is = end.ensures.status.0
+            ∙ ap (λ (t : ℕ). status_of e.told.stop (mic_failed e.kept || speaker_failed e.heard)
+            (e.told.refused || (record_refused (record_line t e.opened.recording e.kept)
+            || play_refused (play_line e.opened.pin e.heard)))) track;
+        opened = end.ensures.status.1;
+        first = end.ensures.numbers.0 ∙ c.commit_number-first.ensures;
+        last = end.ensures.numbers.1;
+        record_is = end.ensures.numbers.2;
+        commits = end.ensures.numbers.3;
+        pieces = end.ensures.numbers.4;
       }),
     )
 
 pub returns-in-Err : goal.returns-in-Err
 returns-in-Err g c = (
   core_of c.args.studio,
-  c.refuse-in-Err.ensures.store ∙ (c.into_store-in-Err.ensures ∙ ap (λ s. (core_of s).store) c.in-Err.ensures.err),
+  c.refuse.ensures.store ∙ (c.into_store.ensures ∙ ap (λ s. (core_of s).store) c.in-Err.ensures.err),
   inr (record {
-    refused = record { printed = c.refuse-in-Err.ensures.printed; done_is = c.refuse-in-Err.ensures.done };
+    refused = record { printed = c.refuse.ensures.printed; done_is = c.refuse.ensures.done };
     unread = (refl, refl);
+    idle = (refl, refl);
     same = (refl, refl);
   }),
 )

@@ -38,5 +38,6 @@ returns-in-Err g c = let e = c.in-Err.ensures in inr (
   }),
   refused_as _ _ _ c.refuse.result c.call_fault.ensures c.refuse.ensures.printed c.refuse.ensures.done,
   (refl, refl),
+  (refl, refl),
   refl,
 )

@@ -14,13 +14,11 @@ returns g c =
               (c.any_rose.ensures ∙ (λ i. any_rose (c.count_faults-before.ensures i) (c.count_faults-now.ensures i)));
           opened = refl;
           store = refl;
-          mic_is = refl;
-          speaker_is = refl;
           first = refl;
           last = refl;
-          record_none = refl;
+          record_is = refl;
           script = refl;
-          pieces = c.new-2.ensures ∙ c.new.ensures.items;
+          pieces = refl;
         },
       );
     }

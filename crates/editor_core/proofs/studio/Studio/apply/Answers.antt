@@ -1,10 +1,11 @@
 -- The answer is filled.
-use Rattle.std.proofs.Common.{refl, sym, subst, Result, Ok, Err}
+use Rattle.std.proofs.Common.{refl, subst, Result, Ok, Err}
 use Rattle.pcm_base.specs.declared.answer.Reply.{Reply}
 use Rattle.pcm_base.specs.declared.command.Call.TheVariants.{Line}
 use Rattle.pcm_base.specs.declared.refusal.Refusal.{Refusal}
 use Rattle.editor_core.specs.Applied.{TookOver}
 use Rattle.editor_core.specs.Core.{core_of}
+use Rattle.editor_core.specs.Imports.{VaultCounted}
 use Rattle.editor_core.proofs.studio.Studio.apply.Goals as goal
 
 pub returns-in-Ok-clause-applied : goal.returns-in-Ok-clause-applied
@@ -18,6 +19,12 @@ returns-in-Ok-clause-applied g c =
       ends = tt;
     }
 
+pub returns-in-Ok-clause-faults : goal.returns-in-Ok-clause-faults
+returns-in-Ok-clause-faults g c = λ some.
+    let old = g.V.Vault.fault_count c.args.vault.now in
+    let new = g.V.Vault.fault_count c.reply_to-told.new.vault in
+    subst (λ (r : Result Reply Refusal). VaultCounted r old new) c.in-Ok.is (c.reply_to-told.ensures.faults some)
+
 pub returns-in-Err-clause-applied : goal.returns-in-Err-clause-applied
 returns-in-Err-clause-applied g c =
     let Over : Result Reply Refusal → Type 0 = λ r. TookOver g.S.Store (g.V.Vault.tells c.args.vault.now) (g.V.Vault.holds c.args.vault.now)
@@ -28,3 +35,9 @@ returns-in-Err-clause-applied g c =
       reply = refl;
       ends = refl;
     }
+
+pub returns-in-Err-clause-faults : goal.returns-in-Err-clause-faults
+returns-in-Err-clause-faults g c = λ some.
+    let old = g.V.Vault.fault_count c.args.vault.now in
+    let new = g.V.Vault.fault_count c.reply_to-told.new.vault in
+    subst (λ (r : Result Reply Refusal). VaultCounted r old new) c.in-Err.is (c.reply_to-told.ensures.faults some)

@@ -1,5 +1,7 @@
 -- A line is a step, of which the vault's move is a part.
-use Rattle.std.proofs.Common.{◌≡◌, ◌∙◌, refl, sym, ap, subst, ℕ, List, Some, Result}
+use Rattle.std.proofs.lemmas.Bool.{true≢false}
+use Rattle.std.proofs.lemmas.Option.{none-some}
+use Rattle.std.proofs.Common.{◌≡◌, ◌∙◌, refl, sym, ap, subst, is_some, Result}
 use Rattle.pcm_base.specs.declared.answer.Reply.{Reply}
 use Rattle.pcm_base.specs.declared.answer.Reply.TheVariants as reply
 use Rattle.pcm_base.specs.declared.command.Command.{Command}
@@ -7,11 +9,13 @@ use Rattle.pcm_base.specs.declared.command.Call.TheVariants.{Line}
 use Rattle.pcm_base.specs.declared.command.Command.TheVariants as command
 use Rattle.pcm_base.specs.declared.refusal.Refusal.{Refusal}
 use Rattle.pcm_base.specs.Outside.{Sounds}
+use Rattle.pcm_base.specs.Run.{name_in_line}
 use Rattle.editor_core.specs.Applied.{TookOver}
 use Rattle.editor_core.specs.Core.{core_of}
 use Rattle.editor_core.specs.Exports.{moved_from}
+use Rattle.editor_core.specs.Imports.{VaultCounted}
 use Rattle.editor_core.specs.Took.{Took, told_by}
-use Rattle.editor_core.proofs.Applying.{names_none, over_silent, over_sound}
+use Rattle.editor_core.proofs.Applying.{counted_told, names_none, over_silent, over_sound}
 use Rattle.editor_core.proofs.studio.Studio.reply_to.Goals as goal
 
 pub returns-in-Import-clause-took : goal.returns-in-Import-clause-took
@@ -33,6 +37,15 @@ returns-in-Import-clause-took g c =
     subst (λ (k : Command). TookOver g.S.Store tells before after s (Line k) c.done.result new) command_is
     (subst (λ (r : Result Reply Refusal). TookOver g.S.Store tells before after s line r new) (sym c.done.ensures) over)
 
+pub returns-in-Import-clause-faults : goal.returns-in-Import-clause-faults
+returns-in-Import-clause-faults g c = λ some.
+    let old = g.V.Vault.fault_count c.args.vault.now in
+    let new = g.V.Vault.fault_count c.import.new.vault in
+    subst (λ (r : Result Reply Refusal). VaultCounted r old new) (sym c.done.ensures) (counted_told (λ _. reply.Done) c.import.result old new c.import.ensures.faults)
+
+pub returns-in-Import-clause-untouched : goal.returns-in-Import-clause-untouched
+returns-in-Import-clause-untouched g c = λ none. absurd (none-some _ (sym none ∙ ap name_in_line c.in-Import.is))
+
 pub returns-in-Export-clause-took : goal.returns-in-Export-clause-took
 returns-in-Export-clause-took g c =
     let s = core_of c.args.self.now in
@@ -49,6 +62,15 @@ returns-in-Export-clause-took g c =
     subst (λ (k : Command). TookOver g.S.Store tells before after s (Line k) c.wrote.result new) command_is
     (subst (λ (r : Result Reply Refusal). TookOver g.S.Store tells before after s line r new) (sym c.wrote.ensures) over)
 
+pub returns-in-Export-clause-faults : goal.returns-in-Export-clause-faults
+returns-in-Export-clause-faults g c = λ some.
+    let old = g.V.Vault.fault_count c.args.vault.now in
+    let new = g.V.Vault.fault_count c.export.new.vault in
+    subst (λ (r : Result Reply Refusal). VaultCounted r old new) (sym c.wrote.ensures) (counted_told reply.Wrote c.export.result old new c.export.ensures.faults)
+
+pub returns-in-Export-clause-untouched : goal.returns-in-Export-clause-untouched
+returns-in-Export-clause-untouched g c = λ none. absurd (none-some _ (sym none ∙ ap name_in_line c.in-Export.is))
+
 pub returns-in_default : goal.returns-in_default
 returns-in_default g c =
     let s = core_of c.args.self.now in
@@ -56,4 +78,6 @@ returns-in_default g c =
       took = over_silent g.S.Store s (g.V.Vault.tells c.args.vault.now) (g.V.Vault.holds c.args.vault.now) (Line c.args.command.now) c.silent_reply.result c.silent_reply.ensures.0
           (core_of c.silent_reply.new.self) silent_now c.silent_reply.ensures.1;
       tells = refl;
+      faults = λ some. absurd (true≢false (sym some ∙ ap is_some silent_now));
+      untouched = λ none. refl;
     }

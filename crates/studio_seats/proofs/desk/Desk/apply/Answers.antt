@@ -7,6 +7,7 @@ use Rattle.pcm_base.specs.declared.command.Call.TheVariants.{Line}
 use Rattle.pcm_base.specs.Run.{Heard, name_in_line}
 use Rattle.pin_turn.specs.Calls.{start_of}
 use Rattle.editor_core.specs.Applied.{move_of}
+use Rattle.editor_core.specs.Imports.{VaultCounted}
 use Rattle.editor_core.specs.Took.{told_by}
 use Rattle.studio_seats.proofs.Lines.{does_line, heard_still, refused_reply}
 use Rattle.studio_seats.proofs.Turns.{either_way, fits, if_taken, is_studio, says}
@@ -58,4 +59,20 @@ pub returns-clause-tells : goal.returns-clause-tells
 returns-clause-tells g c = either_way g.S.Store g.V.Vault _ _ _ _ (Line c.args.command.now) (λ s f'. told_by (λ _. f'.3.now.reply) s.what)
     (λ f'. move_of (name_in_line c.args.command.now) (g.V.Vault.holds c.args.vault.now) (g.V.Vault.holds f'.1.now)) _ _ _ _ c.with.ensures.turned
     (λ same. ap g.V.Vault.tells (c.vault-1.given.1 (sym (λ i. (same i).1.ghost_name)) ∙ (λ i. (same i).1.now)))
-    (λ s x x' called. ap g.V.Vault.tells (c.vault-1.given.1 (sym called.called.met.0.1)) ∙ called.called.met.1.1.1)
+    (λ s x x' called. ap g.V.Vault.tells (c.vault-1.given.1 (sym called.called.met.0.1)) ∙ called.called.met.1.1.1.0)
+
+pub returns-clause-faults : goal.returns-clause-faults
+returns-clause-faults g c = λ unspent some.
+    let old = g.V.Vault.fault_count c.args.vault.now in
+    if_taken g.S.Store g.V.Vault _ _ _ _ (Line c.args.command.now) (λ s f'. told_by (λ _. f'.3.now.reply) s.what)
+    (λ f'. move_of (name_in_line c.args.command.now) (g.V.Vault.holds c.args.vault.now) (g.V.Vault.holds f'.1.now)) _ _ _ _
+    (λ s. VaultCounted s.what old (g.V.Vault.fault_count c.vault-1.given.0)) c.with.ensures.turned c.said_by.ensures
+    (λ s x x' called.
+    let left = c.vault-1.given.1 (sym called.called.met.0.1) in
+    subst (λ (z : g.row.V.Denot). VaultCounted s.what old (g.V.Vault.fault_count z)) (sym left) (called.called.met.1.1.1.1.0 some)) unspent
+
+pub returns-clause-untouched : goal.returns-clause-untouched
+returns-clause-untouched g c = λ none. either_way g.S.Store g.V.Vault _ _ _ _ (Line c.args.command.now) (λ s f'. told_by (λ _. f'.3.now.reply) s.what)
+    (λ f'. move_of (name_in_line c.args.command.now) (g.V.Vault.holds c.args.vault.now) (g.V.Vault.holds f'.1.now)) _ _ _ _ c.with.ensures.turned
+    (λ same. c.vault-1.given.1 (sym (λ i. (same i).1.ghost_name)) ∙ (λ i. (same i).1.now))
+    (λ s x x' called. c.vault-1.given.1 (sym called.called.met.0.1) ∙ called.called.met.1.1.1.1.1 none)

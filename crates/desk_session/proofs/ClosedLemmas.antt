@@ -1,0 +1,246 @@
+-- What a session did to a studio, once its desk is closed.
+use Rattle.std.proofs.Common.{◌≡◌, inl, inr, ℕ, true, List, [], ◌∷◌, ◌++◌, length, Option, Some, None, Result, Ok, Err, sym, ◌∙◌, ap, subst}
+use Rattle.std.specs.Prelude.{IsSomeAnd}
+use Rattle.pcm_base.specs.declared.command.Call.{Call}
+use Rattle.pcm_base.specs.declared.refusal.Refusal.{Refusal}
+use Rattle.pcm_base.specs.Counters.{commits_of}
+use Rattle.pcm_base.specs.Run.{Follows}
+use Rattle.disk_model.specs.declared.store.Store.{Ghosts}
+use Rattle.edit_ports.specs.declared.sink.Sink as sink
+use Rattle.edit_ports.specs.declared.source.Source as source
+use Rattle.edit_ports.specs.declared.vault.Vault as vault
+use Rattle.pin_turn.specs.declared.view.View.{View}
+use Rattle.pin_turn.specs.Counts.{Each, once_below, times}
+use Rattle.pin_turn.specs.Rule.{ByOthers}
+use Rattle.editor_core.specs.Core.{Core}
+use Rattle.studio_seats.specs.declared.deed.Deed.{Deed}
+use Rattle.studio_seats.specs.declared.held.Held.{Held}
+use Rattle.studio_seats.specs.Deeds.{actor_of, entries_of, number_after}
+use Rattle.studio_seats.specs.Desks.{IsFirst}
+use Rattle.studio_seats.specs.Merge.{Numbers, any_seat, by_seat, deeds_of, numbers_of}
+use Rattle.studio_seats.specs.Onward.{Asks, IsLine, places_of}
+use Rattle.studio_seats.specs.Pieces.{pieces_by}
+use Rattle.studio_seats.specs.Stands.{AllTell, StandsFor}
+use Rattle.studio_seats.specs.Faults.{AllServed}
+use Rattle.studio_seats.proofs.FaultLemmas.{desks_serve}
+use Rattle.studio_seats.proofs.MergeLemmas.{merged_numbers}
+use Rattle.script_session.specs.Served.{IsUndisturbed, TellsNoDevice}
+use Rattle.script_session.proofs.ServedLemmas.{sessions_serve}
+use Rattle.script_session.specs.Added.{Adds, OfLines}
+use Rattle.script_session.specs.Place.{Place, place_of}
+use Rattle.script_session.specs.Session.{Session}
+use Rattle.script_session.proofs.AddedLemmas.{sessions_add}
+use Rattle.desk_session.specs.declared.opening.Opened.{Opened}
+use Rattle.desk_session.specs.declared.told.Heard.{Heard}
+use Rattle.desk_session.specs.declared.told.Kept.{Kept}
+use Rattle.desk_session.specs.declared.told.Told.{Told}
+use Rattle.desk_session.specs.Opening.{IsOpening, Opens, PinDeed, TrackDeed, WhereMade, play_calls, record_calls, record_commits}
+use Rattle.desk_session.specs.Parts.{NewPart}
+use Rattle.desk_session.specs.Sat.{Sat}
+use Rattle.desk_session.specs.Sessions.{IsMadeOf, IsScripted, IsSession, place_behind}
+use Rattle.desk_session.specs.Sounds.{IsRecorded, piece_numbers}
+use Rattle.desk_session.proofs.ListLemmas as list
+use Rattle.desk_session.proofs.ListLemmas.{all_numbers, same_rest}
+use Rattle.desk_session.proofs.MakerLemmas.{own_deeds}
+use Rattle.desk_session.proofs.RecordedLemmas.{no_numbers, piece_commits, pieces_in}
+use Rattle.desk_session.proofs.RejoinLemmas.{own_mine}
+use Rattle.desk_session.proofs.SideLemmas.{where_both}
+
+-- the player's calls are no commits
+pub quiet : (pin : Option (Result ℕ Refusal)) (c : Call) → play_calls pin c → commits_of c ≡ 0
+quiet None c h = absurd h
+quiet (Some (Ok pin)) c (inl (from, count, is)) = ap commits_of is
+quiet (Some (Ok pin)) c (inr is) = ap commits_of is
+quiet (Some (Err why)) c h = absurd h
+
+module _ {D V M : Type 0} (mics : source.Ghosts M) (mic mic_now : M) (first track : ℕ) (v w : View (Held D V) Deed) where
+  abbrev Recorded : Option (Result ℕ Refusal) → Option Kept → Type 0
+  Recorded made kept = WhereMade made
+      (λ tag. IsSomeAnd kept (IsRecorded mics mic mic_now [] (pieces_by track tag w.number first w.seen)))
+      ((kept ≡ None) × (mic_now ≡ mic))
+
+  no_pieces : (fits : Call → Type 0) → ((c : Call) → fits c → ⊥) → (kept : Option Kept) (h : NewPart fits v w) → kept ≡ None
+      → numbers_of (by_seat w.number) (number_after first v.seen) h.part.added ≡ piece_numbers kept
+  no_pieces fits never kept h none =
+      no_numbers fits never w.number (number_after first v.seen) h.part.added h.part.asks ∙ sym (ap piece_numbers none)
+
+  -- the numbers of the recorder's seat are those of the pieces
+  pieces_are : (made : Option (Result ℕ Refusal)) (kept : Option Kept) (h : NewPart (record_calls track made) v w)
+      → Recorded made kept → numbers_of (by_seat w.number) (number_after first v.seen) h.part.added ≡ piece_numbers kept
+  pieces_are None kept h r = no_pieces (record_calls track None) (λ c k. k) kept h r.0
+  pieces_are (Some (Ok tag)) None h r = absurd r
+  pieces_are (Some (Ok tag)) (Some kept) h r =
+      sym (piece_commits first track tag v w h r.told kept.numbers kept.samples kept.refused _ r.takes)
+  pieces_are (Some (Err why)) kept h r = no_pieces (record_calls track (Some (Err why))) (λ c k. k) kept h r.0
+
+module _ {D V M P : Type 0} (disk : Ghosts D) (vaults : vault.Ghosts V) (mics : source.Ghosts M) (speakers : sink.Ghosts P)
+    (start final : Core D) (before mid after : V) (mic mic_now : M) (speaker speaker_now : P)
+    (left left_now old new : Option (List ℕ)) (told : Told) (opened : Opened) (kept : Option Kept) (heard : Option Heard)
+    (u v w : View (Held D V) Deed) (last : ℕ) (first : IsFirst u) (o : Opens start.commit_number opened u v)
+    (is_last : last ≡ number_after start.commit_number v.seen)
+    (same : mid ≡ before)
+    (s : Sat disk vaults mics speakers start start.next_track opened last v w mid after mic mic_now speaker speaker_now left
+    left_now old new told kept heard)
+    (stands : StandsFor disk (AllTell vaults) start final w.seen)
+    (counts : (k : ℕ) → times k w.mine ≡ once_below k (length w.seen)) where
+  abbrev n : ℕ
+  n = start.commit_number
+
+  is_zero : v.number ≡ 0
+  is_zero = o.onward.number ∙ first.number
+
+  own : v.mine ≡ places_of (by_seat v.number) 0 v.seen
+  own = own_mine IsOpening u v o.onward (first.mine ∙ sym (ap (places_of (by_seat u.number) 0) first.seen))
+      ∙ ap (λ (a : ℕ). places_of (by_seat a) 0 v.seen) (sym o.onward.number)
+
+  abbrev pieces : Call → Type 0
+  pieces = record_calls start.next_track opened.recording
+
+  abbrev reads : Call → Type 0
+  reads = play_calls opened.pin
+
+  added_is : v.seen ≡ o.onward.added
+  added_is = o.onward.seen ∙ ap (λ (l : List Deed). l ++ o.onward.added) first.seen
+
+  all_opening : Each (λ e. by_seat v.number e ≡ true) v.seen
+  all_opening = list.all_opening n pieces reads v s.script s.recorder s.player w s.seats (quiet opened.pin) own counts
+
+  opening_is : v.seen ≡ o.track_own ++ o.pin_own
+  opening_is = sym (own_deeds (by_seat v.number) v.seen all_opening)
+      ∙ ((λ i. deeds_of (by_seat (o.onward.number i)) (added_is i)) ∙ o.own)
+
+  opening_numbers : numbers_of any_seat n v.seen ≡ record_commits opened.recording
+  opening_numbers = sym (all_numbers (by_seat v.number) n v.seen all_opening)
+      ∙ ((λ i. numbers_of (by_seat (o.onward.number i)) (number_after n (sym first.seen i)) (added_is i)) ∙ o.numbers)
+
+  abbrev rest : List Deed
+  rest = list.rest n pieces reads v s.script s.recorder s.player w s.seats (quiet opened.pin) own counts
+
+  whole : w.seen ≡ v.seen ++ rest
+  whole = list.whole n pieces reads v s.script s.recorder s.player w s.seats (quiet opened.pin) own counts
+
+  abbrev made : IsMadeOf start.next_track opened w.seen
+  made = record {
+    seats = list.seats n pieces reads v s.script s.recorder s.player w s.seats (quiet opened.pin) own counts;
+    script_seat = is_zero;
+    apart = list.apart n pieces reads v s.script s.recorder s.player w s.seats (quiet opened.pin) own counts;
+    opening = v.seen;
+    rest = rest;
+    split = whole;
+    track_own = o.track_own;
+    pin_own = o.pin_own;
+    opening_is = opening_is;
+    track_is = subst (λ (a : ℕ). TrackDeed a opened.recording o.track_own) first.number o.track;
+    pin_is = subst (λ (a : ℕ). PinDeed a opened.pin o.pin_own) first.number o.pin;
+    all = list.all_rest n pieces reads v s.script s.recorder s.player w s.seats (quiet opened.pin) own counts;
+    lines = subst (λ (a : ℕ). Asks IsLine a rest) is_zero
+        (list.asks_lines n pieces reads v s.script s.recorder s.player w s.seats (quiet opened.pin) own counts);
+    pieces = list.asks_pieces n pieces reads v s.script s.recorder s.player w s.seats (quiet opened.pin) own counts;
+    reads = list.asks_reads n pieces reads v s.script s.recorder s.player w s.seats (quiet opened.pin) own counts;
+  }
+
+  abbrev p : Place
+  p = place_behind n v.seen v.used_up (vaults.tells before) (vaults.holds before) (vaults.fault_count before)
+
+  abbrev q : Place
+  q = place_of start s.script s.told_last told.commits (vaults.tells after) (vaults.holds after) (vaults.fault_count after)
+
+  begins : place_of start v last [] (vaults.tells mid) (vaults.holds mid) (vaults.fault_count mid) ≡ p
+  begins = λ i. record {
+    seat = is_zero i;
+    first = start.commit_number;
+    seen = v.seen;
+    last = is_last i;
+    commits = [];
+    used_up = v.used_up;
+    tells = vaults.tells (same i);
+    sounds = vaults.holds (same i);
+    faults = vaults.fault_count (same i);
+  }
+
+  session : Session p s.ran.lines s.ran.printed.answers q
+  session = subst (λ (z : Place). Session z s.ran.lines s.ran.printed.answers q) begins s.ran.printed.session
+
+  adds : Adds p q s.ran.lines s.ran.printed.answers
+  adds = sessions_add s.ran.lines s.ran.printed.answers p q session
+
+  more_is : adds.added ≡ s.seats.by_script.added
+  more_is = same_rest v.seen adds.added s.seats.by_script.added (sym adds.seen ∙ s.seats.by_script.seen)
+
+  own_is : deeds_of (by_seat 0) adds.added ≡ deeds_of (by_seat 0) rest
+  own_is = ap (deeds_of (by_seat 0)) more_is
+      ∙ subst (λ (a : ℕ). deeds_of (by_seat a) s.seats.by_script.added ≡ deeds_of (by_seat a) rest) is_zero
+      (list.script_deeds n pieces reads v s.script s.recorder s.player w s.seats (quiet opened.pin) own counts)
+
+  script_numbers : told.commits ≡ numbers_of (by_seat 0) (number_after n v.seen) s.seats.by_script.added
+  script_numbers = adds.numbers ∙ ap (numbers_of (by_seat 0) (number_after n v.seen)) more_is
+
+  scripted : IsScripted vaults n v.seen rest before after told left left_now old new
+  scripted = record {
+    read = s.ran.read;
+    lines = s.ran.lines;
+    answers = s.ran.printed.answers;
+    bytes = s.ran.bytes;
+    cut = s.ran.cut;
+    written = s.ran.printed.written;
+    no = s.ran.printed.no;
+    used_up = v.used_up;
+    last = q;
+    session = session;
+    later = s.seats.more_script;
+    seen = sym whole ∙ s.seats.script_is;
+    by_others = subst (λ (a : ℕ). ByOthers actor_of (a ∷ []) s.seats.more_script) is_zero
+        (list.made n pieces reads v s.script s.recorder s.player w s.seats (quiet opened.pin) own counts).script;
+    are = subst (λ (l : List Deed). OfLines 0 s.ran.lines s.ran.printed.answers l) own_is adds.own;
+    numbers = script_numbers
+        ∙ subst (λ (a : ℕ). numbers_of (by_seat a) (number_after n v.seen) s.seats.by_script.added
+        ≡ numbers_of (by_seat a) (number_after n v.seen) rest) is_zero
+        (list.script_numbers n pieces reads v s.script s.recorder s.player w s.seats (quiet opened.pin) own counts
+        (number_after n v.seen));
+    sounds = λ is. subst (λ (l : List Deed). Follows (vaults.holds before) (entries_of l) (vaults.holds after)) own_is
+        (adds.sounds is);
+  }
+
+  numbers : Numbers n final.commit_number (record_commits opened.recording) told.commits (piece_numbers kept)
+  numbers =
+      let merged = list.merged n pieces reads v s.script s.recorder s.player w s.seats (quiet opened.pin) own counts in
+      let all = merged_numbers n w.seen v.number s.recorder.number _ _ _ merged in
+      let script : numbers_of (by_seat v.number) (number_after n v.seen) s.seats.by_script.added ≡ told.commits =
+      ap (λ (a : ℕ). numbers_of (by_seat a) (number_after n v.seen) s.seats.by_script.added) is_zero
+      ∙ sym script_numbers in
+      let piece = pieces_are mics mic mic_now n start.next_track v s.recorder opened.recording kept s.seats.by_recorder
+      s.recorded in
+      subst (λ (z : ℕ × List ℕ × List ℕ × List ℕ). Numbers n z.0 z.1 z.2 z.3)
+      (λ i. (sym stands.number i, opening_numbers i, script i, piece i)) all
+
+  served : IsUndisturbed disk vaults start final (vaults.fault_count before) (vaults.fault_count after)
+      → AllServed final w.seen × Each TellsNoDevice (deeds_of (by_seat 0) rest)
+  served h =
+      let whole_is : StandsFor disk (AllTell vaults) start final (q.seen ++ s.seats.more_script) =
+      subst (λ (l : List Deed). StandsFor disk (AllTell vaults) start final l) s.seats.script_is stands in
+      let fair = sessions_serve disk vaults s.ran.lines s.ran.printed.answers p q start final s.seats.more_script session
+      whole_is h in
+      let is : fair.added ≡ s.seats.by_script.added =
+      same_rest v.seen fair.added s.seats.by_script.added (sym fair.seen ∙ s.seats.by_script.seen) in
+      let own : deeds_of (by_seat 0) fair.added ≡ deeds_of (by_seat 0) rest = ap (deeds_of (by_seat 0)) (is ∙ sym more_is) ∙ own_is in (
+        desks_serve disk vaults start final w.seen stands h.told h.held h.going h.calm,
+        subst (λ (l : List Deed). Each TellsNoDevice l) own fair.fair,
+      )
+
+  pub closed : IsSession disk vaults mics speakers start final before after mic mic_now speaker speaker_now left left_now old
+      new told opened kept heard
+  closed = record {
+    deeds = w.seen;
+    stands = stands;
+    made = made;
+    scripted = scripted;
+    recorded = where_both opened.recording s.recorded
+        (λ tag h. subst (λ ps. IsSomeAnd kept (IsRecorded mics mic mic_now [] ps))
+        (sym (pieces_in start.next_track tag s.recorder.number n w.seen s.recorder.seen s.seats.more_recorder
+        s.seats.recorder_is
+        (list.made n pieces reads v s.script s.recorder s.player w s.seats (quiet opened.pin) own counts).recorder)) h)
+        (λ h. h);
+    played = s.played;
+    served = served;
+    numbers = numbers;
+  }

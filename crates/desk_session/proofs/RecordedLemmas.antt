@@ -1,0 +1,109 @@
+-- The numbers of a recording are those of its commits.
+use Rattle.std.proofs.Common.{◌≡◌, ℕ, ◌<◌, ◌≤◌, ◌==◌, ◌&&◌, ℤ, Bool, true, false, List, [], ◌∷◌, ◌++◌, length, take, Option, Some, None, refl, sym, ◌∙◌, ap, subst, arith, eq-eqb}
+use Rattle.std.specs.List.{zip}
+use Rattle.std.proofs.lemmas.List.{append-nil}
+use Rattle.pcm_base.specs.declared.command.Call.{Call}
+use Rattle.pcm_base.specs.declared.refusal.Refusal.{Refusal}
+use Rattle.pin_turn.specs.declared.view.View.{View}
+use Rattle.pin_turn.specs.Counts.{Each}
+use Rattle.pin_turn.specs.Rule.{ByOthers}
+use Rattle.studio_seats.specs.declared.deed.Deed.{Deed}
+use Rattle.studio_seats.specs.declared.held.Held.{Held}
+use Rattle.studio_seats.specs.Deeds.{actor_of, is_commit, number_after}
+use Rattle.studio_seats.specs.Merge.{OnlyPieces, by_seat, is_piece, number_if, numbers_in, numbers_of}
+use Rattle.studio_seats.specs.Onward.{Asks, IsPieceOf}
+use Rattle.studio_seats.specs.Pieces.{pieces_by}
+use Rattle.studio_seats.proofs.MergeLemmas.{numbers_append, numbers_others, pieces_are_chunks}
+use Rattle.studio_seats.proofs.OnwardLemmas.{each_append}
+use Rattle.studio_seats.proofs.PieceLemmas.{pieces_append, pieces_others}
+use Rattle.recorder_work.specs.Drained.{Takes}
+use Rattle.desk_session.specs.Parts.{NewPart}
+use Rattle.desk_session.proofs.PartLemmas.{same_seat}
+use Rattle.desk_session.proofs.RejoinLemmas.{lower}
+
+no_more : (seat : ℕ) (e : Deed) → e.actor < seat → (b : Bool) → (seat == e.actor) ≡ b → (b && is_commit e) ≡ true → ⊥
+no_more seat e h true is c = let same = same_seat seat e.actor is in absurd (omega (arith, h, same))
+no_more seat e h false is c = cc
+
+only_before : (to by seat : ℕ) (es : List Deed) → Each (λ e. e.actor < seat) es → OnlyPieces to by seat es
+only_before to by seat [] h = tt
+only_before to by seat (e ∷ es) h =
+    ((λ c. absurd (no_more seat e h.0 (seat == e.actor) refl c)), only_before to by seat es h.1)
+
+piece_of : (to by : ℕ) (c : Call) → IsPieceOf to by c → is_piece to by c ≡ true
+piece_of to by c (samples, is) =
+    subst (λ (x : Call). is_piece to by x ≡ true) (sym is) (λ i. eq-eqb to to refl i && eq-eqb by by refl i)
+
+own_first : (seat : ℕ) (e : Deed) → (b : Bool) → (seat == e.actor) ≡ b → (b && is_commit e) ≡ true → e.actor ≡ seat
+own_first seat e true is c = sym (same_seat seat e.actor is)
+own_first seat e false is c = cc
+
+only_asked : (to by seat : ℕ) (es : List Deed) → Asks (IsPieceOf to by) seat es → OnlyPieces to by seat es
+only_asked to by seat [] h = tt
+only_asked to by seat (e ∷ es) h = (
+  (λ c. piece_of to by e.call (h.0 (own_first seat e (seat == e.actor) refl c))),
+  only_asked to by seat es h.1,
+)
+
+zipped : (chunks : List (List ℤ)) (numbers : List ℕ) → length numbers ≤ length chunks
+    → numbers_in (zip (take (length numbers) chunks) numbers) ≡ numbers
+zipped chunks [] h = refl
+zipped [] (n ∷ ns) h = absurd (omega (arith, h))
+zipped (c ∷ cs) (n ∷ ns) h = ap (λ (l : List ℕ). n ∷ l) (zipped cs ns (omega (arith, h)))
+
+few : (refused : Option Refusal) (pieces pieces' : List (List ℤ × ℕ)) (told : Option Refusal) (numbers : List ℕ)
+    (samples : ℕ) (chunks : List (List ℤ)) → Takes pieces pieces' told numbers samples refused chunks
+    → length numbers ≤ length chunks
+few None pieces pieces' told numbers samples chunks t = let all = (t.all refl).0 in omega (arith, all)
+few (Some reason) pieces pieces' told numbers samples chunks t =
+    let some = (t.some reason refl).0 in omega (arith, some)
+
+none_is : (seat n : ℕ) (e : Deed) → (e.actor ≡ seat → ⊥) → (b : Bool) → (seat == e.actor) ≡ b
+    → number_if b (is_commit e) n ≡ []
+none_is seat n e h true is = absurd (h (sym (same_seat seat e.actor is)))
+none_is seat n e h false is = refl
+
+-- a seat that asked nothing has no numbers
+pub no_numbers : (fits : Call → Type 0) → ((c : Call) → fits c → ⊥) → (seat n : ℕ) (es : List Deed) → Asks fits seat es
+    → numbers_of (by_seat seat) n es ≡ []
+no_numbers fits never seat n [] h = refl
+no_numbers fits never seat n (e ∷ es) h =
+    let m = number_after n (e ∷ []) in
+    (λ i. none_is seat m e (λ is. never e.call (h.0 is)) (seat == e.actor) refl i
+    ++ no_numbers fits never seat m es h.1 i)
+
+module _ {D V : Type 0} (first track tag : ℕ) (v w : View (Held D V) Deed) (h : NewPart (IsPieceOf track tag) v w) where
+  -- it had no piece yet
+  pub no_pieces : pieces_by track tag w.number first v.seen ≡ []
+  no_pieces = pieces_others track tag w.number first v.seen (lower w.number v.seen h.unseen)
+
+  pub piece_commits : (told : Option Refusal) (numbers : List ℕ) (samples : ℕ) (refused : Option Refusal)
+      (chunks : List (List ℤ)) → Takes [] (pieces_by track tag w.number first w.seen) told numbers samples refused chunks
+      → numbers ≡ numbers_of (by_seat w.number) (number_after first v.seen) h.part.added
+  piece_commits told numbers samples refused chunks t =
+      let seat = w.number in
+      let took : pieces_by track tag seat first w.seen
+      ≡ pieces_by track tag seat first v.seen ++ zip (take (length numbers) chunks) numbers =
+      t.kept ∙ ap (λ (l : List (List ℤ × ℕ)). l ++ zip (take (length numbers) chunks) numbers) (sym no_pieces) in
+      let only : OnlyPieces track tag seat (w.seen ++ []) =
+      subst (λ (l : List Deed). OnlyPieces track tag seat l) (sym (append-nil w.seen ∙ h.part.seen))
+      (each_append (λ e. by_seat seat e && is_commit e ≡ true → is_piece track tag e.call ≡ true) v.seen h.part.added
+      (only_before track tag seat v.seen h.unseen) (only_asked track tag seat h.part.added h.part.asks)) in
+      let k = (pieces_are_chunks track tag seat first v.seen w.seen [] chunks numbers h.unseen took tt only).1 in
+      let own : numbers_of (by_seat seat) first (w.seen ++ [])
+      ≡ numbers_of (by_seat seat) (number_after first v.seen) h.part.added =
+      ap (λ (l : List Deed). numbers_of (by_seat seat) first l) (append-nil w.seen ∙ h.part.seen)
+      ∙ (numbers_append (by_seat seat) first v.seen h.part.added
+      ∙ ap (λ (l : List ℕ). l ++ numbers_of (by_seat seat) (number_after first v.seen) h.part.added)
+      (numbers_others seat first v.seen (lower seat v.seen h.unseen))) in
+      sym (zipped chunks numbers (few refused [] (pieces_by track tag seat first w.seen) told numbers samples chunks t))
+      ∙ (sym k ∙ own)
+
+-- deeds of others behind what a seat saw add no pieces
+pub pieces_in : (track tag seat first : ℕ) (log seen more : List Deed) → log ≡ seen ++ more
+    → ByOthers actor_of (seat ∷ []) more → pieces_by track tag seat first log ≡ pieces_by track tag seat first seen
+pieces_in track tag seat first log seen more is others = ap (pieces_by track tag seat first) is
+    ∙ (pieces_append track tag seat first seen more
+    ∙ (ap (λ (l : List (List ℤ × ℕ)). pieces_by track tag seat first seen ++ l)
+    (pieces_others track tag seat (number_after first seen) more others)
+    ∙ append-nil (pieces_by track tag seat first seen)))

@@ -1,0 +1,59 @@
+-- What each seat of a session asked, by what was opened for it.
+use Rattle.std.proofs.Common.{◌≡◌, inl, inr, ℕ, ◌<◌, List, [], ◌∷◌, Option, Some, None, Result, Ok, Err, sym, ◌∙◌, ap, subst}
+use Rattle.pcm_base.specs.declared.command.Call.{Call}
+use Rattle.pcm_base.specs.declared.command.Call.TheVariants.{Unpin}
+use Rattle.pcm_base.specs.declared.refusal.Refusal.{Refusal}
+use Rattle.pin_turn.specs.declared.view.View.{View}
+use Rattle.pin_turn.specs.Counts.{Each}
+use Rattle.studio_seats.specs.declared.deed.Deed.{Deed}
+use Rattle.studio_seats.specs.declared.held.Held.{Held}
+use Rattle.studio_seats.specs.Onward.{Asks, IsPieceOf, IsReadOf, Onward}
+use Rattle.studio_seats.specs.Pieces.{pieces_by}
+use Rattle.studio_seats.proofs.OnwardLemmas.{onward_on, onward_self}
+use Rattle.studio_seats.proofs.PieceLemmas.{pieces_others}
+use Rattle.desk_session.specs.Opening.{WhereMade, play_calls, record_calls}
+use Rattle.desk_session.proofs.RejoinLemmas.{lower}
+
+asks_as : (one two : Call → Type 0) → ((c : Call) → one c → two c) → (seat : ℕ) (ds : List Deed) → Asks one seat ds
+    → Asks two seat ds
+asks_as one two f seat [] h = tt
+asks_as one two f seat (d ∷ ds) h = ((λ is. f d.call (h.0 is)), asks_as one two f seat ds h.1)
+
+module _ {D V : Type 0} where
+  -- what fits, fits in other words
+  onward_as : (one two : Call → Type 0) (v w : View (Held D V) Deed) → ((c : Call) → one c → two c) → Onward one v w
+      → Onward two v w
+  onward_as one two v w f h = record {
+    added = h.added;
+    seen = h.seen;
+    asks = asks_as one two f v.number h.added h.asks;
+    number = h.number;
+    away = h.away;
+    mine = h.mine;
+  }
+
+  pub recorder_goes : (made : Option (Result ℕ Refusal)) (track : ℕ) (v w : View (Held D V) Deed)
+      → WhereMade made (λ tag. Onward (IsPieceOf track tag) v w) (w ≡ v) → Onward (record_calls track made) v w
+  recorder_goes None track v w h =
+      subst (λ (z : View (Held D V) Deed). Onward (record_calls track None) v z) (sym h) (onward_self (record_calls track None) v)
+  recorder_goes (Some (Ok tag)) track v w h = h
+  recorder_goes (Some (Err why)) track v w h = subst (λ (z : View (Held D V) Deed). Onward (record_calls track (Some (Err why))) v z)
+      (sym h) (onward_self (record_calls track (Some (Err why))) v)
+
+  idle : (fits : Call → Type 0) (v u w : View (Held D V) Deed) → u ≡ v → w ≡ u → Onward fits v w
+  idle fits v u w one two = subst (λ (z : View (Held D V) Deed). Onward fits v z) (sym (two ∙ one)) (onward_self fits v)
+
+  pub player_goes : (made : Option (Result ℕ Refusal)) (v u w : View (Held D V) Deed)
+      → WhereMade made (λ pin. Onward (IsReadOf pin) v u) (u ≡ v)
+      → WhereMade made (λ pin. Onward (λ call. call ≡ Unpin pin) u w) (w ≡ u) → Onward (play_calls made) v w
+  player_goes None v u w h k = idle (play_calls None) v u w h k
+  player_goes (Some (Ok pin)) v u w h k = onward_on (play_calls (Some (Ok pin))) v u w
+      (onward_as (IsReadOf pin) (play_calls (Some (Ok pin))) v u (λ c is. inl is) h)
+      (onward_as (λ call. call ≡ Unpin pin) (play_calls (Some (Ok pin))) u w (λ c is. inr is) k)
+  player_goes (Some (Err why)) v u w h k = idle (play_calls (Some (Err why))) v u w h k
+
+  -- a seat that was split off has no pieces yet
+  pub no_piece : (track tag first : ℕ) (v o : View (Held D V) Deed) → o ≡ record v { number = o.number; mine = []; away = [] }
+      → Each (λ e. e.actor < o.number) v.seen → pieces_by track tag o.number first o.seen ≡ []
+  no_piece track tag first v o new unseen = pieces_others track tag o.number first o.seen (lower o.number o.seen
+      (subst (λ (l : List Deed). Each (λ e. e.actor < o.number) l) (sym (ap (λ (z : View (Held D V) Deed). z.seen) new)) unseen))

@@ -1,0 +1,7 @@
+-- A new track, where it is asked for.
+use Rattle.pin_turn.specs.Calls.{known}
+use Rattle.desk_session.proofs.OpeningLemmas.{opens_none}
+use Rattle.desk_session.proofs.opening.open_recording.Goals as goal
+
+pub returns-else-records-clause-opens : goal.returns-else-records-clause-opens
+returns-else-records-clause-opens g c = opens_none _ (known c.args.seat.now)

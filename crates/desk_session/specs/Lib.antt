@@ -1,0 +1,8 @@
+-- What the contracts cite, lowest first.
+pub mod Makers
+pub mod Parts
+pub mod Opening
+pub mod Sides
+pub mod Sounds
+pub mod Sat
+pub mod Sessions

@@ -1,0 +1,83 @@
+-- What a session does before its script: a new track for a recording, and a pin for a playback.
+use Rattle.std.specs.Prelude.{◌≡◌, ◌⊎◌, ℕ, max, List, [], ◌∷◌, ◌++◌, Option, Some, None, Result, Ok, Err}
+use Rattle.pcm_base.specs.declared.answer.Reply.{Reply}
+use Rattle.pcm_base.specs.declared.answer.Reply.TheVariants as reply
+use Rattle.pcm_base.specs.declared.command.Call.{Call}
+use Rattle.pcm_base.specs.declared.command.Call.TheVariants.{Line, Pin, Unpin}
+use Rattle.pcm_base.specs.declared.command.Command.TheVariants.{Track}
+use Rattle.pcm_base.specs.declared.refusal.Refusal.{Refusal}
+use Rattle.pin_turn.specs.declared.view.View.{View}
+use Rattle.editor_core.specs.Took.{silent}
+use Rattle.studio_seats.specs.declared.deed.Deed.{Deed}
+use Rattle.studio_seats.specs.declared.held.Held.{Held}
+use Rattle.studio_seats.specs.Deeds.{deed, number_after}
+use Rattle.studio_seats.specs.Desks.{spent}
+use Rattle.studio_seats.specs.Merge.{by_seat, deeds_of, numbers_of}
+use Rattle.studio_seats.specs.Onward.{IsPieceOf, IsReadOf, Onward}
+use Rattle.desk_session.specs.declared.opening.Opened.{Opened}
+
+-- the seat's own deed of a call that was answered so; it is none where no turn was left
+abbrev pub OwnDeed : ℕ → Call → Result Reply Refusal → List Deed → Type 0
+OwnDeed seat call what own = (own ≡ deed seat call what silent ∷ []) ⊎ ((what ≡ Err spent) × (own ≡ []))
+
+-- a new track: it was not asked for, or it was made, or it was refused
+abbrev pub TrackDeed : ℕ → Option (Result ℕ Refusal) → List Deed → Type 0
+TrackDeed seat None own = own ≡ []
+TrackDeed seat (Some (Ok tag)) own = (reply : Reply) × OwnDeed seat (Line Track) (Ok reply) own
+TrackDeed seat (Some (Err why)) own = OwnDeed seat (Line Track) (Err why) own
+
+-- a pin: it was not asked for, or it was made and has this number, or it was refused
+abbrev pub PinDeed : ℕ → Option (Result ℕ Refusal) → List Deed → Type 0
+PinDeed seat None own = own ≡ []
+PinDeed seat (Some (Ok pin)) own = OwnDeed seat Pin (Ok (reply.Pinned pin)) own
+PinDeed seat (Some (Err why)) own = OwnDeed seat Pin (Err why) own
+
+-- one of both calls
+abbrev pub IsOpening : Call → Type 0
+IsOpening c = (c ≡ Line Track) ⊎ (c ≡ Pin)
+
+-- what was made, where something was, or else
+abbrev pub WhereMade : {A : Type 0} → Option (Result A Refusal) → (A → Type 0) → Type 0 → Type 0
+WhereMade None P else_ = else_
+WhereMade (Some (Ok x)) P else_ = P x
+WhereMade (Some (Err why)) P else_ = else_
+
+-- a fact of what was made
+abbrev pub IfMade : {A : Type 0} → Option (Result A Refusal) → (A → Type 0) → Type 0
+IfMade made P = WhereMade made P (Unit {0})
+
+-- the commit number of a new track, which is the recording's own
+abbrev pub record_commits : Option (Result ℕ Refusal) → List ℕ
+record_commits None = []
+record_commits (Some (Ok tag)) = tag ∷ []
+record_commits (Some (Err why)) = []
+
+module _ {D V : Type 0} where
+  -- what was told is the commit number behind a turn, where there was one, and else 0
+  abbrev pub TellsNumber : ℕ → View (Held D V) Deed → ℕ → View (Held D V) Deed → Type 0
+  TellsNumber first v at w = (last : ℕ) → last ≡ number_after first v.seen → max last at ≡ number_after first w.seen
+
+  -- A seat went on by one call at most: its deed, and the numbers of its commits, by the number with which the desk began.
+  pub record OpensPart (first : ℕ) (IsOwn : List Deed → Type 0) (numbers : List ℕ) (v w : View (Held D V) Deed)
+      : Type 0 where
+    pub onward : Onward IsOpening v w
+    pub own : IsOwn (deeds_of (by_seat v.number) onward.added)
+    pub numbers_are : numbers_of (by_seat v.number) (number_after first v.seen) onward.added ≡ numbers
+
+  -- A seat made both. The recording's number is that of the new track.
+  pub record Opens (first : ℕ) (opened : Opened) (v w : View (Held D V) Deed) : Type 0 where
+    pub onward : Onward IsOpening v w
+    pub track_own : List Deed
+    pub pin_own : List Deed
+    pub own : deeds_of (by_seat v.number) onward.added ≡ track_own ++ pin_own
+    pub track : TrackDeed v.number opened.recording track_own
+    pub pin : PinDeed v.number opened.pin pin_own
+    pub numbers : numbers_of (by_seat v.number) (number_after first v.seen) onward.added ≡ record_commits opened.recording
+
+-- what the recorder's seat asks: pieces of the recording, where there is one
+abbrev pub record_calls : ℕ → Option (Result ℕ Refusal) → Call → Type 0
+record_calls track recording c = WhereMade recording (λ tag. IsPieceOf track tag c) ⊥
+
+-- what the player's seat asks: reads of the pin, where there is one, and to let it go
+abbrev pub play_calls : Option (Result ℕ Refusal) → Call → Type 0
+play_calls pin c = WhereMade pin (λ number. IsReadOf number c ⊎ (c ≡ Unpin number)) ⊥

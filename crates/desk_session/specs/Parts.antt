@@ -1,0 +1,43 @@
+-- A seat from which two were split, and that took them in again.
+use Rattle.std.specs.Prelude.{◌≡◌, ◌<◌, List, ◌++◌}
+use Rattle.pcm_base.specs.declared.command.Call.{Call}
+use Rattle.pin_turn.specs.declared.view.View.{View}
+use Rattle.pin_turn.specs.Counts.{Each}
+use Rattle.studio_seats.specs.declared.deed.Deed.{Deed}
+use Rattle.studio_seats.specs.declared.held.Held.{Held}
+use Rattle.studio_seats.specs.Merge.{by_seat}
+use Rattle.studio_seats.specs.Onward.{Asks, IsLine, places_of}
+
+module _ {D V : Type 0} where
+  -- a seat went on from what another had seen, and what it asked fits
+  pub record Part (fits : Call → Type 0) (v w : View (Held D V) Deed) : Type 0 where
+    pub added : List Deed
+    pub seen : w.seen ≡ v.seen ++ added
+    pub asks : Asks fits w.number added
+
+  -- it had a new number, and its turns are those that it made since
+  pub record NewPart (fits : Call → Type 0) (v w : View (Held D V) Deed) : Type 0 where
+    pub part : Part fits v w
+    pub above : v.number < w.number
+    pub unseen : Each (λ d. d.actor < w.number) v.seen
+    pub mine : w.mine ≡ places_of (by_seat w.number) 0 w.seen
+
+  -- The seat went on by lines, a recorder's and a player's by what fits them, and then it had seen what each had seen.
+  pub record Rejoined (pieces reads : Call → Type 0) (v script recorder player w : View (Held D V) Deed) : Type 0 where
+    pub by_script : Part IsLine v script
+    pub script_number : script.number ≡ v.number
+    pub by_recorder : NewPart pieces v recorder
+    pub by_player : NewPart reads v player
+    pub apart : recorder.number < player.number
+    pub more_script : List Deed
+    pub script_is : w.seen ≡ script.seen ++ more_script
+    pub more_recorder : List Deed
+    pub recorder_is : w.seen ≡ recorder.seen ++ more_recorder
+    pub more_player : List Deed
+    pub player_is : w.seen ≡ player.seen ++ more_player
+    pub mine : w.mine ≡ (script.mine ++ player.mine) ++ recorder.mine
+    pub number : w.number ≡ v.number
+    pub away : w.away ≡ v.away
+    -- where the turns of the seat were those of its own deeds, they still are, before it took the others in
+    pub script_mine : v.mine ≡ places_of (by_seat v.number) 0 v.seen
+        → script.mine ≡ places_of (by_seat v.number) 0 script.seen

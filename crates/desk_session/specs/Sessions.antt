@@ -1,0 +1,120 @@
+-- A session at a desk: a script, and beside it a recording and a playback, where they were asked for.
+use Rattle.std.specs.Prelude.{◌≡◌, ℕ, Bool, true, IsTrue, List, [], ◌∷◌, ◌++◌, Option, None, IsSomeAnd}
+use Rattle.std.specs.List.{list_any}
+use Rattle.pcm_base.specs.declared.answer.Answer.{Answer}
+use Rattle.pcm_base.specs.Outside.{Sounds}
+use Rattle.pcm_base.specs.Run.{Follows}
+use Rattle.disk_model.specs.declared.store.Store.{Ghosts}
+use Rattle.edit_ports.specs.declared.sink.Sink as sink
+use Rattle.edit_ports.specs.declared.source.Source as source
+use Rattle.edit_ports.specs.declared.vault.Vault as vault
+use Rattle.edit_ports.specs.Told.{preceded}
+use Rattle.pin_turn.specs.Counts.{Each}
+use Rattle.pin_turn.specs.Rule.{ByOthers}
+use Rattle.editor_core.specs.Core.{Core}
+use Rattle.studio_seats.specs.declared.deed.Deed.{Deed}
+use Rattle.studio_seats.specs.Deeds.{actor_of, entries_of, number_after}
+use Rattle.studio_seats.specs.Faults.{AllServed}
+use Rattle.studio_seats.specs.Merge.{Numbers, by_seat, deeds_of, numbers_of}
+use Rattle.studio_seats.specs.Onward.{Asks, IsLine}
+use Rattle.studio_seats.specs.Pieces.{pieces_by}
+use Rattle.studio_seats.specs.Shows.{IsMixOf}
+use Rattle.studio_seats.specs.Stands.{AllTell, StandsFor}
+use Rattle.script_session.specs.Added.{OfLines}
+use Rattle.script_session.specs.Place.{Place}
+use Rattle.script_session.specs.Progress.{IsCut, WritesAnswers, outcome_of, says_no}
+use Rattle.script_session.specs.Served.{IsUndisturbed, TellsNoDevice}
+use Rattle.script_session.specs.Session.{Session}
+use Rattle.desk_session.specs.declared.opening.Opened.{Opened}
+use Rattle.desk_session.specs.declared.told.Heard.{Heard}
+use Rattle.desk_session.specs.declared.told.Kept.{Kept}
+use Rattle.desk_session.specs.declared.told.Told.{Told}
+use Rattle.desk_session.specs.Makers.{Apart, Seats, is_by}
+use Rattle.desk_session.specs.Opening.{PinDeed, TrackDeed, WhereMade, play_calls, record_calls, record_commits}
+use Rattle.desk_session.specs.Sounds.{IsPlayed, IsRecorded, piece_numbers}
+
+-- The deeds of a session, by their makers: the first seat made the opening, and then the lines; a second one made the
+-- pieces of the recording, and a third one read the pin and let it go.
+pub record IsMadeOf (track : ℕ) (opened : Opened) (deeds : List Deed) : Type 0 where
+  pub seats : Seats
+  pub script_seat : seats.script ≡ 0
+  pub apart : Apart seats
+  pub opening : List Deed
+  pub rest : List Deed
+  pub split : deeds ≡ opening ++ rest
+  pub track_own : List Deed
+  pub pin_own : List Deed
+  pub opening_is : opening ≡ track_own ++ pin_own
+  pub track_is : TrackDeed 0 opened.recording track_own
+  pub pin_is : PinDeed 0 opened.pin pin_own
+  pub all : Each (λ d. is_by seats d ≡ true) rest
+  pub lines : Asks IsLine 0 rest
+  pub pieces : Asks (record_calls track opened.recording) seats.recorder rest
+  pub reads : Asks (play_calls opened.pin) seats.player rest
+
+-- where a script begins that has seen the opening
+abbrev pub place_behind : ℕ → List Deed → Bool → Bool → Sounds → ℕ → Place
+place_behind first opening used_up tells sounds faults = record {
+  seat = 0;
+  first = first;
+  seen = opening;
+  last = number_after first opening;
+  commits = [];
+  used_up = used_up;
+  tells = tells;
+  sounds = sounds;
+  faults = faults;
+}
+
+-- What a script did, of the deeds of a session: the bytes that it read are these lines, their answers were written, and
+-- the deeds of its seat are those of its lines.
+pub record IsScripted {V : Type 0} (vaults : vault.Ghosts V) (first : ℕ) (opening rest : List Deed) (before after : V)
+    (told : Told) (left left_now old new : Option (List ℕ)) : Type 0 where
+  pub read : List ℕ
+  pub lines : List (List ℕ)
+  pub answers : List Answer
+  pub bytes : left ≡ preceded read left_now
+  pub cut : IsCut told.stop read lines left_now
+  pub written : WritesAnswers (outcome_of told.stop) old new answers
+  pub no : told.refused ≡ list_any says_no answers
+  -- each answer tells the commit number behind its turn, and where it took none the one that was told last
+  pub used_up : Bool
+  pub last : Place
+  pub session : Session (place_behind first opening used_up (vaults.tells before) (vaults.holds before)
+      (vaults.fault_count before)) lines answers last
+  -- what its seat saw at last begins the list, and behind that nothing is by it
+  pub later : List Deed
+  pub seen : opening ++ rest ≡ last.seen ++ later
+  pub by_others : ByOthers actor_of (0 ∷ []) later
+  pub are : OfLines 0 lines answers (deeds_of (by_seat 0) rest)
+  pub numbers : told.commits ≡ numbers_of (by_seat 0) (number_after first opening) rest
+  -- the sounds of a vault that tells its bytes follow its deeds
+  pub sounds : IsTrue (vaults.tells before)
+      → Follows (vaults.holds before) (entries_of (deeds_of (by_seat 0) rest)) (vaults.holds after)
+
+-- A session took the studio from `start` to `final`, which stands for its deeds, in one list: a run of the model.
+pub record IsSession {D V M P : Type 0} (disk : Ghosts D) (vaults : vault.Ghosts V) (mics : source.Ghosts M)
+    (speakers : sink.Ghosts P) (start final : Core D) (before after : V) (mic mic_now : M) (speaker speaker_now : P)
+    (left left_now old new : Option (List ℕ)) (told : Told) (opened : Opened) (kept : Option Kept) (heard : Option Heard)
+    : Type 0 where
+  pub deeds : List Deed
+  pub stands : StandsFor disk (AllTell vaults) start final deeds
+  pub made : IsMadeOf start.next_track opened deeds
+  pub scripted : IsScripted vaults start.commit_number made.opening made.rest before after told left left_now old new
+  -- a recording that was asked for and has its track; else the microphone is as it was
+  pub recorded : WhereMade opened.recording (λ tag. IsSomeAnd kept
+      (IsRecorded mics mic mic_now []
+      (pieces_by start.next_track tag made.seats.recorder start.commit_number deeds)))
+      ((kept ≡ None) × (mic_now ≡ mic))
+  -- a playback that was asked for and has its pin, of the mix of the project that was current where it was made; else the
+  -- speaker is as it was
+  pub played : WhereMade opened.pin (λ pin. IsSomeAnd heard
+      (IsPlayed speakers speaker speaker_now (IsMixOf disk vaults start made.opening pin)))
+      ((heard ≡ None) × (speaker_now ≡ speaker))
+  -- Where no device failed no deed tells of one, and the studio goes on.
+  pub served : IsUndisturbed disk vaults start final (vaults.fault_count before) (vaults.fault_count after)
+      → AllServed final deeds × Each TellsNoDevice (deeds_of (by_seat 0) made.rest)
+  -- the numbers of the new track, of the script and of the pieces are together all behind the first up to the last, each
+  -- once, and each list rises
+  pub numbers : Numbers start.commit_number final.commit_number (record_commits opened.recording) told.commits
+      (piece_numbers kept)

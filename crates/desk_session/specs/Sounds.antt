@@ -1,0 +1,39 @@
+-- What a recording and a playback have done.
+use Rattle.std.specs.Prelude.{◌≡◌, ℕ, ◌/◌, ℤ, List, [], length, take, Option, Some, None}
+use Rattle.pcm_base.specs.declared.refusal.Refusal.{Refusal}
+use Rattle.pcm_base.specs.declared.sound.Frame.{Frame}
+use Rattle.pcm_base.specs.Recordings.{chunks_of}
+use Rattle.edit_ports.specs.Told.{preceded}
+use Rattle.edit_ports.specs.declared.sink.Sink as sink
+use Rattle.edit_ports.specs.declared.source.Source as source
+use Rattle.recorder_work.specs.Captured.{IsStoppedBy}
+use Rattle.recorder_work.specs.Drained.{Takes}
+use Rattle.player_work.specs.Spoken.{Writes}
+use Rattle.desk_session.specs.declared.told.Heard.{Heard}
+use Rattle.desk_session.specs.declared.told.Kept.{Kept}
+
+-- These bytes were read of the microphone, up to what stopped it; the pieces of the recording are their chunks, in order
+-- and each once, with these numbers, up to the first that was refused.
+pub record IsRecorded {M : Type 0} (mics : source.Ghosts M) (mic mic_now : M) (pieces pieces_now : List (List ℤ × ℕ))
+    (kept : Kept) : Type 0 where
+  pub bytes : List ℕ
+  pub read : mics.left mic ≡ preceded bytes (mics.left mic_now)
+  pub stopped : IsStoppedBy kept.end bytes (mics.left mic_now) (mics.fault_count mic) (mics.fault_count mic_now)
+  pub told : Option Refusal
+  pub takes : Takes pieces pieces_now told kept.numbers kept.samples kept.refused (chunks_of bytes)
+
+-- The bytes of these frames were written to the speaker, or where it failed the first; the frames are the first of those
+-- that are shown, all of them where no read was refused.
+pub record IsPlayed {P : Type 0} (speakers : sink.Ghosts P) (speaker speaker_now : P) (shows : List Frame → Type 0)
+    (heard : Heard) : Type 0 where
+  pub frames : List Frame
+  pub first : (all : List Frame) → shows all → frames ≡ take (length frames) all
+  pub whole : heard.refused ≡ None → (all : List Frame) → shows all → frames ≡ all
+  pub writes : Writes (speakers.written speaker) (speakers.written speaker_now) (speakers.fault_count speaker)
+      (speakers.fault_count speaker_now) heard.frames heard.fault frames
+  pub exact : heard.frames ≡ writes.bytes / 4
+
+-- the numbers of the pieces
+abbrev pub piece_numbers : Option Kept → List ℕ
+piece_numbers None = []
+piece_numbers (Some kept) = kept.numbers

@@ -1,0 +1,144 @@
+// What a session does before its script: a new track for a recording, and a pin for a playback.
+ghost use Rattle.std.specs.Prelude.{◌≡◌, ◌≤◌, [], IsTrue, Some, is_some, IfOk};
+ghost use Rattle.pin_turn.specs.Calls.{known};
+ghost use Rattle.studio_seats.specs.Deeds.{entries_of, number_after};
+ghost use Rattle.studio_seats.specs.Desks.{IsAt, start_at};
+ghost use Rattle.studio_seats.specs.Pins.{is_made};
+ghost use Rattle.desk_session.specs.Opening.{IfMade, Opens, OpensPart, PinDeed, TellsNumber, TrackDeed, record_commits};
+
+use disk_model::Store;
+use edit_ports::Vault;
+use pcm_base::{Answer, Command, Refusal, Reply, Said};
+use std::alloc::Global;
+use std::sync::Wait;
+use studio_seats::{Desk, DeskSeat};
+
+/// What a script runs beside.
+#[derive(Clone, Copy, Debug, PartialEq, Eq)]
+pub struct Beside {
+    /// Whether the microphone is recorded into a new track.
+    pub records: bool,
+    /// Whether the mix of the project is played.
+    pub plays: bool,
+}
+
+/// What was made for a recording and a playback, where they were asked for, or why it was refused.
+#[derive(Clone, Copy, Debug)]
+pub struct Opened {
+    /// The recording's number, which is the commit number of its new track.
+    pub recording: Option<Result<u64, Refusal>>,
+    /// The number of the pin.
+    pub pin: Option<Result<u64, Refusal>>,
+}
+
+// Makes a new track, and answers its commit number.
+fn open_track<R: Wait, S: Store, V: Vault>(
+    rt: &R,
+    alloc: Global,
+    desk: &Desk<S, V>,
+    seat: &mut DeskSeat<S, V>,
+    vault: &mut V,
+) -> Said<u64>
+    requires { IsAt desk.now seat.old }
+    ensures same { IsAt desk.now seat.new }
+    ensures opens { OpensPart (start_at desk.now).commit_number (TrackDeed (known seat.old).number (Some result.what))
+        (record_commits (Some result.what)) (known seat.old) (known seat.new) }
+    ensures tag { IfOk result.what (λ tag. (1 ≤ tag)
+        × (tag ≤ number_after (start_at desk.now).commit_number (known seat.new).seen)) }
+    ensures at { TellsNumber (start_at desk.now).commit_number (known seat.old) result.at (known seat.new) }
+    ensures untouched { vault.new ≡ vault.old }
+{
+    let mut answer = Answer {
+        commit: 0,
+        reply: Reply::Done,
+    };
+    let Said { at, what } = desk.apply(rt, alloc, seat, vault, &Command::Track, &mut answer);
+    match what {
+        Ok(()) => Said { at, what: Ok(at) },
+        Err(reason) => Said {
+            at,
+            what: Err(reason),
+        },
+    }
+}
+
+// The same, where a recording is asked for, and the commit number behind it.
+fn open_recording<R: Wait, S: Store, V: Vault>(
+    rt: &R,
+    alloc: Global,
+    desk: &Desk<S, V>,
+    seat: &mut DeskSeat<S, V>,
+    vault: &mut V,
+    last: u64,
+    records: bool,
+) -> (Option<Result<u64, Refusal>>, u64)
+    requires at { IsAt desk.now seat.old }
+    requires last { last ≡ number_after (start_at desk.now).commit_number (known seat.old).seen }
+    ensures same { IsAt desk.now seat.new }
+    ensures opens { OpensPart (start_at desk.now).commit_number (TrackDeed (known seat.old).number result.0)
+        (record_commits result.0) (known seat.old) (known seat.new) }
+    ensures tag { IfMade result.0 (λ tag. (1 ≤ tag)
+        × (tag ≤ number_after (start_at desk.now).commit_number (known seat.new).seen)) }
+    ensures last { result.1 ≡ number_after (start_at desk.now).commit_number (known seat.new).seen }
+    ensures asked { is_some result.0 ≡ records }
+    ensures untouched { vault.new ≡ vault.old }
+{
+    if records {
+        let Said { at, what } = open_track(rt, alloc, desk, seat, vault);
+        (Some(what), last.max(at))
+    } else {
+        (None, last)
+    }
+}
+
+// Pins the project, where a playback is asked for.
+fn open_playback<R: Wait, S: Store, V: Vault>(
+    rt: &R,
+    desk: &Desk<S, V>,
+    seat: &mut DeskSeat<S, V>,
+    last: u64,
+    plays: bool,
+) -> (Option<Result<u64, Refusal>>, u64)
+    requires at { IsAt desk.now seat.old }
+    requires last { last ≡ number_after (start_at desk.now).commit_number (known seat.old).seen }
+    ensures same { IsAt desk.now seat.new }
+    ensures opens { OpensPart (start_at desk.now).commit_number (PinDeed (known seat.old).number result.0) []
+        (known seat.old) (known seat.new) }
+    ensures made { IfMade result.0 (λ pin. IsTrue (is_made pin (entries_of (known seat.new).seen))) }
+    ensures last { result.1 ≡ number_after (start_at desk.now).commit_number (known seat.new).seen }
+    ensures asked { is_some result.0 ≡ plays }
+{
+    if plays {
+        let Said { at, what } = desk.pin(rt, seat);
+        (Some(what), last.max(at))
+    } else {
+        (None, last)
+    }
+}
+
+/// Makes what is asked for, by a seat: the track first, and then the pin. Besides it answers the commit number behind
+/// both, where `last` is the one before.
+pub fn open<R: Wait, S: Store, V: Vault>(
+    rt: &R,
+    alloc: Global,
+    desk: &Desk<S, V>,
+    seat: &mut DeskSeat<S, V>,
+    vault: &mut V,
+    last: u64,
+    beside: Beside,
+) -> (Opened, u64)
+    requires at { IsAt desk.now seat.old }
+    requires last { last ≡ number_after (start_at desk.now).commit_number (known seat.old).seen }
+    ensures same { IsAt desk.now seat.new }
+    ensures opens { Opens (start_at desk.now).commit_number result.0 (known seat.old) (known seat.new) }
+    ensures tag { IfMade result.0.recording (λ tag. (1 ≤ tag)
+        × (tag ≤ number_after (start_at desk.now).commit_number (known seat.new).seen)) }
+    ensures made { IfMade result.0.pin (λ pin. IsTrue (is_made pin (entries_of (known seat.new).seen))) }
+    ensures last { result.1 ≡ number_after (start_at desk.now).commit_number (known seat.new).seen }
+    ensures asked { (is_some result.0.recording ≡ beside.records) × (is_some result.0.pin ≡ beside.plays) }
+    ensures untouched { vault.new ≡ vault.old }
+{
+    let (recording, last) = open_recording(rt, alloc, desk, seat, vault, last, beside.records);
+    let (pin, last) = open_playback(rt, desk, seat, last, beside.plays);
+    (Opened { recording, pin }, last)
+}

@@ -1,0 +1,78 @@
+// The recorder's side of a session.
+ghost use Rattle.std.specs.Prelude.{◌≡◌, ◌≤◌, IsSomeAnd, MatchResult, None, is_some};
+ghost use Rattle.pin_turn.specs.Calls.{known};
+ghost use Rattle.studio_seats.specs.Deeds.{number_after};
+ghost use Rattle.studio_seats.specs.Desks.{IsAt, start_at};
+ghost use Rattle.desk_session.specs.Opening.{IfMade};
+ghost use Rattle.desk_session.specs.Sides.{Lends};
+
+use super::told::Kept;
+use disk_model::Store;
+use edit_ports::{Source, Vault};
+use pcm_base::Refusal;
+use sound_run::Recorded;
+use sound_session::{LentSource, RecordRing, Recording};
+use studio_seats::{Desk, DeskSeat, DeskTaker};
+
+/// Lends the seat and the microphone to a recording, where there is a track, else they are kept.
+pub fn lend_recorder<'a, 'b, S: Store, V: Vault, M: Source>(
+    desk: &'a Desk<S, V>,
+    seat: DeskSeat<S, V>,
+    mic: &'b mut M,
+    ring: Option<RecordRing>,
+    track: u64,
+    recording: Option<Result<u64, Refusal>>,
+) -> Result<Recording<LentSource<'b, M>, DeskTaker<'a, S, V>>, (DeskSeat<S, V>, &'b mut M)>
+    requires at { IsAt desk.now seat }
+    requires tag { IfMade recording (λ tag. (1 ≤ tag)
+        × (tag ≤ number_after (start_at desk.now).commit_number (known seat).seen)) }
+    requires ring { is_some ring ≡ is_some recording }
+    ensures { Lends recording
+        (λ tag w. (w.mic.source.ghost_name ≡ mic.entry.ghost_name) × (w.mic.source.now ≡ mic.old)
+        × (w.taker.desk.now ≡ desk.now) × (known w.taker.seat ≡ known seat) × (w.taker.track ≡ track)
+        × (w.taker.tag ≡ tag))
+        (λ r. (known r.0 ≡ known seat) × IsAt desk.now r.0 × (r.1.ghost_name ≡ mic.entry.ghost_name) × (r.1.now ≡ mic.old))
+        result }
+{
+    match (recording, ring) {
+        (Some(Ok(tag)), Some(ring)) => {
+            let taker = DeskTaker::new(desk, seat, track, tag);
+            Ok(Recording::new(ring, LentSource { source: mic }, taker))
+        }
+        _ => Err((seat, mic)),
+    }
+}
+
+/// The seat, the microphone, and what was recorded.
+pub fn take_recorder<'a, 'b, S: Store, V: Vault, M: Source>(
+    recorded: Result<Recorded<LentSource<'b, M>, DeskTaker<'a, S, V>>, (DeskSeat<S, V>, &'b mut M)>,
+) -> (DeskSeat<S, V>, &'b mut M, Option<Kept>)
+    ensures { MatchResult recorded.entry
+        (λ d. IsAt d.taker.desk.now result.0 × (known result.0 ≡ known d.taker.seat)
+        × (result.1.ghost_name ≡ d.mic.source.ghost_name) × (result.1.now ≡ d.mic.source.now)
+        × IsSomeAnd result.2 (λ k. (k.end ≡ d.end) × (k.numbers ≡ d.numbers) × (k.samples ≡ d.samples)
+        × (k.refused ≡ d.refused)))
+        (λ r. (result.0 ≡ r.0) × (result.1.ghost_name ≡ r.1.ghost_name) × (result.1.now ≡ r.1.now)
+        × (result.2 ≡ None)) }
+{
+    match recorded {
+        Ok(recorded) => {
+            let Recorded {
+                mic: LentSource { source },
+                taker,
+                end,
+                numbers,
+                samples,
+                refused,
+            } = recorded;
+            let kept = Kept {
+                end,
+                numbers,
+                samples,
+                refused,
+            };
+            (taker.into_seat(), source, Some(kept))
+        }
+        Err((seat, mic)) => (seat, mic, None),
+    }
+}

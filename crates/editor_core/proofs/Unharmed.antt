@@ -1,0 +1,16 @@
+-- No file is told to be damaged, where the disk held the studio.
+use Rattle.std.proofs.Common.{ℕ}
+use Rattle.pcm_base.specs.declared.refusal.Refusal.{Refusal}
+use Rattle.pcm_base.specs.declared.refusal.Refusal.TheVariants as refusal
+use Rattle.disk_model.specs.declared.store.Store.{Ghosts}
+use Rattle.envelope_view.specs.Answers.{IsUndamaged}
+use Rattle.envelope_view.proofs.AnswerLaws.{whole_undamaged}
+use Rattle.editor_core.specs.Core.{Core}
+use Rattle.editor_core.specs.Left.{Left}
+use Rattle.editor_core.specs.Studios.{IsHeld, named_blocks}
+
+-- what is told of the disk is so, and each block that the studio names is whole
+pub held_undamaged : {D : Type 0} (disk : Ghosts D) (old new : Core D) (MayGo : ℕ → Type 0) (why : Refusal) → IsHeld disk old → Left disk old MayGo new why → IsUndamaged why
+held_undamaged disk old new MayGo (refusal.Damaged file at want have) held left =
+    whole_undamaged (disk.reads old.store) (named_blocks old) (refusal.Damaged file at want have) held.whole (left.so held.tells)
+held_undamaged disk old new MayGo why held left = tt

@@ -1,0 +1,77 @@
+-- A disk without files, and a project that was made on it.
+use Rattle.std.proofs.Common.{◌≡◌, ◌≢◌, ℕ, zero, suc, IsTrue, IsSome, Option, Some, None, Err, List, length, refl}
+use Rattle.std.proofs.Common.{sym, ap, ◌∙◌, subst, arith}
+use Rattle.std.proofs.lemmas.Bool.{true≢false}
+use Rattle.disk_model.specs.Disk.{SameElsewhere, bytes_of}
+use Rattle.disk_model.specs.Frames.{Changed}
+use Rattle.disk_model.specs.Room.{IsWithin}
+use Rattle.disk_model.specs.declared.store.Store.{Ghosts}
+use Rattle.project_journal.specs.Gate.{EachNow}
+use Rattle.project_journal.specs.Rooms.{create_room}
+use Rattle.project_state.specs.Kept.{Keeps}
+use Rattle.editor_recovery.specs.declared.fault.OpenFault.{OpenFault}
+use Rattle.editor_recovery.specs.declared.fault.OpenFault.TheVariants as fault
+use Rattle.editor_recovery.specs.Causes.{Causes}
+use Rattle.editor_recovery.specs.Creating.{Creates}
+use Rattle.editor_recovery.specs.Honest.{IsHonest}
+use Rattle.memory_project.specs.declared.fresh.FreshProject.{FreshProject}
+use Rattle.memory_project.specs.Fresh.{CanBeMade, IsEmpty, IsMade, found_of, left_behind, made_room, room_of_project}
+use Rattle.memory_project.proofs.RoomLemmas.{Takes, asked_by, files_few, no_fault_within, room_left}
+
+pub absent : {A : Type 0} (x : Option A) → x ≡ None → IsSome x → ⊥
+absent None e some = true≢false (sym some)
+absent (Some a) e some = cc
+
+module _ {D : Type 0} (disk : Ghosts D) (p : FreshProject) (can : CanBeMade p) (store new : D)
+    (empty : IsEmpty disk p store)
+    (changed : Changed disk (SameElsewhere 0) (create_room (disk.reads store 0)) store new) where
+  takes : Takes (create_room (disk.reads store 0)) (left_behind 7 p) (room_of_project p)
+  takes =
+      let few = files_few (disk.reads store 0) in
+      let files = can.files_least in let bytes = can.bytes_least in let calls = can.calls_least in
+      (omega (arith, few, files), omega (arith, bytes), omega (arith, calls))
+
+  -- making it fails for want of memory alone
+  pub making_wants : (why : OpenFault) → Creates {T = Unit {0}} (disk.reads store) (Err why)
+      → Causes {T = Unit {0}} disk store new (Err why) → why ≡ fault.NoMemory
+  making_wants fault.Absent creates cause = absurd creates
+  making_wants fault.Exists creates cause =
+      let long = creates.0 in
+      let short : length (bytes_of (disk.reads store 0)) ≡ 0 =
+      ap (λ (x : Option (List ℕ)). length (bytes_of x)) (empty.none 0) in
+      absurd (omega (arith, long, short))
+  making_wants (fault.Damaged file at want have) creates cause = absurd creates
+  making_wants (fault.Foreign file) creates cause =
+      absurd (absent (disk.reads store file) (empty.none file) creates.1.there)
+  making_wants fault.DiskFault creates cause =
+      absurd (no_fault_within disk store new (SameElsewhere 0) (create_room (disk.reads store 0)) (room_of_project p)
+      (left_behind 7 p) changed empty.tells empty.room takes cause)
+  making_wants fault.NoMemory creates cause = refl
+
+  only_journal : (file : ℕ) → IsSome (disk.reads new file) → file ≡ 0
+  only_journal zero some = refl
+  only_journal (suc n) some =
+      let other : suc n ≢ 0 = λ e. absurd (omega (arith, e)) in
+      absurd (absent (disk.reads new (suc n)) (changed.reads empty.tells (suc n) other ∙ empty.none (suc n)) some)
+
+  pub is_made : IsHonest disk new → Keeps (disk.reads new) (found_of p) → EachNow disk new (λ c. Keeps c (found_of p))
+      → IsMade disk p new
+  is_made honest keeps each = record {
+    tells = subst IsTrue (sym changed.tells) empty.tells;
+    honest = honest;
+    keeps = keeps;
+    each = each;
+    only = only_journal;
+    asked_few =
+        let few = files_few (disk.reads store 0) in
+        let most : IsWithin (create_room (disk.reads store 0)) (made_room 7) =
+        record { files = omega (arith, few); bytes = omega arith; calls = omega arith } in
+        let more = asked_by disk store new (SameElsewhere 0) (create_room (disk.reads store 0)) (made_room 7) changed
+        empty.tells most in
+        let none = empty.asked_none in
+        let a = more.files in let b = more.bytes in let d = more.calls in
+        let i = none.files in let j = none.bytes in let k = none.calls in
+        record { files = omega (arith, a, i); bytes = omega (arith, b, j); calls = omega (arith, d, k) };
+    room = room_left disk store new (SameElsewhere 0) (create_room (disk.reads store 0)) (room_of_project p)
+        (left_behind 7 p) changed empty.tells empty.room takes;
+  }

@@ -1,0 +1,217 @@
+-- One line: nothing refuses it, so it is carried out, or there is no memory for it.
+use Rattle.std.proofs.Common.{◌≡◌, ⊎_elim, ℕ, ◌+◌, ◌-◌, ◌≤◌, IsTrue, None, Err, Ok, Result, IfErr, refl, sym, ap, ◌∙◌}
+use Rattle.std.proofs.Common.{subst, arith}
+use Rattle.std.proofs.lemmas.Option.{none-some}
+use Rattle.pcm_base.specs.declared.answer.Reply.{Reply}
+use Rattle.pcm_base.specs.declared.command.Call.TheVariants.{Line}
+use Rattle.pcm_base.specs.declared.command.Command.{Command}
+use Rattle.pcm_base.specs.declared.command.Command.TheVariants as command
+use Rattle.pcm_base.specs.declared.refusal.Refusal.{Refusal}
+use Rattle.pcm_base.specs.declared.refusal.Refusal.TheVariants as refusal
+use Rattle.pcm_base.specs.Causes.{Rose}
+use Rattle.pcm_base.specs.Counters.{Needs}
+use Rattle.pcm_base.specs.Run.{Answers, Breaks, ChangeFailed, DiskFails, ReadFailed, Refuses, may_change}
+use Rattle.pcm_base.specs.Run.{name_in_line, outside, refusal_of}
+use Rattle.pcm_base.specs.Studio.{Studio}
+use Rattle.disk_model.specs.Frames.{asked}
+use Rattle.disk_model.specs.Room.{Room, together}
+use Rattle.disk_model.specs.declared.store.Store.{Ghosts}
+use Rattle.envelope_view.specs.Answers.{IsUndamaged}
+use Rattle.editor_core.specs.Applied.{EndsAlike}
+use Rattle.editor_core.specs.Core.{Core}
+use Rattle.editor_core.specs.Left.{LeavesOthers, MayRemove}
+use Rattle.editor_core.specs.Studios.{studio_of}
+use Rattle.editor_core.specs.Took.{Took, asks, silent, told_by}
+use Rattle.memory_project.specs.Lines.{Asked, IsOfScript, MayCome, Went, line_room}
+use Rattle.memory_project.specs.Memory.{HasAsked, HasRoom, no_room}
+use Rattle.memory_project.proofs.FreshLemmas.{absent}
+use Rattle.memory_project.proofs.RoomLemmas.{Takes, asked_by, room_left}
+
+-- no line of a script names a sound
+names_none : (c : Command) → IsOfScript c → name_in_line c ≡ None
+names_none command.Track kind = refl
+names_none (command.Drop id) kind = absurd kind
+names_none (command.Level id gain) kind = absurd kind
+names_none (command.Side id side) kind = absurd kind
+names_none (command.Mute id mute) kind = absurd kind
+names_none (command.Put id at samples) kind = absurd kind
+names_none (command.Ramp id at n start step) kind = refl
+names_none (command.Delete id from to) kind = refl
+names_none (command.SplitDelete id from to) kind = absurd kind
+names_none (command.Silence id from to) kind = refl
+names_none (command.Trim id from to) kind = absurd kind
+names_none (command.Gain id from to gain) kind = refl
+names_none (command.Cut id n from to) kind = absurd kind
+names_none (command.SplitCut id n from to) kind = absurd kind
+names_none (command.Copy id n from to) kind = refl
+names_none (command.Paste id at) kind = refl
+names_none (command.PasteOver id at) kind = absurd kind
+names_none command.Undo kind = refl
+names_none command.Redo kind = refl
+names_none (command.Purge n) kind = absurd kind
+names_none (command.Show id from to) kind = absurd kind
+names_none (command.Mix from to) kind = absurd kind
+names_none (command.Envelope id from to columns) kind = refl
+names_none command.Tracks kind = refl
+names_none (command.Reclaim limit) kind = absurd kind
+names_none (command.Import name) kind = absurd kind
+names_none (command.Export name) kind = absurd kind
+
+-- ---- an answer as a reply
+
+pub told_ends : {A : Type 0} (f : A → Reply) (answer : Result A Refusal) (short : Result (Unit {0}) Refusal)
+    → EndsAlike answer short → EndsAlike (told_by f answer) short
+told_ends f (Ok a) (Ok u) ends = tt
+told_ends f (Ok a) (Err why) ends = absurd ends
+told_ends f (Err why) (Ok u) ends = absurd ends
+told_ends f (Err why) (Err other) ends = ends
+
+pub told_sound : {A : Type 0} (f : A → Reply) (answer : Result A Refusal) → IfErr answer IsUndamaged
+    → IfErr (told_by f answer) IsUndamaged
+told_sound f (Ok a) sound = tt
+told_sound f (Err why) sound = sound
+
+-- ---- why there is no answer
+
+-- A line that no test refuses, that names no sound, meets no damage and no fault of the disk has no answer for want of
+-- memory alone.
+module _ (t u : Studio) (c : Command) (names : name_in_line c ≡ None) (no_fault : DiskFails t (Line c) silent u → ⊥)
+  where
+    breaks : (why : Refusal) → IsUndamaged why → Breaks t (Line c) silent why u → (why ≡ refusal.NoMemory) × (u ≡ t)
+    breaks (refusal.BadLine column) sound b = absurd b
+    breaks (refusal.Spent turns) sound b = absurd b
+    breaks (refusal.Stopped faults) sound b = absurd b
+    breaks (refusal.NoTrack id) sound b = absurd b
+    breaks refusal.BadRange sound b = absurd b
+    breaks refusal.BadColumns sound b = absurd b
+    breaks refusal.TrackLimit sound b = absurd b
+    breaks (refusal.LengthLimit len) sound b = absurd b
+    breaks refusal.EmptyClipboard sound b = absurd b
+    breaks (refusal.TooNarrow have need) sound b = absurd b
+    breaks refusal.NothingToUndo sound b = absurd b
+    breaks refusal.NothingToRedo sound b = absurd b
+    breaks refusal.NoFile sound b = absurd b
+    breaks (refusal.BadWav fault) sound b = absurd b
+    breaks (refusal.RateDiffers have want) sound b = absurd b
+    breaks (refusal.TooLong frames) sound b = absurd b
+    breaks (refusal.SpaceSpent have need) sound b = absurd b
+    breaks (refusal.RecordLimit len) sound b = absurd b
+    breaks (refusal.Damaged file at want have) sound b = absurd sound
+    breaks refusal.DiskFault sound b = absurd (no_fault b)
+    breaks refusal.VaultFault sound b = absurd (absent (name_in_line c) names b.0)
+    breaks (refusal.NoPin pin) sound b = absurd b
+    breaks refusal.NoMemory sound b = (refl, b.same)
+
+    pub no_answer : (why : Refusal) → IsUndamaged why
+        → ((blocks len : ℕ) → Needs (outside t silent) t (Line c) blocks len →
+        refusal_of (outside t silent) t (Line c) blocks len ≡ None)
+        → Answers t (Line c) silent (Err why) u → (why ≡ refusal.NoMemory) × (u ≡ t)
+    no_answer why sound passes answers = ⊎_elim
+        (λ (r : Refuses t (Line c) silent why u).
+        absurd (none-some why (sym (passes r.blocks r.len r.needs) ∙ r.first)))
+        (λ (b : Breaks t (Line c) silent why u). breaks why sound b)
+        answers
+
+-- a count that is 0 has not risen
+rose_not : (old new : ℕ) → old ≡ 0 → new ≡ 0 → Rose old new → ⊥
+rose_not old new a b rose = absurd (omega (arith, a, b, rose))
+
+-- where no fault was counted the disk did not fail
+pub fails_not : (t u : Studio) (c : Command) → t.read_faults ≡ 0 → t.change_faults ≡ 0 → u.read_faults ≡ 0
+    → u.change_faults ≡ 0 → DiskFails t (Line c) silent u → ⊥
+fails_not t u c reads changes reads_now changes_now fails = ⊎_elim
+    (λ (f : ReadFailed t u). rose_not t.read_faults u.read_faults reads reads_now f.rose)
+    (λ (f : IsTrue (may_change (Line c)) × ChangeFailed t u). rose_not t.change_faults u.change_faults changes
+    changes_now f.1.rose)
+    fails.cause
+
+-- ---- the room of a line
+
+-- so much is within the room of a line
+line_takes : (m blocks len : ℕ) (more : Room) → m ≡ 512 → blocks ≤ 11 → len ≤ 6872
+    → Takes (asks m blocks len 0) more (together line_room more)
+line_takes m blocks len more size few short =
+    subst (λ (k : ℕ). Takes (asks k blocks len 0) more (together line_room more)) (sym size)
+    (omega (arith, few), omega (arith, few, short), omega (arith, few))
+
+none_takes : (m blocks len : ℕ) → m ≡ 512 → blocks ≤ 11 → len ≤ 6872 → Takes (asks m blocks len 0) no_room line_room
+none_takes m blocks len size few short = line_takes m blocks len no_room size few short
+
+module _ {D : Type 0} (disk : Ghosts D) (old new : Core D) (c : Command) (may : MayCome disk old c) where
+  abbrev t : Studio
+  t = studio_of disk old
+
+  abbrev u : Studio
+  u = studio_of disk new
+
+  module _ {told : Result Reply Refusal} (took : Took disk old (Line c) silent told 0 new) (blocks len : ℕ)
+      (needs : Needs (outside t silent) t (Line c) blocks len) (next : new.next_block ≡ old.next_block + blocks) where
+    few_blocks : new.next_block - old.next_block ≤ 11
+    few_blocks = let few = (may.few.most silent blocks len needs).0 in omega (arith, few, next)
+
+    short : took.len ≤ 6872
+    short = let w = took.needs may.held in (may.few.most silent w.0 took.len w.1).1
+
+    room_stays : (more : Room) → HasRoom disk old.store (together line_room more) → HasRoom disk new.store more
+    room_stays more fits = room_left disk old.store new.store
+        (LeavesOthers old.next_block new.next_block (MayRemove (Line c) old.counts))
+        (asks old.block_size (new.next_block - old.next_block) took.len 0) (together line_room more) more took.changed
+        may.held.tells fits
+        (line_takes old.block_size (new.next_block - old.next_block) took.len more may.size few_blocks short)
+
+    asked_stays : HasAsked disk new.store (together (asked disk old.store) line_room)
+    asked_stays =
+        let takes = none_takes old.block_size (new.next_block - old.next_block) took.len may.size few_blocks short in
+        let a = takes.0 in let b = takes.1 in let d = takes.2 in
+        asked_by disk old.store new.store (LeavesOthers old.next_block new.next_block (MayRemove (Line c) old.counts))
+        (asks old.block_size (new.next_block - old.next_block) took.len 0) line_room took.changed may.held.tells
+        (record { files = omega (arith, a); bytes = omega (arith, b); calls = omega (arith, d) })
+
+    faults_none : (disk.read_fault_count new.store ≡ 0) × (disk.change_fault_count new.store ≡ 0)
+    faults_none = let left = room_left disk old.store new.store
+        (LeavesOthers old.next_block new.next_block (MayRemove (Line c) old.counts))
+        (asks old.block_size (new.next_block - old.next_block) took.len 0) line_room no_room took.changed
+        may.held.tells may.room
+        (none_takes old.block_size (new.next_block - old.next_block) took.len may.size few_blocks short) in
+        (left.reads, left.changes)
+
+  pub line_went : (r : Reply) → Took disk old (Line c) silent (Ok r) 0 new → Went disk old c new
+  line_went r took =
+      let step = took.step may.held in
+      record {
+        studio = took.studio;
+        held = took.held may.held;
+        reply = r;
+        step = step;
+        room = room_stays took step.blocks step.len step.needs (ap (λ (z : Studio). z.next_block) step.is);
+        asked_more = asked_stays took step.blocks step.len step.needs (ap (λ (z : Studio). z.next_block) step.is);
+      }
+
+  pub line_wants : (why : Refusal) → Took disk old (Line c) silent (Err why) 0 new → IsUndamaged why
+      → (why ≡ refusal.NoMemory) × (u ≡ t)
+  line_wants why took sound = no_answer t u c (names_none c may.kind) no_fault why sound (may.valid silent)
+      (took.step may.held)
+    where
+      no_fault : DiskFails t (Line c) silent u → ⊥
+      no_fault fails =
+          let off = fails.breaks in
+          let none = faults_none took off.blocks off.len off.needs (ap (λ (z : Studio). z.next_block) off.is) in
+          fails_not t u c may.room.reads may.room.changes none.0 none.1 fails
+
+  -- by the answer that was given
+  pub asked_went : Asked disk old c (Ok (tt {0})) new → Went disk old c new
+  asked_went asked = by asked.told asked.took asked.ends
+    where
+      by : (told : Result Reply Refusal) → Took disk old (Line c) silent told 0 new → EndsAlike told (Ok (tt {0}))
+          → Went disk old c new
+      by (Ok r) took ends = line_went r took
+      by (Err why) took ends = absurd ends
+
+  pub asked_wants : (why : Refusal) → Asked disk old c (Err why) new → (why ≡ refusal.NoMemory) × (u ≡ t)
+  asked_wants why asked = by asked.told asked.took asked.ends (asked.sound may.held)
+    where
+      by : (told : Result Reply Refusal) → Took disk old (Line c) silent told 0 new
+          → EndsAlike {B = Unit {0}} told (Err why) → IfErr told IsUndamaged → (why ≡ refusal.NoMemory) × (u ≡ t)
+      by (Ok r) took ends sound = absurd ends
+      by (Err other) took ends sound =
+          let w = line_wants other took sound in (ends ∙ w.0, w.1)

@@ -1,0 +1,178 @@
+-- A fresh project, opened: its studio is that of the model's fresh project.
+use Rattle.std.proofs.Common.{◌≡◌, ⊎_elim, ℕ, ◌+◌, IsTrue, IsSome, Err, Ok, List, [], ◌∷◌, ◌++◌, length, map, refl}
+use Rattle.std.proofs.Common.{sym, ap, ◌∙◌, subst, arith}
+use Rattle.std.specs.List.{flat_map}
+use Rattle.std.proofs.lemmas.List.{append-nil}
+use Rattle.disk_model.specs.Disk.{Files, StaysStep}
+use Rattle.disk_model.specs.Frames.{Changed}
+use Rattle.disk_model.specs.Room.{IsWithin, Room}
+use Rattle.disk_model.specs.declared.store.Store.{Ghosts}
+use Rattle.pcm_base.specs.Studio as model
+use Rattle.project_journal.specs.Gate.{EachNow}
+use Rattle.project_journal.specs.Header.{version_1}
+use Rattle.project_journal.specs.Journal.{Entry, HasLog, IsAt, IsLog, Log, body_of, entry}
+use Rattle.project_journal.proofs.Kept.{is_project}
+use Rattle.project_state.specs.Kept.{Keeps, Kept, LeadTo, Opened, new_project}
+use Rattle.project_state.proofs.KeptBounds.{kept_sound}
+use Rattle.project_state.proofs.KeptOnce.{keeps_once}
+use Rattle.editor_core.specs.Core.{Core}
+use Rattle.editor_core.specs.Studios.{IsHeld, IsStudio, clip_cells, pin_at, shown, studio_of}
+use Rattle.sample_block.specs.Sources.{sources_of}
+use Rattle.editor_recovery.specs.declared.fault.OpenFault.{OpenFault}
+use Rattle.editor_recovery.specs.declared.fault.OpenFault.TheVariants as fault
+use Rattle.editor_recovery.specs.Causes.{Causes}
+use Rattle.editor_recovery.specs.Files.{IsNextBlock}
+use Rattle.editor_recovery.specs.Found.{Found, IsNew, found_by}
+use Rattle.editor_recovery.specs.Honest.{IsHonest, OpensHonest}
+use Rattle.editor_recovery.specs.Opening.{Finds, Opens}
+use Rattle.memory_project.specs.declared.fresh.FreshProject.{FreshProject}
+use Rattle.memory_project.specs.Fresh.{CanBeMade, IsFresh, IsMade, found_of, left_behind, made_room}
+use Rattle.memory_project.specs.Memory.{HasAsked, HasRoom}
+use Rattle.memory_project.proofs.RoomLemmas.{Takes, asked_by, no_fault_within, room_left}
+
+abbrev one_call : Room
+one_call = record { files = 0; bytes = 0; calls = 1 }
+
+-- ---- records that make no commit are none
+
+none_of_none : {A B : Type 0} (f : A → B) (xs : List A) → map f xs ≡ [] → xs ≡ []
+none_of_none f [] e = refl
+none_of_none f (x ∷ xs) e = cc
+
+no_bodies : (m depth : ℕ) (bodies : List (List ℕ)) (end : Kept) → LeadTo m (new_project depth) bodies end → end.commit
+    ≡ 0
+    → bodies ≡ []
+no_bodies m depth [] end told none = refl
+no_bodies m depth (b ∷ bs) end told none =
+    let sound = kept_sound m depth end (b ∷ bs) told in
+    let is = sound.commit_is in absurd (omega (arith, is, none))
+
+led_nowhere : (m depth : ℕ) (bodies : List (List ℕ)) (end : Kept) → LeadTo m (new_project depth) bodies end → bodies ≡
+    []
+    → end ≡ new_project depth
+led_nowhere m depth bodies end told none =
+    subst (λ (bs : List (List ℕ)). LeadTo m (new_project depth) bs end) none told
+
+-- such a journal is its header alone
+header_alone : (front : List ℕ) (log : Log) → IsLog version_1 front log → log.bodies ≡ [] → length front ≡ 32
+header_alone front log is none =
+    let entries : is.entries ≡ [] = none_of_none body_of is.entries (is.bodies ∙ none) in
+    ap length is.parts ∙ ap (λ (es : List Entry). length (is.head ++ flat_map entry es)) entries
+    ∙ ap length (append-nil is.head) ∙ is.header.size
+
+-- where no file is there but the journal, the next block is the first
+first_block : (files : Files) (next : ℕ) → ((file : ℕ) → IsSome (files file) → file ≡ 0) → IsNextBlock files 16 next
+    → next ≡ 16
+first_block files next only is = ⊎_elim
+    (λ (same : next ≡ 16). same)
+    (λ (w : (file : ℕ) × IsSome (files file) × (next ≡ file + 1)).
+    let zero_file = only w.0 w.1 in let low = is.no_lower in let above = w.2 in
+    absurd (omega (arith, zero_file, low, above)))
+    is.least
+
+-- ---- what opening it gives
+
+-- the clauses of an opening that gave a studio
+pub record Opened_to {D : Type 0} (disk : Ghosts D) (store : D) (start : Core D) : Type 0 where
+  pub opens : IsTrue (disk.tells store) → Opens (disk.reads store) (Ok (found_by start))
+  pub studio : IsStudio disk start
+  pub new : IsNew start
+  pub at_rest : IsTrue (disk.tells store) → (log : Log) → HasLog version_1 log (disk.reads store)
+      → IsAt version_1 disk start.store start.journal_end log
+  pub held : IsHonest disk store → IsHeld disk start
+  pub keeps : IsHonest disk store → EachNow disk start.store (λ c. Keeps c (shown (studio_of disk start)))
+  pub stays_honest : IsHonest disk store → IsHonest disk start.store
+  pub reads : disk.reads start.store ≡ disk.reads store
+  pub changed : Changed disk StaysStep one_call store start.store
+
+module _ {D : Type 0} (disk : Ghosts D) (p : FreshProject) (can : CanBeMade p) (store : D)
+    (made : IsMade disk p store) where
+  takes : Takes one_call (left_behind 8 p) (left_behind 7 p)
+  takes = let calls = can.calls_least in (omega arith, omega arith, omega (arith, calls))
+
+  module _ (start : Core D) (to : Opened_to disk store start)
+      (stays : disk.may_leave start.store (disk.clock start.store) (disk.reads start.store)) where
+    finds : Finds (disk.reads store) (found_by start)
+    finds = to.opens made.tells
+
+    shows : shown (studio_of disk start) ≡ found_of p
+    shows =
+        let keeps : Keeps (disk.reads start.store) (shown (studio_of disk start)) =
+        to.keeps made.honest (disk.reads start.store) stays in
+        let new : Keeps (disk.reads start.store) (found_of p) =
+        subst (λ (f : Files). Keeps f (found_of p)) (sym to.reads) made.keeps in
+        keeps_once (disk.reads start.store) (shown (studio_of disk start)) (found_of p) keeps new
+
+    bodies_none : finds.log.bodies ≡ []
+    bodies_none = no_bodies finds.log.block_size finds.log.depth finds.log.bodies finds.kept finds.project.told
+        (sym finds.found.commit ∙ ap (λ (o : Opened). o.commit) shows)
+
+    next_is : start.next_block ≡ 16
+    next_is =
+        let kept : finds.kept ≡ new_project finds.log.depth =
+        led_nowhere finds.log.block_size finds.log.depth finds.log.bodies finds.kept finds.project.told bodies_none in
+        first_block (disk.reads store) start.next_block made.only
+        (subst (λ (n : ℕ). IsNextBlock (disk.reads store) n start.next_block) (ap (λ (k : Kept). k.next_block) kept)
+        finds.found.next_block)
+
+    end_is : start.journal_end ≡ 32
+    end_is =
+        let at = to.at_rest made.tells finds.log finds.project.there in
+        sym at.place ∙ header_alone at.front finds.log at.spelled bodies_none
+
+    room_is : HasRoom disk start.store (left_behind 8 p)
+    room_is = room_left disk store start.store StaysStep one_call (left_behind 7 p) (left_behind 8 p) to.changed
+        made.tells
+        made.room takes
+
+    asked_is : HasAsked disk start.store (made_room 8)
+    asked_is =
+        let same : IsWithin one_call one_call =
+        record { files = omega arith; bytes = omega arith; calls = omega arith } in
+        let more = asked_by disk store start.store StaysStep one_call one_call to.changed made.tells same in
+        let few = made.asked_few in
+        let a = more.files in let b = more.bytes in let d = more.calls in
+        let i = few.files in let j = few.bytes in let k = few.calls in
+        record { files = omega (arith, a, i); bytes = omega (arith, b, j); calls = omega (arith, d, k) }
+
+    fresh_studio_is : studio_of disk start ≡ model.fresh p.rate p.block_size p.depth
+    fresh_studio_is = λ i. record {
+      state = record {
+        history = (shows i).history;
+        clipboard = clip_cells (sources_of (disk.reads start.store)) (to.new.clipboard i);
+        pins = pin_at (sources_of (disk.reads start.store)) (to.new.pins i);
+        next_track = (shows i).next_track;
+        next_pin = to.new.next_pin i;
+        commit = (shows i).commit;
+      };
+      stopped = to.new.stopped i;
+      rate = (shows i).rate;
+      block_size = (shows i).block_size;
+      next_block = next_is i;
+      journal_end = end_is i;
+      read_faults = room_is.reads i;
+      change_faults = room_is.changes i;
+    }
+
+    pub is_fresh : IsFresh disk p start
+    is_fresh = record {
+      studio = to.studio;
+      held = to.held made.honest;
+      honest = to.stays_honest made.honest;
+      is = fresh_studio_is;
+      room = room_is;
+      asked_few = asked_is;
+    }
+
+  -- it is refused for want of memory alone
+  pub opening_wants : (new : D) (why : OpenFault) → (IsHonest disk store → OpensHonest disk store new (Err why))
+      → Causes {T = Found} disk store new (Err why) → Changed disk StaysStep one_call store new → why ≡ fault.NoMemory
+  opening_wants new fault.Absent honest cause changed = absurd (honest made.honest
+      (is_project version_1 made.keeps.log (disk.reads store) (omega arith) made.keeps.there))
+  opening_wants new fault.Exists honest cause changed = absurd (honest made.honest)
+  opening_wants new (fault.Damaged file at want have) honest cause changed = absurd (honest made.honest)
+  opening_wants new (fault.Foreign file) honest cause changed = absurd (honest made.honest)
+  opening_wants new fault.DiskFault honest cause changed =
+      absurd (no_fault_within disk store new StaysStep one_call (left_behind 7 p) (left_behind 8 p) changed made.tells
+      made.room takes cause)
+  opening_wants new fault.NoMemory honest cause changed = refl

@@ -1,0 +1,113 @@
+-- The script of a number on a fresh project.
+use Rattle.std.proofs.Common.{◌≡◌, ℕ, ◌≤◌, List, length, Result, Ok, Err, IfOk, OnOk, refl, sym, ap, ◌∙◌, subst, arith}
+use Rattle.std.specs.List.{AllByRecursion}
+use Rattle.pcm_base.specs.declared.command.Command.{Command}
+use Rattle.pcm_base.specs.declared.failed.NoMemory.{NoMemory}
+use Rattle.pcm_base.specs.Studio as model
+use Rattle.disk_model.specs.declared.store.Store.{Ghosts}
+use Rattle.editor_core.specs.Core.{Core}
+use Rattle.editor_core.specs.Studios.{studio_of}
+use Rattle.script_gen.specs.Room.{EachNeedsAtMost, script_project}
+use Rattle.script_gen.specs.Script.{script_of}
+use Rattle.script_gen.specs.Validity.{AreAlwaysValid, AreValid}
+use Rattle.script_text.specs.declared.summary.Summary.{Summary}
+use Rattle.memory_project.specs.declared.fresh.FreshProject.{FreshProject}
+use Rattle.memory_project.specs.Fresh.{CanBeMade, IsFresh, left_behind}
+use Rattle.memory_project.specs.Lines.{AreCarriedOut, IsOfScript, MayRun, RanLines, room_for}
+use Rattle.memory_project.specs.Sums.{IsSumOf, Looked, MaySum, RanScript, project_for}
+use Rattle.memory_project.proofs.EndLemmas.{carried_run, script_end, script_kinds}
+use Rattle.memory_project.proofs.RoomLemmas.{room_less}
+
+-- ---- the same by equal values
+
+module _ {D : Type 0} (disk : Ghosts D) (old new : Core D) where
+  pub fresh_at : (p q : FreshProject) → p ≡ q → IsFresh disk p old → IsFresh disk q old
+  fresh_at p q same fresh = subst (λ (x : FreshProject). IsFresh disk x old) same fresh
+
+  pub may_at : (cs ds : List Command) → cs ≡ ds → MayRun disk old cs → MayRun disk old ds
+  may_at cs ds same may = subst (MayRun disk old) same may
+
+  pub ran_at : (cs ds : List Command) → cs ≡ ds → RanLines disk old cs new → RanLines disk old ds new
+  ran_at cs ds same ran = subst (λ (x : List Command). RanLines disk old x new) same ran
+
+-- ---- the script and its project
+
+pub can_be_made : (lines : ℕ) → lines ≤ 4096 → CanBeMade (project_for lines)
+can_be_made lines few = record {
+  format = record {
+    rate_least = omega arith;
+    even = refl;
+    block_least = omega arith;
+    block_most = omega arith;
+    depth_least = omega arith;
+    depth_most = omega arith;
+  };
+  files_least = omega arith;
+  files_most = omega (arith, few);
+  bytes_least = omega arith;
+  bytes_most = omega (arith, few);
+  calls_least = omega arith;
+  calls_most = omega (arith, few);
+}
+
+module _ {D : Type 0} (disk : Ghosts D) (number lines : ℕ) (start : Core D)
+    (fresh : IsFresh disk (project_for lines) start)
+  where
+    module _ (cs : List Command) (is : cs ≡ script_of number lines) (count : length cs ≡ lines)
+        (valid : AreAlwaysValid cs)
+        (few : EachNeedsAtMost script_project cs 11 6872) where
+      pub script_runs : MayRun disk start cs
+      script_runs = record {
+        studio = fresh.studio;
+        held = fresh.held;
+        size = ap (λ (z : model.Studio). z.block_size) fresh.is;
+        kinds = subst (AllByRecursion IsOfScript) (sym is) (script_kinds number lines);
+        valid = subst (λ (z : model.Studio). AreValid z cs) (sym fresh.is) (valid 8000 512 64 (omega arith));
+        few = subst (λ (z : model.Studio). EachNeedsAtMost z cs 11 6872) (sym fresh.is) few;
+        room = room_less disk start.store (room_for (length cs)) (left_behind 8 (project_for lines))
+            (record { files = omega (arith, count); bytes = omega (arith, count); calls = omega (arith, count) })
+            fresh.room;
+      }
+
+      module _ (end : Core D) (ran : RanLines disk start cs end) where
+        carried : AreCarriedOut script_project (script_of number lines) (studio_of disk end)
+        carried = subst (λ (ls : List Command). AreCarriedOut script_project ls (studio_of disk end)) is
+            (subst (λ (z : model.Studio). AreCarriedOut z cs (studio_of disk end)) fresh.is ran.run)
+
+        pub script_sums : MaySum disk end
+        script_sums =
+            let last = script_end number lines (studio_of disk end) carried in
+            record { studio = ran.studio; held = ran.held; going = last.going; track = last.track; room = ran.room }
+
+        pub script_ran : (last : Core D) (sum : Summary) → Looked disk end last → IsSumOf disk number lines last sum
+            → RanScript disk number lines sum
+        script_ran last sum looked is_sum =
+            let to = carried_run script_project (script_of number lines) (studio_of disk end)
+            (script_kinds number lines)
+            carried in
+            record {
+              end = last;
+              studio = looked.studio;
+              held = looked.held;
+              run = to.run;
+              ends = to.ends ∙ sym looked.same;
+              room = looked.room;
+              asked_few =
+                  let last_asks = looked.asked_none in
+                  let lines_ask = ran.asked_more in
+                  let few = fresh.asked_few in
+                  let a = last_asks.files in let b = last_asks.bytes in let d = last_asks.calls in
+                  let i = lines_ask.files in let j = lines_ask.bytes in let k = lines_ask.calls in
+                  let x = few.files in let y = few.bytes in let z = few.calls in
+                  record {
+                    files = omega (arith, count, a, i, x);
+                    bytes = omega (arith, count, b, j, y);
+                    calls = omega (arith, count, d, k, z);
+                  };
+              sum_is = is_sum;
+            }
+
+        pub sum_ran : (last : Core D) (result : Result Summary NoMemory) → IfOk result (IsSumOf disk number lines last)
+            → OnOk result (Looked disk end last) → IfOk result (RanScript disk number lines)
+        sum_ran last (Ok sum) is_sum looked = script_ran last sum looked is_sum
+        sum_ran last (Err e) is_sum looked = tt

@@ -1,0 +1,116 @@
+// A line that a script of a number may have, carried out by the call that is its own.
+ghost use Rattle.std.specs.Prelude.{◌≡◌, ◌<◌, ◌^◌, OnErr, OnOk};
+ghost use Rattle.pcm_base.specs.declared.command.Command.TheVariants.{Ramp};
+ghost use Rattle.pcm_base.specs.Form.{IsInForm};
+ghost use Rattle.editor_core.specs.Applied.{EndsAlike};
+ghost use Rattle.editor_core.specs.Core.{core_of};
+ghost use Rattle.editor_core.specs.Studios.{IsStudio, studio_of};
+ghost use Rattle.memory_project.specs.Lines.{Asked, IsOfScript, MayCome, Went};
+
+use disk_model::Store;
+use editor_core::Studio;
+use pcm_base::{Command, NoMemory, Refusal};
+use std::alloc::Global;
+
+// Whether there was an answer, or why there was none.
+fn told<T: Drop>(answer: Result<T, Refusal>) -> Result<(), Refusal>
+    ensures { EndsAlike answer result }
+{
+    match answer {
+        Ok(_reply) => Ok(()),
+        Err(reason) => Err(reason),
+    }
+}
+
+// Carries out a ramp.
+fn ask_ramp<S: Store>(
+    alloc: Global,
+    studio: &mut Studio<S>,
+    track: u64,
+    at: u64,
+    count: u32,
+    start: i16,
+    step: i16,
+) -> Result<(), Refusal>
+    requires studio { IsStudio S.Store (core_of studio.old) }
+    requires form { at < 2 ^ 63 }
+    ensures { Asked S.Store (core_of studio.old) (Ramp track at count start step) result (core_of studio.new) }
+{
+    told(studio.ramp(alloc, track, at, count, start, step))
+}
+
+// Carries out a line of the kinds that such a script has.
+fn carry_line<S: Store>(
+    alloc: Global,
+    studio: &mut Studio<S>,
+    command: &Command,
+) -> Result<(), Refusal>
+    requires studio { IsStudio S.Store (core_of studio.old) }
+    requires kind { IsOfScript command.now }
+    requires form { IsInForm command.now }
+    ensures { Asked S.Store (core_of studio.old) command.now result (core_of studio.new) }
+{
+    match command {
+        Command::Track => told(studio.track(alloc)),
+        Command::Ramp {
+            track,
+            at,
+            count,
+            start,
+            step,
+        } => ask_ramp(alloc, studio, *track, *at, *count, *start, *step),
+        Command::Delete { track, from, to } => told(studio.delete(alloc, *track, *from, *to)),
+        Command::Gain {
+            track,
+            from,
+            to,
+            gain,
+        } => told(studio.gain(alloc, *track, *from, *to, *gain)),
+        Command::Silence { track, from, to } => told(studio.silence(alloc, *track, *from, *to)),
+        Command::Copy {
+            track,
+            count,
+            from,
+            to,
+        } => told(studio.copy(alloc, *track, *count, *from, *to)),
+        Command::Paste { track, at } => told(studio.paste(alloc, *track, *at)),
+        Command::Undo => told(studio.undo()),
+        Command::Redo => told(studio.redo()),
+        Command::Tracks => told(studio.tracks(alloc)),
+        Command::Envelope {
+            track,
+            from,
+            to,
+            columns,
+        } => told(studio.envelope(alloc, *track, *from, *to, *columns)),
+        _ => unreachable!(),
+    }
+}
+
+/// A reason that can be want of memory alone.
+pub fn want_of_memory(reason: Refusal) -> NoMemory
+    requires { reason ≡ Refusal.NoMemory }
+{
+    let _ = reason;
+    NoMemory
+}
+
+/// Carries out a line that nothing refuses, on a disk that has room for it.
+///
+/// # Errors
+///
+/// There is no memory for it, and nothing has changed.
+pub fn run_line<S: Store>(
+    alloc: Global,
+    studio: &mut Studio<S>,
+    command: &Command,
+) -> Result<(), NoMemory>
+    requires { MayCome S.Store (core_of studio.old) command.now }
+    ensures went { OnOk result (Went S.Store (core_of studio.old) command.now (core_of studio.new)) }
+    ensures wants { OnErr result (studio_of S.Store (core_of studio.new) ≡ studio_of S.Store (core_of studio.old)) }
+{
+    match carry_line(alloc, studio, command) {
+        Ok(()) => Ok(()),
+        Err(reason) => Err(want_of_memory(reason)),
+    }
+}

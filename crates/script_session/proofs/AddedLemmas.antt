@@ -1,0 +1,224 @@
+-- What a script adds to the list of a desk, line by line.
+use Rattle.std.proofs.Common.{◌≡◌, inl, inr, ℕ, if◌then◌else◌, Bool, true, false, IsTrue, List, [], ◌∷◌, ◌++◌}
+use Rattle.std.proofs.Common.{Result, Ok, Err, IfErr, Option, Some, None, IsSome, ◌≤◌, refl, sym, ◌∙◌, ap, subst, append_assoc, eq-eqb, arith}
+use Rattle.std.proofs.lemmas.List.{append-nil}
+use Rattle.pcm_base.specs.declared.answer.Answer.{Answer}
+use Rattle.pcm_base.specs.declared.answer.Reply.{Reply}
+use Rattle.pcm_base.specs.declared.command.Call.TheVariants.{Line}
+use Rattle.pcm_base.specs.declared.command.Command.{Command}
+use Rattle.pcm_base.specs.declared.entry.Entry.{Entry}
+use Rattle.pcm_base.specs.declared.entry.SoundMove.{SoundMove}
+use Rattle.pcm_base.specs.declared.refusal.Refusal.{Refusal}
+use Rattle.pcm_base.specs.Outside.{Sounds}
+use Rattle.pcm_base.specs.declared.refusal.Refusal.TheVariants as refusal
+use Rattle.pcm_base.specs.Causes.{Rose}
+use Rattle.pcm_base.specs.Run.{Follows, name_in_line}
+use Rattle.pin_turn.specs.Counts.{Each}
+use Rattle.pin_turn.proofs.Sums.{Each-append}
+use Rattle.editor_core.specs.Imports.{IsNoVault, VaultCountedBy}
+use Rattle.script_text.specs.Grammar.{is_silent, line_of}
+use Rattle.studio_seats.specs.declared.deed.Deed.{Deed}
+use Rattle.studio_seats.specs.Deeds.{commits, deed, entries_of, number_after, raised}
+use Rattle.studio_seats.specs.Merge.{by_seat, deeds_of, numbers_of, number_if}
+use Rattle.studio_seats.proofs.FaultLemmas.{rose_first, rose_last}
+use Rattle.studio_seats.proofs.Grown.{entries_append, number_append}
+use Rattle.studio_seats.proofs.MergeLemmas.{deeds_append, deeds_others, numbers_append, numbers_others}
+use Rattle.script_session.specs.Added.{Adds, OfLine, OfLines, SessionsAdd, SparesVault}
+use Rattle.script_session.specs.Place.{CountsFaults, Enters, Place, line_deed, seen_after}
+use Rattle.script_session.specs.Session.{Next, Session, Turn}
+
+-- the sounds of one list of entries, and then of another
+follows_on : (a b c : Sounds) (es fs : List Entry) → Follows a es b → Follows b fs c → Follows a (es ++ fs) c
+follows_on a b c [] fs h k = subst (λ (s : Sounds). Follows s fs c) h k
+follows_on a b c (e ∷ es) fs h k = (h.0, h.1, follows_on h.0 b c es fs h.2 k)
+
+own_deed : (seat : ℕ) (c : Command) (what : Result Reply Refusal) (sound : SoundMove)
+    → deeds_of (by_seat seat) (deed seat (Line c) what sound ∷ []) ≡ deed seat (Line c) what sound ∷ []
+own_deed seat c what sound =
+    ap (λ (b : Bool). (if b then deed seat (Line c) what sound ∷ [] else []) ++ []) (eq-eqb seat seat refl)
+
+own_number : (seat n : ℕ) (c : Command) (what : Result Reply Refusal) (sound : SoundMove)
+    → numbers_of (by_seat seat) n (deed seat (Line c) what sound ∷ [])
+    ≡ (if commits what (Line c) then number_after n (deed seat (Line c) what sound ∷ []) ∷ [] else [])
+own_number seat n c what sound =
+    ap (λ (b : Bool). number_if b (commits what (Line c)) (raised (commits what (Line c)) n) ++ []) (eq-eqb seat seat refl)
+    ∙ append-nil (if commits what (Line c) then raised (commits what (Line c)) n ∷ [] else [])
+
+-- ---- the count of a vault's faults
+
+later_by : (why : Refusal) (old new : ℕ) → VaultCountedBy why old new → old ≤ new
+later_by refusal.VaultFault old new h = h.1
+later_by why old new h = omega (arith, h)
+
+later : (name : Option (List ℕ)) (what : Result Reply Refusal) (old new : ℕ) → CountsFaults name what old new → old ≤ new
+later None what old new h = omega (arith, h)
+later (Some name) (Ok r) old new h = omega (arith, h)
+later (Some name) (Err why) old new h = later_by why old new h
+
+spares_by : (why : Refusal) (old new : ℕ) → VaultCountedBy why old new → (Rose old new → ⊥) → IsNoVault why
+spares_by refusal.VaultFault old new h calm = absurd (calm h.0)
+spares_by why old new h calm = tt
+
+spares_vault : (name : Option (List ℕ)) (what : Result Reply Refusal) (old new : ℕ) → CountsFaults name what old new
+    → (Rose old new → ⊥) → IsSome name → IfErr what IsNoVault
+spares_vault None what old new h calm some = cc
+spares_vault (Some name) (Ok r) old new h calm some = tt
+spares_vault (Some name) (Err why) old new h calm some = spares_by why old new h calm
+
+-- what one line adds
+record AddsOne (p q : Place) (said : Result Command ℕ) (a : Answer) : Type 0 where
+  added : List Deed
+  seen : q.seen ≡ p.seen ++ added
+  seat : q.seat ≡ p.seat
+  first : q.first ≡ p.first
+  tells : q.tells ≡ p.tells
+  own : OfLine p.seat said a (deeds_of (by_seat p.seat) added)
+  numbers : q.commits ≡ p.commits ++ numbers_of (by_seat p.seat) (number_after p.first p.seen) added
+  sounds : IsTrue p.tells → Follows p.sounds (entries_of (deeds_of (by_seat p.seat) added)) q.sounds
+  faults : p.faults ≤ q.faults
+  spares : (Rose p.faults q.faults → ⊥) → Each SparesVault (deeds_of (by_seat p.seat) added)
+
+-- a line that took no turn
+adds_none : (p q : Place) (used : Bool) (said : Result Command ℕ) (a : Answer) → OfLine p.seat said a []
+    → q ≡ record p { used_up = used } → AddsOne p q said a
+adds_none p q used said a none is = record {
+  added = [];
+  seen = ap (λ (z : Place). z.seen) is ∙ sym (append-nil p.seen);
+  seat = ap (λ (z : Place). z.seat) is;
+  first = ap (λ (z : Place). z.first) is;
+  tells = ap (λ (z : Place). z.tells) is;
+  own = none;
+  numbers = ap (λ (z : Place). z.commits) is ∙ sym (append-nil p.commits);
+  sounds = λ told. ap (λ (z : Place). z.sounds) is;
+  faults = let same = ap (λ (z : Place). z.faults) is in omega (arith, same);
+  spares = λ calm. tt;
+}
+
+module _ (p q : Place) (c : Command) (a : Answer) (h : Enters p c a.reply q) where
+  abbrev e : Deed
+  e = line_deed p c h.what q.sounds
+
+  abbrev n : ℕ
+  n = number_after p.first p.seen
+
+  own_is : deeds_of (by_seat p.seat) (h.between ++ e ∷ []) ≡ e ∷ []
+  own_is = deeds_append (by_seat p.seat) h.between (e ∷ [])
+      ∙ (λ i. deeds_others p.seat h.between h.by_others i ++ own_deed p.seat c h.what e.sound i)
+
+  numbers_are : numbers_of (by_seat p.seat) n (h.between ++ e ∷ [])
+      ≡ (if commits h.what (Line c) then number_after (number_after n h.between) (e ∷ []) ∷ [] else [])
+  numbers_are = numbers_append (by_seat p.seat) n h.between (e ∷ [])
+      ∙ (λ i. numbers_others p.seat n h.between h.by_others i
+      ++ own_number p.seat (number_after n h.between) c h.what e.sound i)
+
+  told_at : number_after p.first (seen_after p h.between c h.what q.sounds) ≡ number_after (number_after n h.between) (e ∷ [])
+  told_at = number_append p.first (p.seen ++ h.between) (e ∷ [])
+      ∙ ap (λ (m : ℕ). number_after m (e ∷ [])) (number_append p.first p.seen h.between)
+
+  adds_turn : AddsOne p q (Ok c) a
+  adds_turn = record {
+    added = h.between ++ e ∷ [];
+    seen = ap (λ (z : Place). z.seen) h.after ∙ append_assoc p.seen h.between (e ∷ []);
+    seat = ap (λ (z : Place). z.seat) h.after;
+    first = ap (λ (z : Place). z.first) h.after;
+    tells = ap (λ (z : Place). z.tells) h.after;
+    own = inl (record { what = h.what; sound = e.sound; reply = h.reply; is = own_is });
+    numbers = ap (λ (z : Place). z.commits) h.after ∙ ap (λ (l : List ℕ). p.commits ++ l)
+        (ap (λ (m : ℕ). if commits h.what (Line c) then m ∷ [] else []) told_at ∙ sym numbers_are);
+    sounds = λ told. subst (λ (l : List Deed). Follows p.sounds (entries_of l) q.sounds) (sym own_is)
+        (q.sounds, h.heard (λ _. told), refl);
+    faults = later (name_in_line c) h.what p.faults q.faults h.counted;
+    spares = λ calm. subst (λ (l : List Deed). Each SparesVault l) (sym own_is)
+        (spares_vault (name_in_line c) h.what p.faults q.faults h.counted calm, tt);
+  }
+
+adds_one : (p q : Place) (said : Result Command ℕ) (a : Answer) → Turn p said a.reply q → AddsOne p q said a
+adds_one p q (Err column) a h = adds_none p q p.used_up (Err column) a (refl, h.0) h.1
+adds_one p q (Ok c) a (inl h) = adds_turn p q c a h
+adds_one p q (Ok c) a (inr (inl h)) = adds_none p q true (Ok c) a (inr (refl, inl h.0)) h.1
+adds_one p q (Ok c) a (inr (inr h)) = adds_none p q p.used_up (Ok c) a (inr (refl, inr h.0)) h.1
+
+-- one line, and the rest
+module _ (p mid q : Place) (line : List ℕ) (lines : List (List ℕ)) (a : Answer) (answers : List Answer) where
+  abbrev deeds_in : List Deed → List Deed
+  deeds_in l = deeds_of (by_seat p.seat) l
+
+  adds_both : is_silent line ≡ false → AddsOne p mid (line_of line) a → Adds mid q lines answers
+      → Adds p q (line ∷ lines) (a ∷ answers)
+  adds_both spoken h k =
+      let seat = h.seat in
+      let own : OfLines p.seat lines answers (deeds_in k.added) =
+      subst (λ (n : ℕ). OfLines n lines answers (deeds_of (by_seat n) k.added)) seat k.own in
+      let n = number_after p.first p.seen in
+      let at : number_after mid.first mid.seen ≡ number_after n h.added =
+      (λ i. number_after (h.first i) (h.seen i)) ∙ number_append p.first p.seen h.added in
+      let parts : deeds_in (h.added ++ k.added) ≡ deeds_in h.added ++ deeds_in k.added =
+      deeds_append (by_seat p.seat) h.added k.added in
+      record {
+        added = h.added ++ k.added;
+        seen = k.seen ∙ (ap (λ (l : List Deed). l ++ k.added) h.seen ∙ append_assoc p.seen h.added k.added);
+        seat = k.seat ∙ seat;
+        first = k.first ∙ h.first;
+        tells = k.tells ∙ h.tells;
+        own = rw spoken (deeds_in h.added, deeds_in k.added, parts, h.own, own);
+        numbers = k.numbers ∙ (λ i. h.numbers i ++ numbers_of (by_seat (seat i)) (at i) k.added)
+            ∙ append_assoc p.commits (numbers_of (by_seat p.seat) n h.added) (numbers_of (by_seat p.seat) (number_after n h.added) k.added)
+            ∙ ap (λ (l : List ℕ). p.commits ++ l) (sym (numbers_append (by_seat p.seat) n h.added k.added));
+        sounds = λ told.
+            let later : Follows mid.sounds (entries_of (deeds_in k.added)) q.sounds =
+            subst (λ (n : ℕ). Follows mid.sounds (entries_of (deeds_of (by_seat n) k.added)) q.sounds) seat
+            (k.sounds (subst (λ (b : Bool). IsTrue b) (sym h.tells) told)) in
+            let both : Follows p.sounds (entries_of (deeds_in h.added) ++ entries_of (deeds_in k.added)) q.sounds =
+            follows_on p.sounds mid.sounds q.sounds (entries_of (deeds_in h.added)) (entries_of (deeds_in k.added))
+            (h.sounds told) later in
+            subst (λ (l : List Entry). Follows p.sounds l q.sounds)
+            (sym (ap entries_of parts ∙ entries_append (deeds_in h.added) (deeds_in k.added))) both;
+        faults = let a = h.faults in let b = k.faults in omega (arith, a, b);
+        spares = λ calm.
+            let front : Each SparesVault (deeds_in h.added) =
+            h.spares (λ rose. calm (rose_first p.faults mid.faults q.faults k.faults rose)) in
+            let back : Each SparesVault (deeds_in k.added) =
+            subst (λ (n : ℕ). Each SparesVault (deeds_of (by_seat n) k.added)) seat
+            (k.spares (λ rose. calm (rose_last p.faults mid.faults q.faults h.faults rose))) in
+            subst (λ (l : List Deed). Each SparesVault l) (sym parts)
+            (Each-append SparesVault (deeds_in h.added) (deeds_in k.added) front back);
+      }
+
+adds_silent : (p q : Place) (line : List ℕ) (lines : List (List ℕ)) (answers : List Answer) → is_silent line ≡ true
+    → Adds p q lines answers → Adds p q (line ∷ lines) answers
+adds_silent p q line lines answers silent h = record {
+  added = h.added;
+  seen = h.seen;
+  seat = h.seat;
+  first = h.first;
+  tells = h.tells;
+  own = rw silent h.own;
+  numbers = h.numbers;
+  sounds = h.sounds;
+  faults = h.faults;
+  spares = h.spares;
+}
+
+adds_next : (b : Bool) (p q : Place) (line : List ℕ) (lines : List (List ℕ)) (answers : List Answer) → is_silent line ≡ b
+    → ((mid : Place) (later : List Answer) → Session mid lines later q → Adds mid q lines later)
+    → Next b p line answers (λ mid later. Session mid lines later q) → Adds p q (line ∷ lines) answers
+adds_next true p q line lines answers is goes h = adds_silent p q line lines answers is (goes p answers h)
+adds_next false p q line lines [] is goes h = absurd h
+adds_next false p q line lines (a ∷ answers) is goes (mid, turn, h) =
+    adds_both p mid q line lines a answers is (adds_one p mid (line_of line) a turn.0) (goes mid answers h)
+
+pub sessions_add : SessionsAdd
+sessions_add [] answers p q h = record {
+  added = [];
+  seen = ap (λ (z : Place). z.seen) h.1 ∙ sym (append-nil p.seen);
+  seat = ap (λ (z : Place). z.seat) h.1;
+  first = ap (λ (z : Place). z.first) h.1;
+  tells = ap (λ (z : Place). z.tells) h.1;
+  own = (h.0, refl);
+  numbers = ap (λ (z : Place). z.commits) h.1 ∙ sym (append-nil p.commits);
+  sounds = λ told. ap (λ (z : Place). z.sounds) h.1;
+  faults = let same = ap (λ (z : Place). z.faults) h.1 in omega (arith, same);
+  spares = λ calm. tt;
+}
+sessions_add (line ∷ lines) answers p q h =
+    adds_next (is_silent line) p q line lines answers refl (λ mid later k. sessions_add lines later mid q k) h

@@ -1,0 +1,7 @@
+-- What the contracts cite, lowest first.
+pub mod Kept
+pub mod Place
+pub mod Session
+pub mod Added
+pub mod Served
+pub mod Progress

@@ -1,0 +1,112 @@
+-- How far a session has come.
+use Rattle.std.specs.Prelude.{◌≡◌, ℕ, ◌^◌, ◌<◌, ◌≤◌, List, [], ◌∷◌, ◌++◌, length, Bool, Option, Result, Ok, Err, MatchResult, take, flat_map}
+use Rattle.std.specs.List.{list_any}
+use Rattle.std.specs.Io.KnownBytes.{IsAtEnd}
+use Rattle.pcm_base.specs.declared.answer.Answer.{Answer}
+use Rattle.script_session.specs.Place.{Place}
+use Rattle.pcm_base.specs.declared.failed.Failed.{Failed}
+use Rattle.pcm_base.specs.Causes.{Rose}
+use Rattle.edit_ports.specs.Told.{grown, preceded}
+use Rattle.script_text.specs.Lines.{lines_of, ended_lines}
+use Rattle.script_text.specs.Text.{text_of}
+use Rattle.script_session.specs.declared.stop.Stop.{Stop}
+use Rattle.script_session.specs.declared.stop.Stop.TheVariants as stop
+use Rattle.script_session.specs.Kept.{Kept, Holds}
+use Rattle.script_session.specs.Session.{Session, is_refusal}
+
+-- no LF
+abbrev pub HasNoLf : List ℕ → Type 0
+HasNoLf [] = Unit {0}
+HasNoLf (b ∷ bs) = (b ≡ 10 → ⊥) × HasNoLf bs
+
+-- the bytes so far are these lines and a part of the next one, however they go on
+pub record Cut (read : List ℕ) (lines : List (List ℕ)) (part : List ℕ) : Type 0 where
+  pub unended : HasNoLf part
+  pub whole : (more : List ℕ) → lines_of (read ++ more) ≡ lines ++ lines_of (part ++ more)
+  pub ended : (more : List ℕ) → ended_lines (read ++ more) ≡ lines ++ ended_lines (part ++ more)
+
+abbrev pub says_no : Answer → Bool
+says_no a = is_refusal a.reply
+
+-- the texts of some answers were written behind `start`, but for the last one, of which a part from its front was written
+pub record BreaksOff (start now : Option (List ℕ)) (answers : List Answer) : Type 0 where
+  pub before : List Answer
+  pub last : Answer
+  pub whole : answers ≡ before ++ last ∷ []
+  pub count : ℕ
+  pub within : count < length (text_of last)
+  pub written : now ≡ grown start (flat_map text_of before ++ take count (text_of last))
+
+-- the texts of some answers were written behind `start`, or after a fault break off in the last one
+abbrev pub WritesAnswers : Result (Unit {0}) Failed → Option (List ℕ) → Option (List ℕ) → List Answer → Type 0
+WritesAnswers result start now answers = MatchResult result (λ _. now ≡ grown start (flat_map text_of answers)) (λ _. BreaksOff start now answers)
+
+-- these lines lead from s to t, and their answers were written behind `start`, or after a fault break off in the last one
+pub record Printed (s t : Place) (start now : Option (List ℕ)) (refused : Bool) (result : Result (Unit {0}) Failed) (lines : List (List ℕ)) : Type 0 where
+  pub answers : List Answer
+  pub session : Session s lines answers t
+  pub written : WritesAnswers result start now answers
+  pub no : refused ≡ list_any says_no answers
+
+-- after these bytes the answers to all lines that ended are printed, and what has come of the next is kept
+pub record Going (s t : Place) (start now : Option (List ℕ)) (kept : Kept) (refused : Bool) (read : List ℕ) : Type 0 where
+  pub lines : List (List ℕ)
+  pub part : List ℕ
+  pub cut : Cut read lines part
+  pub holds : Holds kept part
+  pub printed : Printed s t start now refused (Ok tt) lines
+
+-- the output failed at the answer of a line of these bytes, which was the last one that was carried out
+pub record Halted (s t : Place) (start now : Option (List ℕ)) (refused : Bool) (failed : Failed) (read : List ℕ) : Type 0 where
+  pub lines : List (List ℕ)
+  pub cut : (more : List ℕ) → (later : List (List ℕ)) × (lines_of (read ++ more) ≡ lines ++ later)
+  pub printed : Printed s t start now refused (Err failed) lines
+
+-- which lines of the bytes that were read a session has carried out, by what stopped it
+abbrev pub IsCut : Stop → List ℕ → List (List ℕ) → Option (List ℕ) → Type 0
+IsCut stop.End read lines left = (lines ≡ lines_of read) × (length read < 2 ^ 32) × IsAtEnd left
+IsCut stop.SourceFault read lines left = lines ≡ ended_lines read
+IsCut stop.Limit read lines left = (lines ≡ ended_lines read) × (length read ≡ 2 ^ 32)
+IsCut stop.OutFault read lines left = (later : List (List ℕ)) × (lines_of read ≡ lines ++ later)
+
+abbrev pub outcome_of : Stop → Result (Unit {0}) Failed
+outcome_of stop.OutFault = Err (record {})
+outcome_of other = Ok tt
+
+-- what a session read, and what it printed
+pub record Ran (stop : Stop) (s t : Place) (start now left left_now : Option (List ℕ)) (refused : Bool) : Type 0 where
+  pub read : List ℕ
+  pub lines : List (List ℕ)
+  pub bytes : left ≡ preceded read left_now
+  pub cut : IsCut stop read lines left_now
+  pub printed : Printed s t start now refused (outcome_of stop) lines
+
+-- the counts of faults of the source and of the sink, before and after
+abbrev pub IsCauseOf : Stop → ℕ → ℕ → ℕ → ℕ → Type 0
+IsCauseOf stop.End a a' o o' = (a' ≡ a) × (o' ≡ o)
+IsCauseOf stop.Limit a a' o o' = (a' ≡ a) × (o' ≡ o)
+IsCauseOf stop.SourceFault a a' o o' = (a ≤ a') × Rose a a' × (o' ≡ o)
+IsCauseOf stop.OutFault a a' o o' = (a' ≡ a) × (o ≤ o') × Rose o o'
+
+-- the bytes so far of a source, and how far they brought a session
+pub record Reading (s t : Place) (start now left left_now : Option (List ℕ)) (kept : Kept) (refused : Bool) (total : ℕ) : Type 0 where
+  pub read : List ℕ
+  pub bytes : left ≡ preceded read left_now
+  pub count : length read ≡ total
+  pub going : Going s t start now kept refused read
+
+-- what stands at the end of a script that was read to its end
+abbrev pub IsEndCut : Stop → List ℕ → List (List ℕ) → Type 0
+IsEndCut stop.End read lines = lines ≡ lines_of read
+IsEndCut stop.OutFault read lines = (later : List (List ℕ)) × (lines_of read ≡ lines ++ later)
+IsEndCut other read lines = ⊥
+
+pub record Ended (stop : Stop) (s t : Place) (start now : Option (List ℕ)) (refused : Bool) (read : List ℕ) : Type 0 where
+  pub lines : List (List ℕ)
+  pub cut : IsEndCut stop read lines
+  pub printed : Printed s t start now refused (outcome_of stop) lines
+
+abbrev pub IsSinkCauseOf : Stop → ℕ → ℕ → Type 0
+IsSinkCauseOf stop.OutFault o o' = (o ≤ o') × Rose o o'
+IsSinkCauseOf stop.End o o' = o' ≡ o
+IsSinkCauseOf other o o' = ⊥

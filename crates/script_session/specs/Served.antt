@@ -1,0 +1,51 @@
+-- What a session tells where no device fails.
+use Rattle.std.specs.Prelude.{◌≡◌, ℕ, None, List, ◌++◌, IfErr}
+use Rattle.pcm_base.specs.declared.answer.Answer.{Answer}
+use Rattle.pcm_base.specs.declared.refusal.Refusal.{Refusal}
+use Rattle.pcm_base.specs.declared.refusal.Refusal.TheVariants as refusal
+use Rattle.pcm_base.specs.Causes.{Rose}
+use Rattle.disk_model.specs.declared.store.Store.{Ghosts}
+use Rattle.edit_ports.specs.declared.vault.Vault as vault
+use Rattle.pin_turn.specs.Counts.{Each}
+use Rattle.editor_core.specs.Core.{Core}
+use Rattle.editor_core.specs.Studios.{IsHeld, studio_of}
+use Rattle.studio_seats.specs.declared.deed.Deed.{Deed}
+use Rattle.studio_seats.specs.Faults.{IsCalm}
+use Rattle.studio_seats.specs.Merge.{by_seat, deeds_of}
+use Rattle.studio_seats.specs.Stands.{AllTell, StandsFor}
+use Rattle.script_session.specs.Added.{OfLines}
+use Rattle.script_session.specs.Place.{Place}
+use Rattle.script_session.specs.Session.{Session}
+
+-- no device is behind this reason: none failed, none had failed before, and no file is damaged
+abbrev pub IsOfNoDevice : Refusal → Type 0
+IsOfNoDevice refusal.DiskFault = ⊥
+IsOfNoDevice (refusal.Stopped faults) = ⊥
+IsOfNoDevice refusal.VaultFault = ⊥
+IsOfNoDevice (refusal.Damaged file at want have) = ⊥
+IsOfNoDevice why = Unit {0}
+
+abbrev pub TellsNoDevice : Deed → Type 0
+TellsNoDevice d = IfErr d.what IsOfNoDevice
+
+-- Vaults tell their bytes, the disk held a studio that goes on, and no count of faults rose, of the store or of the vault
+-- that the script had.
+pub record IsUndisturbed {D V : Type 0} (disk : Ghosts D) (vaults : vault.Ghosts V) (start now : Core D)
+    (before after : ℕ) : Type 0 where
+  pub told : AllTell vaults
+  pub held : IsHeld disk start
+  pub going : start.stopped ≡ None
+  pub calm : IsCalm (studio_of disk start) (studio_of disk now)
+  pub vault : Rose before after → ⊥
+
+-- a script's own deeds are those of its lines, and tell of no device
+pub record Serves (p q : Place) (lines : List (List ℕ)) (answers : List Answer) : Type 0 where
+  pub added : List Deed
+  pub seen : q.seen ≡ p.seen ++ added
+  pub own : OfLines p.seat lines answers (deeds_of (by_seat p.seat) added)
+  pub fair : Each TellsNoDevice (deeds_of (by_seat p.seat) added)
+
+abbrev pub SessionsServe : {D V : Type 0} → Ghosts D → vault.Ghosts V → Type 0
+SessionsServe {D} disk vaults = (lines : List (List ℕ)) (answers : List Answer) (p q : Place) (start now : Core D)
+    (later : List Deed) → Session p lines answers q → StandsFor disk (AllTell vaults) start now (q.seen ++ later)
+    → IsUndisturbed disk vaults start now p.faults q.faults → Serves p q lines answers

@@ -1,0 +1,35 @@
+-- A session: what the lines of a script are answered.
+use Rattle.std.specs.Prelude.{◌≡◌, ◌⊎◌, ℕ, List, [], ◌∷◌, Bool, true, false, Result, Ok, Err}
+use Rattle.pcm_base.specs.declared.command.Command.{Command}
+use Rattle.pcm_base.specs.declared.refusal.Refusal.TheVariants.{BadLine, NoMemory}
+use Rattle.pcm_base.specs.declared.answer.Reply.TheVariants.{Refused}
+use Rattle.pcm_base.specs.declared.answer.Reply.{Reply}
+use Rattle.pcm_base.specs.declared.answer.Answer.{Answer}
+use Rattle.script_session.specs.Place.{Place, Enters}
+use Rattle.studio_seats.specs.Desks.{spent}
+use Rattle.script_text.specs.Grammar.{line_of, is_silent}
+
+-- what a line is answered, and where that leads: a line out of the grammar is refused by its column, a command takes a
+-- turn; where no turn is left, or memory is wanting before it, there is none, and nothing was asked
+abbrev pub Turn : Place → Result Command ℕ → Reply → Place → Type 0
+Turn p (Err column) r q = ((r ≡ Refused (BadLine column)) ⊎ (r ≡ Refused NoMemory)) × (q ≡ p)
+Turn p (Ok command) r q = Enters p command r q ⊎ ((r ≡ Refused spent) × (q ≡ record p { used_up = true })) ⊎ ((r ≡ Refused NoMemory) × (q ≡ p))
+
+-- the same of an answer, which tells the commit number after the turn, and where there was none the number told last
+abbrev pub Answers : Place → List ℕ → Answer → Place → Type 0
+Answers s line a t = Turn s (line_of line) a.reply t × (a.commit ≡ t.last)
+
+-- a silent line has no answer, any other line the first of some answers
+abbrev pub Next : Bool → Place → List ℕ → List Answer → (Place → List Answer → Type 0) → Type 0
+Next true s line answers later = later s answers
+Next false s line [] later = ⊥
+Next false s line (a ∷ answers) later = (t : Place) × Answers s line a t × later t answers
+
+-- from s these lines get these answers, in order, and lead to t
+abbrev pub Session : Place → List (List ℕ) → List Answer → Place → Type 0
+Session s [] answers t = (answers ≡ []) × (t ≡ s)
+Session s (line ∷ lines) answers t = Next (is_silent line) s line answers (λ mid later. Session mid lines later t)
+
+abbrev pub is_refusal : Reply → Bool
+is_refusal (Refused reason) = true
+is_refusal other = false

@@ -1,0 +1,126 @@
+// The bytes of a script.
+ghost use Rattle.std.specs.Prelude.{◌≡◌, ◌∷◌, [], ◌++◌, Ok, Err, List, ℕ, Option, MatchResult};
+ghost use Rattle.pcm_base.specs.Causes.{HasCause};
+ghost use Rattle.script_session.specs.Place.{Place};
+ghost use Rattle.script_session.specs.Kept.{Holds};
+ghost use Rattle.script_session.specs.Progress.{HasNoLf, Going, Halted, Ran, Ended, IsCauseOf, IsSinkCauseOf};
+
+use super::answer::{self, Session};
+use super::editor::Editor;
+use super::stop::Stop;
+use edit_ports::{Gate, Sink, Source};
+use memchr::memchr;
+use pcm_base::Failed;
+use std::alloc::Global;
+use std::sync::Wait;
+
+const LIMIT: u64 = 4294967296;
+
+// The rest of a line and its LF: the line is answered.
+fn end_line<R: Wait, E: Editor, O: Sink, G: Gate>(
+    rt: &R,
+    alloc: Global,
+    session: &mut Session<E>,
+    out: &mut O,
+    gate: &G,
+    rest: &[u8],
+) -> Result<(), Failed>
+    requires { HasNoLf rest.now }
+    ensures goes { (s : Place) (start : Option (List ℕ)) (read : List ℕ) →
+        Going s (E.place session.old.editor) start (O.written out.old) session.old.line session.old.refused read →
+        MatchResult result
+        (λ _. Going s (E.place session.new.editor) start (O.written out.new) session.new.line session.new.refused ((read ++ rest.now) ++ 10 ∷ []))
+        (λ failed. Halted s (E.place session.new.editor) start (O.written out.new) session.new.refused failed ((read ++ rest.now) ++ 10 ∷ [])) }
+    ensures cause { HasCause (O.fault_count out.old) (O.fault_count out.new) result }
+    ensures follows { (first : E) → E.follows first session.old.editor → E.follows first session.new.editor }
+{
+    session.line.extend(rest);
+    answer::answer_line(rt, alloc, session, out, gate)
+}
+
+// A piece more of the script: its lines are answered as they end.
+fn take_piece<R: Wait, E: Editor, O: Sink, G: Gate>(
+    rt: &R,
+    alloc: Global,
+    session: &mut Session<E>,
+    out: &mut O,
+    gate: &G,
+    piece: &[u8],
+) -> Result<(), Failed>
+    ensures goes { (s : Place) (start : Option (List ℕ)) (read : List ℕ) →
+        Going s (E.place session.old.editor) start (O.written out.old) session.old.line session.old.refused read →
+        MatchResult result
+        (λ _. Going s (E.place session.new.editor) start (O.written out.new) session.new.line session.new.refused (read ++ piece.now))
+        (λ failed. Halted s (E.place session.new.editor) start (O.written out.new) session.new.refused failed (read ++ piece.now)) }
+    ensures cause { HasCause (O.fault_count out.old) (O.fault_count out.new) result }
+    ensures follows { (first : E) → E.follows first session.old.editor → E.follows first session.new.editor }
+{
+    let mut at = 0;
+    while let Some(len) = memchr(b'\n', &piece[at..]) {
+        end_line(rt, alloc, session, out, gate, &piece[at..at + len])?;
+        at += len + 1;
+    }
+    session.line.extend(&piece[at..]);
+    Ok(())
+}
+
+// The end of the script: what has come of a last line is a line.
+fn end_script<R: Wait, E: Editor, O: Sink, G: Gate>(
+    rt: &R,
+    alloc: Global,
+    session: &mut Session<E>,
+    out: &mut O,
+    gate: &G,
+) -> Stop
+    ensures ended { (s : Place) (start : Option (List ℕ)) (read : List ℕ) →
+        Going s (E.place session.old.editor) start (O.written out.old) session.old.line session.old.refused read →
+        Ended result s (E.place session.new.editor) start (O.written out.new) session.new.refused read }
+    ensures cause { IsSinkCauseOf result (O.fault_count out.old) (O.fault_count out.new) }
+    ensures follows { (first : E) → E.follows first session.old.editor → E.follows first session.new.editor }
+{
+    if session.line.is_empty() {
+        return Stop::End;
+    }
+    match answer::answer_line(rt, alloc, session, out, gate) {
+        Ok(()) => Stop::End,
+        Err(_) => Stop::OutFault,
+    }
+}
+
+/// Answers the lines of a script, until it ends or something stops it. Each answer is between two passes of a gate.
+pub fn read_script<R: Wait, E: Editor, A: Source, O: Sink, G: Gate>(
+    rt: &R,
+    alloc: Global,
+    session: &mut Session<E>,
+    script: &mut A,
+    out: &mut O,
+    gate: &G,
+) -> Stop
+    ensures ran { (s : Place) (start : Option (List ℕ)) →
+        Going s (E.place session.old.editor) start (O.written out.old) session.old.line session.old.refused [] →
+        Ran result s (E.place session.new.editor) start (O.written out.new)
+        (A.left script.old) (A.left script.new) session.new.refused }
+    ensures cause { IsCauseOf result (A.fault_count script.old) (A.fault_count script.new)
+        (O.fault_count out.old) (O.fault_count out.new) }
+    ensures follows { (first : E) → E.follows first session.old.editor → E.follows first session.new.editor }
+{
+    let mut buffer = [0u8; 16384];
+    let mut total: u64 = 0;
+    while total < LIMIT {
+        let most = (LIMIT - total).min(16384) as usize;
+        match script.read(&mut buffer[..most]) {
+            Err(_) => return Stop::SourceFault,
+            Ok(count) => {
+                if count == 0 {
+                    return end_script(rt, alloc, session, out, gate);
+                }
+                total += count as u64;
+                match take_piece(rt, alloc, session, out, gate, &buffer[..count]) {
+                    Ok(()) => {}
+                    Err(_) => return Stop::OutFault,
+                }
+            }
+        }
+    }
+    Stop::Limit
+}

@@ -1,0 +1,145 @@
+// A seat at a desk as an editor.
+ghost use Rattle.std.specs.Prelude.{◌≡◌, ◌≤◌, ◌<◌, [], Ok, vec_len, vec_capacity};
+ghost use Rattle.pcm_base.specs.declared.answer.Reply.{Reply};
+ghost use Rattle.pcm_base.specs.declared.command.Call.TheVariants.{Line};
+ghost use Rattle.pin_turn.specs.Calls.{known};
+ghost use Rattle.studio_seats.specs.Deeds.{commits, number_after};
+ghost use Rattle.studio_seats.specs.Desks.{IsAt, start_at};
+ghost use Rattle.script_session.specs.Place.{with_number};
+
+use super::editor::Editor;
+use disk_model::Store;
+use edit_ports::Vault;
+use pcm_base::{Answer, Command, Numbers, Refusal, Reply, Said};
+use std::alloc::Global;
+use std::sync::Wait;
+use studio_seats::{Desk, DeskSeat};
+
+/// Each command is one turn of the seat, and names sounds of a vault that was lent.
+#[derive(Drop)]
+pub struct DeskEditor<'a, S: Store, V: Vault> {
+    desk: &'a Desk<S, V>,
+    seat: DeskSeat<S, V>,
+    vault: &'a mut V,
+    // The commit number that was told last.
+    last: u64,
+    // The numbers of its commits.
+    commits: Vec<u64>,
+    ghost at: { IsAt desk.now seat },
+    ghost low: { last ≤ number_after (start_at desk.now).commit_number (known seat).seen },
+}
+
+// Whether a line that is carried out is a commit.
+fn is_commit(command: &Command) -> bool
+    ensures { (reply : Reply) → result ≡ commits (Ok reply) (Line command.now) }
+{
+    match command {
+        Command::Copy { .. }
+        | Command::Show { .. }
+        | Command::Mix { .. }
+        | Command::Envelope { .. }
+        | Command::Tracks
+        | Command::Reclaim { .. }
+        | Command::Export { .. } => false,
+        _ => true,
+    }
+}
+
+// Lists the number of a commit.
+fn note(numbers: &mut Vec<u64>, commit: bool, at: u64)
+    requires { vec_len numbers.old < vec_capacity numbers.old }
+    ensures { numbers.new.items ≡ with_number commit numbers.old.items at }
+{
+    if commit {
+        numbers.push_reserved(at);
+    }
+}
+
+impl<'a, S: Store, V: Vault> Editor for DeskEditor<'a, S, V> {
+    ghost use Rattle.script_session.specs.Place.{place_of};
+    ghost use Rattle.studio_seats.specs.Onward.{Onward, IsLine};
+
+    ghost place = { λ s. place_of (start_at s.desk.now) (known s.seat) s.last s.commits.items (V.tells s.vault.now)
+        (V.holds s.vault.now) (V.fault_count s.vault.now) };
+
+    // It is of the same desk and the same vault, and its seat went on by turns of its own, all of them lines.
+    ghost follows = { λ first s. (s.desk.now ≡ first.desk.now) × (s.vault.ghost_name ≡ first.vault.ghost_name)
+        × Onward IsLine (known first.seat) (known s.seat) };
+
+    fn apply<R: Wait>(
+        &mut self,
+        rt: &R,
+        alloc: Global,
+        command: &Command,
+    ) -> Result<Reply, Refusal> {
+        if self.commits.reserve(1).is_err() {
+            return Err(Refusal::NoMemory);
+        }
+        let mut answer = Answer {
+            commit: 0,
+            reply: Reply::Done,
+        };
+        let Said { at, what } = self.desk.apply(
+            rt,
+            alloc,
+            &mut self.seat,
+            self.vault,
+            command,
+            &mut answer,
+        );
+        self.last = self.last.max(at);
+        match what {
+            Ok(()) => {
+                note(&mut self.commits, is_commit(command), at);
+                Ok(answer.reply)
+            }
+            Err(reason) => Err(reason),
+        }
+    }
+
+    fn commit_number(&self) -> u64 {
+        self.last
+    }
+}
+
+impl<'a, S: Store, V: Vault> DeskEditor<'a, S, V> {
+    /// An editor by this seat, at which this commit number was told last.
+    pub fn new(
+        alloc: Global,
+        desk: &'a Desk<S, V>,
+        seat: DeskSeat<S, V>,
+        vault: &'a mut V,
+        last: u64,
+    ) -> DeskEditor<'a, S, V>
+        requires at { IsAt desk.now seat }
+        requires last { last ≡ number_after (start_at desk.now).commit_number (known seat).seen }
+        ensures seat { known result.seat ≡ known seat }
+        ensures of { (result.desk.now ≡ desk.now) × (result.vault.ghost_name ≡ vault.entry.ghost_name)
+            × (result.vault.now ≡ vault.old) }
+        ensures fresh { (result.last ≡ last) × (result.commits.items ≡ []) }
+    {
+        DeskEditor {
+            desk,
+            seat,
+            vault,
+            last,
+            commits: Vec::new(alloc),
+        }
+    }
+
+    /// The seat, which is at the desk as before, the numbers of its commits, and the vault that was lent.
+    pub fn into_parts(self) -> (DeskSeat<S, V>, Numbers, &'a mut V)
+        ensures at { IsAt self.entry.desk.now result.0 }
+        ensures seat { known result.0 ≡ known self.entry.seat }
+        ensures numbers { result.1 ≡ self.entry.commits.items }
+        ensures vault { (result.2.ghost_name ≡ self.entry.vault.ghost_name) × (result.2.now ≡ self.entry.vault.now) }
+    {
+        let DeskEditor {
+            seat,
+            commits,
+            vault,
+            ..
+        } = self;
+        (seat, Numbers::new(commits), vault)
+    }
+}

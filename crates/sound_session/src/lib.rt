@@ -1,0 +1,26 @@
+//! A script beside a recording and a playback, each of which may be there or not.
+//!
+//! `run_beside` runs them at once, over any editor, taker of pieces and giver of frames; with neither sound it runs the
+//! script alone, and no thread is started. `LentSource` and `LentSink` are a source and a sink that were lent, for
+//! those which cannot be dropped.
+#![tactic(auto)]
+
+mod beside;
+mod lent;
+mod playback;
+mod recording;
+mod sounds;
+mod task;
+
+pub use beside::run_beside;
+pub use lent::{LentSink, LentSource};
+pub use playback::{PlayRing, Playback};
+pub use recording::{RecordRing, Recording};
+pub use sounds::run_sounds;
+
+#[cfg(test)]
+mod gates;
+#[cfg(test)]
+mod memory;
+#[cfg(test)]
+mod tests;

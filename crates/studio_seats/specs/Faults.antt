@@ -1,0 +1,52 @@
+-- What is answered where no count of faults of the store rises.
+use Rattle.std.specs.Prelude.{◌≡◌, IsSome, None, List, IfErr}
+use Rattle.pcm_base.specs.declared.command.Call.{Call}
+use Rattle.pcm_base.specs.declared.entry.Entry.{Entry}
+use Rattle.pcm_base.specs.declared.refusal.Refusal.{Refusal}
+use Rattle.pcm_base.specs.declared.refusal.Refusal.TheVariants as refusal
+use Rattle.pcm_base.specs.Causes.{Rose}
+use Rattle.pcm_base.specs.Run.{Run, name_in, result_of}
+use Rattle.pcm_base.specs.Studio as model
+use Rattle.pin_turn.specs.Counts.{Each}
+use Rattle.disk_model.specs.declared.store.Store.{Ghosts}
+use Rattle.edit_ports.specs.declared.vault.Vault as vault
+use Rattle.editor_core.specs.Core.{Core}
+use Rattle.editor_core.specs.Studios.{IsHeld, studio_of}
+use Rattle.studio_seats.specs.declared.deed.Deed.{Deed}
+use Rattle.studio_seats.specs.Stands.{AllTell, IsUnharmed, StandsFor}
+
+-- no count of faults rose, and none stands at its type's end
+pub record IsCalm (t u : model.Studio) : Type 0 where
+  pub reads : Rose t.read_faults u.read_faults → ⊥
+  pub changes : Rose t.change_faults u.change_faults → ⊥
+
+-- The store is not behind this reason: neither did it fail, nor had the studio stopped. That the vault failed is told
+-- only of a call that names a sound.
+abbrev pub IsServed : Call → Refusal → Type 0
+IsServed c refusal.DiskFault = ⊥
+IsServed c (refusal.Stopped faults) = ⊥
+IsServed c refusal.VaultFault = IsSome (name_in c)
+IsServed c why = Unit {0}
+
+abbrev pub AreServed : List Entry → Type 0
+AreServed es = Each (λ e. IfErr (result_of e.reply) (IsServed e.call)) es
+
+-- From a studio that goes on, a run in which no count of faults of the store rises: the store is behind no refusal, and
+-- the studio goes on.
+pub record Serves (t u : model.Studio) (es : List Entry) : Type 0 where
+  pub going : u.stopped ≡ None
+  pub served : AreServed es
+
+abbrev pub FaultsAreCounted : Type 0
+FaultsAreCounted = (t u : model.Studio) (es : List Entry) → Run t es u → t.stopped ≡ None → IsCalm t u → Serves t u es
+
+-- The same of the deeds of a desk, where vaults tell and the disk held the start. No file is told to be damaged either.
+pub record AllServed {D : Type 0} (now : Core D) (deeds : List Deed) : Type 0 where
+  pub going : now.stopped ≡ None
+  pub served : Each (λ d. IfErr d.what (IsServed d.call)) deeds
+  pub unharmed : Each (λ d. IfErr d.what IsUnharmed) deeds
+
+abbrev pub DesksServe : {D V : Type 0} → Ghosts D → vault.Ghosts V → Type 0
+DesksServe {D} disk vaults = (start now : Core D) (deeds : List Deed) → StandsFor disk (AllTell vaults) start now deeds
+    → AllTell vaults → IsHeld disk start → start.stopped ≡ None → IsCalm (studio_of disk start) (studio_of disk now)
+    → AllServed now deeds
