@@ -156,10 +156,10 @@ fn an_early_sync_that_fails_is_a_fault_of_the_write(rt: HostRuntime) -> Result<(
     let (files, watch) = watch_files(rt)?;
     let mut store = FolderStore::new(files, rt.alloc(), "faults-early")?;
     watch.fail(Call::SyncFile, 0);
-    for file in 16..24 {
+    for file in 16..528 {
         assert!(rt; ask(&mut store, Asked::Write, file));
     }
-    assert!(rt; !ask(&mut store, Asked::Write, 24) && store.change_faults() == 1);
+    assert!(rt; !ask(&mut store, Asked::Write, 528) && store.change_faults() == 1);
     watch.fails.set(None);
     assert!(rt; !ask(&mut store, Asked::Sync, 16) && store.change_faults() == 2);
     let _ = fs::remove_dir_all(&rt, "faults-early");

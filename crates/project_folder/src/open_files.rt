@@ -4,7 +4,7 @@ use std::alloc::{AllocError, Global};
 use std::fs::OpenFile;
 
 /// How many files besides file 0 are kept open that were written and not synced since.
-const UNSYNCED_FILES: usize = 8;
+const UNSYNCED_FILES: usize = 512;
 
 /// An open file, and whether it was opened to be written too.
 #[derive(Drop)]

@@ -155,26 +155,27 @@ fn calls(
     }
 }
 
+// 512 files are kept open up to their sync.
 #[test]
-fn a_ninth_unsynced_file_syncs_the_first(rt: HostRuntime) -> Result<(), AllocError> {
+fn one_unsynced_file_too_many_syncs_the_first(rt: HostRuntime) -> Result<(), AllocError> {
     let _ = fs::remove_dir_all(&rt, "folder-many");
     let (files, watch) = watch_files(rt)?;
     let mut store = FolderStore::new(files, rt.alloc(), "folder-many")?;
-    for file in 16..24 {
+    for file in 16..528 {
         assert!(rt; write_block(&mut store, file));
     }
     assert_eq!(rt; watch.count().file_syncs, 0);
-    assert!(rt; write_block(&mut store, 24));
+    assert!(rt; write_block(&mut store, 528));
     assert_eq!(rt; watch.count().file_syncs, 1);
-    for file in 16..25 {
+    for file in 16..529 {
         assert_eq!(rt; store.sync(file), Ok(()));
     }
     // The first is opened anew, and the folder is synced by the first sync, with the folders above.
     let counted = watch.count();
-    assert_eq!(rt; counted.file_syncs, 9);
+    assert_eq!(rt; counted.file_syncs, 513);
     assert_eq!(rt; counted.folder_syncs, 3);
     let mut buf = [0u8; 12];
-    for file in 16..25 {
+    for file in 16..529 {
         assert_eq!(rt; store.read_at(file, 0, &mut buf), Ok(12));
     }
     assert_eq!(rt; store.faults(), 0);
