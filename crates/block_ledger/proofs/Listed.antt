@@ -1,5 +1,6 @@
 -- The ids of a ledger whose counts pass a test, listed once each and rising.
-use Rattle.std.proofs.Common.{◌≡◌, ◌≢◌, ◌⊎◌, inl, inr, ⊎_elim, ℕ, zero, suc, ◌+◌, ◌≤◌, Bool, true, false, Option, Some, None, is_some, List, [], ◌∷◌, length, map, take, refl, sym, ◌∙◌, ap, arith}
+use Rattle.std.proofs.Common.{◌≡◌, ◌≢◌, ◌⊎◌, inl, inr, ⊎_elim, ℕ, zero, suc, ◌+◌, ◌≤◌, Bool, true, false, Option, Some}
+use Rattle.std.proofs.Common.{None, is_some, List, [], ◌∷◌, length, map, take, refl, sym, ◌∙◌, ap, arith}
 use mathlib.Core.Bool.{false≢true}
 use Rattle.std.specs.Prelude.{Contains, ◌↔◌}
 use Rattle.std.specs.List.{filter}
@@ -26,34 +27,42 @@ module _ (test : Option ℕ → Bool) (none : test None ≡ false) where
   listed es = map id_of (filter (λ e. test e.count) es)
 
   -- an id that passes among the rest is not the first
-  behind : (e : Entry) (es : List Entry) (id : ℕ) → IsRising (e ∷ es) → test (count_in es id) ≡ true → test (count_in (e ∷ es) id) ≡ true
+  behind : (e : Entry) (es : List Entry) (id : ℕ) → IsRising (e ∷ es) → test (count_in es id) ≡ true
+      → test (count_in (e ∷ es) id) ≡ true
   behind e es id rising passes = ⊎_elim
-      (λ same. absurd (false≢true (sym none ∙ ap test (sym (absent_above e.id es id rising.0 (omega (arith, same)))) ∙ passes)))
+      (λ same. absurd
+      (false≢true (sym none ∙ ap test (sym (absent_above e.id es id rising.0 (omega (arith, same)))) ∙ passes)))
       (λ ne. ap test (first_not e es id ne) ∙ passes)
       (cases_eq e.id id)
 
   listed_passes : (es : List Entry) (id : ℕ) → IsRising es → Contains (listed es) id → test (count_in es id) ≡ true
   listed_passes [] id rising there = absurd (omega (arith, there.1))
-  listed_passes (e ∷ es) id rising there = by_test (test e.count) refl (λ more. behind e es id rising (listed_passes es id rising.1 more))
+  listed_passes (e ∷ es) id rising there =
+      by_test (test e.count) refl (λ more. behind e es id rising (listed_passes es id rising.1 more))
     where
-      by_test : (b : Bool) → test e.count ≡ b → (Contains (listed es) id → test (count_in (e ∷ es) id) ≡ true) → test (count_in (e ∷ es) id) ≡ true
+      by_test : (b : Bool) → test e.count ≡ b → (Contains (listed es) id → test (count_in (e ∷ es) id) ≡ true)
+          → test (count_in (e ∷ es) id) ≡ true
       by_test false is rest = rest (rw is at there)
-      by_test true is rest = ⊎_elim (λ same. ap test (first_is e es id same) ∙ is) rest (contains_cases e.id id (listed es) (rw is at there))
+      by_test true is rest = ⊎_elim (λ same. ap test (first_is e es id same) ∙ is) rest
+          (contains_cases e.id id (listed es) (rw is at there))
 
   passes_listed : (es : List Entry) (id : ℕ) → test (count_in es id) ≡ true → Contains (listed es) id
   passes_listed [] id passes = absurd (false≢true (sym none ∙ passes))
-  passes_listed (e ∷ es) id passes = by_test (test e.count) refl (λ ne. passes_listed es id (ap test (sym (first_not e es id ne)) ∙ passes))
+  passes_listed (e ∷ es) id passes =
+      by_test (test e.count) refl (λ ne. passes_listed es id (ap test (sym (first_not e es id ne)) ∙ passes))
     where
       by_test : (b : Bool) → test e.count ≡ b → (e.id ≢ id → Contains (listed es) id) → Contains (listed (e ∷ es)) id
       by_test false is other = rw is (⊎_elim
           (λ same. absurd (false≢true (sym is ∙ ap test (sym (first_is e es id same)) ∙ passes)))
           other
           (cases_eq e.id id))
-      by_test true is other = rw is (⊎_elim (λ same. (0, omega arith, same)) (λ ne. contains_more e.id id (listed es) (other ne)) (cases_eq e.id id))
+      by_test true is other = rw is (⊎_elim (λ same. (0, omega arith, same))
+          (λ ne. contains_more e.id id (listed es) (other ne)) (cases_eq e.id id))
 
   listed_rises : (es : List Entry) → IsRising es → IsStrictlyIncreasing (listed es)
   listed_rises es rising = λ k lt.
-      rising_at (filter (λ e. test e.count) es) (rising_filter (λ e. test e.count) es rising) k (k + 1) (omega arith) (omega (arith, lt, length-map (filter (λ e. test e.count) es) id_of))
+      rising_at (filter (λ e. test e.count) es) (rising_filter (λ e. test e.count) es rising) k (k + 1) (omega arith)
+      (omega (arith, lt, length-map (filter (λ e. test e.count) es) id_of))
 
 occurs_named : (o : Option ℕ) → occurs o ≡ true ↔ IsNamed o
 occurs_named None = (λ h. absurd (false≢true h), λ h. absurd h)
@@ -83,12 +92,14 @@ are_there es rising = record {
 
 -- what passes among the first of some entries
 pub passed_most : (test : Entry → Bool) (es : List Entry) (n : ℕ) → length (filter test (take n es)) ≤ n
-passed_most test es n = omega (arith, length-filter test (take n es), count_by-le-length test (take n es), length-take n es)
+passed_most test es n =
+    omega (arith, length-filter test (take n es), count_by-le-length test (take n es), length-take n es)
 
 pub filter_twice : (test : Entry → Bool) (es : List Entry) → filter test (filter test es) ≡ filter test es
 filter_twice test [] = refl
 filter_twice test (e ∷ es) = by_test (test e) refl (filter_twice test es)
   where
-    by_test : (b : Bool) → test e ≡ b → filter test (filter test es) ≡ filter test es → filter test (filter test (e ∷ es)) ≡ filter test (e ∷ es)
+    by_test : (b : Bool) → test e ≡ b → filter test (filter test es) ≡ filter test es
+        → filter test (filter test (e ∷ es)) ≡ filter test (e ∷ es)
     by_test false is rest = rw is rest
     by_test true is rest = rw (is, is) (ap (λ fs. e ∷ fs) rest)

@@ -21,14 +21,16 @@ pub rising_at : (es : List Entry) → IsRising es → (i j : ℕ) → i < j → 
 rising_at [] rising i j lt within = absurd (omega (arith, within))
 rising_at (e ∷ es) rising i zero lt within = absurd (omega (arith, lt))
 rising_at (e ∷ es) rising zero (suc j) lt within = above_at e.id es rising.0 j (omega (arith, within))
-rising_at (e ∷ es) rising (suc i) (suc j) lt within = rising_at es rising.1 i j (omega (arith, lt)) (omega (arith, within))
+rising_at (e ∷ es) rising (suc i) (suc j) lt within =
+    rising_at es rising.1 i j (omega (arith, lt)) (omega (arith, within))
 
 above_set : (x : ℕ) (es : List Entry) (i : ℕ) (new : Entry) → Above x es → x < new.id → Above x (set es i new)
 above_set x [] i new all lt = tt
 above_set x (e ∷ es) zero new all lt = (lt, all.1)
 above_set x (e ∷ es) (suc i) new all lt = (all.0, above_set x es i new all.1 lt)
 
-pub rising_set : (es : List Entry) (i : ℕ) (new : Entry) → IsRising es → i < length es → new.id ≡ id_at es i → IsRising (set es i new)
+pub rising_set : (es : List Entry) (i : ℕ) (new : Entry) → IsRising es → i < length es → new.id ≡ id_at es i
+    → IsRising (set es i new)
 rising_set [] i new rising within same = tt
 rising_set (e ∷ es) zero new rising within same = (rw same rising.0, rising.1)
 rising_set (e ∷ es) (suc i) new rising within same =
@@ -47,10 +49,14 @@ gap_tail e es id i gap = record {
   above = λ j le lt. gap.above (suc j) (omega (arith, le)) (omega (arith, lt));
 }
 
-pub rising_insert : (es : List Entry) (i : ℕ) (new : Entry) → IsRising es → IsGap es new.id i → IsRising (insert es i new)
+pub rising_insert : (es : List Entry) (i : ℕ) (new : Entry) → IsRising es → IsGap es new.id i
+    → IsRising (insert es i new)
 rising_insert es zero new rising gap = (above_from new.id es (λ j lt. gap.above j (omega arith) lt), rising)
 rising_insert [] (suc i) new rising gap = (tt, tt)
-rising_insert (e ∷ es) (suc i) new rising gap = (above_insert e.id es i new rising.0 (gap.below 0 (omega arith)), rising_insert es i new rising.1 (gap_tail e es new.id i gap))
+rising_insert (e ∷ es) (suc i) new rising gap = (
+  above_insert e.id es i new rising.0 (gap.below 0 (omega arith)),
+  rising_insert es i new rising.1 (gap_tail e es new.id i gap),
+)
 
 above_filter : (test : Entry → Bool) (x : ℕ) (es : List Entry) → Above x es → Above x (filter test es)
 above_filter test x [] all = tt

@@ -1,5 +1,6 @@
 -- Where a binary search ends.
-use Rattle.std.proofs.Common.{◌≡◌, ⊎_elim, ℕ, zero, suc, ◌≤◌, ◌<◌, None, Result, Ok, Err, IfOk, IfErr, List, [], ◌∷◌, length, get_or, refl, sym, ◌∙◌, ap, arith}
+use Rattle.std.proofs.Common.{◌≡◌, ⊎_elim, ℕ, zero, suc, ◌≤◌, ◌<◌, None, Result, Ok, Err, IfOk, IfErr, List, [], ◌∷◌}
+use Rattle.std.proofs.Common.{length, get_or, refl, sym, ◌∙◌, ap, arith}
 use Rattle.std.specs.List.Sorted.{IsSearchInRange, IsBinarySearchResult, IsNonDecreasingBy}
 use Rattle.std.specs.Ordering.{nat_cmp, ordering_index}
 use Rattle.std.proofs.lemmas.Cmp.{ranked}
@@ -33,16 +34,21 @@ not_above es rising i j le lt = ⊎_elim
 
 ranks_rise : (es : List Entry) (id : ℕ) → IsRising es → IsNonDecreasingBy (λ (e : Entry). rank id e.id) es
 ranks_rise es id rising = IsNonDecreasingBy-from_default (λ (e : Entry). rank id e.id) es no_entry (λ i j le lt.
-    rank_rises id (get_or es i no_entry).id (get_or es j no_entry).id (omega (arith, not_above es rising i j le lt, id_at_is es i, id_at_is es j)))
+    rank_rises id (get_or es i no_entry).id (get_or es j no_entry).id
+    (omega (arith, not_above es rising i j le lt, id_at_is es i, id_at_is es j)))
 
-pub found_at : (es : List Entry) (id : ℕ) (r : Result ℕ ℕ) → IsSearchInRange r (length es) → IsBinarySearchResult (λ (e : Entry). nat_cmp e.id id) es r → IfOk r (IsAt es id)
+pub found_at : (es : List Entry) (id : ℕ) (r : Result ℕ ℕ) → IsSearchInRange r (length es)
+    → IsBinarySearchResult (λ (e : Entry). nat_cmp e.id id) es r → IfOk r (IsAt es id)
 found_at es id (Ok i) within is = record { within = within; same = id_at_is es i ∙ ranked _ id _ (sym (is no_entry)) }
 found_at es id (Err i) within is = tt
 
-pub gap_at : (es : List Entry) (id : ℕ) (r : Result ℕ ℕ) → IsRising es → IsSearchInRange r (length es) → IsBinarySearchResult (λ (e : Entry). nat_cmp e.id id) es r → IfErr r (IsGap es id)
+pub gap_at : (es : List Entry) (id : ℕ) (r : Result ℕ ℕ) → IsRising es → IsSearchInRange r (length es)
+    → IsBinarySearchResult (λ (e : Entry). nat_cmp e.id id) es r → IfErr r (IsGap es id)
 gap_at es id (Ok i) rising within is = tt
 gap_at es id (Err i) rising within is = record {
   within = within;
-  below = λ j lt. omega (arith, id_at_is es j, ranked _ id _ (sym ((is (ranks_rise es id rising)).0 j no_entry (omega arith) lt)));
-  above = λ j le lt. omega (arith, id_at_is es j, ranked _ id _ (sym ((is (ranks_rise es id rising)).1 j no_entry le lt)));
+  below = λ j lt.
+      omega (arith, id_at_is es j, ranked _ id _ (sym ((is (ranks_rise es id rising)).0 j no_entry (omega arith) lt)));
+  above =
+      λ j le lt. omega (arith, id_at_is es j, ranked _ id _ (sym ((is (ranks_rise es id rising)).1 j no_entry le lt)));
 }

@@ -1,5 +1,6 @@
 -- A fresh count over a list of ids, as an occurrence comes or goes.
-use Rattle.std.proofs.Common.{◌≡◌, ◌≢◌, ⊎_elim, refl, ℕ, ◌+◌, ◌-◌, ◌^◌, ◌≤◌, ◌<◌, Option, Some, None, List, [], ◌∷◌, ◌++◌, length, sym, ◌∙◌, ap, arith}
+use Rattle.std.proofs.Common.{◌≡◌, ◌≢◌, ⊎_elim, refl, ℕ, ◌+◌, ◌-◌, ◌^◌, ◌≤◌, ◌<◌, Option, Some, None, List, [], ◌∷◌}
+use Rattle.std.proofs.Common.{◌++◌, length, sym, ◌∙◌, ap, arith}
 use Rattle.std.proofs.lemmas.Bool.{cases_eq, eq-eqb}
 use Rattle.block_ledger.specs.Counts.{Counts, SetsCount, one_more, one_less, occurrences, times, IsFreshCount}
 use Rattle.block_ledger.proofs.Lookups.{differ}
@@ -22,7 +23,8 @@ times_most id (x ∷ xs) = ⊎_elim
     (cases_eq x id)
 
 -- a fresh count asks for no order
-pub fresh_same : (xs ys : List ℕ) (counts : Counts) → ((id : ℕ) → times id xs ≡ times id ys) → IsFreshCount xs counts → IsFreshCount ys counts
+pub fresh_same : (xs ys : List ℕ) (counts : Counts) → ((id : ℕ) → times id xs ≡ times id ys) → IsFreshCount xs counts
+    → IsFreshCount ys counts
 fresh_same xs ys counts same fresh = λ id. fresh id ∙ same id
 
 more_of : (o : Option ℕ) → occurrences o + 1 < 2 ^ 128 → occurrences (Some (one_more o)) ≡ occurrences o + 1
@@ -33,7 +35,8 @@ less_of : (o : Option ℕ) (n : ℕ) → occurrences o ≡ n + 1 → occurrences
 less_of None n is = absurd (omega (arith, is))
 less_of (Some k) n is = omega (arith, is)
 
-pub fresh_more : (ids : List ℕ) (old new : Counts) (id : ℕ) → length ids < 2 ^ 128 - 1 → SetsCount old new id (Some (one_more (old id)))
+pub fresh_more : (ids : List ℕ) (old new : Counts) (id : ℕ) → length ids < 2 ^ 128 - 1
+    → SetsCount old new id (Some (one_more (old id)))
     → IsFreshCount ids old → IsFreshCount (id ∷ ids) new
 fresh_more ids old new id few set fresh = λ other. ⊎_elim
     (λ same. ap (λ (i : ℕ). occurrences (new i)) (sym same) ∙ ap occurrences set.here
@@ -42,7 +45,8 @@ fresh_more ids old new id few set fresh = λ other. ⊎_elim
     (λ ne. ap occurrences (set.others other (λ is. ne (sym is))) ∙ fresh other ∙ sym (times_other other id ids ne))
     (cases_eq id other)
 
-pub fresh_less : (ids : List ℕ) (old new : Counts) (id : ℕ) → SetsCount old new id (Some (one_less (old id))) → IsFreshCount (id ∷ ids) old → IsFreshCount ids new
+pub fresh_less : (ids : List ℕ) (old new : Counts) (id : ℕ) → SetsCount old new id (Some (one_less (old id)))
+    → IsFreshCount (id ∷ ids) old → IsFreshCount ids new
 fresh_less ids old new id set fresh = λ other. ⊎_elim
     (λ same. ap (λ (i : ℕ). occurrences (new i)) (sym same) ∙ ap occurrences set.here
     ∙ less_of (old id) (times id ids) (omega (arith, fresh id, times_here id id ids refl))
@@ -50,8 +54,10 @@ fresh_less ids old new id set fresh = λ other. ⊎_elim
     (λ ne. ap occurrences (set.others other (λ is. ne (sym is))) ∙ fresh other ∙ times_other other id ids ne)
     (cases_eq id other)
 
-pub fresh_gone : (ids : List ℕ) (old new : Counts) (id : ℕ) → old id ≡ Some 0 → SetsCount old new id None → IsFreshCount ids old → IsFreshCount ids new
+pub fresh_gone : (ids : List ℕ) (old new : Counts) (id : ℕ) → old id ≡ Some 0 → SetsCount old new id None
+    → IsFreshCount ids old → IsFreshCount ids new
 fresh_gone ids old new id free set fresh = λ other. ⊎_elim
-    (λ same. ap (λ (i : ℕ). occurrences (new i)) (sym same) ∙ ap occurrences set.here ∙ sym (ap occurrences free) ∙ ap (λ (i : ℕ). occurrences (old i)) same ∙ fresh other)
+    (λ same. ap (λ (i : ℕ). occurrences (new i)) (sym same) ∙ ap occurrences set.here ∙ sym (ap occurrences free)
+    ∙ ap (λ (i : ℕ). occurrences (old i)) same ∙ fresh other)
     (λ ne. ap occurrences (set.others other (λ is. ne (sym is))) ∙ fresh other)
     (cases_eq id other)

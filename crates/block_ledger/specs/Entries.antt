@@ -1,5 +1,6 @@
 -- The counts that a row of entries stands for.
-use Rattle.std.specs.Prelude.{◌≡◌, ℕ, zero, suc, ◌+◌, ◌<◌, ◌≤◌, max, Bool, true, false, ◌==◌, if◌then◌else◌, Option, Some, None, is_some, List, [], ◌∷◌, length, map, slice_index, slice_index_or}
+use Rattle.std.specs.Prelude.{◌≡◌, ℕ, zero, suc, ◌+◌, ◌<◌, ◌≤◌, max, Bool, true, false, ◌==◌, if◌then◌else◌, Option}
+use Rattle.std.specs.Prelude.{Some, None, is_some, List, [], ◌∷◌, length, map, slice_index, slice_index_or}
 use Rattle.std.specs.List.{AllByRecursion}
 use Rattle.block_ledger.specs.declared.entry.Entry.{Entry}
 use Rattle.block_ledger.specs.Counts.{Counts, free_id, AreThere}

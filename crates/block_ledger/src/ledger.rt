@@ -1,10 +1,14 @@
 // Counts by id.
-ghost use Rattle.std.specs.Prelude.{◌≡◌, ◌⊎◌, ◌↔◌, ◌+◌, ◌-◌, ◌^◌, ◌<◌, ◌≤◌, max, ℕ, None, Some, IsSome, IfSome, IfNone, IfOk, IfErr, OnOk, OnErr, List, [], ◌∷◌, Contains, length, map, slice_set, slice_index_or, vec_capacity};
+ghost use Rattle.std.specs.Prelude.{◌≡◌, ◌⊎◌, ◌↔◌, ◌+◌, ◌-◌, ◌^◌, ◌<◌, ◌≤◌, max, ℕ, None, Some, IsSome, IfSome, IfNone};
+ghost use Rattle.std.specs.Prelude.{IfOk, IfErr, OnOk, OnErr, List, [], ◌∷◌, Contains, length, map, slice_set};
+ghost use Rattle.std.specs.Prelude.{slice_index_or, vec_capacity};
 ghost use Rattle.std.specs.List.{insert, filter};
 ghost use Rattle.std.specs.List.Sorted.{IsStrictlyIncreasing};
 ghost use Rattle.block_ledger.specs.declared.entry.Entry.{Entry};
-ghost use Rattle.block_ledger.specs.Counts.{AreNamed, IsFirstFree, IsFreshCount, IsNamed, SetsCount, one_less, one_more};
-ghost use Rattle.block_ledger.specs.Entries.{FollowsIds, IsAt, IsGap, IsLeaves, IsRising, count_of, free_of, id_at, is_kept, places, with_count};
+ghost use Rattle.block_ledger.specs.Counts.{AreNamed, IsFirstFree, IsFreshCount, IsNamed, SetsCount, one_less};
+ghost use Rattle.block_ledger.specs.Counts.{one_more};
+ghost use Rattle.block_ledger.specs.Entries.{FollowsIds, IsAt, IsGap, IsLeaves, IsRising, count_of, free_of, id_at};
+ghost use Rattle.block_ledger.specs.Entries.{is_kept, places, with_count};
 
 use super::entry::{Entry, lowered, raised};
 use super::tree::LeastTree;
@@ -253,7 +257,8 @@ fn kept_entries(alloc: Global, entries: &[Entry], places: usize) -> Result<Vec<E
 // Writes the leaves of the entries from a place on, where those before are as they have to be.
 fn refresh(entries: &[Entry], free: &mut LeastTree, from: usize)
     requires few { length entries.now ≤ length free.old }
-    requires before { (i : ℕ) → i < from → slice_index_or free.old i None ≡ slice_index_or (map free_of entries.now) i None }
+    requires before { (i : ℕ) → i < from
+        → slice_index_or free.old i None ≡ slice_index_or (map free_of entries.now) i None }
     requires behind { (i : ℕ) → length entries.now ≤ i → slice_index_or free.old i None ≡ None }
     ensures leaves { IsLeaves entries.now free.new }
     ensures len { length free.new ≡ length free.old }

@@ -1,5 +1,6 @@
 // The least of many ids, of which some come and go.
-ghost use Rattle.std.specs.Prelude.{◌≡◌, ◌+◌, ◌*◌, ◌^◌, ◌<◌, ◌≤◌, ℕ, None, Some, [], IfOk, IfSome, IsSomeAnd, Contains, length, replicate, slice_set, slice_index_or};
+ghost use Rattle.std.specs.Prelude.{◌≡◌, ◌+◌, ◌*◌, ◌^◌, ◌<◌, ◌≤◌, ℕ, None, Some, [], IfOk, IfSome, IsSomeAnd, Contains};
+ghost use Rattle.std.specs.Prelude.{length, replicate, slice_set, slice_index_or};
 ghost use Rattle.block_ledger.specs.Tree.{lesser};
 
 use std::alloc::{AllocError, Global};

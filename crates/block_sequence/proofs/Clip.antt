@@ -1,11 +1,13 @@
 -- One piece more of a clip.
-use Rattle.std.proofs.Common.{◌≡◌, ℕ, zero, suc, ◌+◌, ◌-◌, ◌≤◌, inl, inr, Bool, true, false, not, ◌&&◌, if◌then◌else◌, List, [], ◌∷◌, ◌++◌, take, drop, refl, subst, sym, ap, ◌∙◌, ℤ, append_assoc, arith}
+use Rattle.std.proofs.Common.{◌≡◌, ℕ, zero, suc, ◌+◌, ◌-◌, ◌≤◌, inl, inr, Bool, true, false, not, ◌&&◌, if◌then◌else◌}
+use Rattle.std.proofs.Common.{List, [], ◌∷◌, ◌++◌, take, drop, refl, subst, sym, ap, ◌∙◌, ℤ, append_assoc, arith}
 use Rattle.std.proofs.lemmas.Bool.{cases_Bool, and_parts, true≢false, false≢true}
 use Rattle.std.proofs.lemmas.List.{drop-drop, take-append-drop}
 use Rattle.std.proofs.Math.Nat.{sub-zero}
 use Rattle.pcm_base.specs.declared.piece.Piece.{Piece}
 use Rattle.pcm_base.specs.declared.block.BlockRef.{BlockRef}
-use Rattle.pcm_base.specs.Pieces.{Sources, stretch, whole, piece_len, total, all_samples, IsValid, AllValid, Fits, AllFit}
+use Rattle.pcm_base.specs.Pieces.{Sources, stretch, whole, piece_len, total, all_samples, IsValid, AllValid, Fits}
+use Rattle.pcm_base.specs.Pieces.{AllFit}
 use Rattle.pcm_base.proofs.Pieces.{all_samples-append, total-append}
 use Rattle.block_sequence.specs.declared.types.Laid.{Laid}
 use Rattle.block_sequence.specs.declared.types.Laid.TheVariants.{Keep}
@@ -26,7 +28,8 @@ pub ends : (first : Bool) (m t : ℕ) → laid_from first m t [] ≡ run_parts m
 ends true m t = refl
 ends false m t = refl
 
-pub goes_on : (first : Bool) (m t : ℕ) (p : Piece) (ps : List Piece) → (is_sound m p && not first && not (is_short m (front m ps))) ≡ false
+pub goes_on : (first : Bool) (m t : ℕ) (p : Piece) (ps : List Piece)
+    → (is_sound m p && not first && not (is_short m (front m ps))) ≡ false
     → laid_from first m t (p ∷ ps) ≡ laid_from (first && not (is_sound m p)) m (t + piece_len p) ps
 goes_on true m t p ps h = elim (cases_Bool (is_sound m p)) [ inl s ↦ rw s refl | inr s ↦ rw s refl ]
 goes_on false m t p ps h = elim (cases_Bool (is_sound m p)) [
@@ -37,9 +40,11 @@ goes_on false m t p ps h = elim (cases_Bool (is_sound m p)) [
   | inr s ↦ rw s refl
 ]
 
-pub stops : (first : Bool) (m t : ℕ) (p : Piece) (ps : List Piece) → (is_sound m p && not first && not (is_short m (front m ps))) ≡ true
+pub stops : (first : Bool) (m t : ℕ) (p : Piece) (ps : List Piece)
+    → (is_sound m p && not first && not (is_short m (front m ps))) ≡ true
     → laid_from first m t (p ∷ ps) ≡ run_parts m t ++ kept_of p ++ laid_from first m 0 ps
-stops true m t p ps h = elim (cases_Bool (is_sound m p)) [ inl s ↦ absurd (false≢true (rw s at h)) | inr s ↦ absurd (false≢true (rw s at h)) ]
+stops true m t p ps h = elim (cases_Bool (is_sound m p))
+    [ inl s ↦ absurd (false≢true (rw s at h)) | inr s ↦ absurd (false≢true (rw s at h)) ]
 stops false m t p ps h = elim (cases_Bool (is_sound m p)) [
   | inl s ↦ elim (cases_Bool (is_short m (front m ps))) [
     | inl k ↦ absurd (false≢true (rw (s, k) at h))
@@ -51,7 +56,8 @@ stops false m t p ps h = elim (cases_Bool (is_sound m p)) [
 -- the pieces from one place to another, and those after
 pub between : (ps : List Piece) (a b : ℕ) → a ≤ b → take (b - a) (drop a ps) ++ drop b ps ≡ drop a ps
 between ps a b h =
-    ap (λ qs. take (b - a) (drop a ps) ++ qs) (ap (λ k. drop k ps) (back a b h) ∙ sym (drop-drop (b - a) a ps)) ∙ take-append-drop (b - a) (drop a ps)
+    ap (λ qs. take (b - a) (drop a ps) ++ qs) (ap (λ k. drop k ps) (back a b h) ∙ sym (drop-drop (b - a) a ps))
+    ∙ take-append-drop (b - a) (drop a ps)
   where
     back : (a b : ℕ) → a ≤ b → b ≡ a + (b - a)
     back a b h = omega arith
@@ -76,18 +82,21 @@ AllFit-drop m zero ps v = v
 AllFit-drop m (suc n) [] v = tt
 AllFit-drop m (suc n) (p ∷ ps) v = AllFit-drop m n ps v.1
 
-pub total_between : (ps : List Piece) (a b run : ℕ) → a ≤ b → total (drop a ps) ≡ run + total (drop b ps) → total (take (b - a) (drop a ps)) ≡ run
+pub total_between : (ps : List Piece) (a b run : ℕ) → a ≤ b → total (drop a ps) ≡ run + total (drop b ps)
+    → total (take (b - a) (drop a ps)) ≡ run
 total_between ps a b run h e =
     let f = total-append (take (b - a) (drop a ps)) (drop b ps) in
     let g = ap total (between ps a b h) in
     omega arith
 
-pub samples_between : (src : Sources) (ps : List Piece) (a b : ℕ) (old xs : List ℤ) → a ≤ b → xs ≡ old ++ all_samples src (take (b - a) (drop a ps))
+pub samples_between : (src : Sources) (ps : List Piece) (a b : ℕ) (old xs : List ℤ) → a ≤ b
+    → xs ≡ old ++ all_samples src (take (b - a) (drop a ps))
     → xs ++ all_samples src (drop b ps) ≡ old ++ all_samples src (drop a ps)
 samples_between src ps a b old xs h e =
     ap (λ ys. ys ++ all_samples src (drop b ps)) e
     ∙ append_assoc old (all_samples src (take (b - a) (drop a ps))) (all_samples src (drop b ps))
-    ∙ ap (λ ys. old ++ ys) (sym (all_samples-append src (take (b - a) (drop a ps)) (drop b ps)) ∙ ap (all_samples src) (between ps a b h))
+    ∙ ap (λ ys. old ++ ys)
+    (sym (all_samples-append src (take (b - a) (drop a ps)) (drop b ps)) ∙ ap (all_samples src) (between ps a b h))
 
 pub sound_is_whole : (m : ℕ) (p : Piece) (b c : Bool) → (is_sound m p && b && c) ≡ true → is_whole p ≡ true
 sound_is_whole m p b c h = (is_sound-true m p (and_parts _ _ (and_parts _ _ h).0).0).0
@@ -103,7 +112,8 @@ kept_parts old ls b run rest all e f =
     ∙ f
 
 pub kept_samples : (src : Sources) (ls : List Laid) (b : BlockRef) (ps : List Piece) (all : List ℤ)
-    → all_laid_samples src ls ++ all_samples src (whole b ∷ ps) ≡ all → all_laid_samples src (ls ++ Keep b ∷ []) ++ all_samples src ps ≡ all
+    → all_laid_samples src ls ++ all_samples src (whole b ∷ ps) ≡ all
+    → all_laid_samples src (ls ++ Keep b ∷ []) ++ all_samples src ps ≡ all
 kept_samples src ls b ps all e =
     samples_push_laid src ls (Keep b) (all_samples src ps)
     ∙ ap (λ n. all_laid_samples src ls ++ (stretch (src.block b.id) 0 n ++ all_samples src ps)) (sym (sub-zero b.len))

@@ -1,5 +1,6 @@
 -- How many new blocks there are: at most two for each piece that is not sound.
-use Rattle.std.proofs.Common.{◌≡◌, ℕ, zero, suc, ◌+◌, ◌*◌, ◌<◌, ◌≤◌, inl, inr, List, [], ◌∷◌, ◌++◌, length, map, filter, refl, sym, ap, subst, arith, add-zero, zero-add, if◌then◌else◌}
+use Rattle.std.proofs.Common.{◌≡◌, ℕ, zero, suc, ◌+◌, ◌*◌, ◌<◌, ◌≤◌, inl, inr, List, [], ◌∷◌, ◌++◌, length, map, filter}
+use Rattle.std.proofs.Common.{refl, sym, ap, subst, arith, add-zero, zero-add, if◌then◌else◌}
 use Rattle.std.specs.Int.{div_ceil}
 use Rattle.std.proofs.lemmas.Bool.{cases_Bool, cases_lt, lt-ltb}
 use Rattle.std.proofs.lemmas.Grind.{div_ceil_times}
@@ -7,7 +8,8 @@ use Rattle.std.proofs.Math.Nat.{mul-le-mul_right, mul-le-mul_left, suc-mul, mul-
 use Rattle.pcm_base.specs.declared.piece.Piece.{Piece}
 use Rattle.pcm_base.specs.declared.piece.Piece.TheVariants.{Old, Scaled, Zero, Given}
 use Rattle.pcm_base.specs.Pieces.{piece_len}
-use Rattle.block_sequence.specs.Fuse.{Part, Kept, Made, is_whole, is_sound, is_short, is_not_empty, block_sizes, front, made_count, unsound, rough, AllShort}
+use Rattle.block_sequence.specs.Fuse.{Part, Kept, Made, is_whole, is_sound, is_short, is_not_empty, block_sizes, front}
+use Rattle.block_sequence.specs.Fuse.{made_count, unsound, rough, AllShort}
 use Rattle.block_sequence.specs.Laying.{kept_of, run_parts, laid, laid_first, laid_clip, laid_apart, fused}
 use Rattle.block_sequence.proofs.HalfFull.{is_sound-true, is_short-true, not_sound}
 use Rattle.block_sequence.proofs.Sizes.{count_sizes}
@@ -38,7 +40,12 @@ few_blocks n m t u a b = elim (cases_lt u n) [
 count_run : (m t u : ℕ) → 0 < m → t ≤ m * u → made_count (run_parts m t) ≤ u
 unfolding run_parts
 count_run m t u a h =
-    omega (arith, made_count-made (block_sizes m t), count_sizes m t a, few_blocks (div_ceil t m) m t u (div_ceil_times t m a).1 h)
+    omega (
+      arith,
+      made_count-made (block_sizes m t),
+      count_sizes m t a,
+      few_blocks (div_ceil t m) m t u (div_ceil_times t m a).1 h,
+    )
 
 -- so many samples may stand in a run with u pieces that are not sound
 unfoldable credit : ℕ → ℕ → ℕ
@@ -66,7 +73,8 @@ front_credit : (m : ℕ) (ps : List Piece) → AllShort m ps → front m ps ≤ 
 front_credit m [] h = omega arith
 front_credit m (p ∷ ps) h = elim (cases_Bool (is_sound m p)) [
   | inl s ↦ rw s (omega arith)
-  | inr s ↦ rw s (omega (arith, credit-add m 1 (fronts m ps), credit-some m 1 (omega arith), front_credit m ps h.1, h.0.1))
+  | inr s ↦ rw s
+      (omega (arith, credit-add m 1 (fronts m ps), credit-some m 1 (omega arith), front_credit m ps h.1, h.0.1))
 ]
 
 front_some : (m : ℕ) (ps : List Piece) → 0 < front m ps → 0 < fronts m ps
@@ -79,7 +87,8 @@ front_some m (p ∷ ps) h = elim (cases_Bool (is_sound m p)) [
     false_front : (n : ℕ) → 0 < 0 → ⊥
     false_front n h = omega arith
 
-count_laid : (m t u : ℕ) (ps : List Piece) → 0 < m → AllShort m ps → t + front m ps ≤ credit m (u + fronts m ps) → made_count (laid m t ps) ≤ 2 * (u + unsound m ps)
+count_laid : (m t u : ℕ) (ps : List Piece) → 0 < m → AllShort m ps → t + front m ps ≤ credit m (u + fronts m ps)
+    → made_count (laid m t ps) ≤ 2 * (u + unsound m ps)
 count_laid m t u [] a s h = omega (arith, count_credit m t u a (rw (add-zero, add-zero) at h))
 count_laid m t u (p ∷ ps) a s h = elim (cases_Bool (is_sound m p)) [
   | inl e ↦ elim (cases_Bool (is_short m (front m ps))) [
@@ -105,7 +114,8 @@ count_laid m t u (p ∷ ps) a s h = elim (cases_Bool (is_sound m p)) [
   | inr e ↦
       let h' = rw e at h in
       let same : u + (1 + fronts m ps) ≡ u + 1 + fronts m ps = omega arith in
-      let step : t + piece_len p + front m ps ≤ credit m (u + 1 + fronts m ps) = omega (arith, h', ap (credit m) same) in
+      let step : t + piece_len p + front m ps ≤ credit m (u + 1 + fronts m ps) =
+      omega (arith, h', ap (credit m) same) in
       rw e (omega (arith, count_laid m (t + piece_len p) (u + 1) ps a s.1 step))
 ]
 
@@ -113,7 +123,8 @@ some_pieces : (m u t : ℕ) → 0 < t → t ≤ m * u → 0 < u
 some_pieces m zero t a b = omega (arith, mul-zero m)
 some_pieces m (suc u) t a b = omega arith
 
-count_first : (m t u : ℕ) (ps : List Piece) → 0 < m → AllShort m ps → t ≤ m * u → 0 < t + front m ps → 2 * (t + front m ps) < m → made_count (laid_first m t ps) ≤ 2 * (u + unsound m ps)
+count_first : (m t u : ℕ) (ps : List Piece) → 0 < m → AllShort m ps → t ≤ m * u → 0 < t + front m ps
+    → 2 * (t + front m ps) < m → made_count (laid_first m t ps) ≤ 2 * (u + unsound m ps)
 count_first m t u [] a s h f g = omega (arith, count_run m t u a h)
 count_first m t u (p ∷ ps) a s h f g = elim (cases_Bool (is_sound m p)) [
   | inl e ↦
@@ -121,13 +132,21 @@ count_first m t u (p ∷ ps) a s h f g = elim (cases_Bool (is_sound m p)) [
       let g' = rw (e, add-zero) at g in
       let b = is_sound-true m p e in
       let step : t + piece_len p + front m ps ≤ credit m (u + fronts m ps) =
-      omega (arith, credit-add m u (fronts m ps), credit-some m u (some_pieces m u t f' h), front_credit m ps s.1, g', b.2) in
+      omega (
+        arith,
+        credit-add m u (fronts m ps),
+        credit-some m u (some_pieces m u t f' h),
+        front_credit m ps s.1,
+        g',
+        b.2,
+      ) in
       rw e (omega (arith, count_laid m (t + piece_len p) u ps a s.1 step))
   | inr e ↦
       let f' = rw e at f in
       let g' = rw e at g in
       let step : t + piece_len p ≤ m * suc u = omega (arith, mul-suc m u, s.0.1, h) in
-      rw e (omega (arith, count_first m (t + piece_len p) (suc u) ps a s.1 step (omega (arith, f')) (omega (arith, g'))))
+      rw e
+      (omega (arith, count_first m (t + piece_len p) (suc u) ps a s.1 step (omega (arith, f')) (omega (arith, g'))))
 ]
 
 count_clip : (m : ℕ) (ps : List Piece) → 0 < m → AllShort m ps → made_count (laid_clip m ps) ≤ 2 * unsound m ps
@@ -156,4 +175,6 @@ no_empty m [] s = refl
 no_empty m (p ∷ ps) s = rw (lt-ltb 0 (piece_len p) s.0.0) (ap (λ qs. p ∷ qs) (no_empty m ps s.1))
 
 pub count_fused : (m : ℕ) (ps : List Piece) → 0 < m → AllShort m ps → made_count (fused m ps) ≤ 2 * rough m ps
-count_fused m ps a s = let P : List Piece → Type 0 = λ qs. made_count (laid_apart m qs) ≤ 2 * rough m ps in subst P (sym (no_empty m ps s)) (count_apart m ps a s)
+count_fused m ps a s =
+    let P : List Piece → Type 0 = λ qs. made_count (laid_apart m qs) ≤ 2 * rough m ps in
+    subst P (sym (no_empty m ps s)) (count_apart m ps a s)

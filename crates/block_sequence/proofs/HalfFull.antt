@@ -1,8 +1,12 @@
 -- The layout of a clip is half full.
-use Rattle.std.proofs.Common.{◌≡◌, ℕ, zero, suc, ◌+◌, ◌-◌, ◌*◌, ◌/◌, ◌%◌, ◌<◌, ◌≤◌, inl, inr, true, false, List, [], ◌∷◌, ◌++◌, map, replicate, refl, sym, ap, ◌∙◌, arith, add-zero, zero-add, add_assoc, ltb, filter}
+use Rattle.std.proofs.Common.{◌≡◌, ℕ, zero, suc, ◌+◌, ◌-◌, ◌*◌, ◌/◌, ◌%◌, ◌<◌, ◌≤◌, inl, inr, true, false, List, []}
+use Rattle.std.proofs.Common.{◌∷◌, ◌++◌, map, replicate, refl, sym, ap, ◌∙◌, arith, add-zero, zero-add, add_assoc, ltb}
+use Rattle.std.proofs.Common.{filter}
 use Rattle.std.specs.Int.{div_ceil}
-use Rattle.std.proofs.lemmas.Bool.{cases_lt, cases_Bool, and_parts, false≢true, leb-true, ltb-true, ltb-false, and_cases, eqb-true}
-use Rattle.std.proofs.Math.Nat.{mul-le-mul_left, mul-suc, div-add-mod, mod-lt, sub-zero, zero-mul, zero-div, zero-mod, div-one, mod-one}
+use Rattle.std.proofs.lemmas.Bool.{cases_lt, cases_Bool, and_parts, false≢true, leb-true, ltb-true, ltb-false}
+use Rattle.std.proofs.lemmas.Bool.{and_cases, eqb-true}
+use Rattle.std.proofs.Math.Nat.{mul-le-mul_left, mul-suc, div-add-mod, mod-lt, sub-zero, zero-mul, zero-div, zero-mod}
+use Rattle.std.proofs.Math.Nat.{div-one, mod-one}
 use Rattle.std.proofs.lemmas.Grind.{div_ceil_times}
 use Rattle.std.proofs.lemmas.List.{map-append, nil_from_length}
 use Rattle.pcm_base.specs.declared.piece.Piece.{Piece}
@@ -10,7 +14,8 @@ use Rattle.pcm_base.specs.declared.piece.Piece.TheVariants.{Old, Scaled, Zero, G
 use Rattle.pcm_base.specs.Pieces.{Sources, piece_len, total, samples_of, all_samples, Fits, AllFit, AllValid}
 use Rattle.pcm_base.proofs.Pieces.{length-samples}
 use Rattle.pcm_base.specs.Blocks.{AllFull, IsHalfFull}
-use Rattle.block_sequence.specs.Fuse.{Part, Made, part_len, is_whole, is_sound, block_sizes, front, is_short, is_not_empty}
+use Rattle.block_sequence.specs.Fuse.{Part, Made, part_len, is_whole, is_sound, block_sizes, front, is_short}
+use Rattle.block_sequence.specs.Fuse.{is_not_empty}
 use Rattle.block_sequence.specs.Laying.{kept_of, run_parts, laid, laid_first, laid_clip, laid_apart, fused}
 
 pub AllFull-append : (m : ℕ) (a b : List ℕ) → AllFull m a → AllFull m b → AllFull m (a ++ b)
@@ -55,7 +60,8 @@ sizes_full m n q zero p h k l =
     rw sub-zero (AllFull-replicate m q n (q_low n q m zero p k l) (q_high n q m zero h p))
 sizes_full m n q (suc r) p h k l =
     AllFull-append m (replicate (suc r) (q + 1)) (replicate (n - suc r) q)
-    (AllFull-replicate m (q + 1) (suc r) (omega (arith, q_low n q m (suc r) p k l)) (q_higher n q m (suc r) h (omega arith)))
+    (AllFull-replicate m (q + 1) (suc r) (omega (arith, q_low n q m (suc r) p k l))
+    (q_higher n q m (suc r) h (omega arith)))
     (AllFull-replicate m q (n - suc r) (q_low n q m (suc r) p k l) (q_high n q m (suc r) h p))
 
 -- the blocks of a run that is not short are full
@@ -97,7 +103,8 @@ AllFull-run m t a (None e) = rw (run_sizes, e, no_sizes) tt
 AllFull-run m zero a (Long h) = rw (run_sizes, no_sizes) tt
 AllFull-run m (suc t) a (Long h) = rw run_sizes (AllFull-sizes m (suc t) a (omega arith) h)
 
-pub is_sound-true : (m : ℕ) (p : Piece) → is_sound m p ≡ true → (is_whole p ≡ true) × (m ≤ 2 * piece_len p) × (piece_len p ≤ m)
+pub is_sound-true : (m : ℕ) (p : Piece) → is_sound m p ≡ true
+    → (is_whole p ≡ true) × (m ≤ 2 * piece_len p) × (piece_len p ≤ m)
 unfolding is_sound
 is_sound-true m p h =
     let a = and_parts _ _ h in
@@ -105,7 +112,8 @@ is_sound-true m p h =
     (b.0, leb-true _ _ b.1, leb-true _ _ a.1)
 
 pub not_sound : (m : ℕ) (p : Piece) → is_whole p ≡ false → is_sound m p ≡ false
-not_sound m p h = elim (cases_Bool (is_sound m p)) [ inl e ↦ absurd (false≢true (sym h ∙ (is_sound-true m p e).0)) | inr e ↦ e ]
+not_sound m p h =
+    elim (cases_Bool (is_sound m p)) [ inl e ↦ absurd (false≢true (sym h ∙ (is_sound-true m p e).0)) | inr e ↦ e ]
 
 pub is_short-false : (m t : ℕ) → is_short m t ≡ false → IsLong m t
 unfolding is_short
@@ -132,7 +140,8 @@ kept_sizes (Given from to) h = absurd (false≢true h)
 pub AllFull-kept : (m : ℕ) (p : Piece) → is_sound m p ≡ true → AllFull m (map part_len (kept_of p))
 AllFull-kept m p h = let a = is_sound-true m p h in rw (kept_sizes p a.0) ((a.1, a.2), tt)
 
-pub AllFull-laid : (m t : ℕ) (ps : List Piece) → 0 < m → IsLong m (t + front m ps) → AllFull m (map part_len (laid m t ps))
+pub AllFull-laid : (m t : ℕ) (ps : List Piece) → 0 < m → IsLong m (t + front m ps)
+    → AllFull m (map part_len (laid m t ps))
 AllFull-laid m t [] a h = AllFull-run m t a (rw add-zero at h)
 AllFull-laid m t (p ∷ ps) a h = elim (cases_Bool (is_sound m p)) [
   | inl s ↦ elim (cases_Bool (is_short m (front m ps))) [
@@ -184,7 +193,8 @@ one_size m t a h =
     one_block (suc zero) m t a h b c = refl
     one_block (suc (suc j)) m t a h b c = absurd (omega arith)
 
-pub IsHalfFull-laid : (m t : ℕ) (parts : List Part) → 0 < m → 0 < t → IsLaid m t parts → IsHalfFull m (map part_len parts)
+pub IsHalfFull-laid : (m t : ℕ) (parts : List Part) → 0 < m → 0 < t → IsLaid m t parts
+    → IsHalfFull m (map part_len parts)
 IsHalfFull-laid m t parts a b (Full h) = IsHalfFull-from_full m _ a h
 IsHalfFull-laid m t parts a b (One e h) = rw (e, run_sizes, one_size m t b (omega arith)) (omega arith, omega arith)
 
@@ -219,7 +229,8 @@ samples-filter src [] = refl
 samples-filter src (p ∷ ps) = elim (cases_Bool (is_not_empty p)) [
   | inl e ↦ rw e (ap (λ xs. samples_of src p ++ xs) (samples-filter src ps))
   | inr e ↦
-      let n : samples_of src p ≡ [] = nil_from_length _ (omega (arith, length-samples src p, ltb-false 0 (piece_len p) e)) in
+      let n : samples_of src p ≡ [] =
+      nil_from_length _ (omega (arith, length-samples src p, ltb-false 0 (piece_len p) e)) in
       rw (e, n) (samples-filter src ps)
 ]
 
@@ -243,13 +254,15 @@ pub laid_none : (m : ℕ) → laid_clip m [] ≡ []
 unfolding run_parts
 laid_none m = elim (cases_Bool (is_short m 0)) [ inl e ↦ rw (e, no_sizes) refl | inr e ↦ rw (e, no_sizes) refl ]
 
-IsHalfFull-apart : (m : ℕ) (ps : List Piece) → 0 < m → AllNotEmpty ps → AllFit m ps → IsHalfFull m (map part_len (laid_apart m ps))
+IsHalfFull-apart : (m : ℕ) (ps : List Piece) → 0 < m → AllNotEmpty ps → AllFit m ps
+    → IsHalfFull m (map part_len (laid_apart m ps))
 IsHalfFull-apart m [] a n f = rw laid_none tt
 IsHalfFull-apart m (p ∷ []) a n f = elim (cases_Bool (is_whole p)) [
   | inl w ↦ rw (w, kept_sizes p w) (n.0, Fits-whole m p w f.0)
   | inr w ↦ rw w (IsHalfFull-laid m (total (p ∷ [])) _ a (omega (arith, n)) (IsLaid-clip m (p ∷ []) a))
 ]
-IsHalfFull-apart m (p ∷ q ∷ ps) a n f = IsHalfFull-laid m (total (p ∷ q ∷ ps)) _ a (omega (arith, n)) (IsLaid-clip m (p ∷ q ∷ ps) a)
+IsHalfFull-apart m (p ∷ q ∷ ps) a n f =
+    IsHalfFull-laid m (total (p ∷ q ∷ ps)) _ a (omega (arith, n)) (IsLaid-clip m (p ∷ q ∷ ps) a)
 
 pub IsHalfFull-fused : (m : ℕ) (ps : List Piece) → 0 < m → AllFit m ps → IsHalfFull m (map part_len (fused m ps))
 IsHalfFull-fused m ps a f = IsHalfFull-apart m (filter is_not_empty ps) a (AllNotEmpty-filter ps) (AllFit-filter m ps f)

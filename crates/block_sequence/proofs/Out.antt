@@ -17,15 +17,20 @@ AllMade-push m [] l a b = (b, tt)
 AllMade-push m (k ∷ ls) l a b = (a.0, AllMade-push m ls l a.1 b)
 
 -- what is pushed comes before the rest
-pub parts_push : (ls : List Laid) (l : Laid) (rest : List Part) → parts (ls ++ l ∷ []) ++ rest ≡ parts ls ++ part_of_laid l ∷ rest
-parts_push ls l rest = ap (λ ps. ps ++ rest) (map_push part_of_laid ls l) ∙ append_assoc (parts ls) (part_of_laid l ∷ []) rest
+pub parts_push : (ls : List Laid) (l : Laid) (rest : List Part)
+    → parts (ls ++ l ∷ []) ++ rest ≡ parts ls ++ part_of_laid l ∷ rest
+parts_push ls l rest =
+    ap (λ ps. ps ++ rest) (map_push part_of_laid ls l) ∙ append_assoc (parts ls) (part_of_laid l ∷ []) rest
 
-laid_samples_push : (src : Sources) (ls : List Laid) (l : Laid) → all_laid_samples src (ls ++ l ∷ []) ≡ all_laid_samples src ls ++ laid_samples src l
+laid_samples_push : (src : Sources) (ls : List Laid) (l : Laid)
+    → all_laid_samples src (ls ++ l ∷ []) ≡ all_laid_samples src ls ++ laid_samples src l
 laid_samples_push src [] l = append-nil (laid_samples src l)
 laid_samples_push src (k ∷ ls) l =
-    ap (λ xs. laid_samples src k ++ xs) (laid_samples_push src ls l) ∙ sym (append_assoc (laid_samples src k) (all_laid_samples src ls) (laid_samples src l))
+    ap (λ xs. laid_samples src k ++ xs) (laid_samples_push src ls l)
+    ∙ sym (append_assoc (laid_samples src k) (all_laid_samples src ls) (laid_samples src l))
 
 pub samples_push_laid : (src : Sources) (ls : List Laid) (l : Laid) (rest : List ℤ)
     → all_laid_samples src (ls ++ l ∷ []) ++ rest ≡ all_laid_samples src ls ++ (laid_samples src l ++ rest)
 samples_push_laid src ls l rest =
-    ap (λ xs. xs ++ rest) (laid_samples_push src ls l) ∙ append_assoc (all_laid_samples src ls) (laid_samples src l) rest
+    ap (λ xs. xs ++ rest) (laid_samples_push src ls l)
+    ∙ append_assoc (all_laid_samples src ls) (laid_samples src l) rest

@@ -6,7 +6,8 @@ use Rattle.std.proofs.lemmas.Grind.{div_ceil_times}
 use Rattle.std.proofs.Math.Nat.{mul_comm, mul-zero}
 use Rattle.pcm_base.specs.declared.piece.Piece.{Piece}
 use Rattle.pcm_base.specs.Pieces.{piece_len}
-use Rattle.block_sequence.specs.Fuse.{Part, Made, is_whole, is_sound, is_short, is_not_empty, block_sizes, front, made_count}
+use Rattle.block_sequence.specs.Fuse.{Part, Made, is_whole, is_sound, is_short, is_not_empty, block_sizes, front}
+use Rattle.block_sequence.specs.Fuse.{made_count}
 use Rattle.block_sequence.specs.Laying.{kept_of, run_parts, laid, laid_first, laid_clip, laid_apart, fused}
 use Rattle.block_sequence.specs.Room.{Stand, First, Behind, Within, spare, taken, room, clip_room}
 use Rattle.block_sequence.proofs.HalfFull.{is_sound-true, is_short-true, no_sizes}
@@ -18,7 +19,8 @@ run_room : (m t : ℕ) → 0 < m → m * made_count (run_parts m t) ≤ t + m
 unfolding run_parts
 run_room m t a =
     let n = div_ceil t m in
-    let e : made_count (map Made (block_sizes m t)) ≡ n = omega (arith, made_count-made (block_sizes m t), count_sizes m t a) in
+    let e : made_count (map Made (block_sizes m t)) ≡ n =
+    omega (arith, made_count-made (block_sizes m t), count_sizes m t a) in
     rw e (omega (arith, mul_comm m n, (div_ceil_times t m a).1))
 
 no_run : (m : ℕ) → m * made_count (run_parts m 0) ≡ 0
@@ -42,9 +44,11 @@ within_behind m (p ∷ ps) h = elim (cases_Bool (is_sound m p)) [
 
 -- the parts behind an open run of t samples, and those where no run is open
 abbrev IsRoomy : ℕ → List Piece → Type 0
-IsRoomy m ps = ((t : ℕ) (s : Stand) → m * made_count (laid m t ps) ≤ t + m + room m s ps) × (m * made_count (laid m 0 ps) ≤ room m First ps)
+IsRoomy m ps = ((t : ℕ) (s : Stand) → m * made_count (laid m t ps) ≤ t + m + room m s ps)
+    × (m * made_count (laid m 0 ps) ≤ room m First ps)
 
-made_three : (m : ℕ) (xs ys zs : List Part) → m * made_count (xs ++ ys ++ zs) ≡ m * made_count xs + m * made_count ys + m * made_count zs
+made_three : (m : ℕ) (xs ys zs : List Part)
+    → m * made_count (xs ++ ys ++ zs) ≡ m * made_count xs + m * made_count ys + m * made_count zs
 made_three m xs ys zs = rw (made_count-append, made_count-append) (grind arith)
 
 kept_room : (m : ℕ) (p : Piece) → m * made_count (kept_of p) ≡ 0
@@ -67,8 +71,22 @@ roomy_laid m (p ∷ ps) a =
             | inr k ↦
                 let f = first_behind m ps in
                 rw (e, k) (
-                  λ t s. omega (arith, made_three m (run_parts m t) (kept_of p) (laid m 0 ps), kept_room m p, run_room m t a, r.1, f),
-                  omega (arith, made_three m (run_parts m 0) (kept_of p) (laid m 0 ps), kept_room m p, no_run m, r.1, f),
+                  λ t s. omega (
+                    arith,
+                    made_three m (run_parts m t) (kept_of p) (laid m 0 ps),
+                    kept_room m p,
+                    run_room m t a,
+                    r.1,
+                    f,
+                  ),
+                  omega (
+                    arith,
+                    made_three m (run_parts m 0) (kept_of p) (laid m 0 ps),
+                    kept_room m p,
+                    no_run m,
+                    r.1,
+                    f,
+                  ),
                 )
           ]
       | inr e ↦ rw e (
@@ -142,8 +160,10 @@ clip_room_le m (p ∷ q ∷ ps) = omega arith
 
 clip_room-filter : (m : ℕ) (ps : List Piece) → 0 < m → clip_room m (filter is_not_empty ps) ≤ clip_room m ps
 clip_room-filter m [] a = omega arith
-clip_room-filter m (p ∷ []) a = elim (cases_Bool (is_not_empty p)) [ inl n ↦ rw n (omega arith) | inr n ↦ rw n (omega arith) ]
-clip_room-filter m (p ∷ q ∷ ps) a = omega (arith, clip_room_le m (filter is_not_empty (p ∷ q ∷ ps)), room-filter m First (p ∷ q ∷ ps) a)
+clip_room-filter m (p ∷ []) a =
+    elim (cases_Bool (is_not_empty p)) [ inl n ↦ rw n (omega arith) | inr n ↦ rw n (omega arith) ]
+clip_room-filter m (p ∷ q ∷ ps) a =
+    omega (arith, clip_room_le m (filter is_not_empty (p ∷ q ∷ ps)), room-filter m First (p ∷ q ∷ ps) a)
 
 pub room_fused : (m : ℕ) (ps : List Piece) → 0 < m → m * made_count (fused m ps) ≤ clip_room m ps
 room_fused m ps a = omega (arith, roomy_apart m (filter is_not_empty ps) a, clip_room-filter m ps a)

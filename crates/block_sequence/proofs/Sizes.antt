@@ -1,7 +1,9 @@
 -- The sizes of a run's blocks.
-use Rattle.std.proofs.Common.{◌≡◌, ℕ, zero, suc, ◌+◌, ◌-◌, ◌*◌, ◌/◌, ◌%◌, ◌<◌, ◌≤◌, List, [], ◌∷◌, ◌++◌, length, get_or, drop, replicate, map, sym, ap, ap₂, ◌∙◌, arith, length-append}
+use Rattle.std.proofs.Common.{◌≡◌, ℕ, zero, suc, ◌+◌, ◌-◌, ◌*◌, ◌/◌, ◌%◌, ◌<◌, ◌≤◌, List, [], ◌∷◌, ◌++◌, length, get_or}
+use Rattle.std.proofs.Common.{drop, replicate, map, sym, ap, ap₂, ◌∙◌, arith, length-append}
 use Rattle.std.specs.Int.{div_ceil}
-use Rattle.std.proofs.lemmas.List.{get_or_append_left, get_or-append_right, get_or-replicate, length-replicate, drop_more, drop_all}
+use Rattle.std.proofs.lemmas.List.{get_or_append_left, get_or-append_right, get_or-replicate, length-replicate}
+use Rattle.std.proofs.lemmas.List.{drop_more, drop_all}
 use Rattle.std.proofs.lemmas.Grind.{div_ceil_times}
 use Rattle.std.proofs.Math.Nat.{div-add-mod, mod-lt, zero-mul, mod-zero}
 use Rattle.block_sequence.specs.Fuse.{block_sizes, Part, Made, added}
@@ -40,7 +42,8 @@ added_next ns k h = ap added (drop_more ns k 0 h)
 
 sizes_at_low : (n q r k : ℕ) → k < r → get_or (replicate r (q + 1) ++ replicate (n - r) q) k 0 ≡ q + 1
 sizes_at_low n q r k h =
-    get_or_append_left (replicate r (q + 1)) (replicate (n - r) q) 0 k (rw length-replicate h) ∙ get_or-replicate r k (q + 1) 0 h
+    get_or_append_left (replicate r (q + 1)) (replicate (n - r) q) 0 k (rw length-replicate h)
+    ∙ get_or-replicate r k (q + 1) 0 h
 
 sizes_at_high : (n q r k : ℕ) → r ≤ k → k < n → get_or (replicate r (q + 1) ++ replicate (n - r) q) k 0 ≡ q
 sizes_at_high n q r k h l =

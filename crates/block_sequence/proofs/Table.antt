@@ -17,7 +17,8 @@ row_2 : fused 4 (Old (block 16 3) 0 1 ∷ whole (block 17 2) ∷ []) ≡ Made 3 
 unfolding is_sound is_short block_sizes run_parts
 row_2 = refl
 
-row_3 : fused 4 (Old (block 16 3) 0 2 ∷ whole (block 16 3) ∷ whole (block 17 2) ∷ []) ≡ Made 2 ∷ Kept (block 16 3) ∷ Kept (block 17 2) ∷ []
+row_3 : fused 4 (Old (block 16 3) 0 2 ∷ whole (block 16 3) ∷ whole (block 17 2) ∷ []) ≡ Made 2 ∷ Kept (block 16 3)
+    ∷ Kept (block 17 2) ∷ []
 unfolding is_sound is_short block_sizes run_parts
 row_3 = refl
 

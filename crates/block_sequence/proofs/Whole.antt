@@ -1,5 +1,6 @@
 -- Blocks as whole pieces.
-use Rattle.std.proofs.Common.{◌≡◌, ℕ, ◌+◌, ◌<◌, List, [], ◌∷◌, ◌++◌, length, get_or, drop, map, refl, ap, ap₂, ◌∙◌, arith, length-append}
+use Rattle.std.proofs.Common.{◌≡◌, ℕ, ◌+◌, ◌<◌, List, [], ◌∷◌, ◌++◌, length, get_or, drop, map, refl, ap, ap₂, ◌∙◌}
+use Rattle.std.proofs.Common.{arith, length-append}
 use Rattle.std.proofs.lemmas.List.{drop_more}
 use Rattle.std.proofs.Math.Nat.{sub-zero}
 use Rattle.pcm_base.specs.declared.block.BlockRef.{BlockRef}
@@ -7,7 +8,8 @@ use Rattle.pcm_base.specs.Pieces.{Sources, stretch, total, all_samples, whole, A
 use Rattle.pcm_base.proofs.Pieces.{length-stretch}
 use Rattle.pcm_base.specs.Blocks.{NoneEmpty, block_samples, blocks_len}
 
-pub blocks_next : (bs : List BlockRef) (i : ℕ) (d : BlockRef) → i < length bs → blocks_len (drop i bs) ≡ (get_or bs i d).len + blocks_len (drop (i + 1) bs)
+pub blocks_next : (bs : List BlockRef) (i : ℕ) (d : BlockRef) → i < length bs
+    → blocks_len (drop i bs) ≡ (get_or bs i d).len + blocks_len (drop (i + 1) bs)
 blocks_next bs i d h = ap blocks_len (drop_more bs i d h)
 
 pub total_whole : (bs : List BlockRef) → total (map whole bs) ≡ blocks_len bs
@@ -25,4 +27,5 @@ valid_whole (b ∷ bs) h = ((omega arith, omega arith, h.0), valid_whole bs h.1)
 pub length-blocks : (src : Sources) (bs : List BlockRef) → length (block_samples src bs) ≡ blocks_len bs
 length-blocks src [] = refl
 length-blocks src (b ∷ bs) =
-    length-append (stretch (src.block b.id) 0 b.len) (block_samples src bs) ∙ ap₂ ◌+◌ (length-stretch (src.block b.id) 0 b.len) (length-blocks src bs)
+    length-append (stretch (src.block b.id) 0 b.len) (block_samples src bs)
+    ∙ ap₂ ◌+◌ (length-stretch (src.block b.id) 0 b.len) (length-blocks src bs)

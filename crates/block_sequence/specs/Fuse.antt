@@ -3,7 +3,8 @@
 -- A piece is sound where it is a whole block of m / 2 to m samples. The pieces between the sound ones are runs. A run
 -- of fewer than m / 2 samples takes in the sound piece directly before it; where it begins the clip, the one directly
 -- after it. A sound piece that no run takes in keeps its block. What lies between the kept blocks is cut anew.
-use Rattle.std.specs.Prelude.{◌≡◌, ℕ, ◌+◌, ◌-◌, ◌*◌, ◌/◌, ◌%◌, ◌<◌, ◌≤◌, nat_lt, nat_le, ◌==◌, ◌&&◌, not, Bool, true, false, List, [], ◌∷◌, ◌++◌, replicate, if◌then◌else◌}
+use Rattle.std.specs.Prelude.{◌≡◌, ℕ, ◌+◌, ◌-◌, ◌*◌, ◌/◌, ◌%◌, ◌<◌, ◌≤◌, nat_lt, nat_le, ◌==◌, ◌&&◌, not, Bool, true}
+use Rattle.std.specs.Prelude.{false, List, [], ◌∷◌, ◌++◌, replicate, if◌then◌else◌}
 use Rattle.std.specs.Int.{div_ceil}
 use Rattle.pcm_base.specs.declared.block.BlockRef.{BlockRef}
 use Rattle.pcm_base.specs.declared.piece.Piece.{Piece}
@@ -55,7 +56,8 @@ is_kept m before p after = is_sound m p && not (taken_by_first m before) && not 
 abbrev pub kept_from : ℕ → List Piece → List Piece → List (ℕ × Piece)
 kept_from m before [] = []
 kept_from m before (p ∷ ps) =
-    if is_kept m before p ps then (total before, p) ∷ kept_from m (before ++ p ∷ []) ps else kept_from m (before ++ p ∷ []) ps
+    if is_kept m before p ps then (total before, p)
+    ∷ kept_from m (before ++ p ∷ []) ps else kept_from m (before ++ p ∷ []) ps
 
 -- those of a clip: one whole block alone is kept, whatever its size
 abbrev pub kept_pieces : ℕ → List Piece → List (ℕ × Piece)

@@ -1,4 +1,5 @@
--- The same layout as one pass from left to right, which the private functions follow; what it keeps and makes is in Fuse.
+-- The same layout as one pass from left to right, which the private functions follow; what it keeps and makes is in
+-- Fuse.
 use Rattle.std.specs.Prelude.{ℕ, ◌+◌, ◌&&◌, not, List, [], ◌∷◌, ◌++◌, map, filter, if◌then◌else◌}
 use Rattle.pcm_base.specs.declared.piece.Piece.{Piece}
 use Rattle.pcm_base.specs.declared.piece.Piece.TheVariants.{Old, Scaled, Zero, Given}
@@ -18,7 +19,8 @@ run_parts m t = map Made (block_sizes m t)
 abbrev pub laid : ℕ → ℕ → List Piece → List Part
 laid m t [] = run_parts m t
 laid m t (p ∷ ps) =
-    if is_sound m p && not (is_short m (front m ps)) then run_parts m t ++ kept_of p ++ laid m 0 ps else laid m (t + piece_len p) ps
+    if is_sound m p && not (is_short m (front m ps)) then run_parts m t ++ kept_of p
+    ++ laid m 0 ps else laid m (t + piece_len p) ps
 
 -- the run that begins the clip takes in the first sound piece
 abbrev pub laid_first : ℕ → ℕ → List Piece → List Part

@@ -30,12 +30,15 @@ pub fn cut_off(alloc: Global, pieces: &[Piece], place: Place, n: u64) -> Result<
     requires within { place.skip + n ≤ total (drop place.at pieces.now) }
     ensures valid { IfOk result (λ c. AllValid c.pieces.items) }
     ensures fit { IfOk result (λ c. (m : ℕ) → AllFit m pieces.now → AllFit m c.pieces.items) }
-    ensures from { IfOk result (λ c. (blocks : List BlockRef) (count : ℕ) → AllFrom blocks count pieces.now → AllFrom blocks count c.pieces.items) }
+    ensures from { IfOk result (λ c. (blocks : List BlockRef) (count : ℕ) → AllFrom blocks count pieces.now
+        → AllFrom blocks count c.pieces.items) }
     ensures total { IfOk result (λ c. total c.pieces.items ≡ n) }
     ensures within { IfOk result (λ c. c.rest.skip ≤ total (drop c.rest.at pieces.now)) }
-    ensures rest { IfOk result (λ c. total_from pieces.now c.rest.at c.rest.skip + n ≡ total_from pieces.now place.at place.skip) }
+    ensures rest { IfOk result
+        (λ c. total_from pieces.now c.rest.at c.rest.skip + n ≡ total_from pieces.now place.at place.skip) }
     ensures samples { IfOk result (λ c. (src : Sources) →
-        all_samples src c.pieces.items ++ samples_from src pieces.now c.rest.at c.rest.skip ≡ samples_from src pieces.now place.at place.skip) }
+        all_samples src c.pieces.items ++ samples_from src pieces.now c.rest.at c.rest.skip
+        ≡ samples_from src pieces.now place.at place.skip) }
 {
     let mut out = Vec::new(alloc);
     let mut at = place.at;

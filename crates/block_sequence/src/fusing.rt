@@ -1,5 +1,6 @@
 // How pieces of sound are laid out in blocks.
-ghost use Rattle.std.specs.Prelude.{◌≡◌, ℕ, ◌+◌, ◌*◌, ◌≤◌, ◌<◌, ◌^◌, ◌++◌, length, drop, take, sum, slice_index, slice_index_or, ◌&&◌, not, true, filter, List, [], ◌∷◌, IfOk, OnOk, IsTrue};
+ghost use Rattle.std.specs.Prelude.{◌≡◌, ℕ, ◌+◌, ◌*◌, ◌≤◌, ◌<◌, ◌^◌, ◌++◌, length, drop, take, sum, slice_index};
+ghost use Rattle.std.specs.Prelude.{slice_index_or, ◌&&◌, not, true, filter, List, [], ◌∷◌, IfOk, OnOk, IsTrue};
 ghost use Rattle.pcm_base.specs.Blocks.{IsHalfFull};
 ghost use Rattle.pcm_base.specs.Pieces.{Sources, whole, all_samples, total, IsValid, AllValid, AllFit};
 ghost use Rattle.block_sequence.specs.Fuse as layout;
@@ -95,8 +96,10 @@ fn lay_run(
     ensures made { OnOk result (AllMade m out.new.items) }
     ensures parts { OnOk result (parts out.new.items ≡ parts out.old.items ++ laying.run_parts m run) }
     ensures from { OnOk result ((blocks : List BlockRef) (count : ℕ) →
-        AllFrom blocks count pieces.now → AllLaidFrom blocks count out.old.items → AllLaidFrom blocks count out.new.items) }
-    ensures samples { OnOk result ((src : Sources) → all_laid_samples src out.new.items ≡ all_laid_samples src out.old.items ++ all_samples src pieces.now) }
+        AllFrom blocks count pieces.now → AllLaidFrom blocks count out.old.items
+        → AllLaidFrom blocks count out.new.items) }
+    ensures samples { OnOk result ((src : Sources)
+        → all_laid_samples src out.new.items ≡ all_laid_samples src out.old.items ++ all_samples src pieces.now) }
 {
     let mut place = Place { at: 0, skip: 0 };
     for k in 0..count_blocks(run, m) {
@@ -115,7 +118,8 @@ fn ends_run(pieces: &[Piece], i: usize, first: bool, m: u32) -> bool
     requires valid { AllValid pieces.now }
     requires few { total pieces.now ≤ 2 ^ 32 }
     requires within { i < length pieces.now }
-    ensures { result ≡ (layout.is_sound m (slice_index_or pieces.now i no_piece) && not first && not (layout.is_short m (layout.front m (drop (i + 1) pieces.now)))) }
+    ensures { result ≡ (layout.is_sound m (slice_index_or pieces.now i no_piece) && not first && not
+        (layout.is_short m (layout.front m (drop (i + 1) pieces.now)))) }
 {
     is_sound(pieces[i], m) && !first && !is_short(front(pieces, i + 1, m), m)
 }
@@ -152,9 +156,11 @@ fn lay_between(
     ensures made { OnOk result (AllMade m out.new.items) }
     ensures parts { OnOk result (parts out.new.items ≡ parts out.old.items ++ laying.run_parts m run) }
     ensures from { OnOk result ((blocks : List BlockRef) (count : ℕ) →
-        AllFrom blocks count pieces.now → AllLaidFrom blocks count out.old.items → AllLaidFrom blocks count out.new.items) }
+        AllFrom blocks count pieces.now → AllLaidFrom blocks count out.old.items
+        → AllLaidFrom blocks count out.new.items) }
     ensures samples { OnOk result ((src : Sources) →
-        all_laid_samples src out.new.items ++ all_samples src (drop end pieces.now) ≡ all_laid_samples src out.old.items ++ all_samples src (drop start pieces.now)) }
+        all_laid_samples src out.new.items ++ all_samples src (drop end pieces.now) ≡ all_laid_samples src out.old.items
+        ++ all_samples src (drop start pieces.now)) }
 {
     lay_run(alloc, &pieces[start..end], run, m, out)
 }
@@ -176,7 +182,8 @@ fn lay_clip(alloc: Global, pieces: &[Piece], m: u32) -> Result<Vec<Laid>, AllocE
     requires few { total pieces.now ≤ 2 ^ 32 }
     ensures made { IfOk result (λ v. AllMade m v.items) }
     ensures parts { IfOk result (λ v. parts v.items ≡ laying.laid_clip m pieces.now) }
-    ensures from { IfOk result (λ v. (blocks : List BlockRef) (count : ℕ) → AllFrom blocks count pieces.now → AllLaidFrom blocks count v.items) }
+    ensures from { IfOk result (λ v. (blocks : List BlockRef) (count : ℕ) → AllFrom blocks count pieces.now
+        → AllLaidFrom blocks count v.items) }
     ensures samples { IfOk result (λ v. (src : Sources) → all_laid_samples src v.items ≡ all_samples src pieces.now) }
 {
     let mut out = Vec::new(alloc);
@@ -240,7 +247,8 @@ fn lay_apart(alloc: Global, pieces: &[Piece], m: u32) -> Result<Vec<Laid>, Alloc
     requires few { total pieces.now ≤ 2 ^ 32 }
     ensures made { IfOk result (λ v. AllMade m v.items) }
     ensures parts { IfOk result (λ v. parts v.items ≡ laying.laid_apart m pieces.now) }
-    ensures from { IfOk result (λ v. (blocks : List BlockRef) (count : ℕ) → AllFrom blocks count pieces.now → AllLaidFrom blocks count v.items) }
+    ensures from { IfOk result (λ v. (blocks : List BlockRef) (count : ℕ) → AllFrom blocks count pieces.now
+        → AllLaidFrom blocks count v.items) }
     ensures samples { IfOk result (λ v. (src : Sources) → all_laid_samples src v.items ≡ all_samples src pieces.now) }
 {
     match pieces {
@@ -261,11 +269,13 @@ pub fn fuse(alloc: Global, pieces: &[Piece], m: u32) -> Result<Vec<Laid>, NoMemo
     requires fit { AllFit m pieces.now }
     requires few { total pieces.now ≤ 2 ^ 32 }
     ensures rule { IfOk result (λ v. layout.IsLaidOut m (filter layout.is_not_empty pieces.now) (parts v.items)) }
-    ensures from { IfOk result (λ v. (blocks : List BlockRef) (count : ℕ) → AllFrom blocks count pieces.now → AllLaidFrom blocks count v.items) }
+    ensures from { IfOk result (λ v. (blocks : List BlockRef) (count : ℕ) → AllFrom blocks count pieces.now
+        → AllLaidFrom blocks count v.items) }
     ensures samples { IfOk result (λ v. (src : Sources) → all_laid_samples src v.items ≡ all_samples src pieces.now) }
     ensures half_full { IfOk result (λ v. IsHalfFull m (sizes v.items)) }
     ensures made { IfOk result (λ v. AllMade m v.items) }
-    ensures few_made { IfOk result (λ v. layout.AllShort m pieces.now → layout.made_count (parts v.items) ≤ 2 * layout.rough m pieces.now) }
+    ensures few_made { IfOk result
+        (λ v. layout.AllShort m pieces.now → layout.made_count (parts v.items) ≤ 2 * layout.rough m pieces.now) }
     ensures few_samples { IfOk result (λ v. m * layout.made_count (parts v.items) ≤ clip_room m pieces.now) }
 {
     let kept = without_empty(alloc, pieces)?;

@@ -109,7 +109,8 @@ impl Sequence {
         requires within { to ≤ blocks_len self.now }
         ensures valid { IfOk result (λ p. AllValid p) }
         ensures total { IfOk result (λ p. total p ≡ to - from) }
-        ensures samples { IfOk result (λ p. (src : Sources) → all_samples src p ≡ take (to - from) (drop from (block_samples src self.now))) }
+        ensures samples { IfOk result
+            (λ p. (src : Sources) → all_samples src p ≡ take (to - from) (drop from (block_samples src self.now))) }
     {
         let alloc = *self.blocks.allocator();
         let pieces = whole_pieces(alloc, self.blocks.as_slice())?;

@@ -1,5 +1,6 @@
 -- Reads of a block of the disk give its samples, and find no fault in it.
-use Rattle.std.proofs.Common.{◌≡◌, ℕ, ◌+◌, ◌*◌, take, drop, ◌^◌, ◌<◌, ◌≤◌, ℤ, List, length, Option, Some, None, refl, sym, ap, ◌∙◌, arith, ⊎_elim, inl, inr, zero, suc, Result, Ok, Err}
+use Rattle.std.proofs.Common.{◌≡◌, ℕ, ◌+◌, ◌*◌, take, drop, ◌^◌, ◌<◌, ◌≤◌, ℤ, List, length, Option, Some, None, refl}
+use Rattle.std.proofs.Common.{sym, ap, ◌∙◌, arith, ⊎_elim, inl, inr, zero, suc, Result, Ok, Err}
 use Rattle.std.specs.Prelude.{IfErr, IsOkUnless, OnOk}
 use Rattle.disk_model.specs.Disk.{Files, bytes_of}
 use Rattle.sample_block.specs.Spelling.{header_fields, size_of}
@@ -19,19 +20,24 @@ block_samples files id len xs e size =
     let has = blocks_have files id xs e in
     let low : id < 2 ^ 64 = omega (arith, has.block.id_high) in
     let few : length xs < 2 ^ 32 = omega (arith, has.block.few) in
-    ap (λ (o : Option (List ℕ)). samples_in (bytes_of o) 16 len) has.file ∙ ap (samples_in has.bytes 16) (sym size) ∙ (spelled_read id xs has.bytes low few has.spelled).1
+    ap (λ (o : Option (List ℕ)). samples_in (bytes_of o) 16 len) has.file ∙ ap (samples_in has.bytes 16) (sym size)
+    ∙ (spelled_read id xs has.bytes low few has.spelled).1
 
 -- a fault before a place is one before a later place
-pub early_on : (id len before end : ℕ) (bytes : List ℕ) (why : BlockFault) → before ≤ end → IsEarly id len before bytes why → IsEarly id len end bytes why
+pub early_on : (id len before end : ℕ) (bytes : List ℕ) (why : BlockFault) → before ≤ end
+    → IsEarly id len before bytes why → IsEarly id len end bytes why
 early_on id len before end bytes fault.DiskFault le early = tt
 early_on id len before end bytes (fault.Damaged file found) le early = (early.0, (early.1.0, omega (arith, early.1.1)))
 
-pub fault_on : (id len before end : ℕ) (bytes : List ℕ) (why : BlockFault) → before ≤ end → IsReadFault id len before bytes why → IsReadFault id len end bytes why
+pub fault_on : (id len before end : ℕ) (bytes : List ℕ) (why : BlockFault) → before ≤ end
+    → IsReadFault id len before bytes why → IsReadFault id len end bytes why
 fault_on id len before end bytes fault.DiskFault le is = tt
-fault_on id len before end bytes (fault.Damaged file found) le is = (is.0, ⊎_elim (λ header. inl header) (λ early. inr ((early.0.0, omega (arith, early.0.1)), early.1)) is.1)
+fault_on id len before end bytes (fault.Damaged file found) le is =
+    (is.0, ⊎_elim (λ header. inl header) (λ early. inr ((early.0.0, omega (arith, early.0.1)), early.1)) is.1)
 
 -- where the header is right a file can only end too early
-pub early_fault : (id len end : ℕ) (bytes : List ℕ) (why : BlockFault) → difference bytes 0 (header_fields id len) ≡ None → IsEarly id len end bytes why → IsReadFault id len end bytes why
+pub early_fault : (id len end : ℕ) (bytes : List ℕ) (why : BlockFault)
+    → difference bytes 0 (header_fields id len) ≡ None → IsEarly id len end bytes why → IsReadFault id len end bytes why
 early_fault id len end bytes fault.DiskFault none early = tt
 early_fault id len end bytes (fault.Damaged file found) none early = (early.0, inr (early.1, λ there. none))
 
@@ -55,7 +61,8 @@ end_most zero place most front le = front
 end_most (suc n) place most front le = le
 
 -- a block has no fault
-pub block_sound : (files : Files) (id len end : ℕ) (xs : List ℤ) (why : BlockFault) → blocks files id ≡ Some xs → length xs ≡ len → end ≤ size_of len
+pub block_sound : (files : Files) (id len end : ℕ) (xs : List ℤ) (why : BlockFault) → blocks files id ≡ Some xs
+    → length xs ≡ len → end ≤ size_of len
     → IsReadFault id len end (bytes_of (files id)) why → why ≡ fault.DiskFault
 block_sound files id len end xs (fault.Damaged file found) e size le is =
     let has = blocks_have files id xs e in
@@ -63,18 +70,26 @@ block_sound files id len end xs (fault.Damaged file found) e size le is =
     let few : length xs < 2 ^ 32 = omega (arith, has.block.few) in
     let bytes : bytes_of (files id) ≡ has.bytes = ap bytes_of has.file in
     let none : difference (bytes_of (files id)) 0 (header_fields id len) ≡ None =
-    ap (λ (ys : List ℕ). difference ys 0 (header_fields id len)) bytes ∙ ap (λ (n : ℕ). difference has.bytes 0 (header_fields id n)) (sym size) ∙ spelled_header id xs has.bytes low few has.spelled in
-    let long : length (bytes_of (files id)) ≡ size_of len = ap length bytes ∙ spelled_size id xs has.bytes has.spelled ∙ ap size_of size in
-    ⊎_elim (λ some. absurd (let clash = sym none ∙ some.1 in cc)) (λ early. absurd (omega (arith, early.0.1, le, long))) is.1
+    ap (λ (ys : List ℕ). difference ys 0 (header_fields id len)) bytes
+    ∙ ap (λ (n : ℕ). difference has.bytes 0 (header_fields id n)) (sym size)
+    ∙ spelled_header id xs has.bytes low few has.spelled in
+    let long : length (bytes_of (files id)) ≡ size_of len =
+    ap length bytes ∙ spelled_size id xs has.bytes has.spelled ∙ ap size_of size in
+    ⊎_elim (λ some. absurd (let clash = sym none ∙ some.1 in cc))
+    (λ early. absurd (omega (arith, early.0.1, le, long))) is.1
 block_sound files id len end xs fault.DiskFault e size le is = refl
 
-pub sound_result : {T : Type 0} (r : Result T BlockFault) (files : Files) (id len end : ℕ) (xs : List ℤ) → blocks files id ≡ Some xs → length xs ≡ len → end ≤ size_of len
+pub sound_result : {T : Type 0} (r : Result T BlockFault) (files : Files) (id len end : ℕ) (xs : List ℤ)
+    → blocks files id ≡ Some xs → length xs ≡ len → end ≤ size_of len
     → IfErr r (λ e. IsReadFault id len end (bytes_of (files id)) e) → IsOkUnless r fault.DiskFault
 sound_result (Ok x) files id len end xs e size le is = tt
 sound_result (Err why) files id len end xs e size le is = block_sound files id len end xs why e size le is
 
-pub read_result : {T : Type 0} (r : Result T BlockFault) (files : Files) (id len from n : ℕ) (xs out : List ℤ) → blocks files id ≡ Some xs → length xs ≡ len
-    → from + n ≤ len → OnOk r (out ≡ samples_in (bytes_of (files id)) (16 + 2 * from) n) → OnOk r (out ≡ take n (drop from xs))
+pub read_result : {T : Type 0} (r : Result T BlockFault) (files : Files) (id len from n : ℕ) (xs out : List ℤ)
+    → blocks files id ≡ Some xs → length xs ≡ len
+    → from + n ≤ len → OnOk r (out ≡ samples_in (bytes_of (files id)) (16 + 2 * from) n)
+    → OnOk r (out ≡ take n (drop from xs))
 read_result (Ok x) files id len from n xs out e size le read =
-    read ∙ samples_stretch (bytes_of (files id)) len from n le ∙ ap (λ (ys : List ℤ). take n (drop from ys)) (block_samples files id len xs e size)
+    read ∙ samples_stretch (bytes_of (files id)) len from n le
+    ∙ ap (λ (ys : List ℤ). take n (drop from ys)) (block_samples files id len xs e size)
 read_result (Err why) files id len from n xs out e size le read = tt

@@ -1,5 +1,6 @@
 -- Stretches of the samples of a block of the disk, and parts of lists, for the layers above.
-use Rattle.std.proofs.Common.{◌≡◌, ℕ, ◌+◌, ◌-◌, ◌≤◌, ℤ, pos, List, [], ◌++◌, length, get_or, take, drop, min, Option, Some}
+use Rattle.std.proofs.Common.{◌≡◌, ℕ, ◌+◌, ◌-◌, ◌≤◌, ℤ, pos, List, [], ◌++◌, length, get_or, take, drop, min, Option}
+use Rattle.std.proofs.Common.{Some}
 use Rattle.std.proofs.Common.{sym, ap, ◌∙◌, arith, length-drop}
 use Rattle.std.specs.Prelude.{unwrap_or}
 use Rattle.std.proofs.lemmas.List.{length-take, take-append-drop, take-take, drop-drop, drop-take}

@@ -1,5 +1,6 @@
 -- What the reads of a block give, and what they find wrong.
-use Rattle.std.specs.Prelude.{◌≡◌, ◌<◌, ◌≤◌, ◌⊎◌, ℕ, zero, suc, ◌+◌, ◌*◌, ◌-◌, min, map, List, length, Contains, Option, Some, None, Result, MatchResult}
+use Rattle.std.specs.Prelude.{◌≡◌, ◌<◌, ◌≤◌, ◌⊎◌, ℕ, zero, suc, ◌+◌, ◌*◌, ◌-◌, min, map, List, length, Contains, Option}
+use Rattle.std.specs.Prelude.{Some, None, Result, MatchResult}
 use Rattle.std.specs.List.{range_with_len}
 use Rattle.disk_model.specs.Disk.{Files, bytes_of}
 use Rattle.pcm_base.specs.declared.block.BlockRef.{BlockRef}
@@ -24,7 +25,8 @@ Counted result old new = MatchResult result (λ _. new ≡ old) (λ why. Counted
 
 -- The file of a block of so many samples ends before this place: its size is told, at 0.
 abbrev pub EndsBefore : (len end : ℕ) → List ℕ → Damaged → Type 0
-EndsBefore len end bytes found = (found ≡ record { at = 0; want = size_of len; have = length bytes }) × (length bytes < end)
+EndsBefore len end bytes found =
+    (found ≡ record { at = 0; want = size_of len; have = length bytes }) × (length bytes < end)
 
 -- the same as an answer
 abbrev pub IsEarly : (id len end : ℕ) → List ℕ → BlockFault → Type 0

@@ -1,5 +1,6 @@
 // Files of blocks are compared with what they have to be.
-ghost use Rattle.std.specs.Prelude.{◌≡◌, ◌≤◌, ℕ, length, vec_capacity, IsTrue, IsOkUnless, ℤ, List, Some, None, OnOk, IfErr};
+ghost use Rattle.std.specs.Prelude.{◌≡◌, ◌≤◌, ℕ, length, vec_capacity, IsTrue, IsOkUnless, ℤ, List, Some, None, OnOk};
+ghost use Rattle.std.specs.Prelude.{IfErr};
 ghost use Rattle.disk_model.specs.Disk.{bytes_of};
 ghost use Rattle.disk_model.specs.Frames.{Kept};
 ghost use Rattle.sample_block.specs.Spelling.{size_of, IsBlock, IsSpelled};
@@ -110,9 +111,9 @@ fn check_file<S: Store>(
     compare(buffer, block)
 }
 
-/// Whether the disk has a block whole: reads its whole file into the buffer, and compares all of it. The buffer has room
-/// for the file, and no other memory is taken. The first that differs is told: the size of the file, at 0, then magic,
-/// id, count and the fields of the frames, in the order of the file.
+/// Whether the disk has a block whole: reads its whole file into the buffer, and compares all of it. The buffer has
+/// room for the file, and no other memory is taken. The first that differs is told: the size of the file, at 0, then
+/// magic, id, count and the fields of the frames, in the order of the file.
 pub fn check_block<S: Store>(
     store: &mut S,
     block: BlockRef,

@@ -1,5 +1,6 @@
 // Frames of a block are read from its file.
-ghost use Rattle.std.specs.Prelude.{◌≡◌, ◌^◌, ◌+◌, ◌*◌, ◌<◌, ◌≤◌, length, take, drop, map, List, ℤ, IsTrue, IsOkUnless, None, Some, OnOk, IfErr};
+ghost use Rattle.std.specs.Prelude.{◌≡◌, ◌^◌, ◌+◌, ◌*◌, ◌<◌, ◌≤◌, length, take, drop, map, List, ℤ, IsTrue, IsOkUnless};
+ghost use Rattle.std.specs.Prelude.{None, Some, OnOk, IfErr};
 ghost use Rattle.std.specs.List.{range_with_len};
 ghost use Rattle.disk_model.specs.Disk.{bytes_of};
 ghost use Rattle.peak_summary.specs.Peaks.{frame_count, frames_of};
@@ -8,7 +9,8 @@ ghost use Rattle.sample_block.specs.Spelling.{size_of, header_fields, IsBlock};
 ghost use Rattle.sample_block.specs.Blocks.{blocks};
 ghost use Rattle.block_store.specs.declared.fault.BlockFault.TheVariants as fault;
 ghost use Rattle.disk_model.specs.Frames.{Kept};
-ghost use Rattle.block_store.specs.Reads.{Counted, HasHeader, IsEarly, IsReadFault, end_of, frame_len, frame_samples, level_place, stored_frames};
+ghost use Rattle.block_store.specs.Reads.{Counted, HasHeader, IsEarly, IsReadFault, end_of, frame_len, frame_samples};
+ghost use Rattle.block_store.specs.Reads.{level_place, stored_frames};
 
 use super::fault::BlockFault;
 use super::parts::{compare_header, read_part};

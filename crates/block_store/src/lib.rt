@@ -6,8 +6,8 @@
 //! are `compare_header` and then `read_compared_samples` or `read_compared_frames`, which a caller that reads several
 //! stretches of one block calls itself, so that the header is read once; `compare_once` compares it unless it was the
 //! last that was compared. `drop_block` makes the file absent and touches no other. `check_size` and `check_block` tell
-//! whether a file has the size of its block, and whether it is the block's to the last byte. Which numbers are free, and
-//! which blocks are needed, the caller knows.
+//! whether a file has the size of its block, and whether it is the block's to the last byte. Which numbers are free,
+//! and which blocks are needed, the caller knows.
 #![tactic(auto)]
 
 mod checks;

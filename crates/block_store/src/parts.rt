@@ -1,5 +1,6 @@
 // Parts of a block's file are read, and its header is compared.
-ghost use Rattle.std.specs.Prelude.{◌≡◌, ◌^◌, ◌+◌, ◌<◌, ◌≤◌, true, false, ℕ, ℤ, List, length, take, drop, IsTrue, IsOkUnless, Some, None, IfOk, OnOk, IfErr};
+ghost use Rattle.std.specs.Prelude.{◌≡◌, ◌^◌, ◌+◌, ◌<◌, ◌≤◌, true, false, ℕ, ℤ, List, length, take, drop, IsTrue};
+ghost use Rattle.std.specs.Prelude.{IsOkUnless, Some, None, IfOk, OnOk, IfErr};
 ghost use Rattle.pcm_base.specs.Causes.{HasCause};
 ghost use Rattle.disk_model.specs.Disk.{bytes_of};
 ghost use Rattle.disk_model.specs.Frames.{Kept};
@@ -18,7 +19,8 @@ fn fill<S: Store>(store: &mut S, file: u64, at: u64, buf: &mut [u8]) -> Result<b
     requires within { at + length buf.old ≤ 2 ^ 62 }
     requires some { 0 < length buf.old }
     ensures whole { IsTrue (S.tells store.old) → IfOk result (λ all. all ≡ true
-        → (at + length buf.old ≤ length (bytes_of (S.reads store.old file))) × (buf.new ≡ take (length buf.old) (drop at (bytes_of (S.reads store.old file))))) }
+        → (at + length buf.old ≤ length (bytes_of (S.reads store.old file)))
+        × (buf.new ≡ take (length buf.old) (drop at (bytes_of (S.reads store.old file))))) }
     ensures short { IsTrue (S.tells store.old) → IfOk result (λ all. all ≡ false
         → length (bytes_of (S.reads store.old file)) < at + length buf.old) }
     ensures kept { Kept S.Store store.old store.new }

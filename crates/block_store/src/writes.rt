@@ -42,8 +42,8 @@ pub fn write_block<S: Store>(
     requires room { size_of (length samples.now) ≤ vec_capacity scratch.old }
     ensures stored { IsTrue (S.tells store.old) → S.reads store.old id ≡ None
         → OnOk result (blocks (S.reads store.new) id ≡ Some samples.now) }
-    // A stop at any moment of the call leaves what it could leave before, but for this file. It makes one file at most, and
-    // asks for no more bytes than the file has.
+    // A stop at any moment of the call leaves what it could leave before, but for this file. It makes one file at most,
+    // and asks for no more bytes than the file has.
     ensures changed { Changed S.Store (SameElsewhere id) (record {
       files = 1;
       bytes = size_of (length samples.now);
@@ -98,8 +98,8 @@ pub fn put<S: Store>(
     // In every image from then on the block is there.
     ensures durable { IsTrue (S.tells store.old) → S.reads store.old id ≡ None
         → OnOk result ((c : Files) → S.may_leave store.new (S.clock store.new) c → blocks c id ≡ Some samples.now) }
-    // A stop at any moment of the call leaves what it could leave before, but for this file. It makes one file at most, and
-    // asks for no more bytes than the file has.
+    // A stop at any moment of the call leaves what it could leave before, but for this file. It makes one file at most,
+    // and asks for no more bytes than the file has.
     ensures changed { Changed S.Store (SameElsewhere id) (record {
       files = 1;
       bytes = size_of (length samples.now);

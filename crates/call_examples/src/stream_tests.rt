@@ -4,7 +4,8 @@ use std::test::*;
 
 const SCRIPT: &[u8] = b"track\nsing\nput 1 0 5\n";
 
-// What is printed where the read of this number fails. Each gives a byte, and those that came without an LF are no line.
+// What is printed where the read of this number fails. Each gives a byte, and those that came without an LF are no
+// line.
 fn printed(read: u64) -> &'static str {
     match read {
         1..=6 => "end 0\n",

@@ -61,7 +61,13 @@ rule_of Block = first_rule (rest_rules rules)
 rule_of Depth = first_rule (rest_rules (rest_rules rules))
 
 abbrev pub row_of : Key → Text → Row
-row_of key v = record { id = name_of key; values = v ∷ []; count = None; source = Some CommandLine; reading = reading_by (rule_of key) }
+row_of key v = record {
+  id = name_of key;
+  values = v ∷ [];
+  count = None;
+  source = Some CommandLine;
+  reading = reading_by (rule_of key);
+}
 
 abbrev pub given_at : Key → Given → Option Text
 given_at Rate g = g.rate

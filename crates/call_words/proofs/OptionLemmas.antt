@@ -1,9 +1,11 @@
 -- What clap makes of the options of a new project, beside the grammar.
-use Rattle.std.proofs.Common.{◌≡◌, ◌∙◌, Bool, cond, true, false, refl, sym, ap, ap₂, subst, List, [], ◌∷◌, Option, Some, None, codes, true≢false, inl, inr, is_some, fold, ◌||◌}
+use Rattle.std.proofs.Common.{◌≡◌, ◌∙◌, Bool, cond, true, false, refl, sym, ap, ap₂, subst, List, [], ◌∷◌, Option, Some}
+use Rattle.std.proofs.Common.{None, codes, true≢false, inl, inr, is_some, fold, ◌||◌}
 use Rattle.std.specs.Option.{option_map}
 use Rattle.std.specs.Prelude.{option_and_then, slice_get, drop}
 use Rattle.std.specs.List.{list_any}
-use Rattle.clap.specs.Walk.{Held, Row, Rule, Walk, idle, has_row, walked, settled, finished, first_of, nothing_held, with_default}
+use Rattle.clap.specs.Walk.{Held, Row, Rule, Walk, idle, has_row, walked, settled, finished, first_of, nothing_held}
+use Rattle.clap.specs.Walk.{with_default}
 use Rattle.clap.specs.Kinds.{HasKind, IsAmong, Kinds, or_else}
 use Rattle.clap.specs.Values.{kind_of}
 use Rattle.clap.specs.declared.error.Error.{Error}
@@ -13,14 +15,16 @@ use Rattle.clap.specs.declared.error.kind.ErrorKind.TheVariants as kind
 use Rattle.call_words.specs.Command.{new_command}
 use Rattle.call_words.specs.Texts.{Text, is_odd}
 use Rattle.call_words.specs.Options.{Key, Rate, Block, Depth, Given, none_given, options_of, options_read}
-use Rattle.call_words.proofs.NewOptions.{shape, rules, at, Faulty, faulty_first, name_of, rule_of, row_of, given_at, Tells}
+use Rattle.call_words.proofs.NewOptions.{shape, rules, at, Faulty, faulty_first, name_of, rule_of, row_of, given_at}
+use Rattle.call_words.proofs.NewOptions.{Tells}
 use Rattle.call_words.proofs.WalkLemmas.{Result, rest_odd, run, Bad, Late, Done}
 
 or_true : (b : Bool) → (b || true) ≡ true
 or_true true = refl
 or_true false = refl
 
-default_step : (rows : List Row) (a : Rule) (rest : List Rule) → a.defaults ≡ [] → defaults_fault rows (a ∷ rest) ≡ defaults_fault (with_default rows a) rest
+default_step : (rows : List Row) (a : Rule) (rest : List Rule) → a.defaults ≡ []
+    → defaults_fault rows (a ∷ rest) ≡ defaults_fault (with_default rows a) rest
 unfolding defaults_fault
 default_step rows a rest e = rw e (rw (or_true (has_row a.id rows)) refl)
 
@@ -38,17 +42,22 @@ default_kept rows a e = rw e (go (has_row a.id rows))
     go false = refl
 
 finished_is : (h : Held) → finished rules h ≡ (settled rules h).rows
-finished_is h = default_kept _ (rule_of Depth) refl ∙ default_kept _ (rule_of Block) refl ∙ default_kept _ (rule_of Rate) refl
+finished_is h =
+    default_kept _ (rule_of Depth) refl ∙ default_kept _ (rule_of Block) refl ∙ default_kept _ (rule_of Rate) refl
 
 -- what clap tests after the walk
 abbrev pub after : Walk → Kinds
 after W = or_else (entered_fault (built new_command) W.stopped) (or_else (settle_fault rules false W.held)
-    (or_else (defaults_fault (settled rules W.held).rows rules) (check_fault shape (finished rules W.held) (is_some (entered (built new_command) W.stopped)))))
+    (or_else (defaults_fault (settled rules W.held).rows rules)
+    (check_fault shape (finished rules W.held) (is_some (entered (built new_command) W.stopped)))))
 
-fault_is : (words : List Text) → fault_of new_command words ≡ or_else (walk_fault shape [] (at nothing_held idle) (drop 1 words)) (after (fold (walked rules []) (at nothing_held idle) (drop 1 words)))
+fault_is : (words : List Text)
+    → fault_of new_command words ≡ or_else (walk_fault shape [] (at nothing_held idle) (drop 1 words))
+    (after (fold (walked rules []) (at nothing_held idle) (drop 1 words)))
 fault_is words = refl
 
-matches_are : (words : List Text) → matches_of new_command words ≡ finished rules (fold (walked rules []) (at nothing_held idle) (drop 1 words)).held
+matches_are : (words : List Text)
+    → matches_of new_command words ≡ finished rules (fold (walked rules []) (at nothing_held idle) (drop 1 words)).held
 matches_are words = refl
 
 -- what clap makes of the words, beside the grammar
@@ -58,17 +67,20 @@ pub data Agrees (words : List Text) : Option Given → Type 0 where
 
 agrees_by : (words : List Text) (o : Option Given) → Result (drop 1 words) (at nothing_held idle) o → Agrees words o
 agrees_by words _ (Bad f) = Fails (rw (fault_is words) (faulty_first _ _ f))
-agrees_by words _ (Late h waits clear ends f) = Fails (subst Faulty (sym (fault_is words ∙ ap₂ or_else clear (ap after ends))) (faulty_first _ _ f))
+agrees_by words _ (Late h waits clear ends f) =
+    Fails (subst Faulty (sym (fault_is words ∙ ap₂ or_else clear (ap after ends))) (faulty_first _ _ f))
 agrees_by words _ (Done h g clear ends calm tells) = Reads g
     (fault_is words ∙ ap₂ or_else clear (ap after ends) ∙ rw calm (rw (defaults_none (settled rules h).rows) refl))
-    (subst (λ rows. Tells rows g) (sym (matches_are words ∙ ap (λ (W : Walk). finished rules W.held) ends ∙ finished_is h)) tells)
+    (subst (λ rows. Tells rows g)
+    (sym (matches_are words ∙ ap (λ (W : Walk). finished rules W.held) ends ∙ finished_is h)) tells)
 
 nothing_told : Tells [] none_given
 nothing_told Rate = refl
 nothing_told Block = refl
 nothing_told Depth = refl
 
-pub agrees : (words : List Text) → list_any is_odd (drop 1 words) ≡ false → Agrees words (options_of (drop 1 words) None none_given)
+pub agrees : (words : List Text) → list_any is_odd (drop 1 words) ≡ false
+    → Agrees words (options_of (drop 1 words) None none_given)
 agrees words odd = agrees_by words _ (run (drop 1 words) odd None nothing_held none_given (refl, nothing_told))
 
 -- what is read of a row
@@ -91,8 +103,10 @@ faulty_some : (ks : Kinds) → Faulty ks → ks ≡ [] → ⊥
 faulty_some ks f e = true≢false (ap is_some_kind (sym f.2 ∙ e))
 
 -- Ok gives what the words give
-pub told : (words : List Text) (a : App) (rows : List Row) (g : Given) → a ≡ new_command → list_any is_odd words ≡ false → fault_of a words ≡ []
-    → rows ≡ matches_of a words → first_of (codes "rate") rows ≡ g.rate → first_of (codes "block") rows ≡ g.block → first_of (codes "depth") rows ≡ g.depth
+pub told : (words : List Text) (a : App) (rows : List Row) (g : Given) → a ≡ new_command → list_any is_odd words ≡ false
+    → fault_of a words ≡ []
+    → rows ≡ matches_of a words → first_of (codes "rate") rows ≡ g.rate → first_of (codes "block") rows ≡ g.block
+    → first_of (codes "depth") rows ≡ g.depth
     → options_read words ≡ Some g
 told words a rows g is odd clear found rate block depth = rw odd (go _ (agrees words (drop_odd words odd)))
   where
@@ -108,10 +122,12 @@ told words a rows g is odd clear found rate block depth = rw odd (go _ (agrees w
         let here : Tells rows h = subst (λ rs. Tells rs h) (sym found_here) tells in
         ap (λ x. Some (record h { rate = x })) (sym (first_told rows h Rate here) ∙ rate)
         ∙ ap (λ x. Some (record h { rate = g.rate; block = x })) (sym (first_told rows h Block here) ∙ block)
-        ∙ ap (λ x. Some (record h { rate = g.rate; block = g.block; depth = x })) (sym (first_told rows h Depth here) ∙ depth)
+        ∙ ap (λ x. Some (record h { rate = g.rate; block = g.block; depth = x }))
+        (sym (first_told rows h Depth here) ∙ depth)
 
 -- an error that is no want of memory comes only where they give nothing
-pub untold : (words : List Text) (a : App) (e : Error) → a ≡ new_command → list_any is_odd words ≡ false → HasKind (fault_of a words) e
+pub untold : (words : List Text) (a : App) (e : Error) → a ≡ new_command → list_any is_odd words ≡ false
+    → HasKind (fault_of a words) e
     → (kind_of e ≡ kind.OutOfMemory → ⊥) → options_read words ≡ None
 untold words a e is odd has other = rw odd (go _ (agrees words (drop_odd words odd)))
   where

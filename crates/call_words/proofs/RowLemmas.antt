@@ -1,5 +1,6 @@
 -- A value of an option becomes a row, where none was given before.
-use Rattle.std.proofs.Common.{◌≡◌, ◌∙◌, Bool, cond, true, false, refl, sym, ap, List, [], ◌∷◌, ◌++◌, Option, Some, None, codes, true≢false, ◌||◌}
+use Rattle.std.proofs.Common.{◌≡◌, ◌∙◌, Bool, cond, true, false, refl, sym, ap, List, [], ◌∷◌, ◌++◌, Option, Some, None}
+use Rattle.std.proofs.Common.{codes, true≢false, ◌||◌}
 use Rattle.std.specs.Option.{option_map}
 use Rattle.std.specs.List.{find, list_any}
 use Rattle.std.specs.Str.{bytes_eq}
@@ -27,11 +28,13 @@ some_any p (y ∷ xs) x e = go (p y) refl (some_any p xs x)
     go true hit rest = rw hit refl
     go false miss rest = rw miss (rest (sym (rw miss refl) ∙ e))
 
-find_end : {X : Type 0} (p : X → Bool) (xs : List X) (x : X) → list_any p xs ≡ false → p x ≡ true → find p (xs ++ x ∷ []) ≡ Some x
+find_end : {X : Type 0} (p : X → Bool) (xs : List X) (x : X) → list_any p xs ≡ false → p x ≡ true
+    → find p (xs ++ x ∷ []) ≡ Some x
 find_end p [] x none hit = rw hit refl
 find_end p (y ∷ xs) x none hit = go (p y) refl (λ e. find_end p xs x e hit)
   where
-    go : (b : Bool) → p y ≡ b → (list_any p xs ≡ false → find p (xs ++ x ∷ []) ≡ Some x) → cond (p y) (Some y) (find p (xs ++ x ∷ [])) ≡ Some x
+    go : (b : Bool) → p y ≡ b → (list_any p xs ≡ false → find p (xs ++ x ∷ []) ≡ Some x)
+        → cond (p y) (Some y) (find p (xs ++ x ∷ [])) ≡ Some x
     go true here rest = absurd (true≢false (sym (rw here refl) ∙ none))
     go false miss rest = rw miss (rest (sym (rw miss refl) ∙ none))
 
@@ -39,11 +42,13 @@ find_past : {X : Type 0} (p : X → Bool) (xs : List X) (x : X) → p x ≡ fals
 find_past p [] x miss = rw miss refl
 find_past p (y ∷ xs) x miss = go (p y) refl (find_past p xs x miss)
   where
-    go : (b : Bool) → p y ≡ b → find p (xs ++ x ∷ []) ≡ find p xs → cond (p y) (Some y) (find p (xs ++ x ∷ [])) ≡ cond (p y) (Some y) (find p xs)
+    go : (b : Bool) → p y ≡ b → find p (xs ++ x ∷ []) ≡ find p xs
+        → cond (p y) (Some y) (find p (xs ++ x ∷ [])) ≡ cond (p y) (Some y) (find p xs)
     go true here rest = rw here refl
     go false there rest = rw there rest
 
-at_row_none : (id : Text) (change : Row → List Row) (missing rows : List Row) → has_row id rows ≡ false → at_row id change missing rows ≡ rows ++ missing
+at_row_none : (id : Text) (change : Row → List Row) (missing rows : List Row) → has_row id rows ≡ false
+    → at_row id change missing rows ≡ rows ++ missing
 at_row_none id change missing [] none = refl
 at_row_none id change missing (r ∷ rs) none = go (bytes_eq r.id id) refl (at_row_none id change missing rs)
   where
@@ -56,47 +61,61 @@ append_none : {X : Type 0} (xs : List X) → xs ++ [] ≡ xs
 append_none [] = refl
 append_none (x ∷ xs) = ap (λ ys. x ∷ ys) (append_none xs)
 
-used_new : (key : Key) (v : Text) (rows : List Row) → has_row (name_of key) rows ≡ false → used (rule_of key) (v ∷ []) rows ≡ rows ++ row_of key v ∷ []
-used_new Rate v rows none = rw (at_row_none (codes "rate") (λ _. []) [] rows none ∙ append_none rows) (at_row_none (codes "rate") (more_values CommandLine (v ∷ [])) _ rows none)
-used_new Block v rows none = rw (at_row_none (codes "block") (λ _. []) [] rows none ∙ append_none rows) (at_row_none (codes "block") (more_values CommandLine (v ∷ [])) _ rows none)
-used_new Depth v rows none = rw (at_row_none (codes "depth") (λ _. []) [] rows none ∙ append_none rows) (at_row_none (codes "depth") (more_values CommandLine (v ∷ [])) _ rows none)
+used_new : (key : Key) (v : Text) (rows : List Row) → has_row (name_of key) rows ≡ false
+    → used (rule_of key) (v ∷ []) rows ≡ rows ++ row_of key v ∷ []
+used_new Rate v rows none = rw (at_row_none (codes "rate") (λ _. []) [] rows none ∙ append_none rows)
+    (at_row_none (codes "rate") (more_values CommandLine (v ∷ [])) _ rows none)
+used_new Block v rows none = rw (at_row_none (codes "block") (λ _. []) [] rows none ∙ append_none rows)
+    (at_row_none (codes "block") (more_values CommandLine (v ∷ [])) _ rows none)
+used_new Depth v rows none = rw (at_row_none (codes "depth") (λ _. []) [] rows none ∙ append_none rows)
+    (at_row_none (codes "depth") (more_values CommandLine (v ∷ [])) _ rows none)
 
-use_new : (key : Key) (v : Text) (rows : List Row) → has_row (name_of key) rows ≡ false → use_fault false (rule_of key) (v ∷ []) rows ≡ []
+use_new : (key : Key) (v : Text) (rows : List Row) → has_row (name_of key) rows ≡ false
+    → use_fault false (rule_of key) (v ∷ []) rows ≡ []
 use_new Rate v rows none = rw none refl
 use_new Block v rows none = rw none refl
 use_new Depth v rows none = rw none refl
 
-pub use_again : (key : Key) (v : Text) (rows : List Row) → has_row (name_of key) rows ≡ true → Faulty (use_fault false (rule_of key) (v ∷ []) rows)
+pub use_again : (key : Key) (v : Text) (rows : List Row) → has_row (name_of key) rows ≡ true
+    → Faulty (use_fault false (rule_of key) (v ∷ []) rows)
 use_again Rate v rows there = (kind.ArgumentConflict, [], rw there refl)
 use_again Block v rows there = (kind.ArgumentConflict, [], rw there refl)
 use_again Depth v rows there = (kind.ArgumentConflict, [], rw there refl)
 
 pub data Puts (rows : List Row) (key : Key) (v : Text) : Option Given → Type 0 where
-  Fresh : (g : Given) → use_fault false (rule_of key) (v ∷ []) rows ≡ [] → Tells (used (rule_of key) (v ∷ []) rows) g → Puts rows key v (Some g)
+  Fresh : (g : Given) → use_fault false (rule_of key) (v ∷ []) rows ≡ [] → Tells (used (rule_of key) (v ∷ []) rows) g
+      → Puts rows key v (Some g)
   Again : Faulty (use_fault false (rule_of key) (v ∷ []) rows) → Puts rows key v None
 
-row_absent : (rows : List Row) (key : Key) (g : Given) → Tells rows g → given_at key g ≡ None → has_row (name_of key) rows ≡ false
-row_absent rows key g tells e = none_any (λ r. bytes_eq r.id (name_of key)) rows (tells key ∙ ap (option_map (row_of key)) e)
+row_absent : (rows : List Row) (key : Key) (g : Given) → Tells rows g → given_at key g ≡ None
+    → has_row (name_of key) rows ≡ false
+row_absent rows key g tells e =
+    none_any (λ r. bytes_eq r.id (name_of key)) rows (tells key ∙ ap (option_map (row_of key)) e)
 
-row_there : (rows : List Row) (key : Key) (g : Given) (v : Text) → Tells rows g → given_at key g ≡ Some v → has_row (name_of key) rows ≡ true
-row_there rows key g v tells e = some_any (λ r. bytes_eq r.id (name_of key)) rows (row_of key v) (tells key ∙ ap (option_map (row_of key)) e)
+row_there : (rows : List Row) (key : Key) (g : Given) (v : Text) → Tells rows g → given_at key g ≡ Some v
+    → has_row (name_of key) rows ≡ true
+row_there rows key g v tells e =
+    some_any (λ r. bytes_eq r.id (name_of key)) rows (row_of key v) (tells key ∙ ap (option_map (row_of key)) e)
 
 same_key : (key : Key) (v : Text) → bytes_eq (row_of key v).id (name_of key) ≡ true
 same_key Rate v = refl
 same_key Block v = refl
 same_key Depth v = refl
 
-tells_rate : (rows : List Row) (v : Text) (g : Given) → Tells rows g → has_row (codes "rate") rows ≡ false → Tells (rows ++ row_of Rate v ∷ []) (record g { rate = Some v })
+tells_rate : (rows : List Row) (v : Text) (g : Given) → Tells rows g → has_row (codes "rate") rows ≡ false
+    → Tells (rows ++ row_of Rate v ∷ []) (record g { rate = Some v })
 tells_rate rows v g tells none Rate = find_end _ rows (row_of Rate v) none refl
 tells_rate rows v g tells none Block = find_past _ rows (row_of Rate v) refl ∙ tells Block
 tells_rate rows v g tells none Depth = find_past _ rows (row_of Rate v) refl ∙ tells Depth
 
-tells_block : (rows : List Row) (v : Text) (g : Given) → Tells rows g → has_row (codes "block") rows ≡ false → Tells (rows ++ row_of Block v ∷ []) (record g { block = Some v })
+tells_block : (rows : List Row) (v : Text) (g : Given) → Tells rows g → has_row (codes "block") rows ≡ false
+    → Tells (rows ++ row_of Block v ∷ []) (record g { block = Some v })
 tells_block rows v g tells none Rate = find_past _ rows (row_of Block v) refl ∙ tells Rate
 tells_block rows v g tells none Block = find_end _ rows (row_of Block v) none refl
 tells_block rows v g tells none Depth = find_past _ rows (row_of Block v) refl ∙ tells Depth
 
-tells_depth : (rows : List Row) (v : Text) (g : Given) → Tells rows g → has_row (codes "depth") rows ≡ false → Tells (rows ++ row_of Depth v ∷ []) (record g { depth = Some v })
+tells_depth : (rows : List Row) (v : Text) (g : Given) → Tells rows g → has_row (codes "depth") rows ≡ false
+    → Tells (rows ++ row_of Depth v ∷ []) (record g { depth = Some v })
 tells_depth rows v g tells none Rate = find_past _ rows (row_of Depth v) refl ∙ tells Rate
 tells_depth rows v g tells none Block = find_past _ rows (row_of Depth v) refl ∙ tells Block
 tells_depth rows v g tells none Depth = find_end _ rows (row_of Depth v) none refl
@@ -106,17 +125,20 @@ putting rows Rate v g tells = go g.rate refl
   where
     go : (o : Option Text) → g.rate ≡ o → Puts rows Rate v (put Rate v g)
     go None e = let none = row_absent rows Rate g tells e in
-        rw e (Fresh (record g { rate = Some v }) (use_new Rate v rows none) (rw (used_new Rate v rows none) (tells_rate rows v g tells none)))
+        rw e (Fresh (record g { rate = Some v }) (use_new Rate v rows none)
+        (rw (used_new Rate v rows none) (tells_rate rows v g tells none)))
     go (Some old) e = rw e (Again (use_again Rate v rows (row_there rows Rate g old tells e)))
 putting rows Block v g tells = go g.block refl
   where
     go : (o : Option Text) → g.block ≡ o → Puts rows Block v (put Block v g)
     go None e = let none = row_absent rows Block g tells e in
-        rw e (Fresh (record g { block = Some v }) (use_new Block v rows none) (rw (used_new Block v rows none) (tells_block rows v g tells none)))
+        rw e (Fresh (record g { block = Some v }) (use_new Block v rows none)
+        (rw (used_new Block v rows none) (tells_block rows v g tells none)))
     go (Some old) e = rw e (Again (use_again Block v rows (row_there rows Block g old tells e)))
 putting rows Depth v g tells = go g.depth refl
   where
     go : (o : Option Text) → g.depth ≡ o → Puts rows Depth v (put Depth v g)
     go None e = let none = row_absent rows Depth g tells e in
-        rw e (Fresh (record g { depth = Some v }) (use_new Depth v rows none) (rw (used_new Depth v rows none) (tells_depth rows v g tells none)))
+        rw e (Fresh (record g { depth = Some v }) (use_new Depth v rows none)
+        (rw (used_new Depth v rows none) (tells_depth rows v g tells none)))
     go (Some old) e = rw e (Again (use_again Depth v rows (row_there rows Depth g old tells e)))

@@ -1,5 +1,6 @@
 -- What clap makes of one word, in each state.
-use Rattle.std.proofs.Common.{◌≡◌, ◌∙◌, Bool, true, false, refl, sym, [], ◌∷◌, Option, Some, None, codes, true≢false, ◌&&◌, ◌==◌}
+use Rattle.std.proofs.Common.{◌≡◌, ◌∙◌, Bool, true, false, refl, sym, [], ◌∷◌, Option, Some, None, codes, true≢false}
+use Rattle.std.proofs.Common.{◌&&◌, ◌==◌}
 use Rattle.std.specs.Str.{bytes_eq}
 use Rattle.clap.specs.Walk.{Held, idle, option, arg_by_long, walked, reacted, settled}
 use Rattle.clap.specs.Lexer.{long_of, short_of}
@@ -7,7 +8,8 @@ use Rattle.clap.specs.Faults.{settle_fault, react_fault, turn_fault, long_fault}
 use Rattle.clap.specs.declared.error.kind.ErrorKind.TheVariants as kind
 use Rattle.call_words.specs.Texts.{Text, begins_with_hyphen, is_odd, option_in}
 use Rattle.call_words.specs.Options.{Key, Rate, Block, Depth, key_of}
-use Rattle.call_words.proofs.NewOptions.{shape, rules, at, or_else_none, some≢none, Faulty, faulty_first, name_of, rule_of}
+use Rattle.call_words.proofs.NewOptions.{shape, rules, at, or_else_none, some≢none, Faulty, faulty_first, name_of}
+use Rattle.call_words.proofs.NewOptions.{rule_of}
 
 -- the option that a name names
 pub data Names (n : Text) : Option Key → Type 0 where
@@ -17,24 +19,30 @@ pub data Names (n : Text) : Option Key → Type 0 where
 pub names : (n : Text) → Names n (key_of n)
 names n = go (bytes_eq (codes "rate") n) (bytes_eq (codes "block") n) (bytes_eq (codes "depth") n) refl refl refl
   where
-    go : (a b c : Bool) → bytes_eq (codes "rate") n ≡ a → bytes_eq (codes "block") n ≡ b → bytes_eq (codes "depth") n ≡ c → Names n (key_of n)
+    go : (a b c : Bool) → bytes_eq (codes "rate") n ≡ a → bytes_eq (codes "block") n ≡ b
+        → bytes_eq (codes "depth") n ≡ c → Names n (key_of n)
     go true b c ea eb ec = rw ea (Known Rate (rw ea refl))
     go false true c ea eb ec = rw ea (rw eb (Known Block (rw ea (rw eb refl))))
     go false false true ea eb ec = rw ea (rw eb (rw ec (Known Depth (rw ea (rw eb (rw ec refl))))))
     go false false false ea eb ec = rw ea (rw eb (rw ec (Unknown (rw ea (rw eb (rw ec refl))))))
 
-pub unknown_turn : (h : Held) (w n : Text) (v : Option Text) → bytes_eq w (45 ∷ 45 ∷ []) ≡ false → long_of w ≡ Some (n, v)
+pub unknown_turn : (h : Held) (w n : Text) (v : Option Text) → bytes_eq w (45 ∷ 45 ∷ []) ≡ false
+    → long_of w ≡ Some (n, v)
     → arg_by_long rules n ≡ None → Faulty (turn_fault shape [] (at h idle) w)
 unknown_turn h w n v apart is_long is_arg = (kind.UnknownArgument, [], rw apart (rw is_long (rw is_arg refl)))
 
-pub attached_turn : (h : Held) (key : Key) (w n v : Text) → bytes_eq w (45 ∷ 45 ∷ []) ≡ false → long_of w ≡ Some (n, Some v)
-    → arg_by_long rules n ≡ Some (rule_of key) → turn_fault shape [] (at h idle) w ≡ react_fault rules false (rule_of key) (v ∷ []) h
+pub attached_turn : (h : Held) (key : Key) (w n v : Text) → bytes_eq w (45 ∷ 45 ∷ []) ≡ false
+    → long_of w ≡ Some (n, Some v)
+    → arg_by_long rules n ≡ Some (rule_of key)
+    → turn_fault shape [] (at h idle) w ≡ react_fault rules false (rule_of key) (v ∷ []) h
 attached_turn h Rate w n v apart is_long is_arg = rw apart (rw is_long (rw is_arg (or_else_none _)))
 attached_turn h Block w n v apart is_long is_arg = rw apart (rw is_long (rw is_arg (or_else_none _)))
 attached_turn h Depth w n v apart is_long is_arg = rw apart (rw is_long (rw is_arg (or_else_none _)))
 
-pub attached_walked : (h : Held) (key : Key) (w n v : Text) → bytes_eq w (45 ∷ 45 ∷ []) ≡ false → long_of w ≡ Some (n, Some v)
-    → arg_by_long rules n ≡ Some (rule_of key) → walked rules [] (at h idle) w ≡ at (reacted rules (rule_of key) (v ∷ []) h) idle
+pub attached_walked : (h : Held) (key : Key) (w n v : Text) → bytes_eq w (45 ∷ 45 ∷ []) ≡ false
+    → long_of w ≡ Some (n, Some v)
+    → arg_by_long rules n ≡ Some (rule_of key)
+    → walked rules [] (at h idle) w ≡ at (reacted rules (rule_of key) (v ∷ []) h) idle
 unfolding walked
 attached_walked h Rate w n v apart is_long is_arg = rw apart (rw is_long (rw is_arg refl))
 attached_walked h Block w n v apart is_long is_arg = rw apart (rw is_long (rw is_arg refl))
@@ -50,18 +58,21 @@ abbrev pub held_for : Held → Key → Held
 held_for h key = record (settled rules h) { pending = Some (name_of key, []) }
 
 pub alone_walked : (h : Held) (key : Key) (w n : Text) → bytes_eq w (45 ∷ 45 ∷ []) ≡ false → long_of w ≡ Some (n, None)
-    → arg_by_long rules n ≡ Some (rule_of key) → walked rules [] (at h idle) w ≡ at (held_for h key) (option (name_of key))
+    → arg_by_long rules n ≡ Some (rule_of key)
+    → walked rules [] (at h idle) w ≡ at (held_for h key) (option (name_of key))
 unfolding walked
 alone_walked h Rate w n apart is_long is_arg = rw apart (rw is_long (rw is_arg refl))
 alone_walked h Block w n apart is_long is_arg = rw apart (rw is_long (rw is_arg refl))
 alone_walked h Depth w n apart is_long is_arg = rw apart (rw is_long (rw is_arg refl))
 
 -- a word that is no option, where none waits
-pub stray_turn : (h : Held) (w : Text) → bytes_eq w (45 ∷ 45 ∷ []) ≡ false → long_of w ≡ None → short_of w ≡ None → Faulty (turn_fault shape [] (at h idle) w)
+pub stray_turn : (h : Held) (w : Text) → bytes_eq w (45 ∷ 45 ∷ []) ≡ false → long_of w ≡ None → short_of w ≡ None
+    → Faulty (turn_fault shape [] (at h idle) w)
 stray_turn h w apart no_long no_short = (kind.UnknownArgument, [], rw apart (rw no_long (rw no_short refl)))
 
 -- where what is pending fails, an option fails too
-eager_long : (h : Held) (n : Text) (v : Option Text) (k : Option Key) → Faulty (settle_fault rules false h) → Names n k → Faulty (long_fault rules false (arg_by_long rules n) v h)
+eager_long : (h : Held) (n : Text) (v : Option Text) (k : Option Key) → Faulty (settle_fault rules false h) → Names n k
+    → Faulty (long_fault rules false (arg_by_long rules n) v h)
 eager_long h n v _ f (Unknown e) = (kind.UnknownArgument, [], rw e refl)
 eager_long h n None _ f (Known Rate e) = rw e f
 eager_long h n None _ f (Known Block e) = rw e f
@@ -70,9 +81,11 @@ eager_long h n (Some v) _ f (Known Rate e) = rw e (faulty_first _ _ f)
 eager_long h n (Some v) _ f (Known Block e) = rw e (faulty_first _ _ f)
 eager_long h n (Some v) _ f (Known Depth e) = rw e (faulty_first _ _ f)
 
-pub doomed_turn : (h : Held) (w : Text) (p : Text × Option Text) → Faulty (settle_fault rules false h) → bytes_eq w (45 ∷ 45 ∷ []) ≡ false
+pub doomed_turn : (h : Held) (w : Text) (p : Text × Option Text) → Faulty (settle_fault rules false h)
+    → bytes_eq w (45 ∷ 45 ∷ []) ≡ false
     → long_of w ≡ Some p → Faulty (turn_fault shape [] (at h idle) w)
-doomed_turn h w p f apart is_long = rw apart (rw is_long (faulty_first _ _ (eager_long h p.0 p.1 (key_of p.0) f (names p.0))))
+doomed_turn h w p f apart is_long =
+    rw apart (rw is_long (faulty_first _ _ (eager_long h p.0 p.1 (key_of p.0) f (names p.0))))
 
 pub waits_settle : (h : Held) (key : Key) → h.pending ≡ Some (name_of key, []) → Faulty (settle_fault rules false h)
 waits_settle h Rate e = (kind.InvalidValue, [], rw e refl)
@@ -80,18 +93,22 @@ waits_settle h Block e = (kind.InvalidValue, [], rw e refl)
 waits_settle h Depth e = (kind.InvalidValue, [], rw e refl)
 
 -- an option, where a value is waited for
-pub eager_turn : (h : Held) (key : Key) (w : Text) (p : Text × Option Text) → h.pending ≡ Some (name_of key, []) → bytes_eq w (45 ∷ 45 ∷ []) ≡ false
+pub eager_turn : (h : Held) (key : Key) (w : Text) (p : Text × Option Text) → h.pending ≡ Some (name_of key, [])
+    → bytes_eq w (45 ∷ 45 ∷ []) ≡ false
     → long_of w ≡ Some p → Faulty (turn_fault shape [] (at h (option (name_of key))) w)
 eager_turn h key w p pending apart is_long =
-    rw apart (rw is_long (faulty_first _ _ (eager_long h p.0 p.1 (key_of p.0) (waits_settle h key pending) (names p.0))))
+    rw apart
+    (rw is_long (faulty_first _ _ (eager_long h p.0 p.1 (key_of p.0) (waits_settle h key pending) (names p.0))))
 
-pub value_turn : (h : Held) (key : Key) (w : Text) → bytes_eq w (45 ∷ 45 ∷ []) ≡ false → long_of w ≡ None → short_of w ≡ None
+pub value_turn : (h : Held) (key : Key) (w : Text) → bytes_eq w (45 ∷ 45 ∷ []) ≡ false → long_of w ≡ None
+    → short_of w ≡ None
     → turn_fault shape [] (at h (option (name_of key))) w ≡ []
 value_turn h Rate w apart no_long no_short = rw apart (rw no_long (rw no_short refl))
 value_turn h Block w apart no_long no_short = rw apart (rw no_long (rw no_short refl))
 value_turn h Depth w apart no_long no_short = rw apart (rw no_long (rw no_short refl))
 
-pub value_walked : (h : Held) (key : Key) (w : Text) → h.pending ≡ Some (name_of key, []) → bytes_eq w (45 ∷ 45 ∷ []) ≡ false → long_of w ≡ None → short_of w ≡ None
+pub value_walked : (h : Held) (key : Key) (w : Text) → h.pending ≡ Some (name_of key, [])
+    → bytes_eq w (45 ∷ 45 ∷ []) ≡ false → long_of w ≡ None → short_of w ≡ None
     → walked rules [] (at h (option (name_of key))) w ≡ at (record h { pending = Some (name_of key, w ∷ []) }) idle
 unfolding walked
 value_walked h Rate w pending apart no_long no_short = rw apart (rw no_long (rw no_short (rw pending refl)))

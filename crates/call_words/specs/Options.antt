@@ -1,5 +1,6 @@
 -- The options of a new project, as the words after `new` give them.
-use Rattle.std.specs.Prelude.{List, [], ◌∷◌, Option, Some, None, is_some, if◌then◌else◌, bytes_eq, codes, option_and_then, option_map, drop}
+use Rattle.std.specs.Prelude.{List, [], ◌∷◌, Option, Some, None, is_some, if◌then◌else◌, bytes_eq, codes}
+use Rattle.std.specs.Prelude.{option_and_then, option_map, drop}
 use Rattle.std.specs.List.{list_any}
 use Rattle.call_words.specs.Texts.{Text, is_odd, option_in}
 use Rattle.call_words.specs.declared.options.Given.{Given as Texts}

@@ -1,5 +1,6 @@
 -- The words of the program, by their grammar.
-use Rattle.std.specs.Prelude.{ℕ, ◌==◌, ◌%◌, Bool, true, false, List, [], ◌∷◌, Option, Some, None, if◌then◌else◌, bytes_eq, codes, option_and_then, nat_le}
+use Rattle.std.specs.Prelude.{ℕ, ◌==◌, ◌%◌, Bool, true, false, List, [], ◌∷◌, Option, Some, None, if◌then◌else◌}
+use Rattle.std.specs.Prelude.{bytes_eq, codes, option_and_then, nat_le}
 use Rattle.script_text.specs.Words.{number_up_to}
 use Rattle.call_words.specs.Texts.{Text}
 use Rattle.call_words.specs.Options.{Given, options_read}
@@ -69,7 +70,8 @@ other_words command rest =
     else None
 
 abbrev pub command_words : Text → List Text → Option Words
-command_words command rest = if bytes_eq command (codes "new") then new_words (command ∷ rest) else other_words command rest
+command_words command rest =
+    if bytes_eq command (codes "new") then new_words (command ∷ rest) else other_words command rest
 
 -- what the words ask for, of which the first is the name of the program
 abbrev pub words_of : List Text → Option Words

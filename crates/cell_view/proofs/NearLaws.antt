@@ -1,9 +1,12 @@
 -- A layout from one of its clips on.
-use Rattle.std.proofs.Common.{◌≡◌, ℕ, zero, suc, ◌+◌, ◌-◌, ◌≤◌, ◌<◌, ◌^◌, List, [], ◌∷◌, ◌++◌, length, take, drop, map, min, get_or, refl, sym, ap, subst, ⊎_elim, ◌∙◌, arith, length-append, length-drop, append_assoc}
+use Rattle.std.proofs.Common.{◌≡◌, ℕ, zero, suc, ◌+◌, ◌-◌, ◌≤◌, ◌<◌, ◌^◌, List, [], ◌∷◌, ◌++◌, length, take, drop, map}
+use Rattle.std.proofs.Common.{min, get_or, refl, sym, ap, subst, ⊎_elim, ◌∙◌, arith, length-append, length-drop}
+use Rattle.std.proofs.Common.{append_assoc}
 use Rattle.std.specs.Prelude.{replicate}
 use Rattle.std.specs.List.Sorted.{IsNonDecreasingBy}
 use Rattle.std.proofs.lemmas.Bool.{cases_lt}
-use Rattle.std.proofs.lemmas.List.{get_or-append_right, length-replicate, length-take, replicate-append-replicate, take-append-drop, take_all}
+use Rattle.std.proofs.lemmas.List.{get_or-append_right, length-replicate, length-take, replicate-append-replicate}
+use Rattle.std.proofs.lemmas.List.{take-append-drop, take_all}
 use Rattle.pcm_base.specs.declared.block.BlockRef.{BlockRef}
 use Rattle.pcm_base.specs.declared.sound.Cell.{Cell}
 use Rattle.pcm_base.specs.declared.sound.Cell.TheVariants as cell
@@ -142,14 +145,16 @@ module _ (from : ℕ) (front more : List Clip) (c : Clip) (r : TrackRest) (late 
       record {
         rest = near_rest is.apart is.few named;
         passed = passed;
-        same_end = ap (λ n. end_of n r.clips.now) end ∙ ap (end_of (clip_end c)) clips ∙ sym (end_back 0 front (c ∷ more));
+        same_end =
+            ap (λ n. end_of n r.clips.now) end ∙ ap (end_of (clip_end c)) clips ∙ sym (end_back 0 front (c ∷ more));
         cells = near_cells is.apart;
         blocks_fault = λ files why fault.
             let F : List BlockRef → Type 0 = λ bs. IsFaultIn files bs why in
             subst F (sym near_blocks) (fault_later files gone (rest_blocks r) why fault);
       }
 
-  pub near_of : (cs : List Clip) → front ++ c ∷ more ≡ cs → IsLayout cs → AllNamed (layout_blocks cs) → IsRestOf from cs r
+  pub near_of : (cs : List Clip) → front ++ c ∷ more ≡ cs → IsLayout cs → AllNamed (layout_blocks cs)
+      → IsRestOf from cs r
   near_of cs whole is named =
       let L : List Clip → Type 0 = IsLayout in
       let N : List Clip → Type 0 = λ es. AllNamed (layout_blocks es) in

@@ -1,7 +1,9 @@
 -- Parts of lists, from one place to another.
-use Rattle.std.proofs.Common.{◌≡◌, ℕ, zero, suc, ◌-◌, ◌≤◌, ◌<◌, ⊎_elim, List, [], ◌∷◌, ◌++◌, length, take, drop, map, min, refl, sym, ap, ◌∙◌, arith, length-drop}
+use Rattle.std.proofs.Common.{◌≡◌, ℕ, zero, suc, ◌-◌, ◌≤◌, ◌<◌, ⊎_elim, List, [], ◌∷◌, ◌++◌, length, take, drop, map}
+use Rattle.std.proofs.Common.{min, refl, sym, ap, ◌∙◌, arith, length-drop}
 use Rattle.std.specs.Prelude.{replicate}
-use Rattle.std.proofs.lemmas.List.{drop-append-le, take-map, drop-map, take-replicate, drop-replicate, length-replicate, take_min, nil_from_length}
+use Rattle.std.proofs.lemmas.List.{drop-append-le, take-map, drop-map, take-replicate, drop-replicate, length-replicate}
+use Rattle.std.proofs.lemmas.List.{take_min, nil_from_length}
 use Rattle.std.proofs.lemmas.Bool.{cases_lt}
 use Rattle.std.proofs.Math.Seq.{drop-append_seam, take-append_seam}
 use Rattle.pcm_base.specs.Edits.{part}
@@ -31,7 +33,8 @@ pub part-empty : {A : Type 0} (from to : ℕ) (xs : List A) → min (length xs) 
 part-empty from to xs h = nil_from_length (part from to xs) (omega (arith, length-part from to xs))
 
 -- a part of two lists is a part of each
-pub part-append : {A : Type 0} (from to : ℕ) (xs ys : List A) → part from to (xs ++ ys) ≡ part from to xs ++ part (from - length xs) (to - length xs) ys
+pub part-append : {A : Type 0} (from to : ℕ) (xs ys : List A)
+    → part from to (xs ++ ys) ≡ part from to xs ++ part (from - length xs) (to - length xs) ys
 part-append {A = A} from to xs ys = ⊎_elim past within (cases_lt (length xs) from)
   where
     past : length xs < from → part from to (xs ++ ys) ≡ part from to xs ++ part (from - length xs) (to - length xs) ys
@@ -46,13 +49,15 @@ part-append {A = A} from to xs ys = ⊎_elim past within (cases_lt (length xs) f
     within h =
         let cut : drop from (xs ++ ys) ≡ drop from xs ++ ys = drop-append-le from xs ys h in
         let all : 0 ≡ from - length xs = omega arith in
-        let e : (to - from) - length (drop from xs) ≡ (to - length xs) - (from - length xs) = omega (arith, length-drop from xs) in
+        let e : (to - from) - length (drop from xs) ≡ (to - length xs) - (from - length xs) =
+        omega (arith, length-drop from xs) in
         let back : ys ≡ drop (from - length xs) ys = ap (λ k. drop k ys) all in
         ap (take (to - from)) cut ∙ take-past (to - from) (drop from xs) ys
         ∙ ap (λ k. part from to xs ++ take k ys) e
         ∙ ap (λ zs. part from to xs ++ take ((to - length xs) - (from - length xs)) zs) back
 
-pub part-map : {A B : Type 0} (f : A → B) (from to : ℕ) (xs : List A) → part from to (map f xs) ≡ map f (part from to xs)
+pub part-map : {A B : Type 0} (f : A → B) (from to : ℕ) (xs : List A)
+    → part from to (map f xs) ≡ map f (part from to xs)
 part-map f from to xs = ap (take (to - from)) (drop-map f from xs) ∙ take-map f (to - from) (drop from xs)
 
 pub part-replicate : {A : Type 0} (from to n : ℕ) (y : A) → part from to (replicate n y) ≡ replicate (min n to - from) y

@@ -1,5 +1,7 @@
 -- What a view has of cells that stand from a place on.
-use Rattle.std.proofs.Common.{◌≡◌, ℕ, zero, suc, ◌+◌, ◌-◌, ◌≤◌, ◌<◌, min, ℤ, pos, get_or, List, [], ◌∷◌, ◌++◌, length, take, Option, Some, sym, ap, ap₂, subst, ◌∙◌, arith, length-append, append_assoc, append-nil, Result, Ok, Err}
+use Rattle.std.proofs.Common.{◌≡◌, ℕ, zero, suc, ◌+◌, ◌-◌, ◌≤◌, ◌<◌, min, ℤ, pos, get_or, List, [], ◌∷◌, ◌++◌, length}
+use Rattle.std.proofs.Common.{take, Option, Some, sym, ap, ap₂, subst, ◌∙◌, arith, length-append, append_assoc}
+use Rattle.std.proofs.Common.{append-nil, Result, Ok, Err}
 use Rattle.std.specs.Prelude.{replicate, unwrap_or, IfErr, IsOkUnless}
 use Rattle.std.proofs.lemmas.List.Elements.{Contains-append_left, Contains-append_right}
 use Rattle.std.proofs.lemmas.Slice.{take-put_mid}
@@ -24,24 +26,31 @@ use Rattle.cell_view.specs.Seen.{place_in, Puts}
 use Rattle.cell_view.proofs.PartLists.{part-append, part-empty, part-replicate}
 
 -- cells one after the other
-pub puts_turn : (from to at : ℕ) (xs ys : List Cell) (old mid new : List Cell) → Puts from to at xs old mid → Puts from to (at + length xs) ys mid new → Puts from to at (xs ++ ys) old new
+pub puts_turn : (from to at : ℕ) (xs ys : List Cell) (old mid new : List Cell) → Puts from to at xs old mid
+    → Puts from to (at + length xs) ys mid new → Puts from to at (xs ++ ys) old new
 puts_turn from to at xs ys old mid new one two =
     let end : at + length (xs ++ ys) ≡ at + length xs + length ys = omega (arith, length-append xs ys) in
     let low : from - (at + length xs) ≡ from - at - length xs = omega arith in
     let high : to - (at + length xs) ≡ to - at - length xs = omega arith in
-    ap (λ n. take (place_in from to n) new) end ∙ two ∙ ap (λ zs. zs ++ part (from - (at + length xs)) (to - (at + length xs)) ys) one
-    ∙ append_assoc (take (place_in from to at) old) (part (from - at) (to - at) xs) (part (from - (at + length xs)) (to - (at + length xs)) ys)
-    ∙ ap (λ zs. take (place_in from to at) old ++ zs) (ap₂ (λ a b. part (from - at) (to - at) xs ++ part a b ys) low high ∙ sym (part-append (from - at) (to - at) xs ys))
+    ap (λ n. take (place_in from to n) new) end ∙ two
+    ∙ ap (λ zs. zs ++ part (from - (at + length xs)) (to - (at + length xs)) ys) one
+    ∙ append_assoc (take (place_in from to at) old) (part (from - at) (to - at) xs)
+    (part (from - (at + length xs)) (to - (at + length xs)) ys)
+    ∙ ap (λ zs. take (place_in from to at) old ++ zs) (ap₂
+    (λ a b. part (from - at) (to - at) xs ++ part a b ys) low high ∙ sym (part-append (from - at) (to - at) xs ys))
 
 -- no cell of these is seen
-pub puts_none : (from to at n : ℕ) (xs old : List Cell) → from ≤ to → length xs ≡ n → place_in from to at ≡ place_in from to (at + n) → Puts from to at xs old old
+pub puts_none : (from to at n : ℕ) (xs old : List Cell) → from ≤ to → length xs ≡ n
+    → place_in from to at ≡ place_in from to (at + n) → Puts from to at xs old old
 puts_none from to at n xs old order size same =
     let gone : part (from - at) (to - at) xs ≡ [] = part-empty (from - at) (to - at) xs (omega (arith, size, same)) in
     let end : place_in from to (at + length xs) ≡ place_in from to at = omega (arith, size, same) in
-    ap (λ n. take n old) end ∙ sym (append-nil (take (place_in from to at) old)) ∙ ap (λ zs. take (place_in from to at) old ++ zs) (sym gone)
+    ap (λ n. take n old) end ∙ sym (append-nil (take (place_in from to at) old))
+    ∙ ap (λ zs. take (place_in from to at) old ++ zs) (sym gone)
 
 -- cells that were put in their place
-pub puts_mid : (from to at n k start : ℕ) (xs ys old : List Cell) → from ≤ to → length xs ≡ n → start ≡ place_in from to at → start ≤ length old
+pub puts_mid : (from to at n k start : ℕ) (xs ys old : List Cell) → from ≤ to → length xs ≡ n
+    → start ≡ place_in from to at → start ≤ length old
     → ys ≡ part (from - at) (to - at) xs → Puts from to at xs old (put_mid start k old ys)
 puts_mid from to at n k start xs ys old order size place fits is =
     let long = ap length is ∙ length-part (from - at) (to - at) xs in
@@ -49,13 +58,15 @@ puts_mid from to at n k start xs ys old order size place fits is =
     take-put_mid start k old ys (place_in from to (at + length xs)) end fits ∙ ap₂ (λ a zs. take a old ++ zs) place is
 
 -- gaps
-pub gap_part : (from to at n k : ℕ) → from ≤ to → k ≡ place_in from to (at + n) - place_in from to at → replicate k Gap ≡ part (from - at) (to - at) (replicate n Gap)
+pub gap_part : (from to at n k : ℕ) → from ≤ to → k ≡ place_in from to (at + n) - place_in from to at
+    → replicate k Gap ≡ part (from - at) (to - at) (replicate n Gap)
 gap_part from to at n k order size =
     let e : k ≡ min n (to - at) - (from - at) = omega (arith, size) in
     ap (λ m. replicate m Gap) e ∙ sym (part-replicate (from - at) (to - at) n Gap)
 
 -- the samples of a block of the disk
-pub block_whole : (files : Files) (b : BlockRef) (xs : List ℤ) → blocks files b.id ≡ Some xs → length xs ≡ b.len → stretch (samples_on files b.id) 0 b.len ≡ xs
+pub block_whole : (files : Files) (b : BlockRef) (xs : List ℤ) → blocks files b.id ≡ Some xs → length xs ≡ b.len
+    → stretch (samples_on files b.id) 0 b.len ≡ xs
 block_whole files b xs is size =
     ap (λ (o : Option (List ℤ)). stretch (λ i. get_or (unwrap_or o []) i (pos 0)) 0 b.len) is
     ∙ ap (stretch (λ i. get_or xs i (pos 0)) 0) (sym size) ∙ stretch_list xs (pos 0)
@@ -74,7 +85,8 @@ sound_in files bs why whole is =
     let here : IsWhole files b = each_at (IsWhole files) bs whole is.1.0 b is.1.1 is.1.2 in
     block_sound files b.id b.len (size_of b.len) here.0 why here.1 here.2 (omega arith) is.2
 
-pub sound_in_result : {T : Type 0} (r : Result T BlockFault) (files : Files) (bs : List BlockRef) → AllWhole files bs → IfErr r (λ e. IsFaultIn files bs e) → IsOkUnless r fault.DiskFault
+pub sound_in_result : {T : Type 0} (r : Result T BlockFault) (files : Files) (bs : List BlockRef) → AllWhole files bs
+    → IfErr r (λ e. IsFaultIn files bs e) → IsOkUnless r fault.DiskFault
 sound_in_result (Ok x) files bs whole is = tt
 sound_in_result (Err why) files bs whole is = sound_in files bs why whole is
 

@@ -1,5 +1,6 @@
 -- What is left of a track from a place on.
-use Rattle.std.specs.Prelude.{◌≡◌, ℕ, ◌+◌, ◌-◌, ◌≤◌, ◌<◌, ◌^◌, ◌⊎◌, List, [], ◌∷◌, ◌++◌, length, map, replicate, slice_index_or}
+use Rattle.std.specs.Prelude.{◌≡◌, ℕ, ◌+◌, ◌-◌, ◌≤◌, ◌<◌, ◌^◌, ◌⊎◌, List, [], ◌∷◌, ◌++◌, length, map, replicate}
+use Rattle.std.specs.Prelude.{slice_index_or}
 use Rattle.disk_model.specs.Disk.{Files}
 use Rattle.block_store.specs.declared.fault.BlockFault.{BlockFault}
 use Rattle.pcm_base.specs.declared.block.BlockRef.{BlockRef}

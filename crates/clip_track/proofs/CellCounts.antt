@@ -1,5 +1,6 @@
 -- The samples and clips of a strip's cells, counted item by item.
-use Rattle.std.proofs.Common.{◌≡◌, ℕ, zero, suc, ◌+◌, ◌-◌, ◌<◌, ℤ, Bool, true, false, List, [], ◌∷◌, ◌++◌, length, map, replicate, refl, sym, ap, ap₂, ◌∙◌, append_assoc, arith, if◌then◌else◌}
+use Rattle.std.proofs.Common.{◌≡◌, ℕ, zero, suc, ◌+◌, ◌-◌, ◌<◌, ℤ, Bool, true, false, List, [], ◌∷◌, ◌++◌, length, map}
+use Rattle.std.proofs.Common.{replicate, refl, sym, ap, ap₂, ◌∙◌, append_assoc, arith, if◌then◌else◌}
 use Rattle.pcm_base.specs.declared.sound.Cell.{Cell}
 use Rattle.pcm_base.specs.declared.sound.Cell.TheVariants as cell
 use Rattle.pcm_base.specs.Pieces.{Sources, piece_len, samples_of}
@@ -31,7 +32,8 @@ samples_past_gaps : (n : ℕ) (cells : List Cell) → sample_count (replicate n 
 samples_past_gaps zero cells = refl
 samples_past_gaps (suc n) cells = samples_past_gaps n cells
 
-samples_past : (ss : List ℤ) (cells : List Cell) → sample_count (map cell.Sample ss ++ cells) ≡ length ss + sample_count cells
+samples_past : (ss : List ℤ) (cells : List Cell)
+    → sample_count (map cell.Sample ss ++ cells) ≡ length ss + sample_count cells
 samples_past [] cells = omega arith
 samples_past (s ∷ ss) cells = omega (arith, samples_past ss cells)
 
@@ -41,19 +43,24 @@ sample_count-strip src (Gap n ∷ xs) = samples_past_gaps n (strip_cells src xs)
 sample_count-strip src (Sound p ∷ xs) =
     samples_past (samples_of src p) (strip_cells src xs) ∙ ap₂ ◌+◌ (length-samples src p) (sample_count-strip src xs)
 
-starts_past_gaps : (b : Bool) (n : ℕ) (cells : List Cell) → 0 < n → clip_starts b (replicate n cell.Gap ++ cells) ≡ clip_starts false cells
+starts_past_gaps : (b : Bool) (n : ℕ) (cells : List Cell) → 0 < n
+    → clip_starts b (replicate n cell.Gap ++ cells) ≡ clip_starts false cells
 starts_past_gaps b zero cells h = absurd (omega arith)
 starts_past_gaps b (suc zero) cells h = refl
 starts_past_gaps b (suc (suc n)) cells h = starts_past_gaps false (suc n) cells (omega arith)
 
-starts_past : (b : Bool) (ss : List ℤ) (cells : List Cell) → 0 < length ss → clip_starts b (map cell.Sample ss ++ cells) ≡ (if b then 0 else 1) + clip_starts true cells
+starts_past : (b : Bool) (ss : List ℤ) (cells : List Cell) → 0 < length ss
+    → clip_starts b (map cell.Sample ss ++ cells) ≡ (if b then 0 else 1) + clip_starts true cells
 starts_past b [] cells h = absurd (omega arith)
 starts_past b (s ∷ []) cells h = refl
-starts_past b (s ∷ t ∷ ss) cells h = ap (λ n. (if b then 0 else 1) + n) (starts_past true (t ∷ ss) cells (omega arith) ∙ omega arith)
+starts_past b (s ∷ t ∷ ss) cells h =
+    ap (λ n. (if b then 0 else 1) + n) (starts_past true (t ∷ ss) cells (omega arith) ∙ omega arith)
 
-pub clip_starts-strip : (src : Sources) (b : Bool) (xs : List Item) → AreItems xs → clip_starts b (strip_cells src xs) ≡ item_starts b xs
+pub clip_starts-strip : (src : Sources) (b : Bool) (xs : List Item) → AreItems xs
+    → clip_starts b (strip_cells src xs) ≡ item_starts b xs
 clip_starts-strip src b [] v = refl
-clip_starts-strip src b (Gap n ∷ xs) v = starts_past_gaps b n (strip_cells src xs) v.0 ∙ clip_starts-strip src false xs v.1
+clip_starts-strip src b (Gap n ∷ xs) v =
+    starts_past_gaps b n (strip_cells src xs) v.0 ∙ clip_starts-strip src false xs v.1
 clip_starts-strip src b (Sound p ∷ xs) v =
     starts_past b (samples_of src p) (strip_cells src xs) (omega (arith, length-samples src p, v.0.0))
     ∙ ap (λ n. (if b then 0 else 1) + n) (clip_starts-strip src true xs v.1)
@@ -84,18 +91,21 @@ samples_from at (c ∷ cs) = omega (
 )
 
 pub sample_count-layout : (src : Sources) (cs : List Clip) → sample_count (layout_cells src cs) ≡ clips_len cs
-sample_count-layout src cs = ap sample_count (sym (strip_cells-items src 0 cs)) ∙ sample_count-strip src (items_from 0 cs) ∙ samples_from 0 cs
+sample_count-layout src cs =
+    ap sample_count (sym (strip_cells-items src 0 cs)) ∙ sample_count-strip src (items_from 0 cs) ∙ samples_from 0 cs
 
 -- blocks one after another are one run
 starts_on : (bs : List BlockRef) (xs : List Item) → item_starts true (sound_items bs ++ xs) ≡ item_starts true xs
 starts_on [] xs = refl
 starts_on (b ∷ bs) xs = omega (arith, starts_on bs xs)
 
-starts_sound : (bs : List BlockRef) (xs : List Item) → 0 < blocks_len bs → item_starts false (sound_items bs ++ xs) ≡ 1 + item_starts true xs
+starts_sound : (bs : List BlockRef) (xs : List Item) → 0 < blocks_len bs
+    → item_starts false (sound_items bs ++ xs) ≡ 1 + item_starts true xs
 starts_sound [] xs some = absurd (omega (arith, some))
 starts_sound (b ∷ bs) xs some = omega (arith, starts_on bs xs)
 
-starts_gap : (after : Bool) (n : ℕ) (xs : List Item) → 0 < n → item_starts after (gap_items n ++ xs) ≡ item_starts false xs
+starts_gap : (after : Bool) (n : ℕ) (xs : List Item) → 0 < n
+    → item_starts after (gap_items n ++ xs) ≡ item_starts false xs
 starts_gap after zero xs some = absurd (omega (arith, some))
 starts_gap after (suc n) xs some = refl
 
@@ -123,4 +133,5 @@ starts_layout (c ∷ cs) apart =
 
 pub clip_count-layout : (src : Sources) (cs : List Clip) → AreClips 0 cs → clip_count (layout_cells src cs) ≡ length cs
 clip_count-layout src cs apart =
-    ap clip_count (sym (strip_cells-items src 0 cs)) ∙ clip_starts-strip src false (items_from 0 cs) (AreItems-items 0 0 cs apart) ∙ starts_layout cs apart
+    ap clip_count (sym (strip_cells-items src 0 cs))
+    ∙ clip_starts-strip src false (items_from 0 cs) (AreItems-items 0 0 cs apart) ∙ starts_layout cs apart

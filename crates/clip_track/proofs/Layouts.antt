@@ -1,5 +1,6 @@
 -- Lemmas on clips.
-use Rattle.std.proofs.Common.{◌≡◌, ℕ, zero, suc, ◌+◌, ◌-◌, ◌<◌, ◌≤◌, List, [], ◌∷◌, ◌++◌, length, get_or, map, replicate, refl, sym, ap, ap₂, ◌∙◌, arith}
+use Rattle.std.proofs.Common.{◌≡◌, ℕ, zero, suc, ◌+◌, ◌-◌, ◌<◌, ◌≤◌, List, [], ◌∷◌, ◌++◌, length, get_or, map}
+use Rattle.std.proofs.Common.{replicate, refl, sym, ap, ap₂, ◌∙◌, arith}
 use Rattle.std.proofs.lemmas.List.{map-append, append-nil}
 use Rattle.std.proofs.Math.Nat.{sub-zero}
 use Rattle.pcm_base.specs.declared.sound.Cell.TheVariants as cell
@@ -8,8 +9,10 @@ use Rattle.pcm_base.specs.Pieces.{Sources, stretch}
 use Rattle.pcm_base.specs.Blocks.{AllFull, IsHalfFull, NoneEmpty, block_lens, block_samples, blocks_len}
 use Rattle.clip_track.specs.declared.clips.Clip.{Clip}
 use Rattle.clip_track.specs.Items.{strip_len, strip_cells, AreItems, gap_items, ItemsFit}
-use Rattle.clip_track.specs.Clips.{clip_end, end_of, cells_from, layout_cells, AreClips, sound_items, items_from, AllHalfFull}
-use Rattle.clip_track.proofs.Strips.{strip_len-append, strip_cells-append, AreItems-append, ItemsFit-append, length-strip_cells}
+use Rattle.clip_track.specs.Clips.{clip_end, end_of, cells_from, layout_cells, AreClips, sound_items, items_from}
+use Rattle.clip_track.specs.Clips.{AllHalfFull}
+use Rattle.clip_track.proofs.Strips.{strip_len-append, strip_cells-append, AreItems-append, ItemsFit-append}
+use Rattle.clip_track.proofs.Strips.{length-strip_cells}
 
 pub strip_len-gap : (n : ℕ) → strip_len (gap_items n) ≡ n
 strip_len-gap zero = refl
@@ -27,7 +30,8 @@ pub strip_len-sound : (bs : List BlockRef) → strip_len (sound_items bs) ≡ bl
 strip_len-sound [] = refl
 strip_len-sound (b ∷ bs) = ap₂ ◌+◌ (sub-zero b.len) (strip_len-sound bs)
 
-pub strip_cells-sound : (src : Sources) (bs : List BlockRef) → strip_cells src (sound_items bs) ≡ map cell.Sample (block_samples src bs)
+pub strip_cells-sound : (src : Sources) (bs : List BlockRef)
+    → strip_cells src (sound_items bs) ≡ map cell.Sample (block_samples src bs)
 strip_cells-sound src [] = refl
 strip_cells-sound src (b ∷ bs) =
     ap₂ (λ n cs. map cell.Sample (stretch (src.block b.id) 0 n) ++ cs) (sub-zero b.len) (strip_cells-sound src bs)
@@ -42,7 +46,8 @@ pub ends_later : (at from : ℕ) (cs : List Clip) → at ≤ from → AreClips f
 ends_later at from [] h a = omega arith
 ends_later at from (c ∷ cs) h a = omega (arith, ends_later (clip_end c) (clip_end c + 1) cs (omega arith) a.3)
 
-pub strip_len-items : (at from : ℕ) (cs : List Clip) → at ≤ from → AreClips from cs → at + strip_len (items_from at cs) ≡ end_of at cs
+pub strip_len-items : (at from : ℕ) (cs : List Clip) → at ≤ from → AreClips from cs
+    → at + strip_len (items_from at cs) ≡ end_of at cs
 strip_len-items at from [] h a = omega arith
 strip_len-items at from (c ∷ cs) h a = omega (
   arith,
@@ -54,12 +59,14 @@ strip_len-items at from (c ∷ cs) h a = omega (
   strip_len-items (clip_end c) (clip_end c + 1) cs (omega arith) a.3,
 )
 
-pub strip_cells-items : (src : Sources) (at : ℕ) (cs : List Clip) → strip_cells src (items_from at cs) ≡ cells_from src at cs
+pub strip_cells-items : (src : Sources) (at : ℕ) (cs : List Clip)
+    → strip_cells src (items_from at cs) ≡ cells_from src at cs
 strip_cells-items src at [] = refl
 strip_cells-items src at (c ∷ cs) =
     strip_cells-append src (gap_items (c.start - at) ++ sound_items c.blocks) (items_from (clip_end c) cs)
     ∙ ap₂ ◌++◌
-    (strip_cells-append src (gap_items (c.start - at)) (sound_items c.blocks) ∙ ap₂ ◌++◌ (strip_cells-gap src (c.start - at)) (strip_cells-sound src c.blocks))
+    (strip_cells-append src (gap_items (c.start - at)) (sound_items c.blocks)
+    ∙ ap₂ ◌++◌ (strip_cells-gap src (c.start - at)) (strip_cells-sound src c.blocks))
     (strip_cells-items src (clip_end c) cs)
 
 pub AreItems-items : (at from : ℕ) (cs : List Clip) → AreClips from cs → AreItems (items_from at cs)
@@ -72,7 +79,8 @@ AreItems-items at from (c ∷ cs) a =
 -- a layout's length
 pub length-layout : (src : Sources) (cs : List Clip) → AreClips 0 cs → length (layout_cells src cs) ≡ end_of 0 cs
 length-layout src cs a =
-    sym (ap length (strip_cells-items src 0 cs)) ∙ length-strip_cells src (items_from 0 cs) ∙ omega (arith, strip_len-items 0 0 cs (omega arith) a)
+    sym (ap length (strip_cells-items src 0 cs)) ∙ length-strip_cells src (items_from 0 cs)
+    ∙ omega (arith, strip_len-items 0 0 cs (omega arith) a)
 
 pub AreClips-earlier : (at from : ℕ) (cs : List Clip) → at ≤ from → AreClips from cs → AreClips at cs
 AreClips-earlier at from [] h a = tt
@@ -85,7 +93,8 @@ AreClips-next at c cs a = AreClips-earlier (clip_end c) (clip_end c + 1) cs (ome
 pub end_within : (at : ℕ) (c : Clip) (cs : List Clip) → AreClips at (c ∷ cs) → clip_end c ≤ end_of at (c ∷ cs)
 end_within at c cs a = ends_later (clip_end c) (clip_end c + 1) cs (omega arith) a.3
 
-pub end_of_last : (at : ℕ) (cs : List Clip) (d : Clip) → 0 < length cs → clip_end (get_or cs (length cs - 1) d) ≡ end_of at cs
+pub end_of_last : (at : ℕ) (cs : List Clip) (d : Clip) → 0 < length cs
+    → clip_end (get_or cs (length cs - 1) d) ≡ end_of at cs
 end_of_last at [] d h = absurd (omega arith)
 end_of_last at (c ∷ []) d h = refl
 end_of_last at (c ∷ b ∷ cs) d h =
@@ -109,5 +118,6 @@ pub ItemsFit-items : (m at : ℕ) (cs : List Clip) → AllHalfFull m cs → Item
 ItemsFit-items m at [] h = tt
 ItemsFit-items m at (c ∷ cs) h =
     ItemsFit-append m (gap_items (c.start - at) ++ sound_items c.blocks) (items_from (clip_end c) cs)
-    (ItemsFit-append m (gap_items (c.start - at)) (sound_items c.blocks) (ItemsFit-gap m (c.start - at)) (fits_half m c.blocks h.0))
+    (ItemsFit-append m (gap_items (c.start - at)) (sound_items c.blocks) (ItemsFit-gap m (c.start - at))
+    (fits_half m c.blocks h.0))
     (ItemsFit-items m (clip_end c) cs h.1)

@@ -4,5 +4,6 @@ pub mod RestItems
 pub mod RoomClips
 pub mod RoomStrips
 pub mod RoughStrips
+pub mod ShortStrips
 pub mod StripClips
 pub mod Strips

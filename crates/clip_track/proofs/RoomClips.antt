@@ -1,5 +1,6 @@
 -- The room of a strip, clip by clip, is at most that of its items.
-use Rattle.std.proofs.Common.{◌≡◌, ℕ, zero, suc, ◌+◌, ◌<◌, ◌≤◌, inl, inr, true, false, List, [], ◌∷◌, ◌++◌, length, refl, ap, arith, if◌then◌else◌}
+use Rattle.std.proofs.Common.{◌≡◌, ℕ, zero, suc, ◌+◌, ◌<◌, ◌≤◌, inl, inr, true, false, List, [], ◌∷◌, ◌++◌, length}
+use Rattle.std.proofs.Common.{refl, ap, arith, if◌then◌else◌}
 use Rattle.std.proofs.lemmas.Bool.{cases_Bool}
 use Rattle.pcm_base.specs.declared.piece.Piece.{Piece}
 use Rattle.block_sequence.specs.Fuse.{is_whole, is_sound}
@@ -16,23 +17,28 @@ abbrev stand_after : ℕ → Stand → List Piece → Stand
 stand_after m s [] = s
 stand_after m s (p ∷ ps) = stand_after m (if is_sound m p then Behind else Within) ps
 
-room-push : (m : ℕ) (s : Stand) (ps : List Piece) (p : Piece) → room m s (ps ++ p ∷ []) ≡ room m s ps + room m (stand_after m s ps) (p ∷ [])
+room-push : (m : ℕ) (s : Stand) (ps : List Piece) (p : Piece)
+    → room m s (ps ++ p ∷ []) ≡ room m s ps + room m (stand_after m s ps) (p ∷ [])
 room-push m s [] p = omega arith
 room-push m s (q ∷ ps) p = elim (cases_Bool (is_sound m q)) [
   | inl e ↦ rw e (omega (arith, room-push m Behind ps p))
   | inr e ↦ rw e (omega (arith, room-push m Within ps p))
 ]
 
-stand-push : (m : ℕ) (s : Stand) (ps : List Piece) (p : Piece) → stand_after m s (ps ++ p ∷ []) ≡ (if is_sound m p then Behind else Within)
+stand-push : (m : ℕ) (s : Stand) (ps : List Piece) (p : Piece)
+    → stand_after m s (ps ++ p ∷ []) ≡ (if is_sound m p then Behind else Within)
 stand-push m s [] p = refl
 stand-push m s (q ∷ ps) p = stand-push m (if is_sound m q then Behind else Within) ps p
 
 -- a piece that does not begin its clip
 next_piece : (m : ℕ) (s : Stand) (p : Piece) (xs : List Item) → is_first s ≡ false
-    → strip_room m s true (Sound p ∷ xs) ≡ room m s (p ∷ []) + strip_room m (if is_sound m p then Behind else Within) true xs
+    → strip_room m s true (Sound p ∷ xs)
+    ≡ room m s (p ∷ []) + strip_room m (if is_sound m p then Behind else Within) true xs
 next_piece m First p xs h = cc
-next_piece m Behind p xs h = elim (cases_Bool (is_sound m p)) [ inl e ↦ rw e (omega arith) | inr e ↦ rw e (omega arith) ]
-next_piece m Within p xs h = elim (cases_Bool (is_sound m p)) [ inl e ↦ rw e (omega arith) | inr e ↦ rw e (omega arith) ]
+next_piece m Behind p xs h =
+    elim (cases_Bool (is_sound m p)) [ inl e ↦ rw e (omega arith) | inr e ↦ rw e (omega arith) ]
+next_piece m Within p xs h =
+    elim (cases_Bool (is_sound m p)) [ inl e ↦ rw e (omega arith) | inr e ↦ rw e (omega arith) ]
 
 goes_on : (m : ℕ) (p : Piece) → is_first (if is_sound m p then Behind else Within) ≡ false
 goes_on m p = elim (cases_Bool (is_sound m p)) [ inl e ↦ rw e refl | inr e ↦ rw e refl ]
@@ -54,7 +60,8 @@ from_held m s held (Sound p ∷ xs) e h f =
     )
 
 -- a clip of one piece
-alone : (m : ℕ) (p : Piece) (xs : List Item) → gap_next true xs ≡ true → strip_room m Behind true xs ≡ strip_room m Within true xs
+alone : (m : ℕ) (p : Piece) (xs : List Item) → gap_next true xs ≡ true
+    → strip_room m Behind true xs ≡ strip_room m Within true xs
     → clip_room m (p ∷ []) + strip_room m Within true xs ≤ strip_room m First true (Sound p ∷ xs)
 alone m p xs g e = elim (cases_Bool (is_sound m p)) [
   | inl s ↦ rw ((is_sound-true m p s).0, s) (omega arith)
@@ -69,12 +76,19 @@ from_none m n [] h = omega arith
 from_none m zero (x ∷ xs) h = absurd (omega arith)
 from_none m (suc n) (Gap k ∷ xs) h = omega (arith, from_none m n xs (omega arith))
 from_none m (suc n) (Sound p ∷ []) h = omega (arith, alone m p [] refl refl)
-from_none m (suc n) (Sound p ∷ Gap k ∷ xs) h = omega (arith, alone m p (Gap k ∷ xs) refl refl, from_none m n xs (omega arith))
+from_none m (suc n) (Sound p ∷ Gap k ∷ xs) h =
+    omega (arith, alone m p (Gap k ∷ xs) refl refl, from_none m n xs (omega arith))
 from_none m (suc n) (Sound p ∷ Sound q ∷ xs) h =
-    omega (arith, from_held m (if is_sound m p then Behind else Within) (p ∷ []) (Sound q ∷ xs) refl (goes_on m p) (λ ys k. from_none m n ys (omega arith)), followed m p q xs)
+    omega (
+      arith,
+      from_held m (if is_sound m p then Behind else Within) (p ∷ []) (Sound q ∷ xs) refl (goes_on m p)
+          (λ ys k. from_none m n ys (omega arith)),
+      followed m p q xs,
+    )
   where
     followed : (m : ℕ) (p q : Piece) (xs : List Item)
-        → strip_room m First true (Sound p ∷ Sound q ∷ xs) ≡ room m First (p ∷ []) + strip_room m (if is_sound m p then Behind else Within) true (Sound q ∷ xs)
+        → strip_room m First true (Sound p ∷ Sound q ∷ xs)
+        ≡ room m First (p ∷ []) + strip_room m (if is_sound m p then Behind else Within) true (Sound q ∷ xs)
     followed m p q xs = elim (cases_Bool (is_sound m p)) [ inl e ↦ rw e (omega arith) | inr e ↦ rw e (omega arith) ]
 
 pub room_from_le : (m : ℕ) (xs : List Item) → room_from m [] xs ≤ strip_room m First true xs

@@ -1,5 +1,6 @@
 -- The room of parts of a strip, and of strips one after another.
-use Rattle.std.proofs.Common.{◌≡◌, ℕ, zero, suc, ◌+◌, ◌-◌, ◌*◌, ◌≤◌, inl, inr, min, Bool, true, false, ◌&&◌, ◌||◌, List, [], ◌∷◌, ◌++◌, refl, ap, ◌∙◌, arith}
+use Rattle.std.proofs.Common.{◌≡◌, ℕ, zero, suc, ◌+◌, ◌-◌, ◌*◌, ◌≤◌, inl, inr, min, Bool, true, false, ◌&&◌, ◌||◌, List}
+use Rattle.std.proofs.Common.{[], ◌∷◌, ◌++◌, refl, ap, ◌∙◌, arith}
 use Rattle.std.proofs.lemmas.Bool.{cases_Bool, cases_lt}
 use Rattle.pcm_base.specs.declared.piece.Piece.{Piece}
 use Rattle.pcm_base.specs.Pieces.{piece_len, part_of}
@@ -25,18 +26,21 @@ spare_most m Behind = omega arith
 spare_most m Within = omega arith
 
 -- a sound piece, and one that is not
-sound_room : (m : ℕ) (s : Stand) (r : Bool) (p : Piece) (xs : List Item) → is_sound m p ≡ true → strip_room m s r (Sound p ∷ xs) ≡ taken m s + strip_room m Behind r xs
+sound_room : (m : ℕ) (s : Stand) (r : Bool) (p : Piece) (xs : List Item) → is_sound m p ≡ true
+    → strip_room m s r (Sound p ∷ xs) ≡ taken m s + strip_room m Behind r xs
 sound_room m s r p xs e = rw e refl
 
 -- before a gap it is the same how a piece would stand
-gap_same : (m : ℕ) (s t : Stand) (r : Bool) (xs : List Item) → gap_next r xs ≡ true → strip_room m s r xs ≡ strip_room m t r xs
+gap_same : (m : ℕ) (s t : Stand) (r : Bool) (xs : List Item) → gap_next r xs ≡ true
+    → strip_room m s r xs ≡ strip_room m t r xs
 gap_same m s t r [] g = refl
 gap_same m s t r (Gap n ∷ xs) g = refl
 gap_same m s t true (Sound p ∷ xs) g = cc
 gap_same m s t false (Sound p ∷ xs) g = cc
 
 rough_first : (m : ℕ) (r : Bool) (p : Piece) (xs : List Item) → is_sound m p ≡ false
-    → (strip_room m First r (Sound p ∷ xs) ≤ piece_len p + m + strip_room m Within r xs) × (strip_room m Within r xs ≤ strip_room m First r (Sound p ∷ xs))
+    → (strip_room m First r (Sound p ∷ xs) ≤ piece_len p + m + strip_room m Within r xs)
+    × (strip_room m Within r xs ≤ strip_room m First r (Sound p ∷ xs))
 rough_first m r p xs e = elim (cases_Bool (gap_next r xs)) [
   | inl g ↦ elim (cases_Bool (is_whole p)) [
     | inl w ↦ let k = gap_same m Behind Within r xs g in rw (e, g, w) (omega arith, omega arith)
@@ -58,7 +62,8 @@ rough_least m Behind r p xs e = rw e (omega arith)
 rough_least m Within r p xs e = rw e (omega arith)
 
 -- how much it may matter how the first piece stands
-within_most : (m : ℕ) (s : Stand) (r : Bool) (xs : List Item) → ItemsShort m xs → strip_room m Within r xs ≤ strip_room m s r xs + m
+within_most : (m : ℕ) (s : Stand) (r : Bool) (xs : List Item) → ItemsShort m xs
+    → strip_room m Within r xs ≤ strip_room m s r xs + m
 within_most m s r [] h = omega arith
 within_most m s r (Gap n ∷ xs) h = omega arith
 within_most m s r (Sound p ∷ xs) h = elim (cases_Bool (is_sound m p)) [
@@ -69,24 +74,28 @@ within_most m s r (Sound p ∷ xs) h = elim (cases_Bool (is_sound m p)) [
 behind_most : (m : ℕ) (r : Bool) (xs : List Item) → strip_room m Behind r xs ≤ strip_room m Within r xs + 2 * m
 behind_most m r [] = omega arith
 behind_most m r (Gap n ∷ xs) = omega arith
-behind_most m r (Sound p ∷ xs) = elim (cases_Bool (is_sound m p)) [ inl e ↦ rw e (omega arith) | inr e ↦ rw e (omega arith) ]
+behind_most m r (Sound p ∷ xs) =
+    elim (cases_Bool (is_sound m p)) [ inl e ↦ rw e (omega arith) | inr e ↦ rw e (omega arith) ]
 
 -- the second of two strips has at most so much room, however its first piece stands
 same_flag : (m : ℕ) (s : Stand) (r q : Bool) (p : Piece) (b : ℕ) (xs ys : List Item) → gap_next r xs ≡ gap_next q ys
-    → ((t : Stand) → strip_room m t r xs ≤ strip_room m t q ys + b) → strip_room m s r (Sound p ∷ xs) ≤ strip_room m s q (Sound p ∷ ys) + b
+    → ((t : Stand) → strip_room m t r xs ≤ strip_room m t q ys + b)
+    → strip_room m s r (Sound p ∷ xs) ≤ strip_room m s q (Sound p ∷ ys) + b
 same_flag m s r q p b xs ys g h = elim (cases_Bool (is_sound m p || ((is_first s && gap_next q ys) && is_whole p))) [
   | inl e ↦ rw (g, e) (omega (arith, h Behind))
   | inr e ↦ rw (g, e) (omega (arith, h Within))
 ]
 
-last_piece : (m : ℕ) (s : Stand) (r : Bool) (p : Piece) (b : ℕ) (ys : List Item) → ((t : Stand) → strip_room m t r ys ≤ b)
+last_piece : (m : ℕ) (s : Stand) (r : Bool) (p : Piece) (b : ℕ) (ys : List Item)
+    → ((t : Stand) → strip_room m t r ys ≤ b)
     → strip_room m s r (Sound p ∷ ys) ≤ strip_room m s false (Sound p ∷ []) + b
 last_piece m s r p b ys h = elim (cases_Bool (is_sound m p)) [
   | inl e ↦ omega (arith, sound_room m s r p ys e, sound_room m s false p [] e, h Behind)
   | inr e ↦ omega (arith, rough_most m s r p ys e, lone m s p e, h Within)
 ]
   where
-    lone : (m : ℕ) (s : Stand) (p : Piece) → is_sound m p ≡ false → piece_len p + spare m s ≤ strip_room m s false (Sound p ∷ [])
+    lone : (m : ℕ) (s : Stand) (p : Piece) → is_sound m p ≡ false
+        → piece_len p + spare m s ≤ strip_room m s false (Sound p ∷ [])
     lone m First p e = rw e (omega arith)
     lone m Behind p e = rw e (omega arith)
     lone m Within p e = rw e (omega arith)
@@ -118,12 +127,14 @@ short_part m skip n (Gap k) h a = tt
 short_part m skip n (Sound p) h a = omega (arith, piece_len-part skip n p)
 
 cons_front : (m : ℕ) (s : Stand) (r : Bool) (x : Item) (ps qs : List Item) → gap_next false ps ≡ gap_next r qs
-    → ((t : Stand) → strip_room m t false ps ≤ strip_room m t r qs + 3 * m) → strip_room m s false (x ∷ ps) ≤ strip_room m s r (x ∷ qs) + 3 * m
+    → ((t : Stand) → strip_room m t false ps ≤ strip_room m t r qs + 3 * m)
+    → strip_room m s false (x ∷ ps) ≤ strip_room m s r (x ∷ qs) + 3 * m
 cons_front m s r (Gap n) ps qs e h = h First
 cons_front m s r (Sound p) ps qs e h = same_flag m s false r p (3 * m) ps qs e h
 
 -- the front of a strip
-pub room_front : (m : ℕ) (s : Stand) (r : Bool) (n : ℕ) (xs : List Item) → AreItems xs → ItemsShort m xs → strip_room m s false (part_items 0 n xs) ≤ strip_room m s r xs + 3 * m
+pub room_front : (m : ℕ) (s : Stand) (r : Bool) (n : ℕ) (xs : List Item) → AreItems xs → ItemsShort m xs
+    → strip_room m s false (part_items 0 n xs) ≤ strip_room m s r xs + 3 * m
 room_front m s r zero xs v w = rw (part_none 0 xs) (omega arith)
 room_front m s r (suc n) [] v w = omega arith
 room_front m s r (suc n) (x ∷ xs) v w = elim (cases_lt (suc n) (item_len x)) [
@@ -146,17 +157,21 @@ room_front m s r (suc n) (x ∷ xs) v w = elim (cases_lt (suc n) (item_len x)) [
     go m s r x zero xs v w f = rw (part_none 0 xs) (omega (arith, one_item m s false x w))
     go m s r x (suc n) [] v w f = omega (arith, one_item m s false x w)
     go m s r x (suc n) (y ∷ ys) v w f =
-        cons_front m s r x (part_items 0 (suc n) (y ∷ ys)) (y ∷ ys) (same_next r (suc n) y ys (omega arith) (item_some y v.0)) f
+        cons_front m s r x (part_items 0 (suc n) (y ∷ ys)) (y ∷ ys)
+        (same_next r (suc n) y ys (omega arith) (item_some y v.0)) f
 
 -- the end of a strip, where so much is given
-back_past : (m e : ℕ) (s t : Stand) (r : Bool) (x : Item) (ps xs : List Item) → ((i : Stand) → strip_room m s r ps ≤ strip_room m i r xs + e) → strip_room m s r ps ≤ strip_room m t r (x ∷ xs) + e
+back_past : (m e : ℕ) (s t : Stand) (r : Bool) (x : Item) (ps xs : List Item)
+    → ((i : Stand) → strip_room m s r ps ≤ strip_room m i r xs + e)
+    → strip_room m s r ps ≤ strip_room m t r (x ∷ xs) + e
 back_past m e s t r (Gap n) ps xs h = h First
 back_past m e s t r (Sound p) ps xs h = elim (cases_Bool (is_sound m p)) [
   | inl k ↦ omega (arith, sound_room m t r p xs k, h Behind)
   | inr k ↦ omega (arith, rough_least m t r p xs k, h Within)
 ]
 
-back_within : (m e : ℕ) (s t : Stand) (r : Bool) (skip k : ℕ) (x : Item) (xs : List Item) → skip + k ≤ item_len x → ItemShort m x → ItemsShort m xs
+back_within : (m e : ℕ) (s t : Stand) (r : Bool) (skip k : ℕ) (x : Item) (xs : List Item) → skip + k ≤ item_len x
+    → ItemShort m x → ItemsShort m xs
     → spare m s + 2 * m ≤ e → 3 * m ≤ e → strip_room m s r (part_of_item skip k x ∷ xs) ≤ strip_room m t r (x ∷ xs) + e
 back_within m e s t r skip k (Gap n) xs l v w a b = omega arith
 back_within m e s t r skip k (Sound p) xs l v w a b =
@@ -175,7 +190,8 @@ back_within m e s t r skip k (Sound p) xs l v w a b =
       ]
     ]
 
-pub room_back : (m e : ℕ) (s t : Stand) (r : Bool) (skip left : ℕ) (xs : List Item) → AreItems xs → ItemsShort m xs → strip_len xs ≤ skip + left
+pub room_back : (m e : ℕ) (s t : Stand) (r : Bool) (skip left : ℕ) (xs : List Item) → AreItems xs → ItemsShort m xs
+    → strip_len xs ≤ skip + left
     → spare m s + 2 * m ≤ e → 3 * m ≤ e → strip_room m s r (part_items skip left xs) ≤ strip_room m t r xs + e
 room_back m e s t r skip zero xs v w h a b = rw (part_none skip xs) (omega arith)
 room_back m e s t r skip (suc left) [] v w h a b = omega arith
@@ -188,11 +204,13 @@ room_back m e s t r skip (suc left) (x ∷ xs) v w h a b = elim (cases_lt skip (
       rw i (back_within m e s t r skip k x xs (omega arith) w.0 w.1 a b)
   | inr c ↦
       rw (part_past skip (suc left) x xs (omega arith) c) (
-      back_past m e s t r x (part_items (skip - item_len x) (suc left) xs) xs (λ i. room_back m e s i r (skip - item_len x) (suc left) xs v.1 w.1 (omega arith) a b))
+      back_past m e s t r x (part_items (skip - item_len x) (suc left) xs) xs
+      (λ i. room_back m e s i r (skip - item_len x) (suc left) xs v.1 w.1 (omega arith) a b))
 ]
 
 -- a strip with nothing to lay out anew needs no room
-pub no_room : (m : ℕ) (s : Stand) (r : Bool) (xs : List Item) → taken m s ≡ 0 → rough_items m (is_first s) r xs ≡ 0 → strip_room m s r xs ≡ 0
+pub no_room : (m : ℕ) (s : Stand) (r : Bool) (xs : List Item) → taken m s ≡ 0 → rough_items m (is_first s) r xs ≡ 0
+    → strip_room m s r xs ≡ 0
 no_room m s r [] k h = refl
 no_room m s r (Gap n ∷ xs) k h = no_room m First r xs refl h
 no_room m s r (Sound p ∷ xs) k h = elim (cases_Bool (is_sound m p || ((is_first s && gap_next r xs) && is_whole p))) [

@@ -1,5 +1,6 @@
 -- How rough a part of a layout's strip is.
-use Rattle.std.proofs.Common.{◌≡◌, ℕ, zero, suc, ◌+◌, ◌-◌, ◌*◌, ◌<◌, ◌≤◌, inl, inr, min, Bool, true, false, ◌&&◌, ◌||◌, List, [], ◌∷◌, ◌++◌, length, refl, ap, ap₂, ◌∙◌, arith, append_assoc, if◌then◌else◌}
+use Rattle.std.proofs.Common.{◌≡◌, ℕ, zero, suc, ◌+◌, ◌-◌, ◌*◌, ◌<◌, ◌≤◌, inl, inr, min, Bool, true, false, ◌&&◌, ◌||◌}
+use Rattle.std.proofs.Common.{List, [], ◌∷◌, ◌++◌, length, refl, ap, ap₂, ◌∙◌, arith, append_assoc, if◌then◌else◌}
 use Rattle.std.proofs.lemmas.Bool.{cases_Bool, cases_lt, eq-eqb, le-leb, and_from}
 use Rattle.std.proofs.Math.Nat.{sub-zero}
 use Rattle.std.proofs.lemmas.List.{append-nil}
@@ -7,7 +8,6 @@ use Rattle.pcm_base.specs.declared.piece.Piece.{Piece}
 use Rattle.pcm_base.specs.declared.piece.Piece.TheVariants.{Old, Scaled, Zero, Given}
 use Rattle.pcm_base.specs.declared.block.BlockRef.{BlockRef}
 use Rattle.pcm_base.specs.Pieces.{part_of, whole}
-use Rattle.pcm_base.proofs.Pieces.{piece_len-part}
 use Rattle.pcm_base.specs.Blocks.{AllFull, IsHalfFull, block_lens}
 use Rattle.block_sequence.specs.Fuse.{is_whole, is_sound, rough, unsound}
 use Rattle.block_sequence.proofs.HalfFull.{is_sound-true}
@@ -16,15 +16,17 @@ use Rattle.clip_track.specs.declared.items.Item.TheVariants.{Gap, Sound}
 use Rattle.clip_track.specs.declared.clips.Clip.{Clip}
 use Rattle.clip_track.specs.Items.{item_len, strip_len, part_of_item, part_items, IsItem, AreItems, gap_items}
 use Rattle.clip_track.specs.Clips.{clip_end, AreClips, AllHalfFull, sound_items, items_from}
-use Rattle.clip_track.specs.Rough.{gap_next, rough_piece, rough_items, rough_from, ItemShort, ItemsShort}
+use Rattle.clip_track.specs.Rough.{gap_next, rough_piece, rough_items, rough_from}
 use Rattle.clip_track.proofs.Strips.{part_none, part_past, part_within, item_some}
 
 rough_piece_le : (m : ℕ) (p : Piece) (b : Bool) → rough_piece m p b ≤ 1
-rough_piece_le m p b = elim (cases_Bool (is_sound m p || (b && is_whole p))) [ inl e ↦ rw e (omega arith) | inr e ↦ rw e (omega arith) ]
+rough_piece_le m p b =
+    elim (cases_Bool (is_sound m p || (b && is_whole p))) [ inl e ↦ rw e (omega arith) | inr e ↦ rw e (omega arith) ]
 
 -- with no gap on one side a piece is no better
 rough_piece_worse : (m : ℕ) (p : Piece) (b : Bool) → rough_piece m p b ≤ rough_piece m p false
-rough_piece_worse m p true = elim (cases_Bool (is_sound m p)) [ inl e ↦ rw e (omega arith) | inr e ↦ rw e (below_one (is_whole p)) ]
+rough_piece_worse m p true =
+    elim (cases_Bool (is_sound m p)) [ inl e ↦ rw e (omega arith) | inr e ↦ rw e (below_one (is_whole p)) ]
   where
     below_one : (b : Bool) → (if b then 0 else 1) ≤ 1
     below_one true = omega arith
@@ -36,16 +38,19 @@ worse_start m s r [] = omega arith
 worse_start m s r (Gap n ∷ ys) = omega arith
 worse_start m s r (Sound p ∷ ys) = omega (arith, rough_piece_worse m p (s && gap_next r ys))
 
-pub rough-append : (m : ℕ) (s r : Bool) (xs ys : List Item) → rough_items m s r (xs ++ ys) ≤ rough_items m s false xs + rough_items m false r ys
+pub rough-append : (m : ℕ) (s r : Bool) (xs ys : List Item)
+    → rough_items m s r (xs ++ ys) ≤ rough_items m s false xs + rough_items m false r ys
 rough-append m s r [] ys = omega (arith, worse_start m s r ys)
 rough-append m s r (Gap n ∷ xs) ys = rough-append m true r xs ys
 rough-append m s r (Sound p ∷ xs) ys = omega (arith, rough-append m false r xs ys, first m s r p xs ys)
   where
-    last_one : (m : ℕ) (s r : Bool) (p : Piece) (ys : List Item) → rough_piece m p (s && gap_next r ys) ≤ rough_piece m p (s && false)
+    last_one : (m : ℕ) (s r : Bool) (p : Piece) (ys : List Item)
+        → rough_piece m p (s && gap_next r ys) ≤ rough_piece m p (s && false)
     last_one m true r p ys = rough_piece_worse m p (gap_next r ys)
     last_one m false r p ys = omega arith
 
-    first : (m : ℕ) (s r : Bool) (p : Piece) (xs ys : List Item) → rough_piece m p (s && gap_next r (xs ++ ys)) ≤ rough_piece m p (s && gap_next false xs)
+    first : (m : ℕ) (s r : Bool) (p : Piece) (xs ys : List Item)
+        → rough_piece m p (s && gap_next r (xs ++ ys)) ≤ rough_piece m p (s && gap_next false xs)
     first m s r p [] ys = last_one m s r p ys
     first m s r p (Gap n ∷ xs) ys = omega arith
     first m s r p (Sound q ∷ xs) ys = omega arith
@@ -70,19 +75,22 @@ one_item : (m : ℕ) (s r : Bool) (x : Item) → rough_items m s r (x ∷ []) �
 one_item m s r (Gap n) = omega arith
 one_item m s r (Sound p) = omega (arith, rough_piece_le m p (s && r))
 
-pub same_next : (r : Bool) (n : ℕ) (y : Item) (ys : List Item) → 0 < n → 0 < item_len y → gap_next false (part_items 0 n (y ∷ ys)) ≡ gap_next r (y ∷ ys)
+pub same_next : (r : Bool) (n : ℕ) (y : Item) (ys : List Item) → 0 < n → 0 < item_len y
+    → gap_next false (part_items 0 n (y ∷ ys)) ≡ gap_next r (y ∷ ys)
 same_next r n (Gap k) ys a b = rw (part_within 0 n (Gap k) ys a b) refl
 same_next r n (Sound p) ys a b = rw (part_within 0 n (Sound p) ys a b) refl
 
 cons_front : (m : ℕ) (s r : Bool) (x : Item) (ps qs : List Item) → gap_next false ps ≡ gap_next r qs
-    → ((t : Bool) → rough_items m t false ps ≤ rough_items m t r qs + 1) → rough_items m s false (x ∷ ps) ≤ rough_items m s r (x ∷ qs) + 1
+    → ((t : Bool) → rough_items m t false ps ≤ rough_items m t r qs + 1)
+    → rough_items m s false (x ∷ ps) ≤ rough_items m s r (x ∷ qs) + 1
 cons_front m s r (Gap n) ps qs e h = h true
 cons_front m s r (Sound p) ps qs e h =
     let f = ap (λ b. rough_piece m p (s && b)) e in
     omega (arith, h false, f)
 
 -- the front of a strip
-pub rough_front : (m : ℕ) (s r : Bool) (n : ℕ) (xs : List Item) → AreItems xs → rough_items m s false (part_items 0 n xs) ≤ rough_items m s r xs + 1
+pub rough_front : (m : ℕ) (s r : Bool) (n : ℕ) (xs : List Item) → AreItems xs
+    → rough_items m s false (part_items 0 n xs) ≤ rough_items m s r xs + 1
 rough_front m s r zero xs v = rw (part_none 0 xs) (omega arith)
 rough_front m s r (suc n) [] v = omega arith
 rough_front m s r (suc n) (x ∷ xs) v = elim (cases_lt (suc n) (item_len x)) [
@@ -105,14 +113,18 @@ rough_front m s r (suc n) (x ∷ xs) v = elim (cases_lt (suc n) (item_len x)) [
     go m s r x zero xs v f = rw (part_none 0 xs) (omega (arith, one_item m s false x))
     go m s r x (suc n) [] v f = omega (arith, one_item m s false x)
     go m s r x (suc n) (y ∷ ys) v f =
-        cons_front m s r x (part_items 0 (suc n) (y ∷ ys)) (y ∷ ys) (same_next r (suc n) y ys (omega arith) (item_some y v.0)) f
+        cons_front m s r x (part_items 0 (suc n) (y ∷ ys)) (y ∷ ys)
+        (same_next r (suc n) y ys (omega arith) (item_some y v.0)) f
 
 -- the end of a strip
-back_past : (m : ℕ) (s r : Bool) (x : Item) (ps xs : List Item) → ((t : Bool) → rough_items m false r ps ≤ rough_items m t r xs + 1) → rough_items m false r ps ≤ rough_items m s r (x ∷ xs) + 1
+back_past : (m : ℕ) (s r : Bool) (x : Item) (ps xs : List Item)
+    → ((t : Bool) → rough_items m false r ps ≤ rough_items m t r xs + 1)
+    → rough_items m false r ps ≤ rough_items m s r (x ∷ xs) + 1
 back_past m s r (Gap n) ps xs h = h true
 back_past m s r (Sound p) ps xs h = omega (arith, h false)
 
-back_within : (m : ℕ) (s r : Bool) (skip k : ℕ) (x : Item) (xs : List Item) → rough_items m false r (part_of_item skip k x ∷ xs) ≤ rough_items m s r (x ∷ xs) + 1
+back_within : (m : ℕ) (s r : Bool) (skip k : ℕ) (x : Item) (xs : List Item)
+    → rough_items m false r (part_of_item skip k x ∷ xs) ≤ rough_items m s r (x ∷ xs) + 1
 back_within m s r skip k (Gap n) xs = omega arith
 back_within m s r skip k (Sound p) xs = omega (arith, rough_piece_le m (part_of skip k p) false)
 
@@ -124,11 +136,13 @@ rough_back m s r skip (suc left) (x ∷ xs) v h = elim (cases_lt skip (item_len 
   | inl a ↦
       let e : part_items skip (suc left) (x ∷ xs) ≡ part_of_item skip (min (suc left) (item_len x - skip)) x ∷ xs =
       part_within skip (suc left) x xs (omega arith) a
-      ∙ ap (λ ys. part_of_item skip (min (suc left) (item_len x - skip)) x ∷ ys) (part_all (suc left - min (suc left) (item_len x - skip)) xs v.1 (omega arith)) in
+      ∙ ap (λ ys. part_of_item skip (min (suc left) (item_len x - skip)) x ∷ ys)
+      (part_all (suc left - min (suc left) (item_len x - skip)) xs v.1 (omega arith)) in
       rw e (back_within m s r skip (min (suc left) (item_len x - skip)) x xs)
   | inr a ↦
       rw (part_past skip (suc left) x xs (omega arith) a) (
-      back_past m s r x (part_items (skip - item_len x) (suc left) xs) xs (λ t. rough_back m t r (skip - item_len x) (suc left) xs v.1 (omega arith)))
+      back_past m s r x (part_items (skip - item_len x) (suc left) xs) xs
+      (λ t. rough_back m t r (skip - item_len x) (suc left) xs v.1 (omega arith)))
 ]
 
 -- a layout's strip is not rough
@@ -139,29 +153,35 @@ full_is_sound : (m : ℕ) (b : BlockRef) → m ≤ 2 * b.len → b.len ≤ m →
 unfolding is_sound
 full_is_sound m b h k =
     let e = sub-zero b.len in
-    and_from _ _ (and_from _ _ (whole_is_whole b) (le-leb m (2 * (b.len - 0)) (omega (arith, e)))) (le-leb (b.len - 0) m (omega (arith, e)))
+    and_from _ _ (and_from _ _ (whole_is_whole b) (le-leb m (2 * (b.len - 0)) (omega (arith, e))))
+    (le-leb (b.len - 0) m (omega (arith, e)))
 
-rough_full : (m : ℕ) (s : Bool) (bs : List BlockRef) (rest : List Item) → AllFull m (block_lens bs) → rough_items m s true (sound_items bs ++ rest) ≤ rough_items m false true rest
+rough_full : (m : ℕ) (s : Bool) (bs : List BlockRef) (rest : List Item) → AllFull m (block_lens bs)
+    → rough_items m s true (sound_items bs ++ rest) ≤ rough_items m false true rest
 rough_full m s [] rest h = worse_start m s true rest
 rough_full m s (b ∷ bs) rest h =
-    let e : rough_piece m (whole b) (s && gap_next true (sound_items bs ++ rest)) ≡ 0 = rw (full_is_sound m b h.0.0 h.0.1) refl in
+    let e : rough_piece m (whole b) (s && gap_next true (sound_items bs ++ rest)) ≡ 0 =
+    rw (full_is_sound m b h.0.0 h.0.1) refl in
     omega (arith, e, rough_full m false bs rest h.1)
 
 -- what follows a clip begins with a gap
-follows : (m e : ℕ) (cs : List Clip) → AreClips (e + 1) cs → (gap_next true (items_from e cs) ≡ true) × (rough_items m false true (items_from e cs) ≡ rough_items m true true (items_from e cs))
+follows : (m e : ℕ) (cs : List Clip) → AreClips (e + 1) cs → (gap_next true (items_from e cs) ≡ true)
+    × (rough_items m false true (items_from e cs) ≡ rough_items m true true (items_from e cs))
 follows m e [] a = (refl, refl)
 follows m e (c ∷ cs) a =
     let k : c.start - e ≡ suc (c.start - e - 1) = omega (arith, a.0) in
     rw k (refl, refl)
 
 whole_alone : (m : ℕ) (b : BlockRef) → rough_piece m (whole b) true ≡ 0
-whole_alone m b = elim (cases_Bool (is_sound m (whole b))) [ inl s ↦ rw s refl | inr s ↦ rw s (lone (is_whole (whole b)) (whole_is_whole b)) ]
+whole_alone m b = elim (cases_Bool (is_sound m (whole b)))
+    [ inl s ↦ rw s refl | inr s ↦ rw s (lone (is_whole (whole b)) (whole_is_whole b)) ]
   where
     lone : (w : Bool) → w ≡ true → (let n : ℕ = if false || (true && w) then 0 else 1 in n) ≡ 0
     lone w e = rw e refl
 
 rough_clip : (m : ℕ) (bs : List BlockRef) (rest : List Item) → IsHalfFull m (block_lens bs) → gap_next true rest ≡ true
-    → rough_items m false true rest ≡ rough_items m true true rest → rough_items m true true (sound_items bs ++ rest) ≤ rough_items m true true rest
+    → rough_items m false true rest ≡ rough_items m true true rest
+    → rough_items m true true (sound_items bs ++ rest) ≤ rough_items m true true rest
 rough_clip m [] rest h g e = omega arith
 rough_clip m (b ∷ []) rest h g e =
     let f : rough_piece m (whole b) (true && gap_next true rest) ≡ 0 = rw g (whole_alone m b) in
@@ -172,7 +192,8 @@ rough_gap : (m g : ℕ) (rest : List Item) → rough_items m true true (gap_item
 rough_gap m zero rest = refl
 rough_gap m (suc g) rest = refl
 
-pub rough_layout : (m at from : ℕ) (cs : List Clip) → AreClips from cs → AllHalfFull m cs → rough_items m true true (items_from at cs) ≡ 0
+pub rough_layout : (m at from : ℕ) (cs : List Clip) → AreClips from cs → AllHalfFull m cs
+    → rough_items m true true (items_from at cs) ≡ 0
 rough_layout m at from [] a h = refl
 rough_layout m at from (c ∷ cs) a h =
     let rest = items_from (clip_end c) cs in
@@ -211,12 +232,18 @@ between_gaps m p = elim (cases_Bool (is_sound m p)) [
     same true = omega arith
     same false = omega arith
 
-from_held : (m : ℕ) (held : List Piece) (xs : List Item) → ((ys : List Item) → length ys < length xs → rough_from m [] ys ≤ rough_items m true true ys)
+from_held : (m : ℕ) (held : List Piece) (xs : List Item)
+    → ((ys : List Item) → length ys < length xs → rough_from m [] ys ≤ rough_items m true true ys)
     → rough_from m held xs ≤ unsound m held + rough_items m false true xs
 from_held m held [] f = omega (arith, rough_le m held)
 from_held m held (Gap n ∷ xs) f = omega (arith, rough_le m held, f xs (omega arith))
 from_held m held (Sound p ∷ xs) f =
-    omega (arith, from_held m (held ++ p ∷ []) xs (λ ys h. f ys (omega arith)), unsound-append m held (p ∷ []), alone m p)
+    omega (
+      arith,
+      from_held m (held ++ p ∷ []) xs (λ ys h. f ys (omega arith)),
+      unsound-append m held (p ∷ []),
+      alone m p,
+    )
 
 from_none : (m n : ℕ) (xs : List Item) → length xs ≤ n → rough_from m [] xs ≤ rough_items m true true xs
 from_none m n [] h = omega arith
@@ -230,66 +257,32 @@ from_none m (suc n) (Sound p ∷ Sound q ∷ xs) h =
 pub rough_from_le : (m : ℕ) (xs : List Item) → rough_from m [] xs ≤ rough_items m true true xs
 rough_from_le m xs = from_none m (length xs) xs (omega arith)
 
--- no piece is longer than a block
-pub ItemsShort-append : (m : ℕ) (xs ys : List Item) → ItemsShort m xs → ItemsShort m ys → ItemsShort m (xs ++ ys)
-ItemsShort-append m [] ys a b = b
-ItemsShort-append m (x ∷ xs) ys a b = (a.0, ItemsShort-append m xs ys a.1 b)
-
-short_part : (m skip n : ℕ) (x : Item) → skip + n ≤ item_len x → ItemShort m x → ItemShort m (part_of_item skip n x)
-short_part m skip n (Gap k) h a = tt
-short_part m skip n (Sound p) h a = omega (arith, piece_len-part skip n p)
-
-pub ItemsShort-part : (m skip left : ℕ) (xs : List Item) → ItemsShort m xs → ItemsShort m (part_items skip left xs)
-ItemsShort-part m skip zero xs v = rw (part_none skip xs) tt
-ItemsShort-part m skip (suc left) [] v = tt
-ItemsShort-part m skip (suc left) (x ∷ xs) v = elim (cases_lt skip (item_len x)) [
-  | inl a ↦ rw (part_within skip (suc left) x xs (omega arith) a) (
-    short_part m skip (min (suc left) (item_len x - skip)) x (omega arith) v.0,
-    ItemsShort-part m 0 (suc left - min (suc left) (item_len x - skip)) xs v.1,
-  )
-  | inr a ↦ rw (part_past skip (suc left) x xs (omega arith) a) (ItemsShort-part m (skip - item_len x) (suc left) xs v.1)
-]
-
-pub short_gap : (m n : ℕ) → ItemsShort m (gap_items n)
-short_gap m zero = tt
-short_gap m (suc n) = (tt, tt)
-
-short_full : (m : ℕ) (bs : List BlockRef) → AllFull m (block_lens bs) → ItemsShort m (sound_items bs)
-short_full m [] h = tt
-short_full m (b ∷ bs) h = (omega (arith, sub-zero b.len, h.0.1), short_full m bs h.1)
-
-short_half : (m : ℕ) (bs : List BlockRef) → IsHalfFull m (block_lens bs) → ItemsShort m (sound_items bs)
-short_half m [] h = tt
-short_half m (b ∷ []) h = (omega (arith, sub-zero b.len, h.1), tt)
-short_half m (b ∷ c ∷ bs) h = short_full m (b ∷ c ∷ bs) h
-
-pub short_layout : (m at : ℕ) (cs : List Clip) → AllHalfFull m cs → ItemsShort m (items_from at cs)
-short_layout m at [] h = tt
-short_layout m at (c ∷ cs) h =
-    ItemsShort-append m (gap_items (c.start - at) ++ sound_items c.blocks) (items_from (clip_end c) cs)
-    (ItemsShort-append m (gap_items (c.start - at)) (sound_items c.blocks) (short_gap m (c.start - at)) (short_half m c.blocks h.0))
-    (short_layout m (clip_end c) cs h.1)
-
 -- a part between
-middle_past : (m : ℕ) (s r : Bool) (x : Item) (ps xs : List Item) → ((t : Bool) → rough_items m false false ps ≤ rough_items m t r xs + 2) → rough_items m false false ps ≤ rough_items m s r (x ∷ xs) + 2
+middle_past : (m : ℕ) (s r : Bool) (x : Item) (ps xs : List Item)
+    → ((t : Bool) → rough_items m false false ps ≤ rough_items m t r xs + 2)
+    → rough_items m false false ps ≤ rough_items m s r (x ∷ xs) + 2
 middle_past m s r (Gap n) ps xs h = h true
 middle_past m s r (Sound p) ps xs h = omega (arith, h false)
 
-middle_within : (m : ℕ) (s r : Bool) (skip k n : ℕ) (x : Item) (xs : List Item) → AreItems xs → rough_items m false false (part_of_item skip k x ∷ part_items 0 n xs) ≤ rough_items m s r (x ∷ xs) + 2
+middle_within : (m : ℕ) (s r : Bool) (skip k n : ℕ) (x : Item) (xs : List Item) → AreItems xs
+    → rough_items m false false (part_of_item skip k x ∷ part_items 0 n xs) ≤ rough_items m s r (x ∷ xs) + 2
 middle_within m s r skip k n (Gap i) xs v = omega (arith, rough_front m true r n xs v)
 middle_within m s r skip k n (Sound p) xs v =
     omega (arith, rough_piece_le m (part_of skip k p) false, rough_front m false r n xs v)
 
-pub rough_middle : (m : ℕ) (s r : Bool) (skip left : ℕ) (xs : List Item) → AreItems xs → rough_items m false false (part_items skip left xs) ≤ rough_items m s r xs + 2
+pub rough_middle : (m : ℕ) (s r : Bool) (skip left : ℕ) (xs : List Item) → AreItems xs
+    → rough_items m false false (part_items skip left xs) ≤ rough_items m s r xs + 2
 rough_middle m s r skip zero xs v = rw (part_none skip xs) (omega arith)
 rough_middle m s r skip (suc left) [] v = omega arith
 rough_middle m s r skip (suc left) (x ∷ xs) v = elim (cases_lt skip (item_len x)) [
   | inl a ↦
       rw (part_within skip (suc left) x xs (omega arith) a) (
-      middle_within m s r skip (min (suc left) (item_len x - skip)) (suc left - min (suc left) (item_len x - skip)) x xs v.1)
+      middle_within m s r skip (min (suc left) (item_len x - skip))
+      (suc left - min (suc left) (item_len x - skip)) x xs v.1)
   | inr a ↦
       rw (part_past skip (suc left) x xs (omega arith) a) (
-      middle_past m s r x (part_items (skip - item_len x) (suc left) xs) xs (λ t. rough_middle m t r (skip - item_len x) (suc left) xs v.1))
+      middle_past m s r x (part_items (skip - item_len x) (suc left) xs) xs
+      (λ t. rough_middle m t r (skip - item_len x) (suc left) xs v.1))
 ]
 
 pub rough_only_gap : (m : ℕ) (s r : Bool) (n : ℕ) → rough_items m s r (gap_items n) ≡ 0
@@ -297,7 +290,8 @@ rough_only_gap m s r zero = refl
 rough_only_gap m s r (suc n) = refl
 
 -- three parts, one after another
-pub rough_three : (m : ℕ) (xs ys zs : List Item) → rough_items m true true (xs ++ ys ++ zs) ≤ rough_items m true false xs + rough_items m false false ys + rough_items m false true zs
+pub rough_three : (m : ℕ) (xs ys zs : List Item) → rough_items m true true (xs ++ ys ++ zs)
+    ≤ rough_items m true false xs + rough_items m false false ys + rough_items m false true zs
 rough_three m xs ys zs = omega (arith, rough-append m true true (xs ++ ys) zs, rough-append m true false xs ys)
 
 pub rough_end : (m : ℕ) (s : Bool) (xs : List Item) → rough_items m s true xs ≤ rough_items m s false xs

@@ -21,7 +21,8 @@ end_of at (c ∷ cs) = end_of (clip_end c) cs
 -- the cells from a place on, written out clip by clip
 abbrev pub cells_from : Sources → ℕ → List Clip → List Cell
 cells_from src at [] = []
-cells_from src at (c ∷ cs) = replicate (c.start - at) cell.Gap ++ map cell.Sample (block_samples src c.blocks) ++ cells_from src (clip_end c) cs
+cells_from src at (c ∷ cs) =
+    replicate (c.start - at) cell.Gap ++ map cell.Sample (block_samples src c.blocks) ++ cells_from src (clip_end c) cs
 
 -- what a layout means
 abbrev pub layout_cells : Sources → List Clip → List Cell
@@ -35,7 +36,8 @@ layout_blocks (c ∷ cs) = c.blocks ++ layout_blocks cs
 -- clips of at least one sample that begin at a place or later, each at least one gap after the one before
 abbrev pub AreClips : ℕ → List Clip → Type 0
 AreClips from [] = Unit {0}
-AreClips from (c ∷ cs) = (from ≤ c.start) × (0 < blocks_len c.blocks) × NoneEmpty c.blocks × AreClips (clip_end c + 1) cs
+AreClips from (c ∷ cs) =
+    (from ≤ c.start) × (0 < blocks_len c.blocks) × NoneEmpty c.blocks × AreClips (clip_end c + 1) cs
 
 pub record IsLayout (cs : List Clip) : Type 0 where
   pub apart : AreClips 0 cs

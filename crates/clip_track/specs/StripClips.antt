@@ -21,9 +21,11 @@ next_start from (c ∷ cs) = next_start (strip_clip_end c + 1) cs
 -- the cells up to the end of the last clip, written out clip by clip
 abbrev pub clips_cells : Sources → ℕ → List StripClip → List Cell
 clips_cells src at [] = []
-clips_cells src at (c ∷ cs) = replicate (c.start - at) cell.Gap ++ map cell.Sample (all_samples src c.pieces) ++ clips_cells src (strip_clip_end c) cs
+clips_cells src at (c ∷ cs) = replicate (c.start - at) cell.Gap ++ map cell.Sample (all_samples src c.pieces)
+    ++ clips_cells src (strip_clip_end c) cs
 
 -- clips of at least one sample that begin at a place or later, each at least one gap after the one before
 abbrev pub AreStripClips : ℕ → List StripClip → Type 0
 AreStripClips from [] = Unit {0}
-AreStripClips from (c ∷ cs) = (from ≤ c.start) × (0 < total c.pieces) × AllValid c.pieces × AreStripClips (strip_clip_end c + 1) cs
+AreStripClips from (c ∷ cs) =
+    (from ≤ c.start) × (0 < total c.pieces) × AllValid c.pieces × AreStripClips (strip_clip_end c + 1) cs

@@ -1,5 +1,6 @@
 // A track's layout in clips.
-ghost use Rattle.std.specs.Prelude.{◌≡◌, ℕ, ◌+◌, ◌-◌, ◌≤◌, ◌<◌, ◌^◌, ◌++◌, length, take, drop, [], true, IfOk, OnOk, Contains};
+ghost use Rattle.std.specs.Prelude.{◌≡◌, ℕ, ◌+◌, ◌-◌, ◌≤◌, ◌<◌, ◌^◌, ◌++◌, length, take, drop, [], true, IfOk, OnOk};
+ghost use Rattle.std.specs.Prelude.{Contains};
 ghost use Rattle.pcm_base.specs.Pieces.{Sources};
 ghost use Rattle.pcm_base.specs.declared.block.BlockRef.{BlockRef};
 ghost use Rattle.clip_track.specs.Items as strip;
@@ -57,7 +58,8 @@ fn append_blocks(out: &mut Vec<Item>, blocks: &[BlockRef]) -> Result<(), AllocEr
 fn append_clip(out: &mut Vec<Item>, clip: &Clip, at: u64) -> Result<u64, AllocError>
     requires later { at ≤ clip.now.start }
     requires few { layout.clip_end clip.now ≤ 2 ^ 32 }
-    ensures items { OnOk result (out.new.items ≡ out.old.items ++ (strip.gap_items (clip.now.start - at) ++ layout.sound_items clip.now.blocks)) }
+    ensures items { OnOk result (out.new.items ≡ out.old.items
+        ++ (strip.gap_items (clip.now.start - at) ++ layout.sound_items clip.now.blocks)) }
     ensures end { IfOk result (λ end. end ≡ layout.clip_end clip.now) }
 {
     push_gap(out, clip.start - at)?;
@@ -156,7 +158,8 @@ impl Layout {
     /// There is no memory for the strip.
     pub fn to_strip(&self) -> Result<Strip, NoMemory>
         ensures items { IfOk result (λ s. s ≡ layout.items_from 0 self.now) }
-        ensures cells { IfOk result (λ s. (src : Sources) → strip.strip_cells src s ≡ layout.layout_cells src self.now) }
+        ensures cells { IfOk result
+            (λ s. (src : Sources) → strip.strip_cells src s ≡ layout.layout_cells src self.now) }
         ensures ok { IfOk result (λ s. strip.AreItems s) }
         ensures len { IfOk result (λ s. strip.strip_len s ≡ layout.end_of 0 self.now) }
         ensures few { IfOk result (λ s. strip.strip_len s ≤ 2 ^ 32) }
@@ -168,14 +171,15 @@ impl Layout {
         Ok(Strip::from_items(items))
     }
 
-    /// What is left from a place on, to be read stretch by stretch: what stands at the place, and what follows. It takes
-    /// no memory.
+    /// What is left from a place on, to be read stretch by stretch: what stands at the place, and what follows. It
+    /// takes no memory.
     pub fn rest(&self, place: u64) -> Rest<'_>
         ensures items { result ≡ strip.items_after place (layout.items_from 0 self.now) }
         ensures cells { (src : Sources) → strip.strip_cells src result ≡ drop place (layout.layout_cells src self.now) }
         ensures len { strip.strip_len result ≡ layout.end_of 0 self.now - place }
         ensures fit { (m : ℕ) → layout.AllHalfFull m self.now → strip.ItemsFit m result }
-        ensures blocks { (b : BlockRef) → Contains (strip.strip_blocks result) b → Contains (layout.layout_blocks self.now) b }
+        ensures blocks { (b : BlockRef) → Contains (strip.strip_blocks result) b
+            → Contains (layout.layout_blocks self.now) b }
     {
         rest_from(self.clips.as_slice(), place)
     }
@@ -189,7 +193,8 @@ impl Layout {
         requires rising { from ≤ to }
         requires within { to ≤ layout.end_of 0 self.now }
         ensures items { IfOk result (λ s. s ≡ strip.part_items from (to - from) (layout.items_from 0 self.now)) }
-        ensures cells { IfOk result (λ s. (src : Sources) → strip.strip_cells src s ≡ take (to - from) (drop from (layout.layout_cells src self.now))) }
+        ensures cells { IfOk result (λ s. (src : Sources)
+            → strip.strip_cells src s ≡ take (to - from) (drop from (layout.layout_cells src self.now))) }
         ensures len { IfOk result (λ s. strip.strip_len s ≡ to - from) }
         ensures fit { IfOk result (λ s. (m : ℕ) → layout.AllHalfFull m self.now → strip.ItemsFit m s) }
     {
@@ -209,9 +214,12 @@ impl Layout {
         requires within { to ≤ layout.end_of 0 self.now }
         requires room { layout.end_of 0 self.now + strip.strip_len middle.now < 2 ^ 64 }
         ensures cells { IfOk result (λ s. (src : Sources) →
-            strip.strip_cells src s ≡ take from (layout.layout_cells src self.now) ++ strip.strip_cells src middle.now ++ drop to (layout.layout_cells src self.now)) }
-        ensures len { IfOk result (λ s. strip.strip_len s ≡ layout.end_of 0 self.now - (to - from) + strip.strip_len middle.now) }
-        ensures fit { IfOk result (λ s. (m : ℕ) → layout.AllHalfFull m self.now → strip.ItemsFit m middle.now → strip.ItemsFit m s) }
+            strip.strip_cells src s ≡ take from (layout.layout_cells src self.now) ++ strip.strip_cells src middle.now
+            ++ drop to (layout.layout_cells src self.now)) }
+        ensures len { IfOk result
+            (λ s. strip.strip_len s ≡ layout.end_of 0 self.now - (to - from) + strip.strip_len middle.now) }
+        ensures fit { IfOk result
+            (λ s. (m : ℕ) → layout.AllHalfFull m self.now → strip.ItemsFit m middle.now → strip.ItemsFit m s) }
     {
         let whole = self.to_strip()?;
         let mut out = Vec::new(*self.clips.allocator());

@@ -1,5 +1,6 @@
 // Gaps and pieces, one after another.
-ghost use Rattle.std.specs.Prelude.{◌≡◌, ℕ, ◌+◌, ◌-◌, ◌<◌, ◌≤◌, ◌^◌, ◌++◌, [], ◌∷◌, length, take, drop, map, min, replicate, OnOk, OnErr};
+ghost use Rattle.std.specs.Prelude.{◌≡◌, ℕ, ◌+◌, ◌-◌, ◌<◌, ◌≤◌, ◌^◌, ◌++◌, [], ◌∷◌, length, take, drop, map, min};
+ghost use Rattle.std.specs.Prelude.{replicate, OnOk, OnErr};
 ghost use Rattle.pcm_base.specs.Pieces.{Sources, piece_len, samples_of, Fits};
 ghost use Rattle.pcm_base.specs.declared.sound.Cell.TheVariants as cell;
 ghost use Rattle.clip_track.specs.Items as strip;
@@ -116,9 +117,12 @@ pub fn append_part(out: &mut Vec<Item>, items: &[Item], skip: u64, n: u64) -> Re
     requires old_ok { strip.AreItems out.old.items }
     ensures items { OnOk result (out.new.items ≡ out.old.items ++ strip.part_items skip n items.now) }
     ensures ok { OnOk result (strip.AreItems out.new.items) }
-    ensures len { OnOk result (strip.strip_len out.new.items ≡ strip.strip_len out.old.items + min n (strip.strip_len items.now - skip)) }
-    ensures fit { OnOk result ((m : ℕ) → strip.ItemsFit m out.old.items → strip.ItemsFit m items.now → strip.ItemsFit m out.new.items) }
-    ensures cells { OnOk result ((src : Sources) → strip.strip_cells src out.new.items ≡ strip.strip_cells src out.old.items ++ take n (drop skip (strip.strip_cells src items.now))) }
+    ensures len { OnOk result
+        (strip.strip_len out.new.items ≡ strip.strip_len out.old.items + min n (strip.strip_len items.now - skip)) }
+    ensures fit { OnOk result
+        ((m : ℕ) → strip.ItemsFit m out.old.items → strip.ItemsFit m items.now → strip.ItemsFit m out.new.items) }
+    ensures cells { OnOk result ((src : Sources) → strip.strip_cells src out.new.items
+        ≡ strip.strip_cells src out.old.items ++ take n (drop skip (strip.strip_cells src items.now))) }
     ensures unchanged { OnErr result (out.new.items ≡ out.old.items) }
 {
     append_all_items(out, items, skip, n)
@@ -164,7 +168,8 @@ pub fn append_gap(out: &mut Vec<Item>, n: u64) -> Result<(), AllocError>
     ensures ok { OnOk result (strip.AreItems out.new.items) }
     ensures len { OnOk result (strip.strip_len out.new.items ≡ strip.strip_len out.old.items + n) }
     ensures fit { OnOk result ((m : ℕ) → strip.ItemsFit m out.old.items → strip.ItemsFit m out.new.items) }
-    ensures cells { OnOk result ((src : Sources) → strip.strip_cells src out.new.items ≡ strip.strip_cells src out.old.items ++ replicate n cell.Gap) }
+    ensures cells { OnOk result ((src : Sources)
+        → strip.strip_cells src out.new.items ≡ strip.strip_cells src out.old.items ++ replicate n cell.Gap) }
     ensures unchanged { OnErr result (out.new.items ≡ out.old.items) }
 {
     push_gap(out, n)
@@ -181,8 +186,10 @@ pub fn append_piece(out: &mut Vec<Item>, piece: Piece) -> Result<(), AllocError>
     ensures items { OnOk result (out.new.items ≡ out.old.items ++ Item.Sound piece ∷ []) }
     ensures ok { OnOk result (strip.AreItems out.new.items) }
     ensures len { OnOk result (strip.strip_len out.new.items ≡ strip.strip_len out.old.items + piece_len piece) }
-    ensures fit { OnOk result ((m : ℕ) → strip.ItemsFit m out.old.items → Fits m piece → strip.ItemsFit m out.new.items) }
-    ensures cells { OnOk result ((src : Sources) → strip.strip_cells src out.new.items ≡ strip.strip_cells src out.old.items ++ map cell.Sample (samples_of src piece)) }
+    ensures fit { OnOk result
+        ((m : ℕ) → strip.ItemsFit m out.old.items → Fits m piece → strip.ItemsFit m out.new.items) }
+    ensures cells { OnOk result ((src : Sources) → strip.strip_cells src out.new.items
+        ≡ strip.strip_cells src out.old.items ++ map cell.Sample (samples_of src piece)) }
     ensures unchanged { OnErr result (out.new.items ≡ out.old.items) }
 {
     push_piece(out, piece)

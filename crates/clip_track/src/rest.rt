@@ -46,8 +46,8 @@ struct Left<'a> {
     clips: &'a [Clip],
 }
 
-/// What is left of a layout from a place on. It is read stretch by stretch, and takes no memory. Contracts see the items
-/// that are left, as a strip has them.
+/// What is left of a layout from a place on. It is read stretch by stretch, and takes no memory. Contracts see the
+/// items that are left, as a strip has them.
 #[derive(Drop)]
 pub struct Rest<'a> {
     left: Left<'a>,

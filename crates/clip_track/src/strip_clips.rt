@@ -28,7 +28,8 @@ fn close(out: &mut Vec<StripClip>, held: Vec<Piece>, size: u64, start: u64) -> R
     ensures end { OnOk result (clips.clips_end 0 out.new.items ≤ start + size) }
     ensures cells { OnOk result ((src : Sources) →
         clips.clips_cells src 0 out.new.items ++ replicate (start + size - clips.clips_end 0 out.new.items) cell.Gap
-        ≡ clips.clips_cells src 0 out.old.items ++ replicate (start - clips.clips_end 0 out.old.items) cell.Gap ++ map cell.Sample (all_samples src held.items)) }
+        ≡ clips.clips_cells src 0 out.old.items ++ replicate (start - clips.clips_end 0 out.old.items) cell.Gap
+        ++ map cell.Sample (all_samples src held.items)) }
 {
     if size > 0 {
         let pieces = Pieces::from_vec(held);
@@ -43,7 +44,8 @@ fn collect_clips(alloc: Global, items: &[Item]) -> Result<Vec<StripClip>, NoMemo
     ensures apart { IfOk result (λ v. clips.AreStripClips 0 v.items) }
     ensures within { IfOk result (λ v. clips.clips_end 0 v.items ≤ strip_len items.now) }
     ensures cells { IfOk result (λ v. (src : Sources) →
-        clips.clips_cells src 0 v.items ++ replicate (strip_len items.now - clips.clips_end 0 v.items) cell.Gap ≡ strip_cells src items.now) }
+        clips.clips_cells src 0 v.items ++ replicate (strip_len items.now - clips.clips_end 0 v.items) cell.Gap
+        ≡ strip_cells src items.now) }
 {
     let mut out = Vec::new(alloc);
     let mut held = Vec::new(alloc);
@@ -78,7 +80,8 @@ impl Strip {
         ensures apart { IfOk result (λ v. clips.AreStripClips 0 v.items) }
         ensures within { IfOk result (λ v. clips.clips_end 0 v.items ≤ strip_len self.now) }
         ensures cells { IfOk result (λ v. (src : Sources) →
-            clips.clips_cells src 0 v.items ++ replicate (strip_len self.now - clips.clips_end 0 v.items) cell.Gap ≡ strip_cells src self.now) }
+            clips.clips_cells src 0 v.items ++ replicate (strip_len self.now - clips.clips_end 0 v.items) cell.Gap
+            ≡ strip_cells src self.now) }
     {
         collect_clips(self.allocator(), self.as_slice())
     }

@@ -1,5 +1,5 @@
-// A disk one call of which fails, whichever it is: a write, a sync, a removal, a read or a listing, from the making of a
-// project to the last line of a script.
+// A disk one call of which fails, whichever it is: a write, a sync, a removal, a read or a listing, from the making of
+// a project to the last line of a script.
 ghost use Rattle.editor_core.specs.Core.{core_of};
 ghost use Rattle.editor_core.specs.Studios.{IsStudio};
 

@@ -260,8 +260,8 @@ fn plays_both(rt: &impl Abort, alloc: Global, call: u64, rows: &[Row]) -> Result
     Ok(second.rows == rows.len())
 }
 
-// The first read of the one fails. Of the other the first calls read the block that it takes in: the first that stops is a
-// write.
+// The first read of the one fails. Of the other the first calls read the block that it takes in: the first that stops
+// is a write.
 #[test]
 fn a_read_fails_and_a_write(rt: HostRuntime) -> Result<(), Fail> {
     let alloc = rt.alloc();

@@ -1,5 +1,6 @@
 -- What a session did to a studio, once its desk is closed.
-use Rattle.std.proofs.Common.{◌≡◌, inl, inr, ℕ, true, List, [], ◌∷◌, ◌++◌, length, Option, Some, None, Result, Ok, Err, sym, ◌∙◌, ap, subst}
+use Rattle.std.proofs.Common.{◌≡◌, inl, inr, ℕ, true, List, [], ◌∷◌, ◌++◌, length, Option, Some, None, Result, Ok, Err}
+use Rattle.std.proofs.Common.{sym, ◌∙◌, ap, subst}
 use Rattle.std.specs.Prelude.{IsSomeAnd}
 use Rattle.pcm_base.specs.declared.command.Call.{Call}
 use Rattle.pcm_base.specs.declared.refusal.Refusal.{Refusal}
@@ -34,7 +35,9 @@ use Rattle.desk_session.specs.declared.opening.Opened.{Opened}
 use Rattle.desk_session.specs.declared.told.Heard.{Heard}
 use Rattle.desk_session.specs.declared.told.Kept.{Kept}
 use Rattle.desk_session.specs.declared.told.Told.{Told}
-use Rattle.desk_session.specs.Opening.{IsOpening, Opens, PinDeed, TrackDeed, WhereMade, play_calls, record_calls, record_commits}
+use Rattle.desk_session.specs.Lent.{Kinds, Lent, Outcome}
+use Rattle.desk_session.specs.Opening.{IsOpening, Opens, PinDeed, TrackDeed, WhereMade, play_calls, record_calls}
+use Rattle.desk_session.specs.Opening.{record_commits}
 use Rattle.desk_session.specs.Parts.{NewPart}
 use Rattle.desk_session.specs.Sat.{Sat}
 use Rattle.desk_session.specs.Sessions.{IsMadeOf, IsScripted, IsSession, place_behind}
@@ -53,13 +56,15 @@ quiet (Some (Ok pin)) c (inl (from, count, is)) = ap commits_of is
 quiet (Some (Ok pin)) c (inr is) = ap commits_of is
 quiet (Some (Err why)) c h = absurd h
 
-module _ {D V M : Type 0} (mics : source.Ghosts M) (mic mic_now : M) (first track : ℕ) (v w : View (Held D V) Deed) where
+module _ {D V M : Type 0} (mics : source.Ghosts M) (mic mic_now : M) (first track : ℕ)
+    (v w : View (Held D V) Deed) where
   abbrev Recorded : Option (Result ℕ Refusal) → Option Kept → Type 0
   Recorded made kept = WhereMade made
       (λ tag. IsSomeAnd kept (IsRecorded mics mic mic_now [] (pieces_by track tag w.number first w.seen)))
       ((kept ≡ None) × (mic_now ≡ mic))
 
-  no_pieces : (fits : Call → Type 0) → ((c : Call) → fits c → ⊥) → (kept : Option Kept) (h : NewPart fits v w) → kept ≡ None
+  no_pieces : (fits : Call → Type 0) → ((c : Call) → fits c → ⊥) → (kept : Option Kept) (h : NewPart fits v w)
+      → kept ≡ None
       → numbers_of (by_seat w.number) (number_after first v.seen) h.part.added ≡ piece_numbers kept
   no_pieces fits never kept h none =
       no_numbers fits never w.number (number_after first v.seen) h.part.added h.part.asks ∙ sym (ap piece_numbers none)
@@ -73,16 +78,30 @@ module _ {D V M : Type 0} (mics : source.Ghosts M) (mic mic_now : M) (first trac
       sym (piece_commits first track tag v w h r.told kept.numbers kept.samples kept.refused _ r.takes)
   pieces_are (Some (Err why)) kept h r = no_pieces (record_calls track (Some (Err why))) (λ c k. k) kept h r.0
 
-module _ {D V M P : Type 0} (disk : Ghosts D) (vaults : vault.Ghosts V) (mics : source.Ghosts M) (speakers : sink.Ghosts P)
-    (start final : Core D) (before mid after : V) (mic mic_now : M) (speaker speaker_now : P)
-    (left left_now old new : Option (List ℕ)) (told : Told) (opened : Opened) (kept : Option Kept) (heard : Option Heard)
-    (u v w : View (Held D V) Deed) (last : ℕ) (first : IsFirst u) (o : Opens start.commit_number opened u v)
-    (is_last : last ≡ number_after start.commit_number v.seen)
-    (same : mid ≡ before)
-    (s : Sat disk vaults mics speakers start start.next_track opened last v w mid after mic mic_now speaker speaker_now left
-    left_now old new told kept heard)
-    (stands : StandsFor disk (AllTell vaults) start final w.seen)
+module _ {D V M P : Type 0} (k : Kinds D V M P) (start final : Core D) (mid : V) (lent : Lent V M P) (out : Outcome)
+    (u v w : View (Held D V) Deed) (last : ℕ) (first : IsFirst u) (o : Opens start.commit_number out.opened u v)
+    (is_last : last ≡ number_after start.commit_number v.seen) (same : mid ≡ lent.vault)
+    (s : Sat k start start.next_track last v w (record lent { vault = mid }) out)
+    (stands : StandsFor k.disk (AllTell k.vaults) start final w.seen)
     (counts : (k : ℕ) → times k w.mine ≡ once_below k (length w.seen)) where
+  abbrev disk : Ghosts D
+  disk = k.disk
+
+  abbrev vaults : vault.Ghosts V
+  vaults = k.vaults
+
+  abbrev told : Told
+  told = out.told
+
+  abbrev opened : Opened
+  opened = out.opened
+
+  abbrev before : V
+  before = lent.vault
+
+  abbrev after : V
+  after = lent.vault_now
+
   abbrev n : ℕ
   n = start.commit_number
 
@@ -143,7 +162,8 @@ module _ {D V M P : Type 0} (disk : Ghosts D) (vaults : vault.Ghosts V) (mics : 
   p = place_behind n v.seen v.used_up (vaults.tells before) (vaults.holds before) (vaults.fault_count before)
 
   abbrev q : Place
-  q = place_of start s.script s.told_last told.commits (vaults.tells after) (vaults.holds after) (vaults.fault_count after)
+  q = place_of start s.script s.told_last told.commits (vaults.tells after) (vaults.holds after)
+      (vaults.fault_count after)
 
   begins : place_of start v last [] (vaults.tells mid) (vaults.holds mid) (vaults.fault_count mid) ≡ p
   begins = λ i. record {
@@ -175,7 +195,7 @@ module _ {D V M P : Type 0} (disk : Ghosts D) (vaults : vault.Ghosts V) (mics : 
   script_numbers : told.commits ≡ numbers_of (by_seat 0) (number_after n v.seen) s.seats.by_script.added
   script_numbers = adds.numbers ∙ ap (numbers_of (by_seat 0) (number_after n v.seen)) more_is
 
-  scripted : IsScripted vaults n v.seen rest before after told left left_now old new
+  scripted : IsScripted vaults n v.seen rest lent told
   scripted = record {
     read = s.ran.read;
     lines = s.ran.lines;
@@ -201,14 +221,14 @@ module _ {D V M P : Type 0} (disk : Ghosts D) (vaults : vault.Ghosts V) (mics : 
         (adds.sounds is);
   }
 
-  numbers : Numbers n final.commit_number (record_commits opened.recording) told.commits (piece_numbers kept)
+  numbers : Numbers n final.commit_number (record_commits opened.recording) told.commits (piece_numbers out.kept)
   numbers =
       let merged = list.merged n pieces reads v s.script s.recorder s.player w s.seats (quiet opened.pin) own counts in
       let all = merged_numbers n w.seen v.number s.recorder.number _ _ _ merged in
       let script : numbers_of (by_seat v.number) (number_after n v.seen) s.seats.by_script.added ≡ told.commits =
       ap (λ (a : ℕ). numbers_of (by_seat a) (number_after n v.seen) s.seats.by_script.added) is_zero
       ∙ sym script_numbers in
-      let piece = pieces_are mics mic mic_now n start.next_track v s.recorder opened.recording kept s.seats.by_recorder
+      let piece = pieces_are k.mics lent.mic lent.mic_now n start.next_track v s.recorder opened.recording out.kept s.seats.by_recorder
       s.recorded in
       subst (λ (z : ℕ × List ℕ × List ℕ × List ℕ). Numbers n z.0 z.1 z.2 z.3)
       (λ i. (sym stands.number i, opening_numbers i, script i, piece i)) all
@@ -218,24 +238,25 @@ module _ {D V M P : Type 0} (disk : Ghosts D) (vaults : vault.Ghosts V) (mics : 
   served h =
       let whole_is : StandsFor disk (AllTell vaults) start final (q.seen ++ s.seats.more_script) =
       subst (λ (l : List Deed). StandsFor disk (AllTell vaults) start final l) s.seats.script_is stands in
-      let fair = sessions_serve disk vaults s.ran.lines s.ran.printed.answers p q start final s.seats.more_script session
+      let fair =
+      sessions_serve disk vaults s.ran.lines s.ran.printed.answers p q start final s.seats.more_script session
       whole_is h in
       let is : fair.added ≡ s.seats.by_script.added =
       same_rest v.seen fair.added s.seats.by_script.added (sym fair.seen ∙ s.seats.by_script.seen) in
-      let own : deeds_of (by_seat 0) fair.added ≡ deeds_of (by_seat 0) rest = ap (deeds_of (by_seat 0)) (is ∙ sym more_is) ∙ own_is in (
+      let own : deeds_of (by_seat 0) fair.added ≡ deeds_of (by_seat 0) rest =
+      ap (deeds_of (by_seat 0)) (is ∙ sym more_is) ∙ own_is in (
         desks_serve disk vaults start final w.seen stands h.told h.held h.going h.calm,
         subst (λ (l : List Deed). Each TellsNoDevice l) own fair.fair,
       )
 
-  pub closed : IsSession disk vaults mics speakers start final before after mic mic_now speaker speaker_now left left_now old
-      new told opened kept heard
+  pub closed : IsSession k start final lent out
   closed = record {
     deeds = w.seen;
     stands = stands;
     made = made;
     scripted = scripted;
     recorded = where_both opened.recording s.recorded
-        (λ tag h. subst (λ ps. IsSomeAnd kept (IsRecorded mics mic mic_now [] ps))
+        (λ tag h. subst (λ ps. IsSomeAnd out.kept (IsRecorded k.mics lent.mic lent.mic_now [] ps))
         (sym (pieces_in start.next_track tag s.recorder.number n w.seen s.recorder.seen s.seats.more_recorder
         s.seats.recorder_is
         (list.made n pieces reads v s.script s.recorder s.player w s.seats (quiet opened.pin) own counts).recorder)) h)

@@ -1,5 +1,6 @@
 -- The list of a session, by its makers.
-use Rattle.std.proofs.Common.{◌≡◌, ◌≢◌, ℕ, ◌+◌, ◌<◌, ◌==◌, ◌||◌, Bool, true, false, List, [], ◌∷◌, ◌++◌, length, drop, refl, sym, ◌∙◌, ap, subst, arith, append_assoc, Result, Ok, Err}
+use Rattle.std.proofs.Common.{◌≡◌, ◌≢◌, ℕ, ◌+◌, ◌<◌, ◌==◌, ◌||◌, Bool, true, false, List, [], ◌∷◌, ◌++◌, length, drop}
+use Rattle.std.proofs.Common.{refl, sym, ◌∙◌, ap, subst, arith, append_assoc, Result, Ok, Err}
 use Rattle.std.proofs.lemmas.List.{append-nil}
 use Rattle.std.proofs.Math.Seq.{drop-append_seam}
 use Rattle.pcm_base.specs.declared.answer.Reply.{Reply}
@@ -32,7 +33,8 @@ own_numbers : (seat n : ℕ) (rest added more : List Deed) → rest ≡ added ++
     → numbers_of (by_seat seat) n added ≡ numbers_of (by_seat seat) n rest
 own_numbers seat n rest added more is others = sym (ap (λ (l : List Deed). numbers_of (by_seat seat) n l) is
     ∙ (numbers_append (by_seat seat) n added more
-    ∙ (ap (λ (l : List ℕ). numbers_of (by_seat seat) n added ++ l) (numbers_others seat (number_after n added) more others)
+    ∙ (ap (λ (l : List ℕ). numbers_of (by_seat seat) n added ++ l)
+    (numbers_others seat (number_after n added) more others)
     ∙ append-nil (numbers_of (by_seat seat) n added))))
 
 -- and so are its deeds
@@ -72,13 +74,15 @@ splits : (s : Seats) (reads : Call → Type 0) → ((c : Call) → reads c → c
     → Each (λ e. is_by s e ≡ true) es → Asks reads s.player es → SplitsIn (by_seat s.script) (by_seat s.recorder) es
 splits s reads quiet [] apart any asks = tt
 splits s reads quiet (e ∷ es) apart any asks = (
-  (λ commit. split_one s reads quiet e apart (by_seat s.script e) (by_seat s.recorder e) (by_seat s.player e) refl refl refl
+  (λ commit. split_one s reads quiet e apart (by_seat s.script e) (by_seat s.recorder e)
+      (by_seat s.player e) refl refl refl
       any.0 asks.0 commit),
   splits s reads quiet es apart any.1 asks.1,
 )
 
 -- of the deeds that neither of two later seats made, each is by the first
-only_first : (s : Seats) (e : Deed) → e.actor < s.recorder → e.actor < s.player → (a b c : Bool) → by_seat s.script e ≡ a
+only_first : (s : Seats) (e : Deed) → e.actor < s.recorder → e.actor < s.player → (a b c : Bool)
+    → by_seat s.script e ≡ a
     → by_seat s.recorder e ≡ b → by_seat s.player e ≡ c → (a || (b || c)) ≡ true → a ≡ true
 only_first s e low low' true b c x y z any = refl
 only_first s e low low' false true c x y z any =
@@ -100,7 +104,8 @@ pub all_numbers : (kind : Deed → Bool) (n : ℕ) (es : List Deed) → Each (λ
     → numbers_of kind n es ≡ numbers_of any_seat n es
 all_numbers kind n [] h = refl
 all_numbers kind n (e ∷ es) h =
-    (λ i. number_if (h.0 i) (is_commit e) (raised (is_commit e) n) ++ all_numbers kind (raised (is_commit e) n) es h.1 i)
+    (λ i. number_if (h.0 i) (is_commit e) (raised (is_commit e) n)
+    ++ all_numbers kind (raised (is_commit e) n) es h.1 i)
 
 module _ {D V : Type 0} (first : ℕ) (pieces reads : Call → Type 0) (v script recorder player w : View (Held D V) Deed)
     (h : Rejoined pieces reads v script recorder player w) (quiet : (c : Call) → reads c → commits_of c ≡ 0)
@@ -178,7 +183,8 @@ module _ {D V : Type 0} (first : ℕ) (pieces reads : Call → Type 0) (v script
   pub script_deeds : deeds_of (by_seat v.number) h.by_script.added ≡ deeds_of (by_seat v.number) rest
   script_deeds = own_deeds_in v.number rest h.by_script.added h.more_script refl made.script
 
-  pub script_numbers : (n : ℕ) → numbers_of (by_seat v.number) n h.by_script.added ≡ numbers_of (by_seat v.number) n rest
+  pub script_numbers : (n : ℕ)
+      → numbers_of (by_seat v.number) n h.by_script.added ≡ numbers_of (by_seat v.number) n rest
   script_numbers n = own_numbers v.number n rest h.by_script.added h.more_script refl made.script
 
   pub merged : Merged first w.seen v.number recorder.number (numbers_of any_seat first v.seen)

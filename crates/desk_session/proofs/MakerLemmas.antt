@@ -1,5 +1,6 @@
 -- Whose the deeds of a list are, by the places of the turns of three seats.
-use Rattle.std.proofs.Common.{◌≡◌, ℕ, ◌+◌, ◌<◌, ◌≤◌, ◌||◌, if◌then◌else◌, Bool, true, false, List, [], ◌∷◌, ◌++◌, length, refl, sym, ◌∙◌, ap, arith}
+use Rattle.std.proofs.Common.{◌≡◌, ℕ, ◌+◌, ◌<◌, ◌≤◌, ◌||◌, if◌then◌else◌, Bool, true, false, List, [], ◌∷◌, ◌++◌}
+use Rattle.std.proofs.Common.{length, refl, sym, ◌∙◌, ap, arith}
 use Rattle.std.proofs.lemmas.Bool.Decides.{nat_tests}
 use Rattle.pin_turn.specs.Counts.{Each, once_below, times}
 use Rattle.pin_turn.proofs.Sums.{times-append}
@@ -25,13 +26,16 @@ no_earlier kind n k [] h = refl
 no_earlier kind n k (e ∷ es) h =
     let later = no_earlier kind n (k + 1) es (omega (arith, h)) in
     let here = before (kind e) n k h in
-    let both = times-append n (if kind e then k ∷ [] else []) (places_of kind (k + 1) es) in omega (arith, later, here, both)
+    let both = times-append n (if kind e then k ∷ [] else []) (places_of kind (k + 1) es) in
+    omega (arith, later, here, both)
 
-at_first : (kind : Deed → Bool) (k : ℕ) (e : Deed) (es : List Deed) → times k (places_of kind k (e ∷ es)) ≡ one_if (kind e)
+at_first : (kind : Deed → Bool) (k : ℕ) (e : Deed) (es : List Deed)
+    → times k (places_of kind k (e ∷ es)) ≡ one_if (kind e)
 at_first kind k e es =
     let later = no_earlier kind k (k + 1) es (omega arith) in
     let here = times_at (kind e) k in
-    let both = times-append k (if kind e then k ∷ [] else []) (places_of kind (k + 1) es) in omega (arith, later, here, both)
+    let both = times-append k (if kind e then k ∷ [] else []) (places_of kind (k + 1) es) in
+    omega (arith, later, here, both)
 
 behind : (kind : Deed → Bool) (n k : ℕ) (e : Deed) (es : List Deed) → k < n
     → times n (places_of kind k (e ∷ es)) ≡ times n (places_of kind (k + 1) es)

@@ -1,5 +1,6 @@
 -- What the turns of an opening add to the list.
-use Rattle.std.proofs.Common.{◌≡◌, inl, inr, ⊎_elim, ℕ, ◌≤◌, max, if◌then◌else◌, Bool, List, [], ◌∷◌, ◌++◌, Option, Some, None, Result, Ok, Err, refl, sym, ◌∙◌, ap, subst, arith, append_assoc, eq-eqb}
+use Rattle.std.proofs.Common.{◌≡◌, inl, inr, ⊎_elim, ℕ, ◌≤◌, max, if◌then◌else◌, Bool, List, [], ◌∷◌, ◌++◌, Option}
+use Rattle.std.proofs.Common.{Some, None, Result, Ok, Err, refl, sym, ◌∙◌, ap, subst, arith, append_assoc, eq-eqb}
 use Rattle.std.proofs.lemmas.List.{append-nil}
 use Rattle.pcm_base.specs.declared.answer.Reply.{Reply}
 use Rattle.pcm_base.specs.declared.answer.Reply.TheVariants as reply
@@ -24,7 +25,8 @@ use Rattle.studio_seats.proofs.MergeLemmas.{deeds_append, deeds_others, numbers_
 use Rattle.studio_seats.proofs.OnwardLemmas.{onward_on, onward_self, onward_turn}
 use Rattle.studio_seats.proofs.Turns.{number_on}
 use Rattle.desk_session.specs.declared.opening.Opened.{Opened}
-use Rattle.desk_session.specs.Opening.{IfMade, IsOpening, Opens, OpensPart, OwnDeed, PinDeed, TellsNumber, TrackDeed, record_commits}
+use Rattle.desk_session.specs.Opening.{IfMade, IsOpening, Opens, OpensPart, OwnDeed, PinDeed, TellsNumber, TrackDeed}
+use Rattle.desk_session.specs.Opening.{record_commits}
 use Rattle.desk_session.proofs.ListLemmas.{same_rest}
 
 own_one : (seat : ℕ) (call : Call) (what : Result Reply Refusal)
@@ -32,7 +34,8 @@ own_one : (seat : ℕ) (call : Call) (what : Result Reply Refusal)
 own_one seat call what =
     ap (λ (b : Bool). (if b then deed seat call what silent ∷ [] else []) ++ []) (eq-eqb seat seat refl)
 
-number_one : (seat n : ℕ) (call : Call) (what : Result Reply Refusal) → numbers_of (by_seat seat) n (deed seat call what silent ∷ [])
+number_one : (seat n : ℕ) (call : Call) (what : Result Reply Refusal)
+    → numbers_of (by_seat seat) n (deed seat call what silent ∷ [])
     ≡ (if commits what call then raised (commits what call) n ∷ [] else [])
 number_one seat n call what =
     ap (λ (b : Bool). number_if b (commits what call) (raised (commits what call) n) ++ []) (eq-eqb seat seat refl)
@@ -45,8 +48,10 @@ nothing_more xs ys h = same_rest xs ys [] (sym h ∙ sym (append-nil xs))
 abbrev numbers_told : Bool → ℕ → List ℕ
 numbers_told commit at = if commit then at ∷ [] else []
 
-module _ {D V A : Type 0} (disk : Ghosts D) (vaults : vault.Ghosts V) (start : Core D) (v w : View (Held D V) Deed) (call : Call)
-    (what : Result Reply Refusal) (said : Said A) (fit : IsOpening call) (none : (why : Refusal) → said.what ≡ Err why → what ≡ Err why) where
+module _ {D V A : Type 0} (disk : Ghosts D) (vaults : vault.Ghosts V) (start : Core D) (v w : View (Held D V) Deed)
+    (call : Call)
+    (what : Result Reply Refusal) (said : Said A) (fit : IsOpening call)
+    (none : (why : Refusal) → said.what ≡ Err why → what ≡ Err why) where
   turned : (x : Turned disk vaults start v call what silent said.at w)
       → OpensPart start.commit_number (OwnDeed v.number call what) (numbers_told (commits what call) said.at) v w
   turned x =
@@ -75,7 +80,8 @@ module _ {D V A : Type 0} (disk : Ghosts D) (vaults : vault.Ghosts V) (start : C
       let n = v.number in
       let m = number_after start.commit_number v.seen in
       let on = onward_turn IsOpening disk vaults start v w call what silent said fit (inr x) in
-      let is : on.added ≡ [] = nothing_more v.seen on.added (sym (ap (λ (z : View (Held D V) Deed). z.seen) x.view) ∙ on.seen) in
+      let is : on.added ≡ [] =
+      nothing_more v.seen on.added (sym (ap (λ (z : View (Held D V) Deed). z.seen) x.view) ∙ on.seen) in
       let refused : what ≡ Err spent = none spent x.what in
       record {
         onward = on;
@@ -101,11 +107,16 @@ opens_none {D} {V} first v =
     }
 
 -- the same of a call, told in other words
-pub opens_as : {D V : Type 0} (first : ℕ) (One Other : List Deed → Type 0) (numbers others : List ℕ) (v w : View (Held D V) Deed)
+pub opens_as : {D V : Type 0} (first : ℕ) (One Other : List Deed → Type 0) (numbers others : List ℕ)
+    (v w : View (Held D V) Deed)
     → ((own : List Deed) → One own → Other own) → numbers ≡ others → OpensPart first One numbers v w
     → OpensPart first Other others v w
 opens_as first One Other numbers others v w f is h =
-    record { onward = h.onward; own = f (deeds_of (by_seat v.number) h.onward.added) h.own; numbers_are = h.numbers_are ∙ is }
+    record {
+      onward = h.onward;
+      own = f (deeds_of (by_seat v.number) h.onward.added) h.own;
+      numbers_are = h.numbers_are ∙ is;
+    }
 
 -- both, one behind the other
 pub opens_both : {D V : Type 0} (first : ℕ) (opened : Opened) (u v w : View (Held D V) Deed)
@@ -120,7 +131,8 @@ opens_both {D} {V} first opened u v w h k =
     (sym on.seen ∙ (k.onward.seen ∙ (ap (λ (l : List Deed). l ++ k.onward.added) h.onward.seen
     ∙ append_assoc u.seen h.onward.added k.onward.added))) in
     let later : numbers_of (by_seat n) (number_after m h.onward.added) k.onward.added ≡ [] =
-    (λ i. numbers_of (by_seat (sym same i)) ((sym (number_append first u.seen h.onward.added) ∙ sym (ap (number_after first) h.onward.seen)) i) k.onward.added)
+    (λ i. numbers_of (by_seat (sym same i)) ((sym (number_append first u.seen h.onward.added)
+    ∙ sym (ap (number_after first) h.onward.seen)) i) k.onward.added)
     ∙ k.numbers_are in
     record {
       onward = on;
@@ -135,7 +147,8 @@ opens_both {D} {V} first opened u v w h k =
 
 -- a tag that is no higher than a number to which deeds lead stays so
 pub tag_on : (made : Option (Result ℕ Refusal)) (first : ℕ) (seen seen' more : List Deed) → seen' ≡ seen ++ more
-    → IfMade made (λ tag. (1 ≤ tag) × (tag ≤ number_after first seen)) → IfMade made (λ tag. (1 ≤ tag) × (tag ≤ number_after first seen'))
+    → IfMade made (λ tag. (1 ≤ tag) × (tag ≤ number_after first seen))
+    → IfMade made (λ tag. (1 ≤ tag) × (tag ≤ number_after first seen'))
 tag_on None first seen seen' more is h = tt
 tag_on (Some (Ok tag)) first seen seen' more is h =
     let on = number_on first seen more in
@@ -143,7 +156,8 @@ tag_on (Some (Ok tag)) first seen seen' more is h =
     let low = h.1 in (h.0, omega (arith, low, on, same))
 tag_on (Some (Err why)) first seen seen' more is h = tt
 
-module _ {D V A : Type 0} (disk : Ghosts D) (vaults : vault.Ghosts V) (start : Core D) (v w : View (Held D V) Deed) (call : Call)
+module _ {D V A : Type 0} (disk : Ghosts D) (vaults : vault.Ghosts V) (start : Core D) (v w : View (Held D V) Deed)
+    (call : Call)
     (what : Result Reply Refusal) (said : Said A) where
   told_turn : (x : Turned disk vaults start v call what silent said.at w) → TellsNumber start.commit_number v said.at w
   told_turn x = λ last is.
@@ -173,7 +187,8 @@ module _ {D V A : Type 0} (disk : Ghosts D) (vaults : vault.Ghosts V) (start : C
   abbrev told : Result Reply Refusal
   told = told_by f said.what
 
-  called : OpensPart start.commit_number (OwnDeed v.number (Line Track) told) (numbers_told (commits told (Line Track)) said.at) v w
+  called : OpensPart start.commit_number (OwnDeed v.number (Line Track) told)
+      (numbers_told (commits told (Line Track)) said.at) v w
   called = opens_call disk vaults start v w (Line Track) told said (inl refl)
       (λ why is. ap (λ (r : Result A Refusal). told_by f r) is) says
 
@@ -202,7 +217,8 @@ no_numbers (Ok pin) at = refl
 no_numbers (Err why) at = refl
 
 -- a pin
-pub pinned : {D V : Type 0} (disk : Ghosts D) (vaults : vault.Ghosts V) (start : Core D) (v w : View (Held D V) Deed) (said : Said ℕ)
+pub pinned : {D V : Type 0} (disk : Ghosts D) (vaults : vault.Ghosts V) (start : Core D) (v w : View (Held D V) Deed)
+    (said : Said ℕ)
     → Says disk vaults start v Pin (told_by reply.Pinned said.what) silent said w
     → OpensPart start.commit_number (PinDeed v.number (Some said.what)) [] v w
 pinned {D} {V} disk vaults start v w said says =

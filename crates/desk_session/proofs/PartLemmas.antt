@@ -1,5 +1,6 @@
 -- What three seats have seen together.
-use Rattle.std.proofs.Common.{◌≡◌, ◌≢◌, ℕ, ◌+◌, ◌<◌, ◌≤◌, ◌==◌, ◌||◌, if◌then◌else◌, Bool, true, false, List, [], ◌∷◌, ◌++◌, length, sym, ◌∙◌, ap, subst, refl, arith}
+use Rattle.std.proofs.Common.{◌≡◌, ◌≢◌, ℕ, ◌+◌, ◌<◌, ◌≤◌, ◌==◌, ◌||◌, if◌then◌else◌, Bool, true, false, List, [], ◌∷◌}
+use Rattle.std.proofs.Common.{◌++◌, length, sym, ◌∙◌, ap, subst, refl, arith}
 use Rattle.std.proofs.lemmas.Bool.Decides.{nat_tests}
 use Rattle.std.proofs.lemmas.List.{length-append}
 use Rattle.pin_turn.specs.Counts.{Each, times}
@@ -15,7 +16,8 @@ use Rattle.desk_session.proofs.MakerLemmas.{each_has, sum_of, times_if}
 
 pub places_behind : (kind : Deed → Bool) (xs more : List Deed)
     → places_of kind 0 (xs ++ more) ≡ places_of kind 0 xs ++ places_of kind (length xs) more
-places_behind kind xs more = places_append kind 0 xs more ∙ ap (λ (n : ℕ). places_of kind 0 xs ++ places_of kind n more) (omega arith)
+places_behind kind xs more =
+    places_append kind 0 xs more ∙ ap (λ (n : ℕ). places_of kind 0 xs ++ places_of kind n more) (omega arith)
 
 pub same_seat : (a b : ℕ) → (a == b) ≡ true → a ≡ b
 same_seat a b h = grind (arith, nat_tests)
@@ -25,10 +27,12 @@ no_later kind n k [] h = refl
 no_later kind n k (e ∷ es) h =
     let later = no_later kind n (k + 1) es (omega (arith, h)) in
     let here = times_if (kind e) k n (omega (arith, h)) in
-    let both = times-append n (if kind e then k ∷ [] else []) (places_of kind (k + 1) es) in omega (arith, later, here, both)
+    let both = times-append n (if kind e then k ∷ [] else []) (places_of kind (k + 1) es) in
+    omega (arith, later, here, both)
 
 times_of : (kind : Deed → Bool) (n : ℕ) (xs more : List Deed)
-    → times n (places_of kind 0 (xs ++ more)) ≡ times n (places_of kind 0 xs) + times n (places_of kind (length xs) more)
+    → times n (places_of kind 0 (xs ++ more))
+    ≡ times n (places_of kind 0 xs) + times n (places_of kind (length xs) more)
 times_of kind n xs more =
     ap (times n) (places_behind kind xs more) ∙ times-append n (places_of kind 0 xs) (places_of kind (length xs) more)
 

@@ -1,5 +1,6 @@
 -- The numbers of a recording are those of its commits.
-use Rattle.std.proofs.Common.{◌≡◌, ℕ, ◌<◌, ◌≤◌, ◌==◌, ◌&&◌, ℤ, Bool, true, false, List, [], ◌∷◌, ◌++◌, length, take, Option, Some, None, refl, sym, ◌∙◌, ap, subst, arith, eq-eqb}
+use Rattle.std.proofs.Common.{◌≡◌, ℕ, ◌<◌, ◌≤◌, ◌==◌, ◌&&◌, ℤ, Bool, true, false, List, [], ◌∷◌, ◌++◌, length, take}
+use Rattle.std.proofs.Common.{Option, Some, None, refl, sym, ◌∙◌, ap, subst, arith, eq-eqb}
 use Rattle.std.specs.List.{zip}
 use Rattle.std.proofs.lemmas.List.{append-nil}
 use Rattle.pcm_base.specs.declared.command.Call.{Call}
@@ -78,7 +79,8 @@ module _ {D V : Type 0} (first track tag : ℕ) (v w : View (Held D V) Deed) (h 
   no_pieces = pieces_others track tag w.number first v.seen (lower w.number v.seen h.unseen)
 
   pub piece_commits : (told : Option Refusal) (numbers : List ℕ) (samples : ℕ) (refused : Option Refusal)
-      (chunks : List (List ℤ)) → Takes [] (pieces_by track tag w.number first w.seen) told numbers samples refused chunks
+      (chunks : List (List ℤ))
+      → Takes [] (pieces_by track tag w.number first w.seen) told numbers samples refused chunks
       → numbers ≡ numbers_of (by_seat w.number) (number_after first v.seen) h.part.added
   piece_commits told numbers samples refused chunks t =
       let seat = w.number in

@@ -1,5 +1,6 @@
 -- A seat is split in three, and joined again.
-use Rattle.std.proofs.Common.{◌≡◌, ◌⊎◌, ⊎_elim, ℕ, ◌<◌, List, [], ◌∷◌, ◌++◌, length, sym, ◌∙◌, ap, subst, arith, append_assoc}
+use Rattle.std.proofs.Common.{◌≡◌, ◌⊎◌, ⊎_elim, ℕ, ◌<◌, List, [], ◌∷◌, ◌++◌, length, sym, ◌∙◌, ap, subst, arith}
+use Rattle.std.proofs.Common.{append_assoc}
 use Rattle.std.proofs.lemmas.Bool.Decides.{nat_tests}
 use Rattle.std.proofs.lemmas.List.{append-nil}
 use Rattle.pcm_base.specs.declared.command.Call.{Call}
@@ -90,7 +91,8 @@ module _ {D V : Type 0} where
       (new2 : p ≡ record v1 { number = p.number; mine = []; away = [] }) (number2 : IsNewNumber actor_of v1 p.number)
       (on : Onward IsLine v2 script) (rec : Onward pieces r recorder) (play : Onward reads p player) where
     -- the player's seat may be taken in
-    pub first_join : (0 < times player.number script.away) × (player.away ≡ []) × ((joined script player).away ≡ v1.away)
+    pub first_join : (0 < times player.number script.away) × (player.away ≡ [])
+        × ((joined script player).away ≡ v1.away)
     first_join = rejoins actor_of v1 v2 script p player kept2 new2 number2 on.away play.number play.away
 
     -- and then the recorder's

@@ -1,5 +1,6 @@
 -- What each seat of a session asked, by what was opened for it.
-use Rattle.std.proofs.Common.{◌≡◌, inl, inr, ℕ, ◌<◌, List, [], ◌∷◌, Option, Some, None, Result, Ok, Err, sym, ◌∙◌, ap, subst}
+use Rattle.std.proofs.Common.{◌≡◌, inl, inr, ℕ, ◌<◌, List, [], ◌∷◌, Option, Some, None, Result, Ok, Err, sym, ◌∙◌, ap}
+use Rattle.std.proofs.Common.{subst}
 use Rattle.pcm_base.specs.declared.command.Call.{Call}
 use Rattle.pcm_base.specs.declared.command.Call.TheVariants.{Unpin}
 use Rattle.pcm_base.specs.declared.refusal.Refusal.{Refusal}
@@ -35,9 +36,11 @@ module _ {D V : Type 0} where
   pub recorder_goes : (made : Option (Result ℕ Refusal)) (track : ℕ) (v w : View (Held D V) Deed)
       → WhereMade made (λ tag. Onward (IsPieceOf track tag) v w) (w ≡ v) → Onward (record_calls track made) v w
   recorder_goes None track v w h =
-      subst (λ (z : View (Held D V) Deed). Onward (record_calls track None) v z) (sym h) (onward_self (record_calls track None) v)
+      subst (λ (z : View (Held D V) Deed). Onward (record_calls track None) v z) (sym h)
+      (onward_self (record_calls track None) v)
   recorder_goes (Some (Ok tag)) track v w h = h
-  recorder_goes (Some (Err why)) track v w h = subst (λ (z : View (Held D V) Deed). Onward (record_calls track (Some (Err why))) v z)
+  recorder_goes (Some (Err why)) track v w h =
+      subst (λ (z : View (Held D V) Deed). Onward (record_calls track (Some (Err why))) v z)
       (sym h) (onward_self (record_calls track (Some (Err why))) v)
 
   idle : (fits : Call → Type 0) (v u w : View (Held D V) Deed) → u ≡ v → w ≡ u → Onward fits v w
@@ -53,7 +56,9 @@ module _ {D V : Type 0} where
   player_goes (Some (Err why)) v u w h k = idle (play_calls (Some (Err why))) v u w h k
 
   -- a seat that was split off has no pieces yet
-  pub no_piece : (track tag first : ℕ) (v o : View (Held D V) Deed) → o ≡ record v { number = o.number; mine = []; away = [] }
+  pub no_piece : (track tag first : ℕ) (v o : View (Held D V) Deed)
+      → o ≡ record v { number = o.number; mine = []; away = [] }
       → Each (λ e. e.actor < o.number) v.seen → pieces_by track tag o.number first o.seen ≡ []
   no_piece track tag first v o new unseen = pieces_others track tag o.number first o.seen (lower o.number o.seen
-      (subst (λ (l : List Deed). Each (λ e. e.actor < o.number) l) (sym (ap (λ (z : View (Held D V) Deed). z.seen) new)) unseen))
+      (subst (λ (l : List Deed). Each (λ e. e.actor < o.number) l)
+      (sym (ap (λ (z : View (Held D V) Deed). z.seen) new)) unseen))

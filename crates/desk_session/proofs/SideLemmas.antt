@@ -6,7 +6,8 @@ use Rattle.sound_session.specs.IfGiven.{IfGiven}
 use Rattle.desk_session.specs.Opening.{WhereMade}
 use Rattle.desk_session.specs.Sides.{Lends}
 
-module _ {X W R A : Type 0} (Works : X → W → Type 0) (Rests : R → Type 0) (OfWork : W → A → Type 0) (OfDone : A → Type 0)
+module _ {X W R A : Type 0} (Works : X → W → Type 0) (Rests : R → Type 0) (OfWork : W → A → Type 0)
+    (OfDone : A → Type 0)
     (OfRest : R → Type 0) where
   -- what the work of a side led to
   abbrev pub DidWork : X → Type 0

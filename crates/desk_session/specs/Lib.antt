@@ -4,5 +4,6 @@ pub mod Parts
 pub mod Opening
 pub mod Sides
 pub mod Sounds
+pub mod Lent
 pub mod Sat
 pub mod Sessions

@@ -57,7 +57,8 @@ module _ {D V : Type 0} where
   abbrev pub TellsNumber : ℕ → View (Held D V) Deed → ℕ → View (Held D V) Deed → Type 0
   TellsNumber first v at w = (last : ℕ) → last ≡ number_after first v.seen → max last at ≡ number_after first w.seen
 
-  -- A seat went on by one call at most: its deed, and the numbers of its commits, by the number with which the desk began.
+  -- A seat went on by one call at most: its deed, and the numbers of its commits, by the number with which the desk
+  -- began.
   pub record OpensPart (first : ℕ) (IsOwn : List Deed → Type 0) (numbers : List ℕ) (v w : View (Held D V) Deed)
       : Type 0 where
     pub onward : Onward IsOpening v w
@@ -72,7 +73,8 @@ module _ {D V : Type 0} where
     pub own : deeds_of (by_seat v.number) onward.added ≡ track_own ++ pin_own
     pub track : TrackDeed v.number opened.recording track_own
     pub pin : PinDeed v.number opened.pin pin_own
-    pub numbers : numbers_of (by_seat v.number) (number_after first v.seen) onward.added ≡ record_commits opened.recording
+    pub numbers : numbers_of (by_seat v.number) (number_after first v.seen) onward.added
+        ≡ record_commits opened.recording
 
 -- what the recorder's seat asks: pieces of the recording, where there is one
 abbrev pub record_calls : ℕ → Option (Result ℕ Refusal) → Call → Type 0

@@ -4,9 +4,6 @@ use Rattle.std.specs.List.{list_any}
 use Rattle.pcm_base.specs.declared.answer.Answer.{Answer}
 use Rattle.pcm_base.specs.Outside.{Sounds}
 use Rattle.pcm_base.specs.Run.{Follows}
-use Rattle.disk_model.specs.declared.store.Store.{Ghosts}
-use Rattle.edit_ports.specs.declared.sink.Sink as sink
-use Rattle.edit_ports.specs.declared.source.Source as source
 use Rattle.edit_ports.specs.declared.vault.Vault as vault
 use Rattle.edit_ports.specs.Told.{preceded}
 use Rattle.pin_turn.specs.Counts.{Each}
@@ -26,9 +23,8 @@ use Rattle.script_session.specs.Progress.{IsCut, WritesAnswers, outcome_of, says
 use Rattle.script_session.specs.Served.{IsUndisturbed, TellsNoDevice}
 use Rattle.script_session.specs.Session.{Session}
 use Rattle.desk_session.specs.declared.opening.Opened.{Opened}
-use Rattle.desk_session.specs.declared.told.Heard.{Heard}
-use Rattle.desk_session.specs.declared.told.Kept.{Kept}
 use Rattle.desk_session.specs.declared.told.Told.{Told}
+use Rattle.desk_session.specs.Lent.{Kinds, Lent, Outcome}
 use Rattle.desk_session.specs.Makers.{Apart, Seats, is_by}
 use Rattle.desk_session.specs.Opening.{PinDeed, TrackDeed, WhereMade, play_calls, record_calls, record_commits}
 use Rattle.desk_session.specs.Sounds.{IsPlayed, IsRecorded, piece_numbers}
@@ -68,20 +64,20 @@ place_behind first opening used_up tells sounds faults = record {
 
 -- What a script did, of the deeds of a session: the bytes that it read are these lines, their answers were written, and
 -- the deeds of its seat are those of its lines.
-pub record IsScripted {V : Type 0} (vaults : vault.Ghosts V) (first : ℕ) (opening rest : List Deed) (before after : V)
-    (told : Told) (left left_now old new : Option (List ℕ)) : Type 0 where
+pub record IsScripted {V M P : Type 0} (vaults : vault.Ghosts V) (first : ℕ) (opening rest : List Deed)
+    (lent : Lent V M P) (told : Told) : Type 0 where
   pub read : List ℕ
   pub lines : List (List ℕ)
   pub answers : List Answer
-  pub bytes : left ≡ preceded read left_now
-  pub cut : IsCut told.stop read lines left_now
-  pub written : WritesAnswers (outcome_of told.stop) old new answers
+  pub bytes : lent.left ≡ preceded read lent.left_now
+  pub cut : IsCut told.stop read lines lent.left_now
+  pub written : WritesAnswers (outcome_of told.stop) lent.written lent.written_now answers
   pub no : told.refused ≡ list_any says_no answers
   -- each answer tells the commit number behind its turn, and where it took none the one that was told last
   pub used_up : Bool
   pub last : Place
-  pub session : Session (place_behind first opening used_up (vaults.tells before) (vaults.holds before)
-      (vaults.fault_count before)) lines answers last
+  pub session : Session (place_behind first opening used_up (vaults.tells lent.vault)
+      (vaults.holds lent.vault) (vaults.fault_count lent.vault)) lines answers last
   -- what its seat saw at last begins the list, and behind that nothing is by it
   pub later : List Deed
   pub seen : opening ++ rest ≡ last.seen ++ later
@@ -89,32 +85,31 @@ pub record IsScripted {V : Type 0} (vaults : vault.Ghosts V) (first : ℕ) (open
   pub are : OfLines 0 lines answers (deeds_of (by_seat 0) rest)
   pub numbers : told.commits ≡ numbers_of (by_seat 0) (number_after first opening) rest
   -- the sounds of a vault that tells its bytes follow its deeds
-  pub sounds : IsTrue (vaults.tells before)
-      → Follows (vaults.holds before) (entries_of (deeds_of (by_seat 0) rest)) (vaults.holds after)
+  pub sounds : IsTrue (vaults.tells lent.vault)
+      → Follows (vaults.holds lent.vault) (entries_of (deeds_of (by_seat 0) rest)) (vaults.holds lent.vault_now)
 
 -- A session took the studio from `start` to `final`, which stands for its deeds, in one list: a run of the model.
-pub record IsSession {D V M P : Type 0} (disk : Ghosts D) (vaults : vault.Ghosts V) (mics : source.Ghosts M)
-    (speakers : sink.Ghosts P) (start final : Core D) (before after : V) (mic mic_now : M) (speaker speaker_now : P)
-    (left left_now old new : Option (List ℕ)) (told : Told) (opened : Opened) (kept : Option Kept) (heard : Option Heard)
+pub record IsSession {D V M P : Type 0} (k : Kinds D V M P) (start final : Core D) (lent : Lent V M P) (out : Outcome)
     : Type 0 where
   pub deeds : List Deed
-  pub stands : StandsFor disk (AllTell vaults) start final deeds
-  pub made : IsMadeOf start.next_track opened deeds
-  pub scripted : IsScripted vaults start.commit_number made.opening made.rest before after told left left_now old new
+  pub stands : StandsFor k.disk (AllTell k.vaults) start final deeds
+  pub made : IsMadeOf start.next_track out.opened deeds
+  pub scripted : IsScripted k.vaults start.commit_number made.opening made.rest lent out.told
   -- a recording that was asked for and has its track; else the microphone is as it was
-  pub recorded : WhereMade opened.recording (λ tag. IsSomeAnd kept
-      (IsRecorded mics mic mic_now []
+  pub recorded : WhereMade out.opened.recording (λ tag. IsSomeAnd out.kept
+      (IsRecorded k.mics lent.mic lent.mic_now []
       (pieces_by start.next_track tag made.seats.recorder start.commit_number deeds)))
-      ((kept ≡ None) × (mic_now ≡ mic))
-  -- a playback that was asked for and has its pin, of the mix of the project that was current where it was made; else the
-  -- speaker is as it was
-  pub played : WhereMade opened.pin (λ pin. IsSomeAnd heard
-      (IsPlayed speakers speaker speaker_now (IsMixOf disk vaults start made.opening pin)))
-      ((heard ≡ None) × (speaker_now ≡ speaker))
+      ((out.kept ≡ None) × (lent.mic_now ≡ lent.mic))
+  -- a playback that was asked for and has its pin, of the mix of the project that was current where it was made; else
+  -- the speaker is as it was
+  pub played : WhereMade out.opened.pin (λ pin. IsSomeAnd out.heard
+      (IsPlayed k.speakers lent.speaker lent.speaker_now (IsMixOf k.disk k.vaults start made.opening pin)))
+      ((out.heard ≡ None) × (lent.speaker_now ≡ lent.speaker))
   -- Where no device failed no deed tells of one, and the studio goes on.
-  pub served : IsUndisturbed disk vaults start final (vaults.fault_count before) (vaults.fault_count after)
+  pub served : IsUndisturbed k.disk k.vaults start final (k.vaults.fault_count lent.vault)
+      (k.vaults.fault_count lent.vault_now)
       → AllServed final deeds × Each TellsNoDevice (deeds_of (by_seat 0) made.rest)
-  -- the numbers of the new track, of the script and of the pieces are together all behind the first up to the last, each
-  -- once, and each list rises
-  pub numbers : Numbers start.commit_number final.commit_number (record_commits opened.recording) told.commits
-      (piece_numbers kept)
+  -- the numbers of the new track, of the script and of the pieces are together all behind the first up to the last,
+  -- each once, and each list rises
+  pub numbers : Numbers start.commit_number final.commit_number (record_commits out.opened.recording) out.told.commits
+      (piece_numbers out.kept)

@@ -12,8 +12,8 @@ use Rattle.player_work.specs.Spoken.{Writes}
 use Rattle.desk_session.specs.declared.told.Heard.{Heard}
 use Rattle.desk_session.specs.declared.told.Kept.{Kept}
 
--- These bytes were read of the microphone, up to what stopped it; the pieces of the recording are their chunks, in order
--- and each once, with these numbers, up to the first that was refused.
+-- These bytes were read of the microphone, up to what stopped it; the pieces of the recording are their chunks, in
+-- order and each once, with these numbers, up to the first that was refused.
 pub record IsRecorded {M : Type 0} (mics : source.Ghosts M) (mic mic_now : M) (pieces pieces_now : List (List ℤ × ℕ))
     (kept : Kept) : Type 0 where
   pub bytes : List ℕ
@@ -22,8 +22,8 @@ pub record IsRecorded {M : Type 0} (mics : source.Ghosts M) (mic mic_now : M) (p
   pub told : Option Refusal
   pub takes : Takes pieces pieces_now told kept.numbers kept.samples kept.refused (chunks_of bytes)
 
--- The bytes of these frames were written to the speaker, or where it failed the first; the frames are the first of those
--- that are shown, all of them where no read was refused.
+-- The bytes of these frames were written to the speaker, or where it failed the first; the frames are the first of
+-- those that are shown, all of them where no read was refused.
 pub record IsPlayed {P : Type 0} (speakers : sink.Ghosts P) (speaker speaker_now : P) (shows : List Frame → Type 0)
     (heard : Heard) : Type 0 where
   pub frames : List Frame

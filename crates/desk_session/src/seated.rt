@@ -77,8 +77,8 @@ impl<S: Store, V: Vault> Seated<S, V> {
         })
     }
 
-    /// Makes the track and the pin that are asked for, runs script, recorder and player at once, lets the pin go, and hands
-    /// the studio out. Answers are written, and no last line.
+    /// Makes the track and the pin that are asked for, runs script, recorder and player at once, lets the pin go, and
+    /// hands the studio out. Answers are written, and no last line.
     pub fn run<R, A, O, M, P, G>(
         self,
         rt: &R,
@@ -99,9 +99,27 @@ impl<S: Store, V: Vault> Seated<S, V> {
         M: Source + Send,
         P: Sink + Send,
         G: Gate + Sync,
-        ensures session { IsSession S.Store V.Vault M.Source P.Sink (start_at self.desk) (core_of result.studio) vault.old
-            vault.new mic.old mic.new speaker.old speaker.new (A.left script.old) (A.left script.new) (O.written out.old)
-            (O.written out.new) result.told result.opened result.kept result.heard }
+        ensures session { IsSession
+            (record { disk = S.Store; vaults = V.Vault; mics = M.Source; speakers = P.Sink })
+            (start_at self.desk) (core_of result.studio)
+            (record {
+              vault = vault.old;
+              vault_now = vault.new;
+              mic = mic.old;
+              mic_now = mic.new;
+              speaker = speaker.old;
+              speaker_now = speaker.new;
+              left = A.left script.old;
+              left_now = A.left script.new;
+              written = O.written out.old;
+              written_now = O.written out.new;
+            })
+            (record {
+              told = result.told;
+              opened = result.opened;
+              kept = result.kept;
+              heard = result.heard;
+            }) }
         ensures cause { IsCauseOf result.told.stop (A.fault_count script.old) (A.fault_count script.new)
             (O.fault_count out.old) (O.fault_count out.new) }
         ensures asked { (is_some result.opened.recording ≡ self.beside.records)

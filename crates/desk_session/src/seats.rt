@@ -62,8 +62,8 @@ fn let_go<R: Wait, S: Store, V: Vault>(
     }
 }
 
-/// Runs a script, and beside it a recording and a playback where they were opened, each by a seat of its own, and lets the
-/// pin go behind them.
+/// Runs a script, and beside it a recording and a playback where they were opened, each by a seat of its own, and lets
+/// the pin go behind them.
 pub fn run_seats<
     R: Threads + Wait + Sync,
     S: Store + Send,
@@ -98,9 +98,21 @@ pub fn run_seats<
     requires made { IfMade opened.pin (λ pin. IsTrue (is_made pin (entries_of (known seat).seen))) }
     requires rings { (is_some rings.record ≡ is_some opened.recording) × (is_some rings.play ≡ is_some opened.pin) }
     ensures at { IsAt desk.now result.seat }
-    ensures sat { Sat S.Store V.Vault M.Source P.Sink (start_at desk.now) track opened last (known seat) (known result.seat)
-        vault.old vault.new mic.old mic.new speaker.old speaker.new (A.left script.old) (A.left script.new)
-        (O.written out.old) (O.written out.new) result.told result.kept result.heard }
+    ensures sat { Sat (record { disk = S.Store; vaults = V.Vault; mics = M.Source; speakers = P.Sink })
+        (start_at desk.now) track last (known seat) (known result.seat)
+        (record {
+          vault = vault.old;
+          vault_now = vault.new;
+          mic = mic.old;
+          mic_now = mic.new;
+          speaker = speaker.old;
+          speaker_now = speaker.new;
+          left = A.left script.old;
+          left_now = A.left script.new;
+          written = O.written out.old;
+          written_now = O.written out.new;
+        })
+        (record { told = result.told; opened = opened; kept = result.kept; heard = result.heard }) }
     ensures cause { IsCauseOf result.told.stop (A.fault_count script.old) (A.fault_count script.new)
         (O.fault_count out.old) (O.fault_count out.new) }
 {

@@ -21,7 +21,7 @@ use super::told::{Heard, Kept, Told};
 use disk_model::Store;
 use edit_ports::{Gate, Sink, Source, Vault};
 use script_session::{DeskEditor, LineBuffer, Session};
-use sound_session::run_beside;
+use sound_session::{run_beside, take_back};
 use std::alloc::Global;
 use std::sync::Wait;
 use std::thread::Threads;
@@ -103,7 +103,8 @@ fn lend_work<
         × IsSomeAnd result.0.heard (IsPlayed P.Sink speaker.old result.3.now
         (IsMixOf S.Store V.Vault (start_at desk.now) (known seats.player).seen pin)))
         ((known result.0.seats.player ≡ known seats.player) × (result.0.heard ≡ None) × (result.3.now ≡ speaker.old)) }
-    ensures same_references { (result.1.ghost_name ≡ vault.entry.ghost_name) × (result.2.ghost_name ≡ mic.entry.ghost_name)
+    ensures same_references { (result.1.ghost_name ≡ vault.entry.ghost_name)
+        × (result.2.ghost_name ≡ mic.entry.ghost_name)
         × (result.3.ghost_name ≡ speaker.entry.ghost_name) }
 {
     let Seats {
@@ -153,11 +154,6 @@ fn lend_work<
     };
     (worked, vault, mic, speaker)
 }
-
-// This use of a returned reference ties it to the one that was lent.
-fn take_back<T>(x: &mut T)
-    ensures { x.new ≡ x.old }
-{}
 
 /// Runs the lines, and beside them a recording where there is a track and a playback where there is a pin.
 pub fn run_work<

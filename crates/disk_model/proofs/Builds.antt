@@ -1,5 +1,6 @@
 -- Building a disk file by file.
-use Rattle.std.proofs.Common.{◌≡◌, ◌⊎◌, inl, inr, ⊎_elim, ℕ, ◌+◌, ◌<◌, Option, Some, None, List, [], ◌∷◌, get_or, refl, sym, ◌∙◌, ap, subst, arith}
+use Rattle.std.proofs.Common.{◌≡◌, ◌⊎◌, inl, inr, ⊎_elim, ℕ, ◌+◌, ◌<◌, Option, Some, None, List, [], ◌∷◌, get_or, refl}
+use Rattle.std.proofs.Common.{sym, ◌∙◌, ap, subst, arith}
 use Rattle.std.proofs.lemmas.Bool.{cases_eq}
 use Rattle.disk_model.specs.Disk.{Files, bytes_of, written, SameElsewhere}
 use Rattle.disk_model.specs.History.{Step, Wrote, Synced, Removed, reads_of}
@@ -22,15 +23,18 @@ sets_none file h = record {
   others = elsewhere_removed file h;
   settled = λ only c image.
       let d = image.0.0 in
-      same_files file c (reads_of (Removed file ∷ h)) image.1 (λ o ne. image.0.2.others o ne ∙ ap (λ (f : Files). f o) (only d image.0.1) ∙ sym (elsewhere_removed file h o ne));
+      same_files file c (reads_of (Removed file ∷ h)) image.1 (λ o ne. image.0.2.others o ne
+      ∙ ap (λ (f : Files). f o) (only d image.0.1) ∙ sym (elsewhere_removed file h o ne));
 }
 
-pub sets_some : (file : ℕ) (v : List ℕ) (h : List Step) → SetsFile file (Some v) h (Synced file ∷ Wrote file 0 v ∷ Removed file ∷ h)
+pub sets_some : (file : ℕ) (v : List ℕ) (h : List Step)
+    → SetsFile file (Some v) h (Synced file ∷ Wrote file 0 v ∷ Removed file ∷ h)
 sets_some file v h =
     let gone = reads_removed file h in
     let wrote = reads_written file 0 v (Removed file ∷ h) in
     record {
-      there = wrote ∙ ap (λ (l : List ℕ). Some l) (ap (λ (o : Option (List ℕ)). written (bytes_of o) 0 v) gone ∙ written_new v);
+      there = wrote
+          ∙ ap (λ (l : List ℕ). Some l) (ap (λ (o : Option (List ℕ)). written (bytes_of o) 0 v) gone ∙ written_new v);
       others = λ o ne. reads_elsewhere file 0 v (Removed file ∷ h) o ne ∙ elsewhere_removed file h o ne;
       settled = λ only c image.
           let one = image.0 in
@@ -47,13 +51,16 @@ built_none numbers disk = record {
   settled = λ c image. image;
 }
 
-pub built_start : (numbers : List ℕ) (disk : Files) (row : List ℕ) (calls : List Call) → calls ≡ [] → IsBuilt numbers 0 disk (history_of row calls)
-built_start numbers disk row calls none = subst (λ (l : List Call). IsBuilt numbers 0 disk (history_of row l)) (sym none) (built_none numbers disk)
+pub built_start : (numbers : List ℕ) (disk : Files) (row : List ℕ) (calls : List Call) → calls ≡ []
+    → IsBuilt numbers 0 disk (history_of row calls)
+built_start numbers disk row calls none =
+    subst (λ (l : List Call). IsBuilt numbers 0 disk (history_of row l)) (sym none) (built_none numbers disk)
 
 pub held_start : (n : ℕ) (calls : List Call) → calls ≡ [] → AllHeld n calls
 held_start n calls none = subst (λ (l : List Call). AllHeld n l) (sym none) tt
 
-pub built_next : (numbers : List ℕ) (i : ℕ) (disk : Files) (old new : List Step) (x : Option (List ℕ)) → IsBuilt numbers i disk old → x ≡ disk (get_or numbers i 0) → SetsFile (get_or numbers i 0) x old new
+pub built_next : (numbers : List ℕ) (i : ℕ) (disk : Files) (old new : List Step) (x : Option (List ℕ))
+    → IsBuilt numbers i disk old → x ≡ disk (get_or numbers i 0) → SetsFile (get_or numbers i 0) x old new
     → IsBuilt numbers (i + 1) disk new
 built_next numbers i disk old new x was is sets =
     let file = get_or numbers i 0 in
@@ -63,7 +70,8 @@ built_next numbers i disk old new x was is sets =
           (λ ne. sets.others (get_or numbers k 0) ne
           ∙ ⊎_elim (λ less. was.there k less) (λ e. absurd (ne (ap (λ (j : ℕ). get_or numbers j 0) e))) (below k lt))
           (cases_eq (get_or numbers k 0) file);
-      absent = λ f apart. sets.others f (λ e. apart i (omega arith) (sym e)) ∙ was.absent f (λ k lt. apart k (omega arith));
+      absent =
+          λ f apart. sets.others f (λ e. apart i (omega arith) (sym e)) ∙ was.absent f (λ k lt. apart k (omega arith));
       settled = sets.settled was.settled;
     }
   where
@@ -71,7 +79,9 @@ built_next numbers i disk old new x was is sets =
     below k lt = ⊎_elim (λ e. inr e) (λ ne. inl (omega arith)) (cases_eq k i)
 
 -- the same of histories that are known by equations
-pub sets_written : (file : ℕ) (v : List ℕ) (was removed wrote now : List Step) → removed ≡ Removed file ∷ was → wrote ≡ Wrote file 0 v ∷ removed → now ≡ Synced file ∷ wrote → SetsFile file (Some v) was now
+pub sets_written : (file : ℕ) (v : List ℕ) (was removed wrote now : List Step) → removed ≡ Removed file ∷ was
+    → wrote ≡ Wrote file 0 v ∷ removed → now ≡ Synced file ∷ wrote → SetsFile file (Some v) was now
 sets_written file v was removed wrote now one two three =
-    let whole : now ≡ Synced file ∷ Wrote file 0 v ∷ Removed file ∷ was = three ∙ ap (λ (h : List Step). Synced file ∷ h) (two ∙ ap (λ (h : List Step). Wrote file 0 v ∷ h) one) in
+    let whole : now ≡ Synced file ∷ Wrote file 0 v ∷ Removed file ∷ was =
+    three ∙ ap (λ (h : List Step). Synced file ∷ h) (two ∙ ap (λ (h : List Step). Wrote file 0 v ∷ h) one) in
     subst (λ (h : List Step). SetsFile file (Some v) was h) (sym whole) (sets_some file v was)

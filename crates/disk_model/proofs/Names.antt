@@ -1,5 +1,6 @@
 -- Files that no call wrote or removed.
-use Rattle.std.proofs.Common.{◌≡◌, ◌≢◌, ⊎_elim, ℕ, ◌+◌, ◌<◌, Option, None, List, ◌∷◌, length, get_or, refl, sym, ◌∙◌, ap, subst, arith, true, false}
+use Rattle.std.proofs.Common.{◌≡◌, ◌≢◌, ⊎_elim, ℕ, ◌+◌, ◌<◌, Option, None, List, ◌∷◌, length, get_or, refl, sym, ◌∙◌}
+use Rattle.std.proofs.Common.{ap, subst, arith, true, false}
 use Rattle.std.proofs.lemmas.Bool.{cases_eq}
 use Rattle.std.specs.Prelude.{Contains}
 use Rattle.std.specs.List.Sorted.{IsStrictlyIncreasing, IsStrictlySortedBy}
@@ -22,25 +23,37 @@ use Rattle.disk_model.specs.declared.call.Kind.{Kind}
 use Rattle.disk_model.specs.declared.call.Kind.TheVariants.{Write, Sync, Remove}
 use Rattle.disk_model.proofs.LeftFiles.{wrote_other, synced_here, synced_other, removed_other}
 
-pub still_absent : (k f : ℕ) (s n : BTreeSet ℕ) → Updates nat_cmp s n k true → contains nat_cmp n f ≡ false → (k ≢ f) × (contains nat_cmp s f ≡ false)
+pub still_absent : (k f : ℕ) (s n : BTreeSet ℕ) → Updates nat_cmp s n k true → contains nat_cmp n f ≡ false
+    → (k ≢ f) × (contains nat_cmp s f ≡ false)
 still_absent k f s n u absent = (
   (λ e. let h : contains nat_cmp n k ≡ true = grind (arith, common_steps, nat_tests, u.0 k) in cc (h, absent, e)),
   (let h = u.0 f in grind (arith, common_steps, nat_tests, h, absent)),
 )
 
 -- a call on another file leaves this one
-pub other_next : (k : Kind) (file at : ℕ) (bytes : List ℕ) (h : List Step) (f : ℕ) → file ≢ f → IsUnnamed h f × (reads_of h f ≡ None)
+pub other_next : (k : Kind) (file at : ℕ) (bytes : List ℕ) (h : List Step) (f : ℕ) → file ≢ f
+    → IsUnnamed h f × (reads_of h f ≡ None)
     → IsUnnamed (step_by k file at bytes ∷ h) f × (reads_of (step_by k file at bytes ∷ h) f ≡ None)
-other_next Write file at bytes h f ne was = ((λ choice start. wrote_other choice file at bytes h f start (λ e. ne (sym e)) ∙ was.0 choice start), reads_elsewhere file at bytes h f (λ e. ne (sym e)) ∙ was.1)
-other_next Sync file at bytes h f ne was = ((λ choice start. synced_other choice file h f start (λ e. ne (sym e)) ∙ was.0 choice start), was.1)
-other_next Remove file at bytes h f ne was = ((λ choice start. removed_other choice file h f start (λ e. ne (sym e)) ∙ was.0 choice start), elsewhere_removed file h f (λ e. ne (sym e)) ∙ was.1)
+other_next Write file at bytes h f ne was = (
+  (λ choice start. wrote_other choice file at bytes h f start (λ e. ne (sym e)) ∙ was.0 choice start),
+  reads_elsewhere file at bytes h f (λ e. ne (sym e)) ∙ was.1,
+)
+other_next Sync file at bytes h f ne was =
+    ((λ choice start. synced_other choice file h f start (λ e. ne (sym e)) ∙ was.0 choice start), was.1)
+other_next Remove file at bytes h f ne was = (
+  (λ choice start. removed_other choice file h f start (λ e. ne (sym e)) ∙ was.0 choice start),
+  elsewhere_removed file h f (λ e. ne (sym e)) ∙ was.1,
+)
 
 -- a sync names no file
 pub sync_next : (file at : ℕ) (bytes : List ℕ) (h : List Step) (f : ℕ) → IsUnnamed h f × (reads_of h f ≡ None)
     → IsUnnamed (step_by Sync file at bytes ∷ h) f × (reads_of (step_by Sync file at bytes ∷ h) f ≡ None)
 sync_next file at bytes h f was = ⊎_elim
     (λ same. (
-      (λ choice start. subst (λ (g : ℕ). left_of choice f (Synced g ∷ h) start ≡ record { content = None; state = start }) same
+      (λ choice start. subst (λ (g : ℕ). left_of choice f (Synced g ∷ h) start ≡ record {
+        content = None;
+        state = start;
+      }) same
           (synced_here choice h f start ∙ ap (λ (o : Option (List ℕ)). record { content = o; state = start }) was.1)),
       was.1,
     ))
@@ -48,7 +61,8 @@ sync_next file at bytes h f was = ⊎_elim
     (cases_eq f file)
 
 -- the keys of a set are what it contains
-pub not_listed : (s : BTreeSet ℕ) (numbers : List ℕ) (f : ℕ) → numbers ≡ s.keys → (Contains numbers f → ⊥) → contains nat_cmp s f ≡ false
+pub not_listed : (s : BTreeSet ℕ) (numbers : List ℕ) (f : ℕ) → numbers ≡ s.keys → (Contains numbers f → ⊥)
+    → contains nat_cmp s f ≡ false
 not_listed s numbers f is out =
     let both = btree_set_contains_iff nat_cmp_total exact_unsigned s f in
     elim (contains nat_cmp s f) as (λ b. contains nat_cmp s f ≡ b → contains nat_cmp s f ≡ false) [
@@ -57,7 +71,8 @@ not_listed s numbers f is out =
     ] refl
 
 -- what is built is the disk, where that has no other files
-pub built_all : (s : BTreeSet ℕ) (numbers : List ℕ) (disk : Files) (new : List Step) → numbers ≡ s.keys → ((f : ℕ) → contains nat_cmp s f ≡ false → disk f ≡ None)
+pub built_all : (s : BTreeSet ℕ) (numbers : List ℕ) (disk : Files) (new : List Step) → numbers ≡ s.keys
+    → ((f : ℕ) → contains nat_cmp s f ≡ false → disk f ≡ None)
     → IsBuilt numbers (length numbers) disk new → reads_of new ≡ disk
 built_all s numbers disk new is none built = λ i f. each f i
   where
@@ -83,4 +98,5 @@ built_all s numbers disk new is none built = λ i f. each f i
 
 -- the keys of a set rise
 pub keys_rise : (out keys : List ℕ) → out ≡ keys → IsStrictlySortedBy nat_cmp keys → IsStrictlyIncreasing out
-keys_rise out keys is ordered = subst IsStrictlyIncreasing (sym is) (λ k lt. below_from_sorted keys k (k + 1) 0 ordered (omega arith) lt)
+keys_rise out keys is ordered =
+    subst IsStrictlyIncreasing (sym is) (λ k lt. below_from_sorted keys k (k + 1) 0 ordered (omega arith) lt)

@@ -35,7 +35,8 @@ over_on less more before now le later (inl over) = inl (omega (arith, over))
 over_on less more before now le later (inr end) = inr (omega (arith, end))
 
 -- what is spent of as much room, or when less was asked, is spent
-pub spent_on : (a b : Option Room) (before now : Room) → StaysRoom a b → IsWithin before now → IsSpent b before → IsSpent a now
+pub spent_on : (a b : Option Room) (before now : Room) → StaysRoom a b → IsWithin before now → IsSpent b before
+    → IsSpent a now
 spent_on None b before now stays later spent = tt
 spent_on (Some a) None before now stays later spent = absurd stays
 spent_on (Some a) (Some b) before now stays later spent = ⊎_elim

@@ -1,5 +1,6 @@
 -- The history that a list of calls and a row of bytes stand for.
-use Rattle.std.specs.Prelude.{◌≡◌, ℕ, ◌+◌, ◌^◌, ◌≤◌, ◌<◌, slice_index, Option, Some, None, Vec, List, [], ◌∷◌, length, take, drop}
+use Rattle.std.specs.Prelude.{◌≡◌, ℕ, ◌+◌, ◌^◌, ◌≤◌, ◌<◌, slice_index, Option, Some, None, Vec, List, [], ◌∷◌, length}
+use Rattle.std.specs.Prelude.{take, drop}
 use Rattle.std.specs.declared.alloc.Global.{Global}
 use Rattle.disk_model.specs.History.{Step, Wrote, Synced, Removed}
 use Rattle.disk_model.specs.declared.call.Kind.{Kind}

@@ -1,5 +1,6 @@
 -- What the calls of a store do to its files, and what a stop of the machine may leave.
-use Rattle.std.specs.Prelude.{◌≡◌, ◌⊎◌, ℕ, ◌+◌, ◌-◌, ◌≤◌, ◌≢◌, min, max, Option, Some, None, List, [], ◌++◌, length, take, drop, replicate}
+use Rattle.std.specs.Prelude.{◌≡◌, ◌⊎◌, ℕ, ◌+◌, ◌-◌, ◌≤◌, ◌≢◌, min, max, Option, Some, None, List, [], ◌++◌, length}
+use Rattle.std.specs.Prelude.{take, drop, replicate}
 use Rattle.disk_model.specs.Moment.{Moment, IsUpTo}
 
 -- the bytes of each file, by its number; None where it is absent
@@ -49,7 +50,8 @@ StaysStep old new = new ≡ old
 
 -- Images before and after a call (or after several): `past` and `since` give those that a stop at any moment
 -- since a given one may leave, and `before` and `now` are the moments.
-pub record Follows (step : Files → Files → Type 0) (before now : Moment) (past since : Moment → Files → Type 0) : Type 0 where
+pub record Follows (step : Files → Files → Type 0) (before now : Moment)
+    (past since : Moment → Files → Type 0) : Type 0 where
   pub later : IsUpTo before now
   -- a later start has fewer moments
   pub fewer : (t u : Moment) (c : Files) → IsUpTo t u → IsUpTo u now → since u c → since t c

@@ -6,7 +6,8 @@ use Rattle.disk_model.specs.declared.store.Store.{Ghosts}
 
 -- what was asked of a store so far
 abbrev pub asked : {D : Type 0} → Ghosts D → D → Room
-asked disk store = record { files = disk.absent_writes store; bytes = disk.asked_bytes store; calls = disk.change_calls store }
+asked disk store =
+    record { files = disk.absent_writes store; bytes = disk.asked_bytes store; calls = disk.change_calls store }
 
 -- Reads: nothing of the disk changes, and no changing call is counted. A disk with room has counted no failed read.
 pub record Kept {D : Type 0} (disk : Ghosts D) (old new : D) : Type 0 where
@@ -24,7 +25,8 @@ pub record Kept {D : Type 0} (disk : Ghosts D) (old new : D) : Type 0 where
 
 -- Calls of any kind, which do no more than this step to what is read and to what a stop may leave, and ask no more of
 -- the disk than so much. A disk with room has counted a fault only where more was asked of it in all.
-pub record Changed {D : Type 0} (disk : Ghosts D) (step : Files → Files → Type 0) (much : Room) (old new : D) : Type 0 where
+pub record Changed {D : Type 0} (disk : Ghosts D) (step : Files → Files → Type 0) (much : Room)
+    (old new : D) : Type 0 where
   pub tells : disk.tells new ≡ disk.tells old
   pub model : disk.keeps_model new ≡ disk.keeps_model old
   pub reads : IsTrue (disk.tells old) → step (disk.reads old) (disk.reads new)

@@ -1,5 +1,6 @@
 -- What `RamStore::image` leaves: which of the pending calls have reached the disk, by a choice and a generator.
-use Rattle.std.specs.Prelude.{◌≡◌, ℕ, zero, suc, ◌+◌, ◌-◌, ◌*◌, ◌^◌, ◌==◌, if◌then◌else◌, Bool, true, false, Option, Some, None, List, [], ◌∷◌, ◌++◌, length, take, replicate}
+use Rattle.std.specs.Prelude.{◌≡◌, ℕ, zero, suc, ◌+◌, ◌-◌, ◌*◌, ◌^◌, ◌==◌, if◌then◌else◌, Bool, true, false, Option}
+use Rattle.std.specs.Prelude.{Some, None, List, [], ◌∷◌, ◌++◌, length, take, replicate}
 use Rattle.std.specs.Prelude.{◌/◌, ◌%◌}
 use Rattle.disk_model.specs.Disk.{Files, bytes_of, written}
 use Rattle.disk_model.specs.History.{Step, Wrote, Synced, Removed, reads_of}
@@ -26,7 +27,8 @@ laid false old at bytes = old
 
 -- what a write leaves of a file; an absent one is made by either part
 abbrev pub left_by_write : Bool → Bool → Option (List ℕ) → ℕ → List ℕ → Option (List ℕ)
-left_by_write true length_taken old at bytes = Some (laid true (grown length_taken (bytes_of old) (at + length bytes)) at bytes)
+left_by_write true length_taken old at bytes =
+    Some (laid true (grown length_taken (bytes_of old) (at + length bytes)) at bytes)
 left_by_write false true old at bytes = Some (grown true (bytes_of old) (at + length bytes))
 left_by_write false false old at bytes = old
 
@@ -43,7 +45,8 @@ pub record Left : Type 0 where
 -- a pending write has two draws, of its bytes and then of its length
 abbrev pub after_write : ℕ → ℕ → List ℕ → Left → Left
 after_write choice at bytes left = record {
-  content = left_by_write (takes choice (next_state left.state)) (takes choice (next_state (next_state left.state))) left.content at bytes;
+  content = left_by_write (takes choice (next_state left.state))
+      (takes choice (next_state (next_state left.state))) left.content at bytes;
   state = next_state (next_state left.state);
 }
 
@@ -58,9 +61,12 @@ after_removal choice left = record {
 -- sync is not pending, and has none
 abbrev pub left_of : ℕ → ℕ → List Step → ℕ → Left
 left_of choice f [] start = record { content = None; state = start }
-left_of choice f (Wrote file at bytes ∷ earlier) start = if f == file then after_write choice at bytes (left_of choice f earlier start) else left_of choice f earlier start
-left_of choice f (Synced file ∷ earlier) start = if f == file then record { content = reads_of earlier f; state = start } else left_of choice f earlier start
-left_of choice f (Removed file ∷ earlier) start = if f == file then after_removal choice (left_of choice f earlier start) else left_of choice f earlier start
+left_of choice f (Wrote file at bytes ∷ earlier) start =
+    if f == file then after_write choice at bytes (left_of choice f earlier start) else left_of choice f earlier start
+left_of choice f (Synced file ∷ earlier) start =
+    if f == file then record { content = reads_of earlier f; state = start } else left_of choice f earlier start
+left_of choice f (Removed file ∷ earlier) start =
+    if f == file then after_removal choice (left_of choice f earlier start) else left_of choice f earlier start
 
 -- the state at which the draws for a file begin: the choice, after the draws for all files below
 unfoldable pub state_at : ℕ → List Step → ℕ → ℕ

@@ -1,5 +1,6 @@
 -- The index of a list of calls by file.
-use Rattle.std.specs.Prelude.{◌≡◌, ◌≢◌, ℕ, ◌+◌, ◌^◌, ◌≤◌, ◌<◌, ◌==◌, if◌then◌else◌, Option, Some, None, IsSome, IfSome, List, [], ◌∷◌, length, take, slice_index, slice_index_or}
+use Rattle.std.specs.Prelude.{◌≡◌, ◌≢◌, ℕ, ◌+◌, ◌^◌, ◌≤◌, ◌<◌, ◌==◌, if◌then◌else◌, Option, Some, None, IsSome, IfSome}
+use Rattle.std.specs.Prelude.{List, [], ◌∷◌, length, take, slice_index, slice_index_or}
 use Rattle.std.specs.List.{AllPairs}
 use Rattle.std.specs.Option.{option_map}
 use Rattle.disk_model.specs.Disk.{Files}
@@ -52,7 +53,8 @@ pub record IsChain (reads : ℕ → Files) (file_of : ℕ → ℕ) (n : ℕ) (li
   pub begins : file_of head.first ≡ head.file
   pub ends : file_of head.last ≡ head.file
   pub absent : reads head.first head.file ≡ None
-  pub leads : (i : ℕ) → head.first ≤ i → i < head.last → file_of i ≡ head.file → LeadsTo reads file_of head.file i (slice_index links i) head.last
+  pub leads : (i : ℕ) → head.first ≤ i → i < head.last → file_of i ≡ head.file
+      → LeadsTo reads file_of head.file i (slice_index links i) head.last
   pub behind : (i : ℕ) → head.last < i → i < n → file_of i ≢ head.file
   pub rest : reads n head.file ≡ reads (head.last + 1) head.file
 
@@ -66,7 +68,8 @@ pub record IsHead (reads : ℕ → Files) (file_of : ℕ → ℕ) (n : ℕ) (lin
 pub record IsIndexed (reads : ℕ → Files) (file_of : ℕ → ℕ) (n : ℕ) (heads : List Head) (links : List ℕ) : Type 0 where
   pub rising : AreRising heads
   pub long : length links ≡ n
-  pub known : (file : ℕ) (head : Head) → head_of heads file ≡ Some head → (head.file ≡ file) × IsHead reads file_of n links head
+  pub known : (file : ℕ) (head : Head) → head_of heads file ≡ Some head
+      → (head.file ≡ file) × IsHead reads file_of n links head
   pub unknown : (file : ℕ) → head_of heads file ≡ None → reads n file ≡ None
 
 -- the call after the first n makes its file

@@ -39,7 +39,16 @@ IsPast (Some last) n = last < n
 
 -- a tally of no call
 abbrev pub fresh_tally : List ℕ → Tally
-fresh_tally fails = record { made = 0; fails = fails; last = None; read_faults = 0; change_faults = 0; change_calls = 0; asked_bytes = 0; absent_writes = 0 }
+fresh_tally fails = record {
+  made = 0;
+  fails = fails;
+  last = None;
+  read_faults = 0;
+  change_faults = 0;
+  change_calls = 0;
+  asked_bytes = 0;
+  absent_writes = 0;
+}
 
 -- the next call is listed, or comes after the stop
 abbrev pub IsDue : Tally → Type 0
@@ -54,7 +63,8 @@ with_change tally = record tally { made = counted tally.made; change_calls = rai
 
 -- what a write of so many bytes to a file asks, whose content or size is this
 abbrev pub with_asked : {A : Type 0} → Tally → Option A → ℕ → Tally
-with_asked tally there n = record tally { asked_bytes = raised tally.asked_bytes n; absent_writes = met there tally.absent_writes }
+with_asked tally there n =
+    record tally { asked_bytes = raised tally.asked_bytes n; absent_writes = met there tally.absent_writes }
 
 -- and with its fault
 abbrev pub with_read_fault : Tally → Tally
@@ -65,7 +75,8 @@ with_change_fault tally = record tally { change_faults = counted tally.change_fa
 
 -- there is no room for a write of so many bytes to the file
 abbrev pub IsFull : Log → ℕ → ℕ → Type 0
-IsFull log file n = (log.calls_left ≡ 0) ⊎ (log.bytes_left < n) ⊎ ((log.files_left ≡ 0) × (reads_of log.history file ≡ None))
+IsFull log file n =
+    (log.calls_left ≡ 0) ⊎ (log.bytes_left < n) ⊎ ((log.files_left ≡ 0) × (reads_of log.history file ≡ None))
 
 -- how many files may still be made after a write to this one
 abbrev pub files_after : ℕ → Option (List ℕ) → ℕ
@@ -105,7 +116,8 @@ after_write ram file at bytes = record {
 }
 
 abbrev pub after_failed_write : Ram → ℕ → ℕ → Ram
-after_failed_write ram file n = record ram { tally = with_change_fault (with_asked (with_change ram.tally) (reads_of ram.log.history file) n) }
+after_failed_write ram file n =
+    record ram { tally = with_change_fault (with_asked (with_change ram.tally) (reads_of ram.log.history file) n) }
 
 -- no room is promised where calls are listed that fail, or where it stops
 abbrev pub room_if : List ℕ → Option ℕ → Room → Option Room

@@ -23,7 +23,8 @@ IsOver room asked = (room < asked) ⊎ (2 ^ 64 - 1 ≤ asked)
 -- the same of one of the three; a store without room may always fail
 abbrev pub IsSpent : Option Room → Room → Type 0
 IsSpent None asked = Unit {0}
-IsSpent (Some room) asked = IsOver room.files asked.files ⊎ (IsOver room.bytes asked.bytes ⊎ IsOver room.calls asked.calls)
+IsSpent (Some room) asked =
+    IsOver room.files asked.files ⊎ (IsOver room.bytes asked.bytes ⊎ IsOver room.calls asked.calls)
 
 -- the second is as much as the first
 pub record IsWithin (less more : Room) : Type 0 where

@@ -1,5 +1,6 @@
 // A disk that is an image of another.
-ghost use Rattle.std.specs.Prelude.{◌≡◌, ◌+◌, ◌^◌, ◌≤◌, ◌<◌, ◌∷◌, [], ℕ, List, Option, None, false, length, take, Contains, OnOk, IfOk};
+ghost use Rattle.std.specs.Prelude.{◌≡◌, ◌+◌, ◌^◌, ◌≤◌, ◌<◌, ◌∷◌, [], ℕ, List, Option, None, false, length, take};
+ghost use Rattle.std.specs.Prelude.{Contains, OnOk, IfOk};
 ghost use Rattle.std.specs.List.Sorted.{IsStrictlyIncreasing};
 ghost use Rattle.std.specs.Ordering.{nat_cmp};
 ghost use Rattle.std.specs.BTreeSet.{contains};
@@ -32,7 +33,8 @@ pub(crate) fn build(
 ) -> Result<Parts, AllocError>
     requires { AllHeld (length row.now) calls.now }
     ensures held { IfOk result (λ p. AllHeld (length p.row.items) p.calls.items) }
-    ensures image { IfOk result (λ p. reads_of (history_of p.row.items p.calls.items) ≡ image_of choice (history_of row.now calls.now)) }
+    ensures image { IfOk result
+        (λ p. reads_of (history_of p.row.items p.calls.items) ≡ image_of choice (history_of row.now calls.now)) }
     ensures settled { IfOk result (λ p. IsSettled (history_of p.row.items p.calls.items)) }
 {
     let sorted = by_file(alloc, calls)?;
@@ -45,7 +47,8 @@ fn build_sorted(alloc: Global, calls: &[Call], row: &[u8], choice: u64) -> Resul
     requires held { AllHeld (length row.now) calls.now }
     requires by_file { IsByFile calls.now }
     ensures held { IfOk result (λ p. AllHeld (length p.row.items) p.calls.items) }
-    ensures image { IfOk result (λ p. reads_of (history_of p.row.items p.calls.items) ≡ image_of choice (history_of row.now calls.now)) }
+    ensures image { IfOk result
+        (λ p. reads_of (history_of p.row.items p.calls.items) ≡ image_of choice (history_of row.now calls.now)) }
     ensures settled { IfOk result (λ p. IsSettled (history_of p.row.items p.calls.items)) }
 {
     let there = named(alloc, calls, row)?;
@@ -80,7 +83,8 @@ fn build_all(
     requires rising { IsStrictlyIncreasing numbers.now }
     requires others { (f : ℕ) → (Contains numbers.now f → ⊥) → IsUnnamed (history_of row.now calls.now) f }
     ensures held { IfOk result (λ p. AllHeld (length p.row.items) p.calls.items) }
-    ensures built { IfOk result (λ p. IsBuilt numbers.now (length numbers.now) (image_of choice (history_of row.now calls.now)) (history_of p.row.items p.calls.items)) }
+    ensures built { IfOk result (λ p. IsBuilt numbers.now (length numbers.now)
+        (image_of choice (history_of row.now calls.now)) (history_of p.row.items p.calls.items)) }
 {
     let mut draws = Draws {
         choice,
@@ -108,7 +112,8 @@ fn set_file(
 ) -> Result<(), AllocError>
     requires { AllHeld (length row.old.items) calls.old.items }
     ensures held { OnOk result (AllHeld (length row.new.items) calls.new.items) }
-    ensures sets { OnOk result (SetsFile file (items_of content) (history_of row.old.items calls.old.items) (history_of row.new.items calls.new.items)) }
+    ensures sets { OnOk result (SetsFile file (items_of content) (history_of row.old.items calls.old.items)
+        (history_of row.new.items calls.new.items)) }
 {
     calls.reserve(3)?;
     match content {
@@ -132,7 +137,8 @@ fn set_file(
 
 // The files that some call wrote or removed. A stop leaves no other.
 fn named(alloc: Global, calls: &[Call], row: &[u8]) -> Result<BTreeSet<u64>, AllocError>
-    ensures { IfOk result (λ s. (f : ℕ) → contains nat_cmp s f ≡ false → IsUnnamed (history_of row.now calls.now) f × (reads_of (history_of row.now calls.now) f ≡ None)) }
+    ensures { IfOk result (λ s. (f : ℕ) → contains nat_cmp s f ≡ false
+        → IsUnnamed (history_of row.now calls.now) f × (reads_of (history_of row.now calls.now) f ≡ None)) }
 {
     let mut there = BTreeSet::new(alloc);
     for call in calls {
@@ -142,8 +148,10 @@ fn named(alloc: Global, calls: &[Call], row: &[u8]) -> Result<BTreeSet<u64>, All
 }
 
 fn name_call(there: &mut BTreeSet<u64>, call: &Call, row: &[u8]) -> Result<(), AllocError>
-    ensures { OnOk result ((h : List Step) → ((f : ℕ) → contains nat_cmp there.old f ≡ false → IsUnnamed h f × (reads_of h f ≡ None))
-        → (f : ℕ) → contains nat_cmp there.new f ≡ false → IsUnnamed (step_of row.now call.now ∷ h) f × (reads_of (step_of row.now call.now ∷ h) f ≡ None)) }
+    ensures { OnOk result
+        ((h : List Step) → ((f : ℕ) → contains nat_cmp there.old f ≡ false → IsUnnamed h f × (reads_of h f ≡ None))
+        → (f : ℕ) → contains nat_cmp there.new f ≡ false
+        → IsUnnamed (step_of row.now call.now ∷ h) f × (reads_of (step_of row.now call.now ∷ h) f ≡ None)) }
 {
     match call.kind {
         Kind::Write => {

@@ -40,8 +40,10 @@ pub(crate) fn read_part(
     requires there { IsSome head.now.size }
     requires long { length links.now ≡ length calls.now }
     requires window { at + length buf.old ≤ 2 ^ 62 }
-    ensures read { buf.new ≡ take result (drop at (bytes_of (reads_of (history_of row.now calls.now) head.now.file))) ++ drop result buf.old }
-    ensures count { result ≡ min (length buf.old) (length (bytes_of (reads_of (history_of row.now calls.now) head.now.file)) - at) }
+    ensures read { buf.new ≡ take result (drop at (bytes_of (reads_of (history_of row.now calls.now) head.now.file)))
+        ++ drop result buf.old }
+    ensures count { result
+        ≡ min (length buf.old) (length (bytes_of (reads_of (history_of row.now calls.now) head.now.file)) - at) }
 {
     let left = head.size.unwrap_or(0).saturating_sub(at);
     let n = left.min(buf.len() as u64) as usize;

@@ -1,5 +1,6 @@
 // The files that a store in memory knows, each with where its calls are.
-ghost use Rattle.std.specs.Prelude.{◌≡◌, ◌≢◌, ◌+◌, ◌≤◌, ◌<◌, ◌==◌, if◌then◌else◌, ℕ, false, IsTrue, None, Some, IfSome, IsNone, IsSome, IsOk, OnOk, length, slice_index_or, vec_len, vec_capacity};
+ghost use Rattle.std.specs.Prelude.{◌≡◌, ◌≢◌, ◌+◌, ◌≤◌, ◌<◌, ◌==◌, if◌then◌else◌, ℕ, false, IsTrue, None, Some, IfSome};
+ghost use Rattle.std.specs.Prelude.{IsNone, IsSome, IsOk, OnOk, length, slice_index_or, vec_len, vec_capacity};
 ghost use Rattle.disk_model.specs.Index.{AreRising, head_of, size_from};
 
 use std::alloc::AllocError;
@@ -18,15 +19,18 @@ fn place_of(heads: &[Head], file: u64) -> usize
     requires { AreRising heads.now }
     ensures bound { result ≤ length heads.now }
     ensures before { (k : ℕ) (d : Head) → k < result → (slice_index_or heads.now k d).file < file }
-    ensures behind { (k : ℕ) (d : Head) → result ≤ k → k < length heads.now → file ≤ (slice_index_or heads.now k d).file }
+    ensures behind { (k : ℕ) (d : Head) → result ≤ k → k < length heads.now
+        → file ≤ (slice_index_or heads.now k d).file }
 {
     heads.partition_point(|head| head.file < file)
 }
 
 // Whether the head of this place is the file's.
 fn is_at(heads: &[Head], place: usize, file: u64) -> bool
-    ensures yes { IsTrue result → (d : Head) → (place < length heads.now) × ((slice_index_or heads.now place d).file ≡ file) }
-    ensures no { result ≡ false → (d : Head) → place < length heads.now → (slice_index_or heads.now place d).file ≢ file }
+    ensures yes { IsTrue result → (d : Head)
+        → (place < length heads.now) × ((slice_index_or heads.now place d).file ≡ file) }
+    ensures no { result ≡ false → (d : Head) → place < length heads.now
+        → (slice_index_or heads.now place d).file ≢ file }
 {
     place < heads.len() && heads[place].file == file
 }
@@ -64,7 +68,8 @@ pub(crate) fn find_present(heads: &[Head], file: u64) -> Option<Head>
 pub(crate) fn put(heads: &mut Vec<Head>, head: Head) -> Result<(), AllocError>
     requires { AreRising heads.old.items }
     ensures rising { OnOk result (AreRising heads.new.items) }
-    ensures put { OnOk result ((f : ℕ) → head_of heads.new.items f ≡ (if head.file == f then Some head else head_of heads.old.items f)) }
+    ensures put { OnOk result
+        ((f : ℕ) → head_of heads.new.items f ≡ (if head.file == f then Some head else head_of heads.old.items f)) }
     ensures known { IsSome (head_of heads.old.items head.file) → IsOk result × (vec_len heads.new ≡ vec_len heads.old) }
     ensures room { vec_len heads.old < vec_capacity heads.old → IsOk result }
     ensures len { vec_len heads.new ≤ vec_len heads.old + 1 }

@@ -1,5 +1,6 @@
 // What a stop leaves of one file.
-ghost use Rattle.std.specs.Prelude.{◌≡◌, ◌+◌, ◌^◌, ◌≤◌, ◌∷◌, ℕ, List, length, take, drop, false, IsTrue, All, OnOk, IfOk};
+ghost use Rattle.std.specs.Prelude.{◌≡◌, ◌+◌, ◌^◌, ◌≤◌, ◌∷◌, ℕ, List, length, take, drop, false, IsTrue, All, OnOk};
+ghost use Rattle.std.specs.Prelude.{IfOk};
 ghost use Rattle.disk_model.specs.History.{Step, reads_of};
 ghost use Rattle.disk_model.specs.Images.{IsLeft, IsAtSync, left_by_write, grown, laid};
 ghost use Rattle.disk_model.specs.Calls.{Held, AllHeld, IsNoSync, step_of, history_on, history_of, items_of};
@@ -62,7 +63,8 @@ fn leave_call(
     requires held { Held (length row.now) call.now }
     requires pending { IsNoSync file call.now }
     ensures left { (h : List Step) (start : ℕ) → IsLeft draws.old.choice file h start (items_of image) draws.old.state
-        → IfOk result (λ x. IsLeft draws.old.choice file (step_of row.now call.now ∷ h) start (items_of x) draws.new.state) }
+        → IfOk result
+        (λ x. IsLeft draws.old.choice file (step_of row.now call.now ∷ h) start (items_of x) draws.new.state) }
     ensures choice { draws.new.choice ≡ draws.old.choice }
 {
     if call.file != file {
@@ -99,7 +101,8 @@ fn leave_calls(
     requires held { AllHeld (length row.now) calls.now }
     requires pending { All (IsNoSync file) calls.now }
     ensures left { (h : List Step) (start : ℕ) → IsLeft draws.old.choice file h start (items_of image) draws.old.state
-        → IfOk result (λ x. IsLeft draws.old.choice file (history_on h row.now calls.now) start (items_of x) draws.new.state) }
+        → IfOk result
+        (λ x. IsLeft draws.old.choice file (history_on h row.now calls.now) start (items_of x) draws.new.state) }
     ensures choice { draws.new.choice ≡ draws.old.choice }
 {
     let mut image = image;
@@ -138,7 +141,8 @@ pub(crate) fn file_image(
     draws: &mut Draws,
 ) -> Result<Option<Vec<u8>>, AllocError>
     requires { AllHeld (length row.now) calls.now }
-    ensures left { IfOk result (λ x. IsLeft draws.old.choice file (history_of row.now calls.now) draws.old.state (items_of x) draws.new.state) }
+    ensures left { IfOk result (λ x. IsLeft draws.old.choice file (history_of row.now calls.now) draws.old.state
+        (items_of x) draws.new.state) }
     ensures choice { draws.new.choice ≡ draws.old.choice }
 {
     let from = pending_from(calls, file);

@@ -1,5 +1,6 @@
 // The index of a list of calls by file: what is read of a file takes the calls of that file alone.
-ghost use Rattle.std.specs.Prelude.{◌≡◌, [], ◌+◌, ◌≤◌, ◌<◌, ◌==◌, if◌then◌else◌, ℕ, Some, IfOk, IsOk, OnOk, length, slice_set, vec_len, vec_capacity};
+ghost use Rattle.std.specs.Prelude.{◌≡◌, [], ◌+◌, ◌≤◌, ◌<◌, ◌==◌, if◌then◌else◌, ℕ, Some, IfOk, IsOk, OnOk, length};
+ghost use Rattle.std.specs.Prelude.{slice_set, vec_len, vec_capacity};
 ghost use Rattle.disk_model.specs.Calls.{AllHeld};
 ghost use Rattle.disk_model.specs.Index.{AreRising, IsIndexed, MakesFile, reads_at, file_at, head_of, size_from};
 
@@ -44,12 +45,16 @@ impl Index {
     pub(crate) fn note(&mut self, calls: &[Call], row: &[u8]) -> Result<(), AllocError>
         requires held { AllHeld (length row.now) calls.now }
         requires more { vec_len self.old.links < length calls.now }
-        requires indexed { IsIndexed (reads_at row.now calls.now) (file_at calls.now) (vec_len self.old.links) self.old.heads.items self.old.links.items }
-        ensures indexed { OnOk result (IsIndexed (reads_at row.now calls.now) (file_at calls.now) (vec_len self.old.links + 1) self.new.heads.items self.new.links.items) }
+        requires indexed { IsIndexed (reads_at row.now calls.now) (file_at calls.now)
+            (vec_len self.old.links) self.old.heads.items self.old.links.items }
+        ensures indexed { OnOk result (IsIndexed (reads_at row.now calls.now) (file_at calls.now)
+            (vec_len self.old.links + 1) self.new.heads.items self.new.links.items) }
         ensures room { vec_len self.old.links < vec_capacity self.old.links
-            → (MakesFile (reads_at row.now calls.now) (file_at calls.now) (vec_len self.old.links) → vec_len self.old.heads < vec_capacity self.old.heads)
+            → (MakesFile (reads_at row.now calls.now) (file_at calls.now) (vec_len self.old.links)
+            → vec_len self.old.heads < vec_capacity self.old.heads)
             → IsOk result }
-        ensures files { (MakesFile (reads_at row.now calls.now) (file_at calls.now) (vec_len self.old.links) → ⊥) → vec_len self.new.heads ≡ vec_len self.old.heads }
+        ensures files { (MakesFile (reads_at row.now calls.now) (file_at calls.now) (vec_len self.old.links) → ⊥)
+            → vec_len self.new.heads ≡ vec_len self.old.heads }
         ensures more_files { vec_len self.new.heads ≤ vec_len self.old.heads + 1 }
         ensures len { OnOk result (vec_len self.new.links ≡ vec_len self.old.links + 1) }
         ensures heads_room { vec_capacity self.old.heads ≤ vec_capacity self.new.heads }
@@ -80,7 +85,10 @@ impl Index {
         requires known { head_of self.old.heads.items head.file ≡ Some head }
         requires within { head.last < vec_len self.old.links }
         ensures rising { AreRising self.new.heads.items }
-        ensures heads { (f : ℕ) → head_of self.new.heads.items f ≡ (if head.file == f then Some (record head { last = at; size = size }) else head_of self.old.heads.items f) }
+        ensures heads { (f : ℕ) → head_of self.new.heads.items f ≡ (if head.file == f then Some (record head {
+          last = at;
+          size = size;
+        }) else head_of self.old.heads.items f) }
         ensures links { self.new.links.items ≡ slice_set self.old.links.items head.last at }
         ensures links_len { vec_len self.new.links ≡ vec_len self.old.links }
         ensures len { vec_len self.new.heads ≡ vec_len self.old.heads }
@@ -103,7 +111,8 @@ impl Index {
     fn make(&mut self, file: u64, at: usize, size: u64) -> Result<(), AllocError>
         requires rising { AreRising self.old.heads.items }
         ensures rising { OnOk result (AreRising self.new.heads.items) }
-        ensures heads { OnOk result ((f : ℕ) → head_of self.new.heads.items f ≡ (if file == f then Some (record { file = file; first = at; last = at; size = Some size }) else head_of self.old.heads.items f)) }
+        ensures heads { OnOk result ((f : ℕ) → head_of self.new.heads.items f ≡ (if file == f then Some
+            (record { file = file; first = at; last = at; size = Some size }) else head_of self.old.heads.items f)) }
         ensures links { self.new.links ≡ self.old.links }
         ensures room { vec_len self.old.heads < vec_capacity self.old.heads → IsOk result }
         ensures len { vec_len self.new.heads ≤ vec_len self.old.heads + 1 }
@@ -130,7 +139,8 @@ pub(crate) fn index_of(
     more_calls: usize,
 ) -> Result<Index, AllocError>
     requires { AllHeld (length row.now) calls.now }
-    ensures indexed { IfOk result (λ index. IsIndexed (reads_at row.now calls.now) (file_at calls.now) (length calls.now) index.heads.items index.links.items) }
+    ensures indexed { IfOk result (λ index. IsIndexed (reads_at row.now calls.now) (file_at calls.now)
+        (length calls.now) index.heads.items index.links.items) }
     ensures files { IfOk result (λ index. vec_len index.heads + files ≤ vec_capacity index.heads) }
     ensures calls { IfOk result (λ index. vec_len index.links + more_calls ≤ vec_capacity index.links) }
 {

@@ -1,5 +1,7 @@
 // The calls that changed a store in memory, with the room that was taken for them.
-ghost use Rattle.std.specs.Prelude.{◌≡◌, ◌≢◌, ◌∷◌, ◌+◌, ◌-◌, ◌^◌, ◌≤◌, ◌↔◌, ◌++◌, [], ℕ, min, length, take, drop, vec_len, vec_capacity, IsErr, IfOk, IfSome, IsNone, IsSome, None, OnOk, OnErr, Contains, is_some};
+ghost use Rattle.std.specs.Prelude.{◌≡◌, ◌≢◌, ◌∷◌, ◌+◌, ◌-◌, ◌^◌, ◌≤◌, ◌↔◌, ◌++◌, [], ℕ, min, length, take, drop};
+ghost use Rattle.std.specs.Prelude.{vec_len, vec_capacity, IsErr, IfOk, IfSome, IsNone, IsSome, None, OnOk, OnErr};
+ghost use Rattle.std.specs.Prelude.{Contains, is_some};
 ghost use Rattle.std.specs.List.Sorted.{IsStrictlyIncreasing};
 ghost use Rattle.std.specs.Option.{option_map};
 ghost use Rattle.disk_model.specs.Disk.{bytes_of};
@@ -55,7 +57,8 @@ impl Model for CallLog {
       calls : vec_len s.calls + s.calls_left ≤ vec_capacity s.calls;
       files : vec_len s.index.heads + s.files_left ≤ vec_capacity s.index.heads;
       links : vec_len s.index.links + s.calls_left ≤ vec_capacity s.index.links;
-      indexed : IsIndexed (reads_at s.row.items s.calls.items) (file_at s.calls.items) (length s.calls.items) s.index.heads.items s.index.links.items;
+      indexed : IsIndexed (reads_at s.row.items s.calls.items) (file_at s.calls.items)
+          (length s.calls.items) s.index.heads.items s.index.links.items;
     } };
 }
 
@@ -67,7 +70,12 @@ impl CallLog {
         bytes: usize,
         calls: usize,
     ) -> Result<CallLog, AllocError>
-        ensures { IfOk result (λ log. log ≡ record { history = []; files_left = files; bytes_left = bytes; calls_left = calls }) }
+        ensures { IfOk result (λ log. log ≡ record {
+          history = [];
+          files_left = files;
+          bytes_left = bytes;
+          calls_left = calls;
+        }) }
     {
         Ok(CallLog {
             calls: Vec::with_capacity(alloc, calls)?,
@@ -90,7 +98,8 @@ impl CallLog {
     // Fills the buffer from an offset on, less only at the file's end.
     pub(crate) fn read(&self, file: u64, at: u64, buf: &mut [u8]) -> usize
         requires { at + length buf.old ≤ 2 ^ 62 }
-        ensures read { buf.new ≡ take result (drop at (bytes_of (reads_of self.now.history file))) ++ drop result buf.old }
+        ensures read { buf.new ≡ take result (drop at (bytes_of (reads_of self.now.history file)))
+            ++ drop result buf.old }
         ensures count { result ≡ min (length buf.old) (length (bytes_of (reads_of self.now.history file)) - at) }
     {
         match find_present(&self.index.heads, file) {
@@ -147,7 +156,10 @@ impl CallLog {
     fn mark(&mut self, kind: Kind, file: u64) -> Result<(), Full>
         requires { kind ≢ Kind.Write }
         ensures full { IsErr result ↔ (self.old.calls_left ≡ 0) }
-        ensures ok { OnOk result (self.new ≡ record self.old { history = step_by kind file 0 [] ∷ self.old.history; calls_left = self.old.calls_left - 1 }) }
+        ensures ok { OnOk result (self.new ≡ record self.old {
+          history = step_by kind file 0 [] ∷ self.old.history;
+          calls_left = self.old.calls_left - 1;
+        }) }
         ensures err { OnErr result (self.new ≡ self.old) }
     {
         if self.calls_left == 0 {

@@ -1,16 +1,21 @@
 // A disk in memory.
-ghost use Rattle.std.specs.Prelude.{◌≡◌, ◌⊎◌, ◌+◌, ◌-◌, ◌^◌, ◌≤◌, ◌↔◌, ◌++◌, min, ℕ, IsTrue, IfSome, IsErr, IsErrOf, OnErr, OnOk, [], None, Some, length, take, drop, true, refl, IfOk, Contains, IsSome};
+ghost use Rattle.std.specs.Prelude.{◌≡◌, ◌⊎◌, ◌+◌, ◌-◌, ◌^◌, ◌≤◌, ◌↔◌, ◌++◌, min, ℕ, IsTrue, IfSome, IsErr, IsErrOf};
+ghost use Rattle.std.specs.Prelude.{OnErr, OnOk, [], None, Some, length, take, drop, true, refl, IfOk, Contains};
+ghost use Rattle.std.specs.Prelude.{IsSome};
 ghost use Rattle.std.specs.List.Sorted.{IsStrictlyIncreasing};
 ghost use Rattle.std.specs.Option.{option_map};
 ghost use Rattle.pcm_base.specs.Causes.{HasCause};
-ghost use Rattle.disk_model.specs.Disk.{Files, bytes_of, written, TornFile, SameElsewhere, WriteStep, RemoveStep, StaysStep, Follows};
+ghost use Rattle.disk_model.specs.Disk.{Files, bytes_of, written, TornFile, SameElsewhere, WriteStep, RemoveStep};
+ghost use Rattle.disk_model.specs.Disk.{StaysStep, Follows};
 ghost use Rattle.disk_model.specs.Faults.{HasListCause};
 ghost use Rattle.disk_model.specs.History.{SinceMoment, IsImage, reads_of};
 ghost use Rattle.disk_model.specs.Histories.{image_since, reads_is_image, fewer_moment};
 ghost use Rattle.disk_model.specs.Images.{image_of, synced_of};
 ghost use Rattle.disk_model.specs.Moment.{At};
 ghost use Rattle.disk_model.specs.Settled.{IsSettled};
-ghost use Rattle.disk_model.specs.Ram.{IsDue, IsFull, fresh_tally, with_sync, with_removal, with_change, after_read, after_failed_read, after_failed_change, after_write, after_failed_write, room_of, room_if};
+ghost use Rattle.disk_model.specs.Ram.{IsDue, IsFull, fresh_tally, with_sync, with_removal, with_change, after_read};
+ghost use Rattle.disk_model.specs.Ram.{after_failed_read, after_failed_change, after_write, after_failed_write};
+ghost use Rattle.disk_model.specs.Ram.{room_of, room_if};
 ghost use Rattle.disk_model.specs.Room.{raised, met, IsSpent, StaysRoom};
 
 use crate::log::CallLog;
@@ -46,9 +51,18 @@ impl RamStore {
         calls: usize,
         fails: Numbers,
     ) -> Result<RamStore, NoMemory>
-        ensures log { IfOk result (λ s. s.log ≡ record { history = []; files_left = files; bytes_left = bytes; calls_left = calls }) }
+        ensures log { IfOk result (λ s. s.log ≡ record {
+          history = [];
+          files_left = files;
+          bytes_left = bytes;
+          calls_left = calls;
+        }) }
         ensures tally { IfOk result (λ s. s.tally ≡ fresh_tally fails) }
-        ensures room { IfOk result (λ s. room_of s ≡ room_if fails None (record { files = files; bytes = bytes; calls = calls })) }
+        ensures room { IfOk result (λ s. room_of s ≡ room_if fails None (record {
+          files = files;
+          bytes = bytes;
+          calls = calls;
+        })) }
         // It may be left empty alone.
         ensures empty { IfOk result (λ s. (c : Files) → SinceMoment s.log.history (At 0) c → c ≡ (λ _. None)) }
     {
@@ -69,7 +83,8 @@ impl RamStore {
         ensures nothing { choice ≡ 1 → IfOk result (λ s. reads_of s.log.history ≡ synced_of self.now.log.history) }
         ensures left { IfOk result (λ s. IsImage self.now.log.history (reads_of s.log.history)) }
         // In the words of the trait: a stop now may leave it.
-        ensures may_be_left { IfOk result (λ s. ⟦<RamStore as Store>⟧.may_leave self.now (⟦<RamStore as Store>⟧.clock self.now) (⟦<RamStore as Store>⟧.reads s)) }
+        ensures may_be_left { IfOk result (λ s. ⟦<RamStore as Store>⟧.may_leave self.now
+            (⟦<RamStore as Store>⟧.clock self.now) (⟦<RamStore as Store>⟧.reads s)) }
         ensures settled { IfOk result (λ s. IsSettled s.log.history) }
         ensures room { IfOk result (λ s. s.log ≡ record self.now.log { history = s.log.history }) }
         ensures tally { IfOk result (λ s. s.tally ≡ fresh_tally []) }
@@ -92,7 +107,8 @@ impl RamStore {
     /// Lets the next `n` calls be served, and each call after them fail.
     pub fn stop_after(&mut self, n: u64)
         ensures log { self.new.log ≡ self.old.log }
-        ensures tally { self.new.tally ≡ record self.old.tally { last = Some (min (self.old.tally.made + n) (2 ^ 64 - 1)) } }
+        ensures tally { self.new.tally
+            ≡ record self.old.tally { last = Some (min (self.old.tally.made + n) (2 ^ 64 - 1)) } }
     {
         self.tally.stop_after(n);
     }
@@ -121,7 +137,10 @@ impl Store for RamStore {
 
     ghost room = { room_of };
 
-    ghost may_stay = { λ s _. (refl, image_since s.log.history (length s.log.history) (reads_of s.log.history) (reads_is_image s.log.history)) };
+    ghost may_stay = { λ s _. (
+      refl,
+      image_since s.log.history (length s.log.history) (reads_of s.log.history) (reads_is_image s.log.history),
+    ) };
 
     ghost may_fewer = { λ s t u c le now since. fewer_moment s.log.history t u c le since };
 
@@ -146,7 +165,8 @@ impl Store for RamStore {
         ensures room { room_of self.new ≡ room_of self.old }
         ensures unfailing { IsSome (room_of self.old) → self.new.tally.read_faults ≡ self.old.tally.read_faults }
         ensures clock { At (length self.new.log.history) ≡ At (length self.old.log.history) }
-        ensures images { Follows StaysStep (At (length self.old.log.history)) (At (length self.new.log.history)) (SinceMoment self.old.log.history) (SinceMoment self.new.log.history) }
+        ensures images { Follows StaysStep (At (length self.old.log.history)) (At (length self.new.log.history))
+            (SinceMoment self.old.log.history) (SinceMoment self.new.log.history) }
         ensures faults { HasCause self.old.tally.read_faults self.new.tally.read_faults result }
         ensures changes { self.new.tally.change_faults ≡ self.old.tally.change_faults }
         // It fails exactly at the calls that are listed and after the stop.
@@ -163,8 +183,10 @@ impl Store for RamStore {
     #[tactic(auto, using(crate::specs::Histories::follows_same))]
     fn read_at(&mut self, file: u64, at: u64, buf: &mut [u8]) -> Result<usize, Failed>
         requires { at + length buf.old ≤ 2 ^ 62 }
-        ensures read { IsTrue true → IfOk result (λ n. buf.new ≡ take n (drop at (bytes_of (reads_of self.old.log.history file))) ++ drop n buf.old) }
-        ensures count { IsTrue true → IfOk result (λ n. n ≡ min (length buf.old) (length (bytes_of (reads_of self.old.log.history file)) - at)) }
+        ensures read { IsTrue true → IfOk result
+            (λ n. buf.new ≡ take n (drop at (bytes_of (reads_of self.old.log.history file))) ++ drop n buf.old) }
+        ensures count { IsTrue true → IfOk result
+            (λ n. n ≡ min (length buf.old) (length (bytes_of (reads_of self.old.log.history file)) - at)) }
         ensures within { IfOk result (λ n. n ≤ length buf.old) }
         ensures tells { true ≡ true }
         ensures reads { reads_of self.new.log.history ≡ reads_of self.old.log.history }
@@ -175,7 +197,8 @@ impl Store for RamStore {
         ensures room { room_of self.new ≡ room_of self.old }
         ensures unfailing { IsSome (room_of self.old) → self.new.tally.read_faults ≡ self.old.tally.read_faults }
         ensures clock { At (length self.new.log.history) ≡ At (length self.old.log.history) }
-        ensures images { Follows StaysStep (At (length self.old.log.history)) (At (length self.new.log.history)) (SinceMoment self.old.log.history) (SinceMoment self.new.log.history) }
+        ensures images { Follows StaysStep (At (length self.old.log.history)) (At (length self.new.log.history))
+            (SinceMoment self.old.log.history) (SinceMoment self.new.log.history) }
         ensures faults { HasCause self.old.tally.read_faults self.new.tally.read_faults result }
         ensures changes { self.new.tally.change_faults ≡ self.old.tally.change_faults }
         ensures due { IsErr result ↔ IsDue self.old.tally }
@@ -191,21 +214,32 @@ impl Store for RamStore {
     #[tactic(auto, using(crate::specs::Histories::write_same, crate::specs::Histories::write_more))]
     fn write_at(&mut self, file: u64, at: u64, bytes: &[u8]) -> Result<(), Failed>
         requires { at + length bytes.now ≤ 2 ^ 62 }
-        ensures written { IsTrue true → OnOk result (reads_of self.new.log.history file ≡ Some (written (bytes_of (reads_of self.old.log.history file)) at bytes.now)) }
-        ensures torn { IsTrue true → OnErr result (TornFile at (length bytes.now) (reads_of self.old.log.history file) (reads_of self.new.log.history file)) }
-        ensures others { IsTrue true → SameElsewhere file (reads_of self.old.log.history) (reads_of self.new.log.history) }
+        ensures written { IsTrue true → OnOk result (reads_of self.new.log.history file
+            ≡ Some (written (bytes_of (reads_of self.old.log.history file)) at bytes.now)) }
+        ensures torn { IsTrue true → OnErr result
+            (TornFile at (length bytes.now) (reads_of self.old.log.history file) (reads_of self.new.log.history file)) }
+        ensures others { IsTrue true
+            → SameElsewhere file (reads_of self.old.log.history) (reads_of self.new.log.history) }
         ensures tells { true ≡ true }
         ensures model { true ≡ true }
         ensures calls { self.new.tally.change_calls ≡ raised self.old.tally.change_calls 1 }
         ensures bytes { self.new.tally.asked_bytes ≡ raised self.old.tally.asked_bytes (length bytes.now) }
-        ensures absent { IsTrue true → self.new.tally.absent_writes ≡ met (reads_of self.old.log.history file) self.old.tally.absent_writes }
+        ensures absent { IsTrue true
+            → self.new.tally.absent_writes ≡ met (reads_of self.old.log.history file) self.old.tally.absent_writes }
         ensures absent_later { self.old.tally.absent_writes ≤ self.new.tally.absent_writes }
         ensures room { StaysRoom (room_of self.old) (room_of self.new) }
-        ensures spent { (self.new.tally.change_faults ≡ self.old.tally.change_faults) ⊎ IsSpent (room_of self.old) (record { files = self.new.tally.absent_writes; bytes = self.new.tally.asked_bytes; calls = self.new.tally.change_calls }) }
-        ensures images { Follows (WriteStep file at (length bytes.now)) (At (length self.old.log.history)) (At (length self.new.log.history)) (SinceMoment self.old.log.history) (SinceMoment self.new.log.history) }
+        ensures spent { (self.new.tally.change_faults ≡ self.old.tally.change_faults)
+            ⊎ IsSpent (room_of self.old) (record {
+              files = self.new.tally.absent_writes;
+              bytes = self.new.tally.asked_bytes;
+              calls = self.new.tally.change_calls;
+            }) }
+        ensures images { Follows (WriteStep file at (length bytes.now)) (At (length self.old.log.history))
+            (At (length self.new.log.history)) (SinceMoment self.old.log.history) (SinceMoment self.new.log.history) }
         ensures faults { HasCause self.old.tally.change_faults self.new.tally.change_faults result }
         ensures read_faults { self.new.tally.read_faults ≡ self.old.tally.read_faults }
-        // It fails exactly at the calls that are listed, after the stop and where there is no room, and then does nothing.
+        // It fails exactly at the calls that are listed, after the stop and where there is no room, and then does
+        // nothing.
         ensures due { IsErr result ↔ (IsDue self.old.tally ⊎ IsFull self.old.log file (length bytes.now)) }
         ensures served { OnOk result (self.new ≡ after_write self.old file at bytes.now) }
         ensures failed { OnErr result (self.new ≡ after_failed_write self.old file (length bytes.now)) }
@@ -222,7 +256,8 @@ impl Store for RamStore {
 
     #[tactic(auto, using(crate::specs::Histories::follows_same, crate::specs::Histories::sync_more))]
     fn sync(&mut self, file: u64) -> Result<(), Failed>
-        ensures durable { OnOk result ((c : Files) → SinceMoment self.new.log.history (At (length self.new.log.history)) c → c file ≡ reads_of self.old.log.history file) }
+        ensures durable { OnOk result ((c : Files) → SinceMoment self.new.log.history
+            (At (length self.new.log.history)) c → c file ≡ reads_of self.old.log.history file) }
         ensures tells { true ≡ true }
         ensures reads { reads_of self.new.log.history ≡ reads_of self.old.log.history }
         ensures model { true ≡ true }
@@ -230,12 +265,21 @@ impl Store for RamStore {
         ensures bytes { self.new.tally.asked_bytes ≡ self.old.tally.asked_bytes }
         ensures absent { self.new.tally.absent_writes ≡ self.old.tally.absent_writes }
         ensures room { StaysRoom (room_of self.old) (room_of self.new) }
-        ensures spent { (self.new.tally.change_faults ≡ self.old.tally.change_faults) ⊎ IsSpent (room_of self.old) (record { files = self.new.tally.absent_writes; bytes = self.new.tally.asked_bytes; calls = self.new.tally.change_calls }) }
-        ensures images { Follows StaysStep (At (length self.old.log.history)) (At (length self.new.log.history)) (SinceMoment self.old.log.history) (SinceMoment self.new.log.history) }
+        ensures spent { (self.new.tally.change_faults ≡ self.old.tally.change_faults)
+            ⊎ IsSpent (room_of self.old) (record {
+              files = self.new.tally.absent_writes;
+              bytes = self.new.tally.asked_bytes;
+              calls = self.new.tally.change_calls;
+            }) }
+        ensures images { Follows StaysStep (At (length self.old.log.history)) (At (length self.new.log.history))
+            (SinceMoment self.old.log.history) (SinceMoment self.new.log.history) }
         ensures faults { HasCause self.old.tally.change_faults self.new.tally.change_faults result }
         ensures read_faults { self.new.tally.read_faults ≡ self.old.tally.read_faults }
         ensures due { IsErr result ↔ (IsDue self.old.tally ⊎ (self.old.log.calls_left ≡ 0)) }
-        ensures served { OnOk result (self.new ≡ record { log = with_sync self.old.log file; tally = with_change self.old.tally }) }
+        ensures served { OnOk result (self.new ≡ record {
+          log = with_sync self.old.log file;
+          tally = with_change self.old.tally;
+        }) }
         ensures failed { OnErr result (self.new ≡ after_failed_change self.old) }
     {
         if self.tally.count_change() {
@@ -257,12 +301,21 @@ impl Store for RamStore {
         ensures bytes { self.new.tally.asked_bytes ≡ self.old.tally.asked_bytes }
         ensures absent { self.new.tally.absent_writes ≡ self.old.tally.absent_writes }
         ensures room { StaysRoom (room_of self.old) (room_of self.new) }
-        ensures spent { (self.new.tally.change_faults ≡ self.old.tally.change_faults) ⊎ IsSpent (room_of self.old) (record { files = self.new.tally.absent_writes; bytes = self.new.tally.asked_bytes; calls = self.new.tally.change_calls }) }
-        ensures images { Follows (RemoveStep file) (At (length self.old.log.history)) (At (length self.new.log.history)) (SinceMoment self.old.log.history) (SinceMoment self.new.log.history) }
+        ensures spent { (self.new.tally.change_faults ≡ self.old.tally.change_faults)
+            ⊎ IsSpent (room_of self.old) (record {
+              files = self.new.tally.absent_writes;
+              bytes = self.new.tally.asked_bytes;
+              calls = self.new.tally.change_calls;
+            }) }
+        ensures images { Follows (RemoveStep file) (At (length self.old.log.history)) (At (length self.new.log.history))
+            (SinceMoment self.old.log.history) (SinceMoment self.new.log.history) }
         ensures faults { HasCause self.old.tally.change_faults self.new.tally.change_faults result }
         ensures read_faults { self.new.tally.read_faults ≡ self.old.tally.read_faults }
         ensures due { IsErr result ↔ (IsDue self.old.tally ⊎ (self.old.log.calls_left ≡ 0)) }
-        ensures served { OnOk result (self.new ≡ record { log = with_removal self.old.log file; tally = with_change self.old.tally }) }
+        ensures served { OnOk result (self.new ≡ record {
+          log = with_removal self.old.log file;
+          tally = with_change self.old.tally;
+        }) }
         ensures failed { OnErr result (self.new ≡ after_failed_change self.old) }
     {
         if self.tally.count_change() {
@@ -276,7 +329,8 @@ impl Store for RamStore {
 
     #[tactic(auto, using(crate::specs::Histories::follows_same))]
     fn files(&mut self, out: &mut Vec<u64>) -> Result<(), ListFault>
-        ensures listed { IsTrue true → OnOk result ((n : ℕ) → Contains out.new.items n ↔ IsSome (reads_of self.old.log.history n)) }
+        ensures listed { IsTrue true
+            → OnOk result ((n : ℕ) → Contains out.new.items n ↔ IsSome (reads_of self.old.log.history n)) }
         ensures rising { OnOk result (IsStrictlyIncreasing out.new.items) }
         ensures tells { true ≡ true }
         ensures reads { reads_of self.new.log.history ≡ reads_of self.old.log.history }
@@ -287,7 +341,8 @@ impl Store for RamStore {
         ensures room { room_of self.new ≡ room_of self.old }
         ensures unfailing { IsSome (room_of self.old) → self.new.tally.read_faults ≡ self.old.tally.read_faults }
         ensures clock { At (length self.new.log.history) ≡ At (length self.old.log.history) }
-        ensures images { Follows StaysStep (At (length self.old.log.history)) (At (length self.new.log.history)) (SinceMoment self.old.log.history) (SinceMoment self.new.log.history) }
+        ensures images { Follows StaysStep (At (length self.old.log.history)) (At (length self.new.log.history))
+            (SinceMoment self.old.log.history) (SinceMoment self.new.log.history) }
         ensures faults { HasListCause self.old.tally.read_faults self.new.tally.read_faults result }
         ensures changes { self.new.tally.change_faults ≡ self.old.tally.change_faults }
         ensures due { IsErrOf result ListFault.Failed ↔ IsDue self.old.tally }

@@ -1,5 +1,6 @@
 // The list of calls and the row of bytes of a store in memory.
-ghost use Rattle.std.specs.Prelude.{◌<◌, vec_len, vec_capacity, IsOk, ◌≡◌, ◌+◌, ◌^◌, ◌≤◌, ◌∷◌, [], length, take, OnOk, OnErr};
+ghost use Rattle.std.specs.Prelude.{◌<◌, vec_len, vec_capacity, IsOk, ◌≡◌, ◌+◌, ◌^◌, ◌≤◌, ◌∷◌, [], length, take, OnOk};
+ghost use Rattle.std.specs.Prelude.{OnErr};
 ghost use Rattle.disk_model.specs.History.{Wrote};
 ghost use Rattle.disk_model.specs.Calls.{step_by, history_of, AllHeld};
 ghost use Rattle.disk_model.specs.Index.{file_at};
@@ -17,13 +18,15 @@ pub(crate) fn note_write(
 ) -> Result<(), AllocError>
     requires fits { at + length bytes.now ≤ 2 ^ 62 }
     requires held { AllHeld (length row.old.items) calls.old.items }
-    ensures ok { OnOk result (history_of row.new.items calls.new.items ≡ Wrote file at bytes.now ∷ history_of row.old.items calls.old.items) }
+    ensures ok { OnOk result (history_of row.new.items calls.new.items ≡ Wrote file at bytes.now
+        ∷ history_of row.old.items calls.old.items) }
     ensures err { OnErr result (history_of row.new.items calls.new.items ≡ history_of row.old.items calls.old.items) }
     ensures kept { OnOk result (take (length row.old.items) row.new.items ≡ row.old.items) }
     ensures earlier { OnOk result (take (length calls.old.items) calls.new.items ≡ calls.old.items) }
     ensures file { OnOk result (file_at calls.new.items (length calls.old.items) ≡ file) }
     ensures held { AllHeld (length row.new.items) calls.new.items }
-    ensures room { vec_len calls.old < vec_capacity calls.old → vec_len row.old + length bytes.now ≤ vec_capacity row.old → IsOk result }
+    ensures room { vec_len calls.old < vec_capacity calls.old
+        → vec_len row.old + length bytes.now ≤ vec_capacity row.old → IsOk result }
     ensures calls { OnOk result (vec_len calls.new ≡ vec_len calls.old + 1) }
     ensures calls_room { vec_capacity calls.old ≤ vec_capacity calls.new }
     ensures bytes { OnOk result (vec_len row.new ≡ vec_len row.old + length bytes.now) }
@@ -52,7 +55,8 @@ pub(crate) fn note_mark(
     file: u64,
 ) -> Result<(), AllocError>
     requires { AllHeld (length row.now) calls.old.items }
-    ensures ok { OnOk result (history_of row.now calls.new.items ≡ step_by kind file 0 [] ∷ history_of row.now calls.old.items) }
+    ensures ok { OnOk result
+        (history_of row.now calls.new.items ≡ step_by kind file 0 [] ∷ history_of row.now calls.old.items) }
     ensures err { OnErr result (calls.new.items ≡ calls.old.items) }
     ensures earlier { OnOk result (take (length calls.old.items) calls.new.items ≡ calls.old.items) }
     ensures file { OnOk result (file_at calls.new.items (length calls.old.items) ≡ file) }

@@ -1,10 +1,12 @@
 // Numbered files, as the layers above see them.
-ghost use Rattle.std.specs.Prelude.{◌≡◌, ◌⊎◌, ◌+◌, ◌-◌, ◌^◌, ◌≤◌, ◌↔◌, ℕ, Bool, IsTrue, Option, None, Some, IsSome, ◌++◌, length, take, drop, min, IfOk, OnOk, OnErr, IfSome, Contains};
+ghost use Rattle.std.specs.Prelude.{◌≡◌, ◌⊎◌, ◌+◌, ◌-◌, ◌^◌, ◌≤◌, ◌↔◌, ℕ, Bool, IsTrue, Option, None, Some, IsSome};
+ghost use Rattle.std.specs.Prelude.{◌++◌, length, take, drop, min, IfOk, OnOk, OnErr, IfSome, Contains};
 ghost use Rattle.std.specs.List.Sorted.{IsStrictlyIncreasing};
 ghost use Rattle.std.specs.Option.{option_map};
 ghost use Rattle.pcm_base.specs.Causes.{HasCause};
 ghost use Rattle.disk_model.specs.Moment.{Moment, IsUpTo};
-ghost use Rattle.disk_model.specs.Disk.{Files, bytes_of, written, TornFile, SameElsewhere, WriteStep, RemoveStep, StaysStep, Follows};
+ghost use Rattle.disk_model.specs.Disk.{Files, bytes_of, written, TornFile, SameElsewhere, WriteStep, RemoveStep};
+ghost use Rattle.disk_model.specs.Disk.{StaysStep, Follows};
 ghost use Rattle.disk_model.specs.Faults.{HasListCause};
 ghost use Rattle.disk_model.specs.Room.{Room, raised, met, IsSpent, StaysRoom};
 
@@ -83,12 +85,14 @@ pub trait Store {
         ensures faults { HasCause (read_fault_count self.old) (read_fault_count self.new) result }
         ensures changes { change_fault_count self.new ≡ change_fault_count self.old };
 
-    /// Reads the file's bytes from the offset `at` on into the front of `buf`, and answers how many: less than fit only at
-    /// the file's end. An absent file reads as an empty one.
+    /// Reads the file's bytes from the offset `at` on into the front of `buf`, and answers how many: less than fit only
+    /// at the file's end. An absent file reads as an empty one.
     fn read_at(&mut self, file: u64, at: u64, buf: &mut [u8]) -> Result<usize, Failed>
         requires { at + length buf.old ≤ 2 ^ 62 }
-        ensures read { IsTrue (tells self.old) → IfOk result (λ n. buf.new ≡ take n (drop at (bytes_of (reads self.old file))) ++ drop n buf.old) }
-        ensures count { IsTrue (tells self.old) → IfOk result (λ n. n ≡ min (length buf.old) (length (bytes_of (reads self.old file)) - at)) }
+        ensures read { IsTrue (tells self.old)
+            → IfOk result (λ n. buf.new ≡ take n (drop at (bytes_of (reads self.old file))) ++ drop n buf.old) }
+        ensures count { IsTrue (tells self.old)
+            → IfOk result (λ n. n ≡ min (length buf.old) (length (bytes_of (reads self.old file)) - at)) }
         ensures within { IfOk result (λ n. n ≤ length buf.old) }
         ensures tells { tells self.new ≡ tells self.old }
         ensures reads { reads self.new ≡ reads self.old }
@@ -103,28 +107,34 @@ pub trait Store {
         ensures faults { HasCause (read_fault_count self.old) (read_fault_count self.new) result }
         ensures changes { change_fault_count self.new ≡ change_fault_count self.old };
 
-    /// Writes the bytes at the offset `at`, over what is there and past the end. It makes an absent file, and fills what
-    /// lies between the old end and the offset with 0. Until a sync of the file what it wrote is pending.
+    /// Writes the bytes at the offset `at`, over what is there and past the end. It makes an absent file, and fills
+    /// what lies between the old end and the offset with 0. Until a sync of the file what it wrote is pending.
     fn write_at(&mut self, file: u64, at: u64, bytes: &[u8]) -> Result<(), Failed>
         requires { at + length bytes.now ≤ 2 ^ 62 }
-        ensures written { IsTrue (tells self.old) → OnOk result (reads self.new file ≡ Some (written (bytes_of (reads self.old file)) at bytes.now)) }
-        ensures torn { IsTrue (tells self.old) → OnErr result (TornFile at (length bytes.now) (reads self.old file) (reads self.new file)) }
+        ensures written { IsTrue (tells self.old)
+            → OnOk result (reads self.new file ≡ Some (written (bytes_of (reads self.old file)) at bytes.now)) }
+        ensures torn { IsTrue (tells self.old)
+            → OnErr result (TornFile at (length bytes.now) (reads self.old file) (reads self.new file)) }
         ensures others { IsTrue (tells self.old) → SameElsewhere file (reads self.old) (reads self.new) }
         ensures tells { tells self.new ≡ tells self.old }
         ensures model { keeps_model self.new ≡ keeps_model self.old }
         ensures calls { change_calls self.new ≡ raised (change_calls self.old) 1 }
         ensures bytes { asked_bytes self.new ≡ raised (asked_bytes self.old) (length bytes.now) }
-        ensures absent { IsTrue (tells self.old) → absent_writes self.new ≡ met (reads self.old file) (absent_writes self.old) }
+        ensures absent { IsTrue (tells self.old)
+            → absent_writes self.new ≡ met (reads self.old file) (absent_writes self.old) }
         ensures absent_later { absent_writes self.old ≤ absent_writes self.new }
         ensures room { StaysRoom (room self.old) (room self.new) }
-        ensures spent { (change_fault_count self.new ≡ change_fault_count self.old) ⊎ IsSpent (room self.old) (record { files = absent_writes self.new; bytes = asked_bytes self.new; calls = change_calls self.new }) }
-        ensures images { Follows (WriteStep file at (length bytes.now)) (clock self.old) (clock self.new) (may_leave self.old) (may_leave self.new) }
+        ensures spent { (change_fault_count self.new ≡ change_fault_count self.old) ⊎ IsSpent (room self.old)
+            (record { files = absent_writes self.new; bytes = asked_bytes self.new; calls = change_calls self.new }) }
+        ensures images { Follows (WriteStep file at (length bytes.now)) (clock self.old) (clock self.new)
+            (may_leave self.old) (may_leave self.new) }
         ensures faults { HasCause (change_fault_count self.old) (change_fault_count self.new) result }
         ensures read_faults { read_fault_count self.new ≡ read_fault_count self.old };
 
     /// Waits until the file is on the disk: after Ok a stop leaves it as it reads. It may be absent.
     fn sync(&mut self, file: u64) -> Result<(), Failed>
-        ensures durable { OnOk result ((c : Files) → may_leave self.new (clock self.new) c → c file ≡ reads self.old file) }
+        ensures durable { OnOk result
+            ((c : Files) → may_leave self.new (clock self.new) c → c file ≡ reads self.old file) }
         ensures tells { tells self.new ≡ tells self.old }
         ensures reads { reads self.new ≡ reads self.old }
         ensures model { keeps_model self.new ≡ keeps_model self.old }
@@ -132,7 +142,8 @@ pub trait Store {
         ensures bytes { asked_bytes self.new ≡ asked_bytes self.old }
         ensures absent { absent_writes self.new ≡ absent_writes self.old }
         ensures room { StaysRoom (room self.old) (room self.new) }
-        ensures spent { (change_fault_count self.new ≡ change_fault_count self.old) ⊎ IsSpent (room self.old) (record { files = absent_writes self.new; bytes = asked_bytes self.new; calls = change_calls self.new }) }
+        ensures spent { (change_fault_count self.new ≡ change_fault_count self.old) ⊎ IsSpent (room self.old)
+            (record { files = absent_writes self.new; bytes = asked_bytes self.new; calls = change_calls self.new }) }
         ensures images { Follows StaysStep (clock self.old) (clock self.new) (may_leave self.old) (may_leave self.new) }
         ensures faults { HasCause (change_fault_count self.old) (change_fault_count self.new) result }
         ensures read_faults { read_fault_count self.new ≡ read_fault_count self.old };
@@ -147,14 +158,17 @@ pub trait Store {
         ensures bytes { asked_bytes self.new ≡ asked_bytes self.old }
         ensures absent { absent_writes self.new ≡ absent_writes self.old }
         ensures room { StaysRoom (room self.old) (room self.new) }
-        ensures spent { (change_fault_count self.new ≡ change_fault_count self.old) ⊎ IsSpent (room self.old) (record { files = absent_writes self.new; bytes = asked_bytes self.new; calls = change_calls self.new }) }
-        ensures images { Follows (RemoveStep file) (clock self.old) (clock self.new) (may_leave self.old) (may_leave self.new) }
+        ensures spent { (change_fault_count self.new ≡ change_fault_count self.old) ⊎ IsSpent (room self.old)
+            (record { files = absent_writes self.new; bytes = asked_bytes self.new; calls = change_calls self.new }) }
+        ensures images { Follows (RemoveStep file) (clock self.old) (clock self.new) (may_leave self.old)
+            (may_leave self.new) }
         ensures faults { HasCause (change_fault_count self.old) (change_fault_count self.new) result }
         ensures read_faults { read_fault_count self.new ≡ read_fault_count self.old };
 
     /// Puts the numbers of the files that are there into `out`, rising, in place of what it has.
     fn files(&mut self, out: &mut Vec<u64>) -> Result<(), ListFault>
-        ensures listed { IsTrue (tells self.old) → OnOk result ((n : ℕ) → Contains out.new.items n ↔ IsSome (reads self.old n)) }
+        ensures listed { IsTrue (tells self.old)
+            → OnOk result ((n : ℕ) → Contains out.new.items n ↔ IsSome (reads self.old n)) }
         ensures rising { OnOk result (IsStrictlyIncreasing out.new.items) }
         ensures tells { tells self.new ≡ tells self.old }
         ensures reads { reads self.new ≡ reads self.old }
@@ -170,8 +184,10 @@ pub trait Store {
         ensures changes { change_fault_count self.new ≡ change_fault_count self.old };
 
     // A disk that keeps to the model tells its bytes, and may be left as it reads.
-    ghost may_stay: { (store : Self) → IsTrue (keeps_model store) → IsTrue (tells store) × may_leave store (clock store) (reads store) };
+    ghost may_stay: { (store : Self) → IsTrue (keeps_model store)
+        → IsTrue (tells store) × may_leave store (clock store) (reads store) };
 
     // A later start has fewer moments, so a caller may say of no call at all what it says of a call.
-    ghost may_fewer: { (store : Self) (t u : Moment) (c : Files) → IsUpTo t u → IsUpTo u (clock store) → may_leave store u c → may_leave store t c };
+    ghost may_fewer: { (store : Self) (t u : Moment) (c : Files) → IsUpTo t u → IsUpTo u (clock store)
+        → may_leave store u c → may_leave store t c };
 }

@@ -1,6 +1,7 @@
 // The count of a store's calls: which of them fail, and how many have failed.
 ghost use Rattle.std.specs.Prelude.{◌≡◌, ◌+◌, ◌-◌, ◌^◌, ◌≤◌, ◌↔◌, min, IsTrue, Some};
-ghost use Rattle.disk_model.specs.Ram.{IsDue, IsPast, fresh_tally, with_read, with_change, with_asked, with_read_fault, with_change_fault, counted};
+ghost use Rattle.disk_model.specs.Ram.{IsDue, IsPast, fresh_tally, with_read, with_change, with_asked, with_read_fault};
+ghost use Rattle.disk_model.specs.Ram.{with_change_fault, counted};
 
 use pcm_base::{Failed, Numbers};
 use std::marker::Model;

@@ -66,11 +66,11 @@ fn removed(alloc: Global) -> Result<RamStore, Fail> {
     Ok(store)
 }
 
-// The images of the choices 0 to 9 after each of six calls. Choice 0 has all that is pending and choice 1 nothing of it.
-// The others draw, state by state modulo 2^64: state * 6364136223846793005 + 1442695040888963407, and of it the bit 33.
-// That draws from 2: 0 0 0 0 1, from 3: 1 1 1 0 0, from 4: 0 0 0 1 1, from 5: 0 1 0 1 1, from 6: 1 0 1 1 0,
-// from 7: 0 1 1 1 1, from 8: 0 0 0 1 0, from 9: 1 1 0 0 1. A pending write takes two of these, whether its bytes and
-// whether its length have reached the disk, and a pending removal one.
+// The images of the choices 0 to 9 after each of six calls. Choice 0 has all that is pending and choice 1 nothing of
+// it. The others draw, state by state modulo 2^64: state * 6364136223846793005 + 1442695040888963407, and of it the bit
+// 33. That draws from 2: 0 0 0 0 1, from 3: 1 1 1 0 0, from 4: 0 0 0 1 1, from 5: 0 1 0 1 1, from 6: 1 0 1 1 0, from 7:
+// 0 1 1 1 1, from 8: 0 0 0 1 0, from 9: 1 1 0 0 1. A pending write takes two of these, whether its bytes and whether
+// its length have reached the disk, and a pending removal one.
 
 // One write is pending, to a new file: by 0 0 it is absent, by 0 1 it is there with 0, by 1 0 it is there and empty.
 #[test]
@@ -90,8 +90,8 @@ fn nothing_pending(rt: HostRuntime) -> Result<(), Fail> {
     Ok(())
 }
 
-// One write is pending, past the end: by 0 0 the file is as synced, by 0 1 it is longer by two 0, by 1 0 it has those of
-// the bytes that lie in it.
+// One write is pending, past the end: by 0 0 the file is as synced, by 0 1 it is longer by two 0, by 1 0 it has those
+// of the bytes that lie in it.
 #[test]
 fn a_file_written_again(rt: HostRuntime) -> Result<(), Fail> {
     let left = images(rt.alloc(), &rewritten(rt.alloc())?)?;
@@ -165,8 +165,8 @@ fn changes_that_a_stop_leaves(rt: HostRuntime) -> Result<(), Fail> {
     Ok(())
 }
 
-// Round r of four puts the byte 'a' + r at 2r into each of the files 0 to 49. After the second round 7 and 8 are removed,
-// and after the last 8 again; then 9 is synced and written in its middle.
+// Round r of four puts the byte 'a' + r at 2r into each of the files 0 to 49. After the second round 7 and 8 are
+// removed, and after the last 8 again; then 9 is synced and written in its middle.
 fn many_files(alloc: Global) -> Result<RamStore, Fail> {
     let mut store = RamStore::new(alloc, 60, 300, 300, Numbers::new(Vec::new(alloc)))
         .ok()

@@ -1,5 +1,6 @@
 -- Items with each sample changed.
-use Rattle.std.proofs.Common.{◌≡◌, ℕ, zero, suc, ◌+◌, ◌-◌, ◌<◌, ℤ, pos, List, [], ◌∷◌, ◌++◌, length, get_or, map, replicate, refl, sym, ap, ap₂, ◌∙◌, arith}
+use Rattle.std.proofs.Common.{◌≡◌, ℕ, zero, suc, ◌+◌, ◌-◌, ◌<◌, ℤ, pos, List, [], ◌∷◌, ◌++◌, length, get_or, map}
+use Rattle.std.proofs.Common.{replicate, refl, sym, ap, ap₂, ◌∙◌, arith}
 use Rattle.std.proofs.lemmas.List.{map-append}
 use Rattle.pcm_base.specs.declared.sound.Cell.{Cell}
 use Rattle.pcm_base.specs.declared.sound.Cell.TheVariants as cell
@@ -11,7 +12,8 @@ use Rattle.pcm_base.specs.Pieces.{Sources, stretch, piece_len, samples_of, IsVal
 use Rattle.pcm_base.proofs.Pieces.{length-samples}
 use Rattle.clip_track.specs.declared.items.Item.{Item}
 use Rattle.clip_track.specs.declared.items.Item.TheVariants.{Gap, Sound}
-use Rattle.clip_track.specs.Items.{item_len, item_cells, strip_len, strip_cells, IsItem, AreItems, ItemFits, ItemsFit, part_items, part_of_item, gap_items}
+use Rattle.clip_track.specs.Items.{item_len, item_cells, strip_len, strip_cells, IsItem, AreItems, ItemFits, ItemsFit}
+use Rattle.clip_track.specs.Items.{part_items, part_of_item, gap_items}
 use Rattle.std.proofs.lemmas.Bool.{cases_lt}
 use Rattle.std.proofs.Common.{inl, inr, min}
 use Rattle.pcm_base.specs.declared.block.BlockRef.{BlockRef}
@@ -30,7 +32,8 @@ silent_samples : (xs : List ℤ) → map cell.Sample (replicate (length xs) (pos
 silent_samples [] = refl
 silent_samples (x ∷ xs) = ap (λ cs. cell.Sample (pos 0) ∷ cs) (silent_samples xs)
 
-gained_samples : (gain : ℕ) (xs : List ℤ) → map cell.Sample (map (λ s. clamped (scaled gain s)) xs) ≡ map (gained gain) (map cell.Sample xs)
+gained_samples : (gain : ℕ) (xs : List ℤ)
+    → map cell.Sample (map (λ s. clamped (scaled gain s)) xs) ≡ map (gained gain) (map cell.Sample xs)
 gained_samples gain [] = refl
 gained_samples gain (x ∷ xs) = ap (λ cs. cell.Sample (clamped (scaled gain x)) ∷ cs) (gained_samples gain xs)
 
@@ -38,20 +41,25 @@ gaps_same : (f : Cell → Cell) (n : ℕ) → f cell.Gap ≡ cell.Gap → replic
 gaps_same f zero e = refl
 gaps_same f (suc n) e = ap₂ ◌∷◌ (sym e) (gaps_same f n e)
 
-item_cells_change : (src : Sources) (change : Change) (x : Item) → IsOld x → item_cells src (item_change change x) ≡ map (cell_change change) (item_cells src x)
+item_cells_change : (src : Sources) (change : Change) (x : Item) → IsOld x
+    → item_cells src (item_change change x) ≡ map (cell_change change) (item_cells src x)
 item_cells_change src Silence (Gap n) o = gaps_same quieted n refl
 item_cells_change src (Gain gain) (Gap n) o = gaps_same (gained gain) n refl
 item_cells_change src Silence (Sound (Old b from to)) o =
-    ap (λ n. map cell.Sample (replicate n (pos 0))) (sym (length-samples src (Old b from to))) ∙ silent_samples (samples_of src (Old b from to))
-item_cells_change src (Gain gain) (Sound (Old b from to)) o = gained_samples gain (stretch (src.block b.id) from (to - from))
+    ap (λ n. map cell.Sample (replicate n (pos 0))) (sym (length-samples src (Old b from to)))
+    ∙ silent_samples (samples_of src (Old b from to))
+item_cells_change src (Gain gain) (Sound (Old b from to)) o =
+    gained_samples gain (stretch (src.block b.id) from (to - from))
 item_cells_change src change (Sound (Scaled b from to gain)) o = absurd o
 item_cells_change src change (Sound (Zero len)) o = absurd o
 item_cells_change src change (Sound (Given from to)) o = absurd o
 
-pub strip_cells_change : (src : Sources) (change : Change) (xs : List Item) → AllOld xs → strip_cells src (map (item_change change) xs) ≡ map (cell_change change) (strip_cells src xs)
+pub strip_cells_change : (src : Sources) (change : Change) (xs : List Item) → AllOld xs
+    → strip_cells src (map (item_change change) xs) ≡ map (cell_change change) (strip_cells src xs)
 strip_cells_change src change [] o = refl
 strip_cells_change src change (x ∷ xs) o =
-    ap₂ ◌++◌ (item_cells_change src change x o.0) (strip_cells_change src change xs o.1) ∙ sym (map-append (cell_change change) (item_cells src x) (strip_cells src xs))
+    ap₂ ◌++◌ (item_cells_change src change x o.0) (strip_cells_change src change xs o.1)
+    ∙ sym (map-append (cell_change change) (item_cells src x) (strip_cells src xs))
 
 piece_len_change : (change : Change) (p : Piece) → piece_len (piece_change change p) ≡ piece_len p
 piece_len_change Silence p = refl
@@ -94,7 +102,8 @@ item_fits_change : (m : ℕ) (change : Change) (x : Item) → ItemFits m x → I
 item_fits_change m change (Gap n) v = v
 item_fits_change m change (Sound p) v = piece_fits_change m change p v
 
-pub ItemsFit_change : (m : ℕ) (change : Change) (xs : List Item) → ItemsFit m xs → ItemsFit m (map (item_change change) xs)
+pub ItemsFit_change : (m : ℕ) (change : Change) (xs : List Item) → ItemsFit m xs
+    → ItemsFit m (map (item_change change) xs)
 ItemsFit_change m change [] v = tt
 ItemsFit_change m change (x ∷ xs) v = (item_fits_change m change x v.0, ItemsFit_change m change xs v.1)
 

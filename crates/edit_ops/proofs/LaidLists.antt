@@ -1,5 +1,6 @@
 -- Lemmas on clips that are laid out.
-use Rattle.std.proofs.Common.{◌≡◌, ℕ, zero, suc, ◌+◌, ◌-◌, ◌<◌, ◌≤◌, ℤ, pos, List, [], ◌∷◌, ◌++◌, length, map, replicate, refl, sym, ap, ap₂, ◌∙◌, append_assoc, arith, length-append}
+use Rattle.std.proofs.Common.{◌≡◌, ℕ, zero, suc, ◌+◌, ◌-◌, ◌<◌, ◌≤◌, ℤ, pos, List, [], ◌∷◌, ◌++◌, length, map}
+use Rattle.std.proofs.Common.{replicate, refl, sym, ap, ap₂, ◌∙◌, append_assoc, arith, length-append}
 use Rattle.std.proofs.lemmas.List.{append-nil, replicate-append-replicate, map-append}
 use Rattle.pcm_base.specs.declared.sound.Cell.{Cell}
 use Rattle.pcm_base.specs.declared.sound.Cell.TheVariants as cell
@@ -18,7 +19,8 @@ use Rattle.block_sequence.specs.Laid.{parts, sizes, all_laid_samples, AllMade}
 use Rattle.edit_ops.specs.declared.types.LaidClip.{LaidClip}
 use Rattle.edit_ops.specs.LaidClips.{ClipsFrom, laid_len, laid_end, laid_next, laid_cells, AreLaidClips, made_clips}
 
-pub length-all_laid : (m : ℕ) (src : Sources) (ls : List Laid) → AllMade m ls → length (all_laid_samples src ls) ≡ added (sizes ls)
+pub length-all_laid : (m : ℕ) (src : Sources) (ls : List Laid) → AllMade m ls
+    → length (all_laid_samples src ls) ≡ added (sizes ls)
 length-all_laid m src [] a = refl
 length-all_laid m src (Keep b ∷ ls) a =
     length-append (stretch (src.block b.id) 0 b.len) (all_laid_samples src ls)
@@ -34,12 +36,14 @@ pub laid_end-push : (at : ℕ) (cs : List LaidClip) (c : LaidClip) → laid_end 
 laid_end-push at [] c = refl
 laid_end-push at (d ∷ cs) c = laid_end-push (d.start + laid_len d) cs c
 
-pub laid_next-push : (at : ℕ) (cs : List LaidClip) (c : LaidClip) → laid_next at (cs ++ c ∷ []) ≡ c.start + laid_len c + 1
+pub laid_next-push : (at : ℕ) (cs : List LaidClip) (c : LaidClip)
+    → laid_next at (cs ++ c ∷ []) ≡ c.start + laid_len c + 1
 laid_next-push at [] c = refl
 laid_next-push at (d ∷ cs) c = laid_next-push (d.start + laid_len d + 1) cs c
 
 pub laid_cells-push : (src : Sources) (at : ℕ) (cs : List LaidClip) (c : LaidClip)
-    → laid_cells src at (cs ++ c ∷ []) ≡ laid_cells src at cs ++ replicate (c.start - laid_end at cs) cell.Gap ++ map cell.Sample (all_laid_samples src c.laid.items)
+    → laid_cells src at (cs ++ c ∷ []) ≡ laid_cells src at cs ++ replicate (c.start - laid_end at cs) cell.Gap
+    ++ map cell.Sample (all_laid_samples src c.laid.items)
 laid_cells-push src at [] c = append-nil _
 laid_cells-push src at (d ∷ cs) c =
     let front = replicate (d.start - at) cell.Gap ++ map cell.Sample (all_laid_samples src d.laid.items) in
@@ -51,10 +55,12 @@ laid_cells-push src at (d ∷ cs) c =
     ∙ ap (λ xs. xs ++ last) (sym (append_assoc front rest gap))
 
 pub AreLaidClips-push : (m from : ℕ) (cs : List LaidClip) (c : LaidClip)
-    → AreLaidClips m from cs → laid_next from cs ≤ c.start → 0 < laid_len c → AllMade m c.laid.items → IsHalfFull m (sizes c.laid.items)
+    → AreLaidClips m from cs → laid_next from cs ≤ c.start → 0 < laid_len c → AllMade m c.laid.items
+    → IsHalfFull m (sizes c.laid.items)
     → AreLaidClips m from (cs ++ c ∷ [])
 AreLaidClips-push m from [] c a l s k h = (l, s, k, h, tt)
-AreLaidClips-push m from (d ∷ cs) c a l s k h = (a.0, a.1, a.2, a.3, AreLaidClips-push m (d.start + laid_len d + 1) cs c a.4 l s k h)
+AreLaidClips-push m from (d ∷ cs) c a l s k h =
+    (a.0, a.1, a.2, a.3, AreLaidClips-push m (d.start + laid_len d + 1) cs c a.4 l s k h)
 
 pub end_before_next : (at from : ℕ) (cs : List LaidClip) → at ≤ from → laid_end at cs ≤ laid_next from cs
 end_before_next at from [] h = h
@@ -74,7 +80,8 @@ trimmed-clip g (s ∷ ss) rest h e =
     let a = append_assoc (replicate g cell.Gap) (map cell.Sample (s ∷ ss)) rest in
     ap trimmed a ∙ trimmed-gap_clip g s (map cell.Sample ss ++ rest) (trimmed-samples (s ∷ ss) rest e) ∙ sym a
 
-pub trimmed-laid : (m : ℕ) (src : Sources) (at from : ℕ) (cs : List LaidClip) → AreLaidClips m from cs → trimmed (laid_cells src at cs) ≡ laid_cells src at cs
+pub trimmed-laid : (m : ℕ) (src : Sources) (at from : ℕ) (cs : List LaidClip) → AreLaidClips m from cs
+    → trimmed (laid_cells src at cs) ≡ laid_cells src at cs
 trimmed-laid m src at from [] a = refl
 trimmed-laid m src at from (c ∷ cs) a =
     trimmed-clip (c.start - at) (all_laid_samples src c.laid.items) (laid_cells src (c.start + laid_len c) cs)
@@ -82,7 +89,8 @@ trimmed-laid m src at from (c ∷ cs) a =
     (trimmed-laid m src (c.start + laid_len c) (c.start + laid_len c + 1) cs a.4)
 
 -- a clip is laid out after others
-pub closed_cells : (src : Sources) (out : List LaidClip) (c : LaidClip) (size : ℕ) (samples : List ℤ) → laid_len c ≡ size → all_laid_samples src c.laid.items ≡ samples
+pub closed_cells : (src : Sources) (out : List LaidClip) (c : LaidClip) (size : ℕ) (samples : List ℤ)
+    → laid_len c ≡ size → all_laid_samples src c.laid.items ≡ samples
     → laid_cells src 0 (out ++ c ∷ []) ++ replicate (c.start + size - laid_end 0 (out ++ c ∷ [])) cell.Gap
     ≡ laid_cells src 0 out ++ replicate (c.start - laid_end 0 out) cell.Gap ++ map cell.Sample samples
 closed_cells src out c size samples e f =
@@ -92,7 +100,8 @@ closed_cells src out c size samples e f =
     ∙ laid_cells-push src 0 out c
     ∙ ap (λ ss. laid_cells src 0 out ++ replicate (c.start - laid_end 0 out) cell.Gap ++ map cell.Sample ss) f
 
-pub gap_cells : (before : List Cell) (e k n : ℕ) (so_far rest all : List Cell) → k ≡ e + n → before ++ replicate e cell.Gap ≡ so_far
+pub gap_cells : (before : List Cell) (e k n : ℕ) (so_far rest all : List Cell) → k ≡ e + n
+    → before ++ replicate e cell.Gap ≡ so_far
     → so_far ++ (replicate n cell.Gap ++ rest) ≡ all → before ++ replicate k cell.Gap ++ [] ++ rest ≡ all
 gap_cells before e k n so_far rest all d f g =
     ap (λ xs. xs ++ rest) (append-nil (before ++ replicate k cell.Gap)
@@ -107,18 +116,23 @@ pub sound_cells : (src : Sources) (before : List Cell) (held : List Piece) (p : 
     → before ++ map cell.Sample (all_samples src held) ++ (map cell.Sample (samples_of src p) ++ rest) ≡ all
     → before ++ map cell.Sample (all_samples src (held ++ p ∷ [])) ++ rest ≡ all
 sound_cells src before held p rest all e =
-    ap (λ ss. before ++ map cell.Sample ss ++ rest) (all_samples-append src held (p ∷ []) ∙ ap (λ ss. all_samples src held ++ ss) (append-nil (samples_of src p)))
+    ap (λ ss. before ++ map cell.Sample ss ++ rest)
+    (all_samples-append src held (p ∷ []) ∙ ap (λ ss. all_samples src held ++ ss) (append-nil (samples_of src p)))
     ∙ ap (λ xs. before ++ xs ++ rest) (map-append cell.Sample (all_samples src held) (samples_of src p))
-    ∙ ap (λ xs. xs ++ rest) (sym (append_assoc before (map cell.Sample (all_samples src held)) (map cell.Sample (samples_of src p))))
+    ∙ ap (λ xs. xs ++ rest)
+    (sym (append_assoc before (map cell.Sample (all_samples src held)) (map cell.Sample (samples_of src p))))
     ∙ append_assoc (before ++ map cell.Sample (all_samples src held)) (map cell.Sample (samples_of src p)) rest
     ∙ e
 
 -- all clips are laid out, and gaps are left
-pub ended_cells : (m : ℕ) (src : Sources) (cs : List LaidClip) (k : ℕ) (all : List Cell) → AreLaidClips m 0 cs → laid_cells src 0 cs ++ replicate k cell.Gap ≡ all
+pub ended_cells : (m : ℕ) (src : Sources) (cs : List LaidClip) (k : ℕ) (all : List Cell) → AreLaidClips m 0 cs
+    → laid_cells src 0 cs ++ replicate k cell.Gap ≡ all
     → laid_cells src 0 cs ≡ trimmed all
-ended_cells m src cs k all a e = sym (trimmed-laid m src 0 0 cs a) ∙ sym (trimmed-gaps (laid_cells src 0 cs) k) ∙ ap trimmed e
+ended_cells m src cs k all a e =
+    sym (trimmed-laid m src 0 0 cs a) ∙ sym (trimmed-gaps (laid_cells src 0 cs) k) ∙ ap trimmed e
 
-pub made_clips-push : (cs : List LaidClip) (c : LaidClip) → made_clips (cs ++ c ∷ []) ≡ made_clips cs + made_count (parts c.laid.items)
+pub made_clips-push : (cs : List LaidClip) (c : LaidClip)
+    → made_clips (cs ++ c ∷ []) ≡ made_clips cs + made_count (parts c.laid.items)
 made_clips-push [] c = omega arith
 made_clips-push (d ∷ cs) c = omega (arith, made_clips-push cs c)
 
@@ -126,6 +140,7 @@ pub AllShort-append : (m : ℕ) (ps qs : List Piece) → AllShort m ps → AllSh
 AllShort-append m [] qs a b = b
 AllShort-append m (p ∷ ps) qs a b = (a.0, AllShort-append m ps qs a.1 b)
 
-pub ClipsFrom-push : (old : List BlockRef) (count : ℕ) (cs : List LaidClip) (c : LaidClip) → ClipsFrom old count cs → AllLaidFrom old count c.laid.items → ClipsFrom old count (cs ++ c ∷ [])
+pub ClipsFrom-push : (old : List BlockRef) (count : ℕ) (cs : List LaidClip) (c : LaidClip) → ClipsFrom old count cs
+    → AllLaidFrom old count c.laid.items → ClipsFrom old count (cs ++ c ∷ [])
 ClipsFrom-push old count [] c a b = (b, tt)
 ClipsFrom-push old count (d ∷ cs) c a b = (a.0, ClipsFrom-push old count cs c a.1 b)

@@ -1,5 +1,6 @@
 -- Lemmas on edits of several tracks.
-use Rattle.std.proofs.Common.{◌≡◌, ℕ, zero, suc, ◌+◌, ◌<◌, ◌^◌, List, [], ◌∷◌, ◌++◌, length, get_or, take, drop, refl, sym, ap, ◌∙◌, arith, inl, inr, ◌≤◌, Option, None, Some, nat_lt}
+use Rattle.std.proofs.Common.{◌≡◌, ℕ, zero, suc, ◌+◌, ◌<◌, ◌^◌, List, [], ◌∷◌, ◌++◌, length, get_or, take, drop, refl}
+use Rattle.std.proofs.Common.{sym, ap, ◌∙◌, arith, inl, inr, ◌≤◌, Option, None, Some, nat_lt}
 use Rattle.std.proofs.lemmas.Bool.{cases_lt, lt-ltb}
 use Rattle.std.proofs.lemmas.List.{take_more, drop_more}
 use denote.Ref.{Bor}
@@ -15,10 +16,12 @@ use Rattle.edit_ops.specs.declared.types.Plan.{Plan}
 use Rattle.edit_ops.specs.Strips.{IsClip}
 use Rattle.edit_ops.specs.Placing.{SumsFit, LengthsFit, placed_length}
 use Rattle.edit_ops.specs.declared.placing.Placing.{Placing}
-use Rattle.edit_ops.specs.Runs.{AllTracksHalfFull, AreClips, IsCopy, AreCopies, IsCut, AreCuts, IsPaste, ArePastes, layouts, next_of, lengths_of}
+use Rattle.edit_ops.specs.Runs.{AllTracksHalfFull, AreClips, IsCopy, AreCopies, IsCut, AreCuts, IsPaste, ArePastes}
+use Rattle.edit_ops.specs.Runs.{layouts, next_of, lengths_of}
 
 -- the layouts behind references
-layout_at : (refs : List (Bor (List Clip))) (i : ℕ) (r : Bor (List Clip)) → r ≡ get_or refs i r → r.now ≡ get_or (layouts refs) i r.now
+layout_at : (refs : List (Bor (List Clip))) (i : ℕ) (r : Bor (List Clip)) → r ≡ get_or refs i r
+    → r.now ≡ get_or (layouts refs) i r.now
 layout_at [] i r e = refl
 layout_at (x ∷ refs) zero r e = ap (λ (y : Bor (List Clip)). y.now) e
 layout_at (x ∷ refs) (suc i) r e = layout_at refs i r e
@@ -32,19 +35,23 @@ layouts_take zero refs = refl
 layouts_take (suc n) [] = refl
 layouts_take (suc n) (x ∷ refs) = ap (λ (ts : List (List Clip)). x.now ∷ ts) (layouts_take n refs)
 
-module _ (refs : List (Bor (List Clip))) (i : ℕ) (r : Bor (List Clip)) (lt : i < length refs) (is : r ≡ get_or refs i r) where
+module _ (refs : List (Bor (List Clip))) (i : ℕ) (r : Bor (List Clip)) (lt : i < length refs)
+    (is : r ≡ get_or refs i r) where
   pub layouts_at : r.now ≡ get_or (layouts refs) i r.now
   layouts_at = layout_at refs i r is
 
   pub layouts_more : take (i + 1) (layouts refs) ≡ take i (layouts refs) ++ r.now ∷ []
   layouts_more =
-      take_more (layouts refs) i r.now (omega (arith, length-layouts refs, lt)) ∙ ap (λ (t : List Clip). take i (layouts refs) ++ t ∷ []) (sym (layout_at refs i r is))
+      take_more (layouts refs) i r.now (omega (arith, length-layouts refs, lt))
+      ∙ ap (λ (t : List Clip). take i (layouts refs) ++ t ∷ []) (sym (layout_at refs i r is))
 
   pub layouts_left : drop i (layouts refs) ≡ r.now ∷ drop (i + 1) (layouts refs)
   layouts_left =
-      drop_more (layouts refs) i r.now (omega (arith, length-layouts refs, lt)) ∙ ap (λ (t : List Clip). t ∷ drop (i + 1) (layouts refs)) (sym (layout_at refs i r is))
+      drop_more (layouts refs) i r.now (omega (arith, length-layouts refs, lt))
+      ∙ ap (λ (t : List Clip). t ∷ drop (i + 1) (layouts refs)) (sym (layout_at refs i r is))
 
-pub half_full_at : (m : ℕ) (ts : List (List Clip)) (i : ℕ) (d : List Clip) → i < length ts → AllTracksHalfFull m ts → AllHalfFull m (get_or ts i d)
+pub half_full_at : (m : ℕ) (ts : List (List Clip)) (i : ℕ) (d : List Clip) → i < length ts → AllTracksHalfFull m ts
+    → AllHalfFull m (get_or ts i d)
 half_full_at m [] i d h a = absurd (omega arith)
 half_full_at m (t ∷ ts) zero d h a = a.0
 half_full_at m (t ∷ ts) (suc i) d h a = half_full_at m ts i d (omega arith) a.1
@@ -54,46 +61,55 @@ half_full_take m zero ts a = tt
 half_full_take m (suc n) [] a = tt
 half_full_take m (suc n) (t ∷ ts) a = (a.0, half_full_take m n ts a.1)
 
-pub clip_at : (m : ℕ) (cs : List (List Item)) (i : ℕ) (d : List Item) → i < length cs → AreClips m cs → IsClip m (get_or cs i d)
+pub clip_at : (m : ℕ) (cs : List (List Item)) (i : ℕ) (d : List Item) → i < length cs → AreClips m cs
+    → IsClip m (get_or cs i d)
 clip_at m [] i d h a = absurd (omega arith)
 clip_at m (c ∷ cs) zero d h a = a.0
 clip_at m (c ∷ cs) (suc i) d h a = clip_at m cs i d (omega arith) a.1
 
-pub sum_at : (at : ℕ) (cs : List (List Item)) (ts : List (List Clip)) (i : ℕ) (d : List Item) (e : List Clip) → i < length cs → i < length ts → SumsFit at cs ts → at + strip_len (get_or cs i d) + end_of 0 (get_or ts i e) < 2 ^ 64
+pub sum_at : (at : ℕ) (cs : List (List Item)) (ts : List (List Clip)) (i : ℕ) (d : List Item) (e : List Clip) → i
+    < length cs → i < length ts → SumsFit at cs ts → at + strip_len (get_or cs i d) + end_of 0 (get_or ts i e) < 2 ^ 64
 sum_at at [] ts i d e h k a = absurd (omega arith)
 sum_at at (c ∷ cs) [] i d e h k a = absurd (omega arith)
 sum_at at (c ∷ cs) (t ∷ ts) zero d e h k a = a.0
 sum_at at (c ∷ cs) (t ∷ ts) (suc i) d e h k a = sum_at at cs ts i d e (omega arith) (omega arith) a.1
 
-pub length_at : (placing : Placing) (at : ℕ) (cs : List (List Item)) (ts : List (List Clip)) (i : ℕ) (d : List Item) (e : List Clip) → i < length cs → i < length ts → LengthsFit placing at cs ts
+pub length_at : (placing : Placing) (at : ℕ) (cs : List (List Item)) (ts : List (List Clip)) (i : ℕ) (d : List Item)
+    (e : List Clip) → i < length cs → i < length ts → LengthsFit placing at cs ts
     → placed_length placing at (strip_len (get_or cs i d)) (end_of 0 (get_or ts i e)) < 4294967297
 length_at placing at [] ts i d e h k a = absurd (omega arith)
 length_at placing at (c ∷ cs) [] i d e h k a = absurd (omega arith)
 length_at placing at (c ∷ cs) (t ∷ ts) zero d e h k a = omega (arith, a.0)
-length_at placing at (c ∷ cs) (t ∷ ts) (suc i) d e h k a = length_at placing at cs ts i d e (omega arith) (omega arith) a.1
+length_at placing at (c ∷ cs) (t ∷ ts) (suc i) d e h k a =
+    length_at placing at cs ts i d e (omega arith) (omega arith) a.1
 
 -- one more
-pub AreCopies-push : (from to : ℕ) (ts : List (List Clip)) (ss : List (List Item)) (t : List Clip) (s : List Item) → AreCopies from to ts ss → IsCopy from to t s → AreCopies from to (ts ++ t ∷ []) (ss ++ s ∷ [])
+pub AreCopies-push : (from to : ℕ) (ts : List (List Clip)) (ss : List (List Item)) (t : List Clip) (s : List Item)
+    → AreCopies from to ts ss → IsCopy from to t s → AreCopies from to (ts ++ t ∷ []) (ss ++ s ∷ [])
 AreCopies-push from to [] [] t s a b = (b, tt)
 AreCopies-push from to [] (x ∷ ss) t s a b = absurd a
 AreCopies-push from to (x ∷ ts) [] t s a b = absurd a
 AreCopies-push from to (x ∷ ts) (y ∷ ss) t s a b = (a.0, AreCopies-push from to ts ss t s a.1 b)
 
-pub AreCuts-push : (edit : List Cell → List Cell) (m next : ℕ) (ts : List (List Clip)) (ps : List Plan) (t : List Clip) (p : Plan)
+pub AreCuts-push : (edit : List Cell → List Cell) (m next : ℕ) (ts : List (List Clip)) (ps : List Plan) (t : List Clip)
+    (p : Plan)
     → AreCuts edit m next ts ps → IsCut edit m (next_of next ps) t p → AreCuts edit m next (ts ++ t ∷ []) (ps ++ p ∷ [])
 AreCuts-push edit m next [] [] t p a b = (b, tt)
 AreCuts-push edit m next [] (x ∷ ps) t p a b = absurd a
 AreCuts-push edit m next (x ∷ ts) [] t p a b = absurd a
 AreCuts-push edit m next (x ∷ ts) (y ∷ ps) t p a b = (a.0, AreCuts-push edit m y.next ts ps t p a.1 b)
 
-pub ArePastes-push : (edit : List Cell → List Cell → List Cell) (m next : ℕ) (cs : List (List Item)) (ts : List (List Clip)) (ps : List Plan) (c : List Item) (t : List Clip) (p : Plan)
-    → ArePastes edit m next cs ts ps → IsPaste edit m (next_of next ps) c t p → ArePastes edit m next (cs ++ c ∷ []) (ts ++ t ∷ []) (ps ++ p ∷ [])
+pub ArePastes-push : (edit : List Cell → List Cell → List Cell) (m next : ℕ) (cs : List (List Item))
+    (ts : List (List Clip)) (ps : List Plan) (c : List Item) (t : List Clip) (p : Plan)
+    → ArePastes edit m next cs ts ps → IsPaste edit m (next_of next ps) c t p
+    → ArePastes edit m next (cs ++ c ∷ []) (ts ++ t ∷ []) (ps ++ p ∷ [])
 ArePastes-push edit m next [] [] [] c t p a b = (b, tt)
 ArePastes-push edit m next [] [] (x ∷ ps) c t p a b = absurd a
 ArePastes-push edit m next [] (x ∷ ts) ps c t p a b = absurd a
 ArePastes-push edit m next (x ∷ cs) [] ps c t p a b = absurd a
 ArePastes-push edit m next (x ∷ cs) (y ∷ ts) [] c t p a b = absurd a
-ArePastes-push edit m next (x ∷ cs) (y ∷ ts) (z ∷ ps) c t p a b = (a.0, ArePastes-push edit m z.next cs ts ps c t p a.1 b)
+ArePastes-push edit m next (x ∷ cs) (y ∷ ts) (z ∷ ps) c t p a b =
+    (a.0, ArePastes-push edit m z.next cs ts ps c t p a.1 b)
 
 pub next_of-push : (next : ℕ) (ps : List Plan) (p : Plan) → next_of next (ps ++ p ∷ []) ≡ p.next
 next_of-push next [] p = refl
@@ -116,12 +132,14 @@ wide_enough have need r h = elim (cases_lt have need) [
 pub lengths_pass : (have need : ℕ) (r : Option Refusal) → (too_narrow have need) otherwise r ≡ None → r ≡ None
 lengths_pass have need r h = (first_none (too_narrow have need) r h).1
 
-pub lengths_fit : (placing : Placing) (at : ℕ) (cs : List (List Item)) (ts : List (List Clip)) → length_limit (lengths_of (placed_length placing at) cs ts) ≡ None → LengthsFit placing at cs ts
+pub lengths_fit : (placing : Placing) (at : ℕ) (cs : List (List Item)) (ts : List (List Clip))
+    → length_limit (lengths_of (placed_length placing at) cs ts) ≡ None → LengthsFit placing at cs ts
 lengths_fit placing at [] ts h = tt
 lengths_fit placing at (c ∷ cs) [] h = tt
 lengths_fit placing at (c ∷ cs) (t ∷ ts) h =
     let n = placed_length placing at (strip_len c) (end_of 0 t) in
-    let both = first_none (refused_if (nat_lt (2 ^ 32) n) (LengthLimit n)) (length_limit (lengths_of (placed_length placing at) cs ts)) h in
+    let both = first_none (refused_if (nat_lt (2 ^ 32) n) (LengthLimit n))
+    (length_limit (lengths_of (placed_length placing at) cs ts)) h in
     elim (cases_lt 4294967296 n) [
       | inl a ↦ absurd (some_reason (rw (lt-ltb 4294967296 n a) at both.0))
       | inr a ↦ (a, lengths_fit placing at cs ts both.1)
@@ -146,7 +164,8 @@ pub limit_first : (n : ℕ) (ns : List ℕ) (r : Refusal) → length_limit (n �
 limit_first n ns r h = in_front (refused_if (nat_lt (2 ^ 32) n) (LengthLimit n)) (length_limit ns) r h
 
 -- what is copied of layouts that are half full may be pasted
-pub clips_of_copies : (m from to : ℕ) (ts : List (List Clip)) (ss : List (List Item)) → AreCopies from to ts ss → AllTracksHalfFull m ts → AreClips m ss
+pub clips_of_copies : (m from to : ℕ) (ts : List (List Clip)) (ss : List (List Item)) → AreCopies from to ts ss
+    → AllTracksHalfFull m ts → AreClips m ss
 clips_of_copies m from to [] [] a h = tt
 clips_of_copies m from to [] (s ∷ ss) a h = absurd a
 clips_of_copies m from to (t ∷ ts) [] a h = absurd a

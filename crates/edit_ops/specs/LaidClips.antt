@@ -44,11 +44,13 @@ laid_next from (c ∷ cs) = laid_next (c.start + laid_len c + 1) cs
 
 abbrev pub laid_cells : Sources → ℕ → List LaidClip → List Cell
 laid_cells src at [] = []
-laid_cells src at (c ∷ cs) = replicate (c.start - at) cell.Gap ++ map cell.Sample (all_laid_samples src c.laid.items) ++ laid_cells src (c.start + laid_len c) cs
+laid_cells src at (c ∷ cs) = replicate (c.start - at) cell.Gap ++ map cell.Sample (all_laid_samples src c.laid.items)
+    ++ laid_cells src (c.start + laid_len c) cs
 
 abbrev pub AreLaidClips : ℕ → ℕ → List LaidClip → Type 0
 AreLaidClips m from [] = Unit {0}
-AreLaidClips m from (c ∷ cs) = (from ≤ c.start) × (0 < laid_len c) × AllMade m c.laid.items × IsHalfFull m (sizes c.laid.items) × AreLaidClips m (c.start + laid_len c + 1) cs
+AreLaidClips m from (c ∷ cs) = (from ≤ c.start) × (0 < laid_len c) × AllMade m c.laid.items
+    × IsHalfFull m (sizes c.laid.items) × AreLaidClips m (c.start + laid_len c + 1) cs
 
 -- what is laid out comes from these blocks, and so many samples that the command brings
 abbrev pub ClipsFrom : List BlockRef → ℕ → List LaidClip → Type 0
@@ -58,7 +60,8 @@ ClipsFrom old count (c ∷ cs) = AllLaidFrom old count c.laid.items × ClipsFrom
 -- with ids
 abbrev pub named_clips : ℕ → List LaidClip → List Clip
 named_clips next [] = []
-named_clips next (c ∷ cs) = record { start = c.start; blocks = named next c.laid.items } ∷ named_clips (next_after next c.laid.items) cs
+named_clips next (c ∷ cs) =
+    record { start = c.start; blocks = named next c.laid.items } ∷ named_clips (next_after next c.laid.items) cs
 
 abbrev pub clips_new_blocks : ℕ → List LaidClip → List NewBlock
 clips_new_blocks next [] = []

@@ -35,4 +35,5 @@ SumsFit at (c ∷ cs) (t ∷ ts) = (at + strip_len c + end_of 0 t < 2 ^ 64) × S
 abbrev pub LengthsFit : Placing → ℕ → List (List Item) → List (List Clip) → Type 0
 LengthsFit placing at [] ts = Unit {0}
 LengthsFit placing at (c ∷ cs) [] = Unit {0}
-LengthsFit placing at (c ∷ cs) (t ∷ ts) = (placed_length placing at (strip_len c) (end_of 0 t) ≤ 2 ^ 32) × LengthsFit placing at cs ts
+LengthsFit placing at (c ∷ cs) (t ∷ ts) =
+    (placed_length placing at (strip_len c) (end_of 0 t) ≤ 2 ^ 32) × LengthsFit placing at cs ts

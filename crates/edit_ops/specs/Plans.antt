@@ -1,5 +1,6 @@
 -- What the plan of an edit promises.
-use Rattle.std.specs.Prelude.{◌≡◌, ℕ, ◌+◌, ◌<◌, ◌≤◌, ◌⊎◌, List, [], ◌∷◌, length, Contains, Option, None, Some, Result, MatchResult}
+use Rattle.std.specs.Prelude.{◌≡◌, ℕ, ◌+◌, ◌<◌, ◌≤◌, ◌⊎◌, List, [], ◌∷◌, length, Contains, Option, None, Some, Result}
+use Rattle.std.specs.Prelude.{MatchResult}
 use Rattle.pcm_base.specs.declared.refusal.Refusal.{Refusal}
 use Rattle.pcm_base.specs.declared.refusal.Refusal.TheVariants.{NoMemory}
 use Rattle.pcm_base.specs.declared.block.BlockRef.{BlockRef}
@@ -19,7 +20,8 @@ AreWritten src (b ∷ bs) = (stretch (src.block b.id) 0 b.len ≡ all_samples sr
 -- new blocks have the ids from the next one on, 1 to m samples, and pieces of as many
 abbrev pub AreNew : ℕ → ℕ → List NewBlock → Type 0
 AreNew m next [] = Unit {0}
-AreNew m next (b ∷ bs) = (b.id ≡ next) × (0 < b.len) × (b.len ≤ m) × (total b.pieces ≡ b.len) × AllValid b.pieces × AreNew m (next + 1) bs
+AreNew m next (b ∷ bs) =
+    (b.id ≡ next) × (0 < b.len) × (b.len ≤ m) × (total b.pieces ≡ b.len) × AllValid b.pieces × AreNew m (next + 1) bs
 
 -- their pieces are parts of these blocks, zeros, or parts of so many samples that the command brings
 abbrev pub AllNewFrom : List BlockRef → ℕ → List NewBlock → Type 0
@@ -35,7 +37,8 @@ abbrev pub AreOldOrNew : List BlockRef → List BlockRef → List NewBlock → T
 AreOldOrNew old [] [] = Unit {0}
 AreOldOrNew old [] (n ∷ ns) = ⊥
 AreOldOrNew old (b ∷ bs) [] = Contains old b × AreOldOrNew old bs []
-AreOldOrNew old (b ∷ bs) (n ∷ ns) = (Contains old b × AreOldOrNew old bs (n ∷ ns)) ⊎ ((b ≡ ref_of n) × AreOldOrNew old bs ns)
+AreOldOrNew old (b ∷ bs) (n ∷ ns) =
+    (Contains old b × AreOldOrNew old bs (n ∷ ns)) ⊎ ((b ≡ ref_of n) × AreOldOrNew old bs ns)
 
 -- the plan of an edit at block size m, of old blocks and so many samples that the command brings
 pub record IsPlan (m next : ℕ) (old : List BlockRef) (count : ℕ) (p : Plan) : Type 0 where
@@ -47,7 +50,8 @@ pub record IsPlan (m next : ℕ) (old : List BlockRef) (count : ℕ) (p : Plan) 
 
 -- once its new blocks hold what their pieces say, the new layout means the edit of what the old one meant
 abbrev pub Means : (Sources → List Cell → List Cell) → List Clip → Plan → Type 0
-Means edit old p = (src : Sources) → AreWritten src p.makes → layout_cells src p.layout ≡ edit src (layout_cells src old)
+Means edit old p = (src : Sources) → AreWritten src p.makes
+    → layout_cells src p.layout ≡ edit src (layout_cells src old)
 
 -- a test is passed, or answers its reason
 abbrev pub Passes : Option Refusal → Result (Unit {0}) Refusal → Type 0
@@ -55,4 +59,5 @@ Passes test result = MatchResult result (λ _. test ≡ None) (λ reason. test �
 
 -- an edit is answered where its test passes; else by the test's reason, or for want of memory where it passes
 abbrev pub AnswersTest : {A : Type 0} → Option Refusal → Result A Refusal → Type 0
-AnswersTest test result = MatchResult result (λ _. test ≡ None) (λ e. (test ≡ Some e) ⊎ ((test ≡ None) × (e ≡ NoMemory)))
+AnswersTest test result =
+    MatchResult result (λ _. test ≡ None) (λ e. (test ≡ Some e) ⊎ ((test ≡ None) × (e ≡ NoMemory)))

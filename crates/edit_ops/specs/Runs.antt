@@ -79,13 +79,15 @@ AreCuts edit m next (t ∷ ts) [] = ⊥
 AreCuts edit m next (t ∷ ts) (p ∷ ps) = IsCut edit m next t p × AreCuts edit m p.next ts ps
 
 -- the plan of one strip pasted into a track
-pub record IsPaste (edit : List Cell → List Cell → List Cell) (m next : ℕ) (c : List Item) (t : List Clip) (p : Plan) : Type 0 where
+pub record IsPaste (edit : List Cell → List Cell → List Cell) (m next : ℕ) (c : List Item) (t : List Clip)
+    (p : Plan) : Type 0 where
   pub plan : IsPlan m next (layout_blocks t ++ strip_blocks c) 0 p
   pub cells : Means (λ src. edit (strip_cells src c)) t p
   pub few_made : length p.makes ≤ 8
 
 -- one plan for each strip, which goes to the next track, each begun at the next id of the one before
-abbrev pub ArePastes : (List Cell → List Cell → List Cell) → ℕ → ℕ → List (List Item) → List (List Clip) → List Plan → Type 0
+abbrev pub ArePastes : (List Cell → List Cell → List Cell) → ℕ → ℕ → List (List Item) → List (List Clip) → List Plan
+    → Type 0
 ArePastes edit m next [] [] [] = Unit {0}
 ArePastes edit m next [] [] (p ∷ ps) = ⊥
 ArePastes edit m next [] (t ∷ ts) ps = ⊥

@@ -28,7 +28,8 @@ only_part from to xs = gap_items from ++ part_items from (to - from) xs
 
 -- with each sample of a range changed
 abbrev pub with_change : Change → ℕ → ℕ → List Item → List Item
-with_change change from to xs = part_items 0 from xs ++ map (item_change change) (part_items from (to - from) xs) ++ rest_items to xs
+with_change change from to xs =
+    part_items 0 from xs ++ map (item_change change) (part_items from (to - from) xs) ++ rest_items to xs
 
 -- the front, continued by gaps up to a length
 abbrev pub front_items : ℕ → List Item → List Item

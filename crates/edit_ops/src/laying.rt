@@ -40,10 +40,14 @@ fn close(
     ensures end { OnOk result (clips.laid_end 0 out.new.items ≤ start + size) }
     ensures cells { OnOk result ((src : Sources) →
         clips.laid_cells src 0 out.new.items ++ replicate (start + size - clips.laid_end 0 out.new.items) cell.Gap
-        ≡ clips.laid_cells src 0 out.old.items ++ replicate (start - clips.laid_end 0 out.old.items) cell.Gap ++ map cell.Sample (all_samples src held.now)) }
-    ensures origin { OnOk result ((old : List BlockRef) (count : ℕ) → AllFrom old count held.now → clips.ClipsFrom old count out.old.items → clips.ClipsFrom old count out.new.items) }
-    ensures few_made { OnOk result (AllShort m held.now → clips.made_clips out.new.items ≤ clips.made_clips out.old.items + 2 * rough m held.now) }
-    ensures few_samples { OnOk result (m * clips.made_clips out.new.items ≤ m * clips.made_clips out.old.items + clip_room m held.now) }
+        ≡ clips.laid_cells src 0 out.old.items ++ replicate (start - clips.laid_end 0 out.old.items) cell.Gap
+        ++ map cell.Sample (all_samples src held.now)) }
+    ensures origin { OnOk result ((old : List BlockRef) (count : ℕ) → AllFrom old count held.now
+        → clips.ClipsFrom old count out.old.items → clips.ClipsFrom old count out.new.items) }
+    ensures few_made { OnOk result
+        (AllShort m held.now → clips.made_clips out.new.items ≤ clips.made_clips out.old.items + 2 * rough m held.now) }
+    ensures few_samples { OnOk result
+        (m * clips.made_clips out.new.items ≤ m * clips.made_clips out.old.items + clip_room m held.now) }
 {
     if size > 0 {
         let laid = fuse(alloc, held, m)?;
@@ -60,9 +64,12 @@ pub fn lay_strip(alloc: Global, items: &[Item], m: u32) -> Result<Vec<LaidClip>,
     requires few { strip_len items.now ≤ 2 ^ 32 }
     ensures apart { IfOk result (λ v. clips.AreLaidClips m 0 v.items) }
     ensures end { IfOk result (λ v. clips.laid_end 0 v.items ≤ strip_len items.now) }
-    ensures cells { IfOk result (λ v. (src : Sources) → clips.laid_cells src 0 v.items ≡ trimmed (strip_cells src items.now)) }
-    ensures origin { IfOk result (λ v. (old : List BlockRef) (count : ℕ) → ItemsFrom old count items.now → clips.ClipsFrom old count v.items) }
-    ensures few_made { IfOk result (λ v. ItemsShort m items.now → clips.made_clips v.items ≤ 2 * rough_from m [] items.now) }
+    ensures cells { IfOk result
+        (λ v. (src : Sources) → clips.laid_cells src 0 v.items ≡ trimmed (strip_cells src items.now)) }
+    ensures origin { IfOk result
+        (λ v. (old : List BlockRef) (count : ℕ) → ItemsFrom old count items.now → clips.ClipsFrom old count v.items) }
+    ensures few_made { IfOk result
+        (λ v. ItemsShort m items.now → clips.made_clips v.items ≤ 2 * rough_from m [] items.now) }
     ensures few_samples { IfOk result (λ v. m * clips.made_clips v.items ≤ room_from m [] items.now) }
 {
     let mut out = Vec::new(alloc);

@@ -36,7 +36,8 @@ pub fn insert(
     requires room { next ≤ 2 ^ 62 }
     requires sum { at + count + end_of 0 t.now < 2 ^ 64 }
     ensures plan { IfOk result (λ p. IsPlan m next (layout_blocks t.now) count p) }
-    ensures cells { IfOk result (λ p. Means (λ src. edit.inserted at (edit.as_cells (stretch src.given 0 count))) t.now p) }
+    ensures cells { IfOk result
+        (λ p. Means (λ src. edit.inserted at (edit.as_cells (stretch src.given 0 count))) t.now p) }
     ensures few_made { IfOk result (λ p. length p.makes ≤ 8 + count / m) }
     ensures tests { AnswersTest (length_limit (inserted_length at count (end_of 0 t.now) ∷ [])) result }
 {
@@ -142,7 +143,8 @@ pub fn silence(
     ensures plan { IfOk result (λ p. IsPlan m next (layout_blocks t.now) 0 p) }
     ensures cells { IfOk result (λ p. Means (λ src. edit.silenced from to) t.now p) }
     ensures few_made { IfOk result (λ p. (src : Sources) →
-        let cells = edit.part from to (layout_cells src t.now) in length p.makes ≤ 8 + sample_count cells / m + clip_count cells) }
+        let cells = edit.part from to (layout_cells src t.now) in
+        length p.makes ≤ 8 + sample_count cells / m + clip_count cells) }
     ensures tests { AnswersTest (bad_range from to (end_of 0 t.now)) result }
 {
     range(from, to, t.len())?;
@@ -170,7 +172,8 @@ pub fn gain(
     ensures plan { IfOk result (λ p. IsPlan m next (layout_blocks t.now) 0 p) }
     ensures cells { IfOk result (λ p. Means (λ src. edit.changed (edit.gained gain) from to) t.now p) }
     ensures few_made { IfOk result (λ p. (src : Sources) →
-        let cells = edit.part from to (layout_cells src t.now) in length p.makes ≤ 8 + sample_count cells / m + clip_count cells) }
+        let cells = edit.part from to (layout_cells src t.now) in
+        length p.makes ≤ 8 + sample_count cells / m + clip_count cells) }
     ensures tests { AnswersTest (bad_range from to (end_of 0 t.now)) result }
 {
     range(from, to, t.len())?;

@@ -88,9 +88,12 @@ pub fn plan_strip(alloc: Global, strip: &Strip, m: u32, next: u64) -> Result<Pla
     requires fit { ItemsFit m strip.now }
     requires few { strip_len strip.now ≤ 2 ^ 32 }
     requires room { next < 2 ^ 63 }
-    ensures plan { IfOk result (λ p. (old : List BlockRef) (count : ℕ) → ItemsFrom old count strip.now → IsPlan m next old count p) }
-    ensures cells { IfOk result (λ p. (src : Sources) → AreWritten src p.makes → layout_cells src p.layout ≡ trimmed (strip_cells src strip.now)) }
-    ensures few_made { IfOk result (λ p. ItemsShort m strip.now → length p.makes ≤ 2 * rough_items m true true strip.now) }
+    ensures plan { IfOk result
+        (λ p. (old : List BlockRef) (count : ℕ) → ItemsFrom old count strip.now → IsPlan m next old count p) }
+    ensures cells { IfOk result (λ p. (src : Sources) → AreWritten src p.makes
+        → layout_cells src p.layout ≡ trimmed (strip_cells src strip.now)) }
+    ensures few_made { IfOk result
+        (λ p. ItemsShort m strip.now → length p.makes ≤ 2 * rough_items m true true strip.now) }
     ensures few_samples { IfOk result (λ p. m * length p.makes ≤ strip_room m First true strip.now) }
 {
     let clips = lay_strip(alloc, strip.as_slice(), m)?;

@@ -100,7 +100,8 @@ pub fn plan_with_change(
     ensures plan { IfOk result (λ p. IsPlan m next (layout_blocks t.now) 0 p) }
     ensures cells { IfOk result (λ p. Means (λ src. edit.changed (cell_change change) from to) t.now p) }
     ensures few_made { IfOk result (λ p. (src : Sources) →
-        let cells = edit.part from to (layout_cells src t.now) in length p.makes ≤ 8 + sample_count cells / m + clip_count cells) }
+        let cells = edit.part from to (layout_cells src t.now) in
+        length p.makes ≤ 8 + sample_count cells / m + clip_count cells) }
 {
     let whole = t.to_strip()?;
     let strip = strips::with_change(alloc, &whole, from, to, change)?;
@@ -121,7 +122,8 @@ pub fn plan_with_given(
     requires room { next < 2 ^ 63 }
     requires few { inserted_length at count (end_of 0 t.now) ≤ 2 ^ 32 }
     ensures plan { IfOk result (λ p. IsPlan m next (layout_blocks t.now) count p) }
-    ensures cells { IfOk result (λ p. Means (λ src. edit.inserted at (edit.as_cells (stretch src.given 0 count))) t.now p) }
+    ensures cells { IfOk result
+        (λ p. Means (λ src. edit.inserted at (edit.as_cells (stretch src.given 0 count))) t.now p) }
     ensures few_made { IfOk result (λ p. length p.makes ≤ 8 + count / m) }
 {
     let whole = t.to_strip()?;

@@ -46,7 +46,8 @@ pub fn copy_tests(run: &[&Layout], n: u64, from: u64, to: u64) -> Result<(), Ref
 fn lengths(placing: Placing, at: u64, clip: &[Strip], run: &[&Layout]) -> Result<(), Refusal>
     requires wide { length clip.now ≤ length run.now }
     requires sums { SumsFit at clip.now (runs.layouts run.now) }
-    ensures { Passes (length_limit (runs.lengths_of (placed_length placing at) clip.now (runs.layouts run.now))) result }
+    ensures { Passes
+        (length_limit (runs.lengths_of (placed_length placing at) clip.now (runs.layouts run.now))) result }
 {
     for i in 0..clip.len() {
         let len = placing.length(at, clip[i].len(), run[i].len());

@@ -79,7 +79,8 @@ fn paste_each(
     requires room { next ≤ 2 ^ 62 }
     requires wide { length clip.now ≤ length run.now }
     requires few { LengthsFit placing at clip.now (runs.layouts run.now) }
-    ensures { IfOk result (λ v. runs.ArePastes (placed placing at) m next clip.now (take (length clip.now) (runs.layouts run.now)) v) }
+    ensures { IfOk result
+        (λ v. runs.ArePastes (placed placing at) m next clip.now (take (length clip.now) (runs.layouts run.now)) v) }
 {
     let mut plans = Vec::new(alloc);
     let mut id = next;
@@ -143,7 +144,8 @@ fn cut_range(
     requires half_full { runs.AllTracksHalfFull m (runs.layouts run.now) }
     requires room { next ≤ 2 ^ 62 }
     ensures copies { IfOk result (λ v. runs.AreCopies from to (take n (runs.layouts run.now)) v.0) }
-    ensures plans { IfOk result (λ v. runs.AreCuts (removed removing from to) m next (take n (runs.layouts run.now)) v.1) }
+    ensures plans { IfOk result
+        (λ v. runs.AreCuts (removed removing from to) m next (take n (runs.layouts run.now)) v.1) }
     ensures tests { AnswersTest (runs.copy_tests (runs.layouts run.now) n from to) result }
 {
     copy_tests(run, n, from, to)?;
@@ -193,7 +195,8 @@ pub fn split_cut(
     requires half_full { runs.AllTracksHalfFull m (runs.layouts run.now) }
     requires room { next ≤ 2 ^ 62 }
     ensures copies { IfOk result (λ v. runs.AreCopies from to (take n (runs.layouts run.now)) v.0) }
-    ensures plans { IfOk result (λ v. runs.AreCuts (edit.split_deleted from to) m next (take n (runs.layouts run.now)) v.1) }
+    ensures plans { IfOk result
+        (λ v. runs.AreCuts (edit.split_deleted from to) m next (take n (runs.layouts run.now)) v.1) }
     ensures tests { AnswersTest (runs.copy_tests (runs.layouts run.now) n from to) result }
 {
     cut_range(alloc, run, Removing::SplitDelete, n, from, to, m, next)
@@ -214,7 +217,8 @@ fn place(
     requires clips { runs.AreClips m clip.now }
     requires room { next ≤ 2 ^ 62 }
     requires sums { SumsFit at clip.now (runs.layouts run.now) }
-    ensures plans { IfOk result (λ v. runs.ArePastes (placed placing at) m next clip.now (take (length clip.now) (runs.layouts run.now)) v) }
+    ensures plans { IfOk result
+        (λ v. runs.ArePastes (placed placing at) m next clip.now (take (length clip.now) (runs.layouts run.now)) v) }
     ensures tests { AnswersTest (runs.paste_tests (placed_length placing at) clip.now (runs.layouts run.now)) result }
 {
     paste_tests(placing, at, clip, run)?;
@@ -243,8 +247,10 @@ pub fn paste(
     requires clips { ForSome (option_copied clip) (λ c. runs.AreClips m c) }
     requires room { next ≤ 2 ^ 62 }
     requires sums { ForSome (option_copied clip) (λ c. SumsFit at c (runs.layouts run.now)) }
-    ensures plans { IfOk result (λ v. IfSome (option_copied clip.entry) (λ c. runs.ArePastes (edit.inserted at) m next c (take (length c) (runs.layouts run.now)) v)) }
-    ensures tests { AnswersTest (runs.clipboard_tests (inserted_length at) (option_copied clip.entry) (runs.layouts run.now)) result }
+    ensures plans { IfOk result (λ v. IfSome (option_copied clip.entry)
+        (λ c. runs.ArePastes (edit.inserted at) m next c (take (length c) (runs.layouts run.now)) v)) }
+    ensures tests { AnswersTest
+        (runs.clipboard_tests (inserted_length at) (option_copied clip.entry) (runs.layouts run.now)) result }
 {
     match clip {
         None => Err(Refusal::EmptyClipboard),
@@ -271,8 +277,10 @@ pub fn paste_over(
     requires clips { ForSome (option_copied clip) (λ c. runs.AreClips m c) }
     requires room { next ≤ 2 ^ 62 }
     requires sums { ForSome (option_copied clip) (λ c. SumsFit at c (runs.layouts run.now)) }
-    ensures plans { IfOk result (λ v. IfSome (option_copied clip.entry) (λ c. runs.ArePastes (edit.pasted_over at) m next c (take (length c) (runs.layouts run.now)) v)) }
-    ensures tests { AnswersTest (runs.clipboard_tests (covered_length at) (option_copied clip.entry) (runs.layouts run.now)) result }
+    ensures plans { IfOk result (λ v. IfSome (option_copied clip.entry)
+        (λ c. runs.ArePastes (edit.pasted_over at) m next c (take (length c) (runs.layouts run.now)) v)) }
+    ensures tests { AnswersTest
+        (runs.clipboard_tests (covered_length at) (option_copied clip.entry) (runs.layouts run.now)) result }
 {
     match clip {
         None => Err(Refusal::EmptyClipboard),

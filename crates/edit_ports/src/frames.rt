@@ -1,5 +1,6 @@
 // Where frames come from.
-ghost use Rattle.std.specs.Prelude.{◌≡◌, ◌↔◌, ℕ, ◌+◌, ◌^◌, ◌<◌, ◌≤◌, Bool, false, List, length, take, drop, Option, is_err, IfOk, IfErr, OnOk};
+ghost use Rattle.std.specs.Prelude.{◌≡◌, ◌↔◌, ℕ, ◌+◌, ◌^◌, ◌<◌, ◌≤◌, Bool, false, List, length, take, drop, Option};
+ghost use Rattle.std.specs.Prelude.{is_err, IfOk, IfErr, OnOk};
 ghost use Rattle.pcm_base.specs.declared.refusal.Refusal.{Refusal};
 ghost use Rattle.pcm_base.specs.declared.sound.Frame.{Frame};
 ghost use Rattle.edit_ports.specs.Answers.{first_refusal};

@@ -1,5 +1,6 @@
 -- What a call does over a vault, from what it does by itself.
-use Rattle.std.proofs.Common.{◌≡◌, inl, IfErr, refl, sym, ap, subst, ℕ, Bool, IsTrue, Option, Some, None, is_some, List, Result, Ok, Err}
+use Rattle.std.proofs.Common.{◌≡◌, inl, IfErr, refl, sym, ap, subst, ℕ, Bool, IsTrue, Option, Some, None, is_some, List}
+use Rattle.std.proofs.Common.{Result, Ok, Err}
 use Rattle.pcm_base.specs.declared.answer.Reply.{Reply}
 use Rattle.pcm_base.specs.declared.command.Call.{Call}
 use Rattle.pcm_base.specs.declared.refusal.Refusal.{Refusal}
@@ -24,7 +25,8 @@ use Rattle.editor_core.proofs.Staying.{stopped_not}
 
 module _ {D : Type 0} (disk : Ghosts D) (s : Core D) where
   -- a step lasts
-  pub lasts_took : (call : Call) (told : Result Reply Refusal) (removed : ℕ) (new : Core D) → Took disk s call silent told removed new → Lasts disk s call told removed new
+  pub lasts_took : (call : Call) (told : Result Reply Refusal) (removed : ℕ) (new : Core D)
+      → Took disk s call silent told removed new → Lasts disk s call told removed new
   lasts_took call told removed new took = record {
     studio = took.studio;
     number = took.number;
@@ -36,7 +38,8 @@ module _ {D : Type 0} (disk : Ghosts D) (s : Core D) where
   }
 
   -- nothing was done
-  pub lasts_idle : IsStudio disk s → Fewer disk s.store → (call : Call) (why : Refusal) → IsPlain why → Lasts disk s call (Err why) 0 s
+  pub lasts_idle : IsStudio disk s → Fewer disk s.store → (call : Call) (why : Refusal) → IsPlain why
+      → Lasts disk s call (Err why) 0 s
   lasts_idle is fewer call why plain = record {
     studio = is;
     number = refl;
@@ -48,8 +51,10 @@ module _ {D : Type 0} (disk : Ghosts D) (s : Core D) where
   }
 
   -- nothing was changed
-  pub lasts_looked : (is : IsStudio disk s) (call : Call) → s.stopped ≡ None → (store : D) (kept : Kept disk s.store store) (told : Result Reply Refusal)
-      → s.commit_number ≡ number_behind told call s.commit_number → IfErr told (Left disk s (MayRemove call s.counts) (record s { store = store }))
+  pub lasts_looked : (is : IsStudio disk s) (call : Call) → s.stopped ≡ None
+      → (store : D) (kept : Kept disk s.store store) (told : Result Reply Refusal)
+      → s.commit_number ≡ number_behind told call s.commit_number
+      → IfErr told (Left disk s (MayRemove call s.counts) (record s { store = store }))
       → Lasts disk s call told 0 (record s { store = store })
   lasts_looked is call going store kept told number left = record {
     studio = looked_studio disk s is store kept;
@@ -62,33 +67,44 @@ module _ {D : Type 0} (disk : Ghosts D) (s : Core D) where
   }
 
   -- a call that names no sound
-  pub over_silent : (tells : Bool) (sounds : Sounds) (call : Call) (told : Result Reply Refusal) (removed : ℕ) (new : Core D) → name_in call ≡ None
+  pub over_silent : (tells : Bool) (sounds : Sounds) (call : Call) (told : Result Reply Refusal) (removed : ℕ)
+      (new : Core D) → name_in call ≡ None
       → Took disk s call silent told removed new → TookOver disk tells sounds sounds s call told new
   over_silent tells sounds call told removed new none took = record {
     removed = removed;
-    took = λ is. subst (λ (o : Option (List ℕ)). Took disk s call (move_of o sounds sounds) told removed new) (sym none) took;
+    took = λ is. subst (λ (o : Option (List ℕ)). Took disk s call (move_of o sounds sounds) told removed new)
+        (sym none) took;
     heard = λ is. subst (λ (o : Option (List ℕ)). Heard o (move_of o sounds sounds) sounds sounds) (sym none) refl;
     lasts = lasts_took call told removed new took;
   }
 
   -- one that names a sound
-  pub over_sound : (tells : Bool) (before after : Sounds) (call : Call) (name : List ℕ) (told : Result Reply Refusal) (new : Core D) → name_in call ≡ Some name
+  pub over_sound : (tells : Bool) (before after : Sounds) (call : Call) (name : List ℕ) (told : Result Reply Refusal)
+      (new : Core D) → name_in call ≡ Some name
       → (IsTrue tells → Took disk s call (moved_from (before name) (after name)) told 0 new)
-      → (IsTrue tells → SameElsewhere name before after) → Lasts disk s call told 0 new → TookOver disk tells before after s call told new
+      → (IsTrue tells → SameElsewhere name before after) → Lasts disk s call told 0 new
+      → TookOver disk tells before after s call told new
   over_sound tells before after call name told new named took others lasts = record {
     removed = 0;
-    took = λ is. subst (λ (o : Option (List ℕ)). Took disk s call (move_of o before after) told 0 new) (sym named) (took (is (ap is_some named)));
-    heard = λ is. subst (λ (o : Option (List ℕ)). Heard o (move_of o before after) before after) (sym named) (refl, refl, others (is (ap is_some named)));
+    took = λ is. subst (λ (o : Option (List ℕ)). Took disk s call (move_of o before after) told 0 new) (sym named)
+        (took (is (ap is_some named)));
+    heard = λ is. subst (λ (o : Option (List ℕ)). Heard o (move_of o before after) before after) (sym named) (
+      refl,
+      refl,
+      others (is (ap is_some named)),
+    );
     lasts = lasts;
   }
 
 -- a reply tells of the vault's count what the answer told
-pub counted_told : {A : Type 0} (f : A → Reply) (answer : Result A Refusal) (old new : ℕ) → VaultCounted answer old new → VaultCounted (told_by f answer) old new
+pub counted_told : {A : Type 0} (f : A → Reply) (answer : Result A Refusal) (old new : ℕ) → VaultCounted answer old new
+    → VaultCounted (told_by f answer) old new
 counted_told f (Ok x) old new counted = counted
 counted_told f (Err why) old new counted = counted
 
 -- every line but an import and an export names no sound
-pub names_none : (c : Command) → ((name : List ℕ) → c ≡ command.Import name → ⊥) → ((name : List ℕ) → c ≡ command.Export name → ⊥) → name_in_line c ≡ None
+pub names_none : (c : Command) → ((name : List ℕ) → c ≡ command.Import name → ⊥)
+    → ((name : List ℕ) → c ≡ command.Export name → ⊥) → name_in_line c ≡ None
 names_none command.Track a b = refl
 names_none (command.Drop id) a b = refl
 names_none (command.Level id gain) a b = refl

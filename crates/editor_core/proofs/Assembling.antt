@@ -30,19 +30,24 @@ module _ (next : ℕ) where
 
   clips_given : (cs : List Clip) → AllClipsGiven next cs → AllByRecursion Given (layout_blocks cs)
   clips_given [] all = tt
-  clips_given (c ∷ cs) all = all_append Given c.blocks (layout_blocks cs) (blocks_given c.blocks all.0) (clips_given cs all.1)
+  clips_given (c ∷ cs) all =
+      all_append Given c.blocks (layout_blocks cs) (blocks_given c.blocks all.0) (clips_given cs all.1)
 
-  tracks_given : (m next_track : ℕ) (ts : List Track) → AllSoundTracks m next next_track ts → AllByRecursion Given (point_blocks ts)
+  tracks_given : (m next_track : ℕ) (ts : List Track) → AllSoundTracks m next next_track ts
+      → AllByRecursion Given (point_blocks ts)
   tracks_given m next_track [] all = tt
-  tracks_given m next_track (t ∷ ts) all = all_append Given (layout_blocks t.layout) (point_blocks ts) (clips_given t.layout all.0.blocks) (tracks_given m next_track ts all.1)
+  tracks_given m next_track (t ∷ ts) all = all_append Given (layout_blocks t.layout) (point_blocks ts)
+      (clips_given t.layout all.0.blocks) (tracks_given m next_track ts all.1)
 
 -- the blocks of sound points were given
-pub points_given : (m next next_track commit : ℕ) (h : History (List Track)) → AllByRecursion (IsSoundTagged m next next_track commit) h.points
+pub points_given : (m next next_track commit : ℕ) (h : History (List Track))
+    → AllByRecursion (IsSoundTagged m next next_track commit) h.points
     → AllByRecursion (λ (b : BlockRef). IsGiven next b.id) (history_blocks h)
 points_given m next next_track commit h all =
     let Given : BlockRef → Type 0 = λ b. IsGiven next b.id in
     all_joined Given (λ (q : List Track × ℕ). point_blocks q.0) h.points
-    (all_so (IsSoundTagged m next next_track commit) (λ (q : List Track × ℕ). AllByRecursion Given (point_blocks q.0)) (λ q s. tracks_given next m next_track q.0 s.0.sound) h.points all)
+    (all_so (IsSoundTagged m next next_track commit) (λ (q : List Track × ℕ). AllByRecursion Given (point_blocks q.0))
+    (λ q s. tracks_given next m next_track q.0 s.0.sound) h.points all)
 
 pub assembles : {D : Type 0} (disk : Ghosts D) (store : D) (p : Parts) → AreParts p → IsHistory p.history.history
     → IsStudio disk (assembled store p)

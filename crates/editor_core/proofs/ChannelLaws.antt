@@ -1,82 +1,49 @@
 -- Tracks for the channels of a sound, as an edit that makes blocks.
-use Rattle.std.proofs.Common.{◌≡◌, refl, sym, ap, ◌∙◌, subst, ℕ, ◌+◌, ◌/◌, ◌^◌, ◌≤◌, nat_lt, not, ℤ, pos, Bool, true, false, Option, Some, None, List, [], ◌∷◌, ◌++◌, append_assoc, length, length-append, map, take, get_or, Contains, Err, arith}
-use Rattle.std.specs.List.{AllByRecursion}
+use Rattle.std.proofs.Common.{◌≡◌, refl, sym, ap, ◌∙◌, subst, ℕ, ◌+◌, ◌^◌, ◌≤◌, nat_lt, not, ℤ, pos, Bool, true}
+use Rattle.std.proofs.Common.{false, Option, Some, None, List, [], ◌∷◌, ◌++◌, append_assoc, length, length-append, map}
+use Rattle.std.proofs.Common.{take, get_or, arith}
 use Rattle.std.proofs.Math.Seq.{drop-append_seam, take-append_seam}
 use Rattle.std.proofs.lemmas.Bool.{eq-eqb}
-use Rattle.std.proofs.lemmas.Grind.{flat_map-append}
-use Rattle.std.proofs.lemmas.List.{length-map, map-append}
-use Rattle.pcm_base.specs.declared.block.BlockRef.{BlockRef}
-use Rattle.pcm_base.specs.declared.command.Call.{Call}
-use Rattle.pcm_base.specs.declared.command.Call.TheVariants.{Line}
-use Rattle.pcm_base.specs.declared.command.Command.TheVariants as command
+use Rattle.std.proofs.lemmas.List.{length-map}
 use Rattle.pcm_base.specs.declared.refusal.Refusal.{Refusal}
 use Rattle.pcm_base.specs.declared.refusal.Refusal.TheVariants as refusal
-use Rattle.pcm_base.specs.Cells.{Project}
-use Rattle.pcm_base.specs.Counters.{no_room}
-use Rattle.pcm_base.specs.History.{recorded}
-use Rattle.pcm_base.specs.Pieces.{Sources, stretch}
-use Rattle.pcm_base.specs.Refusals.{◌otherwise◌, call_tests, file_tests, import_tests, length_limit, refused_if, track_limit}
-use Rattle.pcm_base.specs.Run.{outside}
-use Rattle.pcm_base.specs.Sizes.{blocks_of_channels, lists_length}
+use Rattle.pcm_base.specs.Pieces.{stretch}
+use Rattle.pcm_base.specs.Refusals.{◌otherwise◌, file_tests, import_tests, length_limit, refused_if}
+use Rattle.pcm_base.specs.Refusals.{track_limit}
+use Rattle.pcm_base.specs.Sizes.{lists_length}
 use Rattle.pcm_base.specs.State.{State, current}
-use Rattle.pcm_base.specs.Step.{channel_tracks, channels_in, channels_of, with_channels}
-use Rattle.disk_model.specs.declared.store.Store.{Ghosts}
-use Rattle.disk_model.proofs.Frames.{Fewer}
-use Rattle.sample_block.specs.Sources.{sources_of}
+use Rattle.pcm_base.specs.Step.{channels_in, channels_of}
 use Rattle.block_store.proofs.StretchLaws.{stretch_part}
-use Rattle.clip_track.specs.Clips.{layout_blocks}
-use Rattle.edit_ops.specs.declared.types.NewBlock.{NewBlock}
-use Rattle.edit_ops.specs.Plans.{AllNewFrom, AreWritten}
-use Rattle.piece_store.specs.declared.given.Given as brings
-use Rattle.piece_store.specs.Bringing.{brought, brought_count}
 use Rattle.envelope_view.specs.Answers.{IsUndamaged}
 use Rattle.project_state.specs.declared.track.Track.{Track}
-use Rattle.project_state.specs.Kept.{history_blocks, meant, meant_history, meant_track, point_blocks}
-use Rattle.project_state.specs.KeptSound.{IsSoundPoint}
 use Rattle.project_state.specs.Sound.{AllSoundTracks}
 use Rattle.project_state.specs.Tracks.{AllBelow, AreAbove}
-use Rattle.project_state.proofs.KeptBounds.{all_append}
-use Rattle.project_state.proofs.MeantHistories.{meant_recorded}
 use Rattle.sound_import.specs.declared.fault.ImportFault.TheVariants.{NoMemory}
-use Rattle.editor_core.specs.declared.carrying.Planned.{Planned}
-use Rattle.editor_core.specs.declared.imports.Growing.{Growing}
-use Rattle.editor_core.specs.Commits.{IsCommitCall}
-use Rattle.editor_core.specs.Core.{Core}
-use Rattle.editor_core.specs.Edits.{AreAmong, IsEdit, IsPlanned, alone, beside, blocks_with}
-use Rattle.editor_core.specs.Imports.{AreGrown, HasChannels, IsChannelsPlan, IsNoVault, NoChannelsPlan, all_of, channels_refusal, left_as, parts_from, total_of}
-use Rattle.editor_core.specs.Points.{current_tracks}
-use Rattle.editor_core.specs.Studios.{IsStudio, clip_blocks, named_blocks, pin_blocks, studio_by, studio_of}
-use Rattle.editor_core.specs.Took.{Took}
-use Rattle.editor_core.proofs.Contained.{among_all, among_itself}
-use Rattle.editor_core.proofs.Editing.{current_below, current_sound, old_names}
-use Rattle.editor_core.proofs.ImportRefused.{import_refused, own_refused}
-use Rattle.editor_core.proofs.ImportTests.{channels_pass}
+use Rattle.editor_core.specs.Imports.{HasChannels, IsNoVault, NoChannelsPlan, all_of}
+use Rattle.editor_core.specs.Imports.{channels_refusal, parts_from, total_of}
 use Rattle.editor_core.proofs.Leaving.{IsPlain}
 use Rattle.editor_core.proofs.PlainTests.{either, lengths, one, plain_by}
-use Rattle.editor_core.proofs.Lists.{all_left, all_right}
-use Rattle.editor_core.proofs.MadeStudios.{point_more, refs}
-use Rattle.editor_core.proofs.PlanBlocks.{all_readable, new_from_more}
-use Rattle.editor_core.proofs.Spaces.{counter_spent, spends}
-use Rattle.editor_core.proofs.Staying.{refuses}
-use Rattle.editor_core.proofs.Tracks.{current_is}
 use Rattle.editor_core.proofs.Without.{above_less}
 
 -- ---- the channels of a sound
 
-channels_are : (sound : Option (List ℕ)) (rate : ℕ) (channels : List (List ℤ)) → HasChannels sound rate channels → channels_of sound ≡ channels
+pub channels_are : (sound : Option (List ℕ)) (rate : ℕ) (channels : List (List ℤ)) → HasChannels sound rate channels
+    → channels_of sound ≡ channels
 channels_are None rate channels has = absurd has
 channels_are (Some bytes) rate channels has = ap channels_in has
 
-tests_are : (sound : Option (List ℕ)) (rate : ℕ) (channels : List (List ℤ)) (st : State) → HasChannels sound rate channels
+pub tests_are : (sound : Option (List ℕ)) (rate : ℕ) (channels : List (List ℤ)) (st : State)
+    → HasChannels sound rate channels
     → import_tests rate st sound ≡ channels_refusal (length (current st)) (map length channels)
 tests_are None rate channels st has = absurd has
 tests_are (Some bytes) rate channels st has =
     let limits : Option Refusal = (track_limit st (length channels)) otherwise (length_limit (map length channels)) in
     ap (file_tests rate st) has
     ∙ ap (λ (b : Bool). (refused_if (not b) (refusal.RateDiffers rate rate)) otherwise limits) (eq-eqb rate rate refl)
-    ∙ ap (λ (n : ℕ). (refused_if (nat_lt 64 (length (current st) + n)) refusal.TrackLimit) otherwise (length_limit (map length channels))) (sym (length-map channels length))
+    ∙ ap (λ (n : ℕ). (refused_if (nat_lt 64 (length (current st) + n)) refusal.TrackLimit) otherwise
+    (length_limit (map length channels))) (sym (length-map channels length))
 
-total_lists : (channels : List (List ℤ)) → total_of (map length channels) ≡ lists_length channels
+pub total_lists : (channels : List (List ℤ)) → total_of (map length channels) ≡ lists_length channels
 total_lists [] = refl
 total_lists (c ∷ cs) = ap (λ (n : ℕ). length c + n) (total_lists cs)
 
@@ -90,10 +57,12 @@ placed xs i = get_or xs i (pos 0)
 
 part_here : (before c rest : List ℤ) → stretch (placed (before ++ (c ++ rest))) (length before) (length c) ≡ c
 part_here before c rest =
-    let fits : length before + length c ≤ length (before ++ (c ++ rest)) = omega (arith, length-append before (c ++ rest), length-append c rest) in
-    stretch_part (before ++ (c ++ rest)) (length before) (length c) fits ∙ ap (take (length c)) (drop-append_seam before (c ++ rest)) ∙ take-append_seam c rest
+    let fits : length before + length c ≤ length (before ++ (c ++ rest)) =
+    omega (arith, length-append before (c ++ rest), length-append c rest) in
+    stretch_part (before ++ (c ++ rest)) (length before) (length c) fits
+    ∙ ap (take (length c)) (drop-append_seam before (c ++ rest)) ∙ take-append_seam c rest
 
-parts_are : (xs : List ℤ) (channels : List (List ℤ)) (before : List ℤ) → before ++ all_of channels ≡ xs
+pub parts_are : (xs : List ℤ) (channels : List (List ℤ)) (before : List ℤ) → before ++ all_of channels ≡ xs
     → parts_from (placed xs) (length before) (map length channels) ≡ channels
 parts_are xs [] before e = refl
 parts_are xs (c ∷ cs) before e =
@@ -125,23 +94,29 @@ long_tells false n = tt
 lengths_tell : (counts : List ℕ) → TellsBoth (length_limit counts)
 lengths_tell [] = tt
 lengths_tell (n ∷ ns) =
-    both_tell (refused_if (nat_lt (2 ^ 32) n) (refusal.LengthLimit n)) (length_limit ns) (long_tells (nat_lt (2 ^ 32) n) n) (lengths_tell ns)
+    both_tell (refused_if (nat_lt (2 ^ 32) n) (refusal.LengthLimit n)) (length_limit ns)
+    (long_tells (nat_lt (2 ^ 32) n) n) (lengths_tell ns)
 
-pub channels_tell : (tracks : ℕ) (counts : List ℕ) (why : Refusal) → channels_refusal tracks counts ≡ Some why → IsUndamaged why × IsNoVault why
+pub channels_tell : (tracks : ℕ) (counts : List ℕ) (why : Refusal) → channels_refusal tracks counts ≡ Some why
+    → IsUndamaged why × IsNoVault why
 channels_tell tracks counts why is =
     let many = nat_lt 64 (tracks + length counts) in
-    subst TellsBoth is (both_tell (refused_if many refusal.TrackLimit) (length_limit counts) (many_tell many) (lengths_tell counts))
+    subst TellsBoth is
+    (both_tell (refused_if many refusal.TrackLimit) (length_limit counts) (many_tell many) (lengths_tell counts))
 
-pub no_plan_tells_both : (m next : ℕ) (counts : List ℕ) (why : Refusal) → NoChannelsPlan m next counts why → IsUndamaged why × IsNoVault why
+pub no_plan_tells_both : (m next : ℕ) (counts : List ℕ) (why : Refusal) → NoChannelsPlan m next counts why
+    → IsUndamaged why × IsNoVault why
 no_plan_tells_both m next counts refusal.NoMemory not = (tt, tt)
 no_plan_tells_both m next counts (refusal.SpaceSpent have need) not = (tt, tt)
 no_plan_tells_both m next counts why not = absurd not
 
-pub channels_plain : (tracks : ℕ) (counts : List ℕ) (why : Refusal) → channels_refusal tracks counts ≡ Some why → IsPlain why
+pub channels_plain : (tracks : ℕ) (counts : List ℕ) (why : Refusal) → channels_refusal tracks counts ≡ Some why
+    → IsPlain why
 channels_plain tracks counts why is =
     let many = nat_lt 64 (tracks + length counts) in
     plain_by (channels_refusal tracks counts) why
-    (either (refused_if many refusal.TrackLimit) (length_limit counts) (one many refusal.TrackLimit tt) (lengths counts)) is
+    (either (refused_if many refusal.TrackLimit) (length_limit counts) (one many refusal.TrackLimit tt)
+    (lengths counts)) is
 
 pub no_plan_plain : (m next : ℕ) (counts : List ℕ) (why : Refusal) → NoChannelsPlan m next counts why → IsPlain why
 no_plan_plain m next counts refusal.NoMemory not = tt
@@ -150,191 +125,12 @@ no_plan_plain m next counts why not = absurd not
 
 -- ---- tracks behind others
 
-rising_append : (n id : ℕ) (xs ys : List Track) → n ≤ id → AreAbove n xs → AllBelow id xs → AreAbove id ys → AreAbove n (xs ++ ys)
+pub rising_append : (n id : ℕ) (xs ys : List Track) → n ≤ id → AreAbove n xs → AllBelow id xs → AreAbove id ys
+    → AreAbove n (xs ++ ys)
 rising_append n id [] ys le a b c = above_less n id ys le c
 rising_append n id (x ∷ xs) ys le a b c = (a.0, rising_append (x.id + 1) id xs ys (omega (arith, b.0)) a.1 b.1 c)
 
-sound_append : (m block track : ℕ) (xs ys : List Track) → AllSoundTracks m block track xs → AllSoundTracks m block track ys → AllSoundTracks m block track (xs ++ ys)
+pub sound_append : (m block track : ℕ) (xs ys : List Track) → AllSoundTracks m block track xs
+    → AllSoundTracks m block track ys → AllSoundTracks m block track (xs ++ ys)
 sound_append m block track [] ys a b = b
 sound_append m block track (x ∷ xs) ys a b = (a.0, sound_append m block track xs ys a.1 b)
-
-module _ {D : Type 0} (disk : Ghosts D) (s : Core D) (is : IsStudio disk s) (channels : List (List ℤ)) where
-  abbrev counts : List ℕ
-  counts = map length channels
-
-  abbrev old : List Track
-  old = current_tracks s.history
-
-  abbrev m : ℕ
-  m = s.block_size
-
-  -- ---- what refuses them
-
-  module _ (name : List ℕ) (sound : Option (List ℕ)) (has : HasChannels sound s.rate channels) where
-    abbrev call : Call
-    call = Line (command.Import name)
-
-    own_is : (src : Sources) → call_tests (outside (studio_by src disk s) (left_as sound)) (studio_by src disk s).state call ≡ channels_refusal (length old) counts
-    own_is src =
-        let st = (studio_by src disk s).state in
-        let many : length (current st) ≡ length old = ap length (current_is src s.history) ∙ length-map old (meant_track src) in
-        tests_are sound s.rate channels st has ∙ ap (λ (k : ℕ). channels_refusal k counts) many
-
-    commit : IsCommitCall call (left_as sound) (length counts)
-    commit = record {
-      one = refl;
-      no_pin = refl;
-      tracks_is = λ rate. ap length (channels_are sound s.rate channels has) ∙ sym (length-map channels length);
-      stops = λ o. refl;
-      changes = refl;
-      leaves = λ t. refl;
-      heard = λ rate st. refl;
-      quiet = refl;
-      done = λ rate st. refl;
-    }
-
-    blocks_few : (k : ℕ) → k ≤ blocks_of_channels m channels → k ≤ blocks_of_channels m (channels_of sound)
-    blocks_few k le = subst (λ (cs : List (List ℤ)). k ≤ blocks_of_channels m cs) (sym (channels_are sound s.rate channels has)) le
-
-    module _ (fewer : Fewer disk s.store) (going : s.stopped ≡ None) where
-      pub channels_refused : (why : Refusal) → channels_refusal (length old) counts ≡ Some why → Took disk s call (left_as sound) (Err why) 0 s
-      channels_refused why test = own_refused disk s is fewer name sound going why (own_is (sources_of (disk.reads s.store)) ∙ test)
-
-      pub channels_unplanned : channels_refusal (length old) counts ≡ None → (why : Refusal) → NoChannelsPlan m s.next_block counts why
-          → Took disk s call (left_as sound) (Err why) 0 s
-      channels_unplanned pass refusal.NoMemory spent = import_refused disk s is fewer name sound going NoMemory tt
-      channels_unplanned pass (refusal.SpaceSpent have need) spent =
-          let why : Refusal = refusal.SpaceSpent s.next_block need in
-          let few = blocks_few need (omega (arith, spent.1, length-map channels length, ap (λ (k : ℕ). k / m) (total_lists channels))) in
-          let first = ap (λ (o : Option Refusal). o otherwise (no_room s.next_track (length counts)) otherwise (no_room s.commit_number 1)) (spends s.next_block need spent.2) in
-          subst (λ (k : ℕ). Took disk s call (left_as sound) (Err (refusal.SpaceSpent k need)) 0 s) (sym spent.0)
-          (refuses disk s call (left_as sound) why is fewer refl 0 need (λ held. (few, omega arith))
-          (counter_spent (studio_of disk s) call (left_as sound) (length counts) commit need 0 is.counters.pin_most going (own_is (sources_of (disk.reads s.store)) ∙ pass) why first))
-      channels_unplanned pass why spent = absurd spent
-
-  -- ---- the plan
-
-  module _ (pass : channels_refusal (length old) counts ≡ None) where
-    few_tracks : length old + length counts ≤ 64
-    few_tracks = (channels_pass (length old) counts pass).0
-
-    module _ (g : Growing) (are : AreGrown m s.next_block s.next_track counts old g) where
-      abbrev makes : List NewBlock
-      makes = g.makes.items
-
-      abbrev n : ℕ
-      n = length makes
-
-      abbrev point : List Track
-      point = old ++ are.news
-
-      abbrev every : List BlockRef
-      every = blocks_with s makes
-
-      point_sound : IsSoundPoint m (s.next_block + n) (s.next_track + length counts) point
-      point_sound =
-          let was = current_sound disk s is in
-          let later = point_more m s.next_block s.next_track (s.next_block + n) (s.next_track + length counts) old (omega arith) (omega arith) was in record {
-            few = omega (arith, length-append old are.news, are.many, few_tracks);
-            rising = rising_append 1 s.next_track old are.news is.counters.track_least was.rising (current_below disk s is) are.ids;
-            sound = sound_append m (s.next_block + n) (s.next_track + length counts) old are.news later.sound are.sound;
-          }
-
-      was_named : AreAmong every (named_blocks s)
-      was_named = all_left (Contains every) (named_blocks s) (refs makes) (among_itself every)
-
-      point_names : AreAmong every (point_blocks point)
-      point_names =
-          let C : BlockRef → Type 0 = Contains every in
-          let mine = all_right C (named_blocks s) (refs makes) (among_itself every) in
-          subst (AllByRecursion C) (sym (flat_map-append (λ (t : Track). layout_blocks t.layout) old are.news))
-          (all_append C (point_blocks old) (point_blocks are.news) (old_names disk s is C was_named) (among_all C (refs makes) (point_blocks are.news) are.names mine))
-
-      clip_names : AreAmong every (clip_blocks s.clipboard)
-      clip_names =
-          all_right (Contains every) (pin_blocks s.pins) (clip_blocks s.clipboard)
-          (all_right (Contains every) (history_blocks s.history) (pin_blocks s.pins ++ clip_blocks s.clipboard) was_named)
-
-      grown_planned : (given : brings.Given) → brought_count given ≡ total_of counts → IsPlanned s given makes 0 (length counts) point s.clipboard
-      grown_planned given all =
-          let origin : AllNewFrom [] (brought_count given) makes = subst (λ (k : ℕ). AllNewFrom [] k makes) (are.brought ∙ sym all) are.origin in record {
-            new = are.new;
-            readable = all_readable m s.next_block (brought_count given) [] makes tt origin are.new;
-            origin = new_from_more [] (named_blocks s) (brought_count given) makes tt origin;
-            tag_given = omega arith;
-            sound = point_sound;
-            names = point_names;
-            clip_names = clip_names;
-            clip_few = is.few_clips;
-            clip_fits = is.clipboard;
-          }
-
-      -- ---- what it means
-
-      module _ (given : brings.Given) (bring : brought given ≡ placed (all_of channels)) (block : ℕ → ℕ → ℤ)
-          (written : AreWritten (beside block (brought given)) makes) where
-        abbrev src : Sources
-        src = alone block
-
-        abbrev st : State
-        st = (studio_by src disk s).state
-
-        news_mean : meant src are.news ≡ channel_tracks s.next_track channels
-        news_mean =
-            let parts : parts_from (brought given) 0 counts ≡ channels = ap (λ (f : ℕ → ℤ). parts_from f 0 counts) bring ∙ parts_are (all_of channels) channels [] refl in
-            are.means block (brought given) written ∙ ap (channel_tracks s.next_track) parts
-
-        point_means : current st ++ channel_tracks s.next_track channels ≡ meant src point
-        point_means =
-            ap (λ (q : Project). q ++ channel_tracks s.next_track channels) (current_is src s.history)
-            ∙ ap (λ (q : Project). meant src old ++ q) (sym news_mean)
-            ∙ sym (map-append (meant_track src) old are.news)
-
-        state_then : with_channels st channels ≡ record st {
-          history = meant_history src (recorded s.history point 0);
-          next_track = s.next_track + length counts;
-          commit = s.commit_number + 1;
-        }
-        state_then =
-            let many : length channels ≡ length counts = sym (length-map channels length) in
-            (λ i. record st { history = recorded st.history (point_means i) 0; next_track = s.next_track + many i; commit = s.commit_number + 1 })
-            ∙ (λ i. record st { history = sym (meant_recorded src s.history point 0) i; next_track = s.next_track + length counts; commit = s.commit_number + 1 })
-
-      module _ (name : List ℕ) (sound : Option (List ℕ)) (has : HasChannels sound s.rate channels) (given : brings.Given)
-          (bring : brought given ≡ placed (all_of channels)) where
-        few_blocks : n ≤ blocks_of_channels m channels
-        few_blocks = omega (arith, are.few, length-map channels length, ap (λ (k : ℕ). k / m) (are.brought ∙ total_lists channels))
-
-        grown_edit : IsEdit disk s (Line (command.Import name)) (left_as sound) (length counts) given makes (recorded s.history point 0) s.clipboard
-        grown_edit = record {
-          most = λ size state. blocks_of_channels size (channels_of sound);
-          call = record {
-            commit = commit name sound has;
-            needs = λ rate t blocks len h. h;
-            needed = λ rate t blocks len h. h;
-          };
-          few = λ block. blocks_few name sound has n few_blocks;
-          own = λ block. own_is name sound has (alone block) ∙ pass;
-          means = λ block written. ap (with_channels (studio_by (alone block) disk s).state) (channels_are sound s.rate channels has) ∙ state_then given bring block written;
-        }
-
-    -- ---- by the plan that the code has
-
-    module _ (p : Planned) (plan : IsChannelsPlan m s.next_block s.next_track counts old p) (given : brings.Given) where
-      pub channels_planned : brought_count given ≡ total_of counts → IsPlanned s given p.makes 0 p.tracks p.point s.clipboard
-      channels_planned all =
-          let g = plan.grown in
-          subst (λ (bs : List NewBlock). IsPlanned s given bs 0 p.tracks p.point s.clipboard) (sym plan.makes_is)
-          (subst (λ (k : ℕ). IsPlanned s given g.makes.items 0 k p.point s.clipboard) (sym plan.tracks_is)
-          (subst (λ (q : List Track). IsPlanned s given g.makes.items 0 (length counts) q s.clipboard) (sym (plan.point_is ∙ plan.are.point))
-          (grown_planned g plan.are given all)))
-
-      pub channels_edit : (name : List ℕ) (sound : Option (List ℕ)) → HasChannels sound s.rate channels → brought given ≡ placed (all_of channels)
-          → IsEdit disk s (Line (command.Import name)) (left_as sound) p.tracks given p.makes (recorded s.history p.point 0) s.clipboard
-      channels_edit name sound has bring =
-          let g = plan.grown in
-          let line = Line (command.Import name) in
-          subst (λ (bs : List NewBlock). IsEdit disk s line (left_as sound) p.tracks given bs (recorded s.history p.point 0) s.clipboard) (sym plan.makes_is)
-          (subst (λ (k : ℕ). IsEdit disk s line (left_as sound) k given g.makes.items (recorded s.history p.point 0) s.clipboard) (sym plan.tracks_is)
-          (subst (λ (q : List Track). IsEdit disk s line (left_as sound) (length counts) given g.makes.items (recorded s.history q 0) s.clipboard) (sym (plan.point_is ∙ plan.are.point))
-          (grown_edit g plan.are name sound has given bring)))

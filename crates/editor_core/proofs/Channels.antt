@@ -1,5 +1,6 @@
 -- The plan of a new track of so many of the samples that a command brings, from a place among them on.
-use Rattle.std.proofs.Common.{◌≡◌, ⊎_elim, inl, inr, refl, sym, ap, ◌∙◌, subst, ℕ, zero, suc, ◌+◌, ◌-◌, ◌/◌, ◌^◌, ◌≤◌, ◌<◌, ℤ, List, [], ◌∷◌, ◌++◌, length, map, Contains, arith}
+use Rattle.std.proofs.Common.{◌≡◌, ⊎_elim, inl, inr, refl, sym, ap, ◌∙◌, subst, ℕ, zero, suc, ◌+◌, ◌-◌, ◌/◌, ◌^◌, ◌≤◌}
+use Rattle.std.proofs.Common.{◌<◌, ℤ, List, [], ◌∷◌, ◌++◌, length, map, Contains, arith}
 use Rattle.std.specs.List.{AllByRecursion}
 use Rattle.std.proofs.lemmas.List.{append-nil, length-map}
 use Rattle.pcm_base.specs.declared.block.BlockRef.{BlockRef}
@@ -28,13 +29,17 @@ fit_piece count skip (Scaled b from to gain) of valid few = tt
 fit_piece count skip (Zero len) of valid few = tt
 fit_piece count skip (Given from to) of valid few = (omega (arith, of, valid, few), omega (arith, of, few))
 
-fit_pieces : (count skip : ℕ) (ps : List Piece) → AllFrom [] count ps → AllValid ps → skip + count ≤ 2 ^ 62 → AllByRecursion (FitsBehind skip) ps
+fit_pieces : (count skip : ℕ) (ps : List Piece) → AllFrom [] count ps → AllValid ps → skip + count ≤ 2 ^ 62
+    → AllByRecursion (FitsBehind skip) ps
 fit_pieces count skip [] of valid few = tt
-fit_pieces count skip (p ∷ ps) of valid few = (fit_piece count skip p of.0 valid.0 few, fit_pieces count skip ps of.1 valid.1 few)
+fit_pieces count skip (p ∷ ps) of valid few =
+    (fit_piece count skip p of.0 valid.0 few, fit_pieces count skip ps of.1 valid.1 few)
 
-pub fit_blocks : (m next count skip : ℕ) (bs : List NewBlock) → AllNewFrom [] count bs → AreNew m next bs → skip + count ≤ 2 ^ 62 → AllFitBehind skip bs
+pub fit_blocks : (m next count skip : ℕ) (bs : List NewBlock) → AllNewFrom [] count bs → AreNew m next bs
+    → skip + count ≤ 2 ^ 62 → AllFitBehind skip bs
 fit_blocks m next count skip [] of new few = tt
-fit_blocks m next count skip (b ∷ bs) of new few = (fit_pieces count skip b.pieces of.0 new.4 few, fit_blocks m (next + 1) count skip bs of.1 new.5 few)
+fit_blocks m next count skip (b ∷ bs) of new few =
+    (fit_pieces count skip b.pieces of.0 new.4 few, fit_blocks m (next + 1) count skip bs of.1 new.5 few)
 
 len_behind : (skip : ℕ) (p : Piece) → piece_len (piece_behind skip p) ≡ piece_len p
 len_behind skip (Old b from to) = refl
@@ -62,25 +67,35 @@ from_one count skip (Scaled b from to gain) of = of
 from_one count skip (Zero len) of = tt
 from_one count skip (Given from to) of = omega (arith, of)
 
-from_behind : (count skip : ℕ) (ps : List Piece) → AllFrom [] count ps → AllFrom [] (skip + count) (map (piece_behind skip) ps)
+from_behind : (count skip : ℕ) (ps : List Piece) → AllFrom [] count ps
+    → AllFrom [] (skip + count) (map (piece_behind skip) ps)
 from_behind count skip [] of = tt
 from_behind count skip (p ∷ ps) of = (from_one count skip p of.0, from_behind count skip ps of.1)
 
 new_behind : (m next skip : ℕ) (bs : List NewBlock) → AreNew m next bs → AreNew m next (map (block_behind skip) bs)
 new_behind m next skip [] new = tt
-new_behind m next skip (b ∷ bs) new =
-    (new.0, new.1, new.2, total_behind skip b.pieces ∙ new.3, valid_behind skip b.pieces new.4, new_behind m (next + 1) skip bs new.5)
+new_behind m next skip (b ∷ bs) new = (
+  new.0,
+  new.1,
+  new.2,
+  total_behind skip b.pieces ∙ new.3,
+  valid_behind skip b.pieces new.4,
+  new_behind m (next + 1) skip bs new.5,
+)
 
-origin_behind : (count skip : ℕ) (bs : List NewBlock) → AllNewFrom [] count bs → AllNewFrom [] (skip + count) (map (block_behind skip) bs)
+origin_behind : (count skip : ℕ) (bs : List NewBlock) → AllNewFrom [] count bs
+    → AllNewFrom [] (skip + count) (map (block_behind skip) bs)
 origin_behind count skip [] of = tt
 origin_behind count skip (b ∷ bs) of = (from_behind count skip b.pieces of.0, origin_behind count skip bs of.1)
 
-blocks_behind : (skip : ℕ) (old bs : List BlockRef) (ns : List NewBlock) → AreOldOrNew old bs ns → AreOldOrNew old bs (map (block_behind skip) ns)
+blocks_behind : (skip : ℕ) (old bs : List BlockRef) (ns : List NewBlock) → AreOldOrNew old bs ns
+    → AreOldOrNew old bs (map (block_behind skip) ns)
 blocks_behind skip old [] [] h = tt
 blocks_behind skip old [] (n ∷ ns) h = absurd h
 blocks_behind skip old (b ∷ bs) [] h = (h.0, blocks_behind skip old bs [] h.1)
 blocks_behind skip old (b ∷ bs) (n ∷ ns) h =
-    ⊎_elim (λ was. inl (was.0, blocks_behind skip old bs (n ∷ ns) was.1)) (λ new. inr (new.0, blocks_behind skip old bs ns new.1)) h
+    ⊎_elim (λ was. inl (was.0, blocks_behind skip old bs (n ∷ ns) was.1))
+    (λ new. inr (new.0, blocks_behind skip old bs ns new.1)) h
 
 -- ---- what they mean
 
@@ -88,11 +103,13 @@ blocks_behind skip old (b ∷ bs) (n ∷ ns) h =
 abbrev pub given_from : ℕ → (ℕ → ℤ) → ℕ → ℤ
 given_from skip given i = given (i + skip)
 
-stretch_behind : (given : ℕ → ℤ) (skip from n : ℕ) → stretch given (from + skip) n ≡ stretch (given_from skip given) from n
+stretch_behind : (given : ℕ → ℤ) (skip from n : ℕ)
+    → stretch given (from + skip) n ≡ stretch (given_from skip given) from n
 stretch_behind given skip from zero = refl
 stretch_behind given skip from (suc n) =
     let next : suc (from + skip) ≡ suc from + skip = omega arith in
-    ap (λ (xs : List ℤ). given (from + skip) ∷ xs) (ap (λ (k : ℕ). stretch given k n) next ∙ stretch_behind given skip (suc from) n)
+    ap (λ (xs : List ℤ). given (from + skip) ∷ xs)
+    (ap (λ (k : ℕ). stretch given k n) next ∙ stretch_behind given skip (suc from) n)
 
 samples_behind : (block : ℕ → ℕ → ℤ) (given : ℕ → ℤ) (skip : ℕ) (p : Piece)
     → samples_of (beside block given) (piece_behind skip p) ≡ samples_of (beside block (given_from skip given)) p
@@ -104,14 +121,17 @@ samples_behind block given skip (Given from to) =
     ap (stretch given (from + skip)) len ∙ stretch_behind given skip from (to - from)
 
 all_behind : (block : ℕ → ℕ → ℤ) (given : ℕ → ℤ) (skip : ℕ) (ps : List Piece)
-    → all_samples (beside block given) (map (piece_behind skip) ps) ≡ all_samples (beside block (given_from skip given)) ps
+    → all_samples (beside block given) (map (piece_behind skip) ps)
+    ≡ all_samples (beside block (given_from skip given)) ps
 all_behind block given skip [] = refl
 all_behind block given skip (p ∷ ps) = λ i. samples_behind block given skip p i ++ all_behind block given skip ps i
 
 written_behind : (block : ℕ → ℕ → ℤ) (given : ℕ → ℤ) (skip : ℕ) (bs : List NewBlock)
-    → AreWritten (beside block given) (map (block_behind skip) bs) → AreWritten (beside block (given_from skip given)) bs
+    → AreWritten (beside block given) (map (block_behind skip) bs)
+    → AreWritten (beside block (given_from skip given)) bs
 written_behind block given skip [] h = tt
-written_behind block given skip (b ∷ bs) h = (h.0 ∙ all_behind block given skip b.pieces, written_behind block given skip bs h.1)
+written_behind block given skip (b ∷ bs) h =
+    (h.0 ∙ all_behind block given skip b.pieces, written_behind block given skip bs h.1)
 
 trimmed_cells : (xs : List ℤ) → trimmed (as_cells xs) ≡ as_cells xs
 trimmed_cells [] = refl
@@ -125,14 +145,16 @@ inserted_first xs = ap trimmed (append-nil (as_cells xs)) ∙ trimmed_cells xs
 abbrev pub MeansInserted : ℕ → Plan → Type 0
 MeansInserted count p = Means (λ src. inserted 0 (as_cells (stretch src.given 0 count))) [] p
 
-pub channel_means : (from count : ℕ) (p : Plan) → MeansInserted count p → (src : Sources) → AreWritten src (map (block_behind from) p.makes)
+pub channel_means : (from count : ℕ) (p : Plan) → MeansInserted count p → (src : Sources)
+    → AreWritten src (map (block_behind from) p.makes)
     → layout_cells src p.layout ≡ as_cells (stretch src.given from count)
 channel_means from count p means src written =
     let block = src.block in
     let given = src.given in
     let first = given_from from given in
     let t = track_with 1 p.layout in
-    let same : layout_cells src p.layout ≡ layout_cells (beside block first) p.layout = sym (layout_given block given t) ∙ layout_given block first t in
+    let same : layout_cells src p.layout ≡ layout_cells (beside block first) p.layout =
+    sym (layout_given block given t) ∙ layout_given block first t in
     let at : 0 + from ≡ from = omega arith in
     same ∙ means (beside block first) (written_behind block given from p.makes written)
     ∙ inserted_first (stretch first 0 count)

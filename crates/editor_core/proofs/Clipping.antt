@@ -1,5 +1,7 @@
 -- A copy is a step: other strips come into the clipboard.
-use Rattle.std.proofs.Common.{◌≡◌, ◌⊎◌, inl, inr, ⊎_elim, refl, sym, ap, ◌∙◌, subst, ℕ, ◌+◌, ◌^◌, ◌≤◌, ◌<◌, Bool, true, false, not, nat_lt, nat_le, ◌&&◌, List, ◌++◌, length, map, take, Option, Some, None, Ok, Err, arith}
+use Rattle.std.proofs.Common.{◌≡◌, ◌⊎◌, inl, inr, ⊎_elim, refl, sym, ap, ◌∙◌, subst, ℕ, ◌+◌, ◌^◌, ◌≤◌, ◌<◌, Bool, true}
+use Rattle.std.proofs.Common.{false, not, nat_lt, nat_le, ◌&&◌, List, ◌++◌, length, map, take, Option, Some, None, Ok}
+use Rattle.std.proofs.Common.{Err, arith}
 use Rattle.std.specs.List.{AllByRecursion}
 use Rattle.std.proofs.lemmas.Bool.Decides.{leb_tells}
 use Rattle.std.proofs.lemmas.List.{length-map}
@@ -41,18 +43,22 @@ use Rattle.editor_core.specs.Reads.{HasLayout}
 use Rattle.editor_core.specs.Studios.{IsClipboard, IsStudio, clip_blocks, pin_blocks, named_blocks, studio_of}
 use Rattle.editor_core.specs.Took.{Took, silent}
 use Rattle.editor_core.proofs.Bounds.{named_few, named_most}
-use Rattle.editor_core.proofs.Copying.{from_track, layout_of, run_meant, run_is, from_sound, from_few, from_blocks, longest_is, longest_most, copies_mean, copies_few, copies_fit, copies_short, copies_all}
+use Rattle.editor_core.proofs.Copying.{from_track, layout_of, run_meant, run_is, from_sound, from_few, from_blocks}
+use Rattle.editor_core.proofs.Copying.{longest_is, longest_most, copies_mean, copies_few, copies_fit, copies_short}
+use Rattle.editor_core.proofs.Copying.{copies_all}
 use Rattle.editor_core.proofs.Currents.{track_there}
 use Rattle.editor_core.proofs.Editing.{current_sound, current_meant, track_is, old_names}
 use Rattle.editor_core.proofs.Lists.{all_left, all_right}
 use Rattle.editor_core.proofs.Naming.{renamed, Renames, renamed_took}
 use Rattle.editor_core.proofs.Pinning.{named_parts}
-use Rattle.editor_core.proofs.Quiet.{IsQuiet, quiet_passes, carried, room_of, refused_own, refused_stopped, refused_wanting}
+use Rattle.editor_core.proofs.Quiet.{IsQuiet, quiet_passes, carried, room_of, refused_own, refused_stopped}
+use Rattle.editor_core.proofs.Quiet.{refused_wanting}
 use Rattle.editor_core.proofs.Spaces.{fits}
 use Rattle.editor_core.proofs.Staying.{stopped_not}
 
 -- (over plain numbers)
-clip_sum : (new was old later history pins named : ℕ) → new + old ≡ was + later → was ≡ named → named ≡ history + (pins + old) → new ≡ history + (pins + later)
+clip_sum : (new was old later history pins named : ℕ) → new + old ≡ was + later → was ≡ named
+    → named ≡ history + (pins + old) → new ≡ history + (pins + later)
 clip_sum new was old later history pins named a b c = omega (arith, a, b, c)
 
 clip_part : (was old history pins named : ℕ) → was ≡ named → named ≡ history + (pins + old) → old ≤ was
@@ -75,14 +81,16 @@ module _ {D : Type 0} (disk : Ghosts D) (s : Core D) (is : IsStudio disk s) wher
   -- the clipboard's blocks are counted
   pub clip_counted : HasAll s.counts (clip_blocks s.clipboard)
   clip_counted b =
-      clip_part (occurrences (s.counts b)) (times_named b (clip_blocks s.clipboard)) (times_named b (history_blocks s.history)) (times_named b (pin_blocks s.pins)) (times_named b (named_blocks s))
+      clip_part (occurrences (s.counts b)) (times_named b (clip_blocks s.clipboard)) (times_named b
+      (history_blocks s.history)) (times_named b (pin_blocks s.pins)) (times_named b (named_blocks s))
       (is.counted b) (named_parts s b)
 
   -- the counts have room
   pub clip_room : (b : ℕ) → occurrences (s.counts b) < 2 ^ 102
   clip_room b = omega (arith, is.counted b, named_most b (named_blocks s), named_few disk s is)
 
-module _ {D : Type 0} (disk : Ghosts D) (s : Core D) (is : IsStudio disk s) (id n from to : ℕ) (fewer : Fewer disk s.store) where
+module _ {D : Type 0} (disk : Ghosts D) (s : Core D) (is : IsStudio disk s) (id n from to : ℕ)
+    (fewer : Fewer disk s.store) where
   abbrev src : Sources
   src = sources_of (disk.reads s.store)
 
@@ -99,15 +107,18 @@ module _ {D : Type 0} (disk : Ghosts D) (s : Core D) (is : IsStudio disk s) (id 
   copy_quiet = record { needs = λ t. (refl, refl); no_commit = refl; no_track = λ t. refl; quiet = λ t. refl }
 
   abbrev rest_tests : Project → Option Refusal
-  rest_tests p = (too_narrow (length (tracks_from id p)) n) otherwise (bad_range from to (longest (take n (tracks_from id p))))
+  rest_tests p =
+      (too_narrow (length (tracks_from id p)) n) otherwise (bad_range from to (longest (take n (tracks_from id p))))
 
   pub copy_stopped : (faults : ℕ) → s.stopped ≡ Some faults → Took disk s line silent (Err (refusal.Stopped faults)) 0 s
   copy_stopped faults stopped = refused_stopped disk s line copy_quiet is fewer faults refl stopped
 
-  pub copy_lacks : (why : Refusal) → s.stopped ≡ None → lacks id (track_of id ts) ≡ Some why → Took disk s line silent (Err why) 0 s
+  pub copy_lacks : (why : Refusal) → s.stopped ≡ None → lacks id (track_of id ts) ≡ Some why
+      → Took disk s line silent (Err why) 0 s
   copy_lacks why going lack =
       refused_own disk s line copy_quiet is fewer why (ap stop_of going)
-      ((λ i. (sym (track_is disk s is id) i) otherwise (rest_tests (current t.state))) ∙ (λ i. (lack i) otherwise (rest_tests (current t.state))))
+      ((λ i. (sym (track_is disk s is id) i) otherwise (rest_tests (current t.state)))
+      ∙ (λ i. (lack i) otherwise (rest_tests (current t.state))))
 
   -- where the track is there the tests are those of the run of layouts
   module _ (layout : List Clip) (has : HasLayout id ts layout) (going : s.stopped ≡ None) where
@@ -121,15 +132,19 @@ module _ {D : Type 0} (disk : Ghosts D) (s : Core D) (is : IsStudio disk s) (id 
     tests_are =
         let no = sym (track_is disk s is id) ∙ track_there disk s is id layout has in
         let mean = ap (tracks_from id) (current_meant disk s is) ∙ run_meant src id ts in
-        let few : length (tracks_from id (current t.state)) ≡ length (run_of id ts) = ap length mean ∙ length-map run (meant_track src) ∙ sym (ap length layouts ∙ length-map run layout_of) in
+        let few : length (tracks_from id (current t.state)) ≡ length (run_of id ts) =
+        ap length mean ∙ length-map run (meant_track src) ∙ sym (ap length layouts ∙ length-map run layout_of) in
         let sound = from_sound s.block_size s.next_block s.next_track id ts (current_sound disk s is).sound in
         let long : longest (take n (tracks_from id (current t.state))) ≡ longest_of (take n (run_of id ts)) =
-        ap (λ (p : Project). longest (take n p)) mean ∙ longest_is s.block_size s.next_block s.next_track src n run sound ∙ sym (ap (λ (z : List (List Clip)). longest_of (take n z)) layouts) in
+        ap (λ (p : Project). longest (take n p)) mean ∙ longest_is s.block_size s.next_block s.next_track src n run
+        sound ∙ sym (ap (λ (z : List (List Clip)). longest_of (take n z)) layouts) in
         λ i. (no i) otherwise (too_narrow (few i) n) otherwise (bad_range from to (long i))
 
-    pub copy_refused : (why : Refusal) → (copy_tests (run_of id ts) n from to ≡ Some why) ⊎ (why ≡ refusal.NoMemory) → Took disk s line silent (Err why) 0 s
+    pub copy_refused : (why : Refusal) → (copy_tests (run_of id ts) n from to ≡ Some why) ⊎ (why ≡ refusal.NoMemory)
+        → Took disk s line silent (Err why) 0 s
     copy_refused why (inl test) = refused_own disk s line copy_quiet is fewer why (ap stop_of going) (tests_are ∙ test)
-    copy_refused why (inr want) = subst (λ (z : Refusal). Took disk s line silent (Err z) 0 s) (sym want) (refused_wanting disk s line copy_quiet is fewer)
+    copy_refused why (inr want) = subst (λ (z : Refusal). Took disk s line silent (Err z) 0 s) (sym want)
+        (refused_wanting disk s line copy_quiet is fewer)
 
     -- ---- carried out
     module _ (v : List (List Item)) (copies : Copies (run_of id ts) n from to (Ok v)) where
@@ -142,14 +157,20 @@ module _ {D : Type 0} (disk : Ghosts D) (s : Core D) (is : IsStudio disk s) (id 
       pub strips_few : length v ≤ 64
       strips_few = omega (arith, copies_few from to n run v copies_of, from_few id ts, (current_sound disk s is).few)
 
-      pub strips_named : (P : BlockRef → Type 0) → AllByRecursion P (named_blocks s) → AllByRecursion P (strips_blocks v)
+      pub strips_named : (P : BlockRef → Type 0) → AllByRecursion P (named_blocks s)
+          → AllByRecursion P (strips_blocks v)
       strips_named P all = copies_all P from to n run v copies_of (from_blocks P id ts (old_names disk s is P all))
 
       range_most : to ≤ 2 ^ 32
       range_most =
           let len = longest_of (take n (run_of id ts)) in
           let good = second (too_narrow (length (run_of id ts)) n) (bad_range from to len) copies.0 in
-          omega (arith, ends_by (nat_lt from to) to len good, ap (λ (z : List (List Clip)). longest_of (take n z)) layouts, longest_most s.block_size s.next_block s.next_track n run sound_run)
+          omega (
+            arith,
+            ends_by (nat_lt from to) to len good,
+            ap (λ (z : List (List Clip)). longest_of (take n z)) layouts,
+            longest_most s.block_size s.next_block s.next_track n run sound_run,
+          )
 
       pub may_paste : IsClipboard s.block_size v
       may_paste = record {
@@ -161,10 +182,12 @@ module _ {D : Type 0} (disk : Ghosts D) (s : Core D) (is : IsStudio disk s) (id 
       meaning : map (strip_cells src) v ≡ copied id n from to (current t.state)
       meaning =
           copies_mean src from to n run v copies_of
-          ∙ ap (λ (p : Project). map (λ (t : cells.Track). range_of from to t.cells) (take n p)) (sym (run_meant src id ts))
+          ∙ ap (λ (p : Project). map (λ (t : cells.Track). range_of from to t.cells) (take n p))
+          (sym (run_meant src id ts))
           ∙ ap (copied id n from to) (sym (current_meant disk s is))
 
-      module _ (counts : Counts) (moves : Moves s.counts counts (clip_blocks s.clipboard) (strips_blocks v)) (most : length (strips_blocks v) ≤ 2 ^ 71) where
+      module _ (counts : Counts) (moves : Moves s.counts counts (clip_blocks s.clipboard) (strips_blocks v))
+          (most : length (strips_blocks v) ≤ 2 ^ 71) where
         abbrev new : Core D
         new = renamed s (Some v) s.pins s.next_pin counts
 
@@ -172,8 +195,10 @@ module _ {D : Type 0} (disk : Ghosts D) (s : Core D) (is : IsStudio disk s) (id 
         copy_renames = record {
           covers = λ P all.
               let rest = all_right P (history_blocks s.history) (pin_blocks s.pins ++ clip_blocks s.clipboard) all in
-              all_append P (history_blocks s.history) (pin_blocks s.pins ++ strips_blocks v) (all_left P (history_blocks s.history) (pin_blocks s.pins ++ clip_blocks s.clipboard) all)
-              (all_append P (pin_blocks s.pins) (strips_blocks v) (all_left P (pin_blocks s.pins) (clip_blocks s.clipboard) rest) (strips_named P all));
+              all_append P (history_blocks s.history) (pin_blocks s.pins ++ strips_blocks v)
+              (all_left P (history_blocks s.history) (pin_blocks s.pins ++ clip_blocks s.clipboard) all)
+              (all_append P (pin_blocks s.pins) (strips_blocks v)
+              (all_left P (pin_blocks s.pins) (clip_blocks s.clipboard) rest) (strips_named P all));
           numbers = is.numbers;
           pin_least = is.counters.pin_least;
           pin_most = is.counters.pin_most;
@@ -181,8 +206,10 @@ module _ {D : Type 0} (disk : Ghosts D) (s : Core D) (is : IsStudio disk s) (id 
           few_clips = most;
           clip_fits = may_paste;
           counted = λ b.
-              clip_sum (occurrences (counts b)) (occurrences (s.counts b)) (times_named b (clip_blocks s.clipboard)) (times_named b (strips_blocks v)) (times_named b (history_blocks s.history))
-              (times_named b (pin_blocks s.pins)) (times_named b (named_blocks s)) (moves.counts b) (is.counted b) (named_parts s b) ∙ sym (named_parts new b);
+              clip_sum (occurrences (counts b)) (occurrences (s.counts b)) (times_named b (clip_blocks s.clipboard))
+              (times_named b (strips_blocks v)) (times_named b (history_blocks s.history))
+              (times_named b (pin_blocks s.pins)) (times_named b (named_blocks s)) (moves.counts b) (is.counted b)
+              (named_parts s b) ∙ sym (named_parts new b);
           ids = moves.ids;
         }
 
@@ -192,6 +219,8 @@ module _ {D : Type 0} (disk : Ghosts D) (s : Core D) (is : IsStudio disk s) (id 
         pub copy_done : Took disk s line silent (Ok Copied) 0 new
         copy_done =
             let room = room_of disk s line is in
-            let passed = quiet_passes t line copy_quiet room (ap stop_of going) (tests_are ∙ copies.0) (fits s.next_pin 0 (omega (arith, is.counters.pin_most))) in
-            renamed_took disk s is (Some v) s.pins s.next_pin counts copy_renames line copy_quiet Copied fewer (λ some. absurd (stopped_not s.stopped some going))
+            let passed = quiet_passes t line copy_quiet room (ap stop_of going) (tests_are ∙ copies.0)
+            (fits s.next_pin 0 (omega (arith, is.counters.pin_most))) in
+            renamed_took disk s is (Some v) s.pins s.next_pin counts copy_renames line copy_quiet Copied fewer
+            (λ some. absurd (stopped_not s.stopped some going))
             (λ _. carried t line copy_quiet room Copied (studio_of disk new) passed refl copy_state)

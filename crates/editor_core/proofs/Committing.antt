@@ -1,5 +1,6 @@
 -- A commit whose record is not added: the journal is full, the record too long, there is no memory, or the disk fails.
-use Rattle.std.proofs.Common.{◌≡◌, inr, refl, sym, subst, ℕ, ◌+◌, ◌-◌, ◌^◌, ◌≤◌, ◌<◌, IsTrue, List, Option, None, Err, length, arith}
+use Rattle.std.proofs.Common.{◌≡◌, inr, refl, sym, subst, ℕ, ◌+◌, ◌-◌, ◌^◌, ◌≤◌, ◌<◌, IsTrue, List, Option, None, Err}
+use Rattle.std.proofs.Common.{length, arith}
 use Rattle.pcm_base.specs.declared.block.BlockRef.{BlockRef}
 use Rattle.pcm_base.specs.declared.command.Call.{Call}
 use Rattle.pcm_base.specs.declared.entry.SoundMove.{SoundMove}
@@ -94,7 +95,8 @@ module _ {D : Type 0} {Has : Type 0} {disk : Ghosts D} {s : Core D} {made : List
       len = len;
       needs = λ has. (0, t.move.needs has);
       changed =
-          changed_wider (others_record s.next_block s.next_block NoneGoes) (record_within s.block_size (s.next_block - s.next_block) len 0) adds.changed;
+          changed_wider (others_record s.next_block s.next_block NoneGoes)
+          (record_within s.block_size (s.next_block - s.next_block) len 0) adds.changed;
     }
 
 -- ---- of a studio that the disk holds

@@ -9,7 +9,8 @@ use Rattle.editor_core.proofs.Lists.{all_so}
 pub contained : (P : BlockRef → Type 0) (xs : List BlockRef) (x : BlockRef) → AllByRecursion P xs → Contains xs x → P x
 contained P xs x all has = All-contains P xs x (All-from_recursion P xs all) has
 
-pub among_all : (P : BlockRef → Type 0) (every bs : List BlockRef) → AreAmong every bs → AllByRecursion P every → AllByRecursion P bs
+pub among_all : (P : BlockRef → Type 0) (every bs : List BlockRef) → AreAmong every bs → AllByRecursion P every
+    → AllByRecursion P bs
 among_all P every bs among all = all_so (Contains every) P (λ b h. contained P every b all h) bs among
 
 pub among_itself : (every : List BlockRef) → AreAmong every every

@@ -1,5 +1,7 @@
 -- What is copied is a range of each track of the run.
-use Rattle.std.proofs.Common.{◌≡◌, ⊎_elim, refl, sym, ap, ◌∙◌, subst, ℕ, zero, suc, ◌+◌, ◌-◌, ◌^◌, ◌≤◌, ◌<◌, max, nat_le, nat_lt, not, ◌&&◌, eqb, ◌==◌, if◌then◌else◌, Bool, true, false, List, [], ◌∷◌, ◌++◌, length, map, take, flat_map, Option, Some, None, length-append, get_or, arith}
+use Rattle.std.proofs.Common.{◌≡◌, ⊎_elim, refl, sym, ap, ◌∙◌, subst, ℕ, zero, suc, ◌+◌, ◌-◌, ◌^◌, ◌≤◌, ◌<◌, max}
+use Rattle.std.proofs.Common.{nat_le, nat_lt, not, ◌&&◌, eqb, ◌==◌, if◌then◌else◌, Bool, true, false, List, [], ◌∷◌}
+use Rattle.std.proofs.Common.{◌++◌, length, map, take, flat_map, Option, Some, None, length-append, get_or, arith}
 use Rattle.std.specs.List.{AllByRecursion}
 use Rattle.std.proofs.lemmas.Bool.{ne_eqb, le-leb, lt-leb}
 use Rattle.std.proofs.lemmas.Bool.Decides.{eqb_tells}
@@ -52,14 +54,17 @@ from_track id (t ∷ ts) = if t.id == id then t ∷ ts else from_track id ts
 abbrev pub layout_of : Track → List Clip
 layout_of t = t.layout
 
-pub run_meant : (src : Sources) (id : ℕ) (ts : List Track) → tracks_from id (meant src ts) ≡ meant src (from_track id ts)
+pub run_meant : (src : Sources) (id : ℕ) (ts : List Track)
+    → tracks_from id (meant src ts) ≡ meant src (from_track id ts)
 run_meant src id [] = refl
-run_meant src id (t ∷ ts) = ⊎_elim (λ same. rw (same.0) refl) (λ other. rw (other.0) (run_meant src id ts)) (eqb_tells t.id id)
+run_meant src id (t ∷ ts) =
+    ⊎_elim (λ same. rw (same.0) refl) (λ other. rw (other.0) (run_meant src id ts)) (eqb_tells t.id id)
 
 all_above : (id n : ℕ) (ts : List Track) → AreAbove n ts → id ≤ n → run_of id ts ≡ map layout_of ts
 all_above id n [] above le = refl
 all_above id n (t ∷ ts) above le =
-    rw (le-leb id t.id (omega (arith, le, above.0))) (ap (λ (z : List (List Clip)). t.layout ∷ z) (all_above id (t.id + 1) ts above.1 (omega (arith, le, above.0))))
+    rw (le-leb id t.id (omega (arith, le, above.0)))
+    (ap (λ (z : List (List Clip)). t.layout ∷ z) (all_above id (t.id + 1) ts above.1 (omega (arith, le, above.0))))
 
 pub found_above : (id n : ℕ) (ts : List Track) (x : Track) → AreAbove n ts → track_of id ts ≡ Some x → n ≤ id
 found_above id n [] x above found = absurd (none-some x found)
@@ -70,32 +75,41 @@ found_above id n (t ∷ ts) x above found = ⊎_elim
     omega (arith, above.0, found_above id (t.id + 1) ts x above.1 later))
     (eqb_tells id t.id)
 
-pub run_is : (id n : ℕ) (ts : List Track) (x : Track) → AreAbove n ts → track_of id ts ≡ Some x → run_of id ts ≡ map layout_of (from_track id ts)
+pub run_is : (id n : ℕ) (ts : List Track) (x : Track) → AreAbove n ts → track_of id ts ≡ Some x
+    → run_of id ts ≡ map layout_of (from_track id ts)
 run_is id n [] x above found = refl
 run_is id n (t ∷ ts) x above found = ⊎_elim
-    (λ same. rw (same.0, le-leb id t.id (omega (arith, same.1))) (ap (λ (z : List (List Clip)). t.layout ∷ z) (all_above id (t.id + 1) ts above.1 (omega (arith, same.1)))))
+    (λ same. rw (same.0, le-leb id t.id (omega (arith, same.1)))
+    (ap (λ (z : List (List Clip)). t.layout ∷ z) (all_above id (t.id + 1) ts above.1 (omega (arith, same.1)))))
     (λ other.
-    let later : track_of id ts ≡ Some x = sym (ap (λ b. if b then Some t else track_of id ts) (ne_eqb id t.id (λ e. other.1 (sym e)))) ∙ found in
+    let later : track_of id ts ≡ Some x =
+    sym (ap (λ b. if b then Some t else track_of id ts) (ne_eqb id t.id (λ e. other.1 (sym e)))) ∙ found in
     let less = found_above id (t.id + 1) ts x above.1 later in
     rw (other.0, lt-leb id t.id (omega (arith, less))) (run_is id (t.id + 1) ts x above.1 later))
     (eqb_tells t.id id)
 
-pub from_sound : (m next_block next_track id : ℕ) (ts : List Track) → AllSoundTracks m next_block next_track ts → AllSoundTracks m next_block next_track (from_track id ts)
+pub from_sound : (m next_block next_track id : ℕ) (ts : List Track) → AllSoundTracks m next_block next_track ts
+    → AllSoundTracks m next_block next_track (from_track id ts)
 from_sound m next_block next_track id [] all = tt
-from_sound m next_block next_track id (t ∷ ts) all = ⊎_elim (λ same. rw (same.0) all) (λ other. rw (other.0) (from_sound m next_block next_track id ts all.1)) (eqb_tells t.id id)
+from_sound m next_block next_track id (t ∷ ts) all = ⊎_elim (λ same. rw (same.0) all)
+    (λ other. rw (other.0) (from_sound m next_block next_track id ts all.1)) (eqb_tells t.id id)
 
 pub from_few : (id : ℕ) (ts : List Track) → length (from_track id ts) ≤ length ts
 from_few id [] = omega arith
-from_few id (t ∷ ts) = ⊎_elim (λ same. rw (same.0) (omega arith)) (λ other. rw (other.0) (omega (arith, from_few id ts))) (eqb_tells t.id id)
+from_few id (t ∷ ts) = ⊎_elim (λ same. rw (same.0) (omega arith))
+    (λ other. rw (other.0) (omega (arith, from_few id ts))) (eqb_tells t.id id)
 
-pub from_blocks : (P : BlockRef → Type 0) (id : ℕ) (ts : List Track) → AllByRecursion P (point_blocks ts) → AllByRecursion P (point_blocks (from_track id ts))
+pub from_blocks : (P : BlockRef → Type 0) (id : ℕ) (ts : List Track) → AllByRecursion P (point_blocks ts)
+    → AllByRecursion P (point_blocks (from_track id ts))
 from_blocks P id [] all = tt
-from_blocks P id (t ∷ ts) all = ⊎_elim (λ same. rw (same.0) all) (λ other. rw (other.0) (from_blocks P id ts (all_right P (layout_blocks t.layout) (point_blocks ts) all))) (eqb_tells t.id id)
+from_blocks P id (t ∷ ts) all = ⊎_elim (λ same. rw (same.0) all) (λ other.
+    rw (other.0) (from_blocks P id ts (all_right P (layout_blocks t.layout) (point_blocks ts) all))) (eqb_tells t.id id)
 
 -- ---- its lengths
 
 module _ (m next_block next_track : ℕ) where
-  pub longest_is : (src : Sources) (n : ℕ) (ts : List Track) → AllSoundTracks m next_block next_track ts → longest (take n (meant src ts)) ≡ longest_of (take n (map layout_of ts))
+  pub longest_is : (src : Sources) (n : ℕ) (ts : List Track) → AllSoundTracks m next_block next_track ts
+      → longest (take n (meant src ts)) ≡ longest_of (take n (map layout_of ts))
   longest_is src zero ts all = refl
   longest_is src (suc n) [] all = refl
   longest_is src (suc n) (t ∷ ts) all =
@@ -103,22 +117,26 @@ module _ (m next_block next_track : ℕ) where
       let later = longest_is src n ts all.1 in
       λ i. max (here i) (later i)
 
-  pub longest_most : (n : ℕ) (ts : List Track) → AllSoundTracks m next_block next_track ts → longest_of (take n (map layout_of ts)) ≤ 2 ^ 32
+  pub longest_most : (n : ℕ) (ts : List Track) → AllSoundTracks m next_block next_track ts
+      → longest_of (take n (map layout_of ts)) ≤ 2 ^ 32
   longest_most zero ts all = omega arith
   longest_most (suc n) [] all = omega arith
   longest_most (suc n) (t ∷ ts) all = omega (arith, all.0.layout.few, longest_most n ts all.1)
 
   -- ---- the strips
 
-  pub copies_fit : (from to n : ℕ) (ts : List Track) (v : List (List Item)) → AreCopies from to (take n (map layout_of ts)) v → AllSoundTracks m next_block next_track ts → AreClips m v
+  pub copies_fit : (from to n : ℕ) (ts : List Track) (v : List (List Item))
+      → AreCopies from to (take n (map layout_of ts)) v → AllSoundTracks m next_block next_track ts → AreClips m v
   copies_fit from to zero ts [] all sound = tt
   copies_fit from to zero ts (s ∷ ss) all sound = absurd all
   copies_fit from to (suc n) [] [] all sound = tt
   copies_fit from to (suc n) [] (s ∷ ss) all sound = absurd all
   copies_fit from to (suc n) (t ∷ ts) [] all sound = absurd all
-  copies_fit from to (suc n) (t ∷ ts) (s ∷ ss) all sound = (all.0.clip m sound.0.half_full, copies_fit from to n ts ss all.1 sound.1)
+  copies_fit from to (suc n) (t ∷ ts) (s ∷ ss) all sound =
+      (all.0.clip m sound.0.half_full, copies_fit from to n ts ss all.1 sound.1)
 
-pub copies_mean : (src : Sources) (from to n : ℕ) (ts : List Track) (v : List (List Item)) → AreCopies from to (take n (map layout_of ts)) v
+pub copies_mean : (src : Sources) (from to n : ℕ) (ts : List Track) (v : List (List Item))
+    → AreCopies from to (take n (map layout_of ts)) v
     → map (strip_cells src) v ≡ map (λ (t : cells.Track). range_of from to t.cells) (take n (meant src ts))
 copies_mean src from to zero ts [] all = refl
 copies_mean src from to zero ts (s ∷ ss) all = absurd all
@@ -130,7 +148,8 @@ copies_mean src from to (suc n) (t ∷ ts) (s ∷ ss) all =
     let later = copies_mean src from to n ts ss all.1 in
     λ i. here i ∷ later i
 
-pub copies_few : (from to n : ℕ) (ts : List Track) (v : List (List Item)) → AreCopies from to (take n (map layout_of ts)) v → length v ≤ length ts
+pub copies_few : (from to n : ℕ) (ts : List Track) (v : List (List Item))
+    → AreCopies from to (take n (map layout_of ts)) v → length v ≤ length ts
 copies_few from to zero ts [] all = omega arith
 copies_few from to zero ts (s ∷ ss) all = absurd all
 copies_few from to (suc n) [] [] all = omega arith
@@ -138,28 +157,35 @@ copies_few from to (suc n) [] (s ∷ ss) all = absurd all
 copies_few from to (suc n) (t ∷ ts) [] all = absurd all
 copies_few from to (suc n) (t ∷ ts) (s ∷ ss) all = omega (arith, copies_few from to n ts ss all.1)
 
-pub copies_short : (from to n : ℕ) (ts : List Track) (v : List (List Item)) → to ≤ 2 ^ 32 → AreCopies from to (take n (map layout_of ts)) v → AllByRecursion (λ strip. strip_len strip ≤ 2 ^ 32) v
+pub copies_short : (from to n : ℕ) (ts : List Track) (v : List (List Item)) → to ≤ 2 ^ 32
+    → AreCopies from to (take n (map layout_of ts)) v → AllByRecursion (λ strip. strip_len strip ≤ 2 ^ 32) v
 copies_short from to zero ts [] most all = tt
 copies_short from to zero ts (s ∷ ss) most all = absurd all
 copies_short from to (suc n) [] [] most all = tt
 copies_short from to (suc n) [] (s ∷ ss) most all = absurd all
 copies_short from to (suc n) (t ∷ ts) [] most all = absurd all
-copies_short from to (suc n) (t ∷ ts) (s ∷ ss) most all = (omega (arith, all.0.len, most), copies_short from to n ts ss most all.1)
+copies_short from to (suc n) (t ∷ ts) (s ∷ ss) most all =
+    (omega (arith, all.0.len, most), copies_short from to n ts ss most all.1)
 
-all_at : (P : BlockRef → Type 0) (bs : List BlockRef) (b : BlockRef) → AllByRecursion P bs → (k : ℕ) → k < length bs → get_or bs k b ≡ b → P b
+all_at : (P : BlockRef → Type 0) (bs : List BlockRef) (b : BlockRef) → AllByRecursion P bs → (k : ℕ) → k < length bs
+    → get_or bs k b ≡ b → P b
 all_at P [] b all k lt e = absurd (omega (arith, lt))
 all_at P (x ∷ xs) b all zero lt e = subst P e all.0
 all_at P (x ∷ xs) b all (suc k) lt e = all_at P xs b all.1 k (omega (arith, lt)) e
 
-origin_all : (P : BlockRef → Type 0) (bs : List BlockRef) (xs : List Item) → AllByRecursion P bs → ItemsFrom bs 0 xs → AllByRecursion P (strip_blocks xs)
+origin_all : (P : BlockRef → Type 0) (bs : List BlockRef) (xs : List Item) → AllByRecursion P bs → ItemsFrom bs 0 xs
+    → AllByRecursion P (strip_blocks xs)
 origin_all P bs [] all from = tt
 origin_all P bs (Gap n ∷ xs) all from = origin_all P bs xs all from.1
-origin_all P bs (Sound (Old b lo hi) ∷ xs) all from = (all_at P bs b all from.0.0 from.0.1 from.0.2, origin_all P bs xs all from.1)
-origin_all P bs (Sound (Scaled b lo hi gain) ∷ xs) all from = (all_at P bs b all from.0.0 from.0.1 from.0.2, origin_all P bs xs all from.1)
+origin_all P bs (Sound (Old b lo hi) ∷ xs) all from =
+    (all_at P bs b all from.0.0 from.0.1 from.0.2, origin_all P bs xs all from.1)
+origin_all P bs (Sound (Scaled b lo hi gain) ∷ xs) all from =
+    (all_at P bs b all from.0.0 from.0.1 from.0.2, origin_all P bs xs all from.1)
 origin_all P bs (Sound (Zero len) ∷ xs) all from = origin_all P bs xs all from.1
 origin_all P bs (Sound (Given lo hi) ∷ xs) all from = origin_all P bs xs all from.1
 
-pub copies_all : (P : BlockRef → Type 0) (from to n : ℕ) (ts : List Track) (v : List (List Item)) → AreCopies from to (take n (map layout_of ts)) v → AllByRecursion P (point_blocks ts) → AllByRecursion P (strips_blocks v)
+pub copies_all : (P : BlockRef → Type 0) (from to n : ℕ) (ts : List Track) (v : List (List Item)) → AreCopies from to
+    (take n (map layout_of ts)) v → AllByRecursion P (point_blocks ts) → AllByRecursion P (strips_blocks v)
 copies_all P from to zero ts [] all has = tt
 copies_all P from to zero ts (s ∷ ss) all has = absurd all
 copies_all P from to (suc n) [] [] all has = tt

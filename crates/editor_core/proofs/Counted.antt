@@ -17,8 +17,10 @@ module _ {D : Type 0} (disk : Ghosts D) (s : Core D) (is : IsStudio disk s) (ids
     each = λ id.
         let counted = is.counted id in
         let there = named_is (s.counts id) in
-        let each = named.each id in
-        ((λ one. omega (arith, there.0 (each.0 one), counted)), (λ some. each.1 (there.1 (omega (arith, some, counted)))));
+        let each = named.each id in (
+          (λ one. omega (arith, there.0 (each.0 one), counted)),
+          (λ some. each.1 (there.1 (omega (arith, some, counted)))),
+        );
   }
 
   pub are_named : AreBlocksOf s ids → AreNamed s.counts ids
@@ -27,6 +29,8 @@ module _ {D : Type 0} (disk : Ghosts D) (s : Core D) (is : IsStudio disk s) (ids
     each = λ id.
         let counted = is.counted id in
         let there = named_is (s.counts id) in
-        let each = blocks.each id in
-        ((λ one. there.1 (omega (arith, each.0 one, counted))), (λ some. each.1 (omega (arith, there.0 some, counted))));
+        let each = blocks.each id in (
+          (λ one. there.1 (omega (arith, each.0 one, counted))),
+          (λ some. each.1 (omega (arith, there.0 some, counted))),
+        );
   }

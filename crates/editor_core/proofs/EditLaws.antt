@@ -1,5 +1,6 @@
 -- An edit that makes blocks: what its plan says of the studio with the blocks made, and its commit.
-use Rattle.std.proofs.Common.{◌≡◌, inr, ⊎_elim, refl, sym, ap, ◌∙◌, subst, ℕ, ◌+◌, ◌^◌, ◌≤◌, ◌<◌, if◌then◌else◌, ℤ, IsSome, Option, Some, None, List, [], ◌∷◌, ◌++◌, length, arith}
+use Rattle.std.proofs.Common.{◌≡◌, inr, ⊎_elim, refl, sym, ap, ◌∙◌, subst, ℕ, ◌+◌, ◌^◌, ◌≤◌, ◌<◌, if◌then◌else◌, ℤ}
+use Rattle.std.proofs.Common.{IsSome, Option, Some, None, List, [], ◌∷◌, ◌++◌, length, arith}
 use Rattle.std.specs.List.{AllByRecursion}
 use Rattle.std.proofs.lemmas.Bool.Decides.{eqb_tells}
 use Rattle.std.proofs.lemmas.List.{take_all}
@@ -41,7 +42,8 @@ use Rattle.editor_core.specs.Edits.{IsEdit, IsPlanned, alone, beside, blocks_wit
 use Rattle.editor_core.specs.Made.{PiecesThere}
 use Rattle.editor_core.specs.Makes.{AreSynced, Making}
 use Rattle.editor_core.specs.Occurrences.{HasAll, HasIds, times_named}
-use Rattle.editor_core.specs.Studios.{IsGiven, IsHeld, IsStudio, clip_blocks, named_blocks, pin_blocks, studio_by, studio_of}
+use Rattle.editor_core.specs.Studios.{IsGiven, IsHeld, IsStudio, clip_blocks, named_blocks, pin_blocks, studio_by}
+use Rattle.editor_core.specs.Studios.{studio_of}
 use Rattle.editor_core.proofs.Bounds.{few_more}
 use Rattle.editor_core.proofs.Contained.{among_all, contained}
 use Rattle.editor_core.proofs.Editing.{counts_named}
@@ -51,7 +53,8 @@ use Rattle.editor_core.proofs.Lists.{all_left, all_so}
 use Rattle.editor_core.proofs.MadeCommits.{has_made}
 use Rattle.editor_core.proofs.MadeStudios.{IsNewId, are_made, made_held, made_studio, refs, refs_ids}
 use Rattle.editor_core.proofs.Meanings.{same_by}
-use Rattle.editor_core.proofs.Recorded.{all_recorded, blocks_recorded, recorded_few, recorded_depth, recorded_current, tag_here}
+use Rattle.editor_core.proofs.Recorded.{all_recorded, blocks_recorded, recorded_few, recorded_depth, recorded_current}
+use Rattle.editor_core.proofs.Recorded.{tag_here}
 use Rattle.editor_core.proofs.Staying.{HasMade}
 use Rattle.editor_core.proofs.Supposed.{old_same, supposed, supposed_written}
 use Rattle.editor_core.proofs.Times.{Few}
@@ -59,16 +62,21 @@ use Rattle.editor_core.proofs.Tracks.{current_is}
 
 -- ---- pieces of blocks that are there, and ids that are counted
 
-pieces_all : (files : Files) (xs : List BlockRef) (n : ℕ) (ps : List Piece) → AllWhole files xs → AllFrom xs n ps → AllThere files ps
+pieces_all : (files : Files) (xs : List BlockRef) (n : ℕ) (ps : List Piece) → AllWhole files xs → AllFrom xs n ps
+    → AllThere files ps
 pieces_all files xs n [] whole from = tt
-pieces_all files xs n (Old b lo hi ∷ ps) whole from = (contained (IsWhole files) xs b whole from.0, pieces_all files xs n ps whole from.1)
-pieces_all files xs n (Scaled b lo hi gain ∷ ps) whole from = (contained (IsWhole files) xs b whole from.0, pieces_all files xs n ps whole from.1)
+pieces_all files xs n (Old b lo hi ∷ ps) whole from =
+    (contained (IsWhole files) xs b whole from.0, pieces_all files xs n ps whole from.1)
+pieces_all files xs n (Scaled b lo hi gain ∷ ps) whole from =
+    (contained (IsWhole files) xs b whole from.0, pieces_all files xs n ps whole from.1)
 pieces_all files xs n (Zero len ∷ ps) whole from = (tt, pieces_all files xs n ps whole from.1)
 pieces_all files xs n (Given lo hi ∷ ps) whole from = (tt, pieces_all files xs n ps whole from.1)
 
-makes_all : (files : Files) (xs : List BlockRef) (n : ℕ) (bs : List NewBlock) → AllWhole files xs → AllNewFrom xs n bs → PiecesThere files bs
+makes_all : (files : Files) (xs : List BlockRef) (n : ℕ) (bs : List NewBlock) → AllWhole files xs → AllNewFrom xs n bs
+    → PiecesThere files bs
 makes_all files xs n [] whole from = tt
-makes_all files xs n (b ∷ bs) whole from = (pieces_all files xs n b.pieces whole from.0, makes_all files xs n bs whole from.1)
+makes_all files xs n (b ∷ bs) whole from =
+    (pieces_all files xs n b.pieces whole from.0, makes_all files xs n bs whole from.1)
 
 some_count : (o : Option ℕ) → 0 < occurrences o → IsSome o
 some_count None h = absurd (omega (arith, h))
@@ -77,10 +85,12 @@ some_count (Some n) h = refl
 abbrev IsCounted : Counts → BlockRef → Type 0
 IsCounted counts b = IsSome (counts b.id)
 
-counted_there : (counts : Counts) (bs : List BlockRef) → ((id : ℕ) → times_named id bs ≤ occurrences (counts id)) → AllByRecursion (IsCounted counts) bs
+counted_there : (counts : Counts) (bs : List BlockRef) → ((id : ℕ) → times_named id bs ≤ occurrences (counts id))
+    → AllByRecursion (IsCounted counts) bs
 counted_there counts [] h = tt
 counted_there counts (b ∷ bs) h = (
-  ⊎_elim (λ (same : _). some_count (counts b.id) (omega (arith, h b.id, ap {B = ℕ} (λ t. if t then 1 else 0) same.0))) (λ other. absurd (other.1 refl)) (eqb_tells b.id b.id),
+  ⊎_elim (λ (same : _). some_count (counts b.id) (omega (arith, h b.id, ap {B = ℕ} (λ t. if t then 1 else 0) same.0)))
+      (λ other. absurd (other.1 refl)) (eqb_tells b.id b.id),
   counted_there counts bs (λ id. omega (arith, h id)),
 )
 
@@ -91,8 +101,10 @@ there_of counts (b ∷ bs) all id some = ⊎_elim
     (λ other. there_of counts bs all.1 id (omega (arith, some, ap {B = ℕ} (λ t. if t then 1 else 0) other.0)))
     (eqb_tells b.id id)
 
-module _ {D : Type 0} (disk : Ghosts D) (s : Core D) (is : IsStudio disk s) (going : s.stopped ≡ None) (given : brings.Given) (makes : List NewBlock)
-    (tag tracks : ℕ) (point : List Track) (clip : Option (List (List Item))) (plan : IsPlanned s given makes tag tracks point clip) where
+module _ {D : Type 0} (disk : Ghosts D) (s : Core D) (is : IsStudio disk s) (going : s.stopped ≡ None)
+    (given : brings.Given) (makes : List NewBlock)
+    (tag tracks : ℕ) (point : List Track) (clip : Option (List (List Item)))
+    (plan : IsPlanned s given makes tag tracks point clip) where
   abbrev n : ℕ
   n = length makes
 
@@ -122,18 +134,23 @@ module _ {D : Type 0} (disk : Ghosts D) (s : Core D) (is : IsStudio disk s) (goi
 
     every_counted : AllByRecursion (IsCounted mid.counts) (blocks_with s makes)
     every_counted =
-        let old = counted_there mid.counts (named_blocks s) (λ id. omega (arith, making.ledger.counts id, is.counted id)) in
-        let new = all_so (λ (b : BlockRef). IsNewId s.next_block n b.id) (IsCounted mid.counts) (λ b k. (making.ledger.ids b.id).1 (inr k)) made (refs_ids s.block_size s.next_block makes plan.new) in
+        let old =
+        counted_there mid.counts (named_blocks s) (λ id. omega (arith, making.ledger.counts id, is.counted id)) in
+        let new = all_so (λ (b : BlockRef). IsNewId s.next_block n b.id) (IsCounted mid.counts)
+        (λ b k. (making.ledger.ids b.id).1 (inr k)) made (refs_ids s.block_size s.next_block makes plan.new) in
         all_append (IsCounted mid.counts) (named_blocks s) made old new
 
     pub point_named : HasAll mid.counts (history_blocks s.history)
-    point_named = subst (λ (z : Core D). HasAll mid.counts (history_blocks z.history)) making.is (counts_named disk mid mid_is)
+    point_named =
+        subst (λ (z : Core D). HasAll mid.counts (history_blocks z.history)) making.is (counts_named disk mid mid_is)
 
     pub point_there : HasIds mid.counts (point_blocks point)
-    point_there = there_of mid.counts (point_blocks point) (among_all (IsCounted mid.counts) (blocks_with s makes) (point_blocks point) plan.names every_counted)
+    point_there = there_of mid.counts (point_blocks point)
+        (among_all (IsCounted mid.counts) (blocks_with s makes) (point_blocks point) plan.names every_counted)
 
     pub clip_there : HasIds mid.counts (clip_blocks clip)
-    clip_there = there_of mid.counts (clip_blocks clip) (among_all (IsCounted mid.counts) (blocks_with s makes) (clip_blocks clip) plan.clip_names every_counted)
+    clip_there = there_of mid.counts (clip_blocks clip)
+        (among_all (IsCounted mid.counts) (blocks_with s makes) (clip_blocks clip) plan.clip_names every_counted)
 
     pub point_few : Few mid.counts (point_blocks point)
     point_few =
@@ -147,20 +164,27 @@ module _ {D : Type 0} (disk : Ghosts D) (s : Core D) (is : IsStudio disk s) (goi
 
   pub covers_then : (P : BlockRef → Type 0) → Holds P → AllByRecursion P (history_blocks edit_history)
   covers_then P all =
-      let old = all_left P (history_blocks s.history) (pin_blocks s.pins ++ clip_blocks s.clipboard) (all_left P (named_blocks s) made all) in
+      let old = all_left P (history_blocks s.history) (pin_blocks s.pins ++ clip_blocks s.clipboard)
+      (all_left P (named_blocks s) made all) in
       blocks_recorded s.history point tag P old (among_all P (blocks_with s makes) (point_blocks point) plan.names all)
 
   pub clip_covers_then : (P : BlockRef → Type 0) → Holds P → AllByRecursion P (clip_blocks clip)
   clip_covers_then P all = among_all P (blocks_with s makes) (clip_blocks clip) plan.clip_names all
 
-  pub points_then : AllByRecursion (IsSoundTagged s.block_size (s.next_block + n) track_then (s.commit_number + 1)) edit_history.points
+  pub points_then : AllByRecursion
+      (IsSoundTagged s.block_size (s.next_block + n) track_then (s.commit_number + 1)) edit_history.points
   points_then =
-      let Here : List Track × ℕ → Type 0 = IsSoundTagged s.block_size (s.next_block + n) track_then (s.commit_number + 1) in
+      let Here : List Track × ℕ → Type 0 =
+      IsSoundTagged s.block_size (s.next_block + n) track_then (s.commit_number + 1) in
       let Was : List Track × ℕ → Type 0 = IsSoundTagged s.block_size s.next_block s.next_track s.commit_number in
       let old = all_so Was Here
-      (λ q h. tagged_more s.block_size s.next_block s.next_track s.commit_number (s.next_block + n) track_then (s.commit_number + 1) q (omega arith) (omega arith) (omega arith) h) s.history.points is.points in
+      (λ q h. tagged_more s.block_size s.next_block s.next_track s.commit_number (s.next_block + n) track_then
+      (s.commit_number + 1) q (omega arith) (omega arith) (omega arith) h) s.history.points is.points in
       let tags = all_so Was (λ (q : List Track × ℕ). q.1 ≤ s.commit_number) (λ q h. h.1) s.history.points is.points in
-      all_recorded s.history point tag Here old (plan.sound, omega (arith, plan.tag_given)) (plan.sound, omega (arith, tag_here s.commit_number s.history tags))
+      all_recorded s.history point tag Here old (plan.sound, omega (arith, plan.tag_given)) (
+        plan.sound,
+        omega (arith, tag_here s.commit_number s.history tags),
+      )
 
   -- ---- what it means
 
@@ -175,29 +199,36 @@ module _ {D : Type 0} (disk : Ghosts D) (s : Core D) (is : IsStudio disk s) (goi
     abbrev project_then : model.Studio → Project
     project_then u = current (after (outside u sound) u.state c)
 
-    then_meant : (block : ℕ → ℕ → ℤ) → AreWritten (beside block (brought given)) makes → project_then (by block) ≡ meant (alone block) point
+    then_meant : (block : ℕ → ℕ → ℤ) → AreWritten (beside block (brought given)) makes
+        → project_then (by block) ≡ meant (alone block) point
     then_meant block written =
         ap current (edit.means block written) ∙ current_is (alone block) edit_history
         ∙ ap (meant (alone block)) (recorded_current s.history point tag is.format.depth_least)
 
-    short_by : (block : ℕ → ℕ → ℤ) → AreWritten (beside block (brought given)) makes → len ≤ project_body_most s.block_size (project_then (by block))
+    short_by : (block : ℕ → ℕ → ℤ) → AreWritten (beside block (brought given)) makes
+        → len ≤ project_body_most s.block_size (project_then (by block))
     short_by block written =
         subst (λ (q : Project). len ≤ project_body_most s.block_size q) (sym (then_meant block written))
-        (record_most s.block_size (s.next_block + n) track_then (alone block) tag (s.next_block + n) track_then point (omega (arith, is.format.block_least)) plan.sound)
+        (record_most s.block_size (s.next_block + n) track_then (alone block) tag (s.next_block + n) track_then point
+        (omega (arith, is.format.block_least)) plan.sound)
 
     -- The record is as short as the call needs, also where the blocks are not made: it does not hang on samples.
     short : len ≤ project_body_most s.block_size (project_then t)
     short =
         let old = samples_on (disk.reads s.store) in
         let new = supposed old (brought given) s.next_block makes in
-        let below = all_so (λ (b : BlockRef). IsGiven s.next_block b.id) (λ (b : BlockRef). b.id < s.next_block) (λ b h. h.1) (named_blocks s) is.ids in
-        let written = supposed_written old (brought given) s.next_block makes (named_blocks s) below (brought_count given) s.block_size plan.new plan.origin in
+        let below = all_so (λ (b : BlockRef). IsGiven s.next_block b.id) (λ (b : BlockRef). b.id < s.next_block)
+        (λ b h. h.1) (named_blocks s) is.ids in
+        let written = supposed_written old (brought given) s.next_block makes (named_blocks s) below
+        (brought_count given) s.block_size plan.new plan.origin in
         let same = same_by old new disk s
-        (all_so (λ (b : BlockRef). b.id < s.next_block) (λ (b : BlockRef). new b.id ≡ old b.id) (λ b low. old_same old (brought given) s.next_block makes b.id low) (named_blocks s) below) in
+        (all_so (λ (b : BlockRef). b.id < s.next_block) (λ (b : BlockRef). new b.id ≡ old b.id)
+        (λ b low. old_same old (brought given) s.next_block makes b.id low) (named_blocks s) below) in
         subst (λ (u : model.Studio). len ≤ project_body_most s.block_size (project_then u)) same (short_by new written)
 
     pub edit_needs : (k : ℕ) → k ≤ n → Needs (outside t sound) t c k len
-    edit_needs k le = edit.call.needs t.rate t k len (omega (arith, le, edit.few (samples_on (disk.reads s.store))), short)
+    edit_needs k le =
+        edit.call.needs t.rate t k len (omega (arith, le, edit.few (samples_on (disk.reads s.store))), short)
 
     pub edit_own : call_tests (outside t sound) t.state c ≡ None
     edit_own = edit.own (samples_on (disk.reads s.store))
@@ -208,7 +239,8 @@ module _ {D : Type 0} (disk : Ghosts D) (s : Core D) (is : IsStudio disk s) (goi
       abbrev pub grown : Core D
       grown = record s { store = store; counts = counts; next_block = s.next_block + n }
 
-      module _ (making : Making disk s given n makes grown) (most : s.next_block + n ≤ 2 ^ 62) (ids : track_then ≤ 2 ^ 62) where
+      module _ (making : Making disk s given n makes grown) (most : s.next_block + n ≤ 2 ^ 62)
+          (ids : track_then ≤ 2 ^ 62) where
         pub grown_is : IsStudio disk grown
         grown_is = made_studio disk s is given makes n grown making going (omega arith) plan.new most pieces_there
 
@@ -220,8 +252,10 @@ module _ {D : Type 0} (disk : Ghosts D) (s : Core D) (is : IsStudio disk s) (goi
 
         written : IsHeld disk s → AreWritten (beside (samples_on (disk.reads store)) (brought given)) makes
         written held =
-            let first = (are_made disk s is given makes n grown making going (omega arith) plan.new most pieces_there held).written in
-            subst (AreWritten (beside (samples_on (disk.reads store)) (brought given))) (take_all n makes (omega arith)) first
+            let first = (are_made disk s is given makes n grown making going
+            (omega arith) plan.new most pieces_there held).written in
+            subst (AreWritten (beside (samples_on (disk.reads store)) (brought given)))
+            (take_all n makes (omega arith)) first
 
         next_then : (m : ℕ) (k : Kept) → Matches grown m k → IsNext m k (spelling edit_body) edit_body
         next_then m k e = record {
@@ -237,7 +271,8 @@ module _ {D : Type 0} (disk : Ghosts D) (s : Core D) (is : IsStudio disk s) (goi
             track_later = omega (arith, e.next_track);
             few = plan.sound.few;
             rising = plan.sound.rising;
-            sound = subst (λ (b : ℕ). AllSoundTracks b (s.next_block + n) track_then point) (sym e.block_size) plan.sound.sound;
+            sound = subst (λ (b : ℕ). AllSoundTracks b (s.next_block + n) track_then point)
+                (sym e.block_size) plan.sound.sound;
           };
           follows = tt;
         }
@@ -249,7 +284,12 @@ module _ {D : Type 0} (disk : Ghosts D) (s : Core D) (is : IsStudio disk s) (goi
           block_then = λ k. s.next_block + n;
           block_most = λ k le. omega arith;
           next = next_then;
-          leads = λ m k e. λ i. record { history = recorded (e.history i) point tag; next_block = s.next_block + n; next_track = track_then; commit = k.commit + 1 };
+          leads = λ m k e. λ i. record {
+            history = recorded (e.history i) point tag;
+            next_block = s.next_block + n;
+            next_track = track_then;
+            commit = k.commit + 1;
+          };
           covers = covers_then;
           clip_covers = clip_covers_then;
           clip_few = plan.clip_few;

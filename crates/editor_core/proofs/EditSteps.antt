@@ -1,5 +1,6 @@
 -- An edit that makes blocks, as one step.
-use Rattle.std.proofs.Common.{◌≡◌, ◌↔◌, inl, inr, ⊎_elim, refl, sym, ap, ◌∙◌, subst, ℕ, ◌+◌, ◌≤◌, IsSome, Option, None, List, ◌++◌, length, Result, Ok, Err, IfErr, arith}
+use Rattle.std.proofs.Common.{◌≡◌, ◌↔◌, inl, inr, ⊎_elim, refl, sym, ◌∙◌, subst, ℕ, ◌+◌, ◌≤◌, IsSome, Option, None}
+use Rattle.std.proofs.Common.{List, ◌++◌, length, Result, Ok, Err, IfErr, arith}
 use Rattle.pcm_base.specs.declared.answer.Reply.{Reply}
 use Rattle.pcm_base.specs.declared.answer.Reply.TheVariants.{Done}
 use Rattle.pcm_base.specs.declared.command.Call.{Call}
@@ -22,7 +23,7 @@ use Rattle.project_state.specs.declared.body.Body.TheVariants.{Edit}
 use Rattle.project_state.specs.declared.track.Track.{Track}
 use Rattle.project_state.specs.Kept.{history_blocks}
 use Rattle.project_state.specs.Spelling.{spelling}
-use Rattle.editor_core.specs.Adding.{Adds, IsNoWant, stopped_by}
+use Rattle.editor_core.specs.Adding.{Adds, stopped_by}
 use Rattle.editor_core.specs.Core.{Core}
 use Rattle.editor_core.specs.Edits.{Carried, Committed, IsEdit, IsPlanned, IsPrepared, NotPrepared}
 use Rattle.editor_core.specs.Left.{Left, MayRemove, Stops}
@@ -30,7 +31,8 @@ use Rattle.editor_core.specs.Makes.{AreSynced, Making}
 use Rattle.editor_core.specs.Studios.{IsHeld, IsStudio, clip_blocks, ids_of, pin_blocks, studio_of}
 use Rattle.editor_core.specs.Took.{Took}
 use Rattle.editor_core.proofs.Committing.{failed, failed_state}
-use Rattle.editor_core.proofs.EditLaws.{edit_needs, edit_own, grown_held, grown_is, grown_made, grown_own, move, pieces_there}
+use Rattle.editor_core.proofs.EditLaws.{edit_needs, edit_own, grown_held, grown_is, grown_made, grown_own, move}
+use Rattle.editor_core.proofs.EditLaws.{pieces_there}
 use Rattle.editor_core.proofs.Flights.{IsCommit, IsTested}
 use Rattle.editor_core.proofs.Growing.{grown_state, grows}
 use Rattle.editor_core.proofs.MadeCommits.{composed, not_made}
@@ -40,8 +42,10 @@ use Rattle.editor_core.proofs.Premises.{TookWhere}
 use Rattle.editor_core.proofs.Spaces.{counter_spent, exceeded, nothing}
 use Rattle.editor_core.proofs.Staying.{HasMade, refuses, wants}
 
-module _ {D : Type 0} (disk : Ghosts D) (s : Core D) (is : IsStudio disk s) (going : s.stopped ≡ None) (given : brings.Given) (makes : List NewBlock)
-    (tag tracks : ℕ) (point : List Track) (clip : Option (List (List Item))) (plan : IsPlanned s given makes tag tracks point clip)
+module _ {D : Type 0} (disk : Ghosts D) (s : Core D) (is : IsStudio disk s) (going : s.stopped ≡ None)
+    (given : brings.Given) (makes : List NewBlock)
+    (tag tracks : ℕ) (point : List Track) (clip : Option (List (List Item)))
+    (plan : IsPlanned s given makes tag tracks point clip)
     (c : Call) (sound : SoundMove)
     (edit : IsEdit disk s c sound tracks given makes (recorded s.history point tag) clip)
     (fewer : (store : D) → Fewer disk store) where
@@ -68,45 +72,59 @@ module _ {D : Type 0} (disk : Ghosts D) (s : Core D) (is : IsStudio disk s) (goi
 
   -- ---- before the first block
 
-  not_prepared : (why : Refusal) (new : Core D) → new ≡ s → NotPrepared s n tracks (length body) why → Took disk s c sound (Err why) 0 new
+  not_prepared : (why : Refusal) (new : Core D) → new ≡ s → NotPrepared s n tracks (length body) why
+      → Took disk s c sound (Err why) 0 new
   not_prepared why new same not =
       let commit = edit.call.commit in
       let own = edit_own disk s is going given makes tag tracks point clip plan c sound edit in
-      let test = refuses disk s c sound why is (fewer s.store) commit.quiet (length body) n (λ held. need n (omega arith)) in
-      let memory : Took disk s c sound (Err refusal.NoMemory) 0 s = wants disk s c sound is (fewer s.store) commit.quiet (length body) (λ held. (0, need 0 (omega arith))) in
+      let test =
+      refuses disk s c sound why is (fewer s.store) commit.quiet (length body) n (λ held. need n (omega arith)) in
+      let memory : Took disk s c sound (Err refusal.NoMemory) 0 s =
+      wants disk s c sound is (fewer s.store) commit.quiet (length body) (λ held. (0, need 0 (omega arith))) in
       subst (λ (z : Core D). Took disk s c sound (Err why) 0 z) (sym same)
       (⊎_elim
       (λ want. subst (λ (e : Refusal). Took disk s c sound (Err e) 0 s) (sym want) memory)
       (⊎_elim
       (λ spent. test (counter_spent t c sound tracks commit n (length body) is.counters.pin_most going own why spent))
-      (λ over. test (exceeded t c sound tracks commit n (length body) is.counters.pin_most going own over.0 over.1 (omega (arith, over.2)) why over.3)))
+      (λ over. test (exceeded t c sound tracks commit n (length body) is.counters.pin_most going own over.0 over.1
+      (omega (arith, over.2)) why over.3)))
       not)
 
   -- ---- blocks that were made
 
   module _ (prepared : IsPrepared s n tracks (length body)) (store : D) (counts : Counts)
-      (making : Making disk s given n makes (record s { store = store; counts = counts; next_block = s.next_block + n }))
-      (reads : disk.read_fault_count store ≡ disk.read_fault_count s.store) (synced : AreSynced disk s.next_block n store) where
+      (making : Making disk s given n makes (record s {
+        store = store;
+        counts = counts;
+        next_block = s.next_block + n;
+      }))
+      (reads : disk.read_fault_count store ≡ disk.read_fault_count s.store)
+      (synced : AreSynced disk s.next_block n store) where
     abbrev mid : Core D
     mid = record s { store = store; counts = counts; next_block = s.next_block + n }
 
     mid_is : IsStudio disk mid
-    mid_is = grown_is disk s is going given makes tag tracks point clip plan c sound edit store counts making prepared.blocks prepared.ids
+    mid_is = grown_is disk s is going given makes tag tracks point clip plan c sound edit store counts making
+        prepared.blocks prepared.ids
 
     mid_made : HasMade (IsHeld disk s) disk mid (refs makes)
-    mid_made = grown_made disk s is going given makes tag tracks point clip plan c sound edit store counts making prepared.blocks prepared.ids synced
+    mid_made = grown_made disk s is going given makes tag tracks point clip plan c sound edit store counts making
+        prepared.blocks prepared.ids synced
 
     mid_move : IsCommit (IsHeld disk s) disk mid (refs makes) c sound tracks told_body h clip track_then
-    mid_move = move disk s is going given makes tag tracks point clip plan c sound edit store counts making prepared.blocks prepared.ids
+    mid_move = move disk s is going given makes tag tracks point clip plan c sound edit store counts making
+        prepared.blocks prepared.ids
 
     mid_own : call_tests (outside (studio_of disk mid) sound) (studio_of disk mid).state c ≡ None
-    mid_own = grown_own disk s is going given makes tag tracks point clip plan c sound edit store counts making prepared.blocks prepared.ids
+    mid_own = grown_own disk s is going given makes tag tracks point clip plan c sound edit store counts making
+        prepared.blocks prepared.ids
 
     -- the commit that is left, where the disk held the studio before the first block
     mid_tested : IsTested (IsHeld disk s) disk mid (refs makes) c sound tracks told_body h clip track_then
     mid_tested = record {
       is = mid_is;
-      holds = grown_held disk s is going given makes tag tracks point clip plan c sound edit store counts making prepared.blocks prepared.ids;
+      holds = grown_held disk s is going given makes tag tracks point clip plan c sound edit store counts making
+          prepared.blocks prepared.ids;
       has_made = mid_made;
       move = mid_move;
       going = going;
@@ -121,17 +139,20 @@ module _ {D : Type 0} (disk : Ghosts D) (s : Core D) (is : IsStudio disk s) (goi
         made_state disk s is given makes n mid making going (omega arith) plan.new prepared.blocks
         (pieces_there disk s is going given makes tag tracks point clip plan)
 
-    back : IsHeld disk s → (blocks len : ℕ) → Needs (outside (studio_of disk mid) sound) (studio_of disk mid) c blocks len → Needs (outside t sound) t c blocks len
+    back : IsHeld disk s → (blocks len : ℕ) → Needs (outside (studio_of disk mid) sound)
+        (studio_of disk mid) c blocks len → Needs (outside t sound) t c blocks len
     back held blocks len needs =
         let most = edit.most in
         let at = edit.call.needed (studio_of disk mid).rate (studio_of disk mid) blocks len needs in
         edit.call.needs t.rate t blocks len
-        (subst (λ (u : model.Studio). EditNeeds (most u.block_size u.state) (outside u sound) u c blocks len) (mid_state held) at)
+        (subst (λ (u : model.Studio). EditNeeds (most u.block_size u.state) (outside u sound) u c blocks len)
+        (mid_state held) at)
 
     passes : refusal_of (outside t sound) t c n (length body) ≡ None
     passes =
         let own = edit_own disk s is going given makes tag tracks point clip plan c sound edit in
-        nothing t c sound tracks edit.call.commit n (length body) is.counters.pin_most going own prepared.blocks prepared.ids (omega (arith, prepared.number)) prepared.place prepared.short
+        nothing t c sound tracks edit.call.commit n (length body) is.counters.pin_most going own prepared.blocks
+        prepared.ids (omega (arith, prepared.number)) prepared.place prepared.short
 
     carried_out : CarriesOut t c sound Done (followed (outside t sound) t c n (length body))
     carried_out = record {
@@ -145,18 +166,23 @@ module _ {D : Type 0} (disk : Ghosts D) (s : Core D) (is : IsStudio disk s) (goi
     }
 
     -- the call from the studio that has the blocks is the call from the start
-    from_start : (told_as : Result Reply Refusal) (new : Core D) → TookWhere (IsHeld disk s) disk mid c sound told_as new
-        → new.next_block ≡ mid.next_block → (IsHeld disk s → Answers t c sound told_as (studio_of disk new)) → Stops disk s told_as new
+    from_start : (told_as : Result Reply Refusal) (new : Core D)
+        → TookWhere (IsHeld disk s) disk mid c sound told_as new
+        → new.next_block ≡ mid.next_block → (IsHeld disk s → Answers t c sound told_as (studio_of disk new))
+        → Stops disk s told_as new
         → IfErr told_as (Left disk s (MayRemove c s.counts) new) → Took disk s c sound told_as 0 new
     from_start told_as new took next step stops left =
-        composed disk s is given makes going plan.new prepared.blocks (pieces_there disk s is going given makes tag tracks point clip plan) c sound mid making
+        composed disk s is given makes going plan.new prepared.blocks
+        (pieces_there disk s is going given makes tag tracks point clip plan) c sound mid making
         told_as new took next back (λ held. (length body, carried_out)) step stops left
 
     -- the record was not added
-    edit_failed : (new : Core D) → Adds {R = Unit {0}} disk mid body (Err refusal.DiskFault) new → Took disk s c sound (Err refusal.DiskFault) 0 new
+    edit_failed : (new : Core D) → Adds {R = Unit {0}} disk mid body (Err refusal.DiskFault) new
+        → Took disk s c sound (Err refusal.DiskFault) 0 new
     edit_failed new adds =
         let commit = edit.call.commit in
-        let failed_change = all_failed disk s given makes prepared.blocks c store counts making new.store adds.fields.2 in
+        let failed_change =
+        all_failed disk s given makes prepared.blocks c store counts making new.store adds.fields.2 in
         let here : Core D = stopped_by disk mid new.store in
         let none : s.next_block + n + 0 ≡ s.next_block + n = omega arith in
         let state = λ (held : IsHeld disk s).
@@ -187,10 +213,28 @@ module _ {D : Type 0} (disk : Ghosts D) (s : Core D) (is : IsStudio disk s) (goi
               reads = adds.read_faults ∙ reads;
             },
           );
-        })) (inr (refl, failed_change, refl)) (all_left disk s given makes prepared.blocks c store counts making new.store adds.fields.2))
+        }))
+        (inr (
+          refl,
+          failed_change,
+          refl,
+        ))
+        (all_left
+        disk
+        s
+        given
+        makes
+        prepared.blocks
+        c
+        store
+        counts
+        making
+        new.store
+        adds.fields.2))
 
     -- it was
-    module _ {Q : Type 0} (q : Q) (new : Core D) (adds : Adds disk mid body (Ok q) new) (h' : History (List Track)) (counts' : Counts) (next_track : ℕ)
+    module _ {Q : Type 0} (q : Q) (new : Core D) (adds : Adds disk mid body (Ok q) new) (h' : History (List Track))
+        (counts' : Counts) (next_track : ℕ)
         (moved : h' ≡ h) (tracked : next_track ≡ track_then)
         (counted : IsFreshCount (ids_of (history_blocks h ++ (pin_blocks s.pins ++ clip_blocks clip))) counts')
         (files : (id : ℕ) → IsSome (counts' id) ↔ IsSome (counts id)) where
@@ -218,9 +262,19 @@ module _ {D : Type 0} (disk : Ghosts D) (s : Core D) (is : IsStudio disk s) (goi
           ∙ (λ i. followed (outside (mid_state held i) sound) (mid_state held i) c 0 len)
           ∙ (λ i. record (followed (outside t sound) t c n len) { next_block = none i; read_faults = reads i })
 
-      edit_done : Took disk s c sound (Ok Done) 0 (record new { history = h'; clipboard = clip; counts = counts'; next_track = next_track })
+      edit_done : Took disk s c sound (Ok Done) 0 (record new {
+        history = h';
+        clipboard = clip;
+        counts = counts';
+        next_track = next_track;
+      })
       edit_done =
-          subst (λ (z : Core D). Took disk s c sound (Ok Done) 0 (record z { history = h'; clipboard = clip; counts = counts'; next_track = next_track })) (sym adds.fields.0)
+          subst (λ (z : Core D). Took disk s c sound (Ok Done) 0 (record z {
+            history = h';
+            clipboard = clip;
+            counts = counts';
+            next_track = next_track;
+          })) (sym adds.fields.0)
           (from_start (Ok Done) done done_took refl (λ held. record {
             blocks = n;
             len = length body;
@@ -238,12 +292,14 @@ module _ {D : Type 0} (disk : Ghosts D) (s : Core D) (is : IsStudio disk s) (goi
       → Making disk s given n makes (record s { store = it.store; counts = it.counts; next_block = s.next_block + n })
   made_so it making = subst (λ (z : Core D). Making disk s given n makes z) making.is making
 
-  pub edit_err : (why : Refusal) (new : Core D) → Carried disk s given makes tracks body (Err why) new → Took disk s c sound (Err why) 0 new
+  pub edit_err : (why : Refusal) (new : Core D) → Carried disk s given makes tracks body (Err why) new
+      → Took disk s c sound (Err why) 0 new
   edit_err why new carried = ⊎_elim
       (λ not. not_prepared why new not.0 not.1)
       (⊎_elim
       (λ some.
-      not_made disk s is given makes going plan.new some.0.blocks (pieces_there disk s is going given makes tag tracks point clip plan) c sound
+      not_made disk s is given makes going plan.new some.0.blocks
+      (pieces_there disk s is going given makes tag tracks point clip plan) c sound
       (length body) edit.call.commit.changes (edit.call.commit.leaves t) (λ held. need) plan.origin why new some.1)
       (λ last.
       let it = last.1 in
@@ -253,24 +309,18 @@ module _ {D : Type 0} (disk : Ghosts D) (s : Core D) (is : IsStudio disk s) (goi
       (subst (λ (z : Core D). Adds {R = Unit {0}} disk z body (Err refusal.DiskFault) new) it.making.is adds))))
       carried
 
-  pub edit_ok : (done : Unit {0}) (new : Core D) (it : Committed disk s given makes tracks body (Ok done) new) (h' : History (List Track)) (counts' : Counts) (next_track : ℕ)
-      → h' ≡ h → next_track ≡ track_then → IsFreshCount (ids_of (history_blocks h ++ (pin_blocks s.pins ++ clip_blocks clip))) counts'
+  pub edit_ok : (done : Unit {0}) (new : Core D) (it : Committed disk s given makes tracks body (Ok done) new)
+      (h' : History (List Track)) (counts' : Counts) (next_track : ℕ)
+      → h' ≡ h → next_track ≡ track_then
+      → IsFreshCount (ids_of (history_blocks h ++ (pin_blocks s.pins ++ clip_blocks clip))) counts'
       → ((id : ℕ) → IsSome (counts' id) ↔ IsSome (it.mid.counts id))
-      → Took disk s c sound (Ok Done) 0 (record new { history = h'; clipboard = clip; counts = counts'; next_track = next_track })
+      → Took disk s c sound (Ok Done) 0 (record new {
+        history = h';
+        clipboard = clip;
+        counts = counts';
+        next_track = next_track;
+      })
   edit_ok done new it h' counts' next_track moved tracked counted files =
       edit_done it.prepared it.mid.store it.mid.counts (made_so it.mid it.making) it.reads it.synced done new
-      (subst (λ (z : Core D). Adds disk z body (Ok done) new) it.making.is it.adds) h' counts' next_track moved tracked counted files
-
--- ---- how the code carries it out: after the first block was made nothing but the disk refuses
-
-pub carried_by : {D : Type 0} (disk : Ghosts D) (s mid new : Core D) (given : brings.Given) (makes : List NewBlock) (tracks : ℕ) (body : List ℕ) (result : Result (Unit {0}) Refusal)
-    → Making disk s given (length makes) makes mid → disk.read_fault_count mid.store ≡ disk.read_fault_count s.store → AreSynced disk s.next_block (length makes) mid.store
-    → IsPrepared s (length makes) tracks (length body) → Adds disk mid body result new → IfErr result IsNoWant → Carried disk s given makes tracks body result new
-carried_by disk s mid new given makes tracks body (Ok done) making reads synced prepared adds no_want = record { mid = mid; making = making; reads = reads; synced = synced; prepared = prepared; adds = adds }
-carried_by disk s mid new given makes tracks body (Err refusal.DiskFault) making reads synced prepared adds no_want =
-    inr (inr (refl, record { mid = mid; making = making; reads = reads; synced = synced; prepared = prepared; adds = adds }))
-carried_by disk s mid new given makes tracks body (Err refusal.NoMemory) making reads synced prepared adds no_want = absurd no_want
-carried_by disk s mid new given makes tracks body (Err (refusal.SpaceSpent have need)) making reads synced prepared adds no_want =
-    absurd (omega (arith, adds.fields.1, prepared.place, ap (λ (z : Core _). z.journal_end) making.is))
-carried_by disk s mid new given makes tracks body (Err (refusal.RecordLimit n)) making reads synced prepared adds no_want = absurd (omega (arith, adds.fields.2, prepared.short))
-carried_by disk s mid new given makes tracks body (Err why) making reads synced prepared adds no_want = absurd adds.fields
+      (subst (λ (z : Core D). Adds disk z body (Ok done) new) it.making.is it.adds) h' counts' next_track moved tracked
+      counted files

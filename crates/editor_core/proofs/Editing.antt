@@ -29,9 +29,11 @@ use Rattle.project_state.proofs.MeantHistories.{meant_edited}
 use Rattle.editor_core.specs.Core.{Core}
 use Rattle.editor_core.specs.Occurrences.{HasAll, Moves}
 use Rattle.editor_core.specs.Points.{current_tracks, lacks}
-use Rattle.editor_core.specs.Studios.{IsHeld, IsStudio, MayPaste, clip_blocks, clip_cells, ids_of, named_blocks, pin_blocks, studio_of}
+use Rattle.editor_core.specs.Studios.{IsHeld, IsStudio, MayPaste, clip_blocks, clip_cells, ids_of, named_blocks}
+use Rattle.editor_core.specs.Studios.{pin_blocks, studio_of}
 use Rattle.editor_core.proofs.Flights.{IsCommit, Matches}
-use Rattle.editor_core.proofs.Histories.{all_edited, blocks_edited, current_all, current_blocks, ending_current, ending_few}
+use Rattle.editor_core.proofs.Histories.{all_edited, blocks_edited, current_all, current_blocks, ending_current}
+use Rattle.editor_core.proofs.Histories.{ending_few}
 use Rattle.editor_core.proofs.Lists.{all_left, all_so}
 use Rattle.editor_core.proofs.Spaces.{IsCommitCall}
 use Rattle.editor_core.proofs.Times.{named_append}
@@ -39,14 +41,16 @@ use Rattle.editor_core.proofs.Tracks.{current_is, lacks_is}
 use Rattle.editor_core.proofs.Without.{given_below}
 
 -- (over plain numbers, since the terms are long)
-pub sums : (new was before after rest named later : ℕ) → new + before ≡ was + after → was ≡ named → named ≡ before + rest → later ≡ after + rest → new ≡ later
+pub sums : (new was before after rest named later : ℕ) → new + before ≡ was + after → was ≡ named
+    → named ≡ before + rest → later ≡ after + rest → new ≡ later
 sums new was before after rest named later a b c d = omega (arith, a, b, c, d)
 
 least : (was before rest named : ℕ) → was ≡ named → named ≡ before + rest → before ≤ was
 least was before rest named a b = omega (arith, a, b)
 
 -- a sound project is one still where later tracks have ids
-pub sound_later : (m next_block next_track later : ℕ) (ts : List Track) → next_track ≤ later → IsSoundPoint m next_block next_track ts → IsSoundPoint m next_block later ts
+pub sound_later : (m next_block next_track later : ℕ) (ts : List Track) → next_track ≤ later
+    → IsSoundPoint m next_block next_track ts → IsSoundPoint m next_block later ts
 sound_later m next_block next_track later ts h is =
     (tagged_more m next_block next_track 0 next_block later 0 (ts, 0) (omega arith) h (omega arith) (is, omega arith)).0
 
@@ -62,8 +66,14 @@ module _ {D : Type 0} (disk : Ghosts D) (s : Core D) (is : IsStudio disk s) wher
 
   pub current_sound : IsSoundPoint s.block_size s.next_block s.next_track old
   current_sound =
-      let points = all_so (IsSoundTagged s.block_size s.next_block s.next_track s.commit_number) (λ (p : List Track × ℕ). IsSoundPoint s.block_size s.next_block s.next_track p.0) (λ p h. h.0) s.history.points is.points in
-      current_all (IsSoundPoint s.block_size s.next_block s.next_track) (record { few = omega arith; rising = tt; sound = tt }) s.history points
+      let points = all_so (IsSoundTagged s.block_size s.next_block s.next_track s.commit_number)
+      (λ (p : List Track × ℕ). IsSoundPoint s.block_size s.next_block s.next_track p.0)
+      (λ p h. h.0) s.history.points is.points in
+      current_all (IsSoundPoint s.block_size s.next_block s.next_track) (record {
+        few = omega arith;
+        rising = tt;
+        sound = tt;
+      }) s.history points
 
   pub current_below : AllBelow s.next_track old
   current_below = given_below s.block_size s.next_block s.next_track old current_sound.sound
@@ -72,53 +82,87 @@ module _ {D : Type 0} (disk : Ghosts D) (s : Core D) (is : IsStudio disk s) wher
   current_meant = current_is src s.history
 
   -- whether there is a track
-  pub track_is : (id : ℕ) → lacks id (track_of id old) ≡ refused_if (is_empty (tracks_from id (current now))) (NoTrack id)
-  track_is id = sym (lacks_is src id old) ∙ ap (λ (q : Project). refused_if (is_empty (tracks_from id q)) (NoTrack id)) (sym current_meant)
+  pub track_is : (id : ℕ)
+      → lacks id (track_of id old) ≡ refused_if (is_empty (tracks_from id (current now))) (NoTrack id)
+  track_is id = sym (lacks_is src id old) ∙ ap (λ (q : Project). refused_if (is_empty (tracks_from id q)) (NoTrack id))
+      (sym current_meant)
 
   pub old_names : (P : BlockRef → Type 0) → AllByRecursion P (named_blocks s) → AllByRecursion P (point_blocks old)
-  old_names P all = current_blocks P s.history (all_left P (history_blocks s.history) (pin_blocks s.pins ++ clip_blocks s.clipboard) all)
+  old_names P all = current_blocks P s.history
+      (all_left P (history_blocks s.history) (pin_blocks s.pins ++ clip_blocks s.clipboard) all)
 
   -- the state with a new point, and what the point means
   pub pointed : (p : List Track) (q : Project) (next : ℕ) → q ≡ meant src p
-      → record now { history = edited now.history q 0; next_track = next; commit = s.commit_number + 1 } ≡ record now { history = meant_history src (edited s.history p 0); next_track = next; commit = s.commit_number + 1 }
+      → record now {
+        history = edited now.history q 0;
+        next_track = next;
+        commit = s.commit_number + 1;
+      } ≡ record now {
+        history = meant_history src (edited s.history p 0);
+        next_track = next;
+        commit = s.commit_number + 1;
+      }
   pointed p q next same =
       (λ i. record now { history = edited now.history (same i) 0; next_track = next; commit = s.commit_number + 1 })
-      ∙ (λ i. record now { history = sym (meant_edited src s.history p 0) i; next_track = next; commit = s.commit_number + 1 })
+      ∙ (λ i. record now {
+        history = sym (meant_edited src s.history p 0) i;
+        next_track = next;
+        commit = s.commit_number + 1;
+      })
 
   -- where no track id is given
   pub pointed_so : (p : List Track) (q : Project) → q ≡ meant src p
-      → record now { history = edited now.history q 0; commit = s.commit_number + 1 } ≡ record now { history = meant_history src (edited s.history p 0); next_track = s.next_track + 0; commit = s.commit_number + 1 }
+      → record now {
+        history = edited now.history q 0;
+        commit = s.commit_number + 1;
+      } ≡ record now {
+        history = meant_history src (edited s.history p 0);
+        next_track = s.next_track + 0;
+        commit = s.commit_number + 1;
+      }
   pointed_so p q same =
       let none : s.next_track ≡ s.next_track + 0 = omega arith in
-      pointed p q s.next_track same ∙ (λ i. record now { history = meant_history src (edited s.history p 0); next_track = none i; commit = s.commit_number + 1 })
+      pointed p q s.next_track same ∙ (λ i. record now {
+        history = meant_history src (edited s.history p 0);
+        next_track = none i;
+        commit = s.commit_number + 1;
+      })
 
   -- the project behind a state whose newest point this is
-  pub then_current : (p : List Track) → current (record now { history = meant_history src (edited s.history p 0) }) ≡ meant src p
-  then_current p = current_is src (edited s.history p 0) ∙ ap (meant src) (ending_current s.history (kept s.history) p 0 is.format.depth_least)
+  pub then_current : (p : List Track)
+      → current (record now { history = meant_history src (edited s.history p 0) }) ≡ meant src p
+  then_current p = current_is src (edited s.history p 0)
+      ∙ ap (meant src) (ending_current s.history (kept s.history) p 0 is.format.depth_least)
 
   -- the studio counts what its points name
   pub counts_named : HasAll s.counts (history_blocks s.history)
-  counts_named = λ n. least _ _ _ _ (is.counted n) (named_append n (history_blocks s.history) (pin_blocks s.pins ++ clip_blocks s.clipboard))
+  counts_named = λ n. least _ _ _ _ (is.counted n)
+      (named_append n (history_blocks s.history) (pin_blocks s.pins ++ clip_blocks s.clipboard))
 
   -- the counts behind a new point, where pins and clipboard stay
-  pub counts_then : (h : History (List Track)) (counts : Counts) → Moves s.counts counts (history_blocks s.history) (history_blocks h)
+  pub counts_then : (h : History (List Track)) (counts : Counts)
+      → Moves s.counts counts (history_blocks s.history) (history_blocks h)
       → IsFreshCount (ids_of (history_blocks h ++ (pin_blocks s.pins ++ clip_blocks s.clipboard))) counts
   counts_then h counts moves =
       let rest : List BlockRef = pin_blocks s.pins ++ clip_blocks s.clipboard in
-      λ n. sums _ _ _ _ _ _ _ (moves.counts n) (is.counted n) (named_append n (history_blocks s.history) rest) (named_append n (history_blocks h) rest)
+      λ n. sums _ _ _ _ _ _ _ (moves.counts n) (is.counted n) (named_append n (history_blocks s.history) rest)
+      (named_append n (history_blocks h) rest)
 
   module _ (track_then : ℕ) (later : s.next_track ≤ track_then) (most : track_then ≤ 2 ^ 62) (p : List Track)
       (sound : IsSoundPoint s.block_size s.next_block track_then p) where
     -- the points behind it are sound
-    points_then : AllByRecursion (IsSoundTagged s.block_size s.next_block track_then (s.commit_number + 1)) (edited s.history p 0).points
+    points_then : AllByRecursion (IsSoundTagged s.block_size s.next_block track_then (s.commit_number + 1))
+        (edited s.history p 0).points
     points_then =
         let here = IsSoundTagged s.block_size s.next_block track_then (s.commit_number + 1) in
         all_edited here s.history p 0
         (all_so (IsSoundTagged s.block_size s.next_block s.next_track s.commit_number) here
-        (λ q h. tagged_more s.block_size s.next_block s.next_track s.commit_number s.next_block track_then (s.commit_number + 1) q (omega arith) later (omega arith) h) s.history.points is.points)
+        (λ q h. tagged_more s.block_size s.next_block s.next_track s.commit_number s.next_block track_then
+        (s.commit_number + 1) q (omega arith) later (omega arith) h) s.history.points is.points)
         (sound, omega arith)
 
-    next_then : (m : ℕ) (k : Kept) → Matches s m k → IsNext m k (spelling (Edit 0 s.next_block track_then p)) (Edit 0 s.next_block track_then p)
+    next_then : (m : ℕ) (k : Kept) → Matches s m k
+        → IsNext m k (spelling (Edit 0 s.next_block track_then p)) (Edit 0 s.next_block track_then p)
     next_then m k k_is = record {
       spelled = refl;
       sound = record {
@@ -138,12 +182,19 @@ module _ {D : Type 0} (disk : Ghosts D) (s : Core D) (is : IsStudio disk s) wher
     }
 
     -- A call whose record tells a new point is a commit.
-    pub point_commit : (made : List BlockRef) (c : Call) (call_sound : SoundMove) (tracks : ℕ) (clip : Option (List (List Item)))
+    pub point_commit : (made : List BlockRef) (c : Call) (call_sound : SoundMove) (tracks : ℕ)
+        (clip : Option (List (List Item)))
         → IsCommitCall c call_sound tracks → track_then ≡ s.next_track + tracks
         → ((P : BlockRef → Type 0) → AllByRecursion P (named_blocks s ++ made) → AllByRecursion P (point_blocks p))
-        → ((P : BlockRef → Type 0) → AllByRecursion P (named_blocks s ++ made) → AllByRecursion P (clip_blocks clip)) → length (clip_blocks clip) ≤ 2 ^ 71 → MayPaste s.block_size clip
+        → ((P : BlockRef → Type 0) → AllByRecursion P (named_blocks s ++ made) → AllByRecursion P (clip_blocks clip))
+        → length (clip_blocks clip) ≤ 2 ^ 71 → MayPaste s.block_size clip
         → (IsHeld disk s → after (outside (studio_of disk s) call_sound) now c
-        ≡ record now { history = meant_history src (edited s.history p 0); clipboard = clip_cells src clip; next_track = track_then; commit = s.commit_number + 1 })
+        ≡ record now {
+          history = meant_history src (edited s.history p 0);
+          clipboard = clip_cells src clip;
+          next_track = track_then;
+          commit = s.commit_number + 1;
+        })
         → (IsHeld disk s → Needs (outside (studio_of disk s) call_sound) (studio_of disk s) c 0
         (length (spelling (Edit 0 s.next_block track_then p))))
         → IsCommit (IsHeld disk s) disk s made c call_sound tracks (Edit 0 s.next_block track_then p)
@@ -154,9 +205,15 @@ module _ {D : Type 0} (disk : Ghosts D) (s : Core D) (is : IsStudio disk s) wher
       block_then = λ n. s.next_block;
       block_most = λ n h. omega arith;
       next = next_then;
-      leads = λ m k k_is. λ i. record { history = edited (k_is.history i) p 0; next_block = s.next_block; next_track = track_then; commit = k.commit + 1 };
+      leads = λ m k k_is. λ i. record {
+        history = edited (k_is.history i) p 0;
+        next_block = s.next_block;
+        next_track = track_then;
+        commit = k.commit + 1;
+      };
       covers = λ P all.
-          blocks_edited P s.history p 0 (all_left P (history_blocks s.history) (pin_blocks s.pins ++ clip_blocks s.clipboard) (all_left P (named_blocks s) made all)) (names P all);
+          blocks_edited P s.history p 0 (all_left P (history_blocks s.history)
+          (pin_blocks s.pins ++ clip_blocks s.clipboard) (all_left P (named_blocks s) made all)) (names P all);
       clip_covers = clip_names;
       clip_few = few;
       clip_fits = fits;

@@ -1,5 +1,7 @@
 -- Events that are carried out one after another are a run.
-use Rattle.std.proofs.Common.{◌≡◌, ◌⊎◌, inl, inr, ⊎_elim, refl, sym, ap, ◌∙◌, subst, ℕ, ◌+◌, ◌-◌, ◌≤◌, Bool, IsTrue, IsSome, Option, Some, None, List, [], ◌∷◌, ◌++◌, append_assoc, take, slice_get, zero, suc, Result, Ok, Err, arith}
+use Rattle.std.proofs.Common.{◌≡◌, ◌⊎◌, inl, inr, ⊎_elim, refl, sym, ap, ◌∙◌, subst, ℕ, ◌+◌, ◌-◌, ◌≤◌, Bool, IsTrue}
+use Rattle.std.proofs.Common.{IsSome, Option, Some, None, List, [], ◌∷◌, ◌++◌, append_assoc, take, slice_get, zero, suc}
+use Rattle.std.proofs.Common.{Result, Ok, Err, arith}
 use Rattle.std.proofs.lemmas.Option.{none-some, same_Some}
 use Rattle.pcm_base.specs.declared.answer.Reply.{Reply}
 use Rattle.pcm_base.specs.declared.answer.Reply.TheVariants as reply
@@ -88,35 +90,45 @@ plain_result (reply.Pinned pin) h = refl
 plain_result (reply.Length frames) h = refl
 plain_result (reply.Refused why) h = absurd h
 
-step_of : (t u : model.Studio) (c : Call) (sound : SoundMove) (told : Result Reply Refusal) → Answers t c sound told u → Step t c sound (reply_of told) u
+step_of : (t u : model.Studio) (c : Call) (sound : SoundMove) (told : Result Reply Refusal) → Answers t c sound told u
+    → Step t c sound (reply_of told) u
 step_of t u c sound (Err why) h = h
 step_of t u c sound (Ok r) h =
-    subst (λ (z : Result Reply Refusal). Answers t c sound z u) (sym (plain_result r (plain (outside t sound) t.state c r h.answers))) h
+    subst (λ (z : Result Reply Refusal). Answers t c sound z u)
+    (sym (plain_result r (plain (outside t sound) t.state c r h.answers))) h
 
 -- ---- one entry more
 
-run_more : (t s u : model.Studio) (es : List Entry) (e : Entry) → Run t es s → Step s e.call e.sound e.reply u → Run t (es ++ e ∷ []) u
+run_more : (t s u : model.Studio) (es : List Entry) (e : Entry) → Run t es s → Step s e.call e.sound e.reply u
+    → Run t (es ++ e ∷ []) u
 run_more t s u [] e run step = (u, subst (λ (z : model.Studio). Step z e.call e.sound e.reply u) run step, refl)
 run_more t s u (x ∷ xs) e run step = (run.0, run.1, run_more run.0 s u xs e run.2 step)
 
-follows_more : (old mid new : Sounds) (es : List Entry) (e : Entry) → Follows old es mid → Heard (name_in e.call) e.sound mid new → Follows old (es ++ e ∷ []) new
-follows_more old mid new [] e follows heard = (new, subst (λ (z : Sounds). Heard (name_in e.call) e.sound z new) follows heard, refl)
-follows_more old mid new (x ∷ xs) e follows heard = (follows.0, follows.1, follows_more follows.0 mid new xs e follows.2 heard)
+follows_more : (old mid new : Sounds) (es : List Entry) (e : Entry) → Follows old es mid
+    → Heard (name_in e.call) e.sound mid new → Follows old (es ++ e ∷ []) new
+follows_more old mid new [] e follows heard =
+    (new, subst (λ (z : Sounds). Heard (name_in e.call) e.sound z new) follows heard, refl)
+follows_more old mid new (x ∷ xs) e follows heard =
+    (follows.0, follows.1, follows_more follows.0 mid new xs e follows.2 heard)
 
-entries_more : (es : List Event) (rs : List Reply) (xs : List Entry) (e : Event) (r : Reply) (x : Entry) → AreEntries es rs xs
+entries_more : (es : List Event) (rs : List Reply) (xs : List Entry) (e : Event) (r : Reply) (x : Entry)
+    → AreEntries es rs xs
     → x.actor ≡ e.actor → x.call ≡ e.call → x.reply ≡ r → AreEntries (es ++ e ∷ []) (rs ++ r ∷ []) (xs ++ x ∷ [])
 entries_more [] [] [] e r x are actor asked said = (actor, asked, said, tt)
 entries_more [] [] (y ∷ ys) e r x are actor asked said = absurd are
 entries_more [] (q ∷ qs) ys e r x are actor asked said = absurd are
 entries_more (f ∷ fs) [] ys e r x are actor asked said = absurd are
 entries_more (f ∷ fs) (q ∷ qs) [] e r x are actor asked said = absurd are
-entries_more (f ∷ fs) (q ∷ qs) (y ∷ ys) e r x are actor asked said = (are.0, are.1, are.2, entries_more fs qs ys e r x are.3 actor asked said)
+entries_more (f ∷ fs) (q ∷ qs) (y ∷ ys) e r x are actor asked said =
+    (are.0, are.1, are.2, entries_more fs qs ys e r x are.3 actor asked said)
 
-next_more : (u : model.Studio) (es : List Entry) (e : Entry) (c : Files) → NextInFlight u es c → NextInFlight u (es ++ e ∷ []) c
+next_more : (u : model.Studio) (es : List Entry) (e : Entry) (c : Files) → NextInFlight u es c
+    → NextInFlight u (es ++ e ∷ []) c
 next_more u [] e c h = absurd h
 next_more u (x ∷ xs) e c h = h
 
-prefix_more : (t : model.Studio) (es : List Entry) (e : Entry) (c : Files) → KeepsPrefix t es c → KeepsPrefix t (es ++ e ∷ []) c
+prefix_more : (t : model.Studio) (es : List Entry) (e : Entry) (c : Files) → KeepsPrefix t es c
+    → KeepsPrefix t (es ++ e ∷ []) c
 prefix_more t es e c h = record {
   front = h.front;
   back = h.back ++ e ∷ [];
@@ -128,7 +140,8 @@ prefix_more t es e c h = record {
 
 -- ---- no event
 
-module _ {D : Type 0} (disk : Ghosts D) (tells : Bool) (before : Sounds) (s : Core D) (is : IsStudio disk s) (fewer : Fewer disk s.store) where
+module _ {D : Type 0} (disk : Ghosts D) (tells : Bool) (before : Sounds) (s : Core D) (is : IsStudio disk s)
+    (fewer : Fewer disk s.store) where
   pub ran_none : RanOver disk tells before before s [] [] s
   ran_none = record {
     entries = [];
@@ -140,14 +153,23 @@ module _ {D : Type 0} (disk : Ghosts D) (tells : Bool) (before : Sounds) (s : Co
     run = λ told held. refl;
     follows = λ told. refl;
     any_moment = λ told going held c now.
-        record { front = []; back = []; cut = refl; reached = studio_of disk s; run = refl; keeps = inl (keeps_now disk s going held c now) };
+        record {
+          front = [];
+          back = [];
+          cut = refl;
+          reached = studio_of disk s;
+          run = refl;
+          keeps = inl (keeps_now disk s going held c now);
+        };
     now = λ told going held c now. keeps_now disk s going held c now;
   }
 
 -- ---- one more
 
-module _ {D : Type 0} (disk : Ghosts D) (tells : Bool) (before mid after : Sounds) (old s new : Core D) (es : List Event) (rs : List Reply)
-    (was : RanOver disk tells before mid old es rs s) (e : Event) (told : Result Reply Refusal) (over : TookOver disk tells mid after s e.call told new) where
+module _ {D : Type 0} (disk : Ghosts D) (tells : Bool) (before mid after : Sounds) (old s new : Core D)
+    (es : List Event) (rs : List Reply)
+    (was : RanOver disk tells before mid old es rs s) (e : Event) (told : Result Reply Refusal)
+    (over : TookOver disk tells mid after s e.call told new) where
   abbrev t : model.Studio
   t = studio_of disk old
 
@@ -172,13 +194,16 @@ module _ {D : Type 0} (disk : Ghosts D) (tells : Bool) (before mid after : Sound
   }
 
   -- a studio that had stopped asks nothing more of the disk
-  stays : (o : Option ℕ) → s.stopped ≡ o → IsTrue tells → old.stopped ≡ None → IsHeld disk old → EachSince disk old.store new.store (KeepsPrefix t all)
+  stays : (o : Option ℕ) → s.stopped ≡ o → IsTrue tells → old.stopped ≡ None → IsHeld disk old
+      → EachSince disk old.store new.store (KeepsPrefix t all)
   stays None still tell going held =
       let images = (over.took (λ _. tell)).changed.images in
-      each_on (KeepsPrefix t all) (disk.clock old.store) images was.others.images.later (first tell going held) (second tell still held)
+      each_on (KeepsPrefix t all) (disk.clock old.store) images was.others.images.later (first tell going held)
+      (second tell still held)
   stays (Some faults) stopped tell going held =
       let same = over.lasts.rests (subst IsSome (sym stopped) refl) in
-      subst (λ (z : D). EachSince disk old.store z (KeepsPrefix t all)) (sym (ap (λ (z : Core D). z.store) same)) (first tell going held)
+      subst (λ (z : D). EachSince disk old.store z (KeepsPrefix t all)) (sym (ap (λ (z : Core D). z.store) same))
+      (first tell going held)
 
   raised : (r : Result Reply Refusal) → s.commit_number ≤ number_behind r e.call s.commit_number
   raised (Ok r) = omega arith
@@ -189,11 +214,13 @@ module _ {D : Type 0} (disk : Ghosts D) (tells : Bool) (before mid after : Sound
     entries = all;
     are = entries_more es rs was.entries e (reply_of told) entry was.are refl refl refl;
     studio = over.lasts.studio;
-    others = foreign_more disk old.store s new e.call (asks s.block_size (new.next_block - s.next_block) over.lasts.len over.removed) was.studio was.others over.lasts.changed;
+    others = foreign_more disk old.store s new e.call (asks s.block_size
+        (new.next_block - s.next_block) over.lasts.len over.removed) was.studio was.others over.lasts.changed;
     number = omega (arith, was.number, raised told, over.lasts.number);
     held = λ tell held. (over.took (λ _. tell)).held (was.held tell held);
     run = λ tell held. run_more t (studio_of disk s) (studio_of disk new) was.entries entry (was.run tell held)
-        (step_of (studio_of disk s) (studio_of disk new) e.call entry.sound told ((over.took (λ _. tell)).step (was.held tell held)));
+        (step_of (studio_of disk s) (studio_of disk new) e.call entry.sound told
+        ((over.took (λ _. tell)).step (was.held tell held)));
     follows = λ tell. follows_more before mid after was.entries entry (was.follows tell) (over.heard (λ _. tell));
     any_moment = λ tell going held. stays s.stopped refl tell going held;
     now = λ tell still held. (over.took (λ _. tell)).now still (was.held tell held);
@@ -201,7 +228,8 @@ module _ {D : Type 0} (disk : Ghosts D) (tells : Bool) (before mid after : Sound
 
 -- ---- items of a list
 
-pub take_item : {A : Type 0} (i : ℕ) (xs : List A) (x : A) → slice_get xs i ≡ Some x → take (i + 1) xs ≡ take i xs ++ x ∷ []
+pub take_item : {A : Type 0} (i : ℕ) (xs : List A) (x : A) → slice_get xs i ≡ Some x
+    → take (i + 1) xs ≡ take i xs ++ x ∷ []
 take_item i [] x h = absurd (none-some x h)
 take_item zero (y ∷ ys) x h = ap (λ (z : _). z ∷ []) (same_Some y x h)
 take_item (suc i) (y ∷ ys) x h =
@@ -209,9 +237,11 @@ take_item (suc i) (y ∷ ys) x h =
     ap (λ (k : ℕ). take k (y ∷ ys)) next ∙ ap (λ (z : List _). y ∷ z) (take_item i ys x h)
 
 -- the next call's step, where the vault told as at the start
-pub over_at : {D : Type 0} (disk : Ghosts D) (old new : Bool) (before after : Sounds) (s t : Core D) (c : Call) (told : Result Reply Refusal) → new ≡ old
+pub over_at : {D : Type 0} (disk : Ghosts D) (old new : Bool) (before after : Sounds) (s t : Core D) (c : Call)
+    (told : Result Reply Refusal) → new ≡ old
     → TookOver disk new before after s c told t → TookOver disk old before after s c told t
-over_at disk old new before after s t c told same over = subst (λ (b : Bool). TookOver disk b before after s c told t) same over
+over_at disk old new before after s t c told same over =
+    subst (λ (b : Bool). TookOver disk b before after s c told t) same over
 
 -- ---- calls that are no lines
 

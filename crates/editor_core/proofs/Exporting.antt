@@ -1,5 +1,7 @@
 -- An export: the mix of the current project as a sound of a vault, with nothing of the studio changed.
-use Rattle.std.proofs.Common.{◌≡◌, ◌⊎◌, inl, inr, ⊎_elim, refl, sym, ap, ◌∙◌, subst, ℕ, ◌+◌, ◌*◌, ◌^◌, ◌≤◌, ◌<◌, ◌==◌, if◌then◌else◌, IsTrue, Option, Some, None, List, [], ◌∷◌, length, take, max, Result, Ok, Err, OnErr, arith}
+use Rattle.std.proofs.Common.{◌≡◌, ◌⊎◌, inl, inr, ⊎_elim, refl, sym, ap, ◌∙◌, subst, ℕ, ◌+◌, ◌*◌, ◌^◌, ◌≤◌, ◌<◌, ◌==◌}
+use Rattle.std.proofs.Common.{if◌then◌else◌, IsTrue, Option, Some, None, List, [], ◌∷◌, length, take, max, Result, Ok}
+use Rattle.std.proofs.Common.{Err, OnErr, arith}
 use Rattle.std.proofs.lemmas.Bool.{le-ltb, lt-ltb}
 use Rattle.std.proofs.lemmas.List.Concat.{flat_map-cons}
 use Rattle.std.proofs.lemmas.List.{length-map}
@@ -42,7 +44,8 @@ use Rattle.project_state.specs.Kept.{Keeps, meant}
 use Rattle.wav_pcm.specs.Wavs.{FitsFile}
 use Rattle.sound_export.specs.declared.fault.ExportFault.{ExportFault}
 use Rattle.sound_export.specs.declared.fault.ExportFault.TheVariants.{TooLong, Block, VaultFault}
-use Rattle.sound_export.specs.Written.{ExportCountedBy, IsBlockFault, IsLengthFault, IsNoDamage, IsOfDevice, MayBegin, refusal_of as reason_of_export}
+use Rattle.sound_export.specs.Written.{ExportCountedBy, IsBlockFault, IsLengthFault, IsNoDamage, IsOfDevice, MayBegin}
+use Rattle.sound_export.specs.Written.{refusal_of as reason_of_export}
 use Rattle.sound_export.proofs.GrowLaws.{length_mix}
 use Rattle.envelope_view.specs.Answers.{IsUndamaged}
 use Rattle.editor_core.specs.Core.{Core}
@@ -72,7 +75,8 @@ mix_len_by : (src : Sources) (m next_block next_track : ℕ) (ts : List Track) �
     → mix_length (meant src ts) ≡ mix_length_of ts
 mix_len_by src m next_block next_track [] all = refl
 mix_len_by src m next_block next_track (t ∷ ts) all =
-    longest_first src t ts ∙ (λ i. max (if t.mute then 0 else (length-layout src t.layout all.0.layout.apart) i) (mix_len_by src m next_block next_track ts all.1 i))
+    longest_first src t ts ∙ (λ i. max (if t.mute then 0 else (length-layout src t.layout all.0.layout.apart) i)
+    (mix_len_by src m next_block next_track ts all.1 i))
 
 -- a fault where the disk has all blocks shows no damaged file
 abbrev is_disk : BlockFault → Type 0
@@ -106,11 +110,13 @@ module _ {D : Type 0} (disk : Ghosts D) (s : Core D) (is : IsStudio disk s) (nam
   pub export_len : mix_length_of (current_tracks s.history) ≡ length point_mix
   export_len =
       let src = sources_of (disk.reads s.store) in
-      sym (mix_len_by src s.block_size s.next_block s.next_track (current_tracks s.history) (current_sound disk s is).sound)
+      sym (mix_len_by src s.block_size s.next_block s.next_track (current_tracks s.history)
+      (current_sound disk s is).sound)
       ∙ sym (length_mix (meant src (current_tracks s.history)))
 
   len_is : mix_length (current t.state) ≡ length point_mix
-  len_is = ap mix_length (current_meant disk s is) ∙ sym (length_mix (meant (sources_of (disk.reads s.store)) (current_tracks s.history)))
+  len_is = ap mix_length (current_meant disk s is)
+      ∙ sym (length_mix (meant (sources_of (disk.reads s.store)) (current_tracks s.history)))
 
   -- ---- it had stopped before
 
@@ -121,8 +127,10 @@ module _ {D : Type 0} (disk : Ghosts D) (s : Core D) (is : IsStudio disk s) (nam
       (ap (λ (z : Option Refusal). z otherwise rest) (ap stop_of stopped))
     where
       rest : Option Refusal
-      rest = (too_long (mix_length (current t.state))) otherwise ((no_room t.next_block 0) otherwise (no_room t.state.next_track 0)
-          otherwise (no_room t.state.commit 0) otherwise (no_room t.state.next_pin 0) otherwise (no_room t.journal_end 0)) otherwise None
+      rest = (too_long (mix_length (current t.state))) otherwise
+          ((no_room t.next_block 0) otherwise (no_room t.state.next_track 0)
+          otherwise (no_room t.state.commit 0) otherwise (no_room t.state.next_pin 0) otherwise
+          (no_room t.journal_end 0)) otherwise None
 
   module _ (going : s.stopped ≡ None) (store : D) (kept : Kept disk s.store store) where
     abbrev here : Core D
@@ -131,7 +139,11 @@ module _ {D : Type 0} (disk : Ghosts D) (s : Core D) (is : IsStudio disk s) (nam
     -- ---- what it leaves
 
     state_is : studio_of disk here ≡ record t { read_faults = disk.read_fault_count store }
-    state_is = λ i. record (studio_by (sources_of (kept.same_reads i)) disk s) { read_faults = disk.read_fault_count store; change_faults = kept.same_faults i }
+    state_is =
+        λ i. record (studio_by (sources_of (kept.same_reads i)) disk s) {
+          read_faults = disk.read_fault_count store;
+          change_faults = kept.same_faults i;
+        }
 
     still : IsHeld disk s → EachSince disk s.store store (λ c. Keeps c (shown t))
     still held c since =
@@ -156,7 +168,9 @@ module _ {D : Type 0} (disk : Ghosts D) (s : Core D) (is : IsStudio disk s) (nam
       left = tt;
     }
 
-    failed : (why : Refusal) → IsSoOf disk s here why → (IsHeld disk s → Answers t call sound (Err why) (studio_of disk here)) → Took disk s call sound (Err why) 0 here
+    failed : (why : Refusal)
+        → IsSoOf disk s here why → (IsHeld disk s → Answers t call sound (Err why) (studio_of disk here))
+        → Took disk s call sound (Err why) 0 here
     failed why so step = record {
       studio = looked_studio disk s is store kept;
       held = looked_held disk s is store kept;
@@ -182,9 +196,11 @@ module _ {D : Type 0} (disk : Ghosts D) (s : Core D) (is : IsStudio disk s) (nam
         let commit = fits t.state.commit 0 (omega (arith, is.counters.commit_most)) in
         let pin = fits t.state.next_pin 0 (omega (arith, is.counters.pin_most)) in
         let end = fits t.journal_end 0 (omega (arith, is.counters.end_most)) in
-        λ i. (stop_of (going i)) otherwise (own i) otherwise ((block i) otherwise (track i) otherwise (commit i) otherwise (pin i) otherwise (end i)) otherwise None
+        λ i. (stop_of (going i)) otherwise (own i) otherwise
+        ((block i) otherwise (track i) otherwise (commit i) otherwise (pin i) otherwise (end i)) otherwise None
 
-    follows : disk.read_fault_count store ≡ disk.read_fault_count s.store → studio_of disk here ≡ followed out t call 0 0
+    follows : disk.read_fault_count store ≡ disk.read_fault_count s.store
+        → studio_of disk here ≡ followed out t call 0 0
     follows faults =
         let block : t.next_block ≡ t.next_block + 0 = omega arith in
         let end : t.journal_end ≡ t.journal_end + 0 = omega arith in
@@ -192,12 +208,14 @@ module _ {D : Type 0} (disk : Ghosts D) (s : Core D) (is : IsStudio disk s) (nam
 
     pub exported : (bytes len : ℕ) → len ≡ length point_mix → FitsFile len → bytes ≡ 44 + 4 * len
         → disk.read_fault_count store ≡ disk.read_fault_count s.store
-        → (IsHeld disk s → sound.after ≡ Some (wav_text point_mix s.rate)) → Took disk s call sound (Ok (reply.Wrote bytes)) 0 here
+        → (IsHeld disk s → sound.after ≡ Some (wav_text point_mix s.rate))
+        → Took disk s call sound (Ok (reply.Wrote bytes)) 0 here
     exported bytes len long few size faults written = done bytes (λ held. record {
       blocks = 0;
       len = 0;
       needs = (refl, refl);
-      passed = passes (ap too_long (len_is ∙ sym long) ∙ ap (λ b. refused_if b (refusal.TooLong len)) (le-ltb 4294967295 (36 + 4 * len) (omega (arith, few))));
+      passed = passes (ap too_long (len_is ∙ sym long)
+          ∙ ap (λ b. refused_if b (refusal.TooLong len)) (le-ltb 4294967295 (36 + 4 * len) (omega (arith, few))));
       answers = ap reply.Wrote (omega (arith, size, long, length_text point_mix s.rate, ap length file_is));
       is = follows faults;
       heard = written held ∙ ap Some (sym file_is);
@@ -207,9 +225,11 @@ module _ {D : Type 0} (disk : Ghosts D) (s : Core D) (is : IsStudio disk s) (nam
 
     part : MayBegin (wav_text point_mix s.rate) sound.before sound.after → IsPartOfMix t.rate t sound
     part (inl same) = inl same
-    part (inr (count, within, front)) = inr (count, front ∙ ap (λ (bytes : List ℕ). Some (take count bytes)) (sym file_is))
+    part (inr (count, within, front)) =
+        inr (count, front ∙ ap (λ (bytes : List ℕ). Some (take count bytes)) (sym file_is))
 
-    breaks : (IsHeld disk s → MayBegin (wav_text point_mix s.rate) sound.before sound.after) → IsHeld disk s → BreaksOff t call sound (studio_of disk here)
+    breaks : (IsHeld disk s → MayBegin (wav_text point_mix s.rate) sound.before sound.after) → IsHeld disk s
+        → BreaksOff t call sound (studio_of disk here)
     breaks begun held =
         let same : s.next_block ≡ s.next_block + 0 = omega arith in record {
           going = going;
@@ -217,14 +237,21 @@ module _ {D : Type 0} (disk : Ghosts D) (s : Core D) (is : IsStudio disk s) (nam
           len = 0;
           needs = (refl, refl);
           room = omega (arith, is.counters.block_most);
-          is = state_is ∙ (λ i. record t { next_block = same i; read_faults = disk.read_fault_count store; change_faults = sym kept.same_faults i });
+          is = state_is ∙ (λ i. record t {
+            next_block = same i;
+            read_faults = disk.read_fault_count store;
+            change_faults = sym kept.same_faults i;
+          });
           leaves = part (begun held);
         }
 
     -- what it leaves, whatever the vault tells
-    pub export_left : (why : ExportFault) (faults faults' : ℕ) → ExportCountedBy why (disk.read_fault_count s.store) (disk.read_fault_count store) faults faults'
-        → (IsTrue (disk.tells s.store) → IsBlockFault (disk.reads s.store) (named_blocks s) why) → Left disk s NoneGoes here (reason_of_export why)
-    export_left (TooLong frames) faults faults' counted named = left_read disk s NoneGoes store (refusal.TooLong frames) tt
+    pub export_left : (why : ExportFault) (faults faults' : ℕ)
+        → ExportCountedBy why (disk.read_fault_count s.store) (disk.read_fault_count store) faults faults'
+        → (IsTrue (disk.tells s.store) → IsBlockFault (disk.reads s.store) (named_blocks s) why)
+        → Left disk s NoneGoes here (reason_of_export why)
+    export_left (TooLong frames) faults faults' counted named =
+        left_read disk s NoneGoes store (refusal.TooLong frames) tt
     export_left (Block fault.DiskFault) faults faults' counted named =
         left_read disk s NoneGoes store refusal.DiskFault (inl (record { rose = counted.0.0; later = counted.0.1 }))
     export_left (Block (fault.Damaged file found)) faults faults' counted named =
@@ -237,23 +264,28 @@ module _ {D : Type 0} (disk : Ghosts D) (s : Core D) (is : IsStudio disk s) (nam
         → (IsHeld disk s → MayBegin (wav_text point_mix s.rate) sound.before sound.after)
         → (IsTrue (disk.tells s.store) → IsBlockFault (disk.reads s.store) (named_blocks s) why)
         → Took disk s call sound (Err (reason_of_export why)) 0 here
-    export_failed (TooLong frames) len faults faults' long fault counted untouched begun named = failed (refusal.TooLong frames) tt (λ held. inl (record {
-      blocks = 0;
-      len = 0;
-      needs = (refl, refl);
-      first =
-          let own : too_long (mix_length (current t.state)) ≡ Some (refusal.TooLong frames) =
-          ap too_long (len_is ∙ sym long) ∙ ap (λ b. refused_if b (refusal.TooLong len)) (lt-ltb 4294967295 (36 + 4 * len) fault.1)
-          ∙ ap (λ (n : ℕ). Some (refusal.TooLong n)) (sym fault.0) in
-          λ i. (stop_of (going i)) otherwise (own i) otherwise ((no_room t.next_block 0) otherwise (no_room t.state.next_track 0)
-          otherwise (no_room t.state.commit 0) otherwise (no_room t.state.next_pin 0) otherwise (no_room t.journal_end 0)) otherwise None;
-      same = state_is ∙ (λ i. record t { read_faults = counted.0 i });
-      quiet = ⊎_elim (λ of. absurd of) (λ same. same) untouched;
-    }))
-    export_failed (Block fault.DiskFault) len faults faults' long of counted untouched begun named = failed refusal.DiskFault (inl (record { rose = counted.0.0; later = counted.0.1 })) (λ held. inr (record {
-      breaks = breaks begun held;
-      cause = inl (record { goes_on = going; rose = counted.0.0; later = counted.0.1; changes = kept.same_faults });
-    }))
+    export_failed (TooLong frames) len faults faults' long fault counted untouched begun named =
+        failed (refusal.TooLong frames) tt (λ held. inl (record {
+          blocks = 0;
+          len = 0;
+          needs = (refl, refl);
+          first =
+              let own : too_long (mix_length (current t.state)) ≡ Some (refusal.TooLong frames) =
+              ap too_long (len_is ∙ sym long)
+              ∙ ap (λ b. refused_if b (refusal.TooLong len)) (lt-ltb 4294967295 (36 + 4 * len) fault.1)
+              ∙ ap (λ (n : ℕ). Some (refusal.TooLong n)) (sym fault.0) in
+              λ i. (stop_of (going i)) otherwise (own i) otherwise
+              ((no_room t.next_block 0) otherwise (no_room t.state.next_track 0)
+              otherwise (no_room t.state.commit 0) otherwise (no_room t.state.next_pin 0) otherwise
+              (no_room t.journal_end 0)) otherwise None;
+          same = state_is ∙ (λ i. record t { read_faults = counted.0 i });
+          quiet = ⊎_elim (λ of. absurd of) (λ same. same) untouched;
+        }))
+    export_failed (Block fault.DiskFault) len faults faults' long of counted untouched begun named =
+        failed refusal.DiskFault (inl (record { rose = counted.0.0; later = counted.0.1 })) (λ held. inr (record {
+          breaks = breaks begun held;
+          cause = inl (record { goes_on = going; rose = counted.0.0; later = counted.0.1; changes = kept.same_faults });
+        }))
     export_failed (Block (fault.Damaged file found)) len faults faults' long of counted untouched begun named =
         failed (refusal.Damaged file found.at found.want found.have) named (λ held. inr (record {
           breaks = breaks begun held;
@@ -261,12 +293,13 @@ module _ {D : Type 0} (disk : Ghosts D) (s : Core D) (is : IsStudio disk s) (nam
           reads = counted.0;
           changes = kept.same_faults;
         }))
-    export_failed VaultFault len faults faults' long of counted untouched begun named = failed refusal.VaultFault tt (λ held. inr (
-      refl,
-      record {
-        breaks = breaks begun held;
-        stopped = going;
-        reads = counted.0;
-        changes = kept.same_faults;
-      },
-    ))
+    export_failed VaultFault len faults faults' long of counted untouched begun named =
+        failed refusal.VaultFault tt (λ held. inr (
+          refl,
+          record {
+            breaks = breaks begun held;
+            stopped = going;
+            reads = counted.0;
+            changes = kept.same_faults;
+          },
+        ))

@@ -1,5 +1,6 @@
 -- A commit: the call, the record that tells it, and what it leads to; and what an image has while the record is added.
-use Rattle.std.proofs.Common.{◌≡◌, inl, inr, ⊎_elim, refl, sym, ◌∙◌, subst, ℕ, ◌+◌, ◌^◌, ◌≤◌, ◌<◌, List, ◌++◌, length, Option, None, Result, arith}
+use Rattle.std.proofs.Common.{◌≡◌, inl, inr, ⊎_elim, refl, sym, ◌∙◌, subst, ℕ, ◌+◌, ◌^◌, ◌≤◌, ◌<◌, List, ◌++◌, length}
+use Rattle.std.proofs.Common.{Option, None, Result, arith}
 use Rattle.std.specs.List.{AllByRecursion}
 use Rattle.pcm_base.specs.declared.answer.Reply.TheVariants.{Done}
 use Rattle.pcm_base.specs.declared.block.BlockRef.{BlockRef}
@@ -27,7 +28,8 @@ use Rattle.project_state.specs.Spelling.{spelling}
 use Rattle.project_state.proofs.KeptBounds.{all_append}
 use Rattle.editor_core.specs.Adding.{Adds}
 use Rattle.editor_core.specs.Core.{Core}
-use Rattle.editor_core.specs.Studios.{IsGiven, IsDurable, IsHeld, IsStudio, MayPaste, SameBlocks, clip_blocks, clip_cells, named_blocks, pin_blocks, shown, studio_of}
+use Rattle.editor_core.specs.Studios.{IsGiven, IsDurable, IsHeld, IsStudio, MayPaste, SameBlocks, clip_blocks}
+use Rattle.editor_core.specs.Studios.{clip_cells, named_blocks, pin_blocks, shown, studio_of}
 use Rattle.editor_core.specs.Took.{KeepsOneOf}
 use Rattle.editor_core.proofs.Images.{opened_by, Covers, one_of, same_since, shown_is, covers_kept}
 use Rattle.editor_core.proofs.Lists.{all_left, all_right, all_both}
@@ -218,7 +220,8 @@ module _ {D : Type 0} {Has : Type 0} {disk : Ghosts D} {s : Core D} {made : List
     -- the blocks read as they did
     pub reads_still : SameBlocks (named_blocks s ++ made) (disk.reads s.store) (disk.reads mid.store)
     reads_still =
-        blocks_same (disk.reads s.store) (disk.reads mid.store) s.next_block every (adds.changed.reads (t.holds has).tells)
+        blocks_same (disk.reads s.store) (disk.reads mid.store) s.next_block every
+        (adds.changed.reads (t.holds has).tells)
         every_ids
 
     pub whole_still : AllWhole (disk.reads mid.store) (named_blocks s ++ made)

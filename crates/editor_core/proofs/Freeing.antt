@@ -1,5 +1,6 @@
 -- The file of a block that nothing names goes, and the studio stays what it was.
-use Rattle.std.proofs.Common.{◌≡◌, ◌≢◌, ◌⊎◌, ◌↔◌, inl, inr, ⊎_elim, refl, sym, ap, ◌∙◌, subst, ℕ, ◌≤◌, eqb, Bool, true, false, IsTrue, IsSome, List, Option, Some, None, arith}
+use Rattle.std.proofs.Common.{◌≡◌, ◌≢◌, ◌⊎◌, ◌↔◌, inl, inr, ⊎_elim, refl, sym, ap, ◌∙◌, subst, ℕ, ◌≤◌, eqb, Bool, true}
+use Rattle.std.proofs.Common.{false, IsTrue, IsSome, List, Option, Some, None, arith}
 use Rattle.std.specs.List.{AllByRecursion}
 use Rattle.std.proofs.lemmas.Bool.{cases_eq}
 use Rattle.std.proofs.lemmas.Bool.Decides.{eqb_tells}
@@ -18,7 +19,8 @@ use Rattle.project_state.specs.Kept.{Keeps}
 use Rattle.editor_core.specs.Core.{Core}
 use Rattle.editor_core.specs.Frees.{removal_room}
 use Rattle.editor_core.specs.Occurrences.{times_named}
-use Rattle.editor_core.specs.Studios.{IsGiven, SameBlocks, IsDurable, IsHeld, IsStudio, shown, studio_by, studio_of, named_blocks}
+use Rattle.editor_core.specs.Studios.{IsGiven, SameBlocks, IsDurable, IsHeld, IsStudio, shown, studio_by, studio_of}
+use Rattle.editor_core.specs.Studios.{named_blocks}
 use Rattle.editor_core.proofs.Bounds.{absent}
 use Rattle.editor_core.proofs.Images.{keeps_by, shown_is, covers_kept}
 use Rattle.editor_core.proofs.Lists.{all_so, all_both}
@@ -34,13 +36,17 @@ true-false true a e = absurd (cc e)
 true-false false a e = absurd (cc a)
 
 other_id : (b : BlockRef) (id : ℕ) → eqb b.id id ≡ false → b.id ≢ id
-other_id b id differ e = ⊎_elim (λ same. true-false (eqb b.id id) same.0 differ) (λ other. other.1 e) (eqb_tells b.id id)
+other_id b id differ e =
+    ⊎_elim (λ same. true-false (eqb b.id id) same.0 differ) (λ other. other.1 e) (eqb_tells b.id id)
 
-pub same_without : (id : ℕ) (bs : List BlockRef) (files other : Files) → Without id bs → RemoveStep id files other → SameBlocks bs files other
+pub same_without : (id : ℕ) (bs : List BlockRef) (files other : Files) → Without id bs → RemoveStep id files other
+    → SameBlocks bs files other
 same_without id bs files other none step =
-    all_so (λ (b : BlockRef). eqb b.id id ≡ false) (λ b. other b.id ≡ files b.id) (λ b differ. step.others b.id (other_id b id differ)) bs none
+    all_so (λ (b : BlockRef). eqb b.id id ≡ false) (λ b. other b.id ≡ files b.id)
+    (λ b differ. step.others b.id (other_id b id differ)) bs none
 
-module _ {D : Type 0} (disk : Ghosts D) (s : Core D) (is : IsStudio disk s) (id : ℕ) (free : s.counts id ≡ Some 0) (store : D)
+module _ {D : Type 0} (disk : Ghosts D) (s : Core D) (is : IsStudio disk s) (id : ℕ) (free : s.counts id ≡ Some 0)
+    (store : D)
     (changed : Changed disk (RemoveStep id) removal_room s.store store) where
   pub nowhere : Without id (named_blocks s)
   nowhere = absent id (named_blocks s) (sym (is.counted id) ∙ ap occurrences free)
@@ -56,11 +62,13 @@ module _ {D : Type 0} (disk : Ghosts D) (s : Core D) (is : IsStudio disk s) (id 
   not_journal e = absurd (omega (arith, e, id_least))
 
   same_files : IsTrue (disk.tells s.store) → SameBlocks (named_blocks s) (disk.reads s.store) (disk.reads store)
-  same_files told = same_without id (named_blocks s) (disk.reads s.store) (disk.reads store) nowhere (changed.reads told)
+  same_files told =
+      same_without id (named_blocks s) (disk.reads s.store) (disk.reads store) nowhere (changed.reads told)
 
   -- it is whole still
   still_whole : IsHeld disk s → AllWhole (disk.reads store) (named_blocks s)
-  still_whole held = all_whole (disk.reads s.store) (disk.reads store) (named_blocks s) (same_files held.tells) held.whole
+  still_whole held =
+      all_whole (disk.reads s.store) (disk.reads store) (named_blocks s) (same_files held.tells) held.whole
 
   still_tells : IsHeld disk s → IsTrue (disk.tells store)
   still_tells held = subst IsTrue (sym changed.tells) held.tells
@@ -76,13 +84,16 @@ module _ {D : Type 0} (disk : Ghosts D) (s : Core D) (is : IsStudio disk s) (id 
       let d = held.durable going in
       let files = disk.reads s.store in
       let from = changed.images.from c since in
-      let same = trans_same files from.0 c (named_blocks s) (d.blocks from.0 from.1) (same_without id (named_blocks s) from.0 c nowhere from.2) in
-      let has : HasLog version_1 d.log c = each_since (λ x y step. step.others 0 not_journal) changed.images d.there c since in
+      let same = trans_same files from.0 c (named_blocks s) (d.blocks from.0 from.1)
+      (same_without id (named_blocks s) from.0 c nowhere from.2) in
+      let has : HasLog version_1 d.log c =
+      each_since (λ x y step. step.others 0 not_journal) changed.images d.there c since in
       subst (Keeps c) (shown_is disk s d) (keeps_by d.log d.kept files c has d.told
       (covers_kept disk s d (λ b. c b.id ≡ files b.id) same) (covers_kept disk s d (IsWhole files) held.whole))
 
   -- ---- the file is gone, and the block forgotten
-  module _ (counts : Counts) (set : SetsCount s.counts counts id None) (gone : IsTrue (disk.tells s.store) → disk.reads store id ≡ None) where
+  module _ (counts : Counts) (set : SetsCount s.counts counts id None)
+      (gone : IsTrue (disk.tells s.store) → disk.reads store id ≡ None) where
     abbrev pub less : Core D
     less = record s { store = store; counts = counts }
 
@@ -102,9 +113,12 @@ module _ {D : Type 0} (disk : Ghosts D) (s : Core D) (is : IsStudio disk s) (id 
           commit = d.commit;
           blocks = λ c now.
               let images = changed.images in
-              let from = images.from c (images.fewer (disk.clock s.store) (disk.clock store) c images.later (upto_refl (disk.clock store)) now) in
-              let same = trans_same files from.0 c (named_blocks s) (d.blocks from.0 from.1) (same_without id (named_blocks s) from.0 c nowhere from.2) in
-              all_both (λ b. c b.id ≡ files b.id) (λ b. disk.reads store b.id ≡ files b.id) (λ b. c b.id ≡ disk.reads store b.id) (λ b one two. one ∙ sym two) (named_blocks s) same (same_files told);
+              let from = images.from c (images.fewer (disk.clock s.store) (disk.clock store) c images.later
+              (upto_refl (disk.clock store)) now) in
+              let same = trans_same files from.0 c (named_blocks s) (d.blocks from.0 from.1)
+              (same_without id (named_blocks s) from.0 c nowhere from.2) in
+              all_both (λ b. c b.id ≡ files b.id) (λ b. disk.reads store b.id ≡ files b.id) (λ b. c b.id
+              ≡ disk.reads store b.id) (λ b one two. one ∙ sym two) (named_blocks s) same (same_files told);
           files = λ x least most. files_are x (d.files x least most) step (cases_eq x id);
         }
       where
@@ -116,11 +130,13 @@ module _ {D : Type 0} (disk : Ghosts D) (s : Core D) (is : IsStudio disk s) (id 
         none_file None e h = absurd (cc h)
         none_file (Some n) e h = absurd (cc e)
 
-        files_are : (x : ℕ) → IsSome (s.counts x) ↔ IsSome (disk.reads s.store x) → RemoveStep id (disk.reads s.store) (disk.reads store) → (x ≡ id) ⊎ (x ≢ id)
+        files_are : (x : ℕ) → IsSome (s.counts x) ↔ IsSome (disk.reads s.store x)
+            → RemoveStep id (disk.reads s.store) (disk.reads store) → (x ≡ id) ⊎ (x ≢ id)
             → IsSome (counts x) ↔ IsSome (disk.reads store x)
         files_are x was step (inl e) = (
           (λ have. absurd (none_some (counts id) set.here (subst (λ (n : ℕ). IsSome (counts n)) e have))),
-          (λ there. absurd (none_file (disk.reads store id) (gone told) (subst (λ (n : ℕ). IsSome (disk.reads store n)) e there))),
+          (λ there. absurd
+              (none_file (disk.reads store id) (gone told) (subst (λ (n : ℕ). IsSome (disk.reads store n)) e there))),
         )
         files_are x was step (inr ne) = (
           (λ have. subst IsSome (sym (step.others x ne)) (was.0 (subst IsSome (set.others x ne) have))),

@@ -1,5 +1,6 @@
 -- The parts of a new project on a disk without blocks.
-use Rattle.std.proofs.Common.{◌≡◌, refl, sym, ap, subst, ℕ, ◌≤◌, IsTrue, List, [], ◌++◌, None, Some, Option, IsSome, arith}
+use Rattle.std.proofs.Common.{◌≡◌, refl, sym, ap, subst, ℕ, ◌≤◌, IsTrue, List, [], ◌++◌, None, Some, Option, IsSome}
+use Rattle.std.proofs.Common.{arith}
 use Rattle.std.specs.List.{AllByRecursion}
 use Rattle.pcm_base.specs.History.{History, history_of_one}
 use Rattle.disk_model.specs.declared.store.Store.{Ghosts}

@@ -1,5 +1,6 @@
 -- Ids that went, one after another.
-use Rattle.std.proofs.Common.{◌≡◌, ◌≢◌, ◌⊎◌, inl, inr, ⊎_elim, refl, sym, ap, ◌∙◌, subst, ℕ, zero, suc, ◌+◌, ◌<◌, List, [], ◌∷◌, ◌++◌, length, length-append, Option, Some, None, arith}
+use Rattle.std.proofs.Common.{◌≡◌, ◌≢◌, ◌⊎◌, inl, inr, ⊎_elim, refl, sym, ap, ◌∙◌, subst, ℕ, zero, suc, ◌+◌, ◌<◌, List}
+use Rattle.std.proofs.Common.{[], ◌∷◌, ◌++◌, length, length-append, Option, Some, None, arith}
 use Rattle.std.specs.Prelude.{Contains, slice_index}
 use Rattle.std.specs.List.Sorted.{IsStrictlyIncreasing}
 use Rattle.std.proofs.lemmas.Bool.{cases_eq}
@@ -30,7 +31,8 @@ pub long : (ids : List ℕ) (id : ℕ) → length (ids ++ id ∷ []) ≡ length 
 long ids id = length-append ids (id ∷ [])
 
 -- a list rises on, past all of it
-rises : (ids : List ℕ) (id : ℕ) → IsStrictlyIncreasing ids → ((x : ℕ) → Contains ids x → x < id) → IsStrictlyIncreasing (ids ++ id ∷ [])
+rises : (ids : List ℕ) (id : ℕ) → IsStrictlyIncreasing ids → ((x : ℕ) → Contains ids x → x < id)
+    → IsStrictlyIncreasing (ids ++ id ∷ [])
 rises ids id up below = λ k lt. go k lt (cases_eq (k + 1) (length ids))
   where
     at : (k : ℕ) → k < length ids → slice_index (ids ++ id ∷ []) k ≡ slice_index ids k
@@ -39,13 +41,23 @@ rises ids id up below = λ k lt. go k lt (cases_eq (k + 1) (length ids))
     last : (k : ℕ) → k ≡ length ids → slice_index (ids ++ id ∷ []) k ≡ id
     last k e = ap (λ (n : ℕ). slice_index (ids ++ id ∷ []) n) (e ∙ omega arith) ∙ get_or-append-add ids (id ∷ []) 0 0
 
-    go : (k : ℕ) → k + 1 < length (ids ++ id ∷ []) → (k + 1 ≡ length ids) ⊎ (k + 1 ≢ length ids) → slice_index (ids ++ id ∷ []) k < slice_index (ids ++ id ∷ []) (k + 1)
+    go : (k : ℕ) → k + 1 < length (ids ++ id ∷ []) → (k + 1 ≡ length ids) ⊎ (k + 1 ≢ length ids)
+        → slice_index (ids ++ id ∷ []) k < slice_index (ids ++ id ∷ []) (k + 1)
     go k lt (inl e) =
-        let less = below (slice_index ids k) (k, omega (arith, e), get_or_default ids k (slice_index ids k) 0 (omega (arith, e))) in
+        let less = below (slice_index ids k) (
+          k,
+          omega (arith, e),
+          get_or_default ids k (slice_index ids k) 0 (omega (arith, e)),
+        ) in
         omega (arith, at k (omega (arith, e)), last (k + 1) e, less)
     go k lt (inr ne) =
         let n = long ids id in
-        omega (arith, at k (omega (arith, lt, n, ne)), at (k + 1) (omega (arith, lt, n, ne)), up k (omega (arith, lt, n, ne)))
+        omega (
+          arith,
+          at k (omega (arith, lt, n, ne)),
+          at (k + 1) (omega (arith, lt, n, ne)),
+          up k (omega (arith, lt, n, ne)),
+        )
 
 pub forgets_none : (old : Counts) → Forgets old old []
 forgets_none old = record {
@@ -56,13 +68,15 @@ forgets_none old = record {
   others = λ id not. refl;
 }
 
-pub forgets_more : (old mid new : Counts) (ids : List ℕ) (id : ℕ) → Forgets old mid ids → IsFirstFree mid id → SetsCount mid new id None → Forgets old new (ids ++ id ∷ [])
+pub forgets_more : (old mid new : Counts) (ids : List ℕ) (id : ℕ) → Forgets old mid ids → IsFirstFree mid id
+    → SetsCount mid new id None → Forgets old new (ids ++ id ∷ [])
 forgets_more old mid new ids id was first set = record {
   rising = rises ids id was.rising (λ x h. was.least x id h first.free);
   free = λ x h. ⊎_elim (was.free x) (λ e. old_free x e) (either ids id x h);
   gone = λ x h. ⊎_elim (λ one. gone_still x one) (λ e. subst (λ (n : ℕ). new n ≡ None) e set.here) (either ids id x h);
   least = λ x other h free. least x other free (either ids id x h);
-  others = λ x not. set.others x (λ e. not (subst (Contains (ids ++ id ∷ [])) (sym e) (here ids id))) ∙ was.others x (λ h. not (earlier ids id x h));
+  others = λ x not. set.others x (λ e. not (subst (Contains (ids ++ id ∷ [])) (sym e) (here ids id)))
+      ∙ was.others x (λ h. not (earlier ids id x h));
 }
   where
     some-none : (n : ℕ) (o : Option ℕ) → o ≡ Some n → o ≡ None → ⊥
@@ -99,34 +113,42 @@ gone_same a b none (inr gone) = gone
 pub none_gone : (files : Files) → AreGone [] files
 none_gone files id h = absurd (none_in id h)
 
-pub gone_more : (mid new : Files) (ids : List ℕ) (id : ℕ) → AreGone ids mid → RemoveStep id mid new → new id ≡ None → AreGone (ids ++ id ∷ []) new
-gone_more mid new ids id was step gone x h = ⊎_elim (λ one. still (cases_eq x id) one) (λ e. subst (λ (n : ℕ). new n ≡ None) e gone) (either ids id x h)
+pub gone_more : (mid new : Files) (ids : List ℕ) (id : ℕ) → AreGone ids mid → RemoveStep id mid new → new id ≡ None
+    → AreGone (ids ++ id ∷ []) new
+gone_more mid new ids id was step gone x h =
+    ⊎_elim (λ one. still (cases_eq x id) one) (λ e. subst (λ (n : ℕ). new n ≡ None) e gone) (either ids id x h)
   where
     still : (x ≡ id) ⊎ (x ≢ id) → Contains ids x → new x ≡ None
     still (inl e) one = subst (λ (n : ℕ). new n ≡ None) (sym e) gone
     still (inr ne) one = step.others x ne ∙ was x one
 
-pub removes_more : (old mid new : Files) (ids : List ℕ) (id : ℕ) → Removes old mid ids → RemoveStep id mid new → new id ≡ None → Removes old new (ids ++ id ∷ [])
+pub removes_more : (old mid new : Files) (ids : List ℕ) (id : ℕ) → Removes old mid ids → RemoveStep id mid new
+    → new id ≡ None → Removes old new (ids ++ id ∷ [])
 removes_more old mid new ids id was step gone = record {
   gone = gone_more mid new ids id was.gone step gone;
-  others = λ x not. step.others x (λ e. not (subst (Contains (ids ++ id ∷ [])) (sym e) (here ids id))) ∙ was.others x (λ h. not (earlier ids id x h));
+  others = λ x not. step.others x (λ e. not (subst (Contains (ids ++ id ∷ [])) (sym e) (here ids id)))
+      ∙ was.others x (λ h. not (earlier ids id x h));
 }
 
-pub removes_part : (counts : Counts) (old mid new : Files) (ids : List ℕ) (id : ℕ) → Removes old mid ids → RemoveStep id mid new → IsFirstFree counts id → RemovesPart counts old new ids
+pub removes_part : (counts : Counts) (old mid new : Files) (ids : List ℕ) (id : ℕ) → Removes old mid ids
+    → RemoveStep id mid new → IsFirstFree counts id → RemovesPart counts old new ids
 removes_part counts old mid new ids id was step first = record {
   gone = λ x h. gone x h (cases_eq x id);
   others = λ x not. others x not (cases_eq x id);
 }
   where
     gone : (x : ℕ) → Contains ids x → (x ≡ id) ⊎ (x ≢ id) → new x ≡ None
-    gone x h (inl e) = subst (λ (n : ℕ). new n ≡ None) (sym e) (gone_same (mid id) (new id) (subst (λ (n : ℕ). mid n ≡ None) e (was.gone x h)) step.gone)
+    gone x h (inl e) = subst (λ (n : ℕ). new n ≡ None) (sym e)
+        (gone_same (mid id) (new id) (subst (λ (n : ℕ). mid n ≡ None) e (was.gone x h)) step.gone)
     gone x h (inr ne) = step.others x ne ∙ was.gone x h
 
-    at_last : (x : ℕ) → (Contains ids x → ⊥) → x ≡ id → (new id ≡ mid id) ⊎ (new id ≡ None) → (new x ≡ old x) ⊎ (new x ≡ None) × IsFirstFree counts x
+    at_last : (x : ℕ) → (Contains ids x → ⊥) → x ≡ id → (new id ≡ mid id) ⊎ (new id ≡ None)
+        → (new x ≡ old x) ⊎ (new x ≡ None) × IsFirstFree counts x
     at_last x not e (inl same) = inl (ap new e ∙ same ∙ ap mid (sym e) ∙ was.others x not)
     at_last x not e (inr none) = inr (ap new e ∙ none, subst (IsFirstFree counts) (sym e) first)
 
-    others : (x : ℕ) → (Contains ids x → ⊥) → (x ≡ id) ⊎ (x ≢ id) → (new x ≡ old x) ⊎ (new x ≡ None) × IsFirstFree counts x
+    others : (x : ℕ) → (Contains ids x → ⊥) → (x ≡ id) ⊎ (x ≢ id)
+        → (new x ≡ old x) ⊎ (new x ≡ None) × IsFirstFree counts x
     others x not (inl e) = at_last x not e step.gone
     others x not (inr ne) = inl (step.others x ne ∙ was.others x not)
 

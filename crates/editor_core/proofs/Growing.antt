@@ -1,5 +1,6 @@
 -- A commit whose record was added: then the studio has another history.
-use Rattle.std.proofs.Common.{◌≡◌, ◌↔◌, inl, refl, sym, ap, ◌∙◌, subst, ℕ, ◌+◌, ◌-◌, ◌^◌, ◌≤◌, ◌<◌, IsTrue, List, ◌∷◌, [], ◌++◌, length, Option, None, IsSome, Ok, arith, if◌then◌else◌, ◌==◌}
+use Rattle.std.proofs.Common.{◌≡◌, ◌↔◌, inl, refl, sym, ap, ◌∙◌, subst, ℕ, ◌+◌, ◌-◌, ◌^◌, ◌≤◌, ◌<◌, IsTrue, List, ◌∷◌}
+use Rattle.std.proofs.Common.{[], ◌++◌, length, Option, None, IsSome, Ok, arith, if◌then◌else◌, ◌==◌}
 use Rattle.std.specs.List.{AllByRecursion}
 use Rattle.pcm_base.specs.declared.answer.Reply.TheVariants.{Done}
 use Rattle.pcm_base.specs.declared.block.BlockRef.{BlockRef}
@@ -25,7 +26,8 @@ use Rattle.project_state.specs.Kept.{Kept, new_project, LeadTo, meant_history, h
 use Rattle.project_state.specs.Spelling.{spelling}
 use Rattle.editor_core.specs.Adding.{Adds}
 use Rattle.editor_core.specs.Core.{Core}
-use Rattle.editor_core.specs.Studios.{IsDurable, IsHeld, IsStudio, clip_blocks, clip_cells, ids_of, named_blocks, pin_blocks, studio_by, studio_of}
+use Rattle.editor_core.specs.Studios.{IsDurable, IsHeld, IsStudio, clip_blocks, clip_cells, ids_of, named_blocks}
+use Rattle.editor_core.specs.Studios.{pin_blocks, studio_by, studio_of}
 use Rattle.editor_core.specs.Took.{Took}
 use Rattle.editor_core.proofs.Flights.{IsCommit, IsTested, flight, images_still, matches, passes, whole_still}
 use Rattle.editor_core.proofs.Grown.{LeadsOn, led_studio, named_led}
@@ -89,7 +91,8 @@ module _ {D : Type 0} {Has : Type 0} {disk : Ghosts D} {s : Core D} {made : List
     grown_named : (P : BlockRef → Type 0) → AllByRecursion P (named_blocks s ++ made)
         → AllByRecursion P (named_blocks grown)
     grown_named =
-        named_led disk s t.is made h clip track_then on mid.store (s.journal_end + 5 + len) end_then h' counts next_track moved
+        named_led disk s t.is made h clip track_then on mid.store
+        (s.journal_end + 5 + len) end_then h' counts next_track moved
         tracked counted files
 
     grown_end : mid.journal_end ≡ s.journal_end + 5 + len
@@ -113,7 +116,8 @@ module _ {D : Type 0} {Has : Type 0} {disk : Ghosts D} {s : Core D} {made : List
           log = log;
           kept = k;
           there =
-              subst (λ (n : ℕ). IsAt version_1 disk mid.store n log) grown_end (adds.done d.log (t.holds has).tells d.there);
+              subst (λ (n : ℕ). IsAt version_1 disk mid.store n log) grown_end
+              (adds.done d.log (t.holds has).tells d.there);
           told = subst (λ (z : Kept). LeadTo m (new_project d.log.depth) (d.log.bodies ++ spelling body ∷ []) z)
               (t.move.leads m d.kept (matches t d)) led;
           rate = d.rate;
@@ -143,12 +147,14 @@ module _ {D : Type 0} {Has : Type 0} {disk : Ghosts D} {s : Core D} {made : List
 
     grown_studio : IsStudio disk grown
     grown_studio =
-        led_studio disk s t.is made h clip track_then on mid.store (s.journal_end + 5 + len) end_then h' counts next_track moved
+        led_studio disk s t.is made h clip track_then on mid.store
+        (s.journal_end + 5 + len) end_then h' counts next_track moved
         tracked counted files
 
     pub grown_state : Has → studio_of disk grown ≡ followed out before c 0 len
     grown_state has =
-        let src = sources_elsewhere (disk.reads s.store) (disk.reads mid.store) (adds.changed.reads (t.holds has).tells) in
+        let src =
+        sources_elsewhere (disk.reads s.store) (disk.reads mid.store) (adds.changed.reads (t.holds has).tells) in
         let state : (studio_of disk grown).state ≡ after out before.state c =
         (λ i. record (studio_by (src i) disk s).state {
           history = meant_history (src i) (moved i);
@@ -188,7 +194,8 @@ module _ {D : Type 0} {Has : Type 0} {disk : Ghosts D} {s : Core D} {made : List
       len = len;
       needs = λ has. (0, t.move.needs has);
       changed =
-          changed_wider (others_record s.next_block s.next_block NoneGoes) (record_within s.block_size (s.next_block - s.next_block) len 0) adds.changed;
+          changed_wider (others_record s.next_block s.next_block NoneGoes)
+          (record_within s.block_size (s.next_block - s.next_block) len 0) adds.changed;
     }
 
 -- ---- of a studio that the disk holds

@@ -1,5 +1,6 @@
 -- The studio that a commit leads to is one, whatever the disk tells; and so is one that a failed change has stopped.
-use Rattle.std.proofs.Common.{◌≡◌, ◌↔◌, sym, ap, ◌∙◌, subst, ℕ, ◌+◌, ◌^◌, ◌≤◌, ◌<◌, List, ◌++◌, length, Option, IsSome, arith}
+use Rattle.std.proofs.Common.{◌≡◌, ◌↔◌, sym, ap, ◌∙◌, subst, ℕ, ◌+◌, ◌^◌, ◌≤◌, ◌<◌, List, ◌++◌, length, Option, IsSome}
+use Rattle.std.proofs.Common.{arith}
 use Rattle.std.specs.List.{AllByRecursion}
 use Rattle.pcm_base.specs.declared.block.BlockRef.{BlockRef}
 use Rattle.pcm_base.specs.History.{History}
@@ -19,7 +20,8 @@ use Rattle.editor_core.proofs.Images.{Covers}
 use Rattle.editor_core.proofs.Lists.{all_left, all_right, all_so}
 
 -- A history, a clipboard and a next track that a commit of the studio may lead to, where these blocks were made for it.
-pub record LeadsOn {D : Type 0} (s : Core D) (made : List BlockRef) (h : History (List Track)) (clip : Option (List (List Item)))
+pub record LeadsOn {D : Type 0} (s : Core D) (made : List BlockRef) (h : History (List Track))
+    (clip : Option (List (List Item)))
     (track_then : ℕ) : Type 1 where
   pub given : AllByRecursion (λ (b : BlockRef). IsGiven s.next_block b.id) made
   pub later : s.next_track ≤ track_then
@@ -62,11 +64,13 @@ module _ {D : Type 0} (disk : Ghosts D) (s : Core D) (is : IsStudio disk s) wher
     named_too P all =
         let pins = pin_blocks s.pins in
         let rest =
-        all_right P (history_blocks s.history) (pins ++ clip_blocks s.clipboard) (all_left P (named_blocks s) made all) in
+        all_right P (history_blocks s.history) (pins ++ clip_blocks s.clipboard)
+        (all_left P (named_blocks s) made all) in
         all_append P (history_blocks h) rest_then (on.covers P all)
         (all_append P pins (clip_blocks clip) (all_left P pins (clip_blocks s.clipboard) rest) (on.clip_covers P all))
 
-    module _ (store : D) (end : ℕ) (end_most : end ≤ 2 ^ 62) (h' : History (List Track)) (counts : Counts) (next_track : ℕ)
+    module _ (store : D) (end : ℕ) (end_most : end ≤ 2 ^ 62) (h' : History (List Track)) (counts : Counts)
+        (next_track : ℕ)
         (moved : h' ≡ h) (tracked : next_track ≡ track_then)
         (counted : IsFreshCount (ids_of (history_blocks h ++ rest_then)) counts)
         (files : (id : ℕ) → IsSome (counts id) ↔ IsSome (s.counts id)) where
@@ -127,6 +131,7 @@ module _ {D : Type 0} (disk : Ghosts D) (s : Core D) (is : IsStudio disk s) wher
         ids = named_led (λ (b : BlockRef). IsGiven s.next_block b.id)
             (all_append (λ (b : BlockRef). IsGiven s.next_block b.id) (named_blocks s) made is.ids on.given);
         counted = λ id.
-            counted id ∙ ap (λ (z : History (List Track)). times id (ids_of (history_blocks z ++ rest_then))) (sym moved);
+            counted id ∙ ap (λ (z : History (List Track)). times id (ids_of (history_blocks z ++ rest_then)))
+            (sym moved);
         given = λ id some. is.given id ((files id).0 some);
       }

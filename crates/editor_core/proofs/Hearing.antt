@@ -1,5 +1,6 @@
 -- Hearing frames of the mix of the current project, or of a pin.
-use Rattle.std.proofs.Common.{◌≡◌, ⊎_elim, refl, sym, ap, ◌∙◌, ℕ, zero, suc, ◌+◌, ◌-◌, min, IsTrue, List, length, length-drop, take, drop, Some, None, Ok, Err, arith}
+use Rattle.std.proofs.Common.{◌≡◌, ⊎_elim, refl, sym, ap, ◌∙◌, ℕ, zero, suc, ◌+◌, ◌-◌, min, IsTrue, List, length}
+use Rattle.std.proofs.Common.{length-drop, take, drop, Some, None, Ok, Err, arith}
 use Rattle.std.proofs.lemmas.Bool.{cases_lt}
 use Rattle.std.proofs.lemmas.List.{length-map, take_all}
 use Rattle.pcm_base.specs.declared.answer.Reply.TheVariants as reply
@@ -37,7 +38,8 @@ use Rattle.editor_core.proofs.Currents.{current_named}
 use Rattle.editor_core.proofs.Editing.{current_meant}
 use Rattle.editor_core.proofs.Looking.{looked_ok, looked_failed}
 use Rattle.editor_core.proofs.NamedDamage.{fault_among}
-use Rattle.editor_core.proofs.Quiet.{IsQuiet, quiet_passes, carried, room_of, refused_own, refused_stopped, stays_answered}
+use Rattle.editor_core.proofs.Quiet.{IsQuiet, quiet_passes, carried, room_of, refused_own, refused_stopped}
+use Rattle.editor_core.proofs.Quiet.{stays_answered}
 use Rattle.editor_core.proofs.Spaces.{fits}
 use Rattle.editor_core.proofs.Unpinning.{lacks_own, pin_meant, pin_named, has_own}
 
@@ -55,7 +57,8 @@ take_few n most xs few = ⊎_elim
     (cases_lt (length xs) most)
 
 -- so many frames, as many as there are
-pub as_many : (src : Sources) (ts : List Track) (from most n : ℕ) → n ≡ min most (mix_length_of ts - from) → mix_length (meant src ts) ≡ mix_length_of ts
+pub as_many : (src : Sources) (ts : List Track) (from most n : ℕ) → n ≡ min most (mix_length_of ts - from)
+    → mix_length (meant src ts) ≡ mix_length_of ts
     → take n (drop from (mix_of (meant src ts))) ≡ take most (drop from (mix_of (meant src ts)))
 as_many src ts from most n few len =
     let frames = mix_of (meant src ts) in
@@ -80,25 +83,31 @@ module _ {D : Type 0} (disk : Ghosts D) (s : Core D) (is : IsStudio disk s) (few
     pub mix_stopped : (faults : ℕ) → s.stopped ≡ Some faults → Took disk s mix silent (Err (refusal.Stopped faults)) 0 s
     mix_stopped faults stopped = refused_stopped disk s mix mix_quiet is fewer faults refl stopped
 
-    pub mix_beyond : (why : Refusal) → s.stopped ≡ None → bad_view from to ≡ Some why → Took disk s mix silent (Err why) 0 s
+    pub mix_beyond : (why : Refusal) → s.stopped ≡ None → bad_view from to ≡ Some why
+        → Took disk s mix silent (Err why) 0 s
     mix_beyond why going bad = refused_own disk s mix mix_quiet is fewer why (ap stop_of going) bad
 
     module _ (going : s.stopped ≡ None) (store : D) (kept : Kept disk s.store store) where
-      pub mix_done : (frames : List Frame) → bad_view from to ≡ None → disk.read_fault_count store ≡ disk.read_fault_count s.store
-          → (IsHeld disk s → frames ≡ part from to (mix_of (meant src (current_tracks s.history)))) → Took disk s mix silent (Ok (reply.Frames frames)) 0 (record s { store = store })
+      pub mix_done : (frames : List Frame) → bad_view from to ≡ None
+          → disk.read_fault_count store ≡ disk.read_fault_count s.store
+          → (IsHeld disk s → frames ≡ part from to (mix_of (meant src (current_tracks s.history))))
+          → Took disk s mix silent (Ok (reply.Frames frames)) 0 (record s { store = store })
       mix_done frames good faults heard =
           let room = room_of disk s mix is in
-          let passed = quiet_passes t mix mix_quiet room (ap stop_of going) good (fits s.next_pin 0 (omega (arith, is.counters.pin_most))) in
+          let passed = quiet_passes t mix mix_quiet room (ap stop_of going) good
+          (fits s.next_pin 0 (omega (arith, is.counters.pin_most))) in
           looked_ok disk s is store kept mix mix_quiet going (reply.Frames frames) faults
           (λ held. carried t mix mix_quiet room (reply.Frames frames) t passed
-          (ap reply.Frames (heard held ∙ ap (λ (p : Project). part from to (mix_of p)) (sym (current_meant disk s is)))) refl)
+          (ap reply.Frames (heard held ∙ ap (λ (p : Project). part from to (mix_of p)) (sym (current_meant disk s is))))
+          refl)
 
       pub mix_failed : (why : BlockFault) → CountedBy why (disk.read_fault_count s.store) (disk.read_fault_count store)
           → (IsTrue (disk.tells s.store) → IsFaultIn (disk.reads s.store) (point_blocks (current_tracks s.history)) why)
           → Took disk s mix silent (Err (reason_of why)) 0 (record s { store = store })
       mix_failed why counted damaged =
           looked_failed disk s is store kept mix mix_quiet going refl why counted
-          (λ told. reason_damaged (disk.reads s.store) (named_blocks s) why (fault_among (disk.reads s.store) (named_blocks s) (point_blocks (current_tracks s.history)) why (current_named disk s is) (damaged told)))
+          (λ told. reason_damaged (disk.reads s.store) (named_blocks s) why (fault_among (disk.reads s.store)
+          (named_blocks s) (point_blocks (current_tracks s.history)) why (current_named disk s is) (damaged told)))
 
   -- ---- a pin
 
@@ -106,19 +115,28 @@ module _ {D : Type 0} (disk : Ghosts D) (s : Core D) (is : IsStudio disk s) (few
     len_quiet : IsQuiet (PinLen pin)
     len_quiet = record { needs = λ t. (refl, refl); no_commit = refl; no_track = λ t. refl; quiet = λ t. refl }
 
-    pub len_stopped : (faults : ℕ) → s.stopped ≡ Some faults → Took disk s (PinLen pin) silent (Err (refusal.Stopped faults)) 0 s
+    pub len_stopped : (faults : ℕ) → s.stopped ≡ Some faults
+        → Took disk s (PinLen pin) silent (Err (refusal.Stopped faults)) 0 s
     len_stopped faults stopped = refused_stopped disk s (PinLen pin) len_quiet is fewer faults refl stopped
 
-    pub len_lacks : s.stopped ≡ None → LacksPin pin s.pins → Took disk s (PinLen pin) silent (Err (refusal.NoPin pin)) 0 s
-    len_lacks going lacks = refused_own disk s (PinLen pin) len_quiet is fewer (refusal.NoPin pin) (ap stop_of going) (lacks_own disk s is pin lacks)
+    pub len_lacks : s.stopped ≡ None → LacksPin pin s.pins
+        → Took disk s (PinLen pin) silent (Err (refusal.NoPin pin)) 0 s
+    len_lacks going lacks = refused_own disk s (PinLen pin) len_quiet is fewer (refusal.NoPin pin) (ap stop_of going)
+        (lacks_own disk s is pin lacks)
 
-    pub measured : s.stopped ≡ None → (point : List Track) (n : ℕ) → MayFind s.pins pin (Some point) → mix_length (meant src point) ≡ n
+    pub measured : s.stopped ≡ None → (point : List Track) (n : ℕ) → MayFind s.pins pin (Some point)
+        → mix_length (meant src point) ≡ n
         → Took disk s (PinLen pin) silent (Ok (reply.Length n)) 0 s
     measured going point n found len =
         let room = room_of disk s (PinLen pin) is in
-        let passed = quiet_passes t (PinLen pin) len_quiet room (ap stop_of going) (has_own disk s is pin point found) (fits s.next_pin 0 (omega (arith, is.counters.pin_most))) in
+        let passed = quiet_passes t (PinLen pin) len_quiet room (ap stop_of going) (has_own disk s is pin point found)
+        (fits s.next_pin 0 (omega (arith, is.counters.pin_most))) in
         stays_answered disk s (PinLen pin) len_quiet is fewer (reply.Length n)
-        (λ held. carried t (PinLen pin) len_quiet room (reply.Length n) t passed (meant src point, pin_meant disk s is pin point found, ap reply.Length (sym len)) refl)
+        (λ held. carried t (PinLen pin) len_quiet room (reply.Length n) t passed (
+          meant src point,
+          pin_meant disk s is pin point found,
+          ap reply.Length (sym len),
+        ) refl)
 
     module _ (from count : ℕ) where
       abbrev read : Call
@@ -127,24 +145,35 @@ module _ {D : Type 0} (disk : Ghosts D) (s : Core D) (is : IsStudio disk s) (few
       read_quiet : IsQuiet read
       read_quiet = record { needs = λ t. (refl, refl); no_commit = refl; no_track = λ t. refl; quiet = λ t. refl }
 
-      pub read_stopped : (faults : ℕ) → s.stopped ≡ Some faults → Took disk s read silent (Err (refusal.Stopped faults)) 0 s
+      pub read_stopped : (faults : ℕ) → s.stopped ≡ Some faults
+          → Took disk s read silent (Err (refusal.Stopped faults)) 0 s
       read_stopped faults stopped = refused_stopped disk s read read_quiet is fewer faults refl stopped
 
       pub read_lacks : s.stopped ≡ None → LacksPin pin s.pins → Took disk s read silent (Err (refusal.NoPin pin)) 0 s
-      read_lacks going lacks = refused_own disk s read read_quiet is fewer (refusal.NoPin pin) (ap stop_of going) (lacks_own disk s is pin lacks)
+      read_lacks going lacks = refused_own disk s read read_quiet is fewer (refusal.NoPin pin) (ap stop_of going)
+          (lacks_own disk s is pin lacks)
 
-      module _ (going : s.stopped ≡ None) (point : List Track) (found : MayFind s.pins pin (Some point)) (store : D) (kept : Kept disk s.store store) where
+      module _ (going : s.stopped ≡ None) (point : List Track) (found : MayFind s.pins pin (Some point)) (store : D)
+          (kept : Kept disk s.store store) where
         pub read_done : (frames : List Frame) → disk.read_fault_count store ≡ disk.read_fault_count s.store
-            → (IsHeld disk s → frames ≡ take count (drop from (mix_of (meant src point)))) → Took disk s read silent (Ok (reply.Frames frames)) 0 (record s { store = store })
+            → (IsHeld disk s → frames ≡ take count (drop from (mix_of (meant src point))))
+            → Took disk s read silent (Ok (reply.Frames frames)) 0 (record s { store = store })
         read_done frames faults heard =
             let room = room_of disk s read is in
-            let passed = quiet_passes t read read_quiet room (ap stop_of going) (has_own disk s is pin point found) (fits s.next_pin 0 (omega (arith, is.counters.pin_most))) in
+            let passed = quiet_passes t read read_quiet room (ap stop_of going) (has_own disk s is pin point found)
+            (fits s.next_pin 0 (omega (arith, is.counters.pin_most))) in
             looked_ok disk s is store kept read read_quiet going (reply.Frames frames) faults
-            (λ held. carried t read read_quiet room (reply.Frames frames) t passed (meant src point, pin_meant disk s is pin point found, ap reply.Frames (heard held)) refl)
+            (λ held. carried t read read_quiet room (reply.Frames frames) t passed (
+              meant src point,
+              pin_meant disk s is pin point found,
+              ap reply.Frames (heard held),
+            ) refl)
 
-        pub read_failed : (why : BlockFault) → CountedBy why (disk.read_fault_count s.store) (disk.read_fault_count store)
+        pub read_failed : (why : BlockFault)
+            → CountedBy why (disk.read_fault_count s.store) (disk.read_fault_count store)
             → (IsTrue (disk.tells s.store) → IsFaultIn (disk.reads s.store) (point_blocks point) why)
             → Took disk s read silent (Err (reason_of why)) 0 (record s { store = store })
         read_failed why counted damaged =
             looked_failed disk s is store kept read read_quiet going refl why counted
-            (λ told. reason_damaged (disk.reads s.store) (named_blocks s) why (fault_among (disk.reads s.store) (named_blocks s) (point_blocks point) why (pin_named disk s is pin point found) (damaged told)))
+            (λ told. reason_damaged (disk.reads s.store) (named_blocks s) why (fault_among (disk.reads s.store)
+            (named_blocks s) (point_blocks point) why (pin_named disk s is pin point found) (damaged told)))

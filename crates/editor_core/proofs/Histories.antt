@@ -1,5 +1,6 @@
 -- What holds of the points of a history with one more, and of its current one.
-use Rattle.std.proofs.Common.{◌≡◌, refl, ap, ◌∙◌, ℕ, ◌+◌, ◌-◌, ◌≤◌, List, [], ◌∷◌, ◌++◌, drop, length, length-append, arith}
+use Rattle.std.proofs.Common.{◌≡◌, refl, ap, ◌∙◌, ℕ, ◌+◌, ◌-◌, ◌≤◌, List, [], ◌∷◌, ◌++◌, drop, length, length-append}
+use Rattle.std.proofs.Common.{arith}
 use Rattle.std.proofs.lemmas.List.{drop-append-le, length-drop}
 use Rattle.std.specs.List.{AllByRecursion}
 use Rattle.pcm_base.specs.declared.block.BlockRef.{BlockRef}
@@ -51,20 +52,26 @@ pub all_edited : (Q : Tagged → Type 0) (h : History (List Track)) (p : List Tr
     → Q (p, tag) → AllByRecursion Q (edited h p tag).points
 all_edited Q h p tag all one = ending_all h (kept h) p tag Q (all_take Q (h.cursor + 1) h.points all) one
 
-pub blocks_edited : (P : BlockRef → Type 0) (h : History (List Track)) (p : List Track) (tag : ℕ) → AllByRecursion P (history_blocks h)
+pub blocks_edited : (P : BlockRef → Type 0) (h : History (List Track)) (p : List Track) (tag : ℕ)
+    → AllByRecursion P (history_blocks h)
     → AllByRecursion P (point_blocks p) → AllByRecursion P (history_blocks (edited h p tag))
 blocks_edited P h p tag all one =
     let old = all_each P (λ (q : List Track × ℕ). point_blocks q.0) h.points all in
-    all_joined P (λ (q : List Track × ℕ). point_blocks q.0) (edited h p tag).points (all_edited (λ q. AllByRecursion P (point_blocks q.0)) h p tag old one)
+    all_joined P (λ (q : List Track × ℕ). point_blocks q.0) (edited h p tag).points
+    (all_edited (λ q. AllByRecursion P (point_blocks q.0)) h p tag old one)
 
 -- ---- the current one
 
-first_all : (Q : List Track → Type 0) → Q [] → (ps : List (List Track × ℕ)) → AllByRecursion (λ p. Q p.0) ps → Q (first_tracks ps)
+first_all : (Q : List Track → Type 0) → Q [] → (ps : List (List Track × ℕ)) → AllByRecursion (λ p. Q p.0) ps
+    → Q (first_tracks ps)
 first_all Q none [] all = none
 first_all Q none (p ∷ ps) all = all.0
 
-pub current_all : (Q : List Track → Type 0) → Q [] → (h : History (List Track)) → AllByRecursion (λ p. Q p.0) h.points → Q (current_tracks h)
+pub current_all : (Q : List Track → Type 0) → Q [] → (h : History (List Track)) → AllByRecursion (λ p. Q p.0) h.points
+    → Q (current_tracks h)
 current_all Q none h all = first_all Q none (drop h.cursor h.points) (all_drop (λ p. Q p.0) h.cursor h.points all)
 
-pub current_blocks : (P : BlockRef → Type 0) (h : History (List Track)) → AllByRecursion P (history_blocks h) → AllByRecursion P (point_blocks (current_tracks h))
-current_blocks P h all = current_all (λ ts. AllByRecursion P (point_blocks ts)) tt h (all_each P (λ (q : List Track × ℕ). point_blocks q.0) h.points all)
+pub current_blocks : (P : BlockRef → Type 0) (h : History (List Track)) → AllByRecursion P (history_blocks h)
+    → AllByRecursion P (point_blocks (current_tracks h))
+current_blocks P h all = current_all (λ ts. AllByRecursion P (point_blocks ts)) tt h
+    (all_each P (λ (q : List Track × ℕ). point_blocks q.0) h.points all)

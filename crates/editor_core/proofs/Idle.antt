@@ -1,5 +1,6 @@
 -- Nothing was asked of the disk, or a record's append failed.
-use Rattle.std.proofs.Common.{◌≡◌, inl, refl, sym, ap, ◌∙◌, subst, ℕ, ◌+◌, ◌≤◌, IsTrue, List, length, Option, None, Some, Ok, Err, Result, IfOk, OnOk, OnErr, IsErrOf, arith}
+use Rattle.std.proofs.Common.{◌≡◌, inl, refl, sym, ap, ◌∙◌, subst, ℕ, ◌+◌, ◌≤◌, IsTrue, List, length, Option, None}
+use Rattle.std.proofs.Common.{Some, Ok, Err, Result, IfOk, OnOk, OnErr, IsErrOf, arith}
 use Rattle.pcm_base.specs.Causes.{Rose}
 use Rattle.pcm_base.specs.Sizes.{LONGEST_BODY}
 use Rattle.pcm_base.specs.declared.refusal.Refusal.{Refusal}
@@ -31,14 +32,16 @@ adds_nothing disk s body why fewer fields = record {
 }
 
 -- what refuses a record before the disk is asked
-pub exceeds : {D : Type 0} (R : Type 0) (disk : Ghosts D) (s : Core D) (len : ℕ) (why : Refusal) → Exceeds s.journal_end len why
+pub exceeds : {D : Type 0} (R : Type 0) (disk : Ghosts D) (s : Core D) (len : ℕ) (why : Refusal)
+    → Exceeds s.journal_end len why
     → Fields {R = R} disk s len (Err why) s
 exceeds R disk s len (refusal.SpaceSpent have need) h = (refl, h.0, h.1, h.2)
 exceeds R disk s len (refusal.RecordLimit n) h = (refl, h.0, h.1, h.2)
 exceeds R disk s len why h = absurd h
 
 -- it was a change that failed
-has_failed : {D : Type 0} (disk : Ghosts D) (old new : D) → HasFault disk old new → Rose (disk.change_fault_count old) (disk.change_fault_count new) → HasFailed disk old new
+has_failed : {D : Type 0} (disk : Ghosts D) (old new : D) → HasFault disk old new
+    → Rose (disk.change_fault_count old) (disk.change_fault_count new) → HasFailed disk old new
 has_failed disk old new has rose = record { rose = rose; later = has.later_changes }
 
 files_few : {A : Type 0} (o : Option A) → files_made o ≤ 1
@@ -58,48 +61,72 @@ module _ {D : Type 0} (disk : Ghosts D) (old : Core D) (store : D) (body : List 
     (any_moment : (log : Log) → IsTrue (disk.tells old.store) → IsAt version_1 disk old.store old.journal_end log
     → EachSince disk old.store store (HasOneOf version_1 log (with_body log body)))
     (changed : Changed disk (SameElsewhere 0) (append_room (disk.reads old.store 0) (length body)) old.store store)
-    (read_faults : disk.read_fault_count store ≡ disk.read_fault_count old.store) (short : length body ≤ LONGEST_BODY) where
+    (read_faults : disk.read_fault_count store ≡ disk.read_fault_count old.store)
+    (short : length body ≤ LONGEST_BODY) where
   record_changed : Changed disk (SameElsewhere 0) (record_room (length body)) old.store store
-  record_changed = changed_wider (λ d x w. w) (record { files = files_few (disk.reads old.store 0); bytes = omega arith; calls = omega arith }) changed
+  record_changed = changed_wider (λ d x w. w) (record {
+    files = files_few (disk.reads old.store 0);
+    bytes = omega arith;
+    calls = omega arith;
+  }) changed
 
-  frame : (result : Result (Unit {0}) Refusal) (new : Core D) → new.store ≡ store → Fields disk old (length body) result new
-      → ((log : Log) → IsTrue (disk.tells old.store) → IsAt version_1 disk old.store old.journal_end log → OnOk result (IsAt version_1 disk new.store new.journal_end (with_body log body)))
+  frame : (result : Result (Unit {0}) Refusal) (new : Core D) → new.store ≡ store
+      → Fields disk old (length body) result new
+      → ((log : Log) → IsTrue (disk.tells old.store) → IsAt version_1 disk old.store old.journal_end log
+      → OnOk result (IsAt version_1 disk new.store new.journal_end (with_body log body)))
       → Adds disk old body result new
   frame result new same fields done = record {
     fields = fields;
-    any_moment = λ log told here. subst (λ (z : D). EachSince disk old.store z (HasOneOf version_1 log (with_body log body))) (sym same) (any_moment log told here);
+    any_moment =
+        λ log told here. subst (λ (z : D). EachSince disk old.store z (HasOneOf version_1 log (with_body log body)))
+        (sym same) (any_moment log told here);
     done = done;
-    changed = subst (λ (z : D). Changed disk (SameElsewhere 0) (record_room (length body)) old.store z) (sym same) record_changed;
+    changed = subst (λ (z : D). Changed disk (SameElsewhere 0) (record_room (length body)) old.store z)
+        (sym same) record_changed;
     read_faults = ap disk.read_fault_count same ∙ read_faults;
   }
 
   -- by the result and the studio that are told
-  told_as : (result want : Result (Unit {0}) Refusal) (new is : Core D) → result ≡ want → new ≡ is → Adds disk old body want is → Adds disk old body result new
+  told_as : (result want : Result (Unit {0}) Refusal) (new is : Core D) → result ≡ want → new ≡ is
+      → Adds disk old body want is → Adds disk old body result new
   told_as result want new is p q adds =
-      subst (λ (r : Result (Unit {0}) Refusal). Adds disk old body r new) (sym p) (subst (λ (z : Core D). Adds disk old body want z) (sym q) adds)
+      subst (λ (r : Result (Unit {0}) Refusal). Adds disk old body r new) (sym p)
+      (subst (λ (z : Core D). Adds disk old body want z) (sym q) adds)
 
-  pub settled : (added : Result ℕ JournalFault) (result : Result (Unit {0}) Refusal) (new : Core D) → Appends old.journal_end (length body) added → Causes disk old.store store added
+  pub settled : (added : Result ℕ JournalFault) (result : Result (Unit {0}) Refusal) (new : Core D)
+      → Appends old.journal_end (length body) added → Causes disk old.store store added
       → (IsErrOf added journal.DiskFault → Rose (disk.change_fault_count old.store) (disk.change_fault_count store))
-      → ((log : Log) → IsTrue (disk.tells old.store) → IsAt version_1 disk old.store old.journal_end log → IfOk added (λ next. IsAt version_1 disk store next (with_body log body)))
-      → OnErr added ((IsErrOf added journal.DiskFault → ⊥) → store ≡ old.store) → Settles disk (record old { store = store }) added result new → Adds disk old body result new
+      → ((log : Log) → IsTrue (disk.tells old.store) → IsAt version_1 disk old.store old.journal_end log
+      → IfOk added (λ next. IsAt version_1 disk store next (with_body log body)))
+      → OnErr added ((IsErrOf added journal.DiskFault → ⊥) → store ≡ old.store)
+      → Settles disk (record old { store = store }) added result new → Adds disk old body result new
   settled (Ok next) result new answer cause rose done untouched by =
       let after : Core D = record old { store = store; journal_end = next; commit_number = old.commit_number + 1 } in
-      let fields : Fields {R = Unit {0}} disk old (length body) (Ok (tt {0})) after =
-      ((λ i. record old { store = store; journal_end = answer.0 i; commit_number = old.commit_number + 1 }), omega (arith, answer), cause.same_change_faults, short) in
+      let fields : Fields {R = Unit {0}} disk old (length body) (Ok (tt {0})) after = (
+        (λ i. record old { store = store; journal_end = answer.0 i; commit_number = old.commit_number + 1 }),
+        omega (arith, answer),
+        cause.same_change_faults,
+        short,
+      ) in
       told_as result (Ok (tt {0})) new after by.0 by.1 (frame (Ok (tt {0})) after refl fields done)
   settled (Err journal.DiskFault) result new answer cause rose done untouched by =
       let after : Core D = stopped_by disk old store in
-      let fields : Fields {R = Unit {0}} disk old (length body) (Err refusal.DiskFault) after = (refl, answer, has_failed disk old.store store cause (rose refl), short) in
-      told_as result (Err refusal.DiskFault) new after by.0 by.1 (frame (Err refusal.DiskFault) after refl fields (λ log told here. tt))
+      let fields : Fields {R = Unit {0}} disk old (length body) (Err refusal.DiskFault) after =
+      (refl, answer, has_failed disk old.store store cause (rose refl), short) in
+      told_as result (Err refusal.DiskFault) new after by.0 by.1
+      (frame (Err refusal.DiskFault) after refl fields (λ log told here. tt))
   settled (Err journal.NoMemory) result new answer cause rose done untouched by =
       let same : store ≡ old.store = untouched (λ e. subst is_memory e tt) in
       let after : Core D = record old { store = store } in
-      told_as result (Err refusal.NoMemory) new after by.0 by.1 (frame (Err refusal.NoMemory) after refl (λ i. record old { store = same i }) (λ log told here. tt))
+      told_as result (Err refusal.NoMemory) new after by.0 by.1
+      (frame (Err refusal.NoMemory) after refl (λ i. record old { store = same i }) (λ log told here. tt))
   settled (Err (journal.SpaceSpent have need)) result new answer cause rose done untouched by =
       let same : store ≡ old.store = untouched (λ e. subst is_space e tt) in
       let after : Core D = record old { store = store } in
-      let fields : Fields {R = Unit {0}} disk old (length body) (Err (refusal.SpaceSpent have need)) after = ((λ i. record old { store = same i }), answer.0, answer.1, answer.2) in
-      told_as result (Err (refusal.SpaceSpent have need)) new after by.0 by.1 (frame (Err (refusal.SpaceSpent have need)) after refl fields (λ log told here. tt))
+      let fields : Fields {R = Unit {0}} disk old (length body) (Err (refusal.SpaceSpent have need)) after =
+      ((λ i. record old { store = same i }), answer.0, answer.1, answer.2) in
+      told_as result (Err (refusal.SpaceSpent have need)) new after by.0 by.1
+      (frame (Err (refusal.SpaceSpent have need)) after refl fields (λ log told here. tt))
   settled (Err journal.Absent) result new answer cause rose done untouched by = absurd answer
   settled (Err journal.Exists) result new answer cause rose done untouched by = absurd answer
   settled (Err (journal.Damaged file at want have)) result new answer cause rose done untouched by = absurd answer

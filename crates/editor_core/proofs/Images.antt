@@ -13,9 +13,11 @@ use Rattle.project_journal.specs.Journal.{Log, HasLog, HasOneOf, with_body}
 use Rattle.project_journal.proofs.Kept.{each_has}
 use Rattle.project_state.specs.declared.body.Body.{Body}
 use Rattle.project_state.specs.declared.track.Track.{Track}
-use Rattle.project_state.specs.Kept.{Kept, new_project, after_body, IsNext, LeadTo, meant_history, history_blocks, Opened, Keeps}
+use Rattle.project_state.specs.Kept.{Kept, new_project, after_body, IsNext, LeadTo, meant_history, history_blocks}
+use Rattle.project_state.specs.Kept.{Opened, Keeps}
 use Rattle.editor_core.specs.Core.{Core}
-use Rattle.editor_core.specs.Studios.{IsGiven, SameBlocks, IsDurable, IsHeld, shown, studio_of, named_blocks, pin_blocks, clip_blocks}
+use Rattle.editor_core.specs.Studios.{IsGiven, SameBlocks, IsDurable, IsHeld, shown, studio_of, named_blocks}
+use Rattle.editor_core.specs.Studios.{pin_blocks, clip_blocks}
 use Rattle.editor_core.proofs.Leading.{lead_more}
 use Rattle.editor_core.proofs.Lists.{all_left}
 use Rattle.editor_core.proofs.Sounds.{same_history, all_sound, all_whole, blocks_same, trans_same}
@@ -30,16 +32,26 @@ opened_by src log k = record {
   commit = k.commit;
 }
 
-pub keeps_by : (log : Log) (k : Kept) (files c : Files) → HasLog version_1 log c → LeadTo log.block_size (new_project log.depth) log.bodies k
-    → SameBlocks (history_blocks k.history) files c → AllWhole files (history_blocks k.history) → Keeps c (opened_by (sources_of files) log k)
+pub keeps_by : (log : Log) (k : Kept) (files c : Files) → HasLog version_1 log c
+    → LeadTo log.block_size (new_project log.depth) log.bodies k
+    → SameBlocks (history_blocks k.history) files c → AllWhole files (history_blocks k.history)
+    → Keeps c (opened_by (sources_of files) log k)
 keeps_by log k files c has led same whole =
-    let means = sym (same_history (sources_of files) (sources_of c) k.history (all_sound files c (history_blocks k.history) same)) in record {
+    let means = sym (same_history (sources_of files) (sources_of c) k.history
+    (all_sound files c (history_blocks k.history) same)) in
+    record {
       log = log;
       kept = k;
       there = has;
       told = led;
       whole = all_whole files c (history_blocks k.history) same whole;
-      is = λ i. record { rate = log.rate; block_size = log.block_size; history = means i; next_track = k.next_track; commit = k.commit };
+      is = λ i. record {
+        rate = log.rate;
+        block_size = log.block_size;
+        history = means i;
+        next_track = k.next_track;
+        commit = k.commit;
+      };
     }
 
 -- all that holds of some blocks holds of those that a history names
@@ -52,28 +64,34 @@ module _ {D : Type 0} (disk : Ghosts D) (store new : D) (log : Log) (k : Kept) (
     (ids : AllByRecursion (λ (b : BlockRef). IsGiven next b.id) bs)
     (whole : AllWhole (disk.reads store) bs)
     (same : EachNow disk store (SameBlocks bs (disk.reads store)))
-    (follows : Follows (SameElsewhere 0) (disk.clock store) (disk.clock new) (disk.may_leave store) (disk.may_leave new)) where
+    (follows : Follows (SameElsewhere 0) (disk.clock store) (disk.clock new) (disk.may_leave store)
+    (disk.may_leave new)) where
   -- each image since then has the blocks
   pub same_since : EachSince disk store new (SameBlocks bs (disk.reads store))
   same_since c since =
       let d = follows.from c since in
       trans_same (disk.reads store) d.0 c bs (same d.0 d.1) (blocks_same d.0 c next bs d.2 ids)
 
-  pub one_of : (body : Body) (bytes : List ℕ) → IsNext log.block_size k bytes body → Covers bs k.history → Covers bs (after_body k body).history
+  pub one_of : (body : Body) (bytes : List ℕ) → IsNext log.block_size k bytes body → Covers bs k.history
+      → Covers bs (after_body k body).history
       → EachSince disk store new (HasOneOf version_1 log (with_body log bytes))
-      → EachSince disk store new (λ c. Keeps c (opened_by (sources_of (disk.reads store)) log k) ⊎ Keeps c (opened_by (sources_of (disk.reads store)) log (after_body k body)))
+      → EachSince disk store new (λ c. Keeps c (opened_by (sources_of (disk.reads store)) log k)
+      ⊎ Keeps c (opened_by (sources_of (disk.reads store)) log (after_body k body)))
   one_of body bytes follows_on old_covers new_covers any c since =
       let files = disk.reads store in
       let there = same_since c since in
       let led = lead_more log.block_size (new_project log.depth) k log.bodies bytes body told follows_on in
       ⊎_elim
-      (λ has. inl (keeps_by log k files c has told (old_covers (λ b. c b.id ≡ files b.id) there) (old_covers (IsWhole files) whole)))
-      (λ has. inr (keeps_by (with_body log bytes) (after_body k body) files c has led (new_covers (λ b. c b.id ≡ files b.id) there) (new_covers (IsWhole files) whole)))
+      (λ has. inl (keeps_by log k files c has told (old_covers (λ b. c b.id ≡ files b.id) there)
+      (old_covers (IsWhole files) whole)))
+      (λ has. inr (keeps_by (with_body log bytes) (after_body k body) files c has led
+      (new_covers (λ b. c b.id ≡ files b.id) there) (new_covers (IsWhole files) whole)))
       (any c since)
 
 -- at rest
 module _ {D : Type 0} (disk : Ghosts D) (s : Core D) where
-  pub shown_is : (d : IsDurable disk s) → opened_by (sources_of (disk.reads s.store)) d.log d.kept ≡ shown (studio_of disk s)
+  pub shown_is : (d : IsDurable disk s)
+      → opened_by (sources_of (disk.reads s.store)) d.log d.kept ≡ shown (studio_of disk s)
   shown_is d = λ i. record {
     rate = d.rate i;
     block_size = d.block_size i;

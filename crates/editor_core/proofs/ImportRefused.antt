@@ -1,5 +1,6 @@
 -- An import that reading the sound refuses.
-use Rattle.std.proofs.Common.{◌≡◌, inl, inr, refl, ap, subst, ℕ, ◌+◌, ℤ, Option, Some, None, List, Result, Ok, Err, arith}
+use Rattle.std.proofs.Common.{◌≡◌, inl, inr, refl, ap, subst, ℕ, ◌+◌, ℤ, Option, Some, None, List, Result, Ok, Err}
+use Rattle.std.proofs.Common.{arith}
 use Rattle.std.specs.Prelude.{IfErr}
 use Rattle.pcm_base.specs.declared.command.Call.{Call}
 use Rattle.pcm_base.specs.declared.command.Call.TheVariants.{Line}
@@ -29,7 +30,8 @@ counted_by : (why : Refusal) (old new : ℕ) → IsNoVault why → new ≡ old �
 counted_by refusal.VaultFault old new none same = absurd none
 counted_by why old new none same = same
 
-pub counted_so : {T : Type 0} (r : Result T Refusal) (old new : ℕ) → IfErr r IsNoVault → new ≡ old → VaultCounted r old new
+pub counted_so : {T : Type 0} (r : Result T Refusal) (old new : ℕ) → IfErr r IsNoVault → new ≡ old
+    → VaultCounted r old new
 counted_so (Ok x) old new none same = same
 counted_so (Err why) old new none same = counted_by why old new none same
 
@@ -42,11 +44,13 @@ import_plain NoMemory = tt
 import_plain Vault = tt
 
 -- a sound that was taken has these channels
-pub taken_has : (sound : Option (List ℕ)) (rate : ℕ) (wav : Wav) → IsTaken sound rate wav → HasChannels sound rate wav.channels
+pub taken_has : (sound : Option (List ℕ)) (rate : ℕ) (wav : Wav) → IsTaken sound rate wav
+    → HasChannels sound rate wav.channels
 taken_has None rate wav h = absurd h
 taken_has (Some bytes) rate wav h = subst (λ (r : ℕ). HasChannels (Some bytes) r wav.channels) h.1 h.0
 
-module _ {D : Type 0} (disk : Ghosts D) (s : Core D) (is : IsStudio disk s) (fewer : Fewer disk s.store) (name : List ℕ) (sound : Option (List ℕ)) where
+module _ {D : Type 0} (disk : Ghosts D) (s : Core D) (is : IsStudio disk s) (fewer : Fewer disk s.store) (name : List ℕ)
+    (sound : Option (List ℕ)) where
   abbrev call : Call
   call = Line (command.Import name)
 
@@ -59,25 +63,31 @@ module _ {D : Type 0} (disk : Ghosts D) (s : Core D) (is : IsStudio disk s) (few
   abbrev rest : Option Refusal
   rest = (counter_tests out t call 0 0) otherwise (record_test 0)
 
-  pub import_stopped : (faults : ℕ) → s.stopped ≡ Some faults → Took disk s call (left_as sound) (Err (refusal.Stopped faults)) 0 s
+  pub import_stopped : (faults : ℕ) → s.stopped ≡ Some faults
+      → Took disk s call (left_as sound) (Err (refusal.Stopped faults)) 0 s
   import_stopped faults at =
-      refuses disk s call (left_as sound) (refusal.Stopped faults) is fewer refl 0 0 (λ held. (omega arith, omega arith))
+      refuses disk s call (left_as sound) (refusal.Stopped faults) is fewer refl 0 0
+      (λ held. (omega arith, omega arith))
       (ap (λ (z : Option Refusal). z otherwise ((call_tests out t.state call) otherwise rest)) (ap stop_of at))
 
   module _ (going : s.stopped ≡ None) where
-    pub own_refused : (why : Refusal) → call_tests out t.state call ≡ Some why → Took disk s call (left_as sound) (Err why) 0 s
+    pub own_refused : (why : Refusal) → call_tests out t.state call ≡ Some why
+        → Took disk s call (left_as sound) (Err why) 0 s
     own_refused why test =
         refuses disk s call (left_as sound) why is fewer refl 0 0 (λ held. (omega arith, omega arith))
         (λ i. (stop_of (going i)) otherwise (test i) otherwise rest)
 
-    pub import_refused : (why : ImportFault) → IsRefused sound s.rate why → Took disk s call (left_as sound) (Err (import_refusal why)) 0 s
+    pub import_refused : (why : ImportFault) → IsRefused sound s.rate why
+        → Took disk s call (left_as sound) (Err (import_refusal why)) 0 s
     import_refused NoFile h = own_refused refusal.NoFile (h t.state)
     import_refused (BadWav fault) h = own_refused (refusal.BadWav fault) (h t.state)
     import_refused (RateDiffers have want) h = own_refused (refusal.RateDiffers have want) (h t.state)
-    import_refused NoMemory h = wants disk s call (left_as sound) is fewer refl 0 (λ held. (0, (omega arith, omega arith)))
+    import_refused NoMemory h =
+        wants disk s call (left_as sound) is fewer refl 0 (λ held. (0, (omega arith, omega arith)))
     import_refused Vault h =
         let none : s.next_block ≡ s.next_block + 0 = omega arith in
-        stays disk s call (left_as sound) refusal.VaultFault is fewer refl 0 tt (λ held. (0, (omega arith, omega arith))) (λ held. inr (
+        stays disk s call (left_as sound) refusal.VaultFault is fewer refl 0 tt
+        (λ held. (0, (omega arith, omega arith))) (λ held. inr (
           refl,
           record {
             breaks = record {

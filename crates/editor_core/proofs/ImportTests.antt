@@ -1,5 +1,7 @@
 -- What is known of the numbers of samples of channels that no test refuses.
-use Rattle.std.proofs.Common.{◌≡◌, ⊎_elim, refl, sym, ap, ◌∙◌, subst, ℕ, zero, suc, ◌+◌, ◌-◌, ◌*◌, ◌/◌, ◌^◌, ◌≤◌, ◌<◌, nat_lt, Bool, true, false, Option, Some, None, List, [], ◌∷◌, ◌++◌, length, take, slice_index_or, arith}
+use Rattle.std.proofs.Common.{◌≡◌, ⊎_elim, refl, sym, ap, ◌∙◌, subst, ℕ, zero, suc, ◌+◌, ◌-◌, ◌*◌, ◌/◌, ◌^◌, ◌≤◌, ◌<◌}
+use Rattle.std.proofs.Common.{nat_lt, Bool, true, false, Option, Some, None, List, [], ◌∷◌, ◌++◌, length, take}
+use Rattle.std.proofs.Common.{slice_index_or, arith}
 use Rattle.std.proofs.lemmas.Bool.{cases_lt, lt-ltb}
 use Rattle.std.proofs.lemmas.Option.{none-some}
 use Rattle.std.proofs.lemmas.List.{length-take}
@@ -27,23 +29,28 @@ not_refused m n why e = ⊎_elim
     (λ few. few)
     (cases_lt m n)
 
-pub channels_pass : (tracks : ℕ) (counts : List ℕ) → channels_refusal tracks counts ≡ None → (tracks + length counts ≤ 64) × (length_limit counts ≡ None)
+pub channels_pass : (tracks : ℕ) (counts : List ℕ) → channels_refusal tracks counts ≡ None
+    → (tracks + length counts ≤ 64) × (length_limit counts ≡ None)
 channels_pass tracks counts e =
     let both = both_none (refused_if (nat_lt 64 (tracks + length counts)) refusal.TrackLimit) (length_limit counts) e in
     (not_refused 64 (tracks + length counts) refusal.TrackLimit both.0, both.1)
 
-pub short_at : (counts : List ℕ) (i : ℕ) → length_limit counts ≡ None → i < length counts → length_limit (slice_index_or counts i 0 ∷ []) ≡ None
+pub short_at : (counts : List ℕ) (i : ℕ) → length_limit counts ≡ None → i < length counts
+    → length_limit (slice_index_or counts i 0 ∷ []) ≡ None
 short_at [] i e less = absurd (omega (arith, less))
 short_at (n ∷ ns) zero e less =
     let first = (both_none (refused_if (nat_lt (2 ^ 32) n) (refusal.LengthLimit n)) (length_limit ns) e).0 in
     ap (λ (z : Option Refusal). z otherwise None) first
 short_at (n ∷ ns) (suc i) e less =
-    short_at ns i (both_none (refused_if (nat_lt (2 ^ 32) n) (refusal.LengthLimit n)) (length_limit ns) e).1 (omega (arith, less))
+    short_at ns i (both_none (refused_if (nat_lt (2 ^ 32) n) (refusal.LengthLimit n)) (length_limit ns) e).1
+    (omega (arith, less))
 
 short_is : (n : ℕ) → length_limit (n ∷ []) ≡ None → n ≤ 2 ^ 32
-short_is n e = not_refused (2 ^ 32) n (refusal.LengthLimit n) (both_none (refused_if (nat_lt (2 ^ 32) n) (refusal.LengthLimit n)) None e).0
+short_is n e = not_refused (2 ^ 32) n (refusal.LengthLimit n)
+    (both_none (refused_if (nat_lt (2 ^ 32) n) (refusal.LengthLimit n)) None e).0
 
-total_short : (counts : List ℕ) (i : ℕ) → length_limit counts ≡ None → total_of (take i counts) ≤ length counts * 4294967296
+total_short : (counts : List ℕ) (i : ℕ) → length_limit counts ≡ None
+    → total_of (take i counts) ≤ length counts * 4294967296
 total_short [] zero e = omega arith
 total_short [] (suc i) e = omega arith
 total_short (n ∷ ns) zero e = omega arith
@@ -57,7 +64,8 @@ total_part [] (suc i) = omega arith
 total_part (n ∷ ns) zero = omega arith
 total_part (n ∷ ns) (suc i) = omega (arith, total_part ns i)
 
-pub take_more : (counts : List ℕ) (i : ℕ) → i < length counts → take (i + 1) counts ≡ take i counts ++ slice_index_or counts i 0 ∷ []
+pub take_more : (counts : List ℕ) (i : ℕ) → i < length counts
+    → take (i + 1) counts ≡ take i counts ++ slice_index_or counts i 0 ∷ []
 take_more [] i less = absurd (omega (arith, less))
 take_more (n ∷ ns) zero less = refl
 take_more (n ∷ ns) (suc i) less =
@@ -76,24 +84,38 @@ below_later id later (x ∷ xs) le a = (omega (arith, a.0, le), below_later id l
 
 -- ---- what grows
 
-module _ (m next id : ℕ) (counts : List ℕ) (old : List Track) (i : ℕ) (g : Growing) (was : AreGrown m next id (take i counts) old g) (pass : length_limit counts ≡ None) where
+module _ (m next id : ℕ) (counts : List ℕ) (old : List Track) (i : ℕ) (g : Growing)
+    (was : AreGrown m next id (take i counts) old g) (pass : length_limit counts ≡ None) where
   pub brought_few : i < length counts → length counts ≤ 64 → g.brought + slice_index_or counts i 0 ≤ 2 ^ 62
-  brought_few less few = omega (arith, was.brought, total_short counts i pass, short_is (slice_index_or counts i 0) (short_at counts i pass less), few)
+  brought_few less few = omega (
+    arith,
+    was.brought,
+    total_short counts i pass,
+    short_is (slice_index_or counts i 0) (short_at counts i pass less),
+    few,
+  )
 
   pub grown_below : (n : ℕ) → n ≡ id + i → i ≤ length counts → AllBelow id old → AllBelow n g.point
   grown_below n same less below =
       let len = length-take i counts in
       let news = below_later (id + length (take i counts)) n was.news (omega (arith, same, len, less))
       (given_below m (next + length g.makes.items) (id + length (take i counts)) was.news was.sound) in
-      subst (AllBelow n) (sym was.point) (below_append n old was.news (below_later id n old (omega (arith, same)) below) news)
+      subst (AllBelow n) (sym was.point)
+      (below_append n old was.news (below_later id n old (omega (arith, same)) below) news)
 
   pub ids_spent : 0 < m → 2 ^ 62 < g.next → NoChannelsPlan m next counts (refusal.SpaceSpent next (g.next - next))
   ids_spent some spent =
-      let part : total_of (take i counts) / m ≤ total_of counts / m = le-div (total_of (take i counts) / m) (total_of counts) m some (omega (arith, div-mul-le_self (total_of (take i counts)) m, total_part counts i)) in
-      (refl, omega (arith, was.few, was.next_is, length-take i counts, part, ap (λ (k : ℕ). k / m) was.brought), omega (arith, was.next_is, spent))
+      let part : total_of (take i counts) / m ≤ total_of counts / m = le-div (total_of (take i counts) / m)
+      (total_of counts) m some (omega (arith, div-mul-le_self (total_of (take i counts)) m, total_part counts i)) in (
+        refl,
+        omega (arith, was.few, was.next_is, length-take i counts, part, ap (λ (k : ℕ). k / m) was.brought),
+        omega (arith, was.next_is, spent),
+      )
 
-pub all_grown : (m next id : ℕ) (counts : List ℕ) (old : List Track) (i : ℕ) (g : Growing) (p : Planned) → AreGrown m next id (take i counts) old g
-    → take i counts ≡ counts → p.point ≡ g.point → p.makes ≡ g.makes.items → p.next ≡ g.next → p.tracks ≡ length counts → IsChannelsPlan m next id counts old p
+pub all_grown : (m next id : ℕ) (counts : List ℕ) (old : List Track) (i : ℕ) (g : Growing) (p : Planned)
+    → AreGrown m next id (take i counts) old g
+    → take i counts ≡ counts → p.point ≡ g.point → p.makes ≡ g.makes.items → p.next ≡ g.next → p.tracks ≡ length counts
+    → IsChannelsPlan m next id counts old p
 all_grown m next id counts old i g p grown all point makes at tracks = record {
   grown = g;
   are = subst (λ (ns : List ℕ). AreGrown m next id ns old g) all grown;

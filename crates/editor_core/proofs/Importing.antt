@@ -1,5 +1,6 @@
 -- A project that grows by a track for each channel.
-use Rattle.std.proofs.Common.{◌≡◌, refl, sym, ap, ◌∙◌, subst, ℕ, zero, suc, ◌+◌, ◌*◌, ◌/◌, ◌^◌, ◌≤◌, ◌<◌, ℤ, List, [], ◌∷◌, ◌++◌, append_assoc, length, Contains, length-append, arith}
+use Rattle.std.proofs.Common.{◌≡◌, refl, sym, ap, ◌∙◌, subst, ℕ, zero, suc, ◌+◌, ◌*◌, ◌/◌, ◌^◌, ◌≤◌, ◌<◌, ℤ, List, []}
+use Rattle.std.proofs.Common.{◌∷◌, ◌++◌, append_assoc, length, Contains, length-append, arith}
 use Rattle.std.specs.List.{AllByRecursion}
 use Rattle.std.proofs.lemmas.List.{append-nil}
 use Rattle.std.proofs.lemmas.List.Elements.{Contains-append_left, Contains-append_right}
@@ -49,28 +50,38 @@ parts_length given from [] = refl
 parts_length given from (n ∷ ns) = omega (arith, parts_length given (from + n) ns)
 
 parts_more : (given : ℕ → ℤ) (from : ℕ) (counts : List ℕ) (count : ℕ)
-    → parts_from given from (counts ++ count ∷ []) ≡ parts_from given from counts ++ stretch given (from + total_of counts) count ∷ []
-parts_more given from [] count = let same : from ≡ from + 0 = omega arith in ap (λ (k : ℕ). stretch given k count ∷ []) same
+    → parts_from given from (counts ++ count ∷ []) ≡ parts_from given from counts
+    ++ stretch given (from + total_of counts) count ∷ []
+parts_more given from [] count =
+    let same : from ≡ from + 0 = omega arith in
+    ap (λ (k : ℕ). stretch given k count ∷ []) same
 parts_more given from (n ∷ ns) count =
     let same : from + n + total_of ns ≡ from + (n + total_of ns) = omega arith in
     ap (λ (z : List (List ℤ)). stretch given from n ∷ z)
-    (parts_more given (from + n) ns count ∙ ap (λ (k : ℕ). parts_from given (from + n) ns ++ stretch given k count ∷ []) same)
+    (parts_more given (from + n) ns count
+    ∙ ap (λ (k : ℕ). parts_from given (from + n) ns ++ stretch given k count ∷ []) same)
 
 tracks_more : (id : ℕ) (channels : List (List ℤ)) (channel : List ℤ)
-    → channel_tracks id (channels ++ channel ∷ []) ≡ channel_tracks id channels ++ new_track (id + length channels) (as_cells channel) ∷ []
-tracks_more id [] channel = let same : id ≡ id + 0 = omega arith in ap (λ (k : ℕ). new_track k (as_cells channel) ∷ []) same
+    → channel_tracks id (channels ++ channel ∷ []) ≡ channel_tracks id channels
+    ++ new_track (id + length channels) (as_cells channel) ∷ []
+tracks_more id [] channel =
+    let same : id ≡ id + 0 = omega arith in
+    ap (λ (k : ℕ). new_track k (as_cells channel) ∷ []) same
 tracks_more id (c ∷ cs) channel =
     let same : id + 1 + length cs ≡ id + suc (length cs) = omega arith in
     ap (λ (z : Project). new_track id (as_cells c) ∷ z)
-    (tracks_more (id + 1) cs channel ∙ ap (λ (k : ℕ). channel_tracks (id + 1) cs ++ new_track k (as_cells channel) ∷ []) same)
+    (tracks_more (id + 1) cs channel
+    ∙ ap (λ (k : ℕ). channel_tracks (id + 1) cs ++ new_track k (as_cells channel) ∷ []) same)
 
-meant_more : (src : Sources) (ts : List Track) (t : Track) → meant src (ts ++ t ∷ []) ≡ meant src ts ++ meant_track src t ∷ []
+meant_more : (src : Sources) (ts : List Track) (t : Track)
+    → meant src (ts ++ t ∷ []) ≡ meant src ts ++ meant_track src t ∷ []
 meant_more src [] t = refl
 meant_more src (x ∷ xs) t = ap (λ (z : Project). meant_track src x ∷ z) (meant_more src xs t)
 
 -- ---- blocks behind others
 
-new_append : (m next : ℕ) (xs ys : List NewBlock) → AreNew m next xs → AreNew m (next + length xs) ys → AreNew m next (xs ++ ys)
+new_append : (m next : ℕ) (xs ys : List NewBlock) → AreNew m next xs → AreNew m (next + length xs) ys
+    → AreNew m next (xs ++ ys)
 new_append m next [] ys a b = let same : next + 0 ≡ next = omega arith in subst (λ (k : ℕ). AreNew m k ys) same b
 new_append m next (x ∷ xs) ys a b =
     let same : next + suc (length xs) ≡ next + 1 + length xs = omega arith in
@@ -83,9 +94,11 @@ pieces_later count later (Scaled b lo hi gain ∷ ps) le h = (h.0, pieces_later 
 pieces_later count later (Zero len ∷ ps) le h = (tt, pieces_later count later ps le h.1)
 pieces_later count later (Given lo hi ∷ ps) le h = (omega (arith, le, h.0), pieces_later count later ps le h.1)
 
-origin_append : (count later : ℕ) (xs ys : List NewBlock) → count ≤ later → AllNewFrom [] count xs → AllNewFrom [] later ys → AllNewFrom [] later (xs ++ ys)
+origin_append : (count later : ℕ) (xs ys : List NewBlock) → count ≤ later → AllNewFrom [] count xs
+    → AllNewFrom [] later ys → AllNewFrom [] later (xs ++ ys)
 origin_append count later [] ys le a b = b
-origin_append count later (x ∷ xs) ys le a b = (pieces_later count later x.pieces le a.0, origin_append count later xs ys le a.1 b)
+origin_append count later (x ∷ xs) ys le a b =
+    (pieces_later count later x.pieces le a.0, origin_append count later xs ys le a.1 b)
 
 written_left : (src : Sources) (xs ys : List NewBlock) → AreWritten src (xs ++ ys) → AreWritten src xs
 written_left src [] ys h = tt
@@ -101,7 +114,8 @@ refs_append (x ∷ xs) ys = ap (λ (z : List BlockRef). ref_of x ∷ z) (refs_ap
 
 -- ---- none
 
-pub grown_none : (m next id : ℕ) (old : List Track) (g : Growing) → g.point ≡ old → g.makes.items ≡ [] → g.next ≡ next → g.brought ≡ 0 → AreGrown m next id [] old g
+pub grown_none : (m next id : ℕ) (old : List Track) (g : Growing) → g.point ≡ old → g.makes.items ≡ [] → g.next ≡ next
+    → g.brought ≡ 0 → AreGrown m next id [] old g
 grown_none m next id old g point makes first brought = record {
   news = [];
   point = point ∙ sym (append-nil old);
@@ -120,10 +134,13 @@ grown_none m next id old g point makes first brought = record {
 -- ---- one more
 
 div_more : (a b m : ℕ) → 0 < m → a / m + b / m ≤ (a + b) / m
-div_more a b m some = le-div (a / m + b / m) (a + b) m some (omega (arith, add-mul (a / m) (b / m) m, div-mul-le_self a m, div-mul-le_self b m))
+div_more a b m some = le-div (a / m + b / m) (a + b) m some
+    (omega (arith, add-mul (a / m) (b / m) m, div-mul-le_self a m, div-mul-le_self b m))
 
-module _ (m next id : ℕ) (some : 0 < m) (least : 16 ≤ next) (first : 1 ≤ id) (counts : List ℕ) (count : ℕ) (few : length counts < 64)
-    (old : List Track) (g h : Growing) (was : AreGrown m next id counts old g) (a : AddsChannel m (id + length counts) count g h) where
+module _ (m next id : ℕ) (some : 0 < m) (least : 16 ≤ next) (first : 1 ≤ id) (counts : List ℕ) (count : ℕ)
+    (few : length counts < 64)
+    (old : List Track) (g h : Growing) (was : AreGrown m next id counts old g)
+    (a : AddsChannel m (id + length counts) count g h) where
   abbrev t : Track
   t = track_with (id + length counts) a.plan.layout
 
@@ -167,24 +184,35 @@ module _ (m next id : ℕ) (some : 0 < m) (least : 16 ≤ next) (first : 1 ≤ i
 
   old_sound : AllSoundTracks m next' track' was.news
   old_sound =
-      (tagged_more m (next + length xs) (id + length counts) 0 next' track' 0 (was.news, 0) (omega (arith, long)) (omega (arith, more)) (omega arith)
-      (record { few = omega (arith, few, was.many); rising = above_less 1 id was.news first was.ids; sound = was.sound }, omega arith)).0.sound
+      (tagged_more m (next + length xs) (id + length counts) 0 next' track' 0 (was.news, 0) (omega (arith, long))
+      (omega (arith, more)) (omega arith) (
+        record {
+          few = omega (arith, few, was.many);
+          rising = above_less 1 id was.news first was.ids;
+          sound = was.sound;
+        },
+        omega arith,
+      )).0.sound
 
   every_names : AreAmong (refs xs ++ refs ys) (point_blocks (was.news ++ t ∷ []))
   every_names =
       let every = refs xs ++ refs ys in
       let C : BlockRef → Type 0 = Contains every in
-      let before = all_so (Contains (refs xs)) C (λ b k. Contains-append_left (refs xs) (refs ys) b k) (point_blocks was.news) was.names in
-      let mine = all_so (Contains (refs ys)) C (λ b k. Contains-append_right (refs xs) (refs ys) b k) (refs ys) (among_itself (refs ys)) in
+      let before = all_so (Contains (refs xs)) C (λ b k. Contains-append_left (refs xs) (refs ys) b k)
+      (point_blocks was.news) was.names in
+      let mine = all_so (Contains (refs ys)) C (λ b k. Contains-append_right (refs xs) (refs ys) b k) (refs ys)
+      (among_itself (refs ys)) in
       let new = old_or_new C [] (layout_blocks a.plan.layout) ys a.is.plan.blocks tt mine in
       subst (AllByRecursion C) (sym (flat_map-append (λ (x : Track). layout_blocks x.layout) was.news (t ∷ [])))
-      (all_append C (point_blocks was.news) (point_blocks (t ∷ [])) before (all_append C (layout_blocks a.plan.layout) [] new tt))
+      (all_append C (point_blocks was.news) (point_blocks (t ∷ [])) before
+      (all_append C (layout_blocks a.plan.layout) [] new tt))
 
   track_means : (block : ℕ → ℕ → ℤ) (brings : ℕ → ℤ) → AreWritten (beside block brings) ys
       → meant_track (alone block) t ≡ new_track (id + length counts) (as_cells (stretch brings (total_of counts) count))
   track_means block brings written =
       let cells : layout_cells (alone block) a.plan.layout ≡ as_cells (stretch brings (total_of counts) count) =
-      layout_given block brings t ∙ a.is.means (beside block brings) written ∙ ap (λ (k : ℕ). as_cells (stretch brings k count)) was.brought in
+      layout_given block brings t ∙ a.is.means (beside block brings) written
+      ∙ ap (λ (k : ℕ). as_cells (stretch brings k count)) was.brought in
       ap (new_track (id + length counts)) cells
 
   all_mean : (block : ℕ → ℕ → ℤ) (brings : ℕ → ℤ) → AreWritten (beside block brings) (xs ++ ys)
@@ -206,7 +234,8 @@ module _ (m next id : ℕ) (some : 0 < m) (least : 16 ≤ next) (first : 1 ≤ i
   grown_more = record {
     news = was.news ++ t ∷ [];
     point = a.point ∙ ap (λ (z : List Track). z ++ t ∷ []) was.point ∙ append_assoc old was.news (t ∷ []);
-    ids = more_rising id was.news t was.ids (given_below m (next + length xs) (id + length counts) was.news was.sound) (omega arith);
+    ids = more_rising id was.news t was.ids (given_below m (next + length xs) (id + length counts) was.news was.sound)
+        (omega arith);
     many = omega (arith, length-append was.news (t ∷ []), more, was.many);
     sound = more_sound m next' track' was.news t old_sound new_sound;
     new = subst (AreNew m next) (sym a.makes) (new_append m next xs ys was.new ys_new);
@@ -214,8 +243,10 @@ module _ (m next id : ℕ) (some : 0 < m) (least : 16 ≤ next) (first : 1 ≤ i
         (origin_append g.brought h.brought xs ys (omega (arith, a.brought)) was.origin
         (subst (λ (k : ℕ). AllNewFrom [] k ys) (sym a.brought) a.is.plan.origin));
     names = subst (λ (bs : List NewBlock). AreAmong (refs bs) (point_blocks (was.news ++ t ∷ []))) (sym a.makes)
-        (subst (λ (every : List BlockRef). AreAmong every (point_blocks (was.news ++ t ∷ []))) (sym (refs_append xs ys)) every_names);
-    few = omega (arith, long, more, was.few, a.is.few, div_more g.brought count m some, ap (λ (k : ℕ). k / m) a.brought);
+        (subst (λ (every : List BlockRef). AreAmong every (point_blocks (was.news ++ t ∷ [])))
+        (sym (refs_append xs ys)) every_names);
+    few =
+        omega (arith, long, more, was.few, a.is.few, div_more g.brought count m some, ap (λ (k : ℕ). k / m) a.brought);
     next_is = omega (arith, a.next, a.is.plan.next_id, was.next_is, long);
     brought = a.brought ∙ ap (λ (k : ℕ). k + count) was.brought ∙ sym (total_more counts count);
     means = λ block brings written. all_mean block brings (subst (AreWritten (beside block brings)) a.makes written);

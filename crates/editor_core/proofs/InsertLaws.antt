@@ -1,5 +1,6 @@
 -- Samples put in at a place of a track or at its end: the calls that ask for them, and what a plan of them means.
-use Rattle.std.proofs.Common.{◌≡◌, ◌∙◌, refl, sym, ap, subst, ℕ, ◌+◌, ◌^◌, nat_lt, ℤ, pos, Bool, true, false, None, List, [], ◌∷◌, ◌++◌, length, take, drop, get_or, Result, Ok, Err, IfOk, arith}
+use Rattle.std.proofs.Common.{◌≡◌, ◌∙◌, refl, sym, ap, subst, ℕ, ◌+◌, ◌^◌, nat_lt, ℤ, pos, Bool, true, false, None}
+use Rattle.std.proofs.Common.{List, [], ◌∷◌, ◌++◌, length, take, drop, get_or, Result, Ok, Err, IfOk, arith}
 use Rattle.std.proofs.lemmas.List.{append-nil, drop_all, take_all}
 use Rattle.pcm_base.specs.declared.command.Call.TheVariants as call
 use Rattle.pcm_base.specs.declared.command.Command.TheVariants as command
@@ -53,7 +54,8 @@ end_cells count cs (Ok p) is means = λ src written.
     let long : length cells ≡ end_of 0 cs = length-layout src cs is.apart in
     means src written ∙ ap (λ (k : ℕ). inserted k xs cells) (sym long) ∙ inserted_end cells xs
 
-pub end_test : (count len : ℕ) (r : Result Plan Refusal) → AnswersTest (length_limit (inserted_length len count len ∷ [])) r → AnswersTest (place_test End count len) r
+pub end_test : (count len : ℕ) (r : Result Plan Refusal)
+    → AnswersTest (length_limit (inserted_length len count len ∷ [])) r → AnswersTest (place_test End count len) r
 end_test count len r tests =
     let same : inserted_length len count len ≡ len + count = omega arith in
     subst (λ (k : ℕ). AnswersTest (length_limit (k ∷ [])) r) same tests
@@ -67,7 +69,8 @@ TestsPlace count cs r place = AnswersTest (place_test place count (end_of 0 cs))
 -- ---- what refuses it tells of no damaged file
 
 limit_tells : (len : ℕ) → TellsNone (length_limit (len ∷ []))
-limit_tells len = either_tells (refused_if (nat_lt (2 ^ 32) len) (refusal.LengthLimit len)) None (by (nat_lt (2 ^ 32) len)) tt
+limit_tells len =
+    either_tells (refused_if (nat_lt (2 ^ 32) len) (refusal.LengthLimit len)) None (by (nat_lt (2 ^ 32) len)) tt
   where
     by : (b : Bool) → TellsNone (refused_if b (refusal.LengthLimit len))
     by true = tt
@@ -80,11 +83,13 @@ place_tells End count len = limit_tells (len + count)
 -- ---- the calls
 
 -- (what is brought is given by its places, as the code has it)
-module _ (xs : List ℤ) (given : brings.Given) (is : brought given ≡ (λ i. get_or xs i (pos 0))) (count : brought_count given ≡ length xs) where
+module _ (xs : List ℤ) (given : brings.Given) (is : brought given ≡ (λ i. get_or xs i (pos 0)))
+    (count : brought_count given ≡ length xs) where
   same : stretch (brought given) 0 (brought_count given) ≡ xs
   same = (λ i. stretch (is i) 0 (count i)) ∙ samples_brought xs
 
-  pub put_call : (id at : ℕ) → IsTrackCall (call.Line (command.Put id at xs)) silent (place_edit (At at) (brought_count given)) given id 0
+  pub put_call : (id at : ℕ)
+      → IsTrackCall (call.Line (command.Put id at xs)) silent (place_edit (At at) (brought_count given)) given id 0
   put_call id at =
       let line = call.Line (command.Put id at xs) in record {
         call = record {
@@ -99,14 +104,17 @@ module _ (xs : List ℤ) (given : brings.Given) (is : brought given ≡ (λ i. g
             quiet = refl;
             done = λ rate s. refl;
           };
-          needs = λ rate t blocks len h. subst (λ (k : ℕ). EditNeeds (blocks_of_samples t.block_size k) (outside_at rate silent) t line blocks len) count h;
-          needed = λ rate t blocks len h. subst (λ (k : ℕ). EditNeeds (blocks_of_samples t.block_size k) (outside_at rate silent) t line blocks len) (sym count) h;
+          needs = λ rate t blocks len h. subst (λ (k : ℕ).
+              EditNeeds (blocks_of_samples t.block_size k) (outside_at rate silent) t line blocks len) count h;
+          needed = λ rate t blocks len h. subst (λ (k : ℕ).
+              EditNeeds (blocks_of_samples t.block_size k) (outside_at rate silent) t line blocks len) (sym count) h;
         };
         own = λ out s. λ i. insert_tests s id at (sym count i);
         after_is = λ out s. λ i. with_project s (edited_at id (inserted at (as_cells (sym same i))) (current s));
       }
 
-  pub piece_call : (id tag : ℕ) → IsTrackCall (call.Piece id tag xs) silent (place_edit End (brought_count given)) given id tag
+  pub piece_call : (id tag : ℕ)
+      → IsTrackCall (call.Piece id tag xs) silent (place_edit End (brought_count given)) given id tag
   piece_call id tag =
       let piece = call.Piece id tag xs in record {
         call = record {
@@ -121,16 +129,21 @@ module _ (xs : List ℤ) (given : brings.Given) (is : brought given ≡ (λ i. g
             quiet = refl;
             done = λ rate s. refl;
           };
-          needs = λ rate t blocks len h. subst (λ (k : ℕ). EditNeeds (blocks_of_samples t.block_size k) (outside_at rate silent) t piece blocks len) count h;
-          needed = λ rate t blocks len h. subst (λ (k : ℕ). EditNeeds (blocks_of_samples t.block_size k) (outside_at rate silent) t piece blocks len) (sym count) h;
+          needs = λ rate t blocks len h. subst (λ (k : ℕ).
+              EditNeeds (blocks_of_samples t.block_size k) (outside_at rate silent) t piece blocks len) count h;
+          needed = λ rate t blocks len h. subst (λ (k : ℕ).
+              EditNeeds (blocks_of_samples t.block_size k) (outside_at rate silent) t piece blocks len) (sym count) h;
         };
         own = λ out s. λ i. piece_tests s id (sym count i);
         after_is = λ out s. λ i. with_piece s id tag (sym same i);
       }
 
-ramp_call : (id at count : ℕ) (start step : ℤ) → IsTrackCall (call.Line (command.Ramp id at count start step)) silent (place_edit (At at) count) (given_as.Ramp start step count) id 0
+ramp_call : (id at count : ℕ) (start step : ℤ) → IsTrackCall (call.Line (command.Ramp id at count start step)) silent
+    (place_edit (At at) count) (given_as.Ramp start step count) id 0
 ramp_call id at count start step =
-    let same : as_cells (stretch (brought (given_as.Ramp start step count)) 0 count) ≡ ramp_of count start step = ramp_brought start step count 0 count in record {
+    let same : as_cells (stretch (brought (given_as.Ramp start step count)) 0 count) ≡ ramp_of count start step =
+    ramp_brought start step count 0 count in
+    record {
       call = record {
         commit = record {
           one = refl;
@@ -151,8 +164,10 @@ ramp_call id at count start step =
     }
 
 -- (the samples may come back from the machine's numbers)
-pub ramp_again : (id at count : ℕ) (start step a b : ℤ) → a ≡ start → b ≡ step → IsTrackCall (call.Line (command.Ramp id at count start step)) silent (place_edit (At at) count) (given_as.Ramp a b count) id 0
+pub ramp_again : (id at count : ℕ) (start step a b : ℤ) → a ≡ start → b ≡ step → IsTrackCall
+    (call.Line (command.Ramp id at count start step)) silent (place_edit (At at) count) (given_as.Ramp a b count) id 0
 ramp_again id at count start step a b first each =
     let line = call.Line (command.Ramp id at count start step) in
     subst (λ (z : ℤ). IsTrackCall line silent (place_edit (At at) count) (given_as.Ramp z b count) id 0) (sym first)
-    (subst (λ (z : ℤ). IsTrackCall line silent (place_edit (At at) count) (given_as.Ramp start z count) id 0) (sym each) (ramp_call id at count start step))
+    (subst (λ (z : ℤ). IsTrackCall line silent (place_edit (At at) count) (given_as.Ramp start z count) id 0) (sym each)
+    (ramp_call id at count start step))

@@ -1,5 +1,7 @@
 -- What holds of an edit that makes blocks, whatever its call means and whatever is told; and that no vault refuses it.
-use Rattle.std.proofs.Common.{◌≡◌, ◌↔◌, ◌⊎◌, ◌<◌, inl, inr, ⊎_elim, refl, sym, ap, ◌∙◌, subst, ℕ, nat_lt, ◌+◌, ◌-◌, ◌^◌, ◌≤◌, IfErr, Bool, true, false, IsSome, Option, Some, None, List, ◌++◌, length, Result, Ok, Err, arith}
+use Rattle.std.proofs.Common.{◌≡◌, ◌↔◌, ◌⊎◌, ◌<◌, inl, inr, ⊎_elim, refl, sym, ap, ◌∙◌, subst, ℕ, nat_lt, ◌+◌, ◌-◌, ◌^◌}
+use Rattle.std.proofs.Common.{◌≤◌, IfErr, Bool, true, false, IsSome, Option, Some, None, List, ◌++◌, length, Result, Ok}
+use Rattle.std.proofs.Common.{Err, arith}
 use Rattle.pcm_base.specs.declared.answer.Reply.{Reply}
 use Rattle.pcm_base.specs.declared.answer.Reply.TheVariants.{Done}
 use Rattle.pcm_base.specs.declared.block.BlockRef.{BlockRef}
@@ -35,7 +37,9 @@ use Rattle.editor_core.proofs.Applying.{lasts_idle}
 use Rattle.editor_core.proofs.EditLaws.{clip_covers_then, covers_then, edit_history, pieces_there, points_then}
 use Rattle.editor_core.proofs.Grown.{LeadsOn, led_studio, stopped_studio}
 use Rattle.editor_core.proofs.Lists.{all_so}
-use Rattle.editor_core.proofs.MadeLeft.{all_changed, all_failed, all_left, damaged_so, missed_so, some_changed, some_left, some_stop, unput_changed, unput_failed, unput_here, unput_is, unput_left}
+use Rattle.editor_core.proofs.MadeLeft.{all_changed, all_failed, all_left, damaged_so, missed_so, some_changed}
+use Rattle.editor_core.proofs.MadeLeft.{some_left, some_stop, unput_changed, unput_failed, unput_here, unput_is}
+use Rattle.editor_core.proofs.MadeLeft.{unput_left}
 use Rattle.editor_core.proofs.MadeStudios.{IsNewId, made_studio, refs, refs_ids, with_store}
 use Rattle.editor_core.proofs.Makings.{making_unread}
 use Rattle.editor_core.proofs.Others.{NoneGoes, others_record}
@@ -63,12 +67,14 @@ exceeding_asks end len (refusal.SpaceSpent have need) h = tt
 exceeding_asks end len (refusal.RecordLimit n) h = tt
 exceeding_asks end len why h = absurd h
 
-not_made_asks : {D : Type 0} (disk : Ghosts D) (old new : Core D) (why : Refusal) → NotMade disk old why new → IsNoVault why
+not_made_asks : {D : Type 0} (disk : Ghosts D) (old new : Core D) (why : Refusal) → NotMade disk old why new
+    → IsNoVault why
 not_made_asks disk old new refusal.DiskFault by = tt
 not_made_asks disk old new (refusal.Damaged file at want have) by = tt
 not_made_asks disk old new why by = absurd by
 
-unprepared_asks : {D : Type 0} (s : Core D) (n tracks len : ℕ) (why : Refusal) → NotPrepared s n tracks len why → IsNoVault why
+unprepared_asks : {D : Type 0} (s : Core D) (n tracks len : ℕ) (why : Refusal) → NotPrepared s n tracks len why
+    → IsNoVault why
 unprepared_asks s n tracks len why not = ⊎_elim
     (λ memory. subst IsNoVault (sym memory) tt)
     (⊎_elim
@@ -78,11 +84,13 @@ unprepared_asks s n tracks len why not = ⊎_elim
     let number = no_room s.commit_number 1 in
     subst AsksNone spent
     (either_asks block (track otherwise number) (spent_asks (nat_lt (2 ^ 62) (s.next_block + n)) s.next_block n)
-    (either_asks track number (spent_asks (nat_lt (2 ^ 62) (s.next_track + tracks)) s.next_track tracks) (spent_asks (nat_lt (2 ^ 62) (s.commit_number + 1)) s.commit_number 1))))
+    (either_asks track number (spent_asks (nat_lt (2 ^ 62) (s.next_track + tracks)) s.next_track tracks)
+    (spent_asks (nat_lt (2 ^ 62) (s.commit_number + 1)) s.commit_number 1))))
     (λ over. exceeding_asks s.journal_end len why over.3))
     not
 
-pub carried_asks : {D : Type 0} (disk : Ghosts D) (s new : Core D) (given : brings.Given) (makes : List NewBlock) (tracks : ℕ) (body : List ℕ) (why : Refusal)
+pub carried_asks : {D : Type 0} (disk : Ghosts D) (s new : Core D) (given : brings.Given) (makes : List NewBlock)
+    (tracks : ℕ) (body : List ℕ) (why : Refusal)
     → Carried disk s given makes tracks body (Err why) new → IsNoVault why
 carried_asks disk s new given makes tracks body why carried = ⊎_elim
     (λ not. unprepared_asks s (length makes) tracks (length body) why not.1)
@@ -93,8 +101,10 @@ carried_asks disk s new given makes tracks body why carried = ⊎_elim
 
 -- ---- the studio behind it
 
-module _ {D : Type 0} (disk : Ghosts D) (s : Core D) (is : IsStudio disk s) (going : s.stopped ≡ None) (given : brings.Given) (makes : List NewBlock)
-    (tag tracks : ℕ) (point : List Track) (clip : Option (List (List Item))) (plan : IsPlanned s given makes tag tracks point clip)
+module _ {D : Type 0} (disk : Ghosts D) (s : Core D) (is : IsStudio disk s) (going : s.stopped ≡ None)
+    (given : brings.Given) (makes : List NewBlock)
+    (tag tracks : ℕ) (point : List Track) (clip : Option (List (List Item)))
+    (plan : IsPlanned s given makes tag tracks point clip)
     (c : Call) (one : commits_of c ≡ 1) where
   abbrev n : ℕ
   n = length makes
@@ -111,8 +121,10 @@ module _ {D : Type 0} (disk : Ghosts D) (s : Core D) (is : IsStudio disk s) (goi
   there : IsHeld disk s → PiecesThere (disk.reads s.store) makes
   there = pieces_there disk s is going given makes tag tracks point clip plan
 
-  lasts_going : (told : Result Reply Refusal) (new : Core D) → IsStudio disk new → new.commit_number ≡ number_behind told c s.commit_number → (len : ℕ)
-      → Changed disk (LeavesOthers s.next_block new.next_block (MayRemove c s.counts)) (asks s.block_size (new.next_block - s.next_block) len 0) s.store new.store
+  lasts_going : (told : Result Reply Refusal) (new : Core D) → IsStudio disk new
+      → new.commit_number ≡ number_behind told c s.commit_number → (len : ℕ)
+      → Changed disk (LeavesOthers s.next_block new.next_block (MayRemove c s.counts))
+      (asks s.block_size (new.next_block - s.next_block) len 0) s.store new.store
       → Stops disk s told new → IfErr told (Left disk s (MayRemove c s.counts) new) → Lasts disk s c told 0 new
   lasts_going told new studio number len changed stops left = record {
     studio = studio;
@@ -127,12 +139,14 @@ module _ {D : Type 0} (disk : Ghosts D) (s : Core D) (is : IsStudio disk s) (goi
   -- ---- some of the blocks are made
 
   module _ (fits : s.next_block + n ≤ 2 ^ 62) (k : ℕ) (few : k ≤ n) where
-    unread_lasts : (why : Refusal) (mid new : Core D) → Making disk s given k makes mid → Unread disk mid new → IsSoOf disk s new why → Lasts disk s c (Err why) 0 new
+    unread_lasts : (why : Refusal) (mid new : Core D) → Making disk s given k makes mid → Unread disk mid new
+        → IsSoOf disk s new why → Lasts disk s c (Err why) 0 new
     unread_lasts why mid new was un so =
         let making = making_unread disk s given makes k mid new was un in
         lasts_going (Err why) new (made_studio disk s is given makes k new making going few plan.new fits there)
         (ap (λ (z : Core D). z.commit_number) making.is) 0 (some_changed disk s given makes fits c k 0 new making few)
-        (inl (some_stop disk s given makes fits c k new making, making.change_faults)) (some_left disk s given makes fits c k new making why so)
+        (inl (some_stop disk s given makes fits c k new making, making.change_faults))
+        (some_left disk s given makes fits c k new making why so)
 
     module _ (mid new : Core D) (was : Making disk s given k makes mid)
         (left : (k < n) ⊎ Changed disk StaysStep one_call mid.store new.store) (un : Unput disk mid new) where
@@ -141,10 +155,14 @@ module _ {D : Type 0} (disk : Ghosts D) (s : Core D) (is : IsStudio disk s) (goi
 
       unput_lasts : Lasts disk s c (Err refusal.DiskFault) 0 new
       unput_lasts =
-          let studio : IsStudio disk here = with_store disk s is new.store k mid.counts here.stopped (omega (arith, fits, few)) was.ledger in
-          subst (λ (z : Core D). Lasts disk s c (Err refusal.DiskFault) 0 z) (sym (unput_is disk s given makes fits c k mid new was few left un))
-          (lasts_going (Err refusal.DiskFault) here studio refl 0 (unput_changed disk s given makes fits c k mid new was few left un 0)
-          (inr (refl, unput_failed disk s given makes fits c k mid new was few left un, refl)) (unput_left disk s given makes fits c k mid new was few left un))
+          let studio : IsStudio disk here =
+          with_store disk s is new.store k mid.counts here.stopped (omega (arith, fits, few)) was.ledger in
+          subst (λ (z : Core D). Lasts disk s c (Err refusal.DiskFault) 0 z)
+          (sym (unput_is disk s given makes fits c k mid new was few left un))
+          (lasts_going (Err refusal.DiskFault) here studio refl 0
+          (unput_changed disk s given makes fits c k mid new was few left un 0)
+          (inr (refl, unput_failed disk s given makes fits c k mid new was few left un, refl))
+          (unput_left disk s given makes fits c k mid new was few left un))
 
   module _ (fits : s.next_block + n ≤ 2 ^ 62) where
     stuck_lasts : (why : Refusal) (new : Core D) → Stuck disk s given makes why new → Lasts disk s c (Err why) 0 new
@@ -164,7 +182,11 @@ module _ {D : Type 0} (disk : Ghosts D) (s : Core D) (is : IsStudio disk s) (goi
   -- ---- all of them
 
   module _ (prepared : IsPrepared s n tracks (length body)) (store : D) (counts : Counts)
-      (making : Making disk s given n makes (record s { store = store; counts = counts; next_block = s.next_block + n })) where
+      (making : Making disk s given n makes (record s {
+        store = store;
+        counts = counts;
+        next_block = s.next_block + n;
+      })) where
     abbrev mid : Core D
     mid = record s { store = store; counts = counts; next_block = s.next_block + n }
 
@@ -174,7 +196,8 @@ module _ {D : Type 0} (disk : Ghosts D) (s : Core D) (is : IsStudio disk s) (goi
     leads : LeadsOn mid (refs makes) h clip track_then
     leads = record {
       given = all_so (λ (b : BlockRef). IsNewId s.next_block n b.id) (λ (b : BlockRef). IsGiven (s.next_block + n) b.id)
-          (λ b k. (omega (arith, k.0, is.counters.block_least), k.1)) (refs makes) (refs_ids s.block_size s.next_block makes plan.new);
+          (λ b k. (omega (arith, k.0, is.counters.block_least), k.1)) (refs makes)
+          (refs_ids s.block_size s.next_block makes plan.new);
       later = omega arith;
       most = prepared.ids;
       number = prepared.number;
@@ -188,18 +211,21 @@ module _ {D : Type 0} (disk : Ghosts D) (s : Core D) (is : IsStudio disk s) (goi
     }
 
     -- the record was not added
-    failed_lasts : (new : Core D) → Adds {R = Unit {0}} disk mid body (Err refusal.DiskFault) new → Lasts disk s c (Err refusal.DiskFault) 0 new
+    failed_lasts : (new : Core D) → Adds {R = Unit {0}} disk mid body (Err refusal.DiskFault) new
+        → Lasts disk s c (Err refusal.DiskFault) 0 new
     failed_lasts new adds =
         let halted = stopped_by disk mid new.store in
         subst (λ (z : Core D). Lasts disk s c (Err refusal.DiskFault) 0 z) (sym adds.fields.0)
         (lasts_going (Err refusal.DiskFault) halted (stopped_studio disk mid mid_is new.store) refl (length body)
         (all_changed disk s given makes prepared.blocks c (length body) mid halted making refl
-        (changed_wider (others_record mid.next_block mid.next_block NoneGoes) (record_within mid.block_size (mid.next_block - mid.next_block) (length body) 0) adds.changed))
+        (changed_wider (others_record mid.next_block mid.next_block NoneGoes)
+        (record_within mid.block_size (mid.next_block - mid.next_block) (length body) 0) adds.changed))
         (inr (refl, all_failed disk s given makes prepared.blocks c store counts making new.store adds.fields.2, refl))
         (all_left disk s given makes prepared.blocks c store counts making new.store adds.fields.2))
 
     -- it was
-    module _ {Q : Type 0} (q : Q) (new : Core D) (adds : Adds disk mid body (Ok q) new) (h' : History (List Track)) (counts' : Counts) (next_track : ℕ)
+    module _ {Q : Type 0} (q : Q) (new : Core D) (adds : Adds disk mid body (Ok q) new) (h' : History (List Track))
+        (counts' : Counts) (next_track : ℕ)
         (moved : h' ≡ h) (tracked : next_track ≡ track_then)
         (counted : IsFreshCount (ids_of (history_blocks h ++ (pin_blocks s.pins ++ clip_blocks clip))) counts')
         (files : (id : ℕ) → IsSome (counts' id) ↔ IsSome (counts id)) where
@@ -216,16 +242,29 @@ module _ {D : Type 0} (disk : Ghosts D) (s : Core D) (is : IsStudio disk s) (goi
 
       done_studio : IsStudio disk done
       done_studio =
-          led_studio disk mid mid_is (refs makes) h clip track_then leads new.store (s.journal_end + 5 + length body) (omega (arith, adds.fields.1)) h' counts' next_track
+          led_studio disk mid mid_is (refs makes) h clip track_then leads new.store (s.journal_end + 5 + length body)
+          (omega (arith, adds.fields.1)) h' counts' next_track
           moved tracked counted files
 
-      done_lasts : Lasts disk s c (Ok Done) 0 (record new { history = h'; clipboard = clip; counts = counts'; next_track = next_track })
+      done_lasts : Lasts disk s c (Ok Done) 0 (record new {
+        history = h';
+        clipboard = clip;
+        counts = counts';
+        next_track = next_track;
+      })
       done_lasts =
-          let number : s.commit_number + 1 ≡ s.commit_number + commits_of c = ap (λ (k : ℕ). s.commit_number + k) (sym one) in
-          subst (λ (z : Core D). Lasts disk s c (Ok Done) 0 (record z { history = h'; clipboard = clip; counts = counts'; next_track = next_track })) (sym adds.fields.0)
+          let number : s.commit_number + 1 ≡ s.commit_number + commits_of c =
+          ap (λ (k : ℕ). s.commit_number + k) (sym one) in
+          subst (λ (z : Core D). Lasts disk s c (Ok Done) 0 (record z {
+            history = h';
+            clipboard = clip;
+            counts = counts';
+            next_track = next_track;
+          })) (sym adds.fields.0)
           (lasts_going (Ok Done) done done_studio number (length body)
           (all_changed disk s given makes prepared.blocks c (length body) mid done making refl
-          (changed_wider (others_record mid.next_block mid.next_block NoneGoes) (record_within mid.block_size (mid.next_block - mid.next_block) (length body) 0) adds.changed))
+          (changed_wider (others_record mid.next_block mid.next_block NoneGoes)
+          (record_within mid.block_size (mid.next_block - mid.next_block) (length body) 0) adds.changed))
           (inl (refl, adds.fields.2 ∙ making.change_faults)) tt)
 
   -- ---- all of it
@@ -235,7 +274,8 @@ module _ {D : Type 0} (disk : Ghosts D) (s : Core D) (is : IsStudio disk s) (goi
       → Making disk s given n makes (record s { store = it.store; counts = it.counts; next_block = s.next_block + n })
   made_so it making = subst (λ (z : Core D). Making disk s given n makes z) making.is making
 
-  pub lasts_err : Fewer disk s.store → (why : Refusal) (new : Core D) → Carried disk s given makes tracks body (Err why) new → Lasts disk s c (Err why) 0 new
+  pub lasts_err : Fewer disk s.store → (why : Refusal) (new : Core D)
+      → Carried disk s given makes tracks body (Err why) new → Lasts disk s c (Err why) 0 new
   lasts_err fewer why new carried = ⊎_elim
       (λ not.
       subst (λ (z : Core D). Lasts disk s c (Err why) 0 z) (sym not.0)
@@ -250,10 +290,18 @@ module _ {D : Type 0} (disk : Ghosts D) (s : Core D) (is : IsStudio disk s) (goi
       (subst (λ (z : Core D). Adds {R = Unit {0}} disk z body (Err refusal.DiskFault) new) it.making.is adds))))
       carried
 
-  pub lasts_ok : (done : Unit {0}) (new : Core D) (it : Committed disk s given makes tracks body (Ok done) new) (h' : History (List Track)) (counts' : Counts) (next_track : ℕ)
-      → h' ≡ h → next_track ≡ track_then → IsFreshCount (ids_of (history_blocks h ++ (pin_blocks s.pins ++ clip_blocks clip))) counts'
+  pub lasts_ok : (done : Unit {0}) (new : Core D) (it : Committed disk s given makes tracks body (Ok done) new)
+      (h' : History (List Track)) (counts' : Counts) (next_track : ℕ)
+      → h' ≡ h → next_track ≡ track_then
+      → IsFreshCount (ids_of (history_blocks h ++ (pin_blocks s.pins ++ clip_blocks clip))) counts'
       → ((id : ℕ) → IsSome (counts' id) ↔ IsSome (it.mid.counts id))
-      → Lasts disk s c (Ok Done) 0 (record new { history = h'; clipboard = clip; counts = counts'; next_track = next_track })
+      → Lasts disk s c (Ok Done) 0 (record new {
+        history = h';
+        clipboard = clip;
+        counts = counts';
+        next_track = next_track;
+      })
   lasts_ok done new it h' counts' next_track moved tracked counted files =
       done_lasts it.prepared it.mid.store it.mid.counts (made_so it.mid it.making) done new
-      (subst (λ (z : Core D). Adds disk z body (Ok done) new) it.making.is it.adds) h' counts' next_track moved tracked counted files
+      (subst (λ (z : Core D). Adds disk z body (Ok done) new) it.making.is it.adds) h' counts' next_track moved tracked
+      counted files

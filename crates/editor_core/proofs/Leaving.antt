@@ -1,5 +1,6 @@
 -- What a refusal leaves of a studio, by why it came.
-use Rattle.std.proofs.Common.{◌≡◌, ◌↔◌, ◌⊎◌, inl, inr, ⊎_elim, refl, sym, ◌∙◌, subst, ℕ, ◌+◌, ◌≤◌, ◌<◌, IsSome, IsTrue, Option, Some, None, Err, Result, arith}
+use Rattle.std.proofs.Common.{◌≡◌, ◌↔◌, ◌⊎◌, inl, inr, ⊎_elim, refl, sym, ◌∙◌, subst, ℕ, ◌+◌, ◌≤◌, ◌<◌, IsSome, IsTrue}
+use Rattle.std.proofs.Common.{Option, Some, None, Err, Result, arith}
 use Rattle.pcm_base.specs.declared.refusal.Refusal.{Refusal}
 use Rattle.pcm_base.specs.declared.refusal.Refusal.TheVariants as refusal
 use Rattle.disk_model.specs.declared.store.Store.{Ghosts}
@@ -21,8 +22,10 @@ plain_so disk old new (refusal.Damaged file at want have) plain = absurd plain
 plain_so disk old new why plain = tt
 
 -- no block was made
-pub ids_still : (counts : Counts) (next : ℕ) (id : ℕ) → IsSome (counts id) ↔ (IsSome (counts id) ⊎ ((next ≤ id) × (id < next)))
-ids_still counts next id = (λ some. inl some, λ either. ⊎_elim (λ some. some) (λ at. absurd (omega (arith, at.0, at.1))) either)
+pub ids_still : (counts : Counts) (next : ℕ) (id : ℕ)
+    → IsSome (counts id) ↔ (IsSome (counts id) ⊎ ((next ≤ id) × (id < next)))
+ids_still counts next id =
+    (λ some. inl some, λ either. ⊎_elim (λ some. some) (λ at. absurd (omega (arith, at.0, at.1))) either)
 
 -- so many were
 pub ids_made : (old new : Counts) (first n last : ℕ) → AddsFree first n old new → last ≡ first + n → (id : ℕ)
@@ -40,8 +43,10 @@ module _ {D : Type 0} (disk : Ghosts D) (s : Core D) (MayGo : ℕ → Type 0) wh
   left_plain store why plain = left_read store why (plain_so disk s (record s { store = store }) why plain)
 
   -- a change of it failed
-  pub left_stopped : (store : D) → HasFailed disk s.store store → Left disk s MayGo (stopped_by disk s store) refusal.DiskFault
-  left_stopped store failed = record { same = refl; ids = λ id not. ids_still s.counts s.next_block id; so = inr failed }
+  pub left_stopped : (store : D) → HasFailed disk s.store store
+      → Left disk s MayGo (stopped_by disk s store) refusal.DiskFault
+  left_stopped store failed =
+      record { same = refl; ids = λ id not. ids_still s.counts s.next_block id; so = inr failed }
 
   -- the studio goes on as it did
   pub goes_on : {R : Type 0} (told : Result R Refusal) (new : Core D) → new.stopped ≡ s.stopped

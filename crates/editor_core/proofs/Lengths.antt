@@ -20,7 +20,8 @@ module _ (m next_block next_track : ℕ) where
   half_full_of [] all = tt
   half_full_of (t ∷ ts) all = (all.0.half_full, half_full_of ts all.1)
 
-  pub record_most : (src : Sources) (tag block_then track_then : ℕ) (ts : List Track) → 0 < m → IsSoundPoint m next_block next_track ts
+  pub record_most : (src : Sources) (tag block_then track_then : ℕ) (ts : List Track) → 0 < m
+      → IsSoundPoint m next_block next_track ts
       → length (spelling (Edit tag block_then track_then ts)) ≤ project_body_most m (meant src ts)
   record_most src tag block_then track_then ts some is =
       omega (arith, tracks_short src m ts some is.few (layouts_of ts is.sound) (half_full_of ts is.sound))

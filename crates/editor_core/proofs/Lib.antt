@@ -18,7 +18,9 @@ mod Counted
 mod Copying
 mod Clipping
 mod MadeBlocks
+mod MakingCounts
 mod Makings
+mod NextMade
 mod MadeStudios
 mod MadeRooms
 mod MadeCommits
@@ -27,6 +29,7 @@ mod Supposed
 mod Recorded
 mod EditLaws
 mod EditSteps
+mod CarriedEdits
 mod CarriedOut
 mod TakenOut
 mod NoDamage
@@ -35,9 +38,12 @@ mod PlanBlocks
 mod TrackPlans
 mod TrackLaws
 mod RunPlans
+mod RunMeaning
 mod RunLaws
 mod CutLaws
+mod CutSteps
 mod PasteLaws
+mod PasteSteps
 mod RangeLaws
 mod InsertLaws
 mod Amending
@@ -65,6 +71,7 @@ mod Tracks
 mod Without
 mod Lengths
 mod Editing
+mod PlainLines
 mod PlainEdits
 mod Assembling
 pub mod Fresh
@@ -83,6 +90,7 @@ mod PinRefused
 mod ImportRefused
 mod Lasting
 mod ChannelLaws
+mod ChannelSteps
 mod Leaving
 mod PlainTests
 pub mod Others

@@ -1,5 +1,6 @@
 -- A call that only reads the disk leaves the studio as it was, but for the count of failed reads.
-use Rattle.std.proofs.Common.{◌≡◌, ◌↔◌, inl, inr, refl, sym, ap, ◌∙◌, subst, ◌+◌, IsTrue, IsSome, Some, None, Ok, Err, arith}
+use Rattle.std.proofs.Common.{◌≡◌, ◌↔◌, inl, inr, refl, sym, ap, ◌∙◌, subst, ◌+◌, IsTrue, IsSome, Some, None, Ok, Err}
+use Rattle.std.proofs.Common.{arith}
 use Rattle.pcm_base.specs.declared.answer.Reply.{Reply}
 use Rattle.pcm_base.specs.declared.command.Call.{Call}
 use Rattle.pcm_base.specs.declared.refusal.Refusal.{Refusal}
@@ -22,7 +23,8 @@ use Rattle.project_state.specs.Kept.{Keeps}
 use Rattle.envelope_view.specs.Answers.{IsDamagedIn}
 use Rattle.editor_core.specs.Core.{Core}
 use Rattle.editor_core.specs.Left.{IsSoOf, MayRemove}
-use Rattle.editor_core.specs.Studios.{SameBlocks, IsDurable, IsHeld, IsStudio, shown, studio_by, studio_of, named_blocks}
+use Rattle.editor_core.specs.Studios.{SameBlocks, IsDurable, IsHeld, IsStudio, shown, studio_by, studio_of}
+use Rattle.editor_core.specs.Studios.{named_blocks}
 use Rattle.editor_core.specs.Took.{Took, silent}
 use Rattle.editor_core.proofs.Images.{keeps_now}
 use Rattle.editor_core.proofs.Leaving.{IsPlain, left_read, plain_so}
@@ -30,7 +32,8 @@ use Rattle.editor_core.proofs.Others.{others_none}
 use Rattle.editor_core.proofs.Quiet.{IsQuiet}
 use Rattle.editor_core.proofs.Staying.{stopped_not}
 
-module _ {D : Type 0} (disk : Ghosts D) (s : Core D) (is : IsStudio disk s) (store : D) (kept : Kept disk s.store store) where
+module _ {D : Type 0} (disk : Ghosts D) (s : Core D) (is : IsStudio disk s) (store : D)
+    (kept : Kept disk s.store store) where
   abbrev pub looked : Core D
   looked = record s { store = store }
 
@@ -38,7 +41,8 @@ module _ {D : Type 0} (disk : Ghosts D) (s : Core D) (is : IsStudio disk s) (sto
   looked_durable d = record {
     log = d.log;
     kept = d.kept;
-    there = is_at_still (λ x y same. ap (λ (f : Files). f 0) same) (ap (λ (f : Files). f 0) kept.same_reads) kept.same_images d.there;
+    there = is_at_still (λ x y same. ap (λ (f : Files). f 0) same)
+        (ap (λ (f : Files). f 0) kept.same_reads) kept.same_images d.there;
     told = d.told;
     rate = d.rate;
     block_size = d.block_size;
@@ -48,9 +52,12 @@ module _ {D : Type 0} (disk : Ghosts D) (s : Core D) (is : IsStudio disk s) (sto
     commit = d.commit;
     blocks = λ c now.
         let images = kept.same_images in
-        let from = images.from c (images.fewer (disk.clock s.store) (disk.clock store) c images.later (upto_refl (disk.clock store)) now) in
-        subst (λ (f : Files). SameBlocks (named_blocks s) f c) (sym kept.same_reads) (subst (SameBlocks (named_blocks s) (disk.reads s.store)) (sym from.2) (d.blocks from.0 from.1));
-    files = λ id least most. subst (λ (f : Files). IsSome (s.counts id) ↔ IsSome (f id)) (sym kept.same_reads) (d.files id least most);
+        let from = images.from c
+        (images.fewer (disk.clock s.store) (disk.clock store) c images.later (upto_refl (disk.clock store)) now) in
+        subst (λ (f : Files). SameBlocks (named_blocks s) f c) (sym kept.same_reads)
+        (subst (SameBlocks (named_blocks s) (disk.reads s.store)) (sym from.2) (d.blocks from.0 from.1));
+    files = λ id least most. subst (λ (f : Files). IsSome (s.counts id) ↔ IsSome (f id)) (sym kept.same_reads)
+        (d.files id least most);
   }
 
   pub looked_studio : IsStudio disk looked
@@ -76,9 +83,14 @@ module _ {D : Type 0} (disk : Ghosts D) (s : Core D) (is : IsStudio disk s) (sto
   }
 
   looked_state : studio_of disk looked ≡ record (studio_of disk s) { read_faults = disk.read_fault_count store }
-  looked_state = λ i. record (studio_by (sources_of (kept.same_reads i)) disk s) { read_faults = disk.read_fault_count store; change_faults = kept.same_faults i }
+  looked_state =
+      λ i. record (studio_by (sources_of (kept.same_reads i)) disk s) {
+        read_faults = disk.read_fault_count store;
+        change_faults = kept.same_faults i;
+      }
 
-  pub keeps_still : s.stopped ≡ None → IsHeld disk s → EachSince disk s.store store (λ c. Keeps c (shown (studio_of disk s)))
+  pub keeps_still : s.stopped ≡ None → IsHeld disk s
+      → EachSince disk s.store store (λ c. Keeps c (shown (studio_of disk s)))
   keeps_still going held c since =
       let from = kept.same_images.from c since in
       subst (λ (f : Files). Keeps f (shown (studio_of disk s))) (sym from.2) (keeps_now disk s going held from.0 from.1)
@@ -96,7 +108,8 @@ module _ {D : Type 0} (disk : Ghosts D) (s : Core D) (is : IsStudio disk s) (sto
     looked_ok r faults step = record {
       studio = looked_studio;
       held = looked_held;
-      step = λ held. subst (CarriesOut t c silent r) (sym (looked_state ∙ (λ i. record t { read_faults = faults i }))) (step held);
+      step = λ held. subst (CarriesOut t c silent r) (sym (looked_state ∙ (λ i. record t { read_faults = faults i })))
+          (step held);
       any_moment = λ on held f since. inl (keeps_still on held f since);
       refused = λ on held still. tt;
       now = λ still held. keeps_after still held;
@@ -109,7 +122,8 @@ module _ {D : Type 0} (disk : Ghosts D) (s : Core D) (is : IsStudio disk s) (sto
       left = tt;
     }
 
-    looked_refused : (why : Refusal) → IsSoOf disk s looked why → (IsHeld disk s → Answers t c silent (Err why) (studio_of disk looked))
+    looked_refused : (why : Refusal) → IsSoOf disk s looked why
+        → (IsHeld disk s → Answers t c silent (Err why) (studio_of disk looked))
         → Took disk s c silent (Err why) 0 looked
     looked_refused why so step = record {
       studio = looked_studio;
@@ -128,7 +142,8 @@ module _ {D : Type 0} (disk : Ghosts D) (s : Core D) (is : IsStudio disk s) (sto
     }
 
     -- the disk failed, or a file was not as it has to be, and the studio goes on
-    pub looked_failed : (Leaves t c silent) → (why : BlockFault) → CountedBy why (disk.read_fault_count s.store) (disk.read_fault_count store)
+    pub looked_failed : (Leaves t c silent) → (why : BlockFault)
+        → CountedBy why (disk.read_fault_count s.store) (disk.read_fault_count store)
         → (IsTrue (disk.tells s.store) → IsDamagedIn (disk.reads s.store) (named_blocks s) (reason_of why))
         → Took disk s c silent (Err (reason_of why)) 0 looked
     looked_failed leaves fault.DiskFault counted named =
@@ -140,7 +155,11 @@ module _ {D : Type 0} (disk : Ghosts D) (s : Core D) (is : IsStudio disk s) (sto
             len = 0;
             needs = quiet.needs t;
             room = omega (arith, is.counters.block_most);
-            is = looked_state ∙ (λ i. record t { next_block = same i; read_faults = disk.read_fault_count store; change_faults = sym kept.same_faults i });
+            is = looked_state ∙ (λ i. record t {
+              next_block = same i;
+              read_faults = disk.read_fault_count store;
+              change_faults = sym kept.same_faults i;
+            });
             leaves = leaves;
           };
           cause = inl (record { goes_on = going; rose = counted.0; later = counted.1; changes = kept.same_faults });
@@ -154,7 +173,11 @@ module _ {D : Type 0} (disk : Ghosts D) (s : Core D) (is : IsStudio disk s) (sto
             len = 0;
             needs = quiet.needs t;
             room = omega (arith, is.counters.block_most);
-            is = looked_state ∙ (λ i. record t { next_block = same i; read_faults = disk.read_fault_count store; change_faults = sym kept.same_faults i });
+            is = looked_state ∙ (λ i. record t {
+              next_block = same i;
+              read_faults = disk.read_fault_count store;
+              change_faults = sym kept.same_faults i;
+            });
             leaves = leaves;
           };
           stopped = going;
@@ -175,5 +198,7 @@ module _ {D : Type 0} (disk : Ghosts D) (s : Core D) (is : IsStudio disk s) (sto
     }))
 
     -- there was no memory, before or after a read
-    pub looked_wanting : disk.read_fault_count store ≡ disk.read_fault_count s.store → Took disk s c silent (Err refusal.NoMemory) 0 looked
-    looked_wanting faults = looked_refused refusal.NoMemory tt (λ held. inr (record { same = looked_state ∙ (λ i. record t { read_faults = faults i }); quiet = refl }))
+    pub looked_wanting : disk.read_fault_count store ≡ disk.read_fault_count s.store
+        → Took disk s c silent (Err refusal.NoMemory) 0 looked
+    looked_wanting faults = looked_refused refusal.NoMemory tt
+        (λ held. inr (record { same = looked_state ∙ (λ i. record t { read_faults = faults i }); quiet = refl }))

@@ -1,5 +1,6 @@
 -- A commit behind blocks that were made for it, and a making that failed.
-use Rattle.std.proofs.Common.{◌≡◌, ◌⊎◌, ◌<◌, inl, inr, ⊎_elim, refl, sym, ap, ◌∙◌, subst, ℕ, ◌+◌, ◌-◌, ◌^◌, ◌≤◌, IsTrue, None, List, length, Result, Ok, Err, IfErr, OnErr, arith}
+use Rattle.std.proofs.Common.{◌≡◌, ◌⊎◌, ◌<◌, inl, inr, ⊎_elim, refl, sym, ap, ◌∙◌, subst, ℕ, ◌+◌, ◌-◌, ◌^◌, ◌≤◌, IsTrue}
+use Rattle.std.proofs.Common.{None, List, length, Result, Ok, Err, IfErr, OnErr, arith}
 use Rattle.std.specs.List.{AllByRecursion}
 use Rattle.std.proofs.lemmas.List.{take_all}
 use Rattle.pcm_base.specs.declared.answer.Reply.{Reply}
@@ -35,8 +36,10 @@ use Rattle.editor_core.specs.Took.{KeepsOneOf, Took, number_behind}
 use Rattle.editor_core.proofs.Images.{keeps_now}
 use Rattle.editor_core.proofs.Lists.{all_so}
 use Rattle.editor_core.proofs.Makings.{making_unread, making_next}
-use Rattle.editor_core.proofs.MadeLeft.{all_changed, damaged_so, missed_so, some_changed, some_left, some_stop, unput_changed, unput_failed, unput_files, unput_here, unput_is, unput_left}
-use Rattle.editor_core.proofs.MadeStudios.{IsNewId, are_made, below_same, keeps_outside, made_held, made_state, made_studio, refs, refs_all, refs_ids, with_held, with_store}
+use Rattle.editor_core.proofs.MadeLeft.{all_changed, damaged_so, missed_so, some_changed, some_left, some_stop}
+use Rattle.editor_core.proofs.MadeLeft.{unput_changed, unput_failed, unput_files, unput_here, unput_is, unput_left}
+use Rattle.editor_core.proofs.MadeStudios.{IsNewId, are_made, below_same, keeps_outside, made_held, made_state}
+use Rattle.editor_core.proofs.MadeStudios.{made_studio, refs, refs_all, refs_ids, with_held, with_store}
 use Rattle.editor_core.proofs.Meanings.{same_studio}
 use Rattle.editor_core.proofs.Premises.{TookWhere}
 use Rattle.editor_core.proofs.Staying.{HasMade, some_none, stopped_not}
@@ -45,7 +48,8 @@ on_err : {R E : Type 0} (result : Result R E) (P Q : Type 0) → (P → Q) → O
 on_err (Ok r) P Q f h = tt
 on_err (Err e) P Q f h = f h
 
-module _ {D : Type 0} (disk : Ghosts D) (s : Core D) (is : IsStudio disk s) (given : Given) (makes : List NewBlock) (going : s.stopped ≡ None)
+module _ {D : Type 0} (disk : Ghosts D) (s : Core D) (is : IsStudio disk s) (given : Given) (makes : List NewBlock)
+    (going : s.stopped ≡ None)
     (fresh : AreNew s.block_size s.next_block makes) (most : s.next_block + length makes ≤ 2 ^ 62)
     (there : IsHeld disk s → PiecesThere (disk.reads s.store) makes) (c : Call) (sound : SoundMove) where
   abbrev n : ℕ
@@ -73,10 +77,12 @@ module _ {D : Type 0} (disk : Ghosts D) (s : Core D) (is : IsStudio disk s) (giv
               (λ b h. (omega (arith, h.0, is.counters.block_least), omega (arith, h.1, next))) (refs makes) ids;
           whole = λ held.
               let made = are_made disk s is given makes n mid making going (omega arith) fresh most there held in
-              let whole = subst (λ (bs : List NewBlock). AllByRecursion (λ b. IsWhole reads (ref_of b)) bs) (take_all n makes (omega arith)) made.whole in
+              let whole = subst (λ (bs : List NewBlock). AllByRecursion (λ b. IsWhole reads (ref_of b)) bs)
+              (take_all n makes (omega arith)) made.whole in
               refs_all (IsWhole reads) makes whole;
           same = λ held x left.
-              all_so (λ (b : BlockRef). IsNewId s.next_block n b.id) (λ b. x b.id ≡ reads b.id) (λ b h. synced x left b.id h.0 h.1) (refs makes) ids;
+              all_so (λ (b : BlockRef). IsNewId s.next_block n b.id) (λ b. x b.id ≡ reads b.id)
+              (λ b h. synced x left b.id h.0 h.1) (refs makes) ids;
         }
 
     -- what opening finds in between is what it finds before, and the call carried out is the same from both
@@ -89,15 +95,23 @@ module _ {D : Type 0} (disk : Ghosts D) (s : Core D) (is : IsStudio disk s) (giv
         (λ old. inl (subst (Keeps x) (shown_mid held) old))
         (λ new.
         let same = mid_state held in
-        let one : shown new.after ≡ shown (followed (outside (studio_of disk mid) sound) (studio_of disk mid) c 0 0) = λ i. shown (new.carried.is i) in
-        let two : shown (followed (outside (studio_of disk mid) sound) (studio_of disk mid) c 0 0) ≡ shown (followed (outside t sound) t c n len) =
+        let one : shown new.after ≡ shown (followed (outside (studio_of disk mid) sound) (studio_of disk mid) c 0 0) =
+        λ i. shown (new.carried.is i) in
+        let two : shown (followed (outside (studio_of disk mid) sound) (studio_of disk mid) c 0 0)
+        ≡ shown (followed (outside t sound) t c n len) =
         λ i. shown (followed (outside (same i) sound) (same i) c 0 0) in
-        inr (record { reply = Done; after = followed (outside t sound) t c n len; carried = carried; keeps = subst (Keeps x) (one ∙ two) new.keeps }))
+        inr (record {
+          reply = Done;
+          after = followed (outside t sound) t c n len;
+          carried = carried;
+          keeps = subst (Keeps x) (one ∙ two) new.keeps;
+        }))
         keeps
 
     pub composed : (told_as : Result Reply Refusal) (new : Core D)
         → TookWhere (IsHeld disk s) disk mid c sound told_as new → new.next_block ≡ mid.next_block
-        → (IsHeld disk s → (blocks len : ℕ) → Needs (outside (studio_of disk mid) sound) (studio_of disk mid) c blocks len
+        → (IsHeld disk s → (blocks len : ℕ)
+        → Needs (outside (studio_of disk mid) sound) (studio_of disk mid) c blocks len
         → Needs (outside t sound) t c blocks len)
         → (IsHeld disk s → (len : ℕ) × CarriesOut t c sound Done (followed (outside t sound) t c n len))
         → (IsHeld disk s → Answers t c sound told_as (studio_of disk new)) → Stops disk s told_as new
@@ -134,7 +148,8 @@ module _ {D : Type 0} (disk : Ghosts D) (s : Core D) (is : IsStudio disk s) (giv
 
   -- ---- one is not
 
-  module _ (len : ℕ) (changes : IsTrue (may_change c)) (leaves : Leaves t c sound) (need : IsHeld disk s → (k : ℕ) → k ≤ n → Needs (outside t sound) t c k len)
+  module _ (len : ℕ) (changes : IsTrue (may_change c)) (leaves : Leaves t c sound)
+      (need : IsHeld disk s → (k : ℕ) → k ≤ n → Needs (outside t sound) t c k len)
       (origin : AllNewFrom (named_blocks s) (brought_count given) makes) where
     going_on : (why : Refusal) (k : ℕ) (new : Core D) → Making disk s given k makes new → k ≤ n → IsSoOf disk s new why
         → (IsHeld disk s → Answers t c sound (Err why) (studio_of disk new)) → Took disk s c sound (Err why) 0 new
@@ -185,19 +200,41 @@ module _ {D : Type 0} (disk : Ghosts D) (s : Core D) (is : IsStudio disk s) (giv
       unread : HasMissed disk mid.store new.store → Took disk s c sound (Err refusal.DiskFault) 0 new
       unread missed = going_on refusal.DiskFault k new making few
           (inl (missed_so disk s given makes most c mid.store new.store reads missed)) (λ held. inr (record {
-            breaks = record { going = going; blocks = k; len = len; needs = need held k few; room = omega (arith, most, few); is = new_state held; leaves = leaves };
-            cause = inl (record { goes_on = still_going; rose = omega (arith, missed.rose, reads); later = omega (arith, missed.later, reads); changes = making.change_faults });
+            breaks = record {
+              going = going;
+              blocks = k;
+              len = len;
+              needs = need held k few;
+              room = omega (arith, most, few);
+              is = new_state held;
+              leaves = leaves;
+            };
+            cause = inl (record {
+              goes_on = still_going;
+              rose = omega (arith, missed.rose, reads);
+              later = omega (arith, missed.later, reads);
+              changes = making.change_faults;
+            });
           }))
 
       damaged : (file at want have : ℕ) → disk.read_fault_count new.store ≡ disk.read_fault_count mid.store
           → IsSoOf disk s new (refusal.Damaged file at want have)
           → Took disk s c sound (Err (refusal.Damaged file at want have)) 0 new
-      damaged file at want have same so = going_on (refusal.Damaged file at want have) k new making few so (λ held. inr (record {
-        breaks = record { going = going; blocks = k; len = len; needs = need held k few; room = omega (arith, most, few); is = new_state held; leaves = leaves };
-        stopped = still_going;
-        reads = same ∙ reads;
-        changes = making.change_faults;
-      }))
+      damaged file at want have same so =
+          going_on (refusal.Damaged file at want have) k new making few so (λ held. inr (record {
+            breaks = record {
+              going = going;
+              blocks = k;
+              len = len;
+              needs = need held k few;
+              room = omega (arith, most, few);
+              is = new_state held;
+              leaves = leaves;
+            };
+            stopped = still_going;
+            reads = same ∙ reads;
+            changes = making.change_faults;
+          }))
 
     -- the disk failed as a block was written or synced
     module _ (k : ℕ) (mid new : Core D) (was : Making disk s given k makes mid) (few : k ≤ n)
@@ -209,12 +246,14 @@ module _ {D : Type 0} (disk : Ghosts D) (s : Core D) (is : IsStudio disk s) (giv
       abbrev here : Core D
       here = unput_here disk s given makes most c k mid new was few left un
 
-      changed : Changed disk (SameOutside s.next_block (k + 1)) (together (made_room (size_of s.block_size) k) (made_room (size_of mid.block_size) 1)) s.store store
+      changed : Changed disk (SameOutside s.next_block (k + 1))
+          (together (made_room (size_of s.block_size) k) (made_room (size_of mid.block_size) 1)) s.store store
       changed = unput_files disk s given makes most c k mid new was few left un
 
       here_studio : IsStudio disk here
       here_studio =
-          with_store disk s is store k mid.counts (stopped_by disk s store).stopped (omega (arith, most, few)) was.ledger
+          with_store disk s is store k mid.counts (stopped_by disk s store).stopped
+          (omega (arith, most, few)) was.ledger
 
       here_held : IsHeld disk s → IsHeld disk here
       here_held held =
@@ -230,7 +269,8 @@ module _ {D : Type 0} (disk : Ghosts D) (s : Core D) (is : IsStudio disk s) (giv
       here_state held =
           let old = disk.reads s.store in
           let now = disk.reads store in
-          let same = same_studio old now disk s (below_same s.next_block (k + 1) (named_blocks s) old now is.ids (changed.reads held.tells)) in
+          let same = same_studio old now disk s
+          (below_same s.next_block (k + 1) (named_blocks s) old now is.ids (changed.reads held.tells)) in
           λ i. record (same i) {
             stopped = (stopped_by disk s store).stopped;
             next_block = s.next_block + k;
@@ -275,14 +315,17 @@ module _ {D : Type 0} (disk : Ghosts D) (s : Core D) (is : IsStudio disk s) (giv
       }
 
       unput : Took disk s c sound (Err refusal.DiskFault) 0 new
-      unput = subst (λ (z : Core D). Took disk s c sound (Err refusal.DiskFault) 0 z) (sym (unput_is disk s given makes most c k mid new was few left un)) here_took
+      unput = subst (λ (z : Core D). Took disk s c sound (Err refusal.DiskFault) 0 z)
+          (sym (unput_is disk s given makes most c k mid new was few left un)) here_took
 
-    pub not_made : (why : Refusal) (new : Core D) → Stuck disk s given makes why new → Took disk s c sound (Err why) 0 new
+    pub not_made : (why : Refusal) (new : Core D) → Stuck disk s given makes why new
+        → Took disk s c sound (Err why) 0 new
     not_made refusal.DiskFault new stuck = ⊎_elim
         (λ un. unread stuck.made stuck.mid new stuck.before stuck.few stuck.read_faults un.0 un.1)
         (λ un. unput stuck.made stuck.mid new stuck.before stuck.few stuck.left stuck.read_faults un)
         stuck.by
     not_made (refusal.Damaged file at want have) new stuck =
-        damaged stuck.made stuck.mid new stuck.before stuck.few stuck.read_faults stuck.by.0 file at want have stuck.by.1
+        damaged stuck.made stuck.mid new stuck.before stuck.few stuck.read_faults stuck.by.0 file at want have
+        stuck.by.1
         (damaged_so disk s given makes most c is origin (refusal.Damaged file at want have) new stuck)
     not_made why new stuck = absurd stuck.by

@@ -1,5 +1,6 @@
 -- What blocks that were made, and then a record or a fault, leave of other files and of a studio that refuses.
-use Rattle.std.proofs.Common.{◌≡◌, ◌⊎◌, inl, inr, ⊎_elim, refl, sym, ap, ◌∙◌, subst, ℕ, ◌+◌, ◌-◌, ◌^◌, ◌≤◌, ◌<◌, IsTrue, List, length, arith}
+use Rattle.std.proofs.Common.{◌≡◌, ◌⊎◌, inl, inr, ⊎_elim, refl, sym, ap, ◌∙◌, subst, ℕ, ◌+◌, ◌-◌, ◌^◌, ◌≤◌, ◌<◌, IsTrue}
+use Rattle.std.proofs.Common.{List, length, arith}
 use Rattle.pcm_base.specs.declared.block.BlockRef.{BlockRef}
 use Rattle.pcm_base.specs.declared.command.Call.{Call}
 use Rattle.pcm_base.specs.declared.refusal.Refusal.{Refusal}
@@ -26,11 +27,13 @@ use Rattle.editor_core.specs.Took.{asks}
 use Rattle.editor_core.proofs.Contained.{contained}
 use Rattle.editor_core.proofs.Leaving.{ids_made}
 use Rattle.editor_core.proofs.MadeRooms.{within_last, within_some, within_then}
-use Rattle.editor_core.proofs.Makings.{making_next, making_size, outside_then}
+use Rattle.editor_core.proofs.Makings.{making_next, making_size}
+use Rattle.editor_core.proofs.MakingCounts.{outside_then}
 use Rattle.editor_core.proofs.NamedDamage.{damage_named, from_at}
 use Rattle.editor_core.proofs.Others.{Leaving, NoneGoes, others_made, others_then, others_wider}
 
-module _ {D : Type 0} (disk : Ghosts D) (s : Core D) (given : Given) (makes : List NewBlock) (most : s.next_block + length makes ≤ 2 ^ 62) (c : Call) where
+module _ {D : Type 0} (disk : Ghosts D) (s : Core D) (given : Given) (makes : List NewBlock)
+    (most : s.next_block + length makes ≤ 2 ^ 62) (c : Call) where
   abbrev n : ℕ
   n = length makes
 
@@ -40,35 +43,50 @@ module _ {D : Type 0} (disk : Ghosts D) (s : Core D) (given : Given) (makes : Li
   -- ---- some are made, and the studio goes on
 
   pub some_changed : (k len : ℕ) (new : Core D) → Making disk s given k makes new → k ≤ n
-      → Changed disk (LeavesOthers s.next_block new.next_block may_go) (asks s.block_size (new.next_block - s.next_block) len 0) s.store new.store
+      → Changed disk (LeavesOthers s.next_block new.next_block may_go)
+      (asks s.block_size (new.next_block - s.next_block) len 0) s.store new.store
   some_changed k len new making few =
       let next = making_next disk s given makes k new making in
-      changed_wider (λ d x w. others_made s.next_block k new.next_block may_go d x (omega (arith, next)) (omega (arith, most, few)) w)
+      changed_wider (λ d x w. others_made s.next_block k new.next_block may_go d x (omega (arith, next))
+      (omega (arith, most, few)) w)
       (within_some s.block_size k len (new.next_block - s.next_block) (omega (arith, next))) making.changed
 
   pub some_stop : (k : ℕ) (new : Core D) → Making disk s given k makes new → new.stopped ≡ s.stopped
   some_stop k new making = ap (λ (z : Core D). z.stopped) making.is
 
-  pub some_left : (k : ℕ) (new : Core D) → Making disk s given k makes new → (why : Refusal) → IsSoOf disk s new why → Left disk s may_go new why
+  pub some_left : (k : ℕ) (new : Core D) → Making disk s given k makes new → (why : Refusal) → IsSoOf disk s new why
+      → Left disk s may_go new why
   some_left k new making why so =
       let next = making_next disk s given makes k new making in
       let stop = some_stop k new making in record {
-        same = making.is ∙ (λ i. record s { store = new.store; counts = new.counts; next_block = sym next i; stopped = sym stop i });
+        same = making.is ∙ (λ i. record s {
+          store = new.store;
+          counts = new.counts;
+          next_block = sym next i;
+          stopped = sym stop i;
+        });
         ids = λ id not. ids_made s.counts new.counts s.next_block k new.next_block making.ledger next id;
         so = so;
       }
 
   -- a read failed
-  pub missed_so : (mid new : D) → disk.read_fault_count mid ≡ disk.read_fault_count s.store → HasMissed disk mid new → HasMissed disk s.store new
-  missed_so mid new reads missed = record { rose = omega (arith, missed.rose, reads); later = omega (arith, missed.later, reads) }
+  pub missed_so : (mid new : D) → disk.read_fault_count mid ≡ disk.read_fault_count s.store → HasMissed disk mid new
+      → HasMissed disk s.store new
+  missed_so mid new reads missed =
+      record { rose = omega (arith, missed.rose, reads); later = omega (arith, missed.later, reads) }
 
   -- a file was not as it has to be
-  pub damaged_so : IsStudio disk s → AllNewFrom (named_blocks s) (brought_count given) makes → (why : Refusal) (new : Core D)
-      → Stuck disk s given makes why new → IsTrue (disk.tells s.store) → IsDamagedIn (disk.reads s.store) (named_blocks s) why
+  pub damaged_so : IsStudio disk s → AllNewFrom (named_blocks s) (brought_count given) makes
+      → (why : Refusal) (new : Core D)
+      → Stuck disk s given makes why new → IsTrue (disk.tells s.store)
+      → IsDamagedIn (disk.reads s.store) (named_blocks s) why
   damaged_so is origin why new stuck told =
-      damage_named (named_blocks s) (brought_count given) (disk.reads s.store) (disk.reads stuck.mid.store) stuck.block.pieces why
-      (from_at (named_blocks s) (brought_count given) makes origin stuck.stands.0 stuck.block stuck.stands.1 stuck.stands.2)
-      (λ b has. stuck.before.changed.reads told b.id (inl (contained (λ (x : BlockRef). IsGiven s.next_block x.id) (named_blocks s) b is.ids has).1))
+      damage_named (named_blocks s) (brought_count given) (disk.reads s.store)
+      (disk.reads stuck.mid.store) stuck.block.pieces why
+      (from_at (named_blocks s)
+      (brought_count given) makes origin stuck.stands.0 stuck.block stuck.stands.1 stuck.stands.2)
+      (λ b has. stuck.before.changed.reads told b.id
+      (inl (contained (λ (x : BlockRef). IsGiven s.next_block x.id) (named_blocks s) b is.ids has).1))
       (stuck.damaged (subst IsTrue (sym stuck.before.changed.tells) told))
 
   -- ---- the disk failed as one was put
@@ -76,32 +94,47 @@ module _ {D : Type 0} (disk : Ghosts D) (s : Core D) (given : Given) (makes : Li
   module _ (k : ℕ) (mid new : Core D) (was : Making disk s given k makes mid) (few : k ≤ n)
       (left : (k < n) ⊎ Changed disk StaysStep one_call mid.store new.store) (un : Unput disk mid new) where
     abbrev pub unput_here : Core D
-    unput_here = record s { store = new.store; counts = mid.counts; next_block = s.next_block + k; stopped = (stopped_by disk s new.store).stopped }
+    unput_here = record s {
+      store = new.store;
+      counts = mid.counts;
+      next_block = s.next_block + k;
+      stopped = (stopped_by disk s new.store).stopped;
+    }
 
     pub unput_is : new ≡ unput_here
     unput_is = un.is ∙ (λ i. record (was.is i) { store = new.store; stopped = (stopped_by disk s new.store).stopped })
 
-    pub unput_files : Changed disk (SameOutside s.next_block (k + 1)) (together (made_room (size_of s.block_size) k) (made_room (size_of mid.block_size) 1)) s.store new.store
-    unput_files = changed_turn (λ d x w f apart. w f (⊎_elim (λ low. inl low) (λ high. inr (omega (arith, high))) apart))
+    pub unput_files : Changed disk (SameOutside s.next_block (k + 1))
+        (together (made_room (size_of s.block_size) k) (made_room (size_of mid.block_size) 1)) s.store new.store
+    unput_files =
+        changed_turn (λ d x w f apart. w f (⊎_elim (λ low. inl low) (λ high. inr (omega (arith, high))) apart))
         (λ d e x w v. outside_then s.next_block k mid.next_block d e x (making_next disk s given makes k mid was) w v)
         (record { files = omega arith; bytes = omega arith; calls = omega arith }) was.changed un.changed
 
-    pub unput_changed : (len : ℕ) → Changed disk (LeavesOthers s.next_block unput_here.next_block may_go) (asks s.block_size (unput_here.next_block - s.next_block) len 0) s.store new.store
+    pub unput_changed : (len : ℕ) → Changed disk (LeavesOthers s.next_block unput_here.next_block may_go)
+        (asks s.block_size (unput_here.next_block - s.next_block) len 0) s.store new.store
     unput_changed len =
-        let within = within_last s.block_size mid.block_size k len (unput_here.next_block - s.next_block) (making_size disk s given makes k mid was) (omega arith) in
+        let within = within_last s.block_size mid.block_size k len (unput_here.next_block - s.next_block)
+        (making_size disk s given makes k mid was) (omega arith) in
         ⊎_elim
         (λ less.
-        changed_wider (λ d x w. others_made s.next_block (k + 1) (s.next_block + k) may_go d x (omega arith) (omega (arith, most, less)) w)
+        changed_wider (λ d x w. others_made s.next_block (k + 1) (s.next_block + k) may_go d x (omega arith)
+        (omega (arith, most, less)) w)
         within unput_files)
         (λ stays.
-        changed_wider (λ d x w. others_made s.next_block k (s.next_block + k) may_go d x (omega arith) (omega (arith, most, few)) w)
+        changed_wider (λ d x w. others_made s.next_block k (s.next_block + k) may_go d x (omega arith)
+        (omega (arith, most, few)) w)
         within
-        (changed_then_stays {much = together (made_room (size_of s.block_size) k) (made_room (size_of mid.block_size) 1)}
+        (changed_then_stays
+        {much = together (made_room (size_of s.block_size) k) (made_room (size_of mid.block_size) 1)}
         (record { files = omega arith; bytes = omega arith; calls = omega arith }) was.changed stays))
         left
 
     pub unput_failed : HasFailed disk s.store new.store
-    unput_failed = record { rose = omega (arith, un.failed.rose, was.change_faults); later = omega (arith, un.failed.later, was.change_faults) }
+    unput_failed = record {
+      rose = omega (arith, un.failed.rose, was.change_faults);
+      later = omega (arith, un.failed.later, was.change_faults);
+    }
 
     pub unput_left : Left disk s may_go unput_here refusal.DiskFault
     unput_left = record {
@@ -113,8 +146,10 @@ module _ {D : Type 0} (disk : Ghosts D) (s : Core D) (given : Given) (makes : Li
   -- ---- all are made, and then a record is added, or not
 
   pub all_changed : (len : ℕ) (mid new : Core D) → Making disk s given n makes mid → new.next_block ≡ mid.next_block
-      → Changed disk (Leaving mid.next_block new.next_block) (asks mid.block_size (new.next_block - mid.next_block) len 0) mid.store new.store
-      → Changed disk (LeavesOthers s.next_block new.next_block may_go) (asks s.block_size (new.next_block - s.next_block) len 0) s.store new.store
+      → Changed disk (Leaving mid.next_block new.next_block)
+      (asks mid.block_size (new.next_block - mid.next_block) len 0) mid.store new.store
+      → Changed disk (LeavesOthers s.next_block new.next_block may_go)
+      (asks s.block_size (new.next_block - s.next_block) len 0) s.store new.store
   all_changed len mid new making next changed =
       let at_next = making_next disk s given makes n mid making in
       let made : (d x : Files) → SameOutside s.next_block n d x → LeavesOthers s.next_block new.next_block may_go d x =
@@ -127,12 +162,23 @@ module _ {D : Type 0} (disk : Ghosts D) (s : Core D) (given : Given) (makes : Li
       (making_size disk s given makes n mid making) (omega (arith, next)) (omega (arith, next, at_next)))
       making.changed changed
 
-  module _ (store : D) (counts : Counts) (making : Making disk s given n makes (record s { store = store; counts = counts; next_block = s.next_block + n }))
+  module _ (store : D) (counts : Counts) (making : Making disk s given n makes (record s {
+    store = store;
+    counts = counts;
+    next_block = s.next_block + n;
+  }))
       (new : D) (failed : HasFailed disk store new) where
     pub all_failed : HasFailed disk s.store new
-    all_failed = record { rose = omega (arith, failed.rose, making.change_faults); later = omega (arith, failed.later, making.change_faults) }
+    all_failed = record {
+      rose = omega (arith, failed.rose, making.change_faults);
+      later = omega (arith, failed.later, making.change_faults);
+    }
 
-    pub all_left : Left disk s may_go (stopped_by disk (record s { store = store; counts = counts; next_block = s.next_block + n }) new) refusal.DiskFault
+    pub all_left : Left disk s may_go (stopped_by disk (record s {
+      store = store;
+      counts = counts;
+      next_block = s.next_block + n;
+    }) new) refusal.DiskFault
     all_left = record {
       same = refl;
       ids = λ id not. ids_made s.counts counts s.next_block n (s.next_block + n) making.ledger refl id;

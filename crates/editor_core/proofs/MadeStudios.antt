@@ -1,5 +1,6 @@
 -- A studio whose new blocks are made is a studio, and what it stands for is as before.
-use Rattle.std.proofs.Common.{◌≡◌, inl, inr, ⊎_elim, refl, sym, ◌∙◌, subst, ℕ, zero, suc, ◌+◌, ◌^◌, ◌≤◌, ◌<◌, IsTrue, IsSome, Option, None, List, [], ◌∷◌, length, map, take, arith}
+use Rattle.std.proofs.Common.{◌≡◌, inl, inr, ⊎_elim, refl, sym, ◌∙◌, subst, ℕ, zero, suc, ◌+◌, ◌^◌, ◌≤◌, ◌<◌, IsTrue}
+use Rattle.std.proofs.Common.{IsSome, Option, None, List, [], ◌∷◌, length, map, take, arith}
 use Rattle.std.specs.List.{AllByRecursion}
 use Rattle.std.proofs.lemmas.Bool.{cases_lt}
 use Rattle.pcm_base.specs.declared.block.BlockRef.{BlockRef}
@@ -22,11 +23,12 @@ use Rattle.project_state.proofs.KeptBounds.{tagged_more}
 use Rattle.editor_core.specs.Core.{Core}
 use Rattle.editor_core.specs.Made.{PiecesThere, SameOutside, AreAbsent, AreMade}
 use Rattle.editor_core.specs.Makes.{AddsFree, Making}
-use Rattle.editor_core.specs.Studios.{IsGiven, SameBlocks, IsDurable, IsHeld, IsStudio, named_blocks, shown, studio_by, studio_of}
+use Rattle.editor_core.specs.Studios.{IsGiven, SameBlocks, IsDurable, IsHeld, IsStudio, named_blocks, shown, studio_by}
+use Rattle.editor_core.specs.Studios.{studio_of}
 use Rattle.editor_core.specs.declared.studio.Pin.{Pin}
 use Rattle.editor_core.proofs.Images.{keeps_by, shown_is, covers_kept}
 use Rattle.editor_core.proofs.Lists.{all_so}
-use Rattle.editor_core.proofs.Makings.{none_where}
+use Rattle.editor_core.proofs.NextMade.{none_where}
 use Rattle.editor_core.proofs.Meanings.{same_studio}
 use Rattle.editor_core.proofs.Sounds.{all_whole, trans_same}
 
@@ -39,16 +41,19 @@ refs bs = map ref_of bs
 abbrev pub IsNewId : ℕ → ℕ → ℕ → Type 0
 IsNewId next n id = (next ≤ id) × (id < next + n)
 
-pub refs_ids : (m next : ℕ) (bs : List NewBlock) → AreNew m next bs → AllByRecursion (λ (b : BlockRef). IsNewId next (length bs) b.id) (refs bs)
+pub refs_ids : (m next : ℕ) (bs : List NewBlock) → AreNew m next bs
+    → AllByRecursion (λ (b : BlockRef). IsNewId next (length bs) b.id) (refs bs)
 refs_ids m next [] fresh = tt
 refs_ids m next (b ∷ bs) fresh =
     let rest = refs_ids m (next + 1) bs fresh.5 in (
       (omega (arith, fresh.0), omega (arith, fresh.0)),
-      all_so (λ (r : BlockRef). IsNewId (next + 1) (length bs) r.id) (λ (r : BlockRef). IsNewId next (length (b ∷ bs)) r.id)
+      all_so (λ (r : BlockRef). IsNewId (next + 1) (length bs) r.id)
+          (λ (r : BlockRef). IsNewId next (length (b ∷ bs)) r.id)
           (λ r h. (omega (arith, h.0), omega (arith, h.1))) (refs bs) rest,
     )
 
-pub refs_all : (P : BlockRef → Type 0) (bs : List NewBlock) → AllByRecursion (λ b. P (ref_of b)) bs → AllByRecursion P (refs bs)
+pub refs_all : (P : BlockRef → Type 0) (bs : List NewBlock) → AllByRecursion (λ b. P (ref_of b)) bs
+    → AllByRecursion P (refs bs)
 refs_all P [] h = tt
 refs_all P (b ∷ bs) h = (h.0, refs_all P bs h.1)
 
@@ -56,7 +61,8 @@ some_file : (files : Files) (b : BlockRef) → IsWhole files b → IsSome (files
 some_file files b h = subst IsSome (sym (file_of_block files b.id h.0 h.1)) refl
 
 -- the files of the first new blocks are there
-made_there : (m next n : ℕ) (bs : List NewBlock) (files : Files) → n ≤ length bs → AreNew m next bs → AllByRecursion (λ b. IsWhole files (ref_of b)) (take n bs)
+made_there : (m next n : ℕ) (bs : List NewBlock) (files : Files) → n ≤ length bs → AreNew m next bs
+    → AllByRecursion (λ b. IsWhole files (ref_of b)) (take n bs)
     → (id : ℕ) → next ≤ id → id < next + n → IsSome (files id)
 made_there m next zero bs files few fresh whole id low high = absurd (omega (arith, low, high))
 made_there m next (suc n) [] files few fresh whole id low high = absurd (omega (arith, few))
@@ -70,10 +76,13 @@ made_there m next (suc n) (b ∷ bs) files few fresh whole id low high = ⊎_eli
 -- ---- blocks below the next one
 
 -- ids and points that were given stay given
-pub point_more : (m block track block' track' : ℕ) (p : List Track) → block ≤ block' → track ≤ track' → IsSoundPoint m block track p → IsSoundPoint m block' track' p
-point_more m block track block' track' p le le' h = (tagged_more m block track 0 block' track' 0 (p, 0) le le' (omega arith) (h, omega arith)).0
+pub point_more : (m block track block' track' : ℕ) (p : List Track) → block ≤ block' → track ≤ track'
+    → IsSoundPoint m block track p → IsSoundPoint m block' track' p
+point_more m block track block' track' p le le' h =
+    (tagged_more m block track 0 block' track' 0 (p, 0) le le' (omega arith) (h, omega arith)).0
 
-pub below_same : (next n : ℕ) (bs : List BlockRef) (old new : Files) → AllByRecursion (λ (b : BlockRef). IsGiven next b.id) bs → SameOutside next n old new
+pub below_same : (next n : ℕ) (bs : List BlockRef) (old new : Files)
+    → AllByRecursion (λ (b : BlockRef). IsGiven next b.id) bs → SameOutside next n old new
     → SameBlocks bs old new
 below_same next n bs old new ids same =
     all_so (λ (b : BlockRef). IsGiven next b.id) (λ b. new b.id ≡ old b.id) (λ b h. same b.id (inl h.1)) bs ids
@@ -100,7 +109,8 @@ module _ {D : Type 0} (disk : Ghosts D) (s : Core D) (is : IsStudio disk s) wher
 
   -- while new blocks are made each image has the project of before
   pub keeps_outside : (n : ℕ) (store : D) → s.stopped ≡ None → IsHeld disk s
-      → Follows (SameOutside s.next_block n) (disk.clock s.store) (disk.clock store) (disk.may_leave s.store) (disk.may_leave store)
+      → Follows (SameOutside s.next_block n) (disk.clock s.store) (disk.clock store) (disk.may_leave s.store)
+      (disk.may_leave store)
       → EachSince disk s.store store (λ c. Keeps c (shown (studio_of disk s)))
   keeps_outside n store going held follows c since =
       let d = held.durable going in
@@ -137,12 +147,16 @@ module _ {D : Type 0} (disk : Ghosts D) (s : Core D) (is : IsStudio disk s) wher
           few_points = is.few_points;
           few_clips = is.few_clips;
           points = all_so Was Now
-              (λ p h. tagged_more m s.next_block s.next_track s.commit_number next s.next_track s.commit_number p (omega arith) (omega arith) (omega arith) h) s.history.points is.points;
-          pins = all_so (λ (p : Pin). IsSoundPoint m s.next_block s.next_track p.point) (λ (p : Pin). IsSoundPoint m next s.next_track p.point)
-              (λ p h. point_more m s.next_block s.next_track next s.next_track p.point (omega arith) (omega arith) h) s.pins is.pins;
+              (λ p h. tagged_more m s.next_block s.next_track s.commit_number next s.next_track s.commit_number p
+              (omega arith) (omega arith) (omega arith) h) s.history.points is.points;
+          pins = all_so (λ (p : Pin). IsSoundPoint m s.next_block s.next_track p.point)
+              (λ (p : Pin). IsSoundPoint m next s.next_track p.point)
+              (λ p h. point_more m s.next_block s.next_track next s.next_track p.point (omega arith) (omega arith) h)
+              s.pins is.pins;
           numbers = is.numbers;
           clipboard = is.clipboard;
-          ids = all_so (λ (b : BlockRef). IsGiven s.next_block b.id) (λ (b : BlockRef). IsGiven next b.id) (λ b h. (h.0, omega (arith, h.1))) bs is.ids;
+          ids = all_so (λ (b : BlockRef). IsGiven s.next_block b.id) (λ (b : BlockRef). IsGiven next b.id)
+              (λ b h. (h.0, omega (arith, h.1))) bs is.ids;
           counted = λ id. free.counts id ∙ is.counted id;
           given = λ id have. ⊎_elim
               (λ o. let was = is.given id o in (was.0, omega (arith, was.1)))
@@ -162,8 +176,10 @@ module _ {D : Type 0} (disk : Ghosts D) (s : Core D) (is : IsStudio disk s) wher
           durable = durable;
         }
 
-  module _ (given : Given) (makes : List NewBlock) (n : ℕ) (mid : Core D) (making : Making disk s given n makes mid) (going : s.stopped ≡ None)
-      (few : n ≤ length makes) (fresh : AreNew s.block_size s.next_block makes) (most : s.next_block + length makes ≤ 2 ^ 62)
+  module _ (given : Given) (makes : List NewBlock) (n : ℕ) (mid : Core D) (making : Making disk s given n makes mid)
+      (going : s.stopped ≡ None)
+      (few : n ≤ length makes) (fresh : AreNew s.block_size s.next_block makes)
+      (most : s.next_block + length makes ≤ 2 ^ 62)
       (there : IsHeld disk s → PiecesThere (disk.reads s.store) makes) where
     abbrev reads : Files
     reads = disk.reads s.store
@@ -184,7 +200,8 @@ module _ {D : Type 0} (disk : Ghosts D) (s : Core D) (is : IsStudio disk s) wher
     grown_blocks held c left =
         let d = held.durable going in
         let images = making.changed.images in
-        let e = images.from c (images.fewer (disk.clock s.store) (disk.clock mid.store) c images.later (upto_refl (disk.clock mid.store)) left) in
+        let e = images.from c (images.fewer (disk.clock s.store) (disk.clock mid.store) c images.later
+        (upto_refl (disk.clock mid.store)) left) in
         trans_same now reads c bs (same_back bs reads now (named_same held))
         (trans_same reads e.0 c bs (d.blocks e.0 e.1) (below_same s.next_block n bs e.0 c is.ids e.2))
 
@@ -218,7 +235,8 @@ module _ {D : Type 0} (disk : Ghosts D) (s : Core D) (is : IsStudio disk s) wher
         let least = is.counters.block_least in record {
           log = d.log;
           kept = d.kept;
-          there = is_at_still (journal_same s.next_block n least) ((are_made held).same 0 (inl (omega (arith, least)))) making.changed.images d.there;
+          there = is_at_still (journal_same s.next_block n least)
+              ((are_made held).same 0 (inl (omega (arith, least)))) making.changed.images d.there;
           told = d.told;
           rate = d.rate;
           block_size = d.block_size;
@@ -246,8 +264,16 @@ module _ {D : Type 0} (disk : Ghosts D) (s : Core D) (is : IsStudio disk s) wher
 
     -- it stands for the same, with the next block's number risen
     pub made_state : IsHeld disk s
-        → studio_of disk mid ≡ record (studio_of disk s) { next_block = s.next_block + n; read_faults = disk.read_fault_count mid.store }
+        → studio_of disk mid ≡ record (studio_of disk s) {
+          next_block = s.next_block + n;
+          read_faults = disk.read_fault_count mid.store;
+        }
     made_state held =
         let same = same_studio reads now disk s (named_same held) in
-        let one : studio_of disk mid ≡ studio_by (sources_of now) disk grown = λ i. studio_by (sources_of now) disk (making.is i) in
-        one ∙ (λ i. record (same i) { next_block = s.next_block + n; read_faults = disk.read_fault_count mid.store; change_faults = making.change_faults i })
+        let one : studio_of disk mid ≡ studio_by (sources_of now) disk grown =
+        λ i. studio_by (sources_of now) disk (making.is i) in
+        one ∙ (λ i. record (same i) {
+          next_block = s.next_block + n;
+          read_faults = disk.read_fault_count mid.store;
+          change_faults = making.change_faults i;
+        })

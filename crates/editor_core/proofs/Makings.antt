@@ -1,134 +1,30 @@
 -- New blocks are written one after another, and then synced one after another.
-use Rattle.std.proofs.Common.{◌≡◌, ◌≢◌, ◌⊎◌, inl, inr, ⊎_elim, refl, sym, ap, ◌∙◌, subst, ℕ, ◌+◌, ◌*◌, ◌^◌, ◌≤◌, ◌<◌, IsTrue, IsSome, Option, Some, None, Result, Ok, Err, List, [], ◌∷◌, length, Contains, get_or, slice_get, arith}
-use Rattle.std.proofs.lemmas.Option.{slice_get-get_or, same_Some}
-use Rattle.std.proofs.lemmas.Bool.Decides.{eqb_tells}
+use Rattle.std.proofs.Common.{◌≡◌, inr, ⊎_elim, refl, sym, ap, ◌∙◌, subst, ℕ, ◌+◌, ◌≤◌, ◌<◌}
+use Rattle.std.proofs.Common.{IsTrue, Result, Ok, Err, List, length}
+use Rattle.std.proofs.Common.{get_or, arith}
 use Rattle.std.proofs.lemmas.Bool.{cases_lt}
-use Rattle.pcm_base.specs.Pieces.{total}
 use Rattle.pcm_base.specs.declared.refusal.Refusal.{Refusal}
 use Rattle.pcm_base.specs.declared.refusal.Refusal.TheVariants as refusal
 use Rattle.disk_model.specs.MomentLaws.{upto_refl}
-use Rattle.disk_model.specs.Disk.{Files, SameElsewhere, StaysStep}
-use Rattle.disk_model.specs.Frames.{Kept, Changed}
-use Rattle.disk_model.specs.Room.{Room, IsWithin, together}
+use Rattle.disk_model.specs.Disk.{Files, StaysStep}
+use Rattle.disk_model.specs.Frames.{Changed}
 use Rattle.disk_model.specs.declared.store.Store.{Ghosts}
-use Rattle.disk_model.proofs.Frames.{Fewer, changed_none, changed_kept, changed_turn, changed_then_stays, changed_wider}
-use Rattle.sample_block.specs.Spelling.{IsBlock, size_of}
-use Rattle.block_ledger.specs.Counts.{Counts, SetsCount, occurrences, one_more, one_less}
+use Rattle.disk_model.proofs.Frames.{Fewer, changed_none, changed_turn, changed_then_stays, changed_wider}
+use Rattle.sample_block.specs.Spelling.{size_of}
+use Rattle.block_ledger.specs.Counts.{Counts}
 use Rattle.project_journal.specs.Gate.{EachNow}
 use Rattle.edit_ops.specs.declared.types.NewBlock.{NewBlock}
 use Rattle.edit_ops.specs.Plans.{AreNew}
 use Rattle.piece_store.specs.declared.given.Given.{Given}
 use Rattle.piece_store.specs.Bringing.{brought}
-use Rattle.piece_store.specs.Reading.{AllThere}
 use Rattle.editor_core.specs.Adding.{HasFailed, stopped_by}
 use Rattle.editor_core.specs.Core.{Core}
-use Rattle.editor_core.specs.Made.{PiecesThere, SameOutside, AreAbsent, AreMade}
-use Rattle.editor_core.specs.Makes.{AddsFree, AreSynced, IsDamageAmong, MadeOne, Makes, Making, NotMade, Stuck, Synced, Syncs, Unread, Unsynced, Written, made_room, one_call}
+use Rattle.editor_core.specs.Made.{SameOutside, AreMade}
+use Rattle.editor_core.specs.Makes.{AddsFree, AreSynced, IsDamageAmong, MadeOne, Makes, Making, NotMade, Stuck, Synced}
+use Rattle.editor_core.specs.Makes.{Syncs, Unread, Unsynced, Written, made_room, one_call}
 use Rattle.editor_core.proofs.MadeBlocks.{new_at, next_there, next_absent, made_more, made_none}
-
--- ---- the ledger
-
--- an id that is not there, held and dropped
-pub free_one : (old mid new : Counts) (id : ℕ) → old id ≡ None → SetsCount old mid id (Some (one_more (old id))) → SetsCount mid new id (Some (one_less (mid id))) → AddsFree id 1 old new
-free_one old mid new id gone hold drop =
-    let one : mid id ≡ Some 1 = hold.here ∙ ap (λ (o : Option ℕ). Some (one_more o)) gone in
-    let here : new id ≡ Some 0 = drop.here ∙ ap (λ (o : Option ℕ). Some (one_less o)) one in record {
-      counts = λ other. ⊎_elim
-          (λ same.
-          ap occurrences (subst (λ (n : ℕ). new n ≡ Some 0) same.1 here)
-          ∙ sym (ap occurrences (subst (λ (n : ℕ). old n ≡ None) same.1 gone)))
-          (λ apart.
-          ap occurrences (drop.others other (λ e. apart.1 (sym e)) ∙ hold.others other (λ e. apart.1 (sym e))))
-          (eqb_tells id other);
-      ids = λ other. ⊎_elim
-          (λ same.
-          let there : new other ≡ Some 0 = subst (λ (n : ℕ). new n ≡ Some 0) same.1 here in
-          let is : id ≡ other = same.1 in
-          (λ _. inr (omega (arith, is), omega (arith, is)), λ _. subst IsSome (sym there) refl))
-          (λ apart.
-          let e : new other ≡ old other =
-          drop.others other (λ e. apart.1 (sym e)) ∙ hold.others other (λ e. apart.1 (sym e)) in (
-            λ h. inl (subst IsSome e h),
-            λ h. ⊎_elim (λ o. subst IsSome (sym e) o) (λ r. absurd (apart.1 (omega (arith, r.0, r.1)))) h,
-          ))
-          (eqb_tells id other);
-    }
-
-pub free_none : (next : ℕ) (old : Counts) → AddsFree next 0 old old
-free_none next old = record {
-  counts = λ id. refl;
-  ids = λ id. (λ h. inl h, λ h. ⊎_elim (λ o. o) (λ r. absurd (omega (arith, r.0, r.1))) h);
-}
-
-pub free_more : (next n : ℕ) (old mid new : Counts) → AddsFree next n old mid → AddsFree (next + n) 1 mid new → AddsFree next (n + 1) old new
-free_more next n old mid new one two = record {
-  counts = λ id. two.counts id ∙ one.counts id;
-  ids = λ id. (
-    λ h. ⊎_elim
-        (λ m. ⊎_elim (λ o. inl o) (λ r. inr (r.0, omega (arith, r.1))) ((one.ids id).0 m))
-        (λ r. inr (omega (arith, r.0), omega (arith, r.1)))
-        ((two.ids id).0 h),
-    λ h. ⊎_elim
-        (λ o. (two.ids id).1 (inl ((one.ids id).1 (inl o))))
-        (λ r. ⊎_elim
-        (λ low. (two.ids id).1 (inl ((one.ids id).1 (inr (r.0, low)))))
-        (λ high. (two.ids id).1 (inr (high, omega (arith, r.1))))
-        (cases_lt id (next + n)))
-        h,
-  );
-}
-
--- ---- the files
-
-outside_more : (next n : ℕ) (d c : Files) → SameOutside next n d c → SameOutside next (n + 1) d c
-outside_more next n d c same f apart = same f (⊎_elim (λ low. inl low) (λ high. inr (omega (arith, high))) apart)
-
-pub outside_then : (next n id : ℕ) (d e c : Files) → id ≡ next + n → SameOutside next n d e → SameElsewhere id e c → SameOutside next (n + 1) d c
-outside_then next n id d e c is one two f apart =
-    let other : f ≢ id = λ at. ⊎_elim (λ low. absurd (omega (arith, low, at, is))) (λ high. absurd (omega (arith, high, at, is))) apart in
-    two f other ∙ outside_more next n d e one f apart
-
--- one block more asks for as much more
-pub room_more : (z s n : ℕ) → s ≤ z → IsWithin (together (made_room z n) (record { files = 1; bytes = s; calls = 1 })) (made_room z (n + 1))
-room_more z s n le =
-    let sum : (n + 1) * z ≡ n * z + z = omega arith in
-    record { files = omega arith; bytes = omega (arith, sum, le); calls = omega arith }
-
--- so many calls are counted
-called : {D : Type 0} {disk : Ghosts D} {step : Files → Files → Type 0} {much : Room} {old new : D} (n : ℕ) → disk.change_calls new ≤ disk.change_calls old + n
-    → Changed disk step much old new → Changed disk step (record { files = much.files; bytes = much.bytes; calls = n }) old new
-called n few f = record {
-  tells = f.tells;
-  model = f.model;
-  reads = f.reads;
-  images = f.images;
-  later = f.later;
-  files = f.files;
-  bytes = f.bytes;
-  calls = few;
-  room = f.room;
-  spent = f.spent;
-  unfailing = f.unfailing;
-}
-
--- what a sync asks
-
--- reads after other calls
-then_kept : {D : Type 0} {disk : Ghosts D} {step : Files → Files → Type 0} {much : Room} {old mid new : D} → Changed disk step much old mid → Kept disk mid new
-    → Changed disk step much old new
-then_kept {disk = disk} {much = much} {mid = mid} {new = new} f g =
-    let nothing : Room = record { files = 0; bytes = 0; calls = 0 } in
-    let reads : Changed disk StaysStep nothing mid new = changed_kept (λ c. refl) g in
-    changed_then_stays {two = nothing} {much = much} (record { files = omega arith; bytes = omega arith; calls = omega arith }) f reads
-
--- a block's file is no longer than that of the longest block
-pub size_most : (n m : ℕ) → n ≤ m → size_of n ≤ size_of m
-size_most n m le = omega (arith, le)
-
--- one of some
-some_block : (bs : List NewBlock) → 0 < length bs → (b : NewBlock) × Contains bs b
-some_block [] lt = absurd (omega (arith, lt))
-some_block (b ∷ bs) lt = (b, (0, omega arith, refl))
+use Rattle.editor_core.proofs.MakingCounts.{called, free_more, free_none, outside_more, outside_then, room_more}
+use Rattle.editor_core.proofs.MakingCounts.{size_most, some_block, then_kept}
 
 module _ {D : Type 0} (disk : Ghosts D) (s : Core D) (given : Given) (bs : List NewBlock) where
   abbrev z : ℕ
@@ -150,7 +46,8 @@ module _ {D : Type 0} (disk : Ghosts D) (s : Core D) (given : Given) (bs : List 
   pub making_size : (n : ℕ) (mid : Core D) → Making disk s given n bs mid → mid.block_size ≡ s.block_size
   making_size n mid was = ap (λ (x : Core D). x.block_size) was.is
 
-  pub making_more : (n : ℕ) (d : NewBlock) (mid new : Core D) → n < length bs → AreNew s.block_size s.next_block bs → Making disk s given n bs mid
+  pub making_more : (n : ℕ) (d : NewBlock) (mid new : Core D) → n < length bs → AreNew s.block_size s.next_block bs
+      → Making disk s given n bs mid
       → MadeOne disk mid given (get_or bs n d) new → Making disk s given (n + 1) bs new
   making_more n d mid new lt fresh was one =
       let m = s.block_size in
@@ -159,26 +56,36 @@ module _ {D : Type 0} (disk : Ghosts D) (s : Core D) (given : Given) (bs : List 
       let old = disk.reads s.store in
       let reads = disk.reads mid.store in
       let next = making_next n mid was in
-      let still : IsTrue (disk.tells s.store) → IsTrue (disk.tells mid.store) = λ told. subst IsTrue (sym was.changed.tells) told in
+      let still : IsTrue (disk.tells s.store) → IsTrue (disk.tells mid.store) =
+      λ told. subst IsTrue (sym was.changed.tells) told in
       let sum : s.next_block + n + 1 ≡ s.next_block + (n + 1) = omega arith in record {
         is = one.is
-            ∙ (λ i. record (was.is i) { store = new.store; counts = new.counts; next_block = (was.is i).next_block + 1 })
+            ∙ (λ i. record (was.is i) {
+              store = new.store;
+              counts = new.counts;
+              next_block = (was.is i).next_block + 1;
+            })
             ∙ (λ i. record s { store = new.store; counts = new.counts; next_block = sum i });
         ledger = free_more s.next_block n s.counts mid.counts new.counts was.ledger
             (subst (λ (k : ℕ). AddsFree k 1 mid.counts new.counts) next one.ledger);
         made = λ told there gone.
             let made = was.made told there gone in
-            let stored = one.stored (still told) (next_there (brought given) m s.next_block n bs d old reads lt fresh gone there made)
+            let stored = one.stored (still told)
+            (next_there (brought given) m s.next_block n bs d old reads lt fresh gone there made)
             (next_absent (brought given) m s.next_block n bs d old reads lt fresh gone there made) in
-            made_more (brought given) m s.next_block n bs d old reads lt fresh gone there made (disk.reads new.store) (one.changed.reads (still told)) stored;
-        changed = changed_turn (λ d c w. outside_more s.next_block n d c w) (λ d e c w v. outside_then s.next_block n b.id d e c is.id w v)
+            made_more (brought given) m s.next_block n bs d old reads lt fresh gone there made (disk.reads new.store)
+            (one.changed.reads (still told)) stored;
+        changed = changed_turn (λ d c w. outside_more s.next_block n d c w)
+            (λ d e c w v. outside_then s.next_block n b.id d e c is.id w v)
             (room_more z (size_of b.len) n (size_most b.len m is.few)) was.changed one.changed;
         change_faults = one.change_faults ∙ was.change_faults;
       }
 
   -- what is read stays, whatever else the calls behind the blocks do
-  making_over : (n : ℕ) (mid new : Core D) → Making disk s given n bs mid → new ≡ record mid { store = new.store } → disk.reads new.store ≡ disk.reads mid.store
-      → Changed disk (SameOutside s.next_block n) (made_room z n) s.store new.store → disk.change_fault_count new.store ≡ disk.change_fault_count mid.store
+  making_over : (n : ℕ) (mid new : Core D) → Making disk s given n bs mid → new ≡ record mid { store = new.store }
+      → disk.reads new.store ≡ disk.reads mid.store
+      → Changed disk (SameOutside s.next_block n) (made_room z n) s.store new.store
+      → disk.change_fault_count new.store ≡ disk.change_fault_count mid.store
       → Making disk s given n bs new
   making_over n mid new was is same changed faults =
       let counts : new.counts ≡ mid.counts = ap (λ (x : Core D). x.counts) is in record {
@@ -186,21 +93,25 @@ module _ {D : Type 0} (disk : Ghosts D) (s : Core D) (given : Given) (bs : List 
             ∙ (λ i. record s { store = new.store; counts = sym counts i; next_block = s.next_block + n });
         ledger = subst (λ (k : Counts). AddsFree s.next_block n s.counts k) (sym counts) was.ledger;
         made = λ told there gone.
-            subst (λ (f : Files). AreMade (brought given) s.next_block n bs (disk.reads s.store) f) (sym same) (was.made told there gone);
+            subst (λ (f : Files). AreMade (brought given) s.next_block n bs (disk.reads s.store) f) (sym same)
+            (was.made told there gone);
         changed = changed;
         change_faults = faults ∙ was.change_faults;
       }
 
   -- a piece of the next block could not be read
-  pub making_unread : (n : ℕ) (mid new : Core D) → Making disk s given n bs mid → Unread disk mid new → Making disk s given n bs new
-  making_unread n mid new was un = making_over n mid new was un.is un.kept.same_reads (then_kept was.changed un.kept) un.kept.same_faults
+  pub making_unread : (n : ℕ) (mid new : Core D) → Making disk s given n bs mid → Unread disk mid new
+      → Making disk s given n bs new
+  making_unread n mid new was un =
+      making_over n mid new was un.is un.kept.same_reads (then_kept was.changed un.kept) un.kept.same_faults
 
   -- ---- each in one call
 
   pub written_none : Fewer disk s.store → Written disk s given 0 bs s
   written_none fewer = record { making = making_none fewer; calls = omega arith; read_faults = refl }
 
-  pub written_more : (n : ℕ) (d : NewBlock) (mid new : Core D) → n < length bs → AreNew s.block_size s.next_block bs → Written disk s given n bs mid
+  pub written_more : (n : ℕ) (d : NewBlock) (mid new : Core D) → n < length bs → AreNew s.block_size s.next_block bs
+      → Written disk s given n bs mid
       → MadeOne disk mid given (get_or bs n d) new → Written disk s given (n + 1) bs new
   written_more n d mid new lt fresh was one = record {
     making = making_more n d mid new lt fresh was.making one;
@@ -210,20 +121,30 @@ module _ {D : Type 0} (disk : Ghosts D) (s : Core D) (given : Given) (bs : List 
 
   -- ---- and synced
 
-  synced_making : (n k : ℕ) (mid new : Core D) → k ≤ n → Written disk s given n bs mid → Synced disk mid s.next_block k new → Making disk s given n bs new
+  synced_making : (n k : ℕ) (mid new : Core D) → k ≤ n → Written disk s given n bs mid
+      → Synced disk mid s.next_block k new → Making disk s given n bs new
   synced_making n k mid new le was then =
       making_over n mid new was.making then.is then.reads
-      (changed_then_stays (record { files = omega arith; bytes = omega arith; calls = omega (arith, le) }) (called n was.calls was.making.changed) then.changed)
+      (changed_then_stays (record {
+        files = omega arith;
+        bytes = omega arith;
+        calls = omega (arith, le);
+      }) (called n was.calls was.making.changed) then.changed)
       then.change_faults
 
-  makes_done : (mid new : Core D) → Written disk s given (length bs) bs mid → Synced disk mid s.next_block (length bs) new
+  makes_done : (mid new : Core D) → Written disk s given (length bs) bs mid
+      → Synced disk mid s.next_block (length bs) new
       → Making disk s given (length bs) bs new
       × (disk.read_fault_count new.store ≡ disk.read_fault_count s.store)
       × AreSynced disk s.next_block (length bs) new.store
-  makes_done mid new was then =
-      (synced_making (length bs) (length bs) mid new (omega arith) was then, then.read_faults ∙ was.read_faults, then.same)
+  makes_done mid new was then = (
+    synced_making (length bs) (length bs) mid new (omega arith) was then,
+    then.read_faults ∙ was.read_faults,
+    then.same,
+  )
 
-  makes_unsynced : (why : Refusal) (mid new : Core D) → Written disk s given (length bs) bs mid → Unsynced disk mid s.next_block (length bs) why new
+  makes_unsynced : (why : Refusal) (mid new : Core D) → Written disk s given (length bs) bs mid
+      → Unsynced disk mid s.next_block (length bs) why new
       → Stuck disk s given bs why new
   makes_unsynced why mid new was un = record {
     made = length bs;
@@ -235,7 +156,8 @@ module _ {D : Type 0} (disk : Ghosts D) (s : Core D) (given : Given) (bs : List 
     left = inr un.stays;
     block = (some_block bs (omega (arith, un.some_left))).0;
     stands = (some_block bs (omega (arith, un.some_left))).1;
-    damaged = λ told. subst (IsDamageAmong (disk.reads un.mid.store) (some_block bs (omega (arith, un.some_left))).0.pieces) (sym un.is) tt;
+    damaged = λ told. subst
+        (IsDamageAmong (disk.reads un.mid.store) (some_block bs (omega (arith, un.some_left))).0.pieces) (sym un.is) tt;
     sound = λ told there gone. un.is;
   }
 
@@ -259,8 +181,10 @@ module _ {D : Type 0} (disk : Ghosts D) (s : Core D) (first : ℕ) where
 
   module _ (n : ℕ) (mid new : Core D) (was : Synced disk s first n mid) where
     pub synced_more : new ≡ record mid { store = new.store } → disk.reads new.store ≡ disk.reads mid.store
-        → EachNow disk new.store (λ c. c (first + n) ≡ disk.reads new.store (first + n)) → Changed disk StaysStep one_call mid.store new.store
-        → disk.read_fault_count new.store ≡ disk.read_fault_count mid.store → disk.change_fault_count new.store ≡ disk.change_fault_count mid.store
+        → EachNow disk new.store (λ c. c (first + n) ≡ disk.reads new.store (first + n))
+        → Changed disk StaysStep one_call mid.store new.store
+        → disk.read_fault_count new.store ≡ disk.read_fault_count mid.store
+        → disk.change_fault_count new.store ≡ disk.change_fault_count mid.store
         → Synced disk s first (n + 1) new
     synced_more is reads durable changed read_faults change_faults = record {
       is = is ∙ (λ i. record (was.is i) { store = new.store });
@@ -269,20 +193,27 @@ module _ {D : Type 0} (disk : Ghosts D) (s : Core D) (first : ℕ) where
           let images = changed.images in
           ⊎_elim
           (λ before.
-          let e = images.from c (images.fewer (disk.clock mid.store) (disk.clock new.store) c images.later (upto_refl (disk.clock new.store)) now) in
+          let e = images.from c (images.fewer (disk.clock mid.store) (disk.clock new.store) c images.later
+          (upto_refl (disk.clock new.store)) now) in
           ap (λ (g : Files). g f) e.2 ∙ was.same e.0 e.1 f low before ∙ sym (ap (λ (g : Files). g f) reads))
           (λ after.
           let at : first + n ≡ f = omega (arith, after, high) in
           subst (λ (k : ℕ). c k ≡ disk.reads new.store k) at (durable c now))
           (cases_lt f (first + n));
-      changed = changed_then_stays (record { files = omega arith; bytes = omega arith; calls = omega arith }) was.changed changed;
+      changed = changed_then_stays (record {
+        files = omega arith;
+        bytes = omega arith;
+        calls = omega arith;
+      }) was.changed changed;
       read_faults = read_faults ∙ was.read_faults;
       change_faults = change_faults ∙ was.change_faults;
     }
 
     -- the next sync failed
-    pub unsynced_here : (m : ℕ) → n < m → new ≡ stopped_by disk mid new.store → Changed disk StaysStep one_call mid.store new.store → HasFailed disk mid.store new.store
-        → disk.read_fault_count new.store ≡ disk.read_fault_count mid.store → Unsynced disk s first m refusal.DiskFault new
+    pub unsynced_here : (m : ℕ) → n < m → new ≡ stopped_by disk mid new.store
+        → Changed disk StaysStep one_call mid.store new.store → HasFailed disk mid.store new.store
+        → disk.read_fault_count new.store ≡ disk.read_fault_count mid.store
+        → Unsynced disk s first m refusal.DiskFault new
     unsynced_here m lt is changed failed read_faults = record {
       synced = n;
       some_left = lt;
@@ -291,72 +222,13 @@ module _ {D : Type 0} (disk : Ghosts D) (s : Core D) (first : ℕ) where
       is = refl;
       by = record {
         is = is;
-        changed = changed_wider (λ d c same f other. ap (λ (g : Files). g f) same) (record { files = omega arith; bytes = omega arith; calls = omega arith }) changed;
+        changed = changed_wider (λ d c same f other. ap (λ (g : Files). g f) same) (record {
+          files = omega arith;
+          bytes = omega arith;
+          calls = omega arith;
+        }) changed;
         failed = failed;
         read_faults = read_faults;
       };
       stays = changed;
     }
-
--- ---- the next block of some
-
-pub item : (bs : List NewBlock) (n : ℕ) (b d : NewBlock) → n < length bs → slice_get bs n ≡ Some b → get_or bs n d ≡ b
-item bs n b d lt here = same_Some (get_or bs n d) b (sym (slice_get-get_or bs n d lt) ∙ here)
-
-pub none_where : {A : Type 0} (o : Option A) → (IsSome o → ⊥) → o ≡ None
-none_where None h = refl
-none_where (Some n) h = absurd (h refl)
-
--- what is asked of the next one
-pub record IsReady (m next n : ℕ) (b : NewBlock) : Type 0 where
-  pub id : b.id ≡ next + n
-  pub block : IsBlock b.id b.len
-  pub total : total b.pieces ≡ b.len
-  pub few : b.len ≤ m
-
-pub ready_item : (m next n : ℕ) (bs : List NewBlock) (b : NewBlock) → n < length bs → slice_get bs n ≡ Some b → AreNew m next bs → 16 ≤ next
-    → next + length bs ≤ 2 ^ 62 → m ≤ 262144 → IsReady m next n b
-ready_item m next n bs b lt here fresh least most size =
-    let is = new_at m next bs n b lt fresh in
-    subst (IsReady m next n) (item bs n b b lt here) (record {
-      id = is.id;
-      block = record {
-        id_low = omega (arith, is.id, least);
-        id_high = omega (arith, is.id, most, lt);
-        some = omega (arith, is.some);
-        few = omega (arith, is.few, size);
-      };
-      total = is.total;
-      few = is.few;
-    })
-
--- the ledger does not have the next id
-pub fresh_next : (next n : ℕ) (old mid : Counts) (id : ℕ) → AddsFree next n old mid → ((k : ℕ) → IsSome (old k) → k < next) → id ≡ next + n → mid id ≡ None
-fresh_next next n old mid id was below is = none_where (mid id)
-    (λ h. ⊎_elim (λ o. absurd (omega (arith, below id o, is))) (λ r. absurd (omega (arith, r.1, is))) ((was.ids id).0 h))
-
-module _ {D : Type 0} (disk : Ghosts D) (s : Core D) (given : Given) (bs : List NewBlock) (n : ℕ) (mid : Core D) (was : Making disk s given n bs mid)
-    (lt : n < length bs) (fresh : AreNew s.block_size s.next_block bs) (b : NewBlock) (here : slice_get bs n ≡ Some b) where
-  -- where the disk has the blocks of all pieces, those of the next block are there still
-  pub pieces_still : IsTrue (disk.tells s.store) → PiecesThere (disk.reads s.store) bs → AreAbsent s.next_block (length bs) (disk.reads s.store) → AllThere (disk.reads mid.store) b.pieces
-  pieces_still told there gone =
-      subst (λ (x : NewBlock). AllThere (disk.reads mid.store) x.pieces) (item bs n b b lt here)
-      (next_there (brought given) s.block_size s.next_block n bs b (disk.reads s.store) (disk.reads mid.store) lt fresh gone there (was.made told there gone))
-
-  -- the next block was not made
-  pub stuck_here : (why : Refusal) (new : Core D) → disk.read_fault_count mid.store ≡ disk.read_fault_count s.store → NotMade disk mid why new
-      → (IsTrue (disk.tells mid.store) → AllThere (disk.reads mid.store) b.pieces → why ≡ refusal.DiskFault)
-      → (IsTrue (disk.tells mid.store) → IsDamageAmong (disk.reads mid.store) b.pieces why) → Stuck disk s given bs why new
-  stuck_here why new reads by sound damaged = record {
-    made = n;
-    few = omega (arith, lt);
-    mid = mid;
-    before = was;
-    read_faults = reads;
-    by = by;
-    left = inl lt;
-    block = b;
-    stands = (n, lt, item bs n b b lt here);
-    damaged = damaged;
-    sound = λ told there gone. sound (subst IsTrue (sym was.changed.tells) told) (pieces_still told there gone);
-  }

@@ -1,5 +1,7 @@
 -- Undo, redo and purge: their records, and what they leave.
-use Rattle.std.proofs.Common.{◌≡◌, ◌↔◌, refl, sym, ap, ◌∙◌, subst, ℕ, ◌+◌, ◌-◌, ◌^◌, ◌≤◌, ◌<◌, nat_lt, Bool, true, false, List, [], ◌++◌, drop, take, flat_map, length, IsSome, Option, Some, None, Ok, Err, arith}
+use Rattle.std.proofs.Common.{◌≡◌, ◌↔◌, refl, sym, ap, ◌∙◌, subst, ℕ, ◌+◌, ◌-◌, ◌^◌, ◌≤◌, ◌<◌, nat_lt, Bool, true}
+use Rattle.std.proofs.Common.{false, List, [], ◌++◌, drop, take, flat_map, length, IsSome, Option, Some, None, Ok, Err}
+use Rattle.std.proofs.Common.{arith}
 use Rattle.std.proofs.lemmas.List.{length-drop}
 use Rattle.std.proofs.lemmas.Option.{none-some, same_Some}
 use Rattle.std.specs.List.{AllByRecursion}
@@ -40,13 +42,43 @@ use Rattle.editor_core.proofs.Staying.{none_made, refuses}
 use Rattle.editor_core.proofs.Times.{named_append}
 
 pub undo_call : IsCommitCall (Line command.Undo) silent 0
-undo_call = record { one = refl; no_pin = refl; tracks_is = λ rate. refl; stops = λ o. refl; changes = refl; leaves = λ t. refl; heard = λ rate s. refl; quiet = refl; done = λ rate s. refl }
+undo_call = record {
+  one = refl;
+  no_pin = refl;
+  tracks_is = λ rate. refl;
+  stops = λ o. refl;
+  changes = refl;
+  leaves = λ t. refl;
+  heard = λ rate s. refl;
+  quiet = refl;
+  done = λ rate s. refl;
+}
 
 pub redo_call : IsCommitCall (Line command.Redo) silent 0
-redo_call = record { one = refl; no_pin = refl; tracks_is = λ rate. refl; stops = λ o. refl; changes = refl; leaves = λ t. refl; heard = λ rate s. refl; quiet = refl; done = λ rate s. refl }
+redo_call = record {
+  one = refl;
+  no_pin = refl;
+  tracks_is = λ rate. refl;
+  stops = λ o. refl;
+  changes = refl;
+  leaves = λ t. refl;
+  heard = λ rate s. refl;
+  quiet = refl;
+  done = λ rate s. refl;
+}
 
 pub purge_call : (n : ℕ) → IsCommitCall (Line (command.Purge n)) silent 0
-purge_call n = record { one = refl; no_pin = refl; tracks_is = λ rate. refl; stops = λ o. refl; changes = refl; leaves = λ t. refl; heard = λ rate s. refl; quiet = refl; done = λ rate s. refl }
+purge_call n = record {
+  one = refl;
+  no_pin = refl;
+  tracks_is = λ rate. refl;
+  stops = λ o. refl;
+  changes = refl;
+  leaves = λ t. refl;
+  heard = λ rate s. refl;
+  quiet = refl;
+  done = λ rate s. refl;
+}
 
 module _ {D : Type 0} (disk : Ghosts D) (s : Core D) (is : IsStudio disk s) where
   abbrev Move : Call → Body → History (List Track) → Type 1
@@ -59,9 +91,11 @@ module _ {D : Type 0} (disk : Ghosts D) (s : Core D) (is : IsStudio disk s) wher
       (all_left P (history_blocks s.history) (pin_blocks s.pins ++ clip_blocks s.clipboard) named)
 
   -- tags that were given stay given
-  points_later : AllByRecursion (IsSoundTagged s.block_size s.next_block s.next_track (s.commit_number + 1)) s.history.points
+  points_later : AllByRecursion
+      (IsSoundTagged s.block_size s.next_block s.next_track (s.commit_number + 1)) s.history.points
   points_later =
-      all_so (IsSoundTagged s.block_size s.next_block s.next_track s.commit_number) (IsSoundTagged s.block_size s.next_block s.next_track (s.commit_number + 1))
+      all_so (IsSoundTagged s.block_size s.next_block s.next_track s.commit_number)
+      (IsSoundTagged s.block_size s.next_block s.next_track (s.commit_number + 1))
       (λ p h. (h.0, omega (arith, h.1))) s.history.points is.points
 
   pub undoes : 0 < s.history.cursor → Move (Line command.Undo) Undo (at_cursor s.history (s.history.cursor - 1))
@@ -70,8 +104,16 @@ module _ {D : Type 0} (disk : Ghosts D) (s : Core D) (is : IsStudio disk s) wher
     gives = omega arith;
     block_then = λ n. n;
     block_most = λ n h. h;
-    next = λ m k e. record { spelled = refl; sound = tt; follows = subst (λ (h : History (List Track)). 0 < h.cursor) (sym e.history) some };
-    leads = λ m k e. λ i. record k { history = at_cursor (e.history i) ((e.history i).cursor - 1); next_track = e.next_track i; commit = k.commit + 1 };
+    next = λ m k e. record {
+      spelled = refl;
+      sound = tt;
+      follows = subst (λ (h : History (List Track)). 0 < h.cursor) (sym e.history) some;
+    };
+    leads = λ m k e. λ i. record k {
+      history = at_cursor (e.history i) ((e.history i).cursor - 1);
+      next_track = e.next_track i;
+      commit = k.commit + 1;
+    };
     covers = same_points (at_cursor s.history (s.history.cursor - 1)) refl;
     clip_covers = clip_stays s [];
     clip_few = is.few_clips;
@@ -83,14 +125,23 @@ module _ {D : Type 0} (disk : Ghosts D) (s : Core D) (is : IsStudio disk s) wher
     needs = λ held. (refl, refl);
   }
 
-  pub redoes : s.history.cursor + 1 < length s.history.points → Move (Line command.Redo) Redo (at_cursor s.history (s.history.cursor + 1))
+  pub redoes : s.history.cursor + 1 < length s.history.points
+      → Move (Line command.Redo) Redo (at_cursor s.history (s.history.cursor + 1))
   redoes some = record {
     call = redo_call;
     gives = omega arith;
     block_then = λ n. n;
     block_most = λ n h. h;
-    next = λ m k e. record { spelled = refl; sound = tt; follows = subst (λ (h : History (List Track)). h.cursor + 1 < length h.points) (sym e.history) some };
-    leads = λ m k e. λ i. record k { history = at_cursor (e.history i) ((e.history i).cursor + 1); next_track = e.next_track i; commit = k.commit + 1 };
+    next = λ m k e. record {
+      spelled = refl;
+      sound = tt;
+      follows = subst (λ (h : History (List Track)). h.cursor + 1 < length h.points) (sym e.history) some;
+    };
+    leads = λ m k e. λ i. record k {
+      history = at_cursor (e.history i) ((e.history i).cursor + 1);
+      next_track = e.next_track i;
+      commit = k.commit + 1;
+    };
     covers = same_points (at_cursor s.history (s.history.cursor + 1)) refl;
     clip_covers = clip_stays s [];
     clip_few = is.few_clips;
@@ -106,22 +157,31 @@ module _ {D : Type 0} (disk : Ghosts D) (s : Core D) (is : IsStudio disk s) wher
   purge_covers n P all =
       let named = all_left P (named_blocks s) [] all in
       let blocks : List Track × ℕ → List BlockRef = λ q. point_blocks q.0 in
-      let points = all_each P blocks s.history.points (all_left P (history_blocks s.history) (pin_blocks s.pins ++ clip_blocks s.clipboard) named) in
-      all_joined P blocks (drop n s.history.points) (all_drop (λ (q : List Track × ℕ). AllByRecursion P (point_blocks q.0)) n s.history.points points)
+      let points = all_each P blocks s.history.points
+      (all_left P (history_blocks s.history) (pin_blocks s.pins ++ clip_blocks s.clipboard) named) in
+      all_joined P blocks (drop n s.history.points)
+      (all_drop (λ (q : List Track × ℕ). AllByRecursion P (point_blocks q.0)) n s.history.points points)
 
-  pub purges : (n : ℕ) → 1 ≤ n → n ≤ s.history.cursor → n < 2 ^ 64 → Move (Line (command.Purge n)) (Purge n) (purged s.history n)
+  pub purges : (n : ℕ) → 1 ≤ n → n ≤ s.history.cursor → n < 2 ^ 64
+      → Move (Line (command.Purge n)) (Purge n) (purged s.history n)
   purges n some few small = record {
     call = purge_call n;
     gives = omega arith;
     block_then = λ n. n;
     block_most = λ n h. h;
-    next = λ m k e. record { spelled = refl; sound = small; follows = subst (λ (h : History (List Track)). (1 ≤ n) × (n ≤ h.cursor)) (sym e.history) (some, few) };
-    leads = λ m k e. λ i. record k { history = purged (e.history i) n; next_track = e.next_track i; commit = k.commit + 1 };
+    next = λ m k e. record {
+      spelled = refl;
+      sound = small;
+      follows = subst (λ (h : History (List Track)). (1 ≤ n) × (n ≤ h.cursor)) (sym e.history) (some, few);
+    };
+    leads =
+        λ m k e. λ i. record k { history = purged (e.history i) n; next_track = e.next_track i; commit = k.commit + 1 };
     covers = purge_covers n;
     clip_covers = clip_stays s [];
     clip_few = is.few_clips;
     clip_fits = is.clipboard;
-    points = all_drop (IsSoundTagged s.block_size s.next_block s.next_track (s.commit_number + 1)) n s.history.points points_later;
+    points = all_drop
+        (IsSoundTagged s.block_size s.next_block s.next_track (s.commit_number + 1)) n s.history.points points_later;
     depth = refl;
     few = omega (arith, is.few_points, length-drop n s.history.points);
     model = λ held.
@@ -131,67 +191,98 @@ module _ {D : Type 0} (disk : Ghosts D) (s : Core D) (is : IsStudio disk s) wher
   }
 
   -- what a move leaves, where its record was added
-  pub moves : (c : Call) (body : Body) (h : History (List Track)) (mid : Core D) (h' : History (List Track)) (counts : Counts) → Move c body h
-      → s.stopped ≡ None → call_tests (outside (studio_of disk s) silent) (studio_of disk s).state c ≡ None → s.commit_number < 2 ^ 62
+  pub moves : (c : Call) (body : Body) (h : History (List Track)) (mid : Core D) (h' : History (List Track))
+      (counts : Counts) → Move c body h
+      → s.stopped ≡ None → call_tests (outside (studio_of disk s) silent) (studio_of disk s).state c ≡ None
+      → s.commit_number < 2 ^ 62
       → Adds disk s (spelling body) (Ok (tt {0})) mid → h' ≡ h
-      → IsFreshCount (ids_of (history_blocks h ++ (pin_blocks s.pins ++ clip_blocks s.clipboard))) counts → ((id : ℕ) → IsSome (counts id) ↔ IsSome (s.counts id))
+      → IsFreshCount (ids_of (history_blocks h ++ (pin_blocks s.pins ++ clip_blocks s.clipboard))) counts
+      → ((id : ℕ) → IsSome (counts id) ↔ IsSome (s.counts id))
       → Took disk s c silent (Ok Done) 0 (record mid { history = h'; counts = counts })
   moves c body h mid h' counts move going own number adds is-h counted files =
       let clip = ap (λ (z : Core D). z.clipboard) adds.fields.0 in
-      let took = grows_so disk s [] c silent 0 body h s.clipboard s.next_track is (none_made disk s) move going own (omega (arith, is.counters.track_most)) number (tt {0}) mid adds
+      let took = grows_so disk s [] c silent 0 body h s.clipboard s.next_track is (none_made disk s) move going own
+      (omega (arith, is.counters.track_most)) number (tt {0}) mid adds
       h' counts mid.next_track is-h (ap (λ (z : Core D). z.next_track) adds.fields.0) counted files in
-      subst (λ z. Took disk s c silent (Ok Done) 0 (record mid { history = h'; clipboard = z; counts = counts })) (sym clip) took
+      subst (λ z. Took disk s c silent (Ok Done) 0 (record mid { history = h'; clipboard = z; counts = counts }))
+      (sym clip) took
 
   -- where the points stay
-  pub moved : (c : Call) (body : Body) (h : History (List Track)) (mid : Core D) (h' : History (List Track)) → Move c body h → h.points ≡ s.history.points
-      → s.stopped ≡ None → call_tests (outside (studio_of disk s) silent) (studio_of disk s).state c ≡ None → s.commit_number < 2 ^ 62
-      → Adds disk s (spelling body) (Ok (tt {0})) mid → h' ≡ h → Took disk s c silent (Ok Done) 0 (record mid { history = h' })
+  pub moved : (c : Call) (body : Body) (h : History (List Track)) (mid : Core D) (h' : History (List Track))
+      → Move c body h → h.points ≡ s.history.points
+      → s.stopped ≡ None → call_tests (outside (studio_of disk s) silent) (studio_of disk s).state c ≡ None
+      → s.commit_number < 2 ^ 62
+      → Adds disk s (spelling body) (Ok (tt {0})) mid → h' ≡ h
+      → Took disk s c silent (Ok Done) 0 (record mid { history = h' })
   moved c body h mid h' move points going own number adds is-h =
       let counts : mid.counts ≡ s.counts = ap (λ (z : Core D). z.counts) adds.fields.0 in
       let rest : List BlockRef = pin_blocks s.pins ++ clip_blocks s.clipboard in
       moves c body h mid h' mid.counts move going own number adds is-h
-      (λ id. ap (λ (z : Counts). occurrences (z id)) counts ∙ is.counted id ∙ ap (λ z. times_named id (history_blocks (record h { points = z }) ++ rest)) (sym points))
-      (λ id. (λ t. subst (λ (z : Counts). IsSome (z id)) counts t, λ t. subst (λ (z : Counts). IsSome (z id)) (sym counts) t))
+      (λ id. ap (λ (z : Counts). occurrences (z id)) counts ∙ is.counted id
+      ∙ ap (λ z. times_named id (history_blocks (record h { points = z }) ++ rest)) (sym points))
+      (λ id. (
+        λ t. subst (λ (z : Counts). IsSome (z id)) counts t,
+        λ t. subst (λ (z : Counts). IsSome (z id)) (sym counts) t,
+      ))
 
   -- the oldest points, of which each is counted
   abbrev oldest : ℕ → List BlockRef
   oldest n = flat_map point_blocks (drop 0 (take n (points_of s.history)))
 
-  split_times : (n id : ℕ) → times_named id (oldest n) + times_named id (history_blocks (purged s.history n)) ≡ times_named id (history_blocks s.history)
+  split_times : (n id : ℕ) → times_named id (oldest n) + times_named id (history_blocks (purged s.history n))
+      ≡ times_named id (history_blocks s.history)
   split_times n id =
-      ap (λ k. k + times_named id (history_blocks (purged s.history n))) (ap (times_named id) (untagged 0 n s.history)) ∙ times_split id n s.history.points
+      ap (λ k. k + times_named id (history_blocks (purged s.history n))) (ap (times_named id) (untagged 0 n s.history))
+      ∙ times_split id n s.history.points
 
   pub has_oldest : (n : ℕ) → HasAll s.counts (oldest n)
-  has_oldest n = λ id. omega (arith, split_times n id, is.counted id, named_append id (history_blocks s.history) (pin_blocks s.pins ++ clip_blocks s.clipboard))
+  has_oldest n = λ id. omega (
+    arith,
+    split_times n id,
+    is.counted id,
+    named_append id (history_blocks s.history) (pin_blocks s.pins ++ clip_blocks s.clipboard),
+  )
 
   -- the counts behind a purge
   pub purged_counts : (n : ℕ) (counts : Counts) → Dropped s.counts counts (oldest n)
-      → IsFreshCount (ids_of (history_blocks (purged s.history n) ++ (pin_blocks s.pins ++ clip_blocks s.clipboard))) counts
+      → IsFreshCount
+      (ids_of (history_blocks (purged s.history n) ++ (pin_blocks s.pins ++ clip_blocks s.clipboard))) counts
   purged_counts n counts went id =
       let rest : List BlockRef = pin_blocks s.pins ++ clip_blocks s.clipboard in
-      left _ _ _ _ _ _ (went.counts id) (split_times n id) (is.counted id ∙ named_append id (history_blocks s.history) rest) ∙ sym (named_append id (history_blocks (purged s.history n)) rest)
+      left _ _ _ _ _ _ (went.counts id) (split_times n id) (is.counted id ∙ named_append id
+      (history_blocks s.history) rest) ∙ sym (named_append id (history_blocks (purged s.history n)) rest)
     where
-      left : (new gone was after rest history : ℕ) → new + gone ≡ was → gone + after ≡ history → was ≡ history + rest → new ≡ after + rest
+      left : (new gone was after rest history : ℕ) → new + gone ≡ was → gone + after ≡ history → was ≡ history + rest
+          → new ≡ after + rest
       left new gone was after rest history a b c = omega (arith, a, b, c)
 
 -- a commit without new blocks that a test refuses
-pub tested_out : {D : Type 0} (disk : Ghosts D) (s : Core D) (c : Call) (tracks len : ℕ) (own : Option Refusal) (why : Refusal) → IsStudio disk s → Fewer disk s.store
-    → IsCommitCall c silent tracks → (IsHeld disk s → Needs (outside (studio_of disk s) silent) (studio_of disk s) c 0 len)
+pub tested_out : {D : Type 0} (disk : Ghosts D) (s : Core D) (c : Call) (tracks len : ℕ) (own : Option Refusal)
+    (why : Refusal) → IsStudio disk s → Fewer disk s.store
+    → IsCommitCall c silent tracks
+    → (IsHeld disk s → Needs (outside (studio_of disk s) silent) (studio_of disk s) c 0 len)
     → own ≡ call_tests (outside (studio_of disk s) silent) (studio_of disk s).state c
-    → (stop_of s.stopped) otherwise own otherwise (no_room s.next_track tracks) otherwise (no_room s.commit_number 1) ≡ Some why → Took disk s c silent (Err why) 0 s
+    → (stop_of s.stopped) otherwise own otherwise (no_room s.next_track tracks) otherwise (no_room s.commit_number 1)
+    ≡ Some why → Took disk s c silent (Err why) 0 s
 tested_out disk s c tracks len own why is fewer call needs is_own h =
-    let by = ap (λ (o : Option Refusal). (stop_of s.stopped) otherwise o otherwise (no_room s.next_track tracks) otherwise (no_room s.commit_number 1)) (sym is_own) ∙ h in
+    let by = ap (λ (o : Option Refusal). (stop_of s.stopped) otherwise o otherwise
+    (no_room s.next_track tracks) otherwise (no_room s.commit_number 1)) (sym is_own) ∙ h in
     refuses disk s c silent why is fewer refl len 0 needs
-    (tested (studio_of disk s) c silent tracks call 0 len is.counters.pin_most why (omega (arith, is.counters.block_most)) by)
+    (tested (studio_of disk s) c silent tracks call 0 len is.counters.pin_most why
+    (omega (arith, is.counters.block_most)) by)
 
 -- it is not for want of memory, where the own tests' refusal is not
-pub no_want : (stopped : Option ℕ) (own : Option Refusal) (track tracks number : ℕ) (why : Refusal) → ((r : Refusal) → own ≡ Some r → IsNoWant r)
-    → (stop_of stopped) otherwise own otherwise (no_room track tracks) otherwise (no_room number 1) ≡ Some why → IsNoWant why
+pub no_want : (stopped : Option ℕ) (own : Option Refusal) (track tracks number : ℕ) (why : Refusal)
+    → ((r : Refusal) → own ≡ Some r → IsNoWant r)
+    → (stop_of stopped) otherwise own otherwise (no_room track tracks) otherwise (no_room number 1) ≡ Some why
+    → IsNoWant why
 no_want (Some n) own track tracks number why h e = subst IsNoWant (same_Some (refusal.Stopped n) why e) tt
 no_want None (Some r) track tracks number why h e = subst IsNoWant (same_Some r why e) (h r refl)
-no_want None None track tracks number why h e = spaces (nat_lt (2 ^ 62) (track + tracks)) (nat_lt (2 ^ 62) (number + 1)) e
+no_want None None track tracks number why h e =
+    spaces (nat_lt (2 ^ 62) (track + tracks)) (nat_lt (2 ^ 62) (number + 1)) e
   where
-    spaces : (a b : Bool) → (refused_if a (refusal.SpaceSpent track tracks)) otherwise (refused_if b (refusal.SpaceSpent number 1)) ≡ Some why → IsNoWant why
+    spaces : (a b : Bool) → (refused_if a (refusal.SpaceSpent track tracks)) otherwise
+        (refused_if b (refusal.SpaceSpent number 1)) ≡ Some why → IsNoWant why
     spaces true b e = subst IsNoWant (same_Some (refusal.SpaceSpent track tracks) why e) tt
     spaces false true e = subst IsNoWant (same_Some (refusal.SpaceSpent number 1) why e) tt
     spaces false false e = absurd (none-some why e)

@@ -15,7 +15,8 @@ use Rattle.editor_core.specs.Core.{Core}
 use Rattle.editor_core.specs.declared.studio.Pin.{Pin}
 use Rattle.editor_core.specs.Left.{MayRemove}
 use Rattle.editor_core.specs.Occurrences.{times_named}
-use Rattle.editor_core.specs.Studios.{IsGiven, PinsRise, MayPaste, IsHeld, IsStudio, studio_of, named_blocks, clip_blocks}
+use Rattle.editor_core.specs.Studios.{IsGiven, PinsRise, MayPaste, IsHeld, IsStudio, studio_of, named_blocks}
+use Rattle.editor_core.specs.Studios.{clip_blocks}
 use Rattle.editor_core.specs.Took.{Took, silent}
 use Rattle.editor_core.proofs.Images.{keeps_now}
 use Rattle.editor_core.proofs.Others.{others_none}
@@ -26,8 +27,10 @@ abbrev pub renamed : {D : Type 0} → Core D → Option (List (List Item)) → L
 renamed s clip pins next_pin counts = record s { clipboard = clip; pins = pins; next_pin = next_pin; counts = counts }
 
 -- these name no blocks but those that the studio names
-pub record Renames {D : Type 0} (s : Core D) (clip : Option (List (List Item))) (pins : List Pin) (next_pin : ℕ) (counts : Counts) : Type 1 where
-  pub covers : (P : BlockRef → Type 0) → AllByRecursion P (named_blocks s) → AllByRecursion P (named_blocks (renamed s clip pins next_pin counts))
+pub record Renames {D : Type 0} (s : Core D) (clip : Option (List (List Item))) (pins : List Pin) (next_pin : ℕ)
+    (counts : Counts) : Type 1 where
+  pub covers : (P : BlockRef → Type 0) → AllByRecursion P (named_blocks s)
+      → AllByRecursion P (named_blocks (renamed s clip pins next_pin counts))
   pub numbers : PinsRise 1 next_pin pins
   pub pin_least : 1 ≤ next_pin
   pub pin_most : next_pin ≤ 2 ^ 62
@@ -37,7 +40,8 @@ pub record Renames {D : Type 0} (s : Core D) (clip : Option (List (List Item))) 
   pub counted : (id : ℕ) → occurrences (counts id) ≡ times_named id (named_blocks (renamed s clip pins next_pin counts))
   pub ids : (id : ℕ) → IsSome (counts id) ↔ IsSome (s.counts id)
 
-module _ {D : Type 0} (disk : Ghosts D) (s : Core D) (is : IsStudio disk s) (clip : Option (List (List Item))) (pins : List Pin) (next_pin : ℕ) (counts : Counts)
+module _ {D : Type 0} (disk : Ghosts D) (s : Core D) (is : IsStudio disk s) (clip : Option (List (List Item)))
+    (pins : List Pin) (next_pin : ℕ) (counts : Counts)
     (names : Renames s clip pins next_pin counts) where
   abbrev new : Core D
   new = renamed s clip pins next_pin counts
@@ -90,8 +94,10 @@ module _ {D : Type 0} (disk : Ghosts D) (s : Core D) (is : IsStudio disk s) (cli
   }
 
   -- `rests` where the studio had stopped
-  pub renamed_took : (c : Call) → IsQuiet c → (r : Reply) → Fewer disk s.store → (IsSome s.stopped → new ≡ record s { pins = pins; counts = counts })
-      → (IsHeld disk s → CarriesOut (studio_of disk s) c silent r (studio_of disk new)) → Took disk s c silent (Ok r) 0 new
+  pub renamed_took : (c : Call) → IsQuiet c → (r : Reply) → Fewer disk s.store
+      → (IsSome s.stopped → new ≡ record s { pins = pins; counts = counts })
+      → (IsHeld disk s → CarriesOut (studio_of disk s) c silent r (studio_of disk new))
+      → Took disk s c silent (Ok r) 0 new
   renamed_took c quiet r fewer rests step = record {
     studio = renamed_studio;
     held = renamed_held;

@@ -1,5 +1,6 @@
 -- An edit that is carried out finds no damaged file, where the disk holds the studio and has the blocks that are read.
-use Rattle.std.proofs.Common.{◌≡◌, ⊎_elim, sym, subst, ℕ, nat_lt, nat_le, ◌&&◌, not, ◌+◌, ◌^◌, Bool, true, false, Option, Some, None, List, length, Err}
+use Rattle.std.proofs.Common.{◌≡◌, ⊎_elim, sym, subst, ℕ, nat_lt, nat_le, ◌&&◌, not, ◌+◌, ◌^◌, Bool, true, false}
+use Rattle.std.proofs.Common.{Option, Some, None, List, length, Err}
 use Rattle.pcm_base.specs.declared.refusal.Refusal.{Refusal}
 use Rattle.pcm_base.specs.declared.refusal.Refusal.TheVariants as refusal
 use Rattle.pcm_base.specs.Counters.{no_room}
@@ -57,14 +58,19 @@ one_tells true r is = is
 one_tells false r is = tt
 
 -- what refuses a commit tells of no damaged file, where its own tests do not
-pub undamaged_test : (stopped : Option ℕ) (own : Option Refusal) (track tracks number : ℕ) (why : Refusal) → TellsNone own
-    → (stop_of stopped) otherwise own otherwise (no_room track tracks) otherwise (no_room number 1) ≡ Some why → IsUndamaged why
+pub undamaged_test : (stopped : Option ℕ) (own : Option Refusal) (track tracks number : ℕ) (why : Refusal)
+    → TellsNone own
+    → (stop_of stopped) otherwise own otherwise (no_room track tracks) otherwise (no_room number 1) ≡ Some why
+    → IsUndamaged why
 undamaged_test stopped own track tracks number why tells is =
     let ids = no_room track tracks in
     let numbers = no_room number 1 in
-    let spent : TellsNone (ids otherwise numbers) = either_tells ids numbers (spent_tells (nat_lt (2 ^ 62) (track + tracks)) track tracks) (spent_tells (nat_lt (2 ^ 62) (number + 1)) number 1) in
+    let spent : TellsNone (ids otherwise numbers) =
+    either_tells ids numbers (spent_tells (nat_lt (2 ^ 62) (track + tracks)) track tracks)
+    (spent_tells (nat_lt (2 ^ 62) (number + 1)) number 1) in
     tests_tell ((stop_of stopped) otherwise own otherwise ids otherwise numbers) why
-    (either_tells (stop_of stopped) (own otherwise ids otherwise numbers) (stop_tells stopped) (either_tells own (ids otherwise numbers) tells spent)) is
+    (either_tells (stop_of stopped) (own otherwise ids otherwise numbers) (stop_tells stopped)
+    (either_tells own (ids otherwise numbers) tells spent)) is
 
 pub exceeding : (end len : ℕ) (why : Refusal) → Exceeds end len why → IsUndamaged why
 exceeding end len (refusal.SpaceSpent have need) h = tt
@@ -72,15 +78,18 @@ exceeding end len (refusal.RecordLimit n) h = tt
 exceeding end len why h = absurd h
 
 -- where a track has no plan, no file is damaged
-pub no_plan_tells : (e : TrackEdit) (id : ℕ) (old : List Track) (why : Refusal) → ((len : ℕ) → TellsNone (e.test len)) → NoTrackPlan e id old why → IsUndamaged why
+pub no_plan_tells : (e : TrackEdit) (id : ℕ) (old : List Track) (why : Refusal) → ((len : ℕ) → TellsNone (e.test len))
+    → NoTrackPlan e id old why → IsUndamaged why
 no_plan_tells e id old why fine not = ⊎_elim
     (λ own.
     let found = track_of id old in
-    tests_tell (track_refusal id e.test found) why (either_tells (lacks id found) (e.test (end_of_track found)) (lacks_tells id found) (fine (end_of_track found))) own)
+    tests_tell (track_refusal id e.test found) why (either_tells (lacks id found) (e.test (end_of_track found))
+    (lacks_tells id found) (fine (end_of_track found))) own)
     (λ memory. subst IsUndamaged (sym memory) tt)
     not
 
-module _ {D : Type 0} (disk : Ghosts D) (s : Core D) (is : IsStudio disk s) (going : s.stopped ≡ None) (given : Given) (makes : List NewBlock)
+module _ {D : Type 0} (disk : Ghosts D) (s : Core D) (is : IsStudio disk s) (going : s.stopped ≡ None) (given : Given)
+    (makes : List NewBlock)
     (tracks : ℕ) (body : List ℕ) (why : Refusal) where
   abbrev n : ℕ
   n = length makes
@@ -95,7 +104,8 @@ module _ {D : Type 0} (disk : Ghosts D) (s : Core D) (is : IsStudio disk s) (goi
       let number = no_room s.commit_number 1 in
       tests_tell (block otherwise track otherwise number) why
       (either_tells block (track otherwise number) (spent_tells (nat_lt (2 ^ 62) (s.next_block + n)) s.next_block n)
-      (either_tells track number (spent_tells (nat_lt (2 ^ 62) (s.next_track + tracks)) s.next_track tracks) (spent_tells (nat_lt (2 ^ 62) (s.commit_number + 1)) s.commit_number 1)))
+      (either_tells track number (spent_tells (nat_lt (2 ^ 62) (s.next_track + tracks)) s.next_track tracks)
+      (spent_tells (nat_lt (2 ^ 62) (s.commit_number + 1)) s.commit_number 1)))
       spent)
       (λ over. exceeding s.journal_end (length body) why over.3))
       not

@@ -1,5 +1,6 @@
 -- What a call leaves of other files, by what each of its parts leaves.
-use Rattle.std.proofs.Common.{◌≡◌, ◌≢◌, ◌⊎◌, inl, inr, ⊎_elim, refl, sym, ◌∙◌, subst, ℕ, ◌+◌, ◌^◌, ◌≤◌, ◌<◌, IsSome, IsTrue, None, arith}
+use Rattle.std.proofs.Common.{◌≡◌, ◌≢◌, ◌⊎◌, inl, inr, ⊎_elim, refl, sym, ◌∙◌, subst, ℕ, ◌+◌, ◌^◌, ◌≤◌, ◌<◌, IsSome}
+use Rattle.std.proofs.Common.{IsTrue, None, arith}
 use Rattle.std.proofs.lemmas.Bool.{cases_eq, cases_lt}
 use Rattle.pcm_base.specs.declared.command.Call.{Call}
 use Rattle.pcm_base.specs.declared.command.Call.TheVariants.{Line}
@@ -31,7 +32,8 @@ pub others_then : (first last : ℕ) (MayGo : ℕ → Type 0) (d e c : Files) �
     → LeavesOthers first last MayGo e c → LeavesOthers first last MayGo d c
 others_then first last MayGo d e c one two = record {
   others = λ file other apart. ⊎_elim
-      (λ same. ⊎_elim (λ before. inl (same ∙ before)) (λ gone. inr (gone.0, same ∙ gone.1)) (one.others file other apart))
+      (λ same. ⊎_elim (λ before. inl (same ∙ before)) (λ gone. inr (gone.0, same ∙ gone.1))
+      (one.others file other apart))
       (λ gone. inr gone)
       (two.others file other apart);
 }
@@ -44,15 +46,22 @@ others_wider first last low high Goes MayGo d c below above goes step = record {
       (λ same. inl same)
       (λ gone. inr (goes file gone.0, gone.1))
       (step.others file other
-      (λ begun. apart (record { least = omega (arith, begun.least, below); most = omega (arith, begun.most, above); block = begun.block })));
+      (λ begun. apart (record {
+        least = omega (arith, begun.least, below);
+        most = omega (arith, begun.most, above);
+        block = begun.block;
+      })));
 }
 
 -- where more may go
-pub others_more : (first last : ℕ) (MayGo : ℕ → Type 0) (d c : Files) → Leaving first last d c → LeavesOthers first last MayGo d c
-others_more first last MayGo d c step = others_wider first last first last NoneGoes MayGo d c (omega arith) (omega arith) (λ file none. absurd none) step
+pub others_more : (first last : ℕ) (MayGo : ℕ → Type 0) (d c : Files) → Leaving first last d c
+    → LeavesOthers first last MayGo d c
+others_more first last MayGo d c step =
+    others_wider first last first last NoneGoes MayGo d c (omega arith) (omega arith) (λ file none. absurd none) step
 
 -- a record of the journal
-pub others_record : (first last : ℕ) (MayGo : ℕ → Type 0) (d c : Files) → SameElsewhere 0 d c → LeavesOthers first last MayGo d c
+pub others_record : (first last : ℕ) (MayGo : ℕ → Type 0) (d c : Files) → SameElsewhere 0 d c
+    → LeavesOthers first last MayGo d c
 others_record first last MayGo d c same = record { others = λ file other apart. inl (same file other) }
 
 -- blocks that were made, and that may be
@@ -62,11 +71,13 @@ others_made first n last MayGo d c few most same = record {
   others = λ file other apart. inl (same file (outside file apart (cases_lt file first) (cases_lt file (first + n))));
 }
   where
-    outside : (file : ℕ) → (IsBegun first last file → ⊥) → (file < first) ⊎ (first ≤ file) → (file < first + n) ⊎ (first + n ≤ file)
+    outside : (file : ℕ) → (IsBegun first last file → ⊥) → (file < first) ⊎ (first ≤ file)
+        → (file < first + n) ⊎ (first + n ≤ file)
         → (file < first) ⊎ (first + n ≤ file)
     outside file apart (inl below) cases = inl below
     outside file apart (inr least) (inl within) =
-        absurd (apart (record { least = least; most = omega (arith, within, few); block = omega (arith, within, most) }))
+        absurd
+        (apart (record { least = least; most = omega (arith, within, few); block = omega (arith, within, most) }))
     outside file apart (inr least) (inr above) = inr above
 
 -- a file that may go
@@ -82,13 +93,16 @@ others_removed first last MayGo id d c may step = record { others = λ file othe
 -- ---- many calls
 
 -- what a call may remove is a block's
-pub removed_block : {D : Type 0} (disk : Ghosts D) (s : Core D) → IsStudio disk s → (call : Call) (file : ℕ) → MayRemove call s.counts file
+pub removed_block : {D : Type 0} (disk : Ghosts D) (s : Core D) → IsStudio disk s → (call : Call) (file : ℕ)
+    → MayRemove call s.counts file
     → (16 ≤ file) × (file < 2 ^ 62)
 removed_block disk s is (Line (Reclaim limit)) file free =
-    let given = is.given file (subst IsSome (sym free) refl) in (given.0, omega (arith, given.1, is.counters.block_most))
+    let given = is.given file (subst IsSome (sym free) refl) in
+    (given.0, omega (arith, given.1, is.counters.block_most))
 removed_block disk s is call file free = absurd free
 
-foreign_left : (first last : ℕ) (MayGo : ℕ → Type 0) (d c : Files) → 16 ≤ first → ((file : ℕ) → MayGo file → (16 ≤ file) × (file < 2 ^ 62))
+foreign_left : (first last : ℕ) (MayGo : ℕ → Type 0) (d c : Files) → 16 ≤ first
+    → ((file : ℕ) → MayGo file → (16 ≤ file) × (file < 2 ^ 62))
     → LeavesOthers first last MayGo d c → LeavesForeign d c
 foreign_left first last MayGo d c least goes step = record {
   foreign = λ file other apart. ⊎_elim
@@ -98,7 +112,8 @@ foreign_left first last MayGo d c least goes step = record {
 }
 
 foreign_then : (d e c : Files) → LeavesForeign d e → LeavesForeign e c → LeavesForeign d c
-foreign_then d e c one two = record { foreign = λ file other apart. two.foreign file other apart ∙ one.foreign file other apart }
+foreign_then d e c one two =
+    record { foreign = λ file other apart. two.foreign file other apart ∙ one.foreign file other apart }
 
 pub foreign_none : {D : Type 0} (disk : Ghosts D) (store : D) → Fewer disk store → KeepsForeign disk store store
 foreign_none disk store fewer = record {
@@ -108,14 +123,18 @@ foreign_none disk store fewer = record {
 }
 
 -- one call more
-pub foreign_more : {D : Type 0} (disk : Ghosts D) (first : D) (s new : Core D) (call : Call) (much : Room) → IsStudio disk s
+pub foreign_more : {D : Type 0} (disk : Ghosts D) (first : D) (s new : Core D) (call : Call) (much : Room)
+    → IsStudio disk s
     → KeepsForeign disk first s.store
     → Changed disk (LeavesOthers s.next_block new.next_block (MayRemove call s.counts)) much s.store new.store
     → KeepsForeign disk first new.store
 foreign_more disk first s new call much is was changed =
-    let one : (d c : Files) → LeavesOthers s.next_block new.next_block (MayRemove call s.counts) d c → LeavesForeign d c =
+    let one : (d c : Files) → LeavesOthers s.next_block new.next_block (MayRemove call s.counts) d c
+    → LeavesForeign d c =
     (λ d c step.
-    foreign_left s.next_block new.next_block (MayRemove call s.counts) d c is.counters.block_least (removed_block disk s is call) step) in record {
+    foreign_left s.next_block new.next_block
+    (MayRemove call s.counts) d c is.counters.block_least (removed_block disk s is call) step) in
+    record {
       tells = changed.tells ∙ was.tells;
       reads = λ told.
           foreign_then (disk.reads first) (disk.reads s.store) (disk.reads new.store) (was.reads told)

@@ -1,5 +1,6 @@
 -- Reading as many frames of a pin as there are, up to a number, is reading that number.
-use Rattle.std.proofs.Common.{◌≡◌, ⊎_elim, inl, inr, sym, ap, ◌∙◌, subst, ℕ, ◌-◌, ◌≤◌, min, List, length, length-drop, take, drop, Some, Ok, arith}
+use Rattle.std.proofs.Common.{◌≡◌, ⊎_elim, inl, inr, sym, ap, ◌∙◌, subst, ℕ, ◌-◌, ◌≤◌, min, List, length, length-drop}
+use Rattle.std.proofs.Common.{take, drop, Some, Ok, arith}
 use Rattle.std.proofs.lemmas.Bool.{cases_lt}
 use Rattle.std.proofs.lemmas.List.{take_all}
 use Rattle.std.proofs.lemmas.Option.{same_Some}
@@ -26,7 +27,8 @@ abbrev frames_in : Reply → ℕ
 frames_in (reply.Length n) = n
 frames_in r = 0
 
-module _ {D : Type 0} (disk : Ghosts D) (s : Core D) (pin from count len n : ℕ) (few : n ≡ min count (len - from)) (measured : Took disk s (PinLen pin) silent (Ok (reply.Length len)) 0 s) where
+module _ {D : Type 0} (disk : Ghosts D) (s : Core D) (pin from count len n : ℕ) (few : n ≡ min count (len - from))
+    (measured : Took disk s (PinLen pin) silent (Ok (reply.Length len)) 0 s) where
   abbrev t : model.Studio
   t = studio_of disk s
 
@@ -35,10 +37,13 @@ module _ {D : Type 0} (disk : Ghosts D) (s : Core D) (pin from count len n : ℕ
       let answers = (measured.step held).answers in
       ap frames_in answers.2 ∙ ap mix_length (same_Some answers.0 p (sym answers.1 ∙ found))
 
-  same : IsHeld disk s → (p : Project) → t.state.pins pin ≡ Some p → take n (drop from (mix_of p)) ≡ take count (drop from (mix_of p))
-  same held p found = take_few n count (drop from (mix_of p)) (omega (arith, few, long held p found, length-drop from (mix_of p), length_mix p))
+  same : IsHeld disk s → (p : Project) → t.state.pins pin ≡ Some p
+      → take n (drop from (mix_of p)) ≡ take count (drop from (mix_of p))
+  same held p found = take_few n count (drop from (mix_of p))
+      (omega (arith, few, long held p found, length-drop from (mix_of p), length_mix p))
 
-  carries : IsHeld disk s → (r : Reply) (u : model.Studio) → CarriesOut t (ReadPin pin from n) silent r u → CarriesOut t (ReadPin pin from count) silent r u
+  carries : IsHeld disk s → (r : Reply) (u : model.Studio) → CarriesOut t (ReadPin pin from n) silent r u
+      → CarriesOut t (ReadPin pin from count) silent r u
   carries held r u c = record {
     blocks = c.blocks;
     len = c.len;
@@ -49,14 +54,20 @@ module _ {D : Type 0} (disk : Ghosts D) (s : Core D) (pin from count len n : ℕ
     heard = c.heard;
   }
 
-  pub read_as_many : (r : Reply) (new : Core D) → Took disk s (ReadPin pin from n) silent (Ok r) 0 new → Took disk s (ReadPin pin from count) silent (Ok r) 0 new
+  pub read_as_many : (r : Reply) (new : Core D) → Took disk s (ReadPin pin from n) silent (Ok r) 0 new
+      → Took disk s (ReadPin pin from count) silent (Ok r) 0 new
   read_as_many r new took = record {
     studio = took.studio;
     held = took.held;
     step = λ held. carries held r (studio_of disk new) (took.step held);
     any_moment = λ going held c since. ⊎_elim
         (λ old. inl old)
-        (λ flight. inr (record { reply = flight.reply; after = flight.after; carried = carries held flight.reply flight.after flight.carried; keeps = flight.keeps }))
+        (λ flight. inr (record {
+          reply = flight.reply;
+          after = flight.after;
+          carried = carries held flight.reply flight.after flight.carried;
+          keeps = flight.keeps;
+        }))
         (took.any_moment going held c since);
     refused = λ going held still. tt;
     now = took.now;

@@ -25,18 +25,35 @@ module _ {D : Type 0} (disk : Ghosts D) (s : Core D) (pin from count : ℕ) wher
 
   module _ (why : Refusal) (new : Core D) (took : Took disk s (PinLen pin) silent (Err why) 0 new) where
     off : (u : model.Studio) → BreaksOff t (PinLen pin) silent u → BreaksOff t read silent u
-    off u b = record { going = b.going; blocks = b.blocks; len = b.len; needs = b.needs; room = b.room; is = b.is; leaves = b.leaves }
+    off u b = record {
+      going = b.going;
+      blocks = b.blocks;
+      len = b.len;
+      needs = b.needs;
+      room = b.room;
+      is = b.is;
+      leaves = b.leaves;
+    }
 
     breaks : (e : Refusal) (u : model.Studio) → Breaks t (PinLen pin) silent e u → Breaks t read silent e u
-    breaks (refusal.Damaged file at want have) u b = record { breaks = off u b.breaks; stopped = b.stopped; reads = b.reads; changes = b.changes }
+    breaks (refusal.Damaged file at want have) u b =
+        record { breaks = off u b.breaks; stopped = b.stopped; reads = b.reads; changes = b.changes }
     breaks refusal.DiskFault u b = record { breaks = off u b.breaks; cause = b.cause }
-    breaks refusal.VaultFault u b = (b.0, record { breaks = off u b.1.breaks; stopped = b.1.stopped; reads = b.1.reads; changes = b.1.changes })
+    breaks refusal.VaultFault u b =
+        (b.0, record { breaks = off u b.1.breaks; stopped = b.1.stopped; reads = b.1.reads; changes = b.1.changes })
     breaks refusal.NoMemory u b = b
     breaks e u b = absurd b
 
     answers : (u : model.Studio) → Answers t (PinLen pin) silent (Err why) u → Answers t read silent (Err why) u
     answers u a = ⊎_elim
-        (λ r. inl (record { blocks = r.blocks; len = r.len; needs = r.needs; first = r.first; same = r.same; quiet = r.quiet }))
+        (λ r. inl (record {
+          blocks = r.blocks;
+          len = r.len;
+          needs = r.needs;
+          first = r.first;
+          same = r.same;
+          quiet = r.quiet;
+        }))
         (λ b. inr (breaks why u b))
         a
 
@@ -64,23 +81,50 @@ module _ {D : Type 0} (disk : Ghosts D) (s : Core D) (pin from count : ℕ) wher
 
   module _ (n : ℕ) (why : Refusal) (new : Core D) (took : Took disk s (ReadPin pin from n) silent (Err why) 0 new) where
     off_fewer : (u : model.Studio) → BreaksOff t (ReadPin pin from n) silent u → BreaksOff t read silent u
-    off_fewer u b = record { going = b.going; blocks = b.blocks; len = b.len; needs = b.needs; room = b.room; is = b.is; leaves = b.leaves }
+    off_fewer u b = record {
+      going = b.going;
+      blocks = b.blocks;
+      len = b.len;
+      needs = b.needs;
+      room = b.room;
+      is = b.is;
+      leaves = b.leaves;
+    }
 
-    breaks_fewer : (e : Refusal) (u : model.Studio) → Breaks t (ReadPin pin from n) silent e u → Breaks t read silent e u
-    breaks_fewer (refusal.Damaged file at want have) u b = record { breaks = off_fewer u b.breaks; stopped = b.stopped; reads = b.reads; changes = b.changes }
+    breaks_fewer : (e : Refusal) (u : model.Studio) → Breaks t (ReadPin pin from n) silent e u
+        → Breaks t read silent e u
+    breaks_fewer (refusal.Damaged file at want have) u b =
+        record { breaks = off_fewer u b.breaks; stopped = b.stopped; reads = b.reads; changes = b.changes }
     breaks_fewer refusal.DiskFault u b = record { breaks = off_fewer u b.breaks; cause = b.cause }
-    breaks_fewer refusal.VaultFault u b = (b.0, record { breaks = off_fewer u b.1.breaks; stopped = b.1.stopped; reads = b.1.reads; changes = b.1.changes })
+    breaks_fewer refusal.VaultFault u b = (
+      b.0,
+      record {
+        breaks = off_fewer u b.1.breaks;
+        stopped = b.1.stopped;
+        reads = b.1.reads;
+        changes = b.1.changes;
+      },
+    )
     breaks_fewer refusal.NoMemory u b = b
     breaks_fewer e u b = absurd b
 
-    answers_fewer : (u : model.Studio) → Answers t (ReadPin pin from n) silent (Err why) u → Answers t read silent (Err why) u
+    answers_fewer : (u : model.Studio) → Answers t (ReadPin pin from n) silent (Err why) u
+        → Answers t read silent (Err why) u
     answers_fewer u a = ⊎_elim
-        (λ r. inl (record { blocks = r.blocks; len = r.len; needs = r.needs; first = r.first; same = r.same; quiet = r.quiet }))
+        (λ r. inl (record {
+          blocks = r.blocks;
+          len = r.len;
+          needs = r.needs;
+          first = r.first;
+          same = r.same;
+          quiet = r.quiet;
+        }))
         (λ b. inr (breaks_fewer why u b))
         a
 
     still_fewer : (c : Files) → KeepsOneOf t (ReadPin pin from n) silent c → KeepsOneOf t read silent c
-    still_fewer c k = ⊎_elim (λ old. inl old) (λ flight. inl (subst (Keeps c) (ap shown flight.carried.is) flight.keeps)) k
+    still_fewer c k =
+        ⊎_elim (λ old. inl old) (λ flight. inl (subst (Keeps c) (ap shown flight.carried.is) flight.keeps)) k
 
     pub read_refused : Took disk s read silent (Err why) 0 new
     read_refused = record {

@@ -1,5 +1,6 @@
 -- An edit that makes no blocks: the project that it makes, and its commit.
-use Rattle.std.proofs.Common.{◌≡◌, nat_lt, Bool, refl, sym, ap, ◌∙◌, subst, ℕ, ◌+◌, ◌^◌, ◌≤◌, ◌<◌, List, [], ◌∷◌, ◌++◌, length, length-append, arith, ⊎_elim, None, Ok, Err}
+use Rattle.std.proofs.Common.{◌≡◌, nat_lt, refl, sym, ap, ◌∙◌, subst, ℕ, ◌+◌, ◌^◌, ◌≤◌, ◌<◌, List, [], ◌∷◌, ◌++◌}
+use Rattle.std.proofs.Common.{length, length-append, arith, ⊎_elim, None, Ok, Err}
 use Rattle.std.proofs.lemmas.Bool.Decides.{leb_tells}
 use Rattle.std.proofs.lemmas.List.{length-map, map-append}
 use Rattle.std.proofs.lemmas.Option.{none-some}
@@ -35,7 +36,8 @@ use Rattle.pcm_base.specs.Pieces.{Sources}
 use Rattle.editor_core.specs.Adding.{Adds}
 use Rattle.editor_core.specs.Core.{Core}
 use Rattle.editor_core.specs.Occurrences.{Moves}
-use Rattle.editor_core.specs.Plain.{line_of, IsGood, tracks_by, refusal_by, set_by, IsSet, IsEdited, without, empty_track}
+use Rattle.editor_core.specs.Plain.{line_of, IsGood, tracks_by, refusal_by, set_by, IsSet, IsEdited, without}
+use Rattle.editor_core.specs.Plain.{empty_track}
 use Rattle.editor_core.specs.Points.{put_in, put_one}
 use Rattle.editor_core.specs.Studios.{IsHeld, IsStudio, named_blocks, studio_of}
 use Rattle.editor_core.specs.Took.{Took, silent}
@@ -43,38 +45,16 @@ use Rattle.editor_core.specs.declared.plain.PlainEdit.{PlainEdit}
 use Rattle.editor_core.specs.declared.plain.PlainEdit.TheVariants as edit
 use Rattle.editor_core.proofs.Flights.{IsCommit, clip_stays}
 use Rattle.editor_core.proofs.Committing.{fails}
-use Rattle.editor_core.proofs.Editing.{old, now, src, current_sound, current_below, current_meant, track_is, old_names, pointed, pointed_so, then_current, counts_then, point_commit, sound_later}
+use Rattle.editor_core.proofs.Editing.{old, now, src, current_sound, current_below, current_meant, track_is, old_names}
+use Rattle.editor_core.proofs.Editing.{pointed, pointed_so, then_current, counts_then, point_commit, sound_later}
 use Rattle.editor_core.proofs.Growing.{grows_so}
 use Rattle.editor_core.proofs.Lengths.{record_most}
 use Rattle.editor_core.proofs.Lists.{all_left}
-use Rattle.editor_core.proofs.Spaces.{IsCommitCall}
 use Rattle.editor_core.proofs.Staying.{none_made}
 use Rattle.editor_core.proofs.Tracks.{put_means, layout_of, put_all, put_rising, put_sound, sound_of, id_of}
-use Rattle.editor_core.proofs.Without.{without_few, without_rising, without_sound, without_blocks, without_means, more_rising, more_sound, more_blocks}
-
--- ---- the lines
-pub call_by : (e : PlainEdit) → IsCommitCall (Line (line_of e)) silent (tracks_by e)
-call_by edit.Track = record { one = refl; no_pin = refl; tracks_is = λ rate. refl; stops = λ o. refl; changes = refl; leaves = λ t. refl; heard = λ rate s. refl; quiet = refl; done = λ rate s. refl }
-call_by (edit.Drop id) = record { one = refl; no_pin = refl; tracks_is = λ rate. refl; stops = λ o. refl; changes = refl; leaves = λ t. refl; heard = λ rate s. refl; quiet = refl; done = λ rate s. refl }
-call_by (edit.Level id gain) = record { one = refl; no_pin = refl; tracks_is = λ rate. refl; stops = λ o. refl; changes = refl; leaves = λ t. refl; heard = λ rate s. refl; quiet = refl; done = λ rate s. refl }
-call_by (edit.Side id side) = record { one = refl; no_pin = refl; tracks_is = λ rate. refl; stops = λ o. refl; changes = refl; leaves = λ t. refl; heard = λ rate s. refl; quiet = refl; done = λ rate s. refl }
-call_by (edit.Mute id mute) = record { one = refl; no_pin = refl; tracks_is = λ rate. refl; stops = λ o. refl; changes = refl; leaves = λ t. refl; heard = λ rate s. refl; quiet = refl; done = λ rate s. refl }
-
--- what sets something of a track, and what that means
-record Sets (g : Track → Track) (f : cells.Track → cells.Track) : Type 0 where
-  pub id : (t : Track) → (g t).id ≡ t.id
-  pub layout : (t : Track) → (g t).layout ≡ t.layout
-  pub gain : (t : Track) → t.gain ≤ 1048576 → (g t).gain ≤ 1048576
-  pub changes : (src : Sources) (t : Track) → meant_track src (g t) ≡ f (meant_track src t)
-
-sets_gain : (id gain : ℕ) → gain ≤ 1048576 → Sets (set_by (edit.Level id gain)) (λ (t : cells.Track). record t { gain = gain })
-sets_gain id gain good = record { id = λ t. refl; layout = λ t. refl; gain = λ t h. good; changes = λ src t. refl }
-
-sets_side : (id : ℕ) (side : Side) → Sets (set_by (edit.Side id side)) (λ (t : cells.Track). record t { side = side })
-sets_side id side = record { id = λ t. refl; layout = λ t. refl; gain = λ t h. h; changes = λ src t. refl }
-
-sets_mute : (id : ℕ) (mute : Bool) → Sets (set_by (edit.Mute id mute)) (λ (t : cells.Track). record t { mute = mute })
-sets_mute id mute = record { id = λ t. refl; layout = λ t. refl; gain = λ t h. h; changes = λ src t. refl }
+use Rattle.editor_core.proofs.Without.{without_few, without_rising, without_sound, without_blocks, without_means}
+use Rattle.editor_core.proofs.Without.{more_rising, more_sound, more_blocks}
+use Rattle.editor_core.proofs.PlainLines.{Sets, call_by, sets_gain, sets_mute, sets_side}
 
 module _ {D : Type 0} (disk : Ghosts D) (s : Core D) (is : IsStudio disk s) where
   abbrev was : List Track
@@ -83,9 +63,11 @@ module _ {D : Type 0} (disk : Ghosts D) (s : Core D) (is : IsStudio disk s) wher
   abbrev samples : Sources
   samples = src disk s is
 
-  pub own_is : (e : PlainEdit) → refusal_by e was ≡ call_tests (outside (studio_of disk s) silent) (studio_of disk s).state (Line (line_of e))
+  pub own_is : (e : PlainEdit)
+      → refusal_by e was ≡ call_tests (outside (studio_of disk s) silent) (studio_of disk s).state (Line (line_of e))
   own_is edit.Track =
-      let n : length (current (now disk s is)) ≡ length was = ap length (current_meant disk s is) ∙ length-map was (meant_track samples) in
+      let n : length (current (now disk s is)) ≡ length was =
+      ap length (current_meant disk s is) ∙ length-map was (meant_track samples) in
       ap (λ (k : ℕ). refused_if (nat_lt 64 (k + 1)) TrackLimit) (sym n)
   own_is (edit.Drop id) = track_is disk s is id
   own_is (edit.Level id gain) = track_is disk s is id
@@ -93,7 +75,8 @@ module _ {D : Type 0} (disk : Ghosts D) (s : Core D) (is : IsStudio disk s) wher
   own_is (edit.Mute id mute) = track_is disk s is id
 
   -- ---- one track set
-  module _ (id : ℕ) (g : Track → Track) (f : cells.Track → cells.Track) (sets : Sets g f) (p : List Track) (set : IsSet id g was p) where
+  module _ (id : ℕ) (g : Track → Track) (f : cells.Track → cells.Track) (sets : Sets g f) (p : List Track)
+      (set : IsSet id g was p) where
     abbrev new : Track
     new = g set.track
 
@@ -102,7 +85,8 @@ module _ {D : Type 0} (disk : Ghosts D) (s : Core D) (is : IsStudio disk s) wher
 
     new_sound : IsSoundTrack s.block_size s.next_block s.next_track new
     new_sound =
-        let before = sound_of s.block_size s.next_block s.next_track id was set.track set.found (current_sound disk s is).sound in
+        let before = sound_of s.block_size s.next_block s.next_track id was set.track set.found
+        (current_sound disk s is).sound in
         let layout : set.track.layout ≡ new.layout = sym (sets.layout set.track) in
         record {
           given = omega (arith, before.given, sets.id set.track);
@@ -119,34 +103,50 @@ module _ {D : Type 0} (disk : Ghosts D) (s : Core D) (is : IsStudio disk s) wher
     set_sound =
         let sound = current_sound disk s is in
         subst (IsSoundPoint s.block_size s.next_block s.next_track) (sym set.is)
-        (record { few = put_few; rising = put_rising new 1 was sound.rising; sound = put_sound s.block_size s.next_block s.next_track new was new_sound sound.sound })
+        (record {
+          few = put_few;
+          rising = put_rising new 1 was sound.rising;
+          sound = put_sound s.block_size s.next_block s.next_track new was new_sound sound.sound;
+        })
 
     set_names : (P : BlockRef → Type 0) → AllByRecursion P (named_blocks s) → AllByRecursion P (point_blocks p)
     set_names P all =
         let mine = old_names disk s is P all in
-        let one = subst (λ (l : List Clip). AllByRecursion P (layout_blocks l)) (sym (sets.layout set.track)) (layout_of P id was set.track set.found mine) in
+        let one = subst (λ (l : List Clip). AllByRecursion P (layout_blocks l)) (sym (sets.layout set.track))
+        (layout_of P id was set.track set.found mine) in
         subst (λ (z : List Track). AllByRecursion P (point_blocks z)) (sym set.is) (put_all P new was one mine)
 
     set_means : changed_at id f (current (now disk s is)) ≡ meant samples p
     set_means =
         ap (changed_at id f) (current_meant disk s is)
-        ∙ sym (ap (meant samples) set.is ∙ put_means samples id new set.track f new_id (sets.changes samples set.track) 1 was (current_sound disk s is).rising set.found)
+        ∙ sym (ap (meant samples) set.is ∙ put_means samples id new set.track f new_id
+        (sets.changes samples set.track) 1 was (current_sound disk s is).rising set.found)
 
   -- ---- the project that an edit makes
   place : refused_if (nat_lt 64 (length was + 1)) TrackLimit ≡ None → length was + 1 ≤ 64
-  place none = ⊎_elim (λ more. absurd (none-some TrackLimit (sym none ∙ ap (λ b. refused_if b TrackLimit) more.0))) (λ few. omega (arith, few.1)) (leb_tells (64 + 1) (length was + 1))
+  place none = ⊎_elim (λ more. absurd (none-some TrackLimit (sym none ∙ ap (λ b. refused_if b TrackLimit) more.0)))
+      (λ few. omega (arith, few.1)) (leb_tells (64 + 1) (length was + 1))
 
-  none_given : (p : List Track) → IsSoundPoint s.block_size s.next_block s.next_track p → IsSoundPoint s.block_size s.next_block (s.next_track + 0) p
+  none_given : (p : List Track) → IsSoundPoint s.block_size s.next_block s.next_track p
+      → IsSoundPoint s.block_size s.next_block (s.next_track + 0) p
   none_given p = sound_later s.block_size s.next_block s.next_track (s.next_track + 0) p (omega arith)
 
-  sound_by : (e : PlainEdit) → IsGood e → refusal_by e was ≡ None → (p : List Track) → IsEdited e s.next_track was p → IsSoundPoint s.block_size s.next_block (s.next_track + tracks_by e) p
+  sound_by : (e : PlainEdit) → IsGood e → refusal_by e was ≡ None → (p : List Track) → IsEdited e s.next_track was p
+      → IsSoundPoint s.block_size s.next_block (s.next_track + tracks_by e) p
   sound_by edit.Track good none p ed =
       let t : Track = empty_track s.next_track in
       let m : ℕ = s.block_size in
       let sound = current_sound disk s is in
-      let later : IsSoundPoint m s.next_block (s.next_track + 1) was = sound_later m s.next_block s.next_track (s.next_track + 1) was (omega arith) sound in
+      let later : IsSoundPoint m s.next_block (s.next_track + 1) was =
+      sound_later m s.next_block s.next_track (s.next_track + 1) was (omega arith) sound in
       let one : IsSoundTrack m s.next_block (s.next_track + 1) t =
-      record { given = omega arith; gain = omega arith; layout = record { apart = tt; few = omega arith }; half_full = tt; blocks = tt } in
+      record {
+        given = omega arith;
+        gain = omega arith;
+        layout = record { apart = tt; few = omega arith };
+        half_full = tt;
+        blocks = tt;
+      } in
       subst (IsSoundPoint m s.next_block (s.next_track + 1)) (sym ed)
       (record {
         few = omega (arith, place none, length-append was (t ∷ []));
@@ -161,32 +161,52 @@ module _ {D : Type 0} (disk : Ghosts D) (s : Core D) (is : IsStudio disk s) wher
         sound = without_sound s.block_size s.next_block s.next_track id was sound.sound;
       } in
       none_given p (subst (IsSoundPoint s.block_size s.next_block s.next_track) (sym ed) point)
-  sound_by (edit.Level id gain) good none p ed = none_given p (set_sound id (set_by (edit.Level id gain)) _ (sets_gain id gain good) p ed)
-  sound_by (edit.Side id side) good none p ed = none_given p (set_sound id (set_by (edit.Side id side)) _ (sets_side id side) p ed)
-  sound_by (edit.Mute id mute) good none p ed = none_given p (set_sound id (set_by (edit.Mute id mute)) _ (sets_mute id mute) p ed)
+  sound_by (edit.Level id gain) good none p ed =
+      none_given p (set_sound id (set_by (edit.Level id gain)) _ (sets_gain id gain good) p ed)
+  sound_by (edit.Side id side) good none p ed =
+      none_given p (set_sound id (set_by (edit.Side id side)) _ (sets_side id side) p ed)
+  sound_by (edit.Mute id mute) good none p ed =
+      none_given p (set_sound id (set_by (edit.Mute id mute)) _ (sets_mute id mute) p ed)
 
-  names_by : (e : PlainEdit) → IsGood e → (p : List Track) → IsEdited e s.next_track was p → (P : BlockRef → Type 0) → AllByRecursion P (named_blocks s) → AllByRecursion P (point_blocks p)
-  names_by edit.Track good p ed P all = subst (λ (z : List Track). AllByRecursion P (point_blocks z)) (sym ed) (more_blocks P was s.next_track (old_names disk s is P all))
-  names_by (edit.Drop id) good p ed P all = subst (λ (z : List Track). AllByRecursion P (point_blocks z)) (sym ed) (without_blocks P id was (old_names disk s is P all))
-  names_by (edit.Level id gain) good p ed P all = set_names id (set_by (edit.Level id gain)) _ (sets_gain id gain good) p ed P all
-  names_by (edit.Side id side) good p ed P all = set_names id (set_by (edit.Side id side)) _ (sets_side id side) p ed P all
-  names_by (edit.Mute id mute) good p ed P all = set_names id (set_by (edit.Mute id mute)) _ (sets_mute id mute) p ed P all
+  names_by : (e : PlainEdit) → IsGood e → (p : List Track) → IsEdited e s.next_track was p → (P : BlockRef → Type 0)
+      → AllByRecursion P (named_blocks s) → AllByRecursion P (point_blocks p)
+  names_by edit.Track good p ed P all = subst (λ (z : List Track). AllByRecursion P (point_blocks z)) (sym ed)
+      (more_blocks P was s.next_track (old_names disk s is P all))
+  names_by (edit.Drop id) good p ed P all = subst (λ (z : List Track). AllByRecursion P (point_blocks z)) (sym ed)
+      (without_blocks P id was (old_names disk s is P all))
+  names_by (edit.Level id gain) good p ed P all =
+      set_names id (set_by (edit.Level id gain)) _ (sets_gain id gain good) p ed P all
+  names_by (edit.Side id side) good p ed P all =
+      set_names id (set_by (edit.Side id side)) _ (sets_side id side) p ed P all
+  names_by (edit.Mute id mute) good p ed P all =
+      set_names id (set_by (edit.Mute id mute)) _ (sets_mute id mute) p ed P all
 
   model_by : (e : PlainEdit) → IsGood e → (p : List Track) → IsEdited e s.next_track was p
       → after_line (outside (studio_of disk s) silent) (now disk s is) (line_of e)
-      ≡ record (now disk s is) { history = meant_history samples (edited s.history p 0); next_track = s.next_track + tracks_by e; commit = s.commit_number + 1 }
+      ≡ record (now disk s is) {
+        history = meant_history samples (edited s.history p 0);
+        next_track = s.next_track + tracks_by e;
+        commit = s.commit_number + 1;
+      }
   model_by edit.Track good p ed =
-      let more : meant samples (was ++ empty_track s.next_track ∷ []) ≡ meant samples was ++ new_track s.next_track [] ∷ [] = map-append (meant_track samples) was (empty_track s.next_track ∷ []) in
+      let more : meant samples (was ++ empty_track s.next_track ∷ []) ≡ meant samples was ++ new_track s.next_track []
+      ∷ [] = map-append (meant_track samples) was (empty_track s.next_track ∷ []) in
       pointed disk s is p (current (now disk s is) ++ new_track s.next_track [] ∷ []) (s.next_track + 1)
-      (ap (λ (q : Project). q ++ new_track s.next_track [] ∷ []) (current_meant disk s is) ∙ sym more ∙ sym (ap (meant samples) ed))
+      (ap (λ (q : Project). q ++ new_track s.next_track [] ∷ []) (current_meant disk s is) ∙ sym more
+      ∙ sym (ap (meant samples) ed))
   model_by (edit.Drop id) good p ed =
       pointed_so disk s is p (dropped id (current (now disk s is)))
-      (ap (dropped id) (current_meant disk s is) ∙ sym (without_means samples id 1 was (current_sound disk s is).rising) ∙ sym (ap (meant samples) ed))
-  model_by (edit.Level id gain) good p ed = pointed_so disk s is p _ (set_means id (set_by (edit.Level id gain)) _ (sets_gain id gain good) p ed)
-  model_by (edit.Side id side) good p ed = pointed_so disk s is p _ (set_means id (set_by (edit.Side id side)) _ (sets_side id side) p ed)
-  model_by (edit.Mute id mute) good p ed = pointed_so disk s is p _ (set_means id (set_by (edit.Mute id mute)) _ (sets_mute id mute) p ed)
+      (ap (dropped id) (current_meant disk s is) ∙ sym (without_means samples id 1 was (current_sound disk s is).rising)
+      ∙ sym (ap (meant samples) ed))
+  model_by (edit.Level id gain) good p ed =
+      pointed_so disk s is p _ (set_means id (set_by (edit.Level id gain)) _ (sets_gain id gain good) p ed)
+  model_by (edit.Side id side) good p ed =
+      pointed_so disk s is p _ (set_means id (set_by (edit.Side id side)) _ (sets_side id side) p ed)
+  model_by (edit.Mute id mute) good p ed =
+      pointed_so disk s is p _ (set_means id (set_by (edit.Mute id mute)) _ (sets_mute id mute) p ed)
 
-  needs_so : (e : PlainEdit) (len : ℕ) → len ≤ project_body_most s.block_size (current (after_line (outside (studio_of disk s) silent) (now disk s is) (line_of e)))
+  needs_so : (e : PlainEdit) (len : ℕ) → len ≤ project_body_most s.block_size
+      (current (after_line (outside (studio_of disk s) silent) (now disk s is) (line_of e)))
       → LineNeeds (outside (studio_of disk s) silent) (studio_of disk s) (line_of e) 0 len
   needs_so edit.Track len h = (omega arith, h)
   needs_so (edit.Drop id) len h = (omega arith, h)
@@ -198,7 +218,8 @@ module _ {D : Type 0} (disk : Ghosts D) (s : Core D) (is : IsStudio disk s) wher
   pub needs_none : (e : PlainEdit) → LineNeeds (outside (studio_of disk s) silent) (studio_of disk s) (line_of e) 0 0
   needs_none e = needs_so e 0 (omega arith)
 
-  module _ (e : PlainEdit) (good : IsGood e) (none : refusal_by e was ≡ None) (p : List Track) (ed : IsEdited e s.next_track was p) where
+  module _ (e : PlainEdit) (good : IsGood e) (none : refusal_by e was ≡ None) (p : List Track)
+      (ed : IsEdited e s.next_track was p) where
     abbrev track_then : ℕ
     track_then = s.next_track + tracks_by e
 
@@ -212,15 +233,19 @@ module _ {D : Type 0} (disk : Ghosts D) (s : Core D) (is : IsStudio disk s) wher
     pub names : (P : BlockRef → Type 0) → AllByRecursion P (named_blocks s) → AllByRecursion P (point_blocks p)
     names = names_by e good p ed
 
-    short : length (spelling record_of) ≤ project_body_most s.block_size (current (after_line (outside (studio_of disk s) silent) (now disk s is) (line_of e)))
+    short : length (spelling record_of) ≤ project_body_most s.block_size
+        (current (after_line (outside (studio_of disk s) silent) (now disk s is) (line_of e)))
     short =
         let meant_then = ap current (model_by e good p ed) ∙ then_current disk s is p in
         subst (λ (q : Project). length (spelling record_of) ≤ project_body_most s.block_size q) (sym meant_then)
-        (record_most s.block_size s.next_block track_then samples 0 s.next_block track_then p (omega (arith, is.format.block_least)) sound)
+        (record_most s.block_size s.next_block track_then samples 0 s.next_block track_then p
+        (omega (arith, is.format.block_least)) sound)
 
     module _ (ids : track_then ≤ 2 ^ 62) where
-      edits : IsCommit (IsHeld disk s) disk s [] (Line (line_of e)) silent (tracks_by e) record_of (edited s.history p 0) s.clipboard track_then
-      edits = point_commit disk s is track_then (omega arith) ids p sound [] (Line (line_of e)) silent (tracks_by e) s.clipboard (call_by e) refl
+      edits : IsCommit (IsHeld disk s) disk s [] (Line (line_of e)) silent (tracks_by e) record_of
+          (edited s.history p 0) s.clipboard track_then
+      edits = point_commit disk s is track_then (omega arith) ids p sound [] (Line (line_of e)) silent
+          (tracks_by e) s.clipboard (call_by e) refl
           (λ P all. names P (all_left P (named_blocks s) [] all)) (clip_stays s []) is.few_clips is.clipboard
           (λ held. model_by e good p ed) (λ held. needs_so e (length (spelling record_of)) short)
 
@@ -229,16 +254,30 @@ module _ {D : Type 0} (disk : Ghosts D) (s : Core D) (is : IsStudio disk s) wher
         own : call_tests (outside (studio_of disk s) silent) (studio_of disk s).state (Line (line_of e)) ≡ None
         own = sym (own_is e) ∙ none
 
-        pub edit_fails : {Q : Type 0} (why : Refusal) (mid : Core D) → Fewer disk s.store → Adds {R = Q} disk s (spelling record_of) (Err why) mid
+        pub edit_fails : {Q : Type 0} (why : Refusal) (mid : Core D) → Fewer disk s.store
+            → Adds {R = Q} disk s (spelling record_of) (Err why) mid
             → Took disk s (Line (line_of e)) silent (Err why) 0 mid
         edit_fails why mid fewer adds =
-            fails disk s [] (Line (line_of e)) silent (tracks_by e) record_of (edited s.history p 0) s.clipboard track_then is (none_made disk s) edits going own ids number why mid fewer adds
+            fails disk s [] (Line (line_of e)) silent (tracks_by e) record_of (edited s.history p 0) s.clipboard
+            track_then is (none_made disk s) edits going own ids number why mid fewer adds
 
-        pub edit_done : {Q : Type 0} (q : Q) (mid : Core D) (h' : History (List Track)) (counts : Counts) (next_track : ℕ)
-            → Adds disk s (spelling record_of) (Ok q) mid → h' ≡ edited s.history p 0 → Moves s.counts counts (history_blocks s.history) (history_blocks (edited s.history p 0))
-            → next_track ≡ track_then → Took disk s (Line (line_of e)) silent (Ok Done) 0 (record mid { history = h'; counts = counts; next_track = next_track })
+        pub edit_done : {Q : Type 0} (q : Q) (mid : Core D) (h' : History (List Track)) (counts : Counts)
+            (next_track : ℕ)
+            → Adds disk s (spelling record_of) (Ok q) mid → h' ≡ edited s.history p 0
+            → Moves s.counts counts (history_blocks s.history) (history_blocks (edited s.history p 0))
+            → next_track ≡ track_then → Took disk s (Line (line_of e)) silent (Ok Done) 0 (record mid {
+              history = h';
+              counts = counts;
+              next_track = next_track;
+            })
         edit_done q mid h' counts next_track adds moved moves tracked =
             let clip = ap (λ (z : Core D). z.clipboard) adds.fields.0 in
-            let took = grows_so disk s [] (Line (line_of e)) silent (tracks_by e) record_of (edited s.history p 0) s.clipboard track_then is (none_made disk s) edits going own ids number q mid adds
+            let took = grows_so disk s [] (Line (line_of e)) silent (tracks_by e) record_of (edited s.history p 0)
+            s.clipboard track_then is (none_made disk s) edits going own ids number q mid adds
             h' counts next_track moved tracked (counts_then disk s is (edited s.history p 0) counts moves) moves.ids in
-            subst (λ z. Took disk s (Line (line_of e)) silent (Ok Done) 0 (record mid { history = h'; clipboard = z; counts = counts; next_track = next_track })) (sym clip) took
+            subst (λ z. Took disk s (Line (line_of e)) silent (Ok Done) 0 (record mid {
+              history = h';
+              clipboard = z;
+              counts = counts;
+              next_track = next_track;
+            })) (sym clip) took

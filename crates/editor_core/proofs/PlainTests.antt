@@ -1,5 +1,6 @@
 -- The tests of a call tell nothing of the disk.
-use Rattle.std.proofs.Common.{◌≡◌, ⊎_elim, sym, subst, ℕ, ◌+◌, ◌-◌, ◌^◌, ◌*◌, ◌==◌, nat_lt, not, Bool, true, false, Option, Some, None, List, [], ◌∷◌, length, map, Result, Ok, Err}
+use Rattle.std.proofs.Common.{◌≡◌, ⊎_elim, sym, subst, ℕ, ◌+◌, ◌-◌, ◌^◌, ◌*◌, ◌==◌, nat_lt, not, Bool, true, false}
+use Rattle.std.proofs.Common.{Option, Some, None, List, [], ◌∷◌, length, map, Result, Ok, Err}
 use Rattle.std.specs.Prelude.{◌||◌, ◌&&◌, nat_le, is_none, take}
 use Rattle.pcm_base.specs.declared.command.Call.{Call}
 use Rattle.pcm_base.specs.declared.command.Call.TheVariants as call
@@ -12,7 +13,10 @@ use Rattle.pcm_base.specs.Cells.{cells_at, longest, tracks_from}
 use Rattle.pcm_base.specs.Counters.{commits_of, counter_tests, no_room, pins_of, places_of, record_test, tracks_of}
 use Rattle.pcm_base.specs.Mix.{mix_length}
 use Rattle.pcm_base.specs.Outside.{Outside}
-use Rattle.pcm_base.specs.Refusals.{◌otherwise◌, bad_columns, bad_range, call_tests, channel_tests, covered_length, empty_clipboard, file_tests, import_tests, insert_tests, inserted_length, is_empty, length_limit, no_pin, no_track, own_tests, paste_tests, pasted_lengths, piece_tests, range_tests, refused_if, run_tests, too_long, too_narrow, track_limit}
+use Rattle.pcm_base.specs.Refusals.{◌otherwise◌, bad_columns, bad_range, call_tests, channel_tests, covered_length}
+use Rattle.pcm_base.specs.Refusals.{empty_clipboard, file_tests, import_tests, insert_tests, inserted_length, is_empty}
+use Rattle.pcm_base.specs.Refusals.{length_limit, no_pin, no_track, own_tests, paste_tests, pasted_lengths, piece_tests}
+use Rattle.pcm_base.specs.Refusals.{range_tests, refused_if, run_tests, too_long, too_narrow, track_limit}
 use Rattle.pcm_base.specs.Run.{refusal_of, stop_of, stop_test}
 use Rattle.pcm_base.specs.Sizes.{LONGEST_BODY}
 use Rattle.pcm_base.specs.State.{State, clip_of, current}
@@ -134,7 +138,8 @@ line out s (command.PasteOver id at) = pastes s (covered_length at) id
 line out s command.Undo = one (s.history.cursor == 0) refusal.NothingToUndo tt
 line out s command.Redo = one (s.history.cursor + 1 == length s.history.points) refusal.NothingToRedo tt
 line out s (command.Purge n) = range 0 n s.history.cursor
-line out s (command.Show id from to) = either (no_track s id) (bad_range from to (from + 4096)) (track s id) (range from to (from + 4096))
+line out s (command.Show id from to) =
+    either (no_track s id) (bad_range from to (from + 4096)) (track s id) (range from to (from + 4096))
 line out s (command.Mix from to) = range from to (from + 4096)
 line out s (command.Envelope id from to columns) =
     let len = to - from in
@@ -168,7 +173,8 @@ stops stopped (call.PinLen id) = stop stopped
 stops stopped (call.ReadPin id from count) = stop stopped
 stops stopped (call.Unpin id) = tt
 
-counters : (out : Outside) (t : model.Studio) (c : Call) (blocks len : ℕ) → IsPlainTest (counter_tests out t c blocks len)
+counters : (out : Outside) (t : model.Studio) (c : Call) (blocks len : ℕ)
+    → IsPlainTest (counter_tests out t c blocks len)
 counters out t c blocks len =
     let block = no_room t.next_block blocks in
     let id = no_room t.state.next_track (tracks_of out c) in
@@ -199,7 +205,8 @@ exceeding_plain end len (refusal.SpaceSpent have need) h = tt
 exceeding_plain end len (refusal.RecordLimit n) h = tt
 exceeding_plain end len why h = absurd h
 
-pub unprepared_plain : {D : Type 0} (s : Core D) (n tracks len : ℕ) (why : Refusal) → NotPrepared s n tracks len why → IsPlain why
+pub unprepared_plain : {D : Type 0} (s : Core D) (n tracks len : ℕ) (why : Refusal) → NotPrepared s n tracks len why
+    → IsPlain why
 unprepared_plain s n tracks len why not = ⊎_elim
     (λ memory. subst IsPlain (sym memory) tt)
     (⊎_elim
@@ -208,6 +215,7 @@ unprepared_plain s n tracks len why not = ⊎_elim
     let id = no_room s.next_track tracks in
     let number = no_room s.commit_number 1 in
     plain_by (block otherwise id otherwise number) why
-    (either block (id otherwise number) (room s.next_block n) (either id number (room s.next_track tracks) (room s.commit_number 1))) spent)
+    (either block (id otherwise number) (room s.next_block n)
+    (either id number (room s.next_track tracks) (room s.commit_number 1))) spent)
     (λ over. exceeding_plain s.journal_end len why over.3))
     not

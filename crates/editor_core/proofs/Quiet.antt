@@ -1,10 +1,12 @@
 -- Calls without a commit, which make no blocks: what refuses them, and what they leave where they leave the studio.
-use Rattle.std.proofs.Common.{◌≡◌, inl, refl, sym, ap, ◌∙◌, ℕ, ◌+◌, ◌^◌, ◌≤◌, ◌==◌, if◌then◌else◌, Option, Some, None, Ok, Err, arith}
+use Rattle.std.proofs.Common.{◌≡◌, inl, refl, sym, ap, ◌∙◌, ℕ, ◌+◌, ◌^◌, ◌≤◌, ◌==◌, if◌then◌else◌, Option, Some, None}
+use Rattle.std.proofs.Common.{Ok, Err, arith}
 use Rattle.pcm_base.specs.declared.answer.Reply.{Reply}
 use Rattle.pcm_base.specs.declared.command.Call.{Call}
 use Rattle.pcm_base.specs.declared.refusal.Refusal.{Refusal}
 use Rattle.pcm_base.specs.declared.refusal.Refusal.TheVariants as refusal
-use Rattle.pcm_base.specs.Counters.{Needs, commits_of, tracks_of, pins_of, record_bytes, places_of, no_room, record_test}
+use Rattle.pcm_base.specs.Counters.{Needs, commits_of, tracks_of, pins_of, record_bytes, places_of, no_room}
+use Rattle.pcm_base.specs.Counters.{record_test}
 use Rattle.pcm_base.specs.Outside.{Outside}
 use Rattle.pcm_base.specs.Refusals.{◌otherwise◌, call_tests}
 use Rattle.pcm_base.specs.Run.{outside, stop_of, stop_test, refusal_of, followed, CarriesOut}
@@ -38,8 +40,10 @@ module _ (t : model.Studio) (c : Call) where
   pub stopped_first : (blocks len faults : ℕ) → stop_test t.stopped c ≡ stop_of t.stopped → t.stopped ≡ Some faults
       → refusal_of out t c blocks len ≡ Some (refusal.Stopped faults)
   stopped_first blocks len faults is at =
-      let rest : Option Refusal = (call_tests out t.state c) otherwise ((no_room t.next_block blocks) otherwise (no_room t.state.next_track (tracks_of out c))
-      otherwise (no_room t.state.commit (commits_of c)) otherwise (no_room t.state.next_pin (pins_of c)) otherwise (no_room t.journal_end (places_of c len)))
+      let rest : Option Refusal = (call_tests out t.state c) otherwise
+      ((no_room t.next_block blocks) otherwise (no_room t.state.next_track (tracks_of out c))
+      otherwise (no_room t.state.commit (commits_of c)) otherwise (no_room t.state.next_pin (pins_of c)) otherwise
+      (no_room t.journal_end (places_of c len)))
       otherwise (record_test len) in
       ap (λ (z : Option Refusal). z otherwise rest) (is ∙ ap stop_of at)
 
@@ -47,8 +51,10 @@ module _ (t : model.Studio) (c : Call) where
   pub own_first : (blocks len : ℕ) (why : Refusal) → stop_test t.stopped c ≡ None → call_tests out t.state c ≡ Some why
       → refusal_of out t c blocks len ≡ Some why
   own_first blocks len why going own =
-      let rest : Option Refusal = ((no_room t.next_block blocks) otherwise (no_room t.state.next_track (tracks_of out c))
-      otherwise (no_room t.state.commit (commits_of c)) otherwise (no_room t.state.next_pin (pins_of c)) otherwise (no_room t.journal_end (places_of c len)))
+      let rest : Option Refusal =
+      ((no_room t.next_block blocks) otherwise (no_room t.state.next_track (tracks_of out c))
+      otherwise (no_room t.state.commit (commits_of c)) otherwise (no_room t.state.next_pin (pins_of c)) otherwise
+      (no_room t.journal_end (places_of c len)))
       otherwise (record_test len) in
       λ i. (going i) otherwise (own i) otherwise rest
 
@@ -75,16 +81,20 @@ module _ (t : model.Studio) (c : Call) where
     end_fits : no_room t.journal_end (places_of c 0) ≡ None
     end_fits = ap (no_room t.journal_end) no_places ∙ fits t.journal_end 0 (omega (arith, room.end))
 
-    pub quiet_passes : stop_test t.stopped c ≡ None → call_tests out t.state c ≡ None → no_room t.state.next_pin (pins_of c) ≡ None
+    pub quiet_passes : stop_test t.stopped c ≡ None → call_tests out t.state c ≡ None
+        → no_room t.state.next_pin (pins_of c) ≡ None
         → refusal_of out t c 0 0 ≡ None
     quiet_passes going own pin =
-        λ i. (going i) otherwise (own i) otherwise ((block_fits i) otherwise (track_fits i) otherwise (commit_fits i) otherwise (pin i) otherwise (end_fits i)) otherwise None
+        λ i. (going i) otherwise (own i) otherwise ((block_fits i) otherwise (track_fits i) otherwise
+        (commit_fits i) otherwise (pin i) otherwise (end_fits i)) otherwise None
 
     -- no number of a pin is left
-    pub pins_spent : (why : Refusal) → stop_test t.stopped c ≡ None → call_tests out t.state c ≡ None → no_room t.state.next_pin (pins_of c) ≡ Some why
+    pub pins_spent : (why : Refusal) → stop_test t.stopped c ≡ None → call_tests out t.state c ≡ None
+        → no_room t.state.next_pin (pins_of c) ≡ Some why
         → refusal_of out t c 0 0 ≡ Some why
     pins_spent why going own pin =
-        λ i. (going i) otherwise (own i) otherwise ((block_fits i) otherwise (track_fits i) otherwise (commit_fits i) otherwise (pin i) otherwise (end_fits i)) otherwise None
+        λ i. (going i) otherwise (own i) otherwise ((block_fits i) otherwise (track_fits i) otherwise
+        (commit_fits i) otherwise (pin i) otherwise (end_fits i)) otherwise None
 
     -- what it leaves of the model
     pub quiet_follows : followed out t c 0 0 ≡ record t { state = after out t.state c }
@@ -95,7 +105,8 @@ module _ (t : model.Studio) (c : Call) where
         λ i. record t { state = after out t.state c; next_block = block i; journal_end = end i }
 
     -- carried out
-    pub carried : (r : Reply) (u : model.Studio) → refusal_of out t c 0 0 ≡ None → MayAnswer out t.state c r → u ≡ record t { state = after out t.state c }
+    pub carried : (r : Reply) (u : model.Studio) → refusal_of out t c 0 0 ≡ None → MayAnswer out t.state c r
+        → u ≡ record t { state = after out t.state c }
         → CarriesOut t c silent r u
     carried r u passed answers same = record {
       blocks = 0;
@@ -110,22 +121,31 @@ module _ (t : model.Studio) (c : Call) where
 -- ---- the studio as it was
 
 pub room_of : {D : Type 0} (disk : Ghosts D) (s : Core D) → (c : Call) → IsStudio disk s → HasRoom (studio_of disk s) c
-room_of disk s c is = record { block = is.counters.block_most; track = is.counters.track_most; commit = is.counters.commit_most; end = is.counters.end_most }
+room_of disk s c is = record {
+  block = is.counters.block_most;
+  track = is.counters.track_most;
+  commit = is.counters.commit_most;
+  end = is.counters.end_most;
+}
 
-module _ {D : Type 0} (disk : Ghosts D) (s : Core D) (c : Call) (quiet : IsQuiet c) (is : IsStudio disk s) (fewer : Fewer disk s.store) where
+module _ {D : Type 0} (disk : Ghosts D) (s : Core D) (c : Call) (quiet : IsQuiet c) (is : IsStudio disk s)
+    (fewer : Fewer disk s.store) where
   abbrev t : model.Studio
   t = studio_of disk s
 
   -- refused
-  pub refused_by : (why : Refusal) → refusal_of (outside t silent) t c 0 0 ≡ Some why → Took disk s c silent (Err why) 0 s
+  pub refused_by : (why : Refusal) → refusal_of (outside t silent) t c 0 0 ≡ Some why
+      → Took disk s c silent (Err why) 0 s
   refused_by why first = refuses disk s c silent why is fewer refl 0 0 (λ held. quiet.needs t) first
 
   -- it had stopped before
-  pub refused_stopped : (faults : ℕ) → stop_test s.stopped c ≡ stop_of s.stopped → s.stopped ≡ Some faults → Took disk s c silent (Err (refusal.Stopped faults)) 0 s
+  pub refused_stopped : (faults : ℕ) → stop_test s.stopped c ≡ stop_of s.stopped → s.stopped ≡ Some faults
+      → Took disk s c silent (Err (refusal.Stopped faults)) 0 s
   refused_stopped faults test at = refused_by (refusal.Stopped faults) (stopped_first t c 0 0 faults test at)
 
   -- by its own test
-  pub refused_own : (why : Refusal) → stop_test s.stopped c ≡ None → call_tests (outside t silent) t.state c ≡ Some why → Took disk s c silent (Err why) 0 s
+  pub refused_own : (why : Refusal) → stop_test s.stopped c ≡ None → call_tests (outside t silent) t.state c ≡ Some why
+      → Took disk s c silent (Err why) 0 s
   refused_own why going own = refused_by why (own_first t c 0 0 why going own)
 
   -- for want of memory

@@ -1,5 +1,7 @@
 -- Edits of a range of one track: the lines that ask for them, and how many blocks they make.
-use Rattle.std.proofs.Common.{◌≡◌, ◌∙◌, ◌⊎◌, inl, inr, refl, sym, ap, subst, ℕ, ◌+◌, ◌-◌, ◌/◌, ◌≤◌, ◌<◌, nat_lt, nat_le, ◌&&◌, not, Bool, true, false, None, List, ◌++◌, length, replicate, Result, Ok, Err, IfOk, arith}
+use Rattle.std.proofs.Common.{◌≡◌, ◌∙◌, ◌⊎◌, inl, inr, refl, sym, ap, subst, ℕ, ◌+◌, ◌-◌, ◌/◌, ◌≤◌, ◌<◌, nat_lt, nat_le}
+use Rattle.std.proofs.Common.{◌&&◌, not, Bool, true, false, None, List, ◌++◌, length, replicate, Result, Ok, Err, IfOk}
+use Rattle.std.proofs.Common.{arith}
 use Rattle.std.proofs.lemmas.Bool.{cases_lt}
 use Rattle.std.proofs.lemmas.Bool.Decides.{nat_tests}
 use Rattle.std.proofs.lemmas.List.{append-nil}
@@ -38,7 +40,8 @@ range_within from to len none = by (cases_lt len to)
     by : ((len < to) ⊎ (to ≤ len)) → to ≤ len
     by (inl past) =
         let t : nat_le to len ≡ false = grind (arith, nat_tests) in
-        beyond to len (nat_lt from to) (sym (ap (λ (b : Bool). refused_if (not (nat_lt from to && b)) BadRange) t) ∙ none)
+        beyond to len (nat_lt from to)
+        (sym (ap (λ (b : Bool). refused_if (not (nat_lt from to && b)) BadRange) t) ∙ none)
     by (inr within) = within
 
 pub all_here : (to : ℕ) (cells : List Cell) → to ≤ length cells → continued to cells ≡ cells
@@ -48,24 +51,29 @@ all_here to cells le =
 
 -- a range of a layout that passes its test has no gaps behind the track's end
 pub cells_few : (m from to : ℕ) (cs : List Clip) (r : Result Plan Refusal) → IsLayout cs
-    → IfOk r (λ (p : Plan). (src : Sources) → length p.makes ≤ 8 + sample_count (part from to (layout_cells src cs)) / m + clip_count (part from to (layout_cells src cs)))
+    → IfOk r (λ (p : Plan). (src : Sources) → length p.makes
+    ≤ 8 + sample_count (part from to (layout_cells src cs)) / m + clip_count (part from to (layout_cells src cs)))
     → AnswersTest (bad_range from to (end_of 0 cs)) r
-    → IfOk r (λ (p : Plan). (src : Sources) → length p.makes ≤ blocks_of_cells m (range_of from to (layout_cells src cs)))
+    → IfOk r
+    (λ (p : Plan). (src : Sources) → length p.makes ≤ blocks_of_cells m (range_of from to (layout_cells src cs)))
 cells_few m from to cs (Err e) is few tests = tt
 cells_few m from to cs (Ok p) is few tests = λ src.
     let cells = layout_cells src cs in
     let long : length cells ≡ end_of 0 cs = length-layout src cs is.apart in
-    let same : continued to cells ≡ cells = all_here to cells (omega (arith, range_within from to (end_of 0 cs) tests, long)) in
+    let same : continued to cells ≡ cells =
+    all_here to cells (omega (arith, range_within from to (end_of 0 cs) tests, long)) in
     subst (λ (xs : List Cell). length p.makes ≤ blocks_of_cells m (part from to xs)) (sym same) (few src)
 
-pub cut_few : (r : Result Plan Refusal) → IfOk r (λ (p : Plan). length p.makes ≤ 8) → IfOk r (λ (p : Plan). (src : Sources) → length p.makes ≤ blocks_of_tracks 1)
+pub cut_few : (r : Result Plan Refusal) → IfOk r (λ (p : Plan). length p.makes ≤ 8)
+    → IfOk r (λ (p : Plan). (src : Sources) → length p.makes ≤ blocks_of_tracks 1)
 cut_few (Err e) few = tt
 cut_few (Ok p) few = λ src. omega (arith, few)
 
 -- ---- what a plan makes, by the edit
 
 abbrev pub MakesFew : (from to m : ℕ) → List Clip → Result Plan Refusal → RangeEdit → Type 0
-MakesFew from to m cs r e = IfOk r (λ (p : Plan). (src : Sources) → length p.makes ≤ range_most e from to m (layout_cells src cs))
+MakesFew from to m cs r e =
+    IfOk r (λ (p : Plan). (src : Sources) → length p.makes ≤ range_most e from to m (layout_cells src cs))
 
 abbrev pub MeansRange : (from to : ℕ) → List Clip → Result Plan Refusal → RangeEdit → Type 0
 MeansRange from to cs r e = IfOk r (λ (p : Plan). Means (λ src. range_cells e from to) cs p)
@@ -129,29 +137,50 @@ range_commit (Gain gain) id from to = record {
   done = λ rate s. refl;
 }
 
-pub range_call : (e : RangeEdit) (id from to : ℕ) → IsTrackCall (Line (range_line e id from to)) silent (range_edit e from to) Nothing id 0
+pub range_call : (e : RangeEdit) (id from to : ℕ)
+    → IsTrackCall (Line (range_line e id from to)) silent (range_edit e from to) Nothing id 0
 range_call Delete id from to = record {
-  call = record { commit = range_commit Delete id from to; needs = λ rate t blocks len h. h; needed = λ rate t blocks len h. h };
+  call = record {
+    commit = range_commit Delete id from to;
+    needs = λ rate t blocks len h. h;
+    needed = λ rate t blocks len h. h;
+  };
   own = λ out s. refl;
   after_is = λ out s. refl;
 }
 range_call SplitDelete id from to = record {
-  call = record { commit = range_commit SplitDelete id from to; needs = λ rate t blocks len h. h; needed = λ rate t blocks len h. h };
+  call = record {
+    commit = range_commit SplitDelete id from to;
+    needs = λ rate t blocks len h. h;
+    needed = λ rate t blocks len h. h;
+  };
   own = λ out s. refl;
   after_is = λ out s. refl;
 }
 range_call Silence id from to = record {
-  call = record { commit = range_commit Silence id from to; needs = λ rate t blocks len h. h; needed = λ rate t blocks len h. h };
+  call = record {
+    commit = range_commit Silence id from to;
+    needs = λ rate t blocks len h. h;
+    needed = λ rate t blocks len h. h;
+  };
   own = λ out s. refl;
   after_is = λ out s. refl;
 }
 range_call Trim id from to = record {
-  call = record { commit = range_commit Trim id from to; needs = λ rate t blocks len h. h; needed = λ rate t blocks len h. h };
+  call = record {
+    commit = range_commit Trim id from to;
+    needs = λ rate t blocks len h. h;
+    needed = λ rate t blocks len h. h;
+  };
   own = λ out s. refl;
   after_is = λ out s. refl;
 }
 range_call (Gain gain) id from to = record {
-  call = record { commit = range_commit (Gain gain) id from to; needs = λ rate t blocks len h. h; needed = λ rate t blocks len h. h };
+  call = record {
+    commit = range_commit (Gain gain) id from to;
+    needs = λ rate t blocks len h. h;
+    needed = λ rate t blocks len h. h;
+  };
   own = λ out s. refl;
   after_is = λ out s. refl;
 }

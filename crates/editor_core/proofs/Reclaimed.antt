@@ -1,5 +1,6 @@
 -- What a reclaim answers.
-use Rattle.std.proofs.Common.{◌≡◌, ◌≢◌, ◌↔◌, ◌⊎◌, inl, inr, ⊎_elim, refl, sym, ap, ◌∙◌, subst, ℕ, ◌+◌, ◌^◌, ◌≤◌, ◌<◌, IsTrue, IsSome, List, [], length, Option, Some, None, Ok, Err, arith}
+use Rattle.std.proofs.Common.{◌≡◌, ◌≢◌, ◌↔◌, ◌⊎◌, inl, inr, ⊎_elim, refl, sym, ap, ◌∙◌, subst, ℕ, ◌+◌, ◌^◌, ◌≤◌, ◌<◌}
+use Rattle.std.proofs.Common.{IsTrue, IsSome, List, [], length, Option, Some, None, Ok, Err, arith}
 use Rattle.std.specs.Prelude.{IfSome, unwrap_or, ◌-◌}
 use Rattle.std.proofs.lemmas.Bool.{cases_eq}
 use Rattle.pcm_base.specs.declared.answer.Reply.TheVariants.{Freed}
@@ -30,7 +31,8 @@ use Rattle.editor_core.proofs.Gone.{forgets_none, removes_part, part_none}
 use Rattle.editor_core.proofs.Images.{keeps_now}
 use Rattle.editor_core.proofs.Quiet.{IsQuiet, quiet_passes, carried, room_of, refused_stopped}
 use Rattle.editor_core.proofs.Others.{others_removed, others_then}
-use Rattle.editor_core.proofs.Reclaiming.{FilesFreed, Freeing, first_free, goes, spared, free_unnamed, unnamed_free, only_named}
+use Rattle.editor_core.proofs.Reclaiming.{FilesFreed, Freeing, first_free, goes, spared, free_unnamed, unnamed_free}
+use Rattle.editor_core.proofs.Reclaiming.{only_named}
 use Rattle.editor_core.proofs.Spaces.{fits}
 use Rattle.editor_core.proofs.Staying.{stopped_not}
 
@@ -51,7 +53,8 @@ module _ {D : Type 0} (disk : Ghosts D) (old : Core D) (limit : Option ℕ) wher
 
   -- as many as were asked for, or all there are
   pub reclaimed : (ids : List ℕ) (new : Core D) → Freeing disk old ids new → IfSome limit (λ m. length ids ≤ m)
-      → (limit ≡ Some (length ids)) ⊎ ((id : ℕ) → new.counts id ≡ Some 0 → ⊥) → Reclaims disk old limit (Ok (length ids)) new
+      → (limit ≡ Some (length ids)) ⊎ ((id : ℕ) → new.counts id ≡ Some 0 → ⊥)
+      → Reclaims disk old limit (Ok (length ids)) new
   reclaimed ids new was within all =
       let is = was.first in
       let t = studio_of disk old in
@@ -77,7 +80,8 @@ module _ {D : Type 0} (disk : Ghosts D) (old : Core D) (limit : Option ℕ) wher
           len = 0;
           needs = λ held. (0, quiet.needs t);
           changed = changed_wider
-              (λ d c step. subst (λ (n : ℕ). LeavesOthers old.next_block n (MayRemove call old.counts) d c) (sym next) step)
+              (λ d c step. subst (λ (n : ℕ). LeavesOthers old.next_block n (MayRemove call old.counts) d c)
+              (sym next) step)
               (record { files = omega arith; bytes = omega arith; calls = omega arith }) was.changed;
           stops = inl (stop, was.change_faults);
           left = tt;
@@ -103,7 +107,8 @@ module _ {D : Type 0} (disk : Ghosts D) (old : Core D) (limit : Option ℕ) wher
       }
 
   -- a removal failed
-  pub reclaim_fails : {R : Type 0} (ids : List ℕ) (mid new : Core D) (id : ℕ) (why : Refusal) → Freeing disk old ids mid → IsFirstFree mid.counts id → Drops {R = R} disk mid id (Err why) new
+  pub reclaim_fails : {R : Type 0} (ids : List ℕ) (mid new : Core D) (id : ℕ) (why : Refusal) → Freeing disk old ids mid
+      → IsFirstFree mid.counts id → Drops {R = R} disk mid id (Err why) new
       → IfSome limit (λ m. length ids ≤ m) → Reclaims disk old limit (Err why) new
   reclaim_fails ids mid new id refusal.DiskFault was first drops within =
       let is = was.studio in
@@ -111,34 +116,59 @@ module _ {D : Type 0} (disk : Ghosts D) (old : Core D) (limit : Option ℕ) wher
       let halt = model.fault_sum (disk.read_fault_count new.store) (disk.change_fault_count new.store) in
       let at : new ≡ stopped_by disk mid new.store = drops.fields.0 in
       let going : mid.stopped ≡ None = goes disk old mid ids was in
-      let to_mid : IsTrue (disk.tells old.store) → IsTrue (disk.tells mid.store) = subst IsTrue (sym was.changed.tells) in
+      let to_mid : IsTrue (disk.tells old.store) → IsTrue (disk.tells mid.store) =
+      subst IsTrue (sym was.changed.tells) in
       let means = same_meaning disk mid is id free new.store drops.changed in
       let t = studio_of disk old in
       let u = studio_of disk new in
       let stop : new.stopped ≡ Some halt = ap (λ (z : Core D). z.stopped) at in
       let counts : new.counts ≡ mid.counts = ap (λ (z : Core D). z.counts) at in
-      let number : new.commit_number ≡ old.commit_number = ap (λ (z : Core D). z.commit_number) at ∙ ap (λ (z : Core D). z.commit_number) was.fields in
-      let next : new.next_block ≡ old.next_block = ap (λ (z : Core D). z.next_block) at ∙ ap (λ (z : Core D). z.next_block) was.fields in
+      let number : new.commit_number ≡ old.commit_number =
+      ap (λ (z : Core D). z.commit_number) at ∙ ap (λ (z : Core D). z.commit_number) was.fields in
+      let next : new.next_block ≡ old.next_block =
+      ap (λ (z : Core D). z.next_block) at ∙ ap (λ (z : Core D). z.next_block) was.fields in
       let failed : HasFailed disk old.store new.store =
-      record { rose = omega (arith, drops.fields.1.rose, was.change_faults); later = omega (arith, drops.fields.1.later, was.change_faults) } in
-      let at_new : (d c : Files) → FilesFreed old d c → LeavesOthers old.next_block new.next_block (MayRemove call old.counts) d c =
+      record {
+        rose = omega (arith, drops.fields.1.rose, was.change_faults);
+        later = omega (arith, drops.fields.1.later, was.change_faults);
+      } in
+      let at_new : (d c : Files) → FilesFreed old d c
+      → LeavesOthers old.next_block new.next_block (MayRemove call old.counts) d c =
       (λ d c step. subst (λ (n : ℕ). LeavesOthers old.next_block n (MayRemove call old.counts) d c) (sym next) step) in
       let blocks : t.next_block ≡ t.next_block + 0 = omega arith in
-      let still : IsTrue (disk.tells old.store) → u ≡ record t { stopped = u.stopped; next_block = t.next_block + 0; read_faults = u.read_faults; change_faults = u.change_faults } =
+      let still : IsTrue (disk.tells old.store) → u ≡ record t {
+        stopped = u.stopped;
+        next_block = t.next_block + 0;
+        read_faults = u.read_faults;
+        change_faults = u.change_faults;
+      } =
       (λ told. ap (studio_of disk) at
-      ∙ (λ i. record ((means (to_mid told) ∙ was.state told) i) { stopped = Some halt; read_faults = u.read_faults; change_faults = u.change_faults })
-      ∙ (λ i. record t { stopped = sym stop i; next_block = blocks i; read_faults = u.read_faults; change_faults = u.change_faults })) in
-      let changes : IsTrue (disk.tells old.store) → disk.change_fault_count mid.store ≡ t.change_faults = (λ told. ap (λ (z : model.Studio). z.change_faults) (was.state told)) in
-      let reads : IsTrue (disk.tells old.store) → disk.read_fault_count mid.store ≡ t.read_faults = (λ told. ap (λ (z : model.Studio). z.read_faults) (was.state told)) in
+      ∙ (λ i. record ((means (to_mid told) ∙ was.state told) i) {
+        stopped = Some halt;
+        read_faults = u.read_faults;
+        change_faults = u.change_faults;
+      })
+      ∙ (λ i. record t {
+        stopped = sym stop i;
+        next_block = blocks i;
+        read_faults = u.read_faults;
+        change_faults = u.change_faults;
+      })) in
+      let changes : IsTrue (disk.tells old.store) → disk.change_fault_count mid.store ≡ t.change_faults =
+      (λ told. ap (λ (z : model.Studio). z.change_faults) (was.state told)) in
+      let reads : IsTrue (disk.tells old.store) → disk.read_fault_count mid.store ≡ t.read_faults =
+      (λ told. ap (λ (z : model.Studio). z.read_faults) (was.state told)) in
       let keeps : IsHeld disk old → EachSince disk old.store new.store (λ c. Keeps c (shown t)) =
-      (λ held. each_on (λ c. Keeps c (shown t)) (disk.clock old.store) drops.changed.images was.changed.images.later (was.keeps held)
+      (λ held. each_on (λ c. Keeps c (shown t)) (disk.clock old.store) drops.changed.images was.changed.images.later
+      (was.keeps held)
       (λ c since. subst (λ (z : model.Studio). Keeps c (shown z)) (was.state held.tells)
       (keeps_since disk mid is id free new.store drops.changed going (was.held held) c since))) in record {
         ids = ids;
         took = record {
           studio = subst (IsStudio disk) (sym at) (halted_studio disk mid is id free new.store drops.changed halt);
           held = λ held.
-              subst (IsHeld disk) (sym at) (halted_held disk mid is id free new.store drops.changed halt (was.held held));
+              subst (IsHeld disk) (sym at)
+              (halted_held disk mid is id free new.store drops.changed halt (was.held held));
           step = λ held. inr (record {
             breaks = record {
               going = was.going;
@@ -153,8 +183,10 @@ module _ {D : Type 0} (disk : Ghosts D) (old : Core D) (limit : Option ℕ) wher
               refl,
               record {
                 stopped = stop;
-                rose = subst (λ (n : ℕ). Rose n (disk.change_fault_count new.store)) (changes held.tells) drops.fields.1.rose;
-                later = subst (λ (n : ℕ). n ≤ disk.change_fault_count new.store) (changes held.tells) drops.fields.1.later;
+                rose = subst (λ (n : ℕ). Rose n (disk.change_fault_count new.store))
+                    (changes held.tells) drops.fields.1.rose;
+                later =
+                    subst (λ (n : ℕ). n ≤ disk.change_fault_count new.store) (changes held.tells) drops.fields.1.later;
                 reads = drops.read_faults ∙ reads held.tells;
               },
             );
@@ -167,14 +199,22 @@ module _ {D : Type 0} (disk : Ghosts D) (old : Core D) (limit : Option ℕ) wher
           len = 0;
           needs = λ held. (0, quiet.needs t);
           changed = changed_turn (λ d c step. at_new d c step)
-              (λ d e c one two. at_new d c (others_then old.next_block old.next_block (MayRemove call old.counts) d e c one
-              (others_removed old.next_block old.next_block (MayRemove call old.counts) id e c (first_free disk old mid ids id was first) two)))
+              (λ d e c one two.
+              at_new d c (others_then old.next_block old.next_block (MayRemove call old.counts) d e c one
+              (others_removed old.next_block old.next_block (MayRemove call old.counts) id e c
+              (first_free disk old mid ids id was first) two)))
               (record { files = omega arith; bytes = omega arith; calls = omega arith }) was.changed drops.changed;
           stops = inr (stop, failed, refl);
           left = record {
             same = at ∙ (λ i. record (was.fields i) { store = new.store; stopped = Some halt })
-                ∙ (λ i. record old { store = new.store; counts = sym counts i; next_block = sym next i; stopped = sym stop i });
-            ids = λ x not. ids_less x next (subst (λ (k : Counts). k x ≡ old.counts x) (sym counts) (was.counts.others x (λ one. not (was.counts.free x one))));
+                ∙ (λ i. record old {
+                  store = new.store;
+                  counts = sym counts i;
+                  next_block = sym next i;
+                  stopped = sym stop i;
+                });
+            ids = λ x not. ids_less x next (subst (λ (k : Counts). k x ≡ old.counts x) (sym counts)
+                (was.counts.others x (λ one. not (was.counts.free x one))));
             so = inr failed;
           };
         };
@@ -189,11 +229,14 @@ module _ {D : Type 0} (disk : Ghosts D) (old : Core D) (limit : Option ℕ) wher
             (unnamed_free disk mid is ((was.held held).durable going) other
             (earlier at (drops.changed.reads (to_mid held.tells)) other un));
         done = λ told. tt;
-        part = λ told. subst (λ (k : Counts). RemovesPart k (disk.reads old.store) (disk.reads new.store) ids) (sym counts)
-            (removes_part mid.counts (disk.reads old.store) (disk.reads mid.store) (disk.reads new.store) ids id (was.files told) (drops.changed.reads (to_mid told)) first);
+        part =
+            λ told. subst (λ (k : Counts). RemovesPart k (disk.reads old.store) (disk.reads new.store) ids) (sym counts)
+            (removes_part mid.counts (disk.reads old.store) (disk.reads mid.store) (disk.reads new.store) ids id
+            (was.files told) (drops.changed.reads (to_mid told)) first);
         for_good = λ told. tt;
         only = λ unlimited held. tt;
-        fields = at ∙ (λ i. record (was.fields i) { store = new.store; stopped = Some halt }) ∙ (λ i. record old { store = new.store; counts = sym counts i; stopped = sym stop i });
+        fields = at ∙ (λ i. record (was.fields i) { store = new.store; stopped = Some halt })
+            ∙ (λ i. record old { store = new.store; counts = sym counts i; stopped = sym stop i });
         why = inl refl;
       }
     where
@@ -209,11 +252,15 @@ module _ {D : Type 0} (disk : Ghosts D) (old : Core D) (limit : Option ℕ) wher
       there_still a None (inr none) some = absurd (cc some)
       there_still a (Some n) (inr none) some = absurd (cc none)
 
-      step_at : (x : ℕ) → RemoveStep id (disk.reads mid.store) (disk.reads new.store) → (x ≡ id) ⊎ (x ≢ id) → (disk.reads new.store x ≡ disk.reads mid.store x) ⊎ (disk.reads new.store x ≡ None)
-      step_at x step (inl e) = subst (λ (n : ℕ). (disk.reads new.store n ≡ disk.reads mid.store n) ⊎ (disk.reads new.store n ≡ None)) (sym e) step.gone
+      step_at : (x : ℕ) → RemoveStep id (disk.reads mid.store) (disk.reads new.store) → (x ≡ id) ⊎ (x ≢ id)
+          → (disk.reads new.store x ≡ disk.reads mid.store x) ⊎ (disk.reads new.store x ≡ None)
+      step_at x step (inl e) =
+          subst (λ (n : ℕ). (disk.reads new.store n ≡ disk.reads mid.store n) ⊎ (disk.reads new.store n ≡ None))
+          (sym e) step.gone
       step_at x step (inr ne) = inl (step.others x ne)
 
-      earlier : new ≡ stopped_by disk mid new.store → RemoveStep id (disk.reads mid.store) (disk.reads new.store) → (x : ℕ) → IsUnnamed disk new x → IsUnnamed disk mid x
+      earlier : new ≡ stopped_by disk mid new.store → RemoveStep id (disk.reads mid.store) (disk.reads new.store)
+          → (x : ℕ) → IsUnnamed disk new x → IsUnnamed disk mid x
       earlier at step x un = record {
         least = un.least;
         most = un.most;
@@ -223,7 +270,8 @@ module _ {D : Type 0} (disk : Ghosts D) (old : Core D) (limit : Option ℕ) wher
   reclaim_fails ids mid new id why was first drops within = absurd drops.fields
 
   -- it had stopped before
-  pub reclaim_stopped : (faults : ℕ) → old.stopped ≡ Some faults → IsStudio disk old → Fewer disk old.store → Reclaims disk old limit (Err (refusal.Stopped faults)) old
+  pub reclaim_stopped : (faults : ℕ) → old.stopped ≡ Some faults → IsStudio disk old → Fewer disk old.store
+      → Reclaims disk old limit (Err (refusal.Stopped faults)) old
   reclaim_stopped faults stopped is fewer = record {
     ids = [];
     took = refused_stopped disk old call quiet is fewer faults refl stopped;
@@ -251,13 +299,22 @@ module _ {D : Type 0} (disk : Ghosts D) (old : Core D) (limit : Option ℕ) wher
 
 -- ---- the limit
 
-pub within : (limit : Option ℕ) (freed n most : ℕ) → n ≡ freed → most ≡ unwrap_or limit (2 ^ 64 - 1) → freed ≤ most → IfSome limit (λ m. n ≤ m)
+pub within : (limit : Option ℕ) (freed n most : ℕ) → n ≡ freed → most ≡ unwrap_or limit (2 ^ 64 - 1) → freed ≤ most
+    → IfSome limit (λ m. n ≤ m)
 within None freed n most same is le = tt
 within (Some m) freed n most same is le = omega (arith, same, is, le)
 
 -- where so many went as the limit says, it is that of the caller, or none is left
-pub all_of : {D : Type 0} (disk : Ghosts D) (old new : Core D) (limit : Option ℕ) (ids : List ℕ) (most : ℕ) → Freeing disk old ids new → length ids ≡ most → most ≡ unwrap_or limit (2 ^ 64 - 1)
+pub all_of : {D : Type 0} (disk : Ghosts D) (old new : Core D) (limit : Option ℕ) (ids : List ℕ) (most : ℕ)
+    → Freeing disk old ids new → length ids ≡ most → most ≡ unwrap_or limit (2 ^ 64 - 1)
     → (limit ≡ Some (length ids)) ⊎ ((id : ℕ) → new.counts id ≡ Some 0 → ⊥)
 all_of disk old new None ids most was full is =
-    inr (λ id free. absurd (omega (arith, was.above id free, full, is, (was.studio.given id (subst IsSome (sym free) refl)).1, was.studio.counters.block_most)))
+    inr (λ id free. absurd (omega (
+      arith,
+      was.above id free,
+      full,
+      is,
+      (was.studio.given id (subst IsSome (sym free) refl)).1,
+      was.studio.counters.block_most,
+    )))
 all_of disk old new (Some m) ids most was full is = inl (ap Some (sym (full ∙ is)))

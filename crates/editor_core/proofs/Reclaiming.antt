@@ -1,5 +1,6 @@
 -- Files of blocks that nothing names go, one after another.
-use Rattle.std.proofs.Common.{◌≡◌, ◌≢◌, ◌⊎◌, inl, inr, refl, sym, ap, ◌∙◌, subst, ℕ, zero, suc, ◌*◌, ◌≤◌, ◌<◌, IsTrue, IsSome, List, [], ◌∷◌, ◌++◌, length, Option, Some, None, Ok, arith}
+use Rattle.std.proofs.Common.{◌≡◌, ◌≢◌, ◌⊎◌, inl, inr, refl, sym, ap, ◌∙◌, subst, ℕ, zero, suc, ◌*◌, ◌≤◌, ◌<◌, IsTrue}
+use Rattle.std.proofs.Common.{IsSome, List, [], ◌∷◌, ◌++◌, length, Option, Some, None, Ok, arith}
 use Rattle.std.proofs.lemmas.Bool.{cases_eq}
 use Rattle.pcm_base.specs.Studio as model
 use Rattle.disk_model.specs.Disk.{Files}
@@ -68,7 +69,8 @@ module _ {D : Type 0} (disk : Ghosts D) where
   goes old mid ids was = ap (λ (z : Core D). z.stopped) was.fields ∙ was.going
 
   -- what goes next had no count before the first of them either
-  pub first_free : (old mid : Core D) (ids : List ℕ) (id : ℕ) → Freeing disk old ids mid → IsFirstFree mid.counts id → old.counts id ≡ Some 0
+  pub first_free : (old mid : Core D) (ids : List ℕ) (id : ℕ) → Freeing disk old ids mid → IsFirstFree mid.counts id
+      → old.counts id ≡ Some 0
   first_free old mid ids id was first =
       sym (was.counts.others id (λ has. none_here (mid.counts id) (was.counts.gone id has) first.free)) ∙ first.free
     where
@@ -76,40 +78,54 @@ module _ {D : Type 0} (disk : Ghosts D) where
       none_here None e f = absurd (cc f)
       none_here (Some n) e f = absurd (cc e)
 
-  pub freeing_more : {R : Type 0} (r : R) (old mid new : Core D) (ids : List ℕ) (id : ℕ) → Freeing disk old ids mid → IsFirstFree mid.counts id → Drops disk mid id (Ok r) new
+  pub freeing_more : {R : Type 0} (r : R) (old mid new : Core D) (ids : List ℕ) (id : ℕ) → Freeing disk old ids mid
+      → IsFirstFree mid.counts id → Drops disk mid id (Ok r) new
       → Freeing disk old (ids ++ id ∷ []) new
   freeing_more r old mid new ids id was first drops =
       let is = was.studio in
       let free = first.free in
       let at : new ≡ record mid { store = new.store; counts = new.counts } = drops.fields.0 in
-      let to_mid : IsTrue (disk.tells old.store) → IsTrue (disk.tells mid.store) = subst IsTrue (sym was.changed.tells) in
+      let to_mid : IsTrue (disk.tells old.store) → IsTrue (disk.tells mid.store) =
+      subst IsTrue (sym was.changed.tells) in
       let means = same_meaning disk mid is id free new.store drops.changed in
-      let meant_still : IsTrue (disk.tells mid.store) → studio_of disk (record mid { store = new.store; counts = new.counts }) ≡ studio_of disk mid =
-      (λ told. λ i. record (means told i) { read_faults = drops.read_faults i; change_faults = drops.fields.2 i }) in record {
+      let meant_still : IsTrue (disk.tells mid.store)
+      → studio_of disk (record mid { store = new.store; counts = new.counts }) ≡ studio_of disk mid =
+      (λ told. λ i. record (means told i) { read_faults = drops.read_faults i; change_faults = drops.fields.2 i }) in
+      record {
         going = was.going;
         fields = at ∙ (λ i. record (was.fields i) { store = new.store; counts = new.counts });
         first = was.first;
-        studio = subst (IsStudio disk) (sym at) (less_studio disk mid is id free new.store drops.changed new.counts drops.fields.1 drops.removed);
+        studio = subst (IsStudio disk) (sym at)
+            (less_studio disk mid is id free new.store drops.changed new.counts drops.fields.1 drops.removed);
         held = λ held.
             subst (IsHeld disk) (sym at)
-            (less_held disk mid is id free new.store drops.changed new.counts drops.fields.1 drops.removed (was.held held));
+            (less_held disk mid is id free new.store drops.changed new.counts drops.fields.1 drops.removed
+            (was.held held));
         counts = forgets_more old.counts mid.counts new.counts ids id was.counts first drops.fields.1;
         above = λ other is_free. rises other is_free (cases_eq other id);
-        files = λ told. removes_more (disk.reads old.store) (disk.reads mid.store) (disk.reads new.store) ids id (was.files told) (drops.changed.reads (to_mid told)) (drops.removed (to_mid told));
+        files = λ told. removes_more (disk.reads old.store) (disk.reads mid.store) (disk.reads new.store) ids id
+            (was.files told) (drops.changed.reads (to_mid told)) (drops.removed (to_mid told));
         for_good = λ told c now.
             let images = drops.changed.images in
-            let from = images.from c (images.fewer (disk.clock mid.store) (disk.clock new.store) c images.later (upto_refl (disk.clock new.store)) now) in
+            let from = images.from c (images.fewer (disk.clock mid.store) (disk.clock new.store) c images.later
+            (upto_refl (disk.clock new.store)) now) in
             gone_more from.0 c ids id (was.for_good told from.0 from.1) from.2 (drops.durable (to_mid told) c now);
         state = λ told. ap (studio_of disk) at ∙ meant_still (to_mid told) ∙ was.state told;
         keeps = λ held.
-            let then_keeps = keeps_since disk mid is id free new.store drops.changed (goes old mid ids was) (was.held held) in
+            let then_keeps =
+            keeps_since disk mid is id free new.store drops.changed (goes old mid ids was) (was.held held) in
             each_on (λ c. Keeps c (shown (studio_of disk old))) (disk.clock old.store) drops.changed.images
             was.changed.images.later (was.keeps held)
             (λ c since. subst (λ (t : model.Studio). Keeps c (shown t)) (was.state held.tells) (then_keeps c since));
         changed = changed_turn (λ d c step. step)
             (λ d e c one two. others_then old.next_block old.next_block (λ file. old.counts file ≡ Some 0) d e c one
-            (others_removed old.next_block old.next_block (λ file. old.counts file ≡ Some 0) id e c (first_free old mid ids id was first) two))
-            (record { files = omega arith; bytes = omega arith; calls = omega (arith, long ids id) }) was.changed drops.changed;
+            (others_removed old.next_block old.next_block (λ file. old.counts file ≡ Some 0) id e c
+            (first_free old mid ids id was first) two))
+            (record {
+              files = omega arith;
+              bytes = omega arith;
+              calls = omega (arith, long ids id);
+            }) was.changed drops.changed;
         change_faults = drops.fields.2 ∙ was.change_faults;
       }
     where
@@ -118,7 +134,8 @@ module _ {D : Type 0} (disk : Ghosts D) where
       none_some (Some n) e f = absurd (cc e)
 
       rises : (other : ℕ) → new.counts other ≡ Some 0 → (other ≡ id) ⊎ (other ≢ id) → length (ids ++ id ∷ []) ≤ other
-      rises other is_free (inl e) = absurd (none_some (new.counts id) drops.fields.1.here (subst (λ (n : ℕ). new.counts n ≡ Some 0) e is_free))
+      rises other is_free (inl e) =
+          absurd (none_some (new.counts id) drops.fields.1.here (subst (λ (n : ℕ). new.counts n ≡ Some 0) e is_free))
       rises other is_free (inr ne) =
           let free' : mid.counts other ≡ Some 0 = sym (drops.fields.1.others other ne) ∙ is_free in
           omega (arith, long ids id, was.above id first.free, first.least other free', ne)
@@ -161,6 +178,8 @@ module _ {D : Type 0} (disk : Ghosts D) (s : Core D) (is : IsStudio disk s) (d :
       counted_some None h = absurd (omega (arith, h))
       counted_some (Some n) h = refl
 
-      positive : IsSome (disk.reads s.store id) → (n : ℕ) → times_named id (named_blocks s) ≡ n → 0 < times_named id (named_blocks s)
-      positive file zero e = absurd (none id (unnamed_free id (record { least = least; most = most; file = file; unnamed = e })))
+      positive : IsSome (disk.reads s.store id) → (n : ℕ) → times_named id (named_blocks s) ≡ n
+          → 0 < times_named id (named_blocks s)
+      positive file zero e =
+          absurd (none id (unnamed_free id (record { least = least; most = most; file = file; unnamed = e })))
       positive file (suc n) e = omega (arith, e)

@@ -1,5 +1,6 @@
 -- Blocks that are sorted by their ids, and of which each is kept once.
-use Rattle.std.proofs.Common.{◌≡◌, ◌≢◌, ◌∙◌, refl, sym, ap, subst, ℕ, zero, suc, ◌+◌, ◌≤◌, ◌<◌, ◌==◌, List, [], ◌∷◌, length, Bool, true, false, cond, inl, inr, arith}
+use Rattle.std.proofs.Common.{◌≡◌, ◌≢◌, ◌∙◌, refl, sym, ap, subst, ℕ, zero, suc, ◌+◌, ◌≤◌, ◌<◌, ◌==◌, List, [], ◌∷◌}
+use Rattle.std.proofs.Common.{length, Bool, true, false, cond, inl, inr, arith}
 use Rattle.std.specs.Prelude.{◌↔◌, ◌&&◌, Contains, slice_index, slice_index_or}
 use Rattle.std.proofs.lemmas.Bool.{cases_Bool, eqb-true, eqb-false}
 use Rattle.std.specs.Cmp.{IsEquivalence}

@@ -1,5 +1,6 @@
 -- A run of tracks laid out by plans, as an edit that makes blocks: what its plan is, and what its point means.
-use Rattle.std.proofs.Common.{◌≡◌, sym, ap, ◌∙◌, subst, ℕ, ◌+◌, ◌*◌, ◌^◌, ◌≤◌, ℤ, Option, Some, List, length, Contains, arith}
+use Rattle.std.proofs.Common.{◌≡◌, sym, ap, ◌∙◌, subst, ℕ, ◌+◌, ◌*◌, ◌^◌, ◌≤◌, ℤ, Option, Some, List, length, Contains}
+use Rattle.std.proofs.Common.{arith}
 use Rattle.std.specs.List.{AllByRecursion}
 use Rattle.pcm_base.specs.declared.block.BlockRef.{BlockRef}
 use Rattle.pcm_base.specs.Cells.{run_edited}
@@ -26,12 +27,18 @@ use Rattle.editor_core.proofs.Editing.{current_sound, old_names}
 use Rattle.editor_core.proofs.Lists.{all_left, all_right, all_so}
 use Rattle.editor_core.proofs.MadeStudios.{IsNewId, point_more, refs, refs_ids}
 use Rattle.editor_core.proofs.PlanBlocks.{all_readable, new_from_more}
-use Rattle.editor_core.proofs.RunPlans.{AreLaid, AreSoundPlans, CellEdit, LayoutsAll, edits_at, laid_all, laid_few, laid_half_full, laid_length, laid_means, laid_names, laid_new, laid_origin, laid_rising, laid_sound, sound_plans}
+use Rattle.editor_core.proofs.RunPlans.{AreLaid, AreSoundPlans, CellEdit, LayoutsAll, edits_at, laid_all, laid_few}
+use Rattle.editor_core.proofs.RunPlans.{laid_half_full, laid_length, laid_names, laid_new, laid_origin}
+use Rattle.editor_core.proofs.RunMeaning.{laid_means}
+use Rattle.editor_core.proofs.RunPlans.{laid_rising, laid_sound, sound_plans}
 
-module _ {D : Type 0} (disk : Ghosts D) (s : Core D) (is : IsStudio disk s) (id : ℕ) (track : Track) (found : track_of id (current_tracks s.history) ≡ Some track)
+module _ {D : Type 0} (disk : Ghosts D) (s : Core D) (is : IsStudio disk s) (id : ℕ) (track : Track)
+    (found : track_of id (current_tracks s.history) ≡ Some track)
     (xs : List BlockRef) (named : AreAmong (named_blocks s) xs) (readable : AllNamed xs)
-    (fs : List CellEdit) (plans : List Plan) (laid : AreLaid fs s.block_size s.next_block xs (from_track id (current_tracks s.history)) plans)
-    (new : List Track) (makes : List NewBlock) (after : ℕ) (run : IsRunPlan id s.next_block (current_tracks s.history) new plans makes after) where
+    (fs : List CellEdit) (plans : List Plan)
+    (laid : AreLaid fs s.block_size s.next_block xs (from_track id (current_tracks s.history)) plans)
+    (new : List Track) (makes : List NewBlock) (after : ℕ)
+    (run : IsRunPlan id s.next_block (current_tracks s.history) new plans makes after) where
   abbrev old : List Track
   old = current_tracks s.history
 
@@ -57,20 +64,26 @@ module _ {D : Type 0} (disk : Ghosts D) (s : Core D) (is : IsStudio disk s) (id 
   origin = subst (AllNewFrom xs 0) (sym run.makes_is) (laid_origin fs m s.next_block xs ran plans laid)
 
   -- what holds of the blocks that the studio names, and of the new ones, holds of those of each plan
-  all_laid : (P : BlockRef → Type 0) → AllByRecursion P (named_blocks s) → AllByRecursion P (refs makes) → LayoutsAll P plans
+  all_laid : (P : BlockRef → Type 0) → AllByRecursion P (named_blocks s) → AllByRecursion P (refs makes)
+      → LayoutsAll P plans
   all_laid P was made =
-      laid_all P fs m s.next_block xs ran plans laid (among_all P (named_blocks s) xs named was) (subst (λ (bs : List NewBlock). AllByRecursion P (refs bs)) run.makes_is made)
+      laid_all P fs m s.next_block xs ran plans laid (among_all P (named_blocks s) xs named was)
+      (subst (λ (bs : List NewBlock). AllByRecursion P (refs bs)) run.makes_is made)
 
   given_then : AreSoundPlans m (s.next_block + n) plans
   given_then =
       let Q : BlockRef → Type 0 = λ b. IsGiven (s.next_block + n) b.id in
-      let was = all_so (λ (b : BlockRef). IsGiven s.next_block b.id) Q (λ b h. (h.0, omega (arith, h.1))) (named_blocks s) is.ids in
-      let made = all_so (λ (b : BlockRef). IsNewId s.next_block n b.id) Q (λ b h. (omega (arith, h.0, is.counters.block_least), h.1)) (refs makes) (refs_ids m s.next_block makes fresh) in
-      sound_plans m (s.next_block + n) plans run.layouts (laid_half_full fs m s.next_block xs ran plans laid) (all_laid Q was made)
+      let was = all_so (λ (b : BlockRef). IsGiven s.next_block b.id) Q (λ b h. (h.0, omega (arith, h.1)))
+      (named_blocks s) is.ids in
+      let made = all_so (λ (b : BlockRef). IsNewId s.next_block n b.id) Q (λ b h.
+      (omega (arith, h.0, is.counters.block_least), h.1)) (refs makes) (refs_ids m s.next_block makes fresh) in
+      sound_plans m (s.next_block + n) plans run.layouts (laid_half_full fs m s.next_block xs ran plans laid)
+      (all_laid Q was made)
 
   laid_is_sound : IsSoundPoint m (s.next_block + n) (s.next_track + 0) (laid_from id plans old)
   laid_is_sound =
-      let later = point_more m s.next_block s.next_track (s.next_block + n) (s.next_track + 0) old (omega arith) (omega arith) old_sound in
+      let later = point_more m s.next_block s.next_track (s.next_block + n) (s.next_track + 0) old (omega arith)
+      (omega arith) old_sound in
       record {
         few = omega (arith, laid_length id plans old, old_sound.few);
         rising = laid_rising id 1 plans old old_sound.rising;
@@ -84,7 +97,8 @@ module _ {D : Type 0} (disk : Ghosts D) (s : Core D) (is : IsStudio disk s) (id 
       let made = all_right C (named_blocks s) (refs makes) (among_itself every) in
       laid_names C id plans old (all_laid C was made) (old_names disk s is C was)
 
-  pub run_planned : (clip : Option (List (List Item))) → AreAmong every (clip_blocks clip) → length (clip_blocks clip) ≤ 2 ^ 71 → MayPaste m clip
+  pub run_planned : (clip : Option (List (List Item))) → AreAmong every (clip_blocks clip)
+      → length (clip_blocks clip) ≤ 2 ^ 71 → MayPaste m clip
       → IsPlanned s Nothing makes 0 0 new clip
   run_planned clip clip_names clip_few clip_fits = record {
     new = fresh;
@@ -99,10 +113,12 @@ module _ {D : Type 0} (disk : Ghosts D) (s : Core D) (is : IsStudio disk s) (id 
   }
 
   pub run_few : n ≤ 8 * length fs
-  run_few = subst (λ (bs : List NewBlock). length bs ≤ 8 * length fs) (sym run.makes_is) (laid_few fs m s.next_block xs ran plans laid)
+  run_few = subst (λ (bs : List NewBlock). length bs ≤ 8 * length fs) (sym run.makes_is)
+      (laid_few fs m s.next_block xs ran plans laid)
 
   pub run_point : (block : ℕ → ℕ → ℤ) → AreWritten (beside block (brought Nothing)) makes
       → meant (alone block) new ≡ run_edited id (edits_at (alone block) fs) (meant (alone block) old)
   run_point block written =
       ap (meant (alone block)) run.is
-      ∙ laid_means (alone block) fs m s.next_block xs id 1 old track plans old_sound.rising found laid (subst (AreWritten (alone block)) run.makes_is written)
+      ∙ laid_means (alone block) fs m s.next_block xs id 1 old track plans old_sound.rising found laid
+      (subst (AreWritten (alone block)) run.makes_is written)

@@ -1,12 +1,11 @@
 -- A run of tracks laid out by plans: what holds of the new project, and of the blocks that are to be made for it.
-use Rattle.std.proofs.Common.{◌≡◌, inl, inr, ⊎_elim, refl, sym, ap, ◌∙◌, subst, ℕ, ◌+◌, ◌*◌, ◌≤◌, ◌==◌, if◌then◌else◌, Some, List, [], ◌∷◌, ◌++◌, length, length-append, map, drop, Contains, arith}
+use Rattle.std.proofs.Common.{◌≡◌, inl, inr, ⊎_elim, refl, sym, subst, ℕ, ◌+◌, ◌*◌, ◌≤◌}
+use Rattle.std.proofs.Common.{List, [], ◌∷◌, ◌++◌, length, length-append, map, drop, Contains, arith}
 use Rattle.std.specs.List.{AllByRecursion}
-use Rattle.std.proofs.lemmas.Bool.{ne_eqb, le-leb, lt-leb}
-use Rattle.std.proofs.lemmas.Bool.Decides.{eqb_tells, leb_tells}
+use Rattle.std.proofs.lemmas.Bool.Decides.{leb_tells}
 use Rattle.std.proofs.lemmas.List.{map-append}
 use Rattle.pcm_base.specs.declared.block.BlockRef.{BlockRef}
 use Rattle.pcm_base.specs.declared.sound.Cell.{Cell}
-use Rattle.pcm_base.specs.Cells.{each_edited, run_edited, with_cells}
 use Rattle.pcm_base.specs.Cells as cells
 use Rattle.pcm_base.specs.Pieces.{Sources}
 use Rattle.clip_track.specs.Clips.{AllHalfFull, IsLayout, layout_blocks}
@@ -14,16 +13,14 @@ use Rattle.edit_ops.specs.declared.types.NewBlock.{NewBlock}
 use Rattle.edit_ops.specs.declared.types.Plan.{Plan}
 use Rattle.edit_ops.specs.Plans.{AllNewFrom, AreNew, AreOldOrNew, AreWritten, IsPlan, Means, ref_of}
 use Rattle.project_state.specs.declared.track.Track.{Track}
-use Rattle.project_state.specs.Kept.{meant, meant_track, point_blocks}
+use Rattle.project_state.specs.Kept.{point_blocks}
 use Rattle.project_state.specs.Sound.{AllClipsGiven, AllSoundTracks, IsSoundTrack}
-use Rattle.project_state.specs.Tracks.{AreAbove, track_of}
+use Rattle.project_state.specs.Tracks.{AreAbove}
 use Rattle.project_state.proofs.KeptBounds.{all_append}
 use Rattle.editor_core.specs.Edits.{AreAmong}
 use Rattle.editor_core.specs.RunEdits.{AreLayouts, laid_by, laid_from, made_by}
 use Rattle.editor_core.specs.Studios.{IsGiven}
-use Rattle.editor_core.specs.TrackEdits.{with_layout}
 use Rattle.editor_core.proofs.Contained.{contained}
-use Rattle.editor_core.proofs.Copying.{found_above, from_track}
 use Rattle.editor_core.proofs.Lists.{all_left, all_right}
 use Rattle.editor_core.proofs.MadeStudios.{refs}
 use Rattle.editor_core.proofs.PlanBlocks.{ids_clips, new_from_more, old_or_new}
@@ -53,7 +50,8 @@ edits_at src fs = map (λ (f : CellEdit). f src) fs
 
 -- ---- a plan of some blocks is one of more
 
-old_or_new_more : (a xs : List BlockRef) (bs : List BlockRef) (ns : List NewBlock) → AreAmong xs a → AreOldOrNew a bs ns → AreOldOrNew xs bs ns
+old_or_new_more : (a xs : List BlockRef) (bs : List BlockRef) (ns : List NewBlock) → AreAmong xs a → AreOldOrNew a bs ns
+    → AreOldOrNew xs bs ns
 old_or_new_more a xs [] [] among h = tt
 old_or_new_more a xs [] (n ∷ ns) among h = absurd h
 old_or_new_more a xs (b ∷ bs) [] among h = (contained (Contains xs) a b among h.0, old_or_new_more a xs bs [] among h.1)
@@ -62,7 +60,8 @@ old_or_new_more a xs (b ∷ bs) (n ∷ ns) among h = ⊎_elim
     (λ new. inr (new.0, old_or_new_more a xs bs ns among new.1))
     h
 
-pub plan_more : (m next : ℕ) (a xs : List BlockRef) (p : Plan) → AreAmong xs a → IsPlan m next a 0 p → IsPlan m next xs 0 p
+pub plan_more : (m next : ℕ) (a xs : List BlockRef) (p : Plan) → AreAmong xs a → IsPlan m next a 0 p
+    → IsPlan m next xs 0 p
 plan_more m next a xs p among plan = record {
   half_full = plan.half_full;
   new = plan.new;
@@ -73,24 +72,27 @@ plan_more m next a xs p among plan = record {
 
 -- ---- the blocks that are to be made for them
 
-new_joined : (m next : ℕ) (ks bs : List NewBlock) → AreNew m next ks → AreNew m (next + length ks) bs → AreNew m next (ks ++ bs)
+new_joined : (m next : ℕ) (ks bs : List NewBlock) → AreNew m next ks → AreNew m (next + length ks) bs
+    → AreNew m next (ks ++ bs)
 new_joined m next [] bs a b = subst (λ (k : ℕ). AreNew m k bs) (omega arith) b
 new_joined m next (x ∷ ks) bs a b =
     (a.0, a.1, a.2, a.3, a.4, new_joined m (next + 1) ks bs a.5 (subst (λ (k : ℕ). AreNew m k bs) (omega arith) b))
 
-from_joined : (xs : List BlockRef) (count : ℕ) (ks bs : List NewBlock) → AllNewFrom xs count ks → AllNewFrom xs count bs → AllNewFrom xs count (ks ++ bs)
+from_joined : (xs : List BlockRef) (count : ℕ) (ks bs : List NewBlock) → AllNewFrom xs count ks → AllNewFrom xs count bs
+    → AllNewFrom xs count (ks ++ bs)
 from_joined xs count [] bs a b = b
 from_joined xs count (x ∷ ks) bs a b = (a.0, from_joined xs count ks bs a.1 b)
 
-written_left : (src : Sources) (ks bs : List NewBlock) → AreWritten src (ks ++ bs) → AreWritten src ks
+pub written_left : (src : Sources) (ks bs : List NewBlock) → AreWritten src (ks ++ bs) → AreWritten src ks
 written_left src [] bs h = tt
 written_left src (a ∷ ks) bs h = (h.0, written_left src ks bs h.1)
 
-written_right : (src : Sources) (ks bs : List NewBlock) → AreWritten src (ks ++ bs) → AreWritten src bs
+pub written_right : (src : Sources) (ks bs : List NewBlock) → AreWritten src (ks ++ bs) → AreWritten src bs
 written_right src [] bs h = h
 written_right src (a ∷ ks) bs h = written_right src ks bs h.1
 
-pub laid_new : (fs : List CellEdit) (m next : ℕ) (xs : List BlockRef) (ts : List Track) (ps : List Plan) → AreLaid fs m next xs ts ps → AreNew m next (made_by ps)
+pub laid_new : (fs : List CellEdit) (m next : ℕ) (xs : List BlockRef) (ts : List Track) (ps : List Plan)
+    → AreLaid fs m next xs ts ps → AreNew m next (made_by ps)
 laid_new [] m next xs ts [] laid = tt
 laid_new [] m next xs ts (p ∷ ps) laid = absurd laid
 laid_new (f ∷ fs) m next xs [] [] laid = tt
@@ -100,7 +102,8 @@ laid_new (f ∷ fs) m next xs (t ∷ ts) (p ∷ ps) laid =
     new_joined m next p.makes (made_by ps) laid.0.plan.new
     (subst (λ (k : ℕ). AreNew m k (made_by ps)) laid.0.plan.next_id (laid_new fs m p.next xs ts ps laid.1))
 
-pub laid_origin : (fs : List CellEdit) (m next : ℕ) (xs : List BlockRef) (ts : List Track) (ps : List Plan) → AreLaid fs m next xs ts ps → AllNewFrom xs 0 (made_by ps)
+pub laid_origin : (fs : List CellEdit) (m next : ℕ) (xs : List BlockRef) (ts : List Track) (ps : List Plan)
+    → AreLaid fs m next xs ts ps → AllNewFrom xs 0 (made_by ps)
 laid_origin [] m next xs ts [] laid = tt
 laid_origin [] m next xs ts (p ∷ ps) laid = absurd laid
 laid_origin (f ∷ fs) m next xs [] [] laid = tt
@@ -109,7 +112,8 @@ laid_origin (f ∷ fs) m next xs (t ∷ ts) [] laid = absurd laid
 laid_origin (f ∷ fs) m next xs (t ∷ ts) (p ∷ ps) laid =
     from_joined xs 0 p.makes (made_by ps) laid.0.plan.origin (laid_origin fs m p.next xs ts ps laid.1)
 
-pub laid_few : (fs : List CellEdit) (m next : ℕ) (xs : List BlockRef) (ts : List Track) (ps : List Plan) → AreLaid fs m next xs ts ps → length (made_by ps) ≤ 8 * length fs
+pub laid_few : (fs : List CellEdit) (m next : ℕ) (xs : List BlockRef) (ts : List Track) (ps : List Plan)
+    → AreLaid fs m next xs ts ps → length (made_by ps) ≤ 8 * length fs
 laid_few [] m next xs ts [] laid = omega arith
 laid_few [] m next xs ts (p ∷ ps) laid = absurd laid
 laid_few (f ∷ fs) m next xs [] [] laid = omega arith
@@ -122,7 +126,8 @@ laid_few (f ∷ fs) m next xs (t ∷ ts) (p ∷ ps) laid =
 abbrev pub LayoutsAll : (BlockRef → Type 0) → List Plan → Type 0
 LayoutsAll P ps = AllByRecursion (λ (p : Plan). AllByRecursion P (layout_blocks p.layout)) ps
 
-pub laid_all : (P : BlockRef → Type 0) (fs : List CellEdit) (m next : ℕ) (xs : List BlockRef) (ts : List Track) (ps : List Plan) → AreLaid fs m next xs ts ps
+pub laid_all : (P : BlockRef → Type 0) (fs : List CellEdit) (m next : ℕ) (xs : List BlockRef) (ts : List Track)
+    (ps : List Plan) → AreLaid fs m next xs ts ps
     → AllByRecursion P xs → AllByRecursion P (refs (made_by ps)) → LayoutsAll P ps
 laid_all P [] m next xs ts [] laid old new = tt
 laid_all P [] m next xs ts (p ∷ ps) laid old new = absurd laid
@@ -131,20 +136,23 @@ laid_all P (f ∷ fs) m next xs [] (p ∷ ps) laid old new = absurd laid
 laid_all P (f ∷ fs) m next xs (t ∷ ts) [] laid old new = absurd laid
 laid_all P (f ∷ fs) m next xs (t ∷ ts) (p ∷ ps) laid old new =
     let parts = subst (AllByRecursion P) (map-append ref_of p.makes (made_by ps)) new in (
-      old_or_new P xs (layout_blocks p.layout) p.makes laid.0.plan.blocks old (all_left P (refs p.makes) (refs (made_by ps)) parts),
+      old_or_new P xs (layout_blocks p.layout) p.makes laid.0.plan.blocks old
+          (all_left P (refs p.makes) (refs (made_by ps)) parts),
       laid_all P fs m p.next xs ts ps laid.1 old (all_right P (refs p.makes) (refs (made_by ps)) parts),
     )
 
 abbrev pub HalfFull : ℕ → List Plan → Type 0
 HalfFull m ps = AllByRecursion (λ (p : Plan). AllHalfFull m p.layout) ps
 
-pub laid_half_full : (fs : List CellEdit) (m next : ℕ) (xs : List BlockRef) (ts : List Track) (ps : List Plan) → AreLaid fs m next xs ts ps → HalfFull m ps
+pub laid_half_full : (fs : List CellEdit) (m next : ℕ) (xs : List BlockRef) (ts : List Track) (ps : List Plan)
+    → AreLaid fs m next xs ts ps → HalfFull m ps
 laid_half_full [] m next xs ts [] laid = tt
 laid_half_full [] m next xs ts (p ∷ ps) laid = absurd laid
 laid_half_full (f ∷ fs) m next xs [] [] laid = tt
 laid_half_full (f ∷ fs) m next xs [] (p ∷ ps) laid = absurd laid
 laid_half_full (f ∷ fs) m next xs (t ∷ ts) [] laid = absurd laid
-laid_half_full (f ∷ fs) m next xs (t ∷ ts) (p ∷ ps) laid = (laid.0.plan.half_full, laid_half_full fs m p.next xs ts ps laid.1)
+laid_half_full (f ∷ fs) m next xs (t ∷ ts) (p ∷ ps) laid =
+    (laid.0.plan.half_full, laid_half_full fs m p.next xs ts ps laid.1)
 
 -- ---- the tracks
 
@@ -164,12 +172,17 @@ laid_rising id n ps [] above = tt
 laid_rising id n ps (t ∷ ts) above = ⊎_elim
     (λ in_run.
     let same = id_by ps t in
-    rw (in_run.0) (omega (arith, same, above.0), subst (λ (k : ℕ). AreAbove (k + 1) (laid_from id (drop 1 ps) ts)) (sym same) (laid_rising id (t.id + 1) (drop 1 ps) ts above.1)))
+    rw (in_run.0) (
+      omega (arith, same, above.0),
+      subst (λ (k : ℕ). AreAbove (k + 1) (laid_from id (drop 1 ps) ts))
+          (sym same) (laid_rising id (t.id + 1) (drop 1 ps) ts above.1),
+    ))
     (λ before. rw (before.0) (above.0, laid_rising id (t.id + 1) ps ts above.1))
     (leb_tells id t.id)
 
 module _ (P : BlockRef → Type 0) where
-  all_by : (ps : List Plan) (t : Track) → LayoutsAll P ps → AllByRecursion P (layout_blocks t.layout) → AllByRecursion P (layout_blocks (laid_by ps t).layout)
+  all_by : (ps : List Plan) (t : Track) → LayoutsAll P ps → AllByRecursion P (layout_blocks t.layout)
+      → AllByRecursion P (layout_blocks (laid_by ps t).layout)
   all_by [] t laid all = all
   all_by (p ∷ ps) t laid all = laid.0
 
@@ -177,14 +190,17 @@ module _ (P : BlockRef → Type 0) where
   rest_all [] laid = tt
   rest_all (p ∷ ps) laid = laid.1
 
-  pub laid_names : (id : ℕ) (ps : List Plan) (ts : List Track) → LayoutsAll P ps → AllByRecursion P (point_blocks ts) → AllByRecursion P (point_blocks (laid_from id ps ts))
+  pub laid_names : (id : ℕ) (ps : List Plan) (ts : List Track) → LayoutsAll P ps → AllByRecursion P (point_blocks ts)
+      → AllByRecursion P (point_blocks (laid_from id ps ts))
   laid_names id ps [] laid all = tt
   laid_names id ps (t ∷ ts) laid all =
       let here = all_left P (layout_blocks t.layout) (point_blocks ts) all in
       let later = all_right P (layout_blocks t.layout) (point_blocks ts) all in
       ⊎_elim
-      (λ in_run. rw (in_run.0) (all_append P (layout_blocks (laid_by ps t).layout) (point_blocks (laid_from id (drop 1 ps) ts)) (all_by ps t laid here) (laid_names id (drop 1 ps) ts (rest_all ps laid) later)))
-      (λ before. rw (before.0) (all_append P (layout_blocks t.layout) (point_blocks (laid_from id ps ts)) here (laid_names id ps ts laid later)))
+      (λ in_run. rw (in_run.0) (all_append P (layout_blocks (laid_by ps t).layout) (point_blocks (laid_from id
+      (drop 1 ps) ts)) (all_by ps t laid here) (laid_names id (drop 1 ps) ts (rest_all ps laid) later)))
+      (λ before. rw (before.0) (all_append P (layout_blocks t.layout) (point_blocks (laid_from id ps ts)) here
+      (laid_names id ps ts laid later)))
       (leb_tells id t.id)
 
 -- a plan whose layout a track of the project may have
@@ -196,86 +212,35 @@ pub record IsSoundPlan (m next : ℕ) (p : Plan) : Type 0 where
 abbrev pub AreSoundPlans : ℕ → ℕ → List Plan → Type 0
 AreSoundPlans m next ps = AllByRecursion (IsSoundPlan m next) ps
 
-pub sound_plans : (m next : ℕ) (ps : List Plan) → AreLayouts ps → HalfFull m ps → LayoutsAll (λ (b : BlockRef). IsGiven next b.id) ps → AreSoundPlans m next ps
+pub sound_plans : (m next : ℕ) (ps : List Plan) → AreLayouts ps → HalfFull m ps
+    → LayoutsAll (λ (b : BlockRef). IsGiven next b.id) ps → AreSoundPlans m next ps
 sound_plans m next [] layouts half all = tt
-sound_plans m next (p ∷ ps) layouts half all =
-    (record { layout = layouts.0; half_full = half.0; blocks = ids_clips next p.layout all.0 }, sound_plans m next ps layouts.1 half.1 all.1)
+sound_plans m next (p ∷ ps) layouts half all = (
+  record { layout = layouts.0; half_full = half.0; blocks = ids_clips next p.layout all.0 },
+  sound_plans m next ps layouts.1 half.1 all.1,
+)
 
 module _ (m next track : ℕ) where
-  sound_by : (ps : List Plan) (t : Track) → AreSoundPlans m next ps → IsSoundTrack m next track t → IsSoundTrack m next track (laid_by ps t)
+  sound_by : (ps : List Plan) (t : Track) → AreSoundPlans m next ps → IsSoundTrack m next track t
+      → IsSoundTrack m next track (laid_by ps t)
   sound_by [] t plans sound = sound
   sound_by (p ∷ ps) t plans sound =
-      record { given = sound.given; gain = sound.gain; layout = plans.0.layout; half_full = plans.0.half_full; blocks = plans.0.blocks }
+      record {
+        given = sound.given;
+        gain = sound.gain;
+        layout = plans.0.layout;
+        half_full = plans.0.half_full;
+        blocks = plans.0.blocks;
+      }
 
   rest_sound : (ps : List Plan) → AreSoundPlans m next ps → AreSoundPlans m next (drop 1 ps)
   rest_sound [] plans = tt
   rest_sound (p ∷ ps) plans = plans.1
 
-  pub laid_sound : (id : ℕ) (ps : List Plan) (ts : List Track) → AreSoundPlans m next ps → AllSoundTracks m next track ts → AllSoundTracks m next track (laid_from id ps ts)
+  pub laid_sound : (id : ℕ) (ps : List Plan) (ts : List Track) → AreSoundPlans m next ps
+      → AllSoundTracks m next track ts → AllSoundTracks m next track (laid_from id ps ts)
   laid_sound id ps [] plans all = tt
   laid_sound id ps (t ∷ ts) plans all = ⊎_elim
       (λ in_run. rw (in_run.0) (sound_by ps t plans all.0, laid_sound id (drop 1 ps) ts (rest_sound ps plans) all.1))
       (λ before. rw (before.0) (all.0, laid_sound id ps ts plans all.1))
       (leb_tells id t.id)
-
--- ---- what they mean
-
--- the first tracks with the layouts of plans
-abbrev laid_each : List Plan → List Track → List Track
-laid_each [] ts = ts
-laid_each (p ∷ ps) [] = []
-laid_each (p ∷ ps) (t ∷ ts) = with_layout t p.layout ∷ laid_each ps ts
-
--- and those from the one with this id on
-abbrev laid_run : ℕ → List Plan → List Track → List Track
-laid_run id ps [] = []
-laid_run id ps (t ∷ ts) = if t.id == id then laid_each ps (t ∷ ts) else t ∷ laid_run id ps ts
-
-above_laid : (id n : ℕ) (ps : List Plan) (ts : List Track) → AreAbove n ts → id ≤ n → laid_from id ps ts ≡ laid_each ps ts
-above_laid id n [] [] above le = refl
-above_laid id n (p ∷ ps) [] above le = refl
-above_laid id n [] (t ∷ ts) above le =
-    rw (le-leb id t.id (omega (arith, le, above.0))) (ap (λ (z : List Track). t ∷ z) (above_laid id (t.id + 1) [] ts above.1 (omega (arith, le, above.0))))
-above_laid id n (p ∷ ps) (t ∷ ts) above le =
-    rw (le-leb id t.id (omega (arith, le, above.0))) (ap (λ (z : List Track). with_layout t p.layout ∷ z) (above_laid id (t.id + 1) ps ts above.1 (omega (arith, le, above.0))))
-
-run_laid : (id n : ℕ) (ps : List Plan) (ts : List Track) (x : Track) → AreAbove n ts → track_of id ts ≡ Some x → laid_from id ps ts ≡ laid_run id ps ts
-run_laid id n ps [] x above found = refl
-run_laid id n ps (t ∷ ts) x above found = ⊎_elim
-    (λ same. above_laid id t.id ps (t ∷ ts) (omega arith, above.1) (omega (arith, same.1)) ∙ sym (ap (λ b. if b then laid_each ps (t ∷ ts) else t ∷ laid_run id ps ts) same.0))
-    (λ other.
-    let later : track_of id ts ≡ Some x = sym (ap (λ b. if b then Some t else track_of id ts) (ne_eqb id t.id (λ e. other.1 (sym e)))) ∙ found in
-    let less = found_above id (t.id + 1) ts x above.1 later in
-    rw (other.0, lt-leb id t.id (omega (arith, less))) (ap (λ (z : List Track). t ∷ z) (run_laid id (t.id + 1) ps ts x above.1 later)))
-    (eqb_tells t.id id)
-
-module _ (src : Sources) where
-  each_means : (fs : List CellEdit) (m next : ℕ) (xs : List BlockRef) (ts : List Track) (ps : List Plan) → AreLaid fs m next xs ts ps → AreWritten src (made_by ps)
-      → meant src (laid_each ps ts) ≡ each_edited (edits_at src fs) (meant src ts)
-  each_means [] m next xs ts [] laid written = refl
-  each_means [] m next xs ts (p ∷ ps) laid written = absurd laid
-  each_means (f ∷ fs) m next xs [] [] laid written = refl
-  each_means (f ∷ fs) m next xs [] (p ∷ ps) laid written = absurd laid
-  each_means (f ∷ fs) m next xs (t ∷ ts) [] laid written = absurd laid
-  each_means (f ∷ fs) m next xs (t ∷ ts) (p ∷ ps) laid written =
-      let here = laid.0.cells src (written_left src p.makes (made_by ps) written) in
-      let later = each_means fs m p.next xs ts ps laid.1 (written_right src p.makes (made_by ps) written) in
-      λ i. record { id = t.id; gain = t.gain; side = t.side; mute = t.mute; cells = here i } ∷ later i
-
-  run_means : (fs : List CellEdit) (m next : ℕ) (xs : List BlockRef) (id : ℕ) (ts : List Track) (ps : List Plan) → AreLaid fs m next xs (from_track id ts) ps → AreWritten src (made_by ps)
-      → meant src (laid_run id ps ts) ≡ run_edited id (edits_at src fs) (meant src ts)
-  run_means fs m next xs id [] ps laid written = refl
-  run_means fs m next xs id (t ∷ ts) ps laid written = ⊎_elim
-      (λ same.
-      let here = subst (λ b. AreLaid fs m next xs (if b then t ∷ ts else from_track id ts) ps) same.0 laid in
-      rw (same.0) (each_means fs m next xs (t ∷ ts) ps here written))
-      (λ other.
-      let later = subst (λ b. AreLaid fs m next xs (if b then t ∷ ts else from_track id ts) ps) other.0 laid in
-      rw (other.0) (ap (λ (z : List cells.Track). meant_track src t ∷ z) (run_means fs m next xs id ts ps later written)))
-      (eqb_tells t.id id)
-
-  pub laid_means : (fs : List CellEdit) (m next : ℕ) (xs : List BlockRef) (id n : ℕ) (ts : List Track) (x : Track) (ps : List Plan) → AreAbove n ts → track_of id ts ≡ Some x
-      → AreLaid fs m next xs (from_track id ts) ps → AreWritten src (made_by ps)
-      → meant src (laid_from id ps ts) ≡ run_edited id (edits_at src fs) (meant src ts)
-  laid_means fs m next xs id n ts x ps above found laid written =
-      ap (meant src) (run_laid id n ps ts x above found) ∙ run_means fs m next xs id ts ps laid written

@@ -1,5 +1,6 @@
 -- A scan of one block: the block at a place, and what is told of its file.
-use Rattle.std.proofs.Common.{◌≡◌, ◌≢◌, ◌∙◌, refl, sym, subst, ℕ, zero, suc, ◌≤◌, ◌<◌, List, [], ◌∷◌, ◌++◌, length, flat_map, get_or, Option, Some, None, Result, Ok, Err, Bool, true, false, IsTrue, arith}
+use Rattle.std.proofs.Common.{◌≡◌, ◌≢◌, ◌∙◌, refl, sym, subst, ℕ, zero, suc, ◌≤◌, ◌<◌, List, [], ◌∷◌, ◌++◌, length}
+use Rattle.std.proofs.Common.{flat_map, get_or, Option, Some, None, Result, Ok, Err, Bool, true, false, IsTrue, arith}
 use Rattle.std.specs.Prelude.{Contains, IfNone, IfSome, IsOkUnless, OnOk, slice_index}
 use Rattle.std.specs.List.{AllByRecursion}
 use Rattle.std.proofs.lemmas.List.Elements.{All-from_recursion, All-contains, Contains-get_or}
@@ -58,7 +59,8 @@ pub stands : (bs : List BlockRef) (ids : List ℕ) (place id : ℕ) → AreIdsOf
     → IfSome found (λ b. (b.id ≡ id) × Contains bs b) → IfNone found (Contains (ids_of bs) id → ⊥)
     → MayStand bs place found
 stands bs ids place id are lt at
-    (Some b) some none = record { ids = ids; are = are; within = lt; id = some.0 ∙ at_place ids place id lt at; named = some.1 }
+    (Some b) some none =
+    record { ids = ids; are = are; within = lt; id = some.0 ∙ at_place ids place id lt at; named = some.1 }
 stands bs ids place id are lt at None some none =
     let here : Contains ids id = subst (Contains ids) (sym at) (Contains-get_or ids place id lt) in
     absurd (none ((are.each id).0 here))

@@ -1,5 +1,6 @@
 -- Showing cells of a track, and what a scan of them finds.
-use Rattle.std.proofs.Common.{◌≡◌, ◌⊎◌, inl, inr, refl, sym, ap, ◌∙◌, subst, ℕ, ◌-◌, nat_lt, nat_le, ◌==◌, ◌&&◌, ◌||◌, not, Bool, true, false, IsTrue, List, length, Option, Some, None, Ok, Err, arith}
+use Rattle.std.proofs.Common.{◌≡◌, ◌⊎◌, inl, inr, refl, sym, ap, ◌∙◌, subst, ℕ, ◌-◌, nat_lt, nat_le, ◌==◌, ◌&&◌, ◌||◌}
+use Rattle.std.proofs.Common.{not, Bool, true, false, IsTrue, List, length, Option, Some, None, Ok, Err, arith}
 use Rattle.std.proofs.lemmas.Option.{none-some, same_Some}
 use Rattle.pcm_base.specs.declared.answer.Reply.TheVariants as reply
 use Rattle.pcm_base.specs.declared.command.Call.{Call}
@@ -46,12 +47,16 @@ use Rattle.editor_core.proofs.Quiet.{IsQuiet, quiet_passes, carried, room_of, ow
 use Rattle.editor_core.proofs.Spaces.{fits}
 
 -- a test of columns answers by one of two reasons, and no read was counted for it
-by_test : (a b : Bool) (why : Refusal) (old new : ℕ) → (refused_if a refusal.BadRange) otherwise (refused_if b refusal.BadColumns) ≡ Some why → IsCountedBy why old new → new ≡ old
-by_test true b why old new e counted = subst (λ (z : Refusal). IsCountedBy z old new) (sym (same_Some refusal.BadRange why e)) counted
-by_test false true why old new e counted = subst (λ (z : Refusal). IsCountedBy z old new) (sym (same_Some refusal.BadColumns why e)) counted
+by_test : (a b : Bool) (why : Refusal) (old new : ℕ) → (refused_if a refusal.BadRange) otherwise
+    (refused_if b refusal.BadColumns) ≡ Some why → IsCountedBy why old new → new ≡ old
+by_test true b why old new e counted =
+    subst (λ (z : Refusal). IsCountedBy z old new) (sym (same_Some refusal.BadRange why e)) counted
+by_test false true why old new e counted =
+    subst (λ (z : Refusal). IsCountedBy z old new) (sym (same_Some refusal.BadColumns why e)) counted
 by_test false false why old new e counted = absurd (none-some why e)
 
-module _ {D : Type 0} (disk : Ghosts D) (s : Core D) (is : IsStudio disk s) (id from to : ℕ) (fewer : Fewer disk s.store) where
+module _ {D : Type 0} (disk : Ghosts D) (s : Core D) (is : IsStudio disk s) (id from to : ℕ)
+    (fewer : Fewer disk s.store) where
   abbrev src : Sources
   src = sources_of (disk.reads s.store)
 
@@ -63,7 +68,8 @@ module _ {D : Type 0} (disk : Ghosts D) (s : Core D) (is : IsStudio disk s) (id 
 
   -- the cells of a track, by its layout
   cells_are : (layout : List Clip) → HasLayout id ts layout → layout_cells src layout ≡ cells_at id (current t.state)
-  cells_are layout has = sym (layout_meant disk s is id layout has src) ∙ ap (cells_at id) (sym (current_meant disk s is))
+  cells_are layout has =
+      sym (layout_meant disk s is id layout has src) ∙ ap (cells_at id) (sym (current_meant disk s is))
 
   -- ---- show
 
@@ -79,31 +85,40 @@ module _ {D : Type 0} (disk : Ghosts D) (s : Core D) (is : IsStudio disk s) (id 
   pub show_stopped : (faults : ℕ) → s.stopped ≡ Some faults → Took disk s show silent (Err (refusal.Stopped faults)) 0 s
   show_stopped faults stopped = refused_stopped disk s show show_quiet is fewer faults refl stopped
 
-  pub show_lacks : (why : Refusal) → s.stopped ≡ None → lacks id (track_of id ts) ≡ Some why → Took disk s show silent (Err why) 0 s
+  pub show_lacks : (why : Refusal) → s.stopped ≡ None → lacks id (track_of id ts) ≡ Some why
+      → Took disk s show silent (Err why) 0 s
   show_lacks why going lack =
-      refused_own disk s show show_quiet is fewer why (ap stop_of going) (show_tests ∙ (λ i. (lack i) otherwise (bad_view from to)))
+      refused_own disk s show show_quiet is fewer why (ap stop_of going)
+      (show_tests ∙ (λ i. (lack i) otherwise (bad_view from to)))
 
   module _ (layout : List Clip) (has : HasLayout id ts layout) (going : s.stopped ≡ None) where
     pub show_beyond : (why : Refusal) → bad_view from to ≡ Some why → Took disk s show silent (Err why) 0 s
     show_beyond why bad =
-        refused_own disk s show show_quiet is fewer why (ap stop_of going) (show_tests ∙ (λ i. (track_there disk s is id layout has i) otherwise (bad i)))
+        refused_own disk s show show_quiet is fewer why (ap stop_of going)
+        (show_tests ∙ (λ i. (track_there disk s is id layout has i) otherwise (bad i)))
 
     module _ (store : D) (kept : Kept disk s.store store) where
-      pub show_done : (cells : List Cell) → bad_view from to ≡ None → disk.read_fault_count store ≡ disk.read_fault_count s.store
-          → (IsHeld disk s → cells ≡ part from to (layout_cells src layout)) → Took disk s show silent (Ok (reply.Cells cells)) 0 (record s { store = store })
+      pub show_done : (cells : List Cell) → bad_view from to ≡ None
+          → disk.read_fault_count store ≡ disk.read_fault_count s.store
+          → (IsHeld disk s → cells ≡ part from to (layout_cells src layout))
+          → Took disk s show silent (Ok (reply.Cells cells)) 0 (record s { store = store })
       show_done cells good faults seen =
           let room = room_of disk s show is in
-          let own : call_tests (outside t silent) t.state show ≡ None = show_tests ∙ (λ i. (track_there disk s is id layout has i) otherwise (good i)) in
-          let passed = quiet_passes t show show_quiet room (ap stop_of going) own (fits s.next_pin 0 (omega (arith, is.counters.pin_most))) in
+          let own : call_tests (outside t silent) t.state show ≡ None =
+          show_tests ∙ (λ i. (track_there disk s is id layout has i) otherwise (good i)) in
+          let passed = quiet_passes t show show_quiet room (ap stop_of going) own
+          (fits s.next_pin 0 (omega (arith, is.counters.pin_most))) in
           looked_ok disk s is store kept show show_quiet going (reply.Cells cells) faults
-          (λ held. carried t show show_quiet room (reply.Cells cells) t passed (ap reply.Cells (seen held ∙ ap (part from to) (cells_are layout has))) refl)
+          (λ held. carried t show show_quiet room (reply.Cells cells) t passed
+          (ap reply.Cells (seen held ∙ ap (part from to) (cells_are layout has))) refl)
 
       pub show_failed : (why : BlockFault) → CountedBy why (disk.read_fault_count s.store) (disk.read_fault_count store)
           → (IsTrue (disk.tells s.store) → IsFaultIn (disk.reads s.store) (layout_blocks layout) why)
           → Took disk s show silent (Err (reason_of why)) 0 (record s { store = store })
       show_failed why counted damaged =
           looked_failed disk s is store kept show show_quiet going refl why counted
-          (λ told. reason_damaged (disk.reads s.store) (named_blocks s) why (fault_among (disk.reads s.store) (named_blocks s) (layout_blocks layout) why (layout_named disk s is id layout has) (damaged told)))
+          (λ told. reason_damaged (disk.reads s.store) (named_blocks s) why (fault_among (disk.reads s.store)
+          (named_blocks s) (layout_blocks layout) why (layout_named disk s is id layout has) (damaged told)))
 
   -- ---- envelope
 
@@ -114,7 +129,8 @@ module _ {D : Type 0} (disk : Ghosts D) (s : Core D) (is : IsStudio disk s) (id 
     scan_quiet : IsQuiet scan
     scan_quiet = record { needs = λ t. (refl, refl); no_commit = refl; no_track = λ t. refl; quiet = λ t. refl }
 
-    pub scan_stopped : (faults : ℕ) → s.stopped ≡ Some faults → Took disk s scan silent (Err (refusal.Stopped faults)) 0 s
+    pub scan_stopped : (faults : ℕ) → s.stopped ≡ Some faults
+        → Took disk s scan silent (Err (refusal.Stopped faults)) 0 s
     scan_stopped faults stopped = refused_stopped disk s scan scan_quiet is fewer faults refl stopped
 
     abbrev beyond : ℕ → Option Refusal
@@ -123,46 +139,63 @@ module _ {D : Type 0} (disk : Ghosts D) (s : Core D) (is : IsStudio disk s) (id 
     abbrev uneven : Option Refusal
     uneven = bad_columns columns (to - from)
 
-    scan_tests : call_tests (outside t silent) t.state scan ≡ ((lacks id (track_of id ts)) otherwise (beyond (length (cells_at id (current t.state))))) otherwise uneven
-    scan_tests = λ i. ((sym (track_is disk s is id) i) otherwise (beyond (length (cells_at id (current t.state))))) otherwise uneven
+    scan_tests : call_tests (outside t silent) t.state scan
+        ≡ ((lacks id (track_of id ts)) otherwise (beyond (length (cells_at id (current t.state))))) otherwise uneven
+    scan_tests = λ i.
+        ((sym (track_is disk s is id) i) otherwise (beyond (length (cells_at id (current t.state))))) otherwise uneven
 
-    pub scan_lacks : (why : Refusal) → s.stopped ≡ None → lacks id (track_of id ts) ≡ Some why → Took disk s scan silent (Err why) 0 s
+    pub scan_lacks : (why : Refusal) → s.stopped ≡ None → lacks id (track_of id ts) ≡ Some why
+        → Took disk s scan silent (Err why) 0 s
     scan_lacks why going lack =
         refused_own disk s scan scan_quiet is fewer why (ap stop_of going)
         (scan_tests ∙ (λ i. ((lack i) otherwise (beyond (length (cells_at id (current t.state))))) otherwise uneven))
 
-    module _ (layout : List Clip) (has : HasLayout id ts layout) (going : s.stopped ≡ None) (store : D) (kept : Kept disk s.store store) where
+    module _ (layout : List Clip) (has : HasLayout id ts layout) (going : s.stopped ≡ None) (store : D)
+        (kept : Kept disk s.store store) where
       tests_are : call_tests (outside t silent) t.state scan ≡ column_tests from to columns (end_of 0 layout)
       tests_are =
-          let len : length (cells_at id (current t.state)) ≡ end_of 0 layout = ap length (sym (cells_are layout has)) ∙ length-layout src layout (layout_sound disk s is id layout has).apart in
+          let len : length (cells_at id (current t.state)) ≡ end_of 0 layout = ap length (sym (cells_are layout has))
+          ∙ length-layout src layout (layout_sound disk s is id layout has).apart in
           scan_tests ∙ (λ i. ((track_there disk s is id layout has i) otherwise (beyond (len i))) otherwise uneven)
 
-      pub scan_done : (found : List (Option Scan)) → column_tests from to columns (end_of 0 layout) ≡ None → disk.read_fault_count store ≡ disk.read_fault_count s.store
-          → (IsHeld disk s → found ≡ columns_of from to columns (layout_cells src layout)) → Took disk s scan silent (Ok (reply.Columns found)) 0 (record s { store = store })
+      pub scan_done : (found : List (Option Scan)) → column_tests from to columns (end_of 0 layout) ≡ None
+          → disk.read_fault_count store ≡ disk.read_fault_count s.store
+          → (IsHeld disk s → found ≡ columns_of from to columns (layout_cells src layout))
+          → Took disk s scan silent (Ok (reply.Columns found)) 0 (record s { store = store })
       scan_done found good faults seen =
           let room = room_of disk s scan is in
-          let passed = quiet_passes t scan scan_quiet room (ap stop_of going) (tests_are ∙ good) (fits s.next_pin 0 (omega (arith, is.counters.pin_most))) in
+          let passed = quiet_passes t scan scan_quiet room (ap stop_of going) (tests_are ∙ good)
+          (fits s.next_pin 0 (omega (arith, is.counters.pin_most))) in
           looked_ok disk s is store kept scan scan_quiet going (reply.Columns found) faults
-          (λ held. carried t scan scan_quiet room (reply.Columns found) t passed (ap reply.Columns (seen held ∙ ap (columns_of from to columns) (cells_are layout has))) refl)
+          (λ held. carried t scan scan_quiet room (reply.Columns found) t passed
+          (ap reply.Columns (seen held ∙ ap (columns_of from to columns) (cells_are layout has))) refl)
 
-      of_reads : (why : Refusal) → IsOfReads why → IsCountedBy why (disk.read_fault_count s.store) (disk.read_fault_count store)
+      of_reads : (why : Refusal) → IsOfReads why
+          → IsCountedBy why (disk.read_fault_count s.store) (disk.read_fault_count store)
           → (IsTrue (disk.tells s.store) → IsDamagedIn (disk.reads s.store) (named_blocks s) why)
           → Took disk s scan silent (Err why) 0 (record s { store = store })
-      of_reads refusal.NoMemory reads counted damaged = looked_wanting disk s is store kept scan scan_quiet going counted
-      of_reads refusal.DiskFault reads counted damaged = looked_failed disk s is store kept scan scan_quiet going refl fault.DiskFault counted damaged
+      of_reads refusal.NoMemory reads counted damaged =
+          looked_wanting disk s is store kept scan scan_quiet going counted
+      of_reads refusal.DiskFault reads counted damaged =
+          looked_failed disk s is store kept scan scan_quiet going refl fault.DiskFault counted damaged
       of_reads (refusal.Damaged file at want have) reads counted damaged =
-          looked_failed disk s is store kept scan scan_quiet going refl (fault.Damaged file (record { at = at; want = want; have = have })) counted damaged
+          looked_failed disk s is store kept scan scan_quiet going refl
+          (fault.Damaged file (record { at = at; want = want; have = have })) counted damaged
       of_reads why reads counted damaged = absurd reads
 
-      pub scan_failed : (why : Refusal) → (column_tests from to columns (end_of 0 layout) ≡ Some why) ⊎ ((column_tests from to columns (end_of 0 layout) ≡ None) × IsOfReads why)
+      pub scan_failed : (why : Refusal) → (column_tests from to columns (end_of 0 layout) ≡ Some why)
+          ⊎ ((column_tests from to columns (end_of 0 layout) ≡ None) × IsOfReads why)
           → IsCountedBy why (disk.read_fault_count s.store) (disk.read_fault_count store)
           → (IsTrue (disk.tells s.store) → IsDamagedIn (disk.reads s.store) (layout_blocks layout) why)
           → Took disk s scan silent (Err why) 0 (record s { store = store })
       scan_failed why (inl test) counted damaged =
           let len = end_of 0 layout in
-          let faults = by_test (not (nat_lt from to && nat_le to len)) (columns == 0 || nat_lt 4096 columns || nat_lt (to - from) columns) why (disk.read_fault_count s.store) (disk.read_fault_count store) test counted in
+          let faults = by_test (not (nat_lt from to && nat_le to len)) (columns == 0 || nat_lt 4096 columns || nat_lt
+          (to - from) columns) why (disk.read_fault_count s.store) (disk.read_fault_count store) test counted in
           looked_own disk s is store kept scan scan_quiet going why
-          (plain_by (call_tests (outside t silent) t.state scan) why (own (outside t silent) t.state scan) (tests_are ∙ test)) faults (λ held. own_first t scan 0 0 why (ap stop_of going) (tests_are ∙ test))
+          (plain_by (call_tests (outside t silent) t.state scan) why (own (outside t silent) t.state scan)
+          (tests_are ∙ test)) faults (λ held. own_first t scan 0 0 why (ap stop_of going) (tests_are ∙ test))
       scan_failed why (inr read) counted damaged =
           of_reads why read.1 counted
-          (λ told. damage_among (disk.reads s.store) (named_blocks s) (layout_blocks layout) why (layout_named disk s is id layout has) (damaged told))
+          (λ told. damage_among (disk.reads s.store) (named_blocks s) (layout_blocks layout) why
+          (layout_named disk s is id layout has) (damaged told))

@@ -1,5 +1,6 @@
 -- New blocks of which it is supposed that they are made: samples for their ids, as their pieces say.
-use Rattle.std.proofs.Common.{◌≡◌, refl, sym, ap, ap₂, ◌∙◌, ℕ, ◌+◌, ◌≤◌, ◌<◌, nat_lt, ◌==◌, Bool, false, if◌then◌else◌, ℤ, pos, List, [], ◌∷◌, ◌++◌, length, get_or, arith}
+use Rattle.std.proofs.Common.{◌≡◌, refl, sym, ap, ap₂, ◌∙◌, ℕ, ◌+◌, ◌≤◌, ◌<◌, nat_lt, ◌==◌, Bool, false, if◌then◌else◌}
+use Rattle.std.proofs.Common.{ℤ, pos, List, [], ◌∷◌, ◌++◌, length, get_or, arith}
 use Rattle.std.specs.List.{AllByRecursion}
 use Rattle.std.proofs.lemmas.Bool.{eq-eqb, ne_eqb, lt-ltb, le-ltb}
 use Rattle.pcm_base.specs.declared.block.BlockRef.{BlockRef}
@@ -20,7 +21,8 @@ made_samples src (b ∷ bs) id = if b.id == id then all_samples src b.pieces els
 
 -- below the next id the old samples, from there on those of the new blocks
 abbrev pub supposed : (ℕ → ℕ → ℤ) → (ℕ → ℤ) → ℕ → List NewBlock → ℕ → ℕ → ℤ
-supposed block given next bs id = if nat_lt id next then block id else (λ i. get_or (made_samples (beside block given) bs id) i (pos 0))
+supposed block given next bs id =
+    if nat_lt id next then block id else (λ i. get_or (made_samples (beside block given) bs id) i (pos 0))
 
 module _ (block : ℕ → ℕ → ℤ) (given : ℕ → ℤ) (next : ℕ) (all : List NewBlock) where
   abbrev was : Sources
@@ -30,45 +32,59 @@ module _ (block : ℕ → ℕ → ℤ) (given : ℕ → ℤ) (next : ℕ) (all :
   now = beside (supposed block given next all) given
 
   pub old_same : (id : ℕ) → id < next → supposed block given next all id ≡ block id
-  old_same id low = ap (λ (b : Bool). if b then block id else (λ i. get_or (made_samples was all id) i (pos 0))) (lt-ltb id next low)
+  old_same id low =
+      ap (λ (b : Bool). if b then block id else (λ i. get_or (made_samples was all id) i (pos 0))) (lt-ltb id next low)
 
   module _ (old : List BlockRef) (below : AllByRecursion (λ (b : BlockRef). b.id < next) old) (count : ℕ) where
     same_samples : (ps : List Piece) → AllFrom old count ps → all_samples now ps ≡ all_samples was ps
     same_samples [] from = refl
     same_samples (Old b lo hi ∷ ps) from =
         let low = contained (λ (x : BlockRef). x.id < next) old b below from.0 in
-        ap₂ ◌++◌ (ap (λ (f : ℕ → ℤ). samples_of (beside (λ _. f) given) (Old b lo hi)) (old_same b.id low)) (same_samples ps from.1)
+        ap₂ ◌++◌ (ap (λ (f : ℕ → ℤ). samples_of (beside (λ _. f) given) (Old b lo hi)) (old_same b.id low))
+        (same_samples ps from.1)
     same_samples (Scaled b lo hi gain ∷ ps) from =
         let low = contained (λ (x : BlockRef). x.id < next) old b below from.0 in
-        ap₂ ◌++◌ (ap (λ (f : ℕ → ℤ). samples_of (beside (λ _. f) given) (Scaled b lo hi gain)) (old_same b.id low)) (same_samples ps from.1)
+        ap₂ ◌++◌ (ap (λ (f : ℕ → ℤ). samples_of (beside (λ _. f) given) (Scaled b lo hi gain)) (old_same b.id low))
+        (same_samples ps from.1)
     same_samples (Zero len ∷ ps) from = ap (λ (xs : List ℤ). samples_of was (Zero len) ++ xs) (same_samples ps from.1)
-    same_samples (Given lo hi ∷ ps) from = ap (λ (xs : List ℤ). samples_of was (Given lo hi) ++ xs) (same_samples ps from.1)
+    same_samples (Given lo hi ∷ ps) from =
+        ap (λ (xs : List ℤ). samples_of was (Given lo hi) ++ xs) (same_samples ps from.1)
 
     -- the first of the ids from here on
-    first_made : (m id : ℕ) (b : NewBlock) (bs : List NewBlock) → b.id ≡ id → made_samples was (b ∷ bs) id ≡ all_samples was b.pieces
-    first_made m id b bs is = ap (λ (e : Bool). if e then all_samples was b.pieces else made_samples was bs id) (eq-eqb b.id id is)
+    first_made : (m id : ℕ) (b : NewBlock) (bs : List NewBlock) → b.id ≡ id
+        → made_samples was (b ∷ bs) id ≡ all_samples was b.pieces
+    first_made m id b bs is =
+        ap (λ (e : Bool). if e then all_samples was b.pieces else made_samples was bs id) (eq-eqb b.id id is)
 
     -- what stands in front of some of the new blocks does not hide them
     abbrev Hides : ℕ → List NewBlock → Type 0
     Hides from bs = (id : ℕ) → from ≤ id → made_samples was all id ≡ made_samples was bs id
 
-    hides_more : (from : ℕ) (b : NewBlock) (bs : List NewBlock) → b.id ≡ from → Hides from (b ∷ bs) → Hides (from + 1) bs
+    hides_more : (from : ℕ) (b : NewBlock) (bs : List NewBlock) → b.id ≡ from → Hides from (b ∷ bs)
+        → Hides (from + 1) bs
     hides_more from b bs is hides id least =
         hides id (omega (arith, least))
-        ∙ ap (λ (e : Bool). if e then all_samples was b.pieces else made_samples was bs id) (ne_eqb b.id id (λ e. absurd (omega (arith, e, is, least))))
+        ∙ ap (λ (e : Bool). if e then all_samples was b.pieces else made_samples was bs id)
+        (ne_eqb b.id id (λ e. absurd (omega (arith, e, is, least))))
 
-    written_from : (m from : ℕ) (bs : List NewBlock) → next ≤ from → AreNew m from bs → AllNewFrom old count bs → Hides from bs → AreWritten now bs
+    written_from : (m from : ℕ) (bs : List NewBlock) → next ≤ from → AreNew m from bs → AllNewFrom old count bs
+        → Hides from bs → AreWritten now bs
     written_from m from [] least fresh origin hides = tt
     written_from m from (b ∷ bs) least fresh origin hides =
         let xs : List ℤ = all_samples was b.pieces in
         let high : nat_lt b.id next ≡ false = le-ltb b.id next (omega (arith, fresh.0, least)) in
-        let found : made_samples was all b.id ≡ xs = hides b.id (omega (arith, fresh.0)) ∙ first_made m b.id b bs refl in
+        let found : made_samples was all b.id ≡ xs =
+        hides b.id (omega (arith, fresh.0)) ∙ first_made m b.id b bs refl in
         let at : supposed block given next all b.id ≡ (λ i. get_or xs i (pos 0)) =
-        ap (λ (e : Bool). if e then block b.id else (λ i. get_or (made_samples was all b.id) i (pos 0))) high ∙ ap (λ (ys : List ℤ). λ i. get_or ys i (pos 0)) found in
+        ap (λ (e : Bool). if e then block b.id else (λ i. get_or (made_samples was all b.id) i (pos 0))) high
+        ∙ ap (λ (ys : List ℤ). λ i. get_or ys i (pos 0)) found in
         let long : length xs ≡ b.len = length-all_samples was b.pieces ∙ fresh.3 in
         let whole : stretch (supposed block given next all b.id) 0 b.len ≡ xs =
-        ap (λ (f : ℕ → ℤ). stretch f 0 b.len) at ∙ ap (stretch (λ i. get_or xs i (pos 0)) 0) (sym long) ∙ stretch_list xs (pos 0) in
-        (whole ∙ sym (same_samples b.pieces origin.0), written_from m (from + 1) bs (omega (arith, least)) fresh.5 origin.1 (hides_more from b bs fresh.0 hides))
+        ap (λ (f : ℕ → ℤ). stretch f 0 b.len) at ∙ ap (stretch (λ i. get_or xs i (pos 0)) 0) (sym long)
+        ∙ stretch_list xs (pos 0) in (
+          whole ∙ sym (same_samples b.pieces origin.0),
+          written_from m (from + 1) bs (omega (arith, least)) fresh.5 origin.1 (hides_more from b bs fresh.0 hides),
+        )
 
     pub supposed_written : (m : ℕ) → AreNew m next all → AllNewFrom old count all → AreWritten now all
     supposed_written m fresh origin = written_from m next all (omega arith) fresh origin (λ id least. refl)

@@ -1,5 +1,6 @@
 -- What an edit takes out comes into the clipboard, behind the point that it records.
-use Rattle.std.proofs.Common.{◌≡◌, ◌↔◌, sym, ap, ◌∙◌, ℕ, ◌+◌, ◌*◌, ◌^◌, ◌≤◌, ◌<◌, IsSome, Option, None, List, [], ◌∷◌, ◌++◌, length, length-append, flat_map, arith}
+use Rattle.std.proofs.Common.{◌≡◌, ◌↔◌, sym, ap, ◌∙◌, ℕ, ◌+◌, ◌*◌, ◌^◌, ◌≤◌, ◌<◌, IsSome, Option, None, List, [], ◌∷◌}
+use Rattle.std.proofs.Common.{◌++◌, length, length-append, flat_map, arith}
 use Rattle.std.specs.List.{AllByRecursion}
 use Rattle.pcm_base.specs.History.{History, recorded}
 use Rattle.disk_model.specs.declared.store.Store.{Ghosts}
@@ -23,20 +24,30 @@ use Rattle.editor_core.proofs.Recorded.{all_recorded, recorded_depth, recorded_f
 use Rattle.editor_core.proofs.Times.{named_append}
 
 -- (over plain numbers)
-sum_then : (last then mid history later pins clip new named : ℕ) → last + clip ≡ then + new → then + history ≡ mid + later → mid ≡ named → named ≡ history + (pins + clip)
+sum_then : (last then mid history later pins clip new named : ℕ) → last + clip ≡ then + new
+    → then + history ≡ mid + later → mid ≡ named → named ≡ history + (pins + clip)
     → last ≡ later + (pins + new)
 sum_then last then mid history later pins clip new named a b c d = omega (arith, a, b, c, d)
 
-clip_then_part : (then mid history later pins clip named : ℕ) → then + history ≡ mid + later → mid ≡ named → named ≡ history + (pins + clip) → clip ≤ then
+clip_then_part : (then mid history later pins clip named : ℕ) → then + history ≡ mid + later → mid ≡ named
+    → named ≡ history + (pins + clip) → clip ≤ then
 clip_then_part then mid history later pins clip named a b c = omega (arith, a, b, c)
 
-points_few : (ps : List (List Track × ℕ)) → AllByRecursion (λ (p : List Track × ℕ). length (point_blocks p.0) ≤ 2 ^ 38) ps
+points_few : (ps : List (List Track × ℕ))
+    → AllByRecursion (λ (p : List Track × ℕ). length (point_blocks p.0) ≤ 2 ^ 38) ps
     → length (flat_map (λ (p : List Track × ℕ). point_blocks p.0) ps) ≤ length ps * 2 ^ 38
 points_few [] h = omega arith
-points_few (p ∷ ps) h = omega (arith, h.0, points_few ps h.1, length-append (point_blocks p.0) (flat_map (λ (q : List Track × ℕ). point_blocks q.0) ps))
+points_few (p ∷ ps) h = omega (
+  arith,
+  h.0,
+  points_few ps h.1,
+  length-append (point_blocks p.0) (flat_map (λ (q : List Track × ℕ). point_blocks q.0) ps),
+)
 
-module _ {D : Type 0} (disk : Ghosts D) (s : Core D) (is : IsStudio disk s) (going : s.stopped ≡ None) (given : Given) (makes : List NewBlock)
-    (tag tracks : ℕ) (point : List Track) (clip : Option (List (List Item))) (plan : IsPlanned s given makes tag tracks point clip) where
+module _ {D : Type 0} (disk : Ghosts D) (s : Core D) (is : IsStudio disk s) (going : s.stopped ≡ None) (given : Given)
+    (makes : List NewBlock)
+    (tag tracks : ℕ) (point : List Track) (clip : Option (List (List Item)))
+    (plan : IsPlanned s given makes tag tracks point clip) where
   abbrev h : History (List Track)
   h = recorded s.history point tag
 
@@ -46,7 +57,13 @@ module _ {D : Type 0} (disk : Ghosts D) (s : Core D) (is : IsStudio disk s) (goi
       let old = all_so (IsSoundTagged s.block_size s.next_block s.next_track s.commit_number) Q
       (λ p k. point_few s.block_size s.next_block s.next_track p.0 k.0) s.history.points is.points in
       let new = point_few s.block_size (s.next_block + length makes) (s.next_track + tracks) point plan.sound in
-      omega (arith, points_few h.points (all_recorded s.history point tag Q old new new), recorded_few s.history point tag, recorded_depth s.history point tag, is.format.depth_most)
+      omega (
+        arith,
+        points_few h.points (all_recorded s.history point tag Q old new new),
+        recorded_few s.history point tag,
+        recorded_depth s.history point tag,
+        is.format.depth_most,
+      )
 
   module _ (mid : Core D) (making : Making disk s given (length makes) makes mid) (then : Counts)
       (moves : Moves mid.counts then (history_blocks s.history) (history_blocks h)) where
@@ -54,28 +71,42 @@ module _ {D : Type 0} (disk : Ghosts D) (s : Core D) (is : IsStudio disk s) (goi
     counted_mid id = making.ledger.counts id ∙ is.counted id
 
     pub taken_there : s.next_block + length makes ≤ 2 ^ 62 → HasIds then (clip_blocks clip)
-    taken_there fits = λ id some. (moves.ids id).1 (clip_there disk s is going given makes tag tracks point clip plan mid making fits id some)
+    taken_there fits = λ id some.
+        (moves.ids id).1 (clip_there disk s is going given makes tag tracks point clip plan mid making fits id some)
 
     pub taken_room : (id : ℕ) → occurrences (then id) < 2 ^ 102
     taken_room id =
-        omega (arith, moves.counts id, counted_mid id, named_most id (named_blocks s), named_few disk s is, named_most id (history_blocks h), history_few)
+        omega (
+          arith,
+          moves.counts id,
+          counted_mid id,
+          named_most id (named_blocks s),
+          named_few disk s is,
+          named_most id (history_blocks h),
+          history_few,
+        )
 
     pub taken_named : HasAll then (clip_blocks s.clipboard)
     taken_named id =
-        clip_then_part (occurrences (then id)) (occurrences (mid.counts id)) (times_named id (history_blocks s.history)) (times_named id (history_blocks h))
-        (times_named id (pin_blocks s.pins)) (times_named id (clip_blocks s.clipboard)) (times_named id (named_blocks s)) (moves.counts id) (counted_mid id) (named_parts s id)
+        clip_then_part (occurrences (then id)) (occurrences (mid.counts id)) (times_named id (history_blocks s.history))
+        (times_named id (history_blocks h))
+        (times_named id (pin_blocks s.pins)) (times_named id (clip_blocks s.clipboard))
+        (times_named id (named_blocks s)) (moves.counts id) (counted_mid id) (named_parts s id)
 
     module _ (last : Counts) (takes : Moves then last (clip_blocks s.clipboard) (clip_blocks clip)) where
       parts_then : (id : ℕ) → times_named id (history_blocks h ++ (pin_blocks s.pins ++ clip_blocks clip))
           ≡ times_named id (history_blocks h) + (times_named id (pin_blocks s.pins) + times_named id (clip_blocks clip))
       parts_then id =
           named_append id (history_blocks h) (pin_blocks s.pins ++ clip_blocks clip)
-          ∙ ap (λ (n : ℕ). times_named id (history_blocks h) + n) (named_append id (pin_blocks s.pins) (clip_blocks clip))
+          ∙ ap (λ (n : ℕ). times_named id (history_blocks h) + n)
+          (named_append id (pin_blocks s.pins) (clip_blocks clip))
 
       pub taken_counted : IsFreshCount (ids_of (history_blocks h ++ (pin_blocks s.pins ++ clip_blocks clip))) last
       taken_counted = λ id.
-          sum_then (occurrences (last id)) (occurrences (then id)) (occurrences (mid.counts id)) (times_named id (history_blocks s.history)) (times_named id (history_blocks h))
-          (times_named id (pin_blocks s.pins)) (times_named id (clip_blocks s.clipboard)) (times_named id (clip_blocks clip)) (times_named id (named_blocks s))
+          sum_then (occurrences (last id)) (occurrences (then id)) (occurrences (mid.counts id))
+          (times_named id (history_blocks s.history)) (times_named id (history_blocks h))
+          (times_named id (pin_blocks s.pins)) (times_named id (clip_blocks s.clipboard))
+          (times_named id (clip_blocks clip)) (times_named id (named_blocks s))
           (takes.counts id) (moves.counts id) (counted_mid id) (named_parts s id) ∙ sym (parts_then id)
 
       pub taken_ids : (id : ℕ) → IsSome (last id) ↔ IsSome (mid.counts id)

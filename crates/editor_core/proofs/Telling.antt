@@ -21,11 +21,13 @@ use Rattle.editor_core.specs.Points.{current_tracks}
 use Rattle.editor_core.specs.Studios.{IsStudio, studio_of}
 use Rattle.editor_core.specs.Took.{Took, silent}
 use Rattle.editor_core.proofs.Editing.{current_meant}
-use Rattle.editor_core.proofs.Quiet.{IsQuiet, quiet_passes, carried, room_of, refused_stopped, refused_wanting, stays_answered}
+use Rattle.editor_core.proofs.Quiet.{IsQuiet, quiet_passes, carried, room_of, refused_stopped, refused_wanting}
+use Rattle.editor_core.proofs.Quiet.{stays_answered}
 use Rattle.editor_core.proofs.Spaces.{fits}
 
 -- one track more
-pub lines_more : (src : Sources) (us : List Track) (t : Track) → map line_of_track (meant src (us ++ t ∷ [])) ≡ map line_of_track (meant src us) ++ line_of_track (meant_track src t) ∷ []
+pub lines_more : (src : Sources) (us : List Track) (t : Track) → map line_of_track (meant src (us ++ t ∷ []))
+    ≡ map line_of_track (meant src us) ++ line_of_track (meant_track src t) ∷ []
 lines_more src [] t = refl
 lines_more src (u ∷ us) t = ap (λ (z : List TrackLine). line_of_track (meant_track src u) ∷ z) (lines_more src us t)
 
@@ -45,10 +47,14 @@ module _ {D : Type 0} (disk : Ghosts D) (s : Core D) (is : IsStudio disk s) (few
   pub tell_wanting : Took disk s tell silent (Err refusal.NoMemory) 0 s
   tell_wanting = refused_wanting disk s tell tell_quiet is fewer
 
-  pub told_of : (lines : List TrackLine) → s.stopped ≡ None → ((src : Sources) → lines ≡ map line_of_track (meant src (current_tracks s.history))) → Took disk s tell silent (Ok (reply.Tracks lines)) 0 s
+  pub told_of : (lines : List TrackLine)
+      → s.stopped ≡ None → ((src : Sources) → lines ≡ map line_of_track (meant src (current_tracks s.history)))
+      → Took disk s tell silent (Ok (reply.Tracks lines)) 0 s
   told_of lines going all =
       let src = sources_of (disk.reads s.store) in
       let room = room_of disk s tell is in
-      let passed = quiet_passes t tell tell_quiet room (ap stop_of going) refl (fits s.next_pin 0 (omega (arith, is.counters.pin_most))) in
+      let passed = quiet_passes t tell tell_quiet room (ap stop_of going) refl
+      (fits s.next_pin 0 (omega (arith, is.counters.pin_most))) in
       stays_answered disk s tell tell_quiet is fewer (reply.Tracks lines)
-      (λ _. carried t tell tell_quiet room (reply.Tracks lines) t passed (ap reply.Tracks (all src ∙ ap (λ (p : Project). map line_of_track p) (sym (current_meant disk s is)))) refl)
+      (λ _. carried t tell tell_quiet room (reply.Tracks lines) t passed
+      (ap reply.Tracks (all src ∙ ap (λ (p : Project). map line_of_track p) (sym (current_meant disk s is)))) refl)

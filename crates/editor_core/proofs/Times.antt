@@ -1,5 +1,6 @@
 -- Occurrences of ids, and counts of them that rise and fall.
-use Rattle.std.proofs.Common.{◌≡◌, ⊎_elim, refl, sym, ap, subst, ℕ, ◌+◌, ◌^◌, ◌<◌, false, List, [], ◌∷◌, ◌++◌, Option, Some, None, IsSome, arith, eqb}
+use Rattle.std.proofs.Common.{◌≡◌, ⊎_elim, refl, sym, ap, subst, ℕ, ◌+◌, ◌^◌, ◌<◌, false, List, [], ◌∷◌, ◌++◌, Option}
+use Rattle.std.proofs.Common.{Some, None, IsSome, arith, eqb}
 use Rattle.std.proofs.lemmas.Bool.{eq-eqb}
 use Rattle.std.proofs.lemmas.Bool.Decides.{eqb_tells}
 use Rattle.pcm_base.specs.declared.block.BlockRef.{BlockRef}
@@ -36,13 +37,15 @@ more_of (Some n) h = omega (arith, h)
 pub dropped_none : (old : Counts) → Dropped old old []
 dropped_none old = record { counts = λ id. omega arith; ids = λ id. (λ h. h, λ h. h) }
 
-pub dropped_more : (old mid new : Counts) (bs : List BlockRef) (b : BlockRef) → Dropped old mid bs → IsNamed (mid b.id) → SetsCount mid new b.id (Some (one_less (mid b.id))) → Dropped old new (bs ++ b ∷ [])
+pub dropped_more : (old mid new : Counts) (bs : List BlockRef) (b : BlockRef) → Dropped old mid bs → IsNamed (mid b.id)
+    → SetsCount mid new b.id (Some (one_less (mid b.id))) → Dropped old new (bs ++ b ∷ [])
 dropped_more old mid new bs b was named set = record {
   counts = λ id. ⊎_elim
       (λ same.
       let e : b.id ≡ id = same.1 in
       let here : new id ≡ Some (one_less (mid id)) = subst (λ (n : ℕ). new n ≡ Some (one_less (mid n))) e set.here in
-      let less : one_less (mid id) + 1 ≡ occurrences (mid id) = less_of (mid id) (subst (λ (n : ℕ). IsNamed (mid n)) e named) in
+      let less : one_less (mid id) + 1 ≡ occurrences (mid id) =
+      less_of (mid id) (subst (λ (n : ℕ). IsNamed (mid n)) e named) in
       let is : occurrences (new id) ≡ one_less (mid id) = ap occurrences here in
       omega (arith, named_append id bs (b ∷ []), named_same b id e, was.counts id, less, is))
       (λ other.
@@ -61,7 +64,8 @@ dropped_more old mid new bs b was named set = record {
       (eqb_tells b.id id);
 }
 
-pub dropped_append : (old mid new : Counts) (xs ys : List BlockRef) → Dropped old mid xs → Dropped mid new ys → Dropped old new (xs ++ ys)
+pub dropped_append : (old mid new : Counts) (xs ys : List BlockRef) → Dropped old mid xs → Dropped mid new ys
+    → Dropped old new (xs ++ ys)
 dropped_append old mid new xs ys one two = record {
   counts = λ id. omega (arith, named_append id xs ys, one.counts id, two.counts id);
   ids = λ id. (λ h. (one.ids id).0 ((two.ids id).0 h), λ h. (two.ids id).1 ((one.ids id).1 h));
@@ -77,19 +81,23 @@ has_left old xs ys all = λ id. omega (arith, named_append id xs ys, all id)
 pub held_none : (old : Counts) → Held old old []
 held_none old = record { counts = λ id. omega arith; ids = λ id. (λ h. h, λ h. h) }
 
-pub held_append : (old mid new : Counts) (xs ys : List BlockRef) → Held old mid xs → Held mid new ys → Held old new (xs ++ ys)
+pub held_append : (old mid new : Counts) (xs ys : List BlockRef) → Held old mid xs → Held mid new ys
+    → Held old new (xs ++ ys)
 held_append old mid new xs ys one two = record {
   counts = λ id. omega (arith, named_append id xs ys, one.counts id, two.counts id);
   ids = λ id. (λ h. (one.ids id).0 ((two.ids id).0 h), λ h. (two.ids id).1 ((one.ids id).1 h));
 }
 
-pub held_more : (old mid new : Counts) (bs : List BlockRef) (b : BlockRef) → Held old mid bs → IsSome (mid b.id) → occurrences (mid b.id) + 1 < 2 ^ 128 → SetsCount mid new b.id (Some (one_more (mid b.id))) → Held old new (bs ++ b ∷ [])
+pub held_more : (old mid new : Counts) (bs : List BlockRef) (b : BlockRef) → Held old mid bs
+    → IsSome (mid b.id) → occurrences (mid b.id) + 1 < 2 ^ 128 → SetsCount mid new b.id (Some (one_more (mid b.id)))
+    → Held old new (bs ++ b ∷ [])
 held_more old mid new bs b was there few set = record {
   counts = λ id. ⊎_elim
       (λ same.
       let e : b.id ≡ id = same.1 in
       let here : new id ≡ Some (one_more (mid id)) = subst (λ (n : ℕ). new n ≡ Some (one_more (mid n))) e set.here in
-      let more : one_more (mid id) ≡ occurrences (mid id) + 1 = more_of (mid id) (subst (λ (n : ℕ). occurrences (mid n) + 1 < 2 ^ 128) e few) in
+      let more : one_more (mid id) ≡ occurrences (mid id) + 1 =
+      more_of (mid id) (subst (λ (n : ℕ). occurrences (mid n) + 1 < 2 ^ 128) e few) in
       let is : occurrences (new id) ≡ one_more (mid id) = ap occurrences here in
       omega (arith, named_append id bs (b ∷ []), named_same b id e, was.counts id, more, is))
       (λ other.

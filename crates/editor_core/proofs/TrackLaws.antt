@@ -1,5 +1,6 @@
 -- An edit of one track by a plan, as an edit that makes blocks.
-use Rattle.std.proofs.Common.{◌≡◌, ⊎_elim, refl, sym, ap, ◌∙◌, subst, ℕ, ◌+◌, ◌≤◌, ◌==◌, ℤ, if◌then◌else◌, Option, Some, None, List, [], ◌∷◌, length, Err, arith}
+use Rattle.std.proofs.Common.{◌≡◌, ⊎_elim, refl, sym, ap, ◌∙◌, subst, ℕ, ◌+◌, ◌≤◌, ◌==◌, ℤ, if◌then◌else◌, Option, Some}
+use Rattle.std.proofs.Common.{None, List, [], ◌∷◌, length, Err, arith}
 use Rattle.pcm_base.specs.declared.command.Call.{Call}
 use Rattle.pcm_base.specs.declared.entry.SoundMove.{SoundMove}
 use Rattle.pcm_base.specs.declared.refusal.Refusal.{Refusal}
@@ -42,22 +43,28 @@ use Rattle.editor_core.proofs.Tracks.{current_is, lacks_is, sound_of}
 
 -- ---- what refuses the edit of a track
 
-refusal_is : (src : Sources) (id : ℕ) (test : ℕ → Option Refusal) (m next track : ℕ) (ts : List Track) → AllSoundTracks m next track ts → (o : Option Track) → track_of id ts ≡ o
-    → ((refused_if (is_empty (tracks_from id (meant src ts))) (NoTrack id)) otherwise (test (length (cells_at id (meant src ts))))) ≡ track_refusal id test o
+refusal_is : (src : Sources) (id : ℕ) (test : ℕ → Option Refusal) (m next track : ℕ) (ts : List Track)
+    → AllSoundTracks m next track ts → (o : Option Track) → track_of id ts ≡ o
+    → ((refused_if (is_empty (tracks_from id (meant src ts))) (NoTrack id)) otherwise
+    (test (length (cells_at id (meant src ts))))) ≡ track_refusal id test o
 refusal_is src id test m next track ts sound None found =
     let first = lacks_is src id ts ∙ ap (lacks id) found in
     λ i. (first i) otherwise (test (length (cells_at id (meant src ts))))
 refusal_is src id test m next track ts sound (Some t) found =
     let first = lacks_is src id ts ∙ ap (lacks id) found in
     let is = sound_of m next track id ts t found sound in
-    let long : length (cells_at id (meant src ts)) ≡ end_of 0 t.layout = ap length (cells_meant src id ts t found) ∙ length-layout src t.layout is.layout.apart in
+    let long : length (cells_at id (meant src ts)) ≡ end_of 0 t.layout =
+    ap length (cells_meant src id ts t found) ∙ length-layout src t.layout is.layout.apart in
     λ i. (first i) otherwise (test (long i))
 
 edited_changed : (id : ℕ) (f : List Cell → List Cell) (p : Project) → edited_at id f p ≡ changed_at id (with_cells f) p
 edited_changed id f [] = refl
-edited_changed id f (t ∷ ts) = let rest = edited_changed id f ts in λ i. if t.id == id then with_cells f t ∷ ts else t ∷ rest i
+edited_changed id f (t ∷ ts) =
+    let rest = edited_changed id f ts in
+    λ i. if t.id == id then with_cells f t ∷ ts else t ∷ rest i
 
-module _ {D : Type 0} (disk : Ghosts D) (s : Core D) (is : IsStudio disk s) (c : Call) (sound : SoundMove) (e : TrackEdit) (given : Given) (id tag : ℕ)
+module _ {D : Type 0} (disk : Ghosts D) (s : Core D) (is : IsStudio disk s) (c : Call) (sound : SoundMove)
+    (e : TrackEdit) (given : Given) (id tag : ℕ)
     (line : IsTrackCall c sound e given id tag) where
   abbrev old : List Track
   old = current_tracks s.history
@@ -71,45 +78,57 @@ module _ {D : Type 0} (disk : Ghosts D) (s : Core D) (is : IsStudio disk s) (c :
   old_sound : IsSoundPoint s.block_size s.next_block s.next_track old
   old_sound = current_sound disk s is
 
-  own_is : (block : ℕ → ℕ → ℤ) → call_tests (outside (studio_by (alone block) disk s) sound) (studio_by (alone block) disk s).state c ≡ track_refusal id e.test found
+  own_is : (block : ℕ → ℕ → ℤ) → call_tests (outside (studio_by (alone block) disk s) sound)
+      (studio_by (alone block) disk s).state c ≡ track_refusal id e.test found
   own_is block =
       let src = alone block in
       let u = studio_by src disk s in
       line.own (outside u sound) u.state
-      ∙ ap (λ (q : Project). (refused_if (is_empty (tracks_from id q)) (NoTrack id)) otherwise (e.test (length (cells_at id q)))) (current_is src s.history)
+      ∙ ap (λ (q : Project). (refused_if (is_empty (tracks_from id q)) (NoTrack id)) otherwise
+      (e.test (length (cells_at id q)))) (current_is src s.history)
       ∙ refusal_is src id e.test s.block_size s.next_block s.next_track old old_sound.sound found refl
 
   -- ---- a stopped studio, a test of the edit, or memory
 
-  early_refused : (why : Refusal) → Fewer disk s.store → ((stop_of s.stopped) otherwise (track_refusal id e.test found)) ≡ Some why → Took disk s c sound (Err why) 0 s
+  early_refused : (why : Refusal) → Fewer disk s.store
+      → ((stop_of s.stopped) otherwise (track_refusal id e.test found)) ≡ Some why → Took disk s c sound (Err why) 0 s
   early_refused why fewer h =
       let own = own_is (samples_on (disk.reads s.store)) in
-      let first : ((stop_of s.stopped) otherwise (call_tests (outside t sound) t.state c)) ≡ Some why = (λ i. (stop_of s.stopped) otherwise (own i)) ∙ h in
-      refuses disk s c sound why is fewer line.call.commit.quiet 0 0 (λ held. line.call.needs t.rate t 0 0 (omega arith, omega arith))
+      let first : ((stop_of s.stopped) otherwise (call_tests (outside t sound) t.state c)) ≡ Some why =
+      (λ i. (stop_of s.stopped) otherwise (own i)) ∙ h in
+      refuses disk s c sound why is fewer line.call.commit.quiet 0 0
+      (λ held. line.call.needs t.rate t 0 0 (omega arith, omega arith))
       (early t c sound 0 line.call.commit 0 0 why first)
 
-  pub track_stopped : (faults : ℕ) → Fewer disk s.store → s.stopped ≡ Some faults → Took disk s c sound (Err (refusal.Stopped faults)) 0 s
-  track_stopped faults fewer at = early_refused (refusal.Stopped faults) fewer (λ i. (stop_of (at i)) otherwise (track_refusal id e.test found))
+  pub track_stopped : (faults : ℕ) → Fewer disk s.store → s.stopped ≡ Some faults
+      → Took disk s c sound (Err (refusal.Stopped faults)) 0 s
+  track_stopped faults fewer at =
+      early_refused (refusal.Stopped faults) fewer (λ i. (stop_of (at i)) otherwise (track_refusal id e.test found))
 
-  pub track_refused : (why : Refusal) → Fewer disk s.store → s.stopped ≡ None → NoTrackPlan e id old why → Took disk s c sound (Err why) 0 s
+  pub track_refused : (why : Refusal) → Fewer disk s.store → s.stopped ≡ None → NoTrackPlan e id old why
+      → Took disk s c sound (Err why) 0 s
   track_refused why fewer going not = ⊎_elim
       (λ own. early_refused why fewer ((λ i. (stop_of (going i)) otherwise (track_refusal id e.test found)) ∙ own))
       (λ memory.
       subst (λ (r : Refusal). Took disk s c sound (Err r) 0 s) (sym memory)
-      (wants disk s c sound is fewer line.call.commit.quiet 0 (λ held. (0, line.call.needs t.rate t 0 0 (omega arith, omega arith)))))
+      (wants disk s c sound is fewer line.call.commit.quiet 0
+      (λ held. (0, line.call.needs t.rate t 0 0 (omega arith, omega arith)))))
       not
 
   -- ---- what the call means
 
-  module _ (new : List Track) (makes : List NewBlock) (after_id : ℕ) (p : IsTrackPlan e (brought_count given) id s.block_size s.next_block old new makes after_id) where
+  module _ (new : List Track) (makes : List NewBlock) (after_id : ℕ)
+      (p : IsTrackPlan e (brought_count given) id s.block_size s.next_block old new makes after_id) where
     pub track_edit : IsEdit disk s c sound 0 given makes (recorded s.history new tag) s.clipboard
     track_edit = record {
       most = λ m st. e.most m (cells_at id (current st));
       call = line.call;
       few = λ block.
           let src = alone block in
-          let cells : cells_at id (current (studio_by src disk s).state) ≡ layout_cells src p.track.layout = ap (cells_at id) (current_is src s.history) ∙ cells_meant src id old p.track p.found in
-          subst (λ (bs : List NewBlock). length bs ≤ e.most s.block_size (cells_at id (current (studio_by src disk s).state))) (sym p.makes_is)
+          let cells : cells_at id (current (studio_by src disk s).state) ≡ layout_cells src p.track.layout =
+          ap (cells_at id) (current_is src s.history) ∙ cells_meant src id old p.track p.found in
+          subst (λ (bs : List NewBlock). length bs
+          ≤ e.most s.block_size (cells_at id (current (studio_by src disk s).state))) (sym p.makes_is)
           (subst (λ (xs : List Cell). length p.plan.makes ≤ e.most s.block_size xs) (sym cells) (p.few src));
       own = λ block. own_is block ∙ (λ i. track_refusal id e.test (p.found i)) ∙ p.tests;
       means = λ block written.
@@ -118,9 +137,14 @@ module _ {D : Type 0} (disk : Ghosts D) (s : Core D) (is : IsStudio disk s) (c :
           let now_state = u.state in
           let f = e.cells (brought given) in
           let point : edited_at id f (current now_state) ≡ meant src new =
-          ap (edited_at id f) (current_is src s.history) ∙ edited_changed id f (meant src old) ∙ sym (point_means disk s is e given id new makes after_id p block written) in
+          ap (edited_at id f) (current_is src s.history) ∙ edited_changed id f (meant src old)
+          ∙ sym (point_means disk s is e given id new makes after_id p block written) in
           let none : s.next_track ≡ s.next_track + 0 = omega arith in
           line.after_is (outside u sound) now_state
           ∙ (λ i. record now_state { history = recorded now_state.history (point i) tag; commit = s.commit_number + 1 })
-          ∙ (λ i. record now_state { history = sym (meant_recorded src s.history new tag) i; next_track = none i; commit = s.commit_number + 1 });
+          ∙ (λ i. record now_state {
+            history = sym (meant_recorded src s.history new tag) i;
+            next_track = none i;
+            commit = s.commit_number + 1;
+          });
     }

@@ -1,5 +1,6 @@
 -- The plan of an edit of one track: what it leaves, and why there is none.
-use Rattle.std.proofs.Common.{◌≡◌, ◌⊎◌, inl, inr, ⊎_elim, refl, sym, ap, ◌∙◌, subst, ℕ, ◌+◌, ◌≤◌, ℤ, Some, None, List, [], ◌∷◌, ◌++◌, length, Contains, arith}
+use Rattle.std.proofs.Common.{◌≡◌, ◌⊎◌, inl, inr, ⊎_elim, refl, sym, ap, ◌∙◌, subst, ℕ, ◌+◌, ◌≤◌, ℤ, Some, None, List}
+use Rattle.std.proofs.Common.{[], ◌∷◌, ◌++◌, length, Contains, arith}
 use Rattle.std.specs.List.{AllByRecursion}
 use Rattle.std.proofs.lemmas.List.{length-map}
 use Rattle.std.proofs.lemmas.List.Elements.{Contains-append_left}
@@ -35,16 +36,20 @@ use Rattle.editor_core.proofs.Tracks.{id_of, layout_of, put_all, put_means, put_
 
 -- ---- the track, and why there is no plan
 
-pub current_track : {D : Type 0} (disk : Ghosts D) (s : Core D) → IsStudio disk s → (id : ℕ) (t : Track) → track_of id (current_tracks s.history) ≡ Some t
+pub current_track : {D : Type 0} (disk : Ghosts D) (s : Core D) → IsStudio disk s → (id : ℕ) (t : Track)
+    → track_of id (current_tracks s.history) ≡ Some t
     → IsSoundTrack s.block_size s.next_block s.next_track t
 current_track disk s is id t found =
-    sound_of s.block_size s.next_block s.next_track id (current_tracks s.history) t found (current_sound disk s is).sound
+    sound_of s.block_size s.next_block s.next_track id (current_tracks s.history) t found
+    (current_sound disk s is).sound
 
-pub no_such_track : (e : TrackEdit) (id : ℕ) (old : List Track) (why : Refusal) → why ≡ refusal.NoTrack id → track_of id old ≡ None → NoTrackPlan e id old why
+pub no_such_track : (e : TrackEdit) (id : ℕ) (old : List Track) (why : Refusal) → why ≡ refusal.NoTrack id
+    → track_of id old ≡ None → NoTrackPlan e id old why
 no_such_track e id old why is none = inl ((λ i. track_refusal id e.test (none i)) ∙ ap Some (sym is))
 
 pub test_fails : (e : TrackEdit) (id : ℕ) (old : List Track) (t : Track) (why : Refusal) → track_of id old ≡ Some t
-    → (e.test (end_of 0 t.layout) ≡ Some why) ⊎ ((e.test (end_of 0 t.layout) ≡ None) × (why ≡ refusal.NoMemory)) → NoTrackPlan e id old why
+    → (e.test (end_of 0 t.layout) ≡ Some why) ⊎ ((e.test (end_of 0 t.layout) ≡ None) × (why ≡ refusal.NoMemory))
+    → NoTrackPlan e id old why
 test_fails e id old t why found not = ⊎_elim
     (λ own. inl ((λ i. track_refusal id e.test (found i)) ∙ own))
     (λ memory. inr memory.1)
@@ -53,15 +58,19 @@ test_fails e id old t why found not = ⊎_elim
 -- ---- what a plan leaves
 
 -- what a command brings changes no block
-pub layout_given : (block : ℕ → ℕ → ℤ) (given : ℕ → ℤ) (t : Track) → layout_cells (alone block) t.layout ≡ layout_cells (beside block given) t.layout
-layout_given block given t = ap cells_of_first (same_point (beside block given) (alone block) (t ∷ []) (all (point_blocks (t ∷ []))))
+pub layout_given : (block : ℕ → ℕ → ℤ) (given : ℕ → ℤ) (t : Track)
+    → layout_cells (alone block) t.layout ≡ layout_cells (beside block given) t.layout
+layout_given block given t =
+    ap cells_of_first (same_point (beside block given) (alone block) (t ∷ []) (all (point_blocks (t ∷ []))))
   where
     all : (bs : List BlockRef) → AllByRecursion (SameSound (beside block given) (alone block)) bs
     all [] = tt
     all (b ∷ bs) = (refl, all bs)
 
-module _ {D : Type 0} (disk : Ghosts D) (s : Core D) (is : IsStudio disk s) (e : TrackEdit) (given : Given) (id : ℕ) (new : List Track) (makes : List NewBlock)
-    (after_id : ℕ) (p : IsTrackPlan e (brought_count given) id s.block_size s.next_block (current_tracks s.history) new makes after_id) where
+module _ {D : Type 0} (disk : Ghosts D) (s : Core D) (is : IsStudio disk s) (e : TrackEdit) (given : Given) (id : ℕ)
+    (new : List Track) (makes : List NewBlock)
+    (after_id : ℕ) (p : IsTrackPlan e (brought_count given) id s.block_size s.next_block
+    (current_tracks s.history) new makes after_id) where
   abbrev old : List Track
   old = current_tracks s.history
 
@@ -100,7 +109,8 @@ module _ {D : Type 0} (disk : Ghosts D) (s : Core D) (is : IsStudio disk s) (e :
   was_named = layout_of (Contains (named_blocks s)) id old was p.found old_named
 
   more : AreAmong (named_blocks s) (layout_blocks was.layout) → AreAmong every (layout_blocks was.layout)
-  more h = all_so (Contains (named_blocks s)) (Contains every) (λ b k. Contains-append_left (named_blocks s) (refs makes) b k) (layout_blocks was.layout) h
+  more h = all_so (Contains (named_blocks s)) (Contains every)
+      (λ b k. Contains-append_left (named_blocks s) (refs makes) b k) (layout_blocks was.layout) h
 
   made_named : AreAmong every (refs makes)
   made_named = all_right (Contains every) (named_blocks s) (refs makes) (among_itself every)
@@ -108,14 +118,18 @@ module _ {D : Type 0} (disk : Ghosts D) (s : Core D) (is : IsStudio disk s) (e :
   now_sound : IsSoundTrack s.block_size (s.next_block + n) s.next_track now
   now_sound =
       let Q : BlockRef → Type 0 = λ b. IsGiven (s.next_block + n) b.id in
-      let old_ids = all_so (λ (b : BlockRef). IsGiven s.next_block b.id) Q (λ b h. (h.0, omega (arith, h.1))) (layout_blocks was.layout) (clips_ids s.next_block was.layout was_sound.blocks) in
-      let new_ids = all_so (λ (b : BlockRef). IsNewId s.next_block n b.id) Q (λ b h. (omega (arith, h.0, is.counters.block_least), h.1)) (refs makes) (refs_ids s.block_size s.next_block makes fresh) in
+      let old_ids = all_so (λ (b : BlockRef). IsGiven s.next_block b.id) Q (λ b h. (h.0, omega (arith, h.1)))
+      (layout_blocks was.layout) (clips_ids s.next_block was.layout was_sound.blocks) in
+      let new_ids = all_so (λ (b : BlockRef). IsNewId s.next_block n b.id) Q
+      (λ b h. (omega (arith, h.0, is.counters.block_least), h.1)) (refs makes)
+      (refs_ids s.block_size s.next_block makes fresh) in
       record {
         given = was_sound.given;
         gain = was_sound.gain;
         layout = p.layout;
         half_full = p.is_plan.half_full;
-        blocks = ids_clips (s.next_block + n) p.plan.layout (old_or_new Q (layout_blocks was.layout) (layout_blocks p.plan.layout) makes laid old_ids new_ids);
+        blocks = ids_clips (s.next_block + n) p.plan.layout
+            (old_or_new Q (layout_blocks was.layout) (layout_blocks p.plan.layout) makes laid old_ids new_ids);
       }
 
   put_few : length (put_in now old) ≤ 64
@@ -123,19 +137,23 @@ module _ {D : Type 0} (disk : Ghosts D) (s : Core D) (is : IsStudio disk s) (e :
 
   put_is_sound : IsSoundPoint s.block_size (s.next_block + n) (s.next_track + 0) (put_in now old)
   put_is_sound =
-      let later = point_more s.block_size s.next_block s.next_track (s.next_block + n) s.next_track old (omega arith) (omega arith) old_sound in
+      let later = point_more s.block_size s.next_block s.next_track (s.next_block + n) s.next_track old (omega arith)
+      (omega arith) old_sound in
       let put : IsSoundPoint s.block_size (s.next_block + n) s.next_track (put_in now old) = record {
         few = put_few;
         rising = put_rising now 1 old old_sound.rising;
         sound = put_sound s.block_size (s.next_block + n) s.next_track now old now_sound later.sound;
       } in
-      point_more s.block_size (s.next_block + n) s.next_track (s.next_block + n) (s.next_track + 0) (put_in now old) (omega arith) (omega arith) put
+      point_more s.block_size (s.next_block + n) s.next_track (s.next_block + n) (s.next_track + 0) (put_in now old)
+      (omega arith) (omega arith) put
 
   put_names : AreAmong every (point_blocks (put_in now old))
   put_names =
       let C : BlockRef → Type 0 = Contains every in
-      let mine = old_or_new C (layout_blocks was.layout) (layout_blocks p.plan.layout) makes laid (more was_named) made_named in
-      let rest = all_so (Contains (named_blocks s)) C (λ b k. Contains-append_left (named_blocks s) (refs makes) b k) (point_blocks old) old_named in
+      let mine = old_or_new C (layout_blocks was.layout) (layout_blocks p.plan.layout) makes laid
+      (more was_named) made_named in
+      let rest = all_so (Contains (named_blocks s)) C (λ b k. Contains-append_left (named_blocks s) (refs makes) b k)
+      (point_blocks old) old_named in
       put_all C now old mine rest
 
   pub track_planned : (tag : ℕ) → tag ≤ s.commit_number → IsPlanned s given makes tag 0 new s.clipboard
@@ -148,7 +166,8 @@ module _ {D : Type 0} (disk : Ghosts D) (s : Core D) (is : IsStudio disk s) (e :
     sound = subst (IsSoundPoint s.block_size (s.next_block + n) (s.next_track + 0)) (sym p.is) put_is_sound;
     names = subst (λ (q : List Track). AreAmong every (point_blocks q)) (sym p.is) put_names;
     clip_names = all_right (Contains every) (pin_blocks s.pins) (clip_blocks s.clipboard)
-        (all_right (Contains every) (history_blocks s.history) (pin_blocks s.pins ++ clip_blocks s.clipboard) (all_left (Contains every) (named_blocks s) (refs makes) (among_itself every)));
+        (all_right (Contains every) (history_blocks s.history) (pin_blocks s.pins ++ clip_blocks s.clipboard)
+        (all_left (Contains every) (named_blocks s) (refs makes) (among_itself every)));
     clip_few = is.few_clips;
     clip_fits = is.clipboard;
   }
@@ -165,5 +184,7 @@ module _ {D : Type 0} (disk : Ghosts D) (s : Core D) (is : IsStudio disk s) (e :
       let at = p.means with (subst (AreWritten with) p.makes_is written) in
       let cells : layout_cells src now.layout ≡ f (layout_cells src was.layout) =
       layout_given block (brought given) now ∙ at ∙ ap f (sym (layout_given block (brought given) was)) in
-      let changes : meant_track src now ≡ with_cells f (meant_track src was) = λ i. record { id = was.id; gain = was.gain; side = was.side; mute = was.mute; cells = cells i } in
-      ap (meant src) p.is ∙ put_means src id now was (with_cells f) (id_of id old was p.found) changes 1 old old_sound.rising p.found
+      let changes : meant_track src now ≡ with_cells f (meant_track src was) =
+      λ i. record { id = was.id; gain = was.gain; side = was.side; mute = was.mute; cells = cells i } in
+      ap (meant src) p.is
+      ∙ put_means src id now was (with_cells f) (id_of id old was p.found) changes 1 old old_sound.rising p.found

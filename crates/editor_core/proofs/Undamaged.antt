@@ -24,10 +24,13 @@ memory_tells why is = subst IsUndamaged (sym is) tt
 copy_tests_tell : (run : List (List Clip)) (n from to : ℕ) → TellsNone (copy_tests run n from to)
 copy_tests_tell run n from to =
     let len = longest_of (take n run) in
-    either_tells (too_narrow (length run) n) (bad_range from to len) (one_tells (nat_lt (length run) n) (refusal.TooNarrow (length run) n) tt) (range_tells from to len)
+    either_tells (too_narrow (length run) n) (bad_range from to len)
+    (one_tells (nat_lt (length run) n) (refusal.TooNarrow (length run) n) tt) (range_tells from to len)
 
-pub copies_tell : (run : List (List Clip)) (n from to : ℕ) (why : Refusal) → (copy_tests run n from to ≡ Some why) ⊎ (why ≡ refusal.NoMemory) → IsUndamaged why
-copies_tell run n from to why not = ⊎_elim (tests_tell (copy_tests run n from to) why (copy_tests_tell run n from to)) (memory_tells why) not
+pub copies_tell : (run : List (List Clip)) (n from to : ℕ) (why : Refusal)
+    → (copy_tests run n from to ≡ Some why) ⊎ (why ≡ refusal.NoMemory) → IsUndamaged why
+copies_tell run n from to why not =
+    ⊎_elim (tests_tell (copy_tests run n from to) why (copy_tests_tell run n from to)) (memory_tells why) not
 
 -- ---- edits that make no blocks
 pub refusal_tells : (e : PlainEdit) (ts : List Track) → TellsNone (refusal_by e ts)
@@ -38,9 +41,11 @@ refusal_tells (edit.Side id side) ts = lacks_tells id (track_of id ts)
 refusal_tells (edit.Mute id mute) ts = lacks_tells id (track_of id ts)
 
 -- ---- a record that was not added
-fields_tell : {D : Type 0} (R : Type 0) (disk : Ghosts D) (old new : Core D) (len : ℕ) (why : Refusal) → Fields {R = R} disk old len (Err why) new → IsUndamaged why
+fields_tell : {D : Type 0} (R : Type 0) (disk : Ghosts D) (old new : Core D) (len : ℕ) (why : Refusal)
+    → Fields {R = R} disk old len (Err why) new → IsUndamaged why
 fields_tell R disk old new len (refusal.Damaged file at want have) fields = absurd fields
 fields_tell R disk old new len why fields = tt
 
-pub adding_tells : {D R : Type 0} (disk : Ghosts D) (old new : Core D) (body : List ℕ) (why : Refusal) → Adds {R = R} disk old body (Err why) new → IsUndamaged why
+pub adding_tells : {D R : Type 0} (disk : Ghosts D) (old new : Core D) (body : List ℕ) (why : Refusal)
+    → Adds {R = R} disk old body (Err why) new → IsUndamaged why
 adding_tells {R = R} disk old new body why adds = fields_tell R disk old new (length body) why adds.fields

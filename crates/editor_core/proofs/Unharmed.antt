@@ -10,7 +10,9 @@ use Rattle.editor_core.specs.Left.{Left}
 use Rattle.editor_core.specs.Studios.{IsHeld, named_blocks}
 
 -- what is told of the disk is so, and each block that the studio names is whole
-pub held_undamaged : {D : Type 0} (disk : Ghosts D) (old new : Core D) (MayGo : ℕ → Type 0) (why : Refusal) → IsHeld disk old → Left disk old MayGo new why → IsUndamaged why
+pub held_undamaged : {D : Type 0} (disk : Ghosts D) (old new : Core D) (MayGo : ℕ → Type 0) (why : Refusal)
+    → IsHeld disk old → Left disk old MayGo new why → IsUndamaged why
 held_undamaged disk old new MayGo (refusal.Damaged file at want have) held left =
-    whole_undamaged (disk.reads old.store) (named_blocks old) (refusal.Damaged file at want have) held.whole (left.so held.tells)
+    whole_undamaged (disk.reads old.store) (named_blocks old) (refusal.Damaged file at want have) held.whole
+    (left.so held.tells)
 held_undamaged disk old new MayGo why held left = tt

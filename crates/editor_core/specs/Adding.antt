@@ -1,5 +1,6 @@
 -- What the parts of a commit do.
-use Rattle.std.specs.Prelude.{◌≡◌, ℕ, ◌+◌, ◌^◌, ◌≤◌, ◌<◌, IsTrue, Option, Some, None, List, length, Result, Ok, Err, MatchResult, OnOk}
+use Rattle.std.specs.Prelude.{◌≡◌, ℕ, ◌+◌, ◌^◌, ◌≤◌, ◌<◌, IsTrue, Option, Some, None, List, length, Result, Ok, Err}
+use Rattle.std.specs.Prelude.{MatchResult, OnOk}
 use Rattle.pcm_base.specs.Causes.{Rose}
 use Rattle.pcm_base.specs.Counters.{no_room}
 use Rattle.pcm_base.specs.Refusals.{◌otherwise◌}

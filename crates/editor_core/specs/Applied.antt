@@ -25,8 +25,9 @@ move_of (Some name) old new = moved_from (old name) (new name)
 abbrev pub IsTold : Call → Bool → Type 0
 IsTold call tells = IsSome (name_in call) → IsTrue tells
 
--- What holds of a call whatever disk and vault tell: the studio is one still, its commit number is that behind the answer,
--- one that had stopped does nothing but give a pin back, no other file changes, and a refusal leaves what was there.
+-- What holds of a call whatever disk and vault tell: the studio is one still, its commit number is that behind the
+-- answer, one that had stopped does nothing but give a pin back, no other file changes, and a refusal leaves what was
+-- there.
 pub record Lasts {D : Type 0} (disk : Ghosts D) (old : Core D) (call : Call) (told : Result Reply Refusal)
     (removed : ℕ) (new : Core D) : Type 0 where
   pub studio : IsStudio disk new
@@ -59,8 +60,8 @@ EndsAlike (Ok a) (Err why) = ⊥
 EndsAlike (Err why) (Ok b) = ⊥
 EndsAlike (Err why) (Err other) = other ≡ why
 
--- A line carried out or refused: the answer has the commit number after it and its reply, and the result says whether it
--- was carried out.
+-- A line carried out or refused: the answer has the commit number after it and its reply, and the result says whether
+-- it was carried out.
 pub record Applies {D R : Type 0} (disk : Ghosts D) (tells : Bool) (before after : Sounds) (old : Core D) (call : Call)
     (result : Result R Refusal) (answer : Answer) (new : Core D) : Type 0 where
   pub told : Result Reply Refusal

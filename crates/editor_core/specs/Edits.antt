@@ -1,5 +1,7 @@
--- An edit that makes blocks: what is known of it before anything of the disk is changed, and what carrying it out leaves.
-use Rattle.std.specs.Prelude.{◌≡◌, ◌⊎◌, ℕ, ◌+◌, ◌^◌, ◌≤◌, ◌<◌, ℤ, pos, Option, Some, None, List, ◌++◌, length, map, Result, Ok, Err, Contains}
+-- An edit that makes blocks: what is known of it before anything of the disk is changed, and what carrying it out
+-- leaves.
+use Rattle.std.specs.Prelude.{◌≡◌, ◌⊎◌, ℕ, ◌+◌, ◌^◌, ◌≤◌, ◌<◌, ℤ, pos, Option, Some, None, List, ◌++◌, length, map}
+use Rattle.std.specs.Prelude.{Result, Ok, Err, Contains}
 use Rattle.std.specs.List.{AllByRecursion}
 use Rattle.pcm_base.specs.declared.block.BlockRef.{BlockRef}
 use Rattle.pcm_base.specs.declared.command.Call.{Call}
@@ -41,9 +43,10 @@ blocks_with s makes = named_blocks s ++ map ref_of makes
 abbrev pub AreAmong : List BlockRef → List BlockRef → Type 0
 AreAmong every bs = AllByRecursion (Contains every) bs
 
--- A new point for the history, with its tag, what the clipboard becomes, and the blocks that are to be made for both: of
--- blocks that the studio names, and of what the command brings. So many track ids are given.
-pub record IsPlanned {D : Type 0} (s : Core D) (given : Given) (makes : List NewBlock) (tag tracks : ℕ) (point : List Track)
+-- A new point for the history, with its tag, what the clipboard becomes, and the blocks that are to be made for both:
+-- of blocks that the studio names, and of what the command brings. So many track ids are given.
+pub record IsPlanned {D : Type 0} (s : Core D) (given : Given) (makes : List NewBlock) (tag tracks : ℕ)
+    (point : List Track)
     (clip : Option (List (List Item))) : Type 0 where
   pub new : AreNew s.block_size s.next_block makes
   pub readable : PiecesReadable (brought_count given) makes
@@ -69,7 +72,8 @@ outside_at rate sound = record { rate = rate; sound = sound.before }
 -- A call that is an edit: so many blocks it may make, by the block size and the state before it.
 pub record IsEditCall (c : Call) (sound : SoundMove) (tracks : ℕ) (most : ℕ → State → ℕ) : Type 0 where
   pub commit : IsCommitCall c sound tracks
-  pub needs : (rate : ℕ) (t : model.Studio) (blocks len : ℕ) → EditNeeds (most t.block_size t.state) (outside_at rate sound) t c blocks len
+  pub needs : (rate : ℕ) (t : model.Studio) (blocks len : ℕ)
+      → EditNeeds (most t.block_size t.state) (outside_at rate sound) t c blocks len
       → Needs (outside_at rate sound) t c blocks len
   pub needed : (rate : ℕ) (t : model.Studio) (blocks len : ℕ) → Needs (outside_at rate sound) t c blocks len
       → EditNeeds (most t.block_size t.state) (outside_at rate sound) t c blocks len
@@ -82,12 +86,14 @@ abbrev pub alone : (ℕ → ℕ → ℤ) → Sources
 alone block = beside block (λ _. pos 0)
 
 -- The call leads to this history and this clipboard, once its blocks are made, whatever samples the blocks have.
-pub record IsEdit {D : Type 0} (disk : Ghosts D) (s : Core D) (c : Call) (sound : SoundMove) (tracks : ℕ) (given : Given) (makes : List NewBlock)
+pub record IsEdit {D : Type 0} (disk : Ghosts D) (s : Core D) (c : Call) (sound : SoundMove) (tracks : ℕ)
+    (given : Given) (makes : List NewBlock)
     (h : History (List Track)) (clip : Option (List (List Item))) : Type 0 where
   pub most : ℕ → State → ℕ
   pub call : IsEditCall c sound tracks most
   pub few : (block : ℕ → ℕ → ℤ) → length makes ≤ most s.block_size (studio_by (alone block) disk s).state
-  pub own : (block : ℕ → ℕ → ℤ) → call_tests (outside (studio_by (alone block) disk s) sound) (studio_by (alone block) disk s).state c ≡ None
+  pub own : (block : ℕ → ℕ → ℤ)
+      → call_tests (outside (studio_by (alone block) disk s) sound) (studio_by (alone block) disk s).state c ≡ None
   pub means : (block : ℕ → ℕ → ℤ) → AreWritten (beside block (brought given)) makes
       → after (outside (studio_by (alone block) disk s) sound) (studio_by (alone block) disk s).state c
       ≡ record (studio_by (alone block) disk s).state {
@@ -104,8 +110,8 @@ abbrev pub Spends : (next count track tracks number : ℕ) → Refusal → Type 
 Spends next count track tracks number why =
     (no_room next count) otherwise (no_room track tracks) otherwise (no_room number 1) ≡ Some why
 
--- what is prepared for so many blocks and track ids and a record with a body of this length, so that nothing but the disk
--- can refuse
+-- what is prepared for so many blocks and track ids and a record with a body of this length, so that nothing but the
+-- disk can refuse
 pub record IsPrepared {D : Type 0} (s : Core D) (count tracks len : ℕ) : Type 0 where
   pub blocks : s.next_block + count ≤ 2 ^ 62
   pub ids : s.next_track + tracks ≤ 2 ^ 62
@@ -117,14 +123,16 @@ pub record IsPrepared {D : Type 0} (s : Core D) (count tracks len : ℕ) : Type 
 abbrev pub Unprepared : {D : Type 0} → Core D → ℕ → ℕ → ℕ → Refusal → Type 0
 Unprepared s count tracks len why =
     Spends s.next_block count s.next_track tracks s.commit_number why
-    ⊎ ((s.next_block + count ≤ 2 ^ 62) × (s.next_track + tracks ≤ 2 ^ 62) × (s.commit_number < 2 ^ 62) × Exceeds s.journal_end len why)
+    ⊎ ((s.next_block + count ≤ 2 ^ 62) × (s.next_track + tracks ≤ 2 ^ 62) × (s.commit_number < 2 ^ 62)
+    × Exceeds s.journal_end len why)
 
 -- why it is not prepared: that, or memory
 abbrev pub NotPrepared : {D : Type 0} → Core D → ℕ → ℕ → ℕ → Refusal → Type 0
 NotPrepared s count tracks len why = (why ≡ refusal.NoMemory) ⊎ Unprepared s count tracks len why
 
 -- blocks made, in each image from then on, and then a record added
-pub record Committed {D : Type 0} (disk : Ghosts D) (old : Core D) (given : Given) (makes : List NewBlock) (tracks : ℕ) (body : List ℕ)
+pub record Committed {D : Type 0} (disk : Ghosts D) (old : Core D) (given : Given) (makes : List NewBlock) (tracks : ℕ)
+    (body : List ℕ)
     (result : Result (Unit {0}) Refusal) (new : Core D) : Type 0 where
   pub mid : Core D
   pub making : Making disk old given (length makes) makes mid
@@ -134,7 +142,8 @@ pub record Committed {D : Type 0} (disk : Ghosts D) (old : Core D) (given : Give
   pub adds : Adds disk mid body result new
 
 -- All of it: want of memory comes before the first block is made, and then the disk alone refuses.
-abbrev pub Carried : {D : Type 0} → Ghosts D → Core D → Given → List NewBlock → ℕ → List ℕ → Result (Unit {0}) Refusal → Core D → Type 0
+abbrev pub Carried : {D : Type 0} → Ghosts D → Core D → Given → List NewBlock → ℕ → List ℕ → Result (Unit {0}) Refusal
+    → Core D → Type 0
 Carried disk old given makes tracks body (Ok done) new = Committed disk old given makes tracks body (Ok done) new
 Carried disk old given makes tracks body (Err why) new =
     ((new ≡ old) × NotPrepared old (length makes) tracks (length body) why)

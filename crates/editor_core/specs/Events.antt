@@ -55,9 +55,9 @@ pub record KeepsPrefix (t : model.Studio) (entries : List Entry) (files : Files)
   pub run : Run t front reached
   pub keeps : Keeps files (shown reached) ⊎ NextInFlight reached back files
 
--- Events carried out: with their replies they are a run, whose sounds are the vault's, from entry to entry. At any moment
--- each image has the project behind some of the first entries, the one in flight counted last; and at the end, where the
--- studio is not stopped, that behind all of them.
+-- Events carried out: with their replies they are a run, whose sounds are the vault's, from entry to entry. At any
+-- moment each image has the project behind some of the first entries, the one in flight counted last; and at the end,
+-- where the studio is not stopped, that behind all of them.
 pub record RanOver {D : Type 0} (disk : Ghosts D) (tells : Bool) (before after : Sounds) (old : Core D)
     (events : List Event) (replies : List Reply) (new : Core D) : Type 0 where
   pub entries : List Entry

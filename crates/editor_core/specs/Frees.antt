@@ -1,5 +1,6 @@
 -- Which files a reclaim removes: those of blocks that nothing names, the least ids first.
-use Rattle.std.specs.Prelude.{◌≡◌, ◌⊎◌, ◌↔◌, ℕ, ◌≤◌, ◌<◌, ◌^◌, IsTrue, IsSome, Option, Some, None, List, length, Contains, Result, Ok, Err, OnOk, OnErr, IfOk, IfErr, IfSome}
+use Rattle.std.specs.Prelude.{◌≡◌, ◌⊎◌, ◌↔◌, ℕ, ◌≤◌, ◌<◌, ◌^◌, IsTrue, IsSome, Option, Some, None, List, length}
+use Rattle.std.specs.Prelude.{Contains, Result, Ok, Err, OnOk, OnErr, IfOk, IfErr, IfSome}
 use Rattle.std.specs.List.Sorted.{IsStrictlyIncreasing}
 use Rattle.pcm_base.specs.declared.answer.Reply.TheVariants.{Freed}
 use Rattle.pcm_base.specs.declared.command.Call.TheVariants.{Line}

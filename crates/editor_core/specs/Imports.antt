@@ -1,6 +1,7 @@
--- New tracks of a sound's channels. What is brought is the samples of all channels, those of each behind those of the one
--- before.
-use Rattle.std.specs.Prelude.{◌≡◌, ℕ, ◌+◌, ◌/◌, ◌^◌, ◌<◌, ◌≤◌, nat_lt, ℤ, false, Option, Some, None, List, [], ◌∷◌, ◌++◌, length, map, Result, Ok, Err}
+-- New tracks of a sound's channels. What is brought is the samples of all channels, those of each behind those of the
+-- one before.
+use Rattle.std.specs.Prelude.{◌≡◌, ℕ, ◌+◌, ◌/◌, ◌^◌, ◌<◌, ◌≤◌, nat_lt, ℤ, false, Option, Some, None, List, [], ◌∷◌}
+use Rattle.std.specs.Prelude.{◌++◌, length, map, Result, Ok, Err}
 use Rattle.std.specs.List.{AllByRecursion}
 use Rattle.pcm_base.specs.declared.entry.SoundMove.{SoundMove}
 use Rattle.pcm_base.specs.declared.piece.Piece.{Piece}
@@ -55,7 +56,8 @@ AllFitBehind skip bs = AllByRecursion (λ (b : NewBlock). AllByRecursion (FitsBe
 -- The plan of a new track of so many of the samples that are brought, from a place among them on.
 pub record IsChannelPlan (from count m next : ℕ) (p : Plan) : Type 0 where
   pub plan : IsPlan m next [] (from + count) p
-  pub means : (src : Sources) → AreWritten src p.makes → layout_cells src p.layout ≡ as_cells (stretch src.given from count)
+  pub means : (src : Sources) → AreWritten src p.makes
+      → layout_cells src p.layout ≡ as_cells (stretch src.given from count)
   pub few : length p.makes ≤ blocks_of_samples m count
   pub layout : IsLayout p.layout
 
@@ -79,8 +81,8 @@ abbrev pub parts_from : (ℕ → ℤ) → ℕ → List ℕ → List (List ℤ)
 parts_from given from [] = []
 parts_from given from (n ∷ ns) = stretch given from n ∷ parts_from given (from + n) ns
 
--- Tracks for channels of so many samples each stand behind the old ones, and the blocks that are to be made for them have
--- the ids from one on. The first new track has the id that is given.
+-- Tracks for channels of so many samples each stand behind the old ones, and the blocks that are to be made for them
+-- have the ids from one on. The first new track has the id that is given.
 pub record AreGrown (m next id : ℕ) (counts : List ℕ) (old : List Track) (g : Growing) : Type 0 where
   pub news : List Track
   pub point : g.point ≡ old ++ news

@@ -27,4 +27,8 @@ place_test (At at) count len = length_limit (inserted_length at count len ∷ []
 place_test End count len = length_limit ((len + count) ∷ [])
 
 abbrev pub place_edit : Place → ℕ → TrackEdit
-place_edit place count = record { cells = place_cells place count; test = place_test place count; most = λ m cells. blocks_of_samples m count }
+place_edit place count = record {
+  cells = place_cells place count;
+  test = place_test place count;
+  most = λ m cells. blocks_of_samples m count;
+}

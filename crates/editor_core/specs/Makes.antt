@@ -1,5 +1,6 @@
 -- New blocks that are written and then synced before a record names them, and what a failure leaves.
-use Rattle.std.specs.Prelude.{◌≡◌, ◌↔◌, ◌⊎◌, ℕ, ◌+◌, ◌*◌, ◌≤◌, ◌<◌, IsTrue, IsSome, Some, None, List, length, Contains, Result, MatchResult}
+use Rattle.std.specs.Prelude.{◌≡◌, ◌↔◌, ◌⊎◌, ℕ, ◌+◌, ◌*◌, ◌≤◌, ◌<◌, IsTrue, IsSome, Some, None, List, length, Contains}
+use Rattle.std.specs.Prelude.{Result, MatchResult}
 use Rattle.pcm_base.specs.Causes.{Rose}
 use Rattle.pcm_base.specs.Pieces.{all_samples}
 use Rattle.pcm_base.specs.declared.refusal.Refusal.{Refusal}
@@ -68,18 +69,26 @@ NotMade disk old (refusal.Damaged file at want have) new =
 NotMade disk old why new = ⊥
 
 -- One block is written, and the ledger has its id.
-pub record MadeOne {D : Type 0} (disk : Ghosts D) (old : Core D) (given : Given) (b : NewBlock) (new : Core D) : Type 0 where
+pub record MadeOne {D : Type 0} (disk : Ghosts D) (old : Core D) (given : Given) (b : NewBlock)
+    (new : Core D) : Type 0 where
   pub is : new ≡ record old { store = new.store; counts = new.counts; next_block = old.next_block + 1 }
   pub ledger : AddsFree old.next_block 1 old.counts new.counts
-  pub stored : IsTrue (disk.tells old.store) → AllThere (disk.reads old.store) b.pieces → disk.reads old.store b.id ≡ None
-      → blocks (disk.reads new.store) b.id ≡ Some (all_samples (sources_with (disk.reads old.store) (brought given)) b.pieces)
-  pub changed : Changed disk (SameElsewhere b.id) (record { files = 1; bytes = size_of b.len; calls = 1 }) old.store new.store
+  pub stored : IsTrue (disk.tells old.store) → AllThere (disk.reads old.store) b.pieces
+      → disk.reads old.store b.id ≡ None
+      → blocks (disk.reads new.store) b.id
+      ≡ Some (all_samples (sources_with (disk.reads old.store) (brought given)) b.pieces)
+  pub changed : Changed disk (SameElsewhere b.id) (record {
+    files = 1;
+    bytes = size_of b.len;
+    calls = 1;
+  }) old.store new.store
   pub read_faults : disk.read_fault_count new.store ≡ disk.read_fault_count old.store
   pub change_faults : disk.change_fault_count new.store ≡ disk.change_fault_count old.store
 
 -- The first n of some new blocks are there as the disk reads, and the ledger has their ids. Of failed reads it says
 -- nothing, and of images no more than that all other files stay.
-pub record Making {D : Type 0} (disk : Ghosts D) (old : Core D) (given : Given) (n : ℕ) (bs : List NewBlock) (new : Core D) : Type 0 where
+pub record Making {D : Type 0} (disk : Ghosts D) (old : Core D) (given : Given) (n : ℕ) (bs : List NewBlock)
+    (new : Core D) : Type 0 where
   pub is : new ≡ record old { store = new.store; counts = new.counts; next_block = old.next_block + n }
   pub ledger : AddsFree old.next_block n old.counts new.counts
   pub made : IsTrue (disk.tells old.store) → PiecesThere (disk.reads old.store) bs
@@ -89,7 +98,8 @@ pub record Making {D : Type 0} (disk : Ghosts D) (old : Core D) (given : Given) 
   pub change_faults : disk.change_fault_count new.store ≡ disk.change_fault_count old.store
 
 -- They are written, by a call each, and no read failed.
-pub record Written {D : Type 0} (disk : Ghosts D) (old : Core D) (given : Given) (n : ℕ) (bs : List NewBlock) (new : Core D) : Type 0 where
+pub record Written {D : Type 0} (disk : Ghosts D) (old : Core D) (given : Given) (n : ℕ) (bs : List NewBlock)
+    (new : Core D) : Type 0 where
   pub making : Making disk old given n bs new
   pub calls : disk.change_calls new.store ≤ disk.change_calls old.store + n
   pub read_faults : disk.read_fault_count new.store ≡ disk.read_fault_count old.store
@@ -108,7 +118,8 @@ pub record Synced {D : Type 0} (disk : Ghosts D) (old : Core D) (first n : ℕ) 
   pub change_faults : disk.change_fault_count new.store ≡ disk.change_fault_count old.store
 
 -- some were synced, and the sync of the next one failed
-pub record Unsynced {D : Type 0} (disk : Ghosts D) (old : Core D) (first n : ℕ) (why : Refusal) (new : Core D) : Type 0 where
+pub record Unsynced {D : Type 0} (disk : Ghosts D) (old : Core D) (first n : ℕ) (why : Refusal)
+    (new : Core D) : Type 0 where
   pub synced : ℕ
   pub some_left : synced < n
   pub mid : Core D
@@ -117,9 +128,10 @@ pub record Unsynced {D : Type 0} (disk : Ghosts D) (old : Core D) (first n : ℕ
   pub by : Unput disk mid new
   pub stays : Changed disk StaysStep one_call mid.store new.store
 
--- Some were written, and the next one was not; or all were, and a sync failed, which left the files as they were. Where the
--- disk has the blocks of all pieces, the disk failed.
-pub record Stuck {D : Type 0} (disk : Ghosts D) (old : Core D) (given : Given) (bs : List NewBlock) (why : Refusal) (new : Core D) : Type 0 where
+-- Some were written, and the next one was not; or all were, and a sync failed, which left the files as they were. Where
+-- the disk has the blocks of all pieces, the disk failed.
+pub record Stuck {D : Type 0} (disk : Ghosts D) (old : Core D) (given : Given) (bs : List NewBlock) (why : Refusal)
+    (new : Core D) : Type 0 where
   pub made : ℕ
   pub few : made ≤ length bs
   pub mid : Core D
@@ -134,20 +146,24 @@ pub record Stuck {D : Type 0} (disk : Ghosts D) (old : Core D) (given : Given) (
       → AreAbsent old.next_block (length bs) (disk.reads old.store) → why ≡ refusal.DiskFault
 
 abbrev pub MakesOne : {D : Type 0} → Ghosts D → Core D → Given → NewBlock → Result (Unit {0}) Refusal → Core D → Type 0
-MakesOne disk old given b result new = MatchResult result (λ _. MadeOne disk old given b new) (λ why. NotMade disk old why new)
+MakesOne disk old given b result new =
+    MatchResult result (λ _. MadeOne disk old given b new) (λ why. NotMade disk old why new)
 
 -- all are written, or the next one was not
-abbrev pub Writes : {D : Type 0} → Ghosts D → Core D → Given → List NewBlock → Result (Unit {0}) Refusal → Core D → Type 0
+abbrev pub Writes : {D : Type 0} → Ghosts D → Core D → Given → List NewBlock → Result (Unit {0}) Refusal → Core D
+    → Type 0
 Writes disk old given bs result new = MatchResult result
     (λ _. Written disk old given (length bs) bs new)
     (λ why. Stuck disk old given bs why new)
 
 -- all are synced, or one is not
 abbrev pub Syncs : {D : Type 0} → Ghosts D → Core D → ℕ → ℕ → Result (Unit {0}) Refusal → Core D → Type 0
-Syncs disk old first n result new = MatchResult result (λ _. Synced disk old first n new) (λ why. Unsynced disk old first n why new)
+Syncs disk old first n result new =
+    MatchResult result (λ _. Synced disk old first n new) (λ why. Unsynced disk old first n why new)
 
 -- both in turn
-abbrev pub Makes : {D : Type 0} → Ghosts D → Core D → Given → List NewBlock → Result (Unit {0}) Refusal → Core D → Type 0
+abbrev pub Makes : {D : Type 0} → Ghosts D → Core D → Given → List NewBlock → Result (Unit {0}) Refusal → Core D
+    → Type 0
 Makes disk old given bs result new = MatchResult result
     (λ _. Making disk old given (length bs) bs new
     × (disk.read_fault_count new.store ≡ disk.read_fault_count old.store)

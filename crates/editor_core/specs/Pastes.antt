@@ -38,10 +38,12 @@ paste_length Cover at = covered_length at
 
 -- what refuses it
 abbrev pub paste_refusal : PasteEdit → (id at : ℕ) → Option (List (List Item)) → List Track → Option Refusal
-paste_refusal e id at clip ts = (lacks id (track_of id ts)) otherwise (clipboard_tests (paste_length e at) clip (run_of id ts))
+paste_refusal e id at clip ts =
+    (lacks id (track_of id ts)) otherwise (clipboard_tests (paste_length e at) clip (run_of id ts))
 
 -- the tracks with the strips put in, the blocks that are to be made for them, and the id after them
-pub record IsPastePlan (e : PasteEdit) (id at m next : ℕ) (clip : Option (List (List Item))) (old new : List Track) (makes : List NewBlock)
+pub record IsPastePlan (e : PasteEdit) (id at m next : ℕ) (clip : Option (List (List Item))) (old new : List Track)
+    (makes : List NewBlock)
     (after : ℕ) : Type 0 where
   pub tests : paste_refusal e id at clip old ≡ None
   pub strips : List (List Item)

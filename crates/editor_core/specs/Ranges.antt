@@ -35,4 +35,5 @@ range_most Trim from to m cells = blocks_of_tracks 1
 range_most (Gain gain) from to m cells = blocks_of_cells m (range_of from to cells)
 
 abbrev pub range_edit : RangeEdit → (from to : ℕ) → TrackEdit
-range_edit e from to = record { cells = λ given. range_cells e from to; test = bad_range from to; most = range_most e from to }
+range_edit e from to =
+    record { cells = λ given. range_cells e from to; test = bad_range from to; most = range_most e from to }

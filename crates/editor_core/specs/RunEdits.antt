@@ -35,7 +35,8 @@ pub record Lays (id : ℕ) (old new : List Plan) (made more : List NewBlock) (t 
   pub fits : (ts : List Track) → length old ≤ length (run_of id (t ∷ ts)) → length new ≤ length (run_of id ts)
 
 -- the tracks with a run laid out by plans, the blocks that are to be made for them, and the id after them
-pub record IsRunPlan (id next : ℕ) (old new : List Track) (plans : List Plan) (makes : List NewBlock) (after : ℕ) : Type 0 where
+pub record IsRunPlan (id next : ℕ) (old new : List Track) (plans : List Plan) (makes : List NewBlock)
+    (after : ℕ) : Type 0 where
   pub is : new ≡ laid_from id plans old
   pub makes_is : makes ≡ made_by plans
   pub after_is : after ≡ next + length makes

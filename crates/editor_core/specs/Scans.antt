@@ -1,5 +1,6 @@
 -- What a scan of one block tells.
-use Rattle.std.specs.Prelude.{◌≡◌, ◌↔◌, ℕ, ◌≤◌, ◌<◌, Bool, true, false, IsTrue, Option, None, Some, List, length, Contains, slice_index, Result, Ok, Err, IfOk, IfErr, IsOkUnless}
+use Rattle.std.specs.Prelude.{◌≡◌, ◌↔◌, ℕ, ◌≤◌, ◌<◌, Bool, true, false, IsTrue, Option, None, Some, List, length}
+use Rattle.std.specs.Prelude.{Contains, slice_index, Result, Ok, Err, IfOk, IfErr, IsOkUnless}
 use Rattle.std.specs.List.Sorted.{IsNonDecreasingBy, IsStrictlyIncreasing}
 use Rattle.pcm_base.specs.declared.block.BlockRef.{BlockRef}
 use Rattle.pcm_base.specs.declared.refusal.Refusal.{Refusal}

@@ -1,5 +1,6 @@
 -- What a studio stands for, and what always holds of it.
-use Rattle.std.specs.Prelude.{◌≡◌, ◌↔◌, ℕ, ◌+◌, ◌≤◌, ◌<◌, ◌^◌, ◌==◌, if◌then◌else◌, IsTrue, Option, Some, None, IsSome, List, [], ◌∷◌, ◌++◌, length, map}
+use Rattle.std.specs.Prelude.{◌≡◌, ◌↔◌, ℕ, ◌+◌, ◌≤◌, ◌<◌, ◌^◌, ◌==◌, if◌then◌else◌, IsTrue, Option, Some, None, IsSome}
+use Rattle.std.specs.Prelude.{List, [], ◌∷◌, ◌++◌, length, map}
 use Rattle.std.specs.Option.{option_map}
 use Rattle.std.specs.List.{flat_map, AllByRecursion}
 use Rattle.pcm_base.specs.declared.block.BlockRef.{BlockRef}
@@ -17,7 +18,8 @@ use Rattle.edit_ops.specs.Runs.{AreClips}
 use Rattle.project_journal.specs.Gate.{EachNow}
 use Rattle.project_journal.specs.Header.{version_1, IsFormat}
 use Rattle.project_journal.specs.Journal.{Log, IsAt}
-use Rattle.project_state.specs.Kept.{Kept, Opened, new_project, LeadTo, meant, meant_history, point_blocks, history_blocks}
+use Rattle.project_state.specs.Kept.{Kept, Opened, new_project, LeadTo, meant, meant_history, point_blocks}
+use Rattle.project_state.specs.Kept.{history_blocks}
 use Rattle.project_state.specs.KeptSound.{IsSoundPoint, IsSoundTagged}
 use Rattle.editor_core.specs.Core.{Core}
 use Rattle.editor_core.specs.declared.studio.Pin.{Pin}

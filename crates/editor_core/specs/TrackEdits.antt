@@ -43,7 +43,8 @@ pub record TrackEdit : Type 0 where
   pub most : ℕ → List Cell → ℕ
 
 -- the tracks with one edited, the blocks that are to be made for it, and the id after them
-pub record IsTrackPlan (e : TrackEdit) (count id m next : ℕ) (old new : List Track) (makes : List NewBlock) (after : ℕ) : Type 0 where
+pub record IsTrackPlan (e : TrackEdit) (count id m next : ℕ) (old new : List Track) (makes : List NewBlock)
+    (after : ℕ) : Type 0 where
   pub track : Track
   pub found : track_of id old ≡ Some track
   pub tests : e.test (end_of 0 track.layout) ≡ None
@@ -63,6 +64,10 @@ NoTrackPlan e id old why = (track_refusal id e.test (track_of id old) ≡ Some w
 -- A call that makes this edit of a track, with what it brings, under this tag. Of each such call these are all `refl`.
 pub record IsTrackCall (c : Call) (sound : SoundMove) (e : TrackEdit) (given : Given) (id tag : ℕ) : Type 0 where
   pub call : IsEditCall c sound 0 (λ m s. e.most m (cells_at id (current s)))
-  pub own : (out : Outside) (s : State) → call_tests out s c ≡ ((no_track s id) otherwise (e.test (length (cells_at id (current s)))))
+  pub own : (out : Outside) (s : State)
+      → call_tests out s c ≡ ((no_track s id) otherwise (e.test (length (cells_at id (current s)))))
   pub after_is : (out : Outside) (s : State) → after out s c
-      ≡ record s { history = recorded s.history (edited_at id (e.cells (brought given)) (current s)) tag; commit = s.commit + 1 }
+      ≡ record s {
+        history = recorded s.history (edited_at id (e.cells (brought given)) (current s)) tag;
+        commit = s.commit + 1;
+      }

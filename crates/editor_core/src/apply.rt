@@ -66,12 +66,12 @@ fn view_len(from: u64, to: u64) -> usize
 }
 
 impl<S: Store> Studio<S> {
-    /// Carries a line out by the call that is its own, and fills the answer: the commit number after it, and its reply, or
-    /// the reason that refuses it, which is told besides. A sound that the line names is looked for in the vault. Where it
-    /// names none, the vault is as it was.
+    /// Carries a line out by the call that is its own, and fills the answer: the commit number after it, and its reply,
+    /// or the reason that refuses it, which is told besides. A sound that the line names is looked for in the vault.
+    /// Where it names none, the vault is as it was.
     ///
-    /// It takes the memory that the line's own call takes; `show` and `mix` take 4,096 cells or frames at most for their
-    /// answer. Nothing else is copied, and the answer of before is let go.
+    /// It takes the memory that the line's own call takes; `show` and `mix` take 4,096 cells or frames at most for
+    /// their answer. Nothing else is copied, and the answer of before is let go.
     ///
     /// # Errors
     ///
@@ -211,7 +211,8 @@ impl<S: Store> Studio<S> {
         to: u64,
     ) -> Result<Reply, Refusal>
         requires { IsStudio S.Store (core_of self.old) }
-        ensures { Took S.Store (core_of self.old) (Line (command.Show track from to)) silent result 0 (core_of self.new) }
+        ensures { Took S.Store (core_of self.old) (Line (command.Show track from to)) silent result 0
+            (core_of self.new) }
     {
         let mut cells = vec![in alloc; Cell::Gap; view_len(from, to)]?;
         let count = self.show(track, from, to, cells.as_mut_slice())?;

@@ -1,5 +1,6 @@
 // An edit that makes blocks, from its plan to its commit.
-ghost use Rattle.std.specs.Prelude.{◌≡◌, ℕ, ◌+◌, ◌≤◌, ◌<◌, ◌^◌, length, vec_capacity, IfErr, IfOk, MatchResult, None, OnOk, Some};
+ghost use Rattle.std.specs.Prelude.{◌≡◌, ℕ, ◌+◌, ◌≤◌, ◌<◌, ◌^◌, length, vec_capacity, IfErr, IfOk, MatchResult, None};
+ghost use Rattle.std.specs.Prelude.{OnOk, Some};
 ghost use Rattle.pcm_base.specs.declared.answer.Reply.TheVariants as reply;
 ghost use Rattle.pcm_base.specs.declared.command.Call.{Call};
 ghost use Rattle.pcm_base.specs.declared.entry.SoundMove.{SoundMove};
@@ -58,7 +59,8 @@ impl<S: Store> Studio<S> {
         ensures blocks { OnOk result (self.now.next_block + blocks ≤ 2 ^ 62) }
         ensures ids { OnOk result (self.now.next_track + tracks ≤ 2 ^ 62) }
         ensures number { OnOk result (self.now.commit_number < 2 ^ 62) }
-        ensures err { IfErr result (Spends self.now.next_block blocks self.now.next_track tracks self.now.commit_number) }
+        ensures err { IfErr result
+            (Spends self.now.next_block blocks self.now.next_track tracks self.now.commit_number) }
     {
         has_room(self.next_block, blocks)?;
         has_room(self.next_track, tracks)?;
@@ -166,7 +168,8 @@ impl<S: Store> Studio<S> {
             (clip_then edit.clip self.old.clipboard) }
         requires next { edit.next ≡ self.old.next_block + length edit.makes }
         requires few { edit.tracks ≤ 64 }
-        ensures took { (c : Call) → (sound : SoundMove) → IsEdit S.Store (core_of self.old) c sound edit.tracks given.now
+        ensures took { (c : Call) → (sound : SoundMove)
+            → IsEdit S.Store (core_of self.old) c sound edit.tracks given.now
             edit.makes (recorded self.old.history.history edit.point tag) (clip_then edit.clip self.old.clipboard)
             → Took S.Store (core_of self.old) c sound (told_by (λ _. reply.Done) result) 0 (core_of self.new) }
         // Whatever the call means, and whatever is told.

@@ -66,11 +66,11 @@ fn frames_left(len: u64, from: u64, most: u64) -> usize
 }
 
 impl<S: Store> Studio<S> {
-    /// Carries out a list of events of any actors, in order, and puts a reply to each behind the replies. Whatever an event
-    /// is replied, the next one follows.
+    /// Carries out a list of events of any actors, in order, and puts a reply to each behind the replies. Whatever an
+    /// event is replied, the next one follows.
     ///
-    /// It takes the room for the replies first, and then what each event's own call takes. Where there is no room for the
-    /// replies nothing is carried out, and the replies are as they were.
+    /// It takes the room for the replies first, and then what each event's own call takes. Where there is no room for
+    /// the replies nothing is carried out, and the replies are as they were.
     ///
     /// # Errors
     ///
@@ -85,7 +85,8 @@ impl<S: Store> Studio<S> {
         requires studio { IsStudio S.Store (core_of self.old) }
         requires in_form { AreInForm self.old.commit_number events.now }
         ensures ran { OnOk result ((told : List Reply) × (replies.new.items ≡ replies.old.items ++ told)
-            × RanOver S.Store (V.tells vault.old) (V.holds vault.old) (V.holds vault.new) (core_of self.old) events.now told
+            × RanOver S.Store (V.tells vault.old) (V.holds vault.old) (V.holds vault.new)
+            (core_of self.old) events.now told
             (core_of self.new)) }
         ensures err { OnErr result ((core_of self.new ≡ core_of self.old) × (vault.new ≡ vault.old)
             × (replies.new.items ≡ replies.old.items)) }
@@ -104,7 +105,8 @@ impl<S: Store> Studio<S> {
         requires studio { IsStudio S.Store (core_of self.old) }
         requires in_form { IsCallInForm self.old.commit_number call.now }
         ensures took { (told : Result Reply Refusal) × (result ≡ told_reply told)
-            × TookOver S.Store (V.tells vault.old) (V.holds vault.old) (V.holds vault.new) (core_of self.old) call.now told
+            × TookOver S.Store (V.tells vault.old) (V.holds vault.old) (V.holds vault.new)
+            (core_of self.old) call.now told
             (core_of self.new) }
         ensures tells { V.tells vault.new ≡ V.tells vault.old }
     {

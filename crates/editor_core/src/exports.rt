@@ -81,17 +81,17 @@ fn write_stretches<S: Store, V: Vault>(
 }
 
 impl<S: Store> Studio<S> {
-    /// Writes the mix of the current project to a vault as a WAV file of two channels, and answers how many bytes it has.
-    /// The length is tested before the sound is touched; then the header is written, and stretches of 4,096 frames are
-    /// read, mixed and appended. It takes no memory: the stretches stand on the stack, in 64 KiB. Nothing of the studio and
-    /// its disk changes.
+    /// Writes the mix of the current project to a vault as a WAV file of two channels, and answers how many bytes it
+    /// has. The length is tested before the sound is touched; then the header is written, and stretches of 4,096 frames
+    /// are read, mixed and appended. It takes no memory: the stretches stand on the stack, in 64 KiB. Nothing of the
+    /// studio and its disk changes.
     ///
     /// # Errors
     ///
     /// `Stopped` where a change of the disk failed in an earlier call; else `TooLong` where the sizes in the file would
-    /// pass 32 bits, and then the sound is as it was. `DiskFault` where a read fails, `VaultFault` where the vault does:
-    /// the studio goes on, and the sound is as it was or holds the first bytes of the file. A disk that holds what the
-    /// studio stands for shows no damaged file.
+    /// pass 32 bits, and then the sound is as it was. `DiskFault` where a read fails, `VaultFault` where the vault
+    /// does: the studio goes on, and the sound is as it was or holds the first bytes of the file. A disk that holds
+    /// what the studio stands for shows no damaged file.
     pub fn export<V: Vault>(&mut self, vault: &mut V, name: &str) -> Result<u64, Refusal>
         requires { IsStudio S.Store (core_of self.old) }
         ensures took { IsTrue (V.tells vault.old) → Took S.Store (core_of self.old) (Line (command.Export name.now))

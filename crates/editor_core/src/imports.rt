@@ -1,5 +1,6 @@
 // A sound of a vault as new tracks.
-ghost use Rattle.std.specs.Prelude.{◌≡◌, ℕ, ◌+◌, ◌-◌, ◌≤◌, ◌<◌, ◌^◌, IsTrue, IfErr, IfOk, MatchResult, OnOk, Option, None, List, [], ◌∷◌, ◌++◌, length, map};
+ghost use Rattle.std.specs.Prelude.{◌≡◌, ℕ, ◌+◌, ◌-◌, ◌≤◌, ◌<◌, ◌^◌, IsTrue, IfErr, IfOk, MatchResult, OnOk, Option};
+ghost use Rattle.std.specs.Prelude.{None, List, [], ◌∷◌, ◌++◌, length, map};
 ghost use Rattle.std.specs.List.{AllByRecursion};
 ghost use Rattle.pcm_base.specs.declared.answer.Reply.TheVariants as reply;
 ghost use Rattle.pcm_base.specs.declared.command.Call.TheVariants.{Line};
@@ -11,7 +12,9 @@ ghost use Rattle.envelope_view.specs.Answers.{IsUndamaged};
 ghost use Rattle.project_state.specs.Tracks.{Adds, AllBelow};
 ghost use Rattle.editor_core.specs.Applied.{Lasts};
 ghost use Rattle.editor_core.specs.Core.{core_of};
-ghost use Rattle.editor_core.specs.Imports.{AddsChannel, AllFitBehind, FitsBehind, HasChannels, IsChannelPlan, IsChannelsPlan, IsNoVault, NoChannelsPlan, VaultCounted, all_of, block_behind, channels_refusal, left_as, piece_behind, track_with};
+ghost use Rattle.editor_core.specs.Imports.{AddsChannel, AllFitBehind, FitsBehind, HasChannels, IsChannelPlan};
+ghost use Rattle.editor_core.specs.Imports.{IsChannelsPlan, IsNoVault, NoChannelsPlan, VaultCounted, all_of};
+ghost use Rattle.editor_core.specs.Imports.{block_behind, channels_refusal, left_as, piece_behind, track_with};
 ghost use Rattle.editor_core.specs.Points.{current_tracks};
 ghost use Rattle.editor_core.specs.Studios.{IsHeld, IsStudio};
 ghost use Rattle.editor_core.specs.Took.{Took, told_by};
@@ -34,8 +37,8 @@ use wav_pcm::Channels;
 // The most cells of a track.
 const MOST_CELLS: u64 = 1 << 32;
 
-/// The project that grows track by track, the blocks that are to be made for it, the id of the next block after them, and
-/// how many samples the tracks so far have: so many of those that are brought are spoken for.
+/// The project that grows track by track, the blocks that are to be made for it, the id of the next block after them,
+/// and how many samples the tracks so far have: so many of those that are brought are spoken for.
 #[derive(Drop)]
 pub(crate) struct Growing {
     pub(crate) point: Point,
@@ -221,8 +224,8 @@ fn total_len(channels: &[Samples]) -> usize {
     total
 }
 
-// The samples of all channels, those of each behind those of the one before. Those of a single channel are taken over as
-// they are; of more, each channel's are let go as soon as they are copied.
+// The samples of all channels, those of each behind those of the one before. Those of a single channel are taken over
+// as they are; of more, each channel's are let go as soon as they are copied.
 fn joined(alloc: Global, channels: Channels) -> Result<Vec<i16>, NoMemory>
     ensures { IfOk result (λ v. v.items ≡ all_of channels) }
 {
@@ -268,15 +271,18 @@ impl<S: Store> Studio<S> {
     ///
     /// It takes the file's bytes in memory, and beside them its samples, which are as many bytes; the bytes are let go
     /// before the first block is made. The samples of more than one channel are then put one behind another, by which
-    /// there are again no more than twice as many bytes as the file has. A block is made in buffers that the studio has.
+    /// there are again no more than twice as many bytes as the file has. A block is made in buffers that the studio
+    /// has.
     ///
     /// # Errors
     ///
     /// `Stopped` where a change of the disk failed in an earlier call; else `NoFile` where the vault has no such sound;
-    /// else `BadWav` where its bytes are no sound that is read, also `Truncated` where the vault gives fewer of them than
-    /// it said; else `RateDiffers` where it has other than the project's frames in a second; else `TrackLimit` where there
-    /// would be more than 64 tracks; else `LengthLimit` where a channel has more than 2^32 samples; else `SpaceSpent` or
-    /// `RecordLimit`. `VaultFault` where the vault fails: the studio goes on. `DiskFault` where the disk does: it stops.
+    /// else `BadWav` where its bytes are no sound that is read, also `Truncated` where the vault gives fewer of them
+    /// than it said; else `RateDiffers` where it has other than the project's frames in a second; else `TrackLimit`
+    /// where there would be more than 64 tracks; else `LengthLimit` where a channel has more than 2^32 samples; else
+    /// `SpaceSpent` or
+    /// `RecordLimit`. `VaultFault` where the vault fails: the studio goes on. `DiskFault` where the disk does: it
+    /// stops.
     /// `NoMemory` may come in the place of any, and then nothing has changed.
     pub fn import<V: Vault>(
         &mut self,
@@ -288,7 +294,8 @@ impl<S: Store> Studio<S> {
         ensures took { IsTrue (V.tells vault.old) → Took S.Store (core_of self.old) (Line (command.Import name.now))
             (left_as (V.holds vault.old name.now)) (told_by (λ _. reply.Done) result) 0 (core_of self.new) }
         // Whatever the vault tells.
-        ensures lasts { Lasts S.Store (core_of self.old) (Line (command.Import name.now)) (told_by (λ _. reply.Done) result)
+        ensures lasts { Lasts S.Store (core_of self.old) (Line (command.Import name.now))
+            (told_by (λ _. reply.Done) result)
             0 (core_of self.new) }
         ensures number { IfOk result (λ n. n ≡ self.new.commit_number) }
         ensures sound { IsHeld S.Store (core_of self.old) → IfErr result IsUndamaged }
@@ -341,8 +348,8 @@ impl<S: Store> Studio<S> {
         length_refusal(counts)
     }
 
-    // The project with a track for each channel behind those of the current one. Where the ids of blocks are spent it tells
-    // how many are needed so far.
+    // The project with a track for each channel behind those of the current one. Where the ids of blocks are spent it
+    // tells how many are needed so far.
     fn planned_channels(&self, alloc: Global, counts: &[u64]) -> Result<Planned, Refusal>
         requires studio { IsStudio S.Store (core_of self.now) }
         requires tests { channels_refusal (length (current_tracks self.now.history.history)) counts.now ≡ None }

@@ -104,8 +104,8 @@ impl<S: Store> Studio<S> {
         Ok(())
     }
 
-    // Makes new blocks: writes all of them and then syncs them, so that one sync of a folder can serve them all. After a
-    // fault of a piece the blocks so far are there, and nothing names them. It takes no memory.
+    // Makes new blocks: writes all of them and then syncs them, so that one sync of a folder can serve them all. After
+    // a fault of a piece the blocks so far are there, and nothing names them. It takes no memory.
     pub(crate) fn make_blocks(&mut self, makes: &[NewBlock], given: &Given) -> Result<(), Refusal>
         requires new { AreNew self.old.buffers self.old.next_block makes.now }
         requires pieces { PiecesReadable (brought_count given.now) makes.now }

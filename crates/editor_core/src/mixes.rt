@@ -1,5 +1,6 @@
 // What is heard of a project.
-ghost use Rattle.std.specs.Prelude.{◌≡◌, ◌+◌, ◌-◌, ◌^◌, ◌<◌, ◌≤◌, length, min, take, drop, IsTrue, IsOkUnless, IfErr, IfOk};
+ghost use Rattle.std.specs.Prelude.{◌≡◌, ◌+◌, ◌-◌, ◌^◌, ◌<◌, ◌≤◌, length, min, take, drop, IsTrue, IsOkUnless, IfErr};
+ghost use Rattle.std.specs.Prelude.{IfOk};
 ghost use Rattle.pcm_base.specs.declared.answer.Reply.TheVariants.{Frames};
 ghost use Rattle.pcm_base.specs.declared.command.Call.TheVariants.{Line, ReadPin};
 ghost use Rattle.pcm_base.specs.declared.command.Command.TheVariants.{Mix};

@@ -148,8 +148,8 @@ impl<S: Store> Studio<S> {
         self.edit_range(alloc, TrackRange { track, from, to }, RangeEdit::Trim)
     }
 
-    /// Puts the samples of a range of a track under a gain, where 65,536 is unity; each is rounded and limited to what a
-    /// sample can be, and gaps stay.
+    /// Puts the samples of a range of a track under a gain, where 65,536 is unity; each is rounded and limited to what
+    /// a sample can be, and gaps stay.
     ///
     /// # Errors
     ///
@@ -203,7 +203,8 @@ impl<S: Store> Studio<S> {
         edit: RangeEdit,
     ) -> Result<Planned, Refusal>
         requires { IsStudio S.Store (core_of self.now) }
-        ensures plan { IfOk result (λ p. IsTrackPlan (range_edit edit range.from range.to) 0 range.track self.now.buffers
+        ensures plan { IfOk result
+            (λ p. IsTrackPlan (range_edit edit range.from range.to) 0 range.track self.now.buffers
             self.now.next_block (current_tracks self.now.history.history) p.point p.makes p.next) }
         ensures tracks { IfOk result (λ p. p.tracks ≡ 0) }
         ensures clip { IfOk result (λ p. p.clip ≡ None) }

@@ -14,8 +14,8 @@ use disk_model::Store;
 use project_state::Point;
 use undo_history::History;
 
-// A point is to stand in the place of the current one: its blocks come, and those of the current point and of the points
-// behind it go.
+// A point is to stand in the place of the current one: its blocks come, and those of the current point and of the
+// points behind it go.
 fn count_amended(ledger: &mut Ledger, history: &History<Point>, point: &Point)
     requires there { HasIds (count_of ledger.old) (point_blocks point.now) }
     requires few { (id : ℕ) →
@@ -38,8 +38,8 @@ fn continues(history: &History<Point>, tag: u64) -> bool
 }
 
 impl<S: Store> Studio<S> {
-    // Records a point under a tag, with so many track ids given. Its blocks are named by it, and those of points that go
-    // are named no more by them. It takes no memory.
+    // Records a point under a tag, with so many track ids given. Its blocks are named by it, and those of points that
+    // go are named no more by them. It takes no memory.
     pub(crate) fn take_recorded(&mut self, point: Point, tag: u64, tracks: u64)
         requires ids { self.old.next_track + tracks ≤ 2 ^ 62 }
         requires there { HasIds (count_of self.old.ledger) (point_blocks point) }

@@ -107,8 +107,8 @@ fn by_id(blocks: Vec<BlockRef>) -> Vec<BlockRef>
 }
 
 impl<S: Store> Studio<S> {
-    /// The blocks that points name by rising id, each of them once. Two of one id differ in their lengths, which no disk
-    /// has that holds what the studio stands for. It takes memory for the references of all points.
+    /// The blocks that points name by rising id, each of them once. Two of one id differ in their lengths, which no
+    /// disk has that holds what the studio stands for. It takes memory for the references of all points.
     pub fn named_blocks(&self, alloc: Global) -> Result<Vec<BlockRef>, NoMemory>
         ensures { IfOk result (λ v. AreListed (history_blocks (core_of self.now).history) v.items) }
     {
@@ -121,8 +121,8 @@ impl<S: Store> Studio<S> {
     ///
     /// # Errors
     ///
-    /// `DiskFault` where a read fails: the studio goes on; else `Damaged` with the first that differs, where the file is
-    /// not the block's. A disk that holds what the studio stands for shows no damaged file.
+    /// `DiskFault` where a read fails: the studio goes on; else `Damaged` with the first that differs, where the file
+    /// is not the block's. A disk that holds what the studio stands for shows no damaged file.
     pub fn scan(&mut self, block: BlockRef) -> Result<(), BlockFault>
         requires studio { IsStudio S.Store (core_of self.old) }
         requires going { (core_of self.old).stopped ≡ None }

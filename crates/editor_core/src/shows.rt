@@ -1,5 +1,6 @@
 // What is shown of a track.
-ghost use Rattle.std.specs.Prelude.{◌≡◌, ◌+◌, ◌-◌, ◌≤◌, length, min, take, IsTrue, IsOkUnless, IfErr, IfOk, MatchResult, None, Some};
+ghost use Rattle.std.specs.Prelude.{◌≡◌, ◌+◌, ◌-◌, ◌≤◌, length, min, take, IsTrue, IsOkUnless, IfErr, IfOk};
+ghost use Rattle.std.specs.Prelude.{MatchResult, None, Some};
 ghost use Rattle.pcm_base.specs.declared.answer.Reply.TheVariants.{Cells};
 ghost use Rattle.pcm_base.specs.declared.command.Call.TheVariants.{Line};
 ghost use Rattle.pcm_base.specs.declared.command.Command.TheVariants.{Show};

@@ -1,4 +1,5 @@
-// What an edit without new blocks does once its point is made: the record that tells it, and the point behind the current one.
+// What an edit without new blocks does once its point is made: the record that tells it, and the point behind the
+// current one.
 ghost use Rattle.std.specs.Prelude.{◌≡◌, ℕ, ◌+◌, ◌≤◌, ◌<◌, ◌^◌, IfOk, OnOk, length};
 ghost use Rattle.block_ledger.specs.Counts.{occurrences};
 ghost use Rattle.block_ledger.specs.Entries.{count_of};

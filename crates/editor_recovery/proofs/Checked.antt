@@ -1,10 +1,12 @@
 -- Blocks of a studio that are read one after another.
-use Rattle.std.proofs.Common.{◌≡◌, ◌≢◌, ◌∙◌, refl, sym, ap, subst, ℕ, zero, suc, ◌+◌, ◌≤◌, ◌<◌, ℤ, Bool, inl, inr, List, [], ◌∷◌, ◌++◌, length, take, get_or, Some, None, Result, Ok, Err, IsTrue, arith}
-use Rattle.std.specs.Prelude.{Contains, IfErr, IfOk, IsOkUnless, nat_lt}
+use Rattle.std.proofs.Common.{◌≡◌, ◌∙◌, refl, sym, ap, subst, ℕ, zero, suc, ◌+◌, ◌≤◌, ◌<◌, ℤ, inl, inr, List}
+use Rattle.std.proofs.Common.{[], ◌∷◌, length, take, get_or, Some, None, Result, Ok, Err, IsTrue, arith}
+use Rattle.std.specs.Prelude.{Contains, IfOk, nat_lt}
 use Rattle.std.specs.List.{All, AllByRecursion}
 use Rattle.std.proofs.lemmas.Bool.{cases_Bool, ltb-false, ltb-true}
 use Rattle.std.proofs.lemmas.List.{length-map}
-use Rattle.std.proofs.lemmas.List.Elements.{All-contains, All-contains_itself, All-from_recursion, All-get_or, recursion_from_All}
+use Rattle.std.proofs.lemmas.List.Elements.{All-contains, All-contains_itself, All-from_recursion, All-get_or}
+use Rattle.std.proofs.lemmas.List.Elements.{recursion_from_All}
 use Rattle.pcm_base.specs.declared.block.BlockRef.{BlockRef}
 use Rattle.pcm_base.specs.History.{History}
 use Rattle.disk_model.specs.Disk.{Files}
@@ -15,7 +17,7 @@ use Rattle.sample_block.specs.Blocks.{blocks}
 use Rattle.sample_block.specs.Sources.{AllWhole, IsWhole}
 use Rattle.block_store.specs.declared.fault.BlockFault.{BlockFault}
 use Rattle.block_store.specs.declared.fault.BlockFault.TheVariants as block
-use Rattle.block_store.specs.Reads.{Counted, CountedBy}
+use Rattle.block_store.specs.Reads.{CountedBy}
 use Rattle.project_state.specs.declared.track.Track.{Track}
 use Rattle.project_state.specs.Kept.{history_blocks}
 use Rattle.editor_core.specs.Core.{Core}
@@ -24,11 +26,10 @@ use Rattle.editor_core.specs.Studios.{IsHeld, IsStudio, ids_of}
 use Rattle.editor_core.proofs.Rests.{rests_held, rests_keeps, rests_studio}
 use Rattle.editor_recovery.specs.declared.fault.OpenFault.{OpenFault}
 use Rattle.editor_recovery.specs.declared.fault.OpenFault.TheVariants as fault
-use Rattle.editor_recovery.specs.Blocks.{fault_of}
-use Rattle.editor_recovery.specs.Causes.{Causes}
-use Rattle.editor_recovery.specs.Checking.{AllScanned, ChecksAll, ChecksStudio, IsCheckFault, IsCountOf, IsSoundFault, ScansAll}
+use Rattle.editor_recovery.specs.Checking.{AllScanned, ChecksAll, ChecksStudio, IsCountOf}
+use Rattle.editor_recovery.specs.Checking.{ScansAll}
 use Rattle.editor_recovery.proofs.Counted.{no_fault}
-use Rattle.editor_recovery.proofs.Listed.{contains_there}
+use Rattle.editor_recovery.proofs.CheckAnswers.{Tells, before, cause_told, id_there, known, of_id, some_is, sound_told}
 
 -- these blocks are whole, and nothing changed
 pub record SoFar {D : Type 0} (disk : Ghosts D) (old : Core D) (bs : List BlockRef) (now : Core D) : Type 0 where
@@ -128,64 +129,6 @@ module _ {D : Type 0} (disk : Ghosts D) (old : Core D) (is : IsStudio disk old) 
           held = λ held. subst (IsHeld disk) (sym same) (rests_held disk old is next.store kept held);
           any_moment = λ held. rests_keeps disk old is next.store kept going held;
         }
-
--- ---- an answer of blocks as one of a check
-
--- so many, all whole, or what was found of one of them
-abbrev pub Tells : {T : Type 0} → Result T BlockFault → ℕ → Result ℕ OpenFault → Type 0
-Tells (Ok done) n told = told ≡ Ok n
-Tells (Err why) n told = told ≡ Err (fault_of why)
-
-known : {T : Type 0} (r : Result T BlockFault) (told : Result ℕ OpenFault) (n : ℕ) → Tells r n told
-    → IfErr told IsCheckFault
-known (Ok done) told n is = subst (λ x. IfErr x IsCheckFault) (sym is) tt
-known (Err block.DiskFault) told n is = subst (λ x. IfErr x IsCheckFault) (sym is) tt
-known (Err (block.Damaged file found)) told n is = subst (λ x. IfErr x IsCheckFault) (sym is) tt
-
-sound_told : {T : Type 0} (r : Result T BlockFault) (told : Result ℕ OpenFault) (n : ℕ) → Tells r n told
-    → IsOkUnless r block.DiskFault
-    → IfErr told IsSoundFault
-sound_told (Ok done) told n is sound = subst (λ x. IfErr x IsSoundFault) (sym is) tt
-sound_told (Err block.DiskFault) told n is sound = subst (λ x. IfErr x IsSoundFault) (sym is) tt
-sound_told (Err (block.Damaged file found)) told n is sound = absurd cc
-
-cause_told : {D T : Type 0} (disk : Ghosts D) (old new : D) (r : Result T BlockFault) (told : Result ℕ OpenFault)
-    (n : ℕ) → Tells r n told
-    → Kept disk old new → Counted r (disk.read_fault_count old) (disk.read_fault_count new) → Causes disk old new told
-cause_told disk old new (Ok done) told n is kept counted =
-    subst (Causes disk old new) (sym is) (record { same_read_faults = counted; same_change_faults = kept.same_faults })
-cause_told disk old new (Err block.DiskFault) told n is kept counted =
-    let same = kept.same_faults in
-    subst (Causes disk old new) (sym is) (record {
-      rose = inl counted.0;
-      later_reads = counted.1;
-      later_changes = omega (arith, same);
-    })
-cause_told disk old new (Err (block.Damaged file found)) told n is kept counted =
-    subst (Causes disk old new) (sym is) (record { same_read_faults = counted; same_change_faults = kept.same_faults })
-
-some_is : {X : Type 0} {x y : X} → Some x ≡ Some y → x ≡ y
-some_is e = cc
-
-of_id : (bs : List BlockRef) (id : ℕ) → Contains (ids_of bs) id → (b : BlockRef) × Contains bs b × (b.id ≡ id)
-of_id [] id (k, lt, e) = absurd (omega (arith, lt))
-of_id (b ∷ bs) id (zero, lt, e) = (b, (0, omega arith, refl), e)
-of_id (b ∷ bs) id (suc k, lt, e) =
-    let found = of_id bs id (k, omega (arith, lt), e) in
-    (found.0, contains_there b bs found.0 found.1, found.2)
-
-id_there : (bs : List BlockRef) (b : BlockRef) → Contains bs b → Contains (ids_of bs) b.id
-id_there [] b (k, lt, e) = absurd (omega (arith, lt))
-id_there (x ∷ bs) b (zero, lt, e) = (0, omega arith, ap (λ (r : BlockRef). r.id) e)
-id_there (x ∷ bs) b (suc k, lt, e) = contains_there x.id (ids_of bs) b.id (id_there bs b (k, omega (arith, lt), e))
-
-before : (P : BlockRef → Type 0) (bs : List BlockRef) (k j : ℕ) (b : BlockRef) → j < k → j < length bs
-    → get_or bs j b ≡ b
-    → AllByRecursion P (take k bs) → P b
-before P [] k j b low lt at all = absurd (omega (arith, lt))
-before P (x ∷ bs) zero j b low lt at all = absurd (omega (arith, low))
-before P (x ∷ bs) (suc k) zero b low lt at all = subst P at all.0
-before P (x ∷ bs) (suc k) (suc j) b low lt at all = before P bs k j b (omega (arith, low)) (omega (arith, lt)) at all.1
 
 -- ---- all the blocks that points name
 

@@ -1,5 +1,6 @@
 -- A project is made, and an honest disk stays honest.
-use Rattle.std.proofs.Common.{◌≡◌, ◌≢◌, ℕ, ◌≤◌, Bool, true, false, inl, inr, ⊎_elim, ◌⊎◌, List, [], ◌∷◌, Option, Some, None, Result, Ok, Err, refl, sym, ap, subst, ◌∙◌, arith}
+use Rattle.std.proofs.Common.{◌≡◌, ◌≢◌, ℕ, ◌≤◌, Bool, true, false, inl, inr, ⊎_elim, ◌⊎◌, List, [], ◌∷◌, Option, Some}
+use Rattle.std.proofs.Common.{None, Result, Ok, Err, refl, sym, ap, subst, ◌∙◌, arith}
 use Rattle.std.specs.Prelude.{Contains, IsSome, IsTrue, IfErr, IfOk, OnOk}
 use Rattle.pcm_base.specs.declared.block.BlockRef.{BlockRef}
 use Rattle.disk_model.specs.MomentLaws.{upto_refl}
@@ -23,15 +24,25 @@ use Rattle.editor_recovery.specs.Files.{is_foreign, NoForeign}
 use Rattle.editor_recovery.specs.Honest.{Names, IsHonest}
 
 -- the new journal is the new project
-pub keeps_new : (rate block_size depth : ℕ) (c : Files) → HasLog version_1 (fresh rate block_size depth) c → Keeps c (new_opened rate block_size depth)
-keeps_new rate block_size depth c has = record { log = fresh rate block_size depth; kept = new_project depth; there = has; told = refl; whole = tt; is = refl }
+pub keeps_new : (rate block_size depth : ℕ) (c : Files) → HasLog version_1 (fresh rate block_size depth) c
+    → Keeps c (new_opened rate block_size depth)
+keeps_new rate block_size depth c has = record {
+  log = fresh rate block_size depth;
+  kept = new_project depth;
+  there = has;
+  told = refl;
+  whole = tt;
+  is = refl;
+}
 
 -- no point of it names a block
-no_names : (rate block_size depth : ℕ) (c : Files) (id : ℕ) → HasLog version_1 (fresh rate block_size depth) c → Names c id → ⊥
+no_names : (rate block_size depth : ℕ) (c : Files) (id : ℕ) → HasLog version_1 (fresh rate block_size depth) c
+    → Names c id → ⊥
 no_names rate block_size depth c id has names =
     let log = fresh rate block_size depth in
     let same : names.log ≡ log = log_once version_1 names.log log c names.there has in
-    let told : names.kept ≡ new_project depth = subst (λ (l : Log). LeadTo l.block_size (new_project l.depth) l.bodies names.kept) same names.told in
+    let told : names.kept ≡ new_project depth =
+    subst (λ (l : Log). LeadTo l.block_size (new_project l.depth) l.bodies names.kept) same names.told in
     nothing (subst (λ (k : keeping.Kept). Contains (history_blocks k.history) names.block) told names.named)
   where
     nothing : Contains [] names.block → ⊥
@@ -48,7 +59,8 @@ module _ {D : Type 0} (disk : Ghosts D) (old new : D) where
   now_before : {step : Files → Files → Type 0}
       → Follows step (disk.clock old) (disk.clock new) (disk.may_leave old) (disk.may_leave new)
       → (c : Files) → disk.may_leave new (disk.clock new) c → disk.may_leave new (disk.clock old) c
-  now_before follows c now = follows.fewer (disk.clock old) (disk.clock new) c follows.later (upto_refl (disk.clock new)) now
+  now_before follows c now =
+      follows.fewer (disk.clock old) (disk.clock new) c follows.later (upto_refl (disk.clock new)) now
 
   -- calls that write nothing
   pub still_honest : Follows StaysStep (disk.clock old) (disk.clock new) (disk.may_leave old) (disk.may_leave new)
@@ -73,7 +85,8 @@ module _ {D : Type 0} (disk : Ghosts D) (old new : D) where
       → IsHonest disk old → IsHonest disk new
   made_honest rate block_size depth follows model any honest =
       let since = now_before follows in
-      let none : (c : Files) → (id : ℕ) → Names c id → NoProject 0 c ⊎ HasLog version_1 (fresh rate block_size depth) c → ⊥ =
+      let none : (c : Files) → (id : ℕ) → Names c id → NoProject 0 c ⊎ HasLog version_1 (fresh rate block_size depth) c
+      → ⊥ =
       λ c id names other. ⊎_elim (λ none. no_project_names c id none names)
       (λ has. no_names rate block_size depth c id has names) other in
       record {
@@ -87,7 +100,8 @@ module _ {D : Type 0} (disk : Ghosts D) (old new : D) where
             (λ has. inr (new_opened rate block_size depth, keeps_new rate block_size depth c has)) other)
             (any c (since c now));
         same = λ c nc d nd id p q.
-            ⊎_elim (λ oc. ⊎_elim (λ od. honest.same c oc d od id p q) (λ other. absurd (none d id q other)) (any d (since d nd)))
+            ⊎_elim (λ oc. ⊎_elim (λ od. honest.same c oc d od id p q) (λ other. absurd (none d id q other))
+            (any d (since d nd)))
             (λ other. absurd (none c id p other)) (any c (since c nc));
       }
 
@@ -101,8 +115,10 @@ pub any_moment_both : {D : Type 0} (disk : Ghosts D) (rate block_size depth : �
     ⊎ (NoProject 0 c ⊎ Keeps c (new_opened rate block_size depth))
 any_moment_both disk rate block_size depth old mid new f g any c since =
     ⊎_elim (λ early. inl (back early))
-    (λ late. ⊎_elim (λ m. inl (back (f.fewer (disk.clock old) (disk.clock mid) c f.later (upto_refl (disk.clock mid)) m)))
-    (λ other. ⊎_elim (λ none. inr (inl none)) (λ has. inr (inr (keeps_new rate block_size depth c has))) other) (any c late))
+    (λ late.
+    ⊎_elim (λ m. inl (back (f.fewer (disk.clock old) (disk.clock mid) c f.later (upto_refl (disk.clock mid)) m)))
+    (λ other. ⊎_elim (λ none. inr (inl none)) (λ has. inr (inr (keeps_new rate block_size depth c has))) other)
+    (any c late))
     (g.added (disk.clock old) c f.later since)
   where
     back : disk.may_leave mid (disk.clock old) c → disk.may_leave old (disk.clock old) c
@@ -131,7 +147,8 @@ left_turn disk old mid new (Err (fault.Foreign file)) kept left = kept_turn kept
 left_turn disk old mid new (Err (fault.Damaged file at want have)) kept left = kept_turn kept left
 
 -- the answers
-pub foreign_told : (T : Type 0) (files : Files) (e : OpenFault) → TellsForeign files e → HasNoForeign {T = T} files (Err e)
+pub foreign_told : (T : Type 0) (files : Files) (e : OpenFault) → TellsForeign files e
+    → HasNoForeign {T = T} files (Err e)
 foreign_told T files fault.Absent tells = absurd tells
 foreign_told T files fault.Exists tells = absurd tells
 foreign_told T files fault.DiskFault tells = tt
@@ -139,7 +156,8 @@ foreign_told T files fault.NoMemory tells = tt
 foreign_told T files (fault.Foreign file) tells = tells
 foreign_told T files (fault.Damaged file at want have) tells = absurd tells
 
-pub none_there : {T : Type 0} (files : Files) (r : Result T OpenFault) → NoProject 0 files → HasNoForeign files r → Creates files r
+pub none_there : {T : Type 0} (files : Files) (r : Result T OpenFault) → NoProject 0 files → HasNoForeign files r
+    → Creates files r
 none_there files (Ok x) none has = (none, has)
 none_there files (Err fault.Absent) none has = absurd has
 none_there files (Err fault.Exists) none has = absurd has
@@ -148,7 +166,8 @@ none_there files (Err fault.NoMemory) none has = tt
 none_there files (Err (fault.Foreign file)) none has = (none, has)
 none_there files (Err (fault.Damaged file at want have)) none has = absurd has
 
-pub created : {U : Type 0} (files : Files) (r : Result U OpenFault) → NoProject 0 files × NoForeign files → IfErr r (λ e. e ≡ fault.DiskFault) → Creates files r
+pub created : {U : Type 0} (files : Files) (r : Result U OpenFault) → NoProject 0 files × NoForeign files
+    → IfErr r (λ e. e ≡ fault.DiskFault) → Creates files r
 created files (Ok y) creates e = creates
 created files (Err fault.Absent) creates is = absurd cc
 created files (Err fault.Exists) creates is = absurd cc

@@ -1,6 +1,9 @@
 -- The highest of the files that were listed.
-use Rattle.std.proofs.Common.{◌≡◌, ◌==◌, ◌≢◌, ℕ, ◌+◌, ◌-◌, ◌<◌, ◌≤◌, max, Bool, true, false, inl, inr, ⊎_elim, ◌⊎◌, List, [], ◌∷◌, length, get_or, Option, Some, None, Result, Ok, Err, refl, sym, ap, subst, ◌∙◌, arith}
-use Rattle.std.specs.Prelude.{IfOk, OnOk, IsTrue, IsSome, Contains, find, slice_get, if◌then◌else◌, nat_le, nat_lt, ◌^◌, ◌||◌}
+use Rattle.std.proofs.Common.{◌≡◌, ◌==◌, ◌≢◌, ℕ, ◌+◌, ◌-◌, ◌<◌, ◌≤◌, max, Bool, true, false, inl, inr, ⊎_elim, ◌⊎◌}
+use Rattle.std.proofs.Common.{List, [], ◌∷◌, length, get_or, Option, Some, None, Result, Ok, Err, refl, sym, ap, subst}
+use Rattle.std.proofs.Common.{◌∙◌, arith}
+use Rattle.std.specs.Prelude.{IfOk, OnOk, IsTrue, IsSome, Contains, find, slice_get, if◌then◌else◌, nat_le, nat_lt, ◌^◌}
+use Rattle.std.specs.Prelude.{◌||◌}
 use Rattle.std.specs.List.{All, AllByRecursion}
 use Rattle.std.proofs.lemmas.Bool.{cases_Bool, eqb-true, eqb-false, leb-true, leb-false, ltb-true, ltb-false}
 use Rattle.std.proofs.lemmas.List.Kept.{AllPairs-from_increasing}
@@ -18,7 +21,8 @@ high_foreign : (o : ℕ) → nat_le (2 ^ 62) o ≡ true → is_foreign o ≡ tru
 high_foreign o high = rw high (or_true _)
 
 pub listed_small : (xs : List ℕ) (o : ℕ) → find is_foreign xs ≡ None → Contains xs o → o < 2 ^ 62
-listed_small xs o none has = elim (cases_Bool (nat_le (2 ^ 62) o)) [ inl t ↦ absurd (find_none is_foreign xs none o has (high_foreign o t)) | inr f ↦ leb-false (2 ^ 62) o f ]
+listed_small xs o none has = elim (cases_Bool (nat_le (2 ^ 62) o))
+    [ inl t ↦ absurd (find_none is_foreign xs none o has (high_foreign o t)) | inr f ↦ leb-false (2 ^ 62) o f ]
 
 low_foreign : (o : ℕ) → nat_le 1 o ≡ true → nat_le o 15 ≡ true → is_foreign o ≡ true
 low_foreign o least most = rw least (rw most refl)
@@ -40,10 +44,12 @@ at_default xs k lt x e = get_or_from_slice_get xs k x 0 (slice_get-get_or xs k x
 
 -- the last of rising numbers is the greatest
 pub last_in : (xs : List ℕ) → 0 < length xs → Contains xs (get_or xs (length xs - 1) 0)
-last_in xs some = contains_get xs (length xs - 1) (get_or xs (length xs - 1) 0) (slice_get-get_or xs (length xs - 1) 0 (omega (arith, some)))
+last_in xs some = contains_get xs (length xs - 1) (get_or xs (length xs - 1) 0)
+    (slice_get-get_or xs (length xs - 1) 0 (omega (arith, some)))
 
 before_last : (k n : ℕ) → k < n → (k < n - 1) ⊎ (k ≡ n - 1)
-before_last k n lt = elim (cases_Bool (nat_lt k (n - 1))) [ inl t ↦ inl (ltb-true k (n - 1) t) | inr f ↦ inr (let ge = ltb-false k (n - 1) f in omega (arith, ge, lt)) ]
+before_last k n lt = elim (cases_Bool (nat_lt k (n - 1)))
+    [ inl t ↦ inl (ltb-true k (n - 1) t) | inr f ↦ inr (let ge = ltb-false k (n - 1) f in omega (arith, ge, lt)) ]
 
 either : (a b : ℕ) → (a ≤ b) ⊎ (b < a)
 either a b = elim (cases_Bool (nat_le a b)) [ inl t ↦ inl (leb-true a b t) | inr f ↦ inr (leb-false a b f) ]
@@ -55,11 +61,13 @@ last_most xs up o has =
     ⊎_elim (λ lt. let p = pairs has.0 (length xs - 1) 0 lt (omega (arith, has.1)) in omega (arith, p, same))
     (λ eq. let e = ap (λ (k : ℕ). get_or xs k 0) eq in omega (arith, same, e)) (before_last has.0 (length xs) has.1)
 
-pub last_above : (xs : List ℕ) (recorded next : ℕ) → 0 < length xs → IsStrictlyIncreasing xs → next ≡ max recorded (get_or xs (length xs - 1) 0 + 1) → IsAbove xs recorded next
+pub last_above : (xs : List ℕ) (recorded next : ℕ) → 0 < length xs → IsStrictlyIncreasing xs
+    → next ≡ max recorded (get_or xs (length xs - 1) 0 + 1) → IsAbove xs recorded next
 last_above xs recorded next some up is =
     let file = get_or xs (length xs - 1) 0 in
     record {
       no_lower = omega (arith, is);
       above = λ o has. let le = last_most xs up o has in omega (arith, le, is);
-      least = ⊎_elim (λ le. inl (omega (arith, le, is))) (λ lt. inr (file, last_in xs some, omega (arith, lt, is))) (either (file + 1) recorded);
+      least = ⊎_elim (λ le. inl (omega (arith, le, is))) (λ lt. inr (file, last_in xs some, omega (arith, lt, is)))
+          (either (file + 1) recorded);
     }

@@ -1,5 +1,6 @@
 -- What opening an honest disk finds.
-use Rattle.std.proofs.Common.{◌≡◌, ℕ, ◌+◌, ◌≤◌, ◌<◌, ◌^◌, ℤ, Bool, inl, inr, ⊎_elim, List, [], ◌∷◌, ◌++◌, length, map, Option, Some, None, Result, Ok, Err, refl, sym, ap, subst, ◌∙◌, arith}
+use Rattle.std.proofs.Common.{◌≡◌, ℕ, ◌+◌, ◌≤◌, ◌<◌, ◌^◌, ℤ, Bool, inl, inr, ⊎_elim, List, [], ◌∷◌, ◌++◌, length, map}
+use Rattle.std.proofs.Common.{Option, Some, None, Result, Ok, Err, refl, sym, ap, subst, ◌∙◌, arith}
 use Rattle.std.specs.Prelude.{slice_index_or, unwrap_or, pos, Contains, IsSome, IsTrue}
 use Rattle.std.specs.Option.{option_or}
 use Rattle.std.specs.List.{All, AllByRecursion}
@@ -45,7 +46,8 @@ use Rattle.editor_recovery.specs.Honest.{Names, IsHonest, FindsKept, OpensHonest
 pub whole_size : (files : Files) (b : BlockRef) → IsWhole files b → HasSize files b
 whole_size files b is =
     let has = blocks_have files b.id is.0 is.1 in
-    ap (λ (f : Option (List ℕ)). length (bytes_of f)) has.file ∙ spelled_size b.id is.0 has.bytes has.spelled ∙ ap size_of is.2
+    ap (λ (f : Option (List ℕ)). length (bytes_of f)) has.file ∙ spelled_size b.id is.0 has.bytes has.spelled
+    ∙ ap size_of is.2
 
 all_sizes : (files : Files) (bs : List BlockRef) → AllByRecursion (IsWhole files) bs → AllHaveSize files bs
 all_sizes files [] all = tt
@@ -58,15 +60,22 @@ pub record KeepsLog (log : Log) (kept : Kept) (files : Files) : Type 0 where
   pub whole : AllByRecursion (IsWhole files) (history_blocks kept.history)
 
 -- what a disk keeps is what its journal's records lead to
-pub keeps_log : (log : Log) (kept : Kept) (files : Files) (found : keeping.Opened) → HasLog version_1 log files → LeadTo log.block_size (new_project log.depth) log.bodies kept → Keeps files found → KeepsLog log kept files
+pub keeps_log : (log : Log) (kept : Kept) (files : Files) (found : keeping.Opened) → HasLog version_1 log files
+    → LeadTo log.block_size (new_project log.depth) log.bodies kept → Keeps files found → KeepsLog log kept files
 keeps_log log kept files found has told keeps =
     let same : keeps.log ≡ log = log_once version_1 keeps.log log files keeps.there has in
-    let lead : LeadTo log.block_size (new_project log.depth) log.bodies keeps.kept = subst (λ (l : Log). LeadTo l.block_size (new_project l.depth) l.bodies keeps.kept) same keeps.told in
+    let lead : LeadTo log.block_size (new_project log.depth) log.bodies keeps.kept =
+    subst (λ (l : Log). LeadTo l.block_size (new_project l.depth) l.bodies keeps.kept) same keeps.told in
     let one : keeps.kept ≡ kept = kept_once log keeps.kept kept files has lead told in
-    record { there = has; told = told; whole = subst (λ (k : Kept). AllByRecursion (IsWhole files) (history_blocks k.history)) one keeps.whole }
+    record {
+      there = has;
+      told = told;
+      whole = subst (λ (k : Kept). AllByRecursion (IsWhole files) (history_blocks k.history)) one keeps.whole;
+    }
 
 -- and no other of its names
-pub leads_of : (files : Files) (found : keeping.Opened) → (keeps : Keeps files found) → KeepsLog keeps.log keeps.kept files
+pub leads_of : (files : Files) (found : keeping.Opened) → (keeps : Keeps files found)
+    → KeepsLog keeps.log keeps.kept files
 leads_of files found keeps = record { there = keeps.there; told = keeps.told; whole = keeps.whole }
 
 no_header_fault : (log : Log) (kept : Kept) (files : Files) (file : ℕ) (d : Damaged) → KeepsLog log kept files
@@ -94,38 +103,54 @@ no_record_fault : (log : Log) (kept : Kept) (files : Files) (file : ℕ) (d : Da
 no_record_fault log kept files file d keeps f =
     let e : None ≡ Some d = sym (records_sound log kept files f.0 keeps.there keeps.told f.1) ∙ f.3 in absurd cc
 
-no_size_fault : (log : Log) (kept : Kept) (files : Files) (file : ℕ) (d : Damaged) → KeepsLog log kept files → SizeFault files file d → ⊥
+no_size_fault : (log : Log) (kept : Kept) (files : Files) (file : ℕ) (d : Damaged) → KeepsLog log kept files
+    → SizeFault files file d → ⊥
 no_size_fault log kept files file d keeps f =
     let same : log ≡ f.log = log_once version_1 log f.log files keeps.there f.there in
-    let lead : LeadTo f.log.block_size (new_project f.log.depth) f.log.bodies kept = subst (λ (l : Log). LeadTo l.block_size (new_project l.depth) l.bodies kept) same keeps.told in
+    let lead : LeadTo f.log.block_size (new_project f.log.depth) f.log.bodies kept =
+    subst (λ (l : Log). LeadTo l.block_size (new_project l.depth) l.bodies kept) same keeps.told in
     let one : kept ≡ f.kept = kept_once f.log kept f.kept files f.there lead f.told in
-    let whole : AllByRecursion (IsWhole files) (history_blocks f.kept.history) = subst (λ (k : Kept). AllByRecursion (IsWhole files) (history_blocks k.history)) one keeps.whole in
+    let whole : AllByRecursion (IsWhole files) (history_blocks f.kept.history) =
+    subst (λ (k : Kept). AllByRecursion (IsWhole files) (history_blocks k.history)) one keeps.whole in
     f.first.wrong (All-contains (HasSize files) (history_blocks f.kept.history) f.block
-    (All-from_recursion (HasSize files) (history_blocks f.kept.history) (all_sizes files (history_blocks f.kept.history) whole)) f.first.named)
+    (All-from_recursion (HasSize files) (history_blocks f.kept.history)
+    (all_sizes files (history_blocks f.kept.history) whole)) f.first.named)
 
 -- a disk that keeps a project has no fault
-pub no_fault : (files : Files) (found : keeping.Opened) (file : ℕ) (d : Damaged) → Keeps files found → FirstFault files file d → ⊥
+pub no_fault : (files : Files) (found : keeping.Opened) (file : ℕ) (d : Damaged) → Keeps files found
+    → FirstFault files file d → ⊥
 no_fault files found file d keeps f =
     let is = leads_of files found keeps in
-    ⊎_elim (no_header_fault keeps.log keeps.kept files file d is) (⊎_elim (no_record_fault keeps.log keeps.kept files file d is) (no_size_fault keeps.log keeps.kept files file d is)) f
+    ⊎_elim (no_header_fault keeps.log keeps.kept files file d is) (⊎_elim
+    (no_record_fault keeps.log keeps.kept files file d is) (no_size_fault keeps.log keeps.kept files file d is)) f
 
 samples_same : (c d : Files) (id : ℕ) → blocks c id ≡ blocks d id → (sources_of c).block id ≡ (sources_of d).block id
 samples_same c d id e = ap (λ (b : Option (List ℤ)). λ (i : ℕ). slice_index_or (unwrap_or b []) i (pos 0)) e
 
-names : (log : Log) (kept : Kept) (files : Files) → KeepsLog log kept files → (b : BlockRef) → Contains (history_blocks kept.history) b → Names files b.id
-names log kept files is b has = record { log = log; kept = kept; there = is.there; told = is.told; block = b; named = has; is = refl }
+names : (log : Log) (kept : Kept) (files : Files) → KeepsLog log kept files → (b : BlockRef)
+    → Contains (history_blocks kept.history) b → Names files b.id
+names log kept files is b has =
+    record { log = log; kept = kept; there = is.there; told = is.told; block = b; named = has; is = refl }
 
 each_of : (P : BlockRef → Type 0) (bs : List BlockRef) → ((b : BlockRef) → Contains bs b → P b) → AllByRecursion P bs
 each_of P bs f = recursion_from_All P bs (λ k d lt. f (slice_index_or bs k d) (All-contains_itself bs k d lt))
 
 -- each block that both name is the same in both
-pub opened_same : (log : Log) (kept : Kept) (c d : Files) → ((id : ℕ) → Names c id → Names d id → blocks c id ≡ blocks d id) → KeepsLog log kept c → KeepsLog log kept d → opened log kept c ≡ opened log kept d
+pub opened_same : (log : Log) (kept : Kept) (c d : Files)
+    → ((id : ℕ) → Names c id → Names d id → blocks c id ≡ blocks d id) → KeepsLog log kept c → KeepsLog log kept d
+    → opened log kept c ≡ opened log kept d
 opened_same log kept c d same p q =
     let bs = history_blocks kept.history in
     let all : AllByRecursion (IsSame (sources_of c) (sources_of d)) bs =
     each_of (IsSame (sources_of c) (sources_of d)) bs
     (λ b has. samples_same c d b.id (same b.id (names log kept c p b has) (names log kept d q b has))) in
-    ap (λ h. record { rate = log.rate; block_size = log.block_size; history = h; next_track = kept.next_track; commit = kept.commit }) (same_meaning (sources_of c) (sources_of d) kept.history all)
+    ap (λ h. record {
+      rate = log.rate;
+      block_size = log.block_size;
+      history = h;
+      next_track = kept.next_track;
+      commit = kept.commit;
+    }) (same_meaning (sources_of c) (sources_of d) kept.history all)
 
 -- the file of a block that is whole is the one spelling of its samples
 file_same : (c d : Files) (b : BlockRef) → IsWhole c b → blocks c b.id ≡ blocks d b.id → c b.id ≡ d b.id
@@ -140,16 +165,20 @@ module _ {D : Type 0} (disk : Ghosts D) (old new : D) (honest : IsHonest disk ol
     (follows : Follows StaysStep (disk.clock old) (disk.clock new) (disk.may_leave old) (disk.may_leave new)) where
   before : (c : Files) → disk.may_leave new (disk.clock new) c → disk.may_leave old (disk.clock old) c
   before c now =
-      let d = follows.from c (follows.fewer (disk.clock old) (disk.clock new) c follows.later (upto_refl (disk.clock new)) now) in
+      let d = follows.from c
+      (follows.fewer (disk.clock old) (disk.clock new) c follows.later (upto_refl (disk.clock new)) now) in
       subst (disk.may_leave old (disk.clock old)) (sym d.2) d.1
 
   -- each image with this journal keeps the same records and their blocks, as they read
-  image_leads : (log : Log) (kept : Kept) (c : Files) → KeepsLog log kept (disk.reads old) → disk.may_leave old (disk.clock old) c → HasLog version_1 log c → KeepsLog log kept c
+  image_leads : (log : Log) (kept : Kept) (c : Files) → KeepsLog log kept (disk.reads old)
+      → disk.may_leave old (disk.clock old) c → HasLog version_1 log c → KeepsLog log kept c
   image_leads log kept c keeps image has =
-      let found : (found : keeping.Opened) × Keeps c found = ⊎_elim (λ none. absurd (none (is_project version_1 log c (omega arith) has))) (λ f. f) (honest.whole c image) in
+      let found : (found : keeping.Opened) × Keeps c found = ⊎_elim
+      (λ none. absurd (none (is_project version_1 log c (omega arith) has))) (λ f. f) (honest.whole c image) in
       keeps_log log kept c found.0 has keeps.told found.1
 
-  image_blocks : (log : Log) (kept : Kept) (c : Files) → KeepsLog log kept (disk.reads old) → disk.may_leave old (disk.clock old) c → HasLog version_1 log c
+  image_blocks : (log : Log) (kept : Kept) (c : Files) → KeepsLog log kept (disk.reads old)
+      → disk.may_leave old (disk.clock old) c → HasLog version_1 log c
       → SameBlocks (history_blocks kept.history) (disk.reads old) c
   image_blocks log kept c keeps image has =
       let files = disk.reads old in
@@ -160,20 +189,31 @@ module _ {D : Type 0} (disk : Ghosts D) (old new : D) (honest : IsHonest disk ol
       (honest.same c image files here b.id (names log kept c is b there) (names log kept files keeps b there)))
 
   -- and so the same project
-  image_keeps : (log : Log) (kept : Kept) (c : Files) → KeepsLog log kept (disk.reads old) → disk.may_leave old (disk.clock old) c → HasLog version_1 log c → Keeps c (opened log kept (disk.reads old))
+  image_keeps : (log : Log) (kept : Kept) (c : Files) → KeepsLog log kept (disk.reads old)
+      → disk.may_leave old (disk.clock old) c → HasLog version_1 log c → Keeps c (opened log kept (disk.reads old))
   image_keeps log kept c keeps image has =
       let is = image_leads log kept c keeps image has in
-      record { log = log; kept = kept; there = is.there; told = is.told; whole = is.whole; is = opened_same log kept (disk.reads old) c (honest.same (disk.reads old) here c image) keeps is }
+      record {
+        log = log;
+        kept = kept;
+        there = is.there;
+        told = is.told;
+        whole = is.whole;
+        is = opened_same log kept (disk.reads old) c (honest.same (disk.reads old) here c image) keeps is;
+      }
 
   -- a disk on which a project was found keeps it
   found_leads : (f : Found) → (opens : Finds (disk.reads old) f) → KeepsLog opens.log opens.kept (disk.reads old)
   found_leads f opens =
       let has = opens.project.there in
-      let found : (found : keeping.Opened) × Keeps (disk.reads old) found = ⊎_elim (λ none. absurd (none (is_project version_1 opens.log (disk.reads old) (omega arith) has))) (λ f. f) (honest.whole (disk.reads old) here) in
+      let found : (found : keeping.Opened) × Keeps (disk.reads old) found =
+      ⊎_elim (λ none. absurd (none (is_project version_1 opens.log (disk.reads old) (omega arith) has))) (λ f. f)
+      (honest.whole (disk.reads old) here) in
       keeps_log opens.log opens.kept (disk.reads old) found.0 has opens.project.told found.1
 
   pub found_kept : (r : Result Found OpenFault) → Opens (disk.reads old) r
-      → ((log : Log) → HasLog version_1 log (disk.reads old) → (f : Found) → r ≡ Ok f → Each (disk.may_leave new (disk.clock new)) (HasLog version_1 log))
+      → ((log : Log) → HasLog version_1 log (disk.reads old) → (f : Found) → r ≡ Ok f
+      → Each (disk.may_leave new (disk.clock new)) (HasLog version_1 log))
       → OpensHonest disk old new r
   found_kept (Ok f) opens rest =
       let log = opens.log in
@@ -190,17 +230,24 @@ module _ {D : Type 0} (disk : Ghosts D) (old new : D) (honest : IsHonest disk ol
   found_kept (Err fault.Exists) opens rest = opens
   found_kept (Err fault.DiskFault) opens rest = tt
   found_kept (Err fault.NoMemory) opens rest = tt
-  found_kept (Err (fault.Foreign file)) opens rest = honest.foreign (disk.reads old) here file opens.1.there opens.1.foreign
+  found_kept (Err (fault.Foreign file)) opens rest =
+      honest.foreign (disk.reads old) here file opens.1.there opens.1.foreign
   found_kept (Err (fault.Damaged file at want have)) opens rest =
-      ⊎_elim (λ none. none opens.0) (λ found. no_fault (disk.reads old) found.0 file (record { at = at; want = want; have = have }) found.1 opens.2) (honest.whole (disk.reads old) here)
+      ⊎_elim (λ none. none opens.0) (λ found. no_fault (disk.reads old) found.0 file (record {
+        at = at;
+        want = want;
+        have = have;
+      }) found.1 opens.2) (honest.whole (disk.reads old) here)
 
   -- what a studio of the parts asks of the disk
   module _ (p : Parts) (opens : Finds (disk.reads old) (found_in p)) (same : disk.reads new ≡ disk.reads old)
       (tells : IsTrue (disk.tells new)) (rest : IsAt version_1 disk new p.journal_end opens.log) where
-    blocks_now : (c : Files) → disk.may_leave new (disk.clock new) c → SameBlocks (named_blocks (assembled new p)) (disk.reads new) c
+    blocks_now : (c : Files) → disk.may_leave new (disk.clock new) c
+        → SameBlocks (named_blocks (assembled new p)) (disk.reads new) c
     blocks_now c now =
         let Same : BlockRef → Type 0 = λ b. c b.id ≡ disk.reads new b.id in
-        let there = image_blocks opens.log opens.kept c (found_leads (found_in p) opens) (before c now) (each_has rest c now) in
+        let there =
+        image_blocks opens.log opens.kept c (found_leads (found_in p) opens) (before c now) (each_has rest c now) in
         let read : AllByRecursion Same (history_blocks opens.kept.history) =
         subst (λ (f : Files). SameBlocks (history_blocks opens.kept.history) f c) (sym same) there in
         all_append Same (history_blocks p.history.history) []
@@ -230,7 +277,8 @@ module _ {D : Type 0} (disk : Ghosts D) (old new : D) (honest : IsHonest disk ol
             files = λ id least most. (
               λ has. subst (λ (f : Files). IsSome (f id)) (sym same) (found.ledger.only id has).0,
               λ has. subst (λ (o : Option ℕ). IsSome o)
-                  (sym (found.ledger.there id (subst (λ (f : Files). IsSome (f id)) same has) (λ zero_id. omega (arith, least, zero_id)))) refl,
+                  (sym (found.ledger.there id (subst (λ (f : Files). IsSome (f id)) same has)
+                  (λ zero_id. omega (arith, least, zero_id)))) refl,
             );
           };
         }

@@ -12,6 +12,7 @@ pub mod Measures
 pub mod Resting
 pub mod OneFault
 pub mod Assembled
+pub mod CheckAnswers
 pub mod Checked
 pub mod Folding
 pub mod StayingHonest

@@ -1,5 +1,6 @@
 -- The first of rising numbers that passes a test.
-use Rattle.std.proofs.Common.{◌≡◌, ℕ, zero, suc, ◌+◌, ◌-◌, ◌≤◌, ◌<◌, Bool, true, false, cond, inl, inr, ⊎_elim, ◌⊎◌, List, [], ◌∷◌, length, Option, Some, None, Ok, Err, refl, sym, ap, subst, ◌∙◌, arith}
+use Rattle.std.proofs.Common.{◌≡◌, ℕ, zero, suc, ◌+◌, ◌-◌, ◌≤◌, ◌<◌, Bool, true, false, cond, inl, inr, ⊎_elim, ◌⊎◌}
+use Rattle.std.proofs.Common.{List, [], ◌∷◌, length, Option, Some, None, Ok, Err, refl, sym, ap, subst, ◌∙◌, arith}
 use Rattle.std.specs.Prelude.{Contains, slice_index_or, find, IsSome, IsTrue, IfOk}
 use Rattle.std.specs.List.{All, AllByRecursion, AllPairs}
 use Rattle.std.specs.List.Sorted.{IsStrictlyIncreasing}
@@ -47,17 +48,20 @@ head_first : (p : ℕ → Bool) (x : ℕ) (xs : List ℕ) → AllByRecursion (λ
 head_first p x xs all passed = record {
   there = contains_here x xs;
   passes = passed;
-  least = λ o has po. ⊎_elim (λ same. omega (arith, same)) (λ later. let up = above_head x xs o all later in omega (arith, up)) (contains_cons x xs o has);
+  least = λ o has po. ⊎_elim (λ same. omega (arith, same))
+      (λ later. let up = above_head x xs o all later in omega (arith, up)) (contains_cons x xs o has);
 }
 
 later_first : (p : ℕ → Bool) (x : ℕ) (xs : List ℕ) (n : ℕ) → p x ≡ false → IsFirst p xs n → IsFirst p (x ∷ xs) n
 later_first p x xs n failed first = record {
   there = contains_there x xs n first.there;
   passes = first.passes;
-  least = λ o has po. ⊎_elim (λ same. let e : false ≡ true = sym failed ∙ ap p same ∙ po in absurd cc) (λ later. first.least o later po) (contains_cons x xs o has);
+  least = λ o has po. ⊎_elim (λ same. let e : false ≡ true = sym failed ∙ ap p same ∙ po in absurd cc)
+      (λ later. first.least o later po) (contains_cons x xs o has);
 }
 
-find_step : (b : Bool) (x n : ℕ) (rest : Option ℕ) → cond b (Some x) rest ≡ Some n → ((b ≡ true) × (x ≡ n)) ⊎ ((b ≡ false) × (rest ≡ Some n))
+find_step : (b : Bool) (x n : ℕ) (rest : Option ℕ) → cond b (Some x) rest ≡ Some n
+    → ((b ≡ true) × (x ≡ n)) ⊎ ((b ≡ false) × (rest ≡ Some n))
 find_step true x n rest e = inl (refl, cc)
 find_step false x n rest e = inr (refl, e)
 
@@ -75,10 +79,12 @@ pub find_none : (p : ℕ → Bool) (xs : List ℕ) → find p xs ≡ None → (o
 find_none p [] e o (k, lt, same) po = omega (arith, lt)
 find_none p (x ∷ xs) e o has po =
     let parts = none_step (p x) x (find p xs) e in
-    ⊎_elim (λ same. let f : false ≡ true = sym parts.0 ∙ ap p same ∙ po in absurd cc) (λ later. find_none p xs parts.1 o later po) (contains_cons x xs o has)
+    ⊎_elim (λ same. let f : false ≡ true = sym parts.0 ∙ ap p same ∙ po in absurd cc)
+    (λ later. find_none p xs parts.1 o later po) (contains_cons x xs o has)
 
 -- the first foreign file
-pub first_foreign : (files : Files) (xs : List ℕ) (n : ℕ) → AreFiles files xs → IsStrictlyIncreasing xs → find is_foreign xs ≡ Some n → IsFirstForeign files n
+pub first_foreign : (files : Files) (xs : List ℕ) (n : ℕ) → AreFiles files xs → IsStrictlyIncreasing xs
+    → find is_foreign xs ≡ Some n → IsFirstForeign files n
 first_foreign files xs n are up e =
     let first = find_first is_foreign xs n (rises xs up) e in
     record {
@@ -91,7 +97,8 @@ pub no_foreign : (files : Files) (xs : List ℕ) → AreFiles files xs → find 
 no_foreign files xs are e = λ o has foreign. find_none is_foreign xs e o ((are o).1 has) foreign
 
 -- the next block by the files
-pub next_block : (files : Files) (xs : List ℕ) (last next : ℕ) → AreFiles files xs → IsAbove xs last next → IsNextBlock files last next
+pub next_block : (files : Files) (xs : List ℕ) (last next : ℕ) → AreFiles files xs → IsAbove xs last next
+    → IsNextBlock files last next
 next_block files xs last next are above = record {
   no_lower = above.no_lower;
   above = λ file has. above.above file ((are file).1 has);

@@ -1,6 +1,9 @@
 -- Sizes that were measured, file by file.
-use Rattle.std.proofs.Common.{◌≡◌, ◌==◌, ◌≢◌, ℕ, ◌+◌, ◌-◌, ◌<◌, ◌≤◌, max, Bool, true, false, inl, inr, ⊎_elim, ◌⊎◌, List, [], ◌∷◌, length, get_or, Option, Some, None, Result, Ok, Err, refl, sym, ap, subst, ◌∙◌, arith}
-use Rattle.std.specs.Prelude.{IfOk, OnOk, IsTrue, IsSome, Contains, find, slice_get, if◌then◌else◌, nat_le, nat_lt, ◌^◌, ◌||◌}
+use Rattle.std.proofs.Common.{◌≡◌, ◌==◌, ◌≢◌, ℕ, ◌+◌, ◌-◌, ◌<◌, ◌≤◌, max, Bool, true, false, inl, inr, ⊎_elim, ◌⊎◌}
+use Rattle.std.proofs.Common.{List, [], ◌∷◌, length, get_or, Option, Some, None, Result, Ok, Err, refl, sym, ap, subst}
+use Rattle.std.proofs.Common.{◌∙◌, arith}
+use Rattle.std.specs.Prelude.{IfOk, OnOk, IsTrue, IsSome, Contains, find, slice_get, if◌then◌else◌, nat_le, nat_lt, ◌^◌}
+use Rattle.std.specs.Prelude.{◌||◌}
 use Rattle.std.specs.List.{All, AllByRecursion}
 use Rattle.std.proofs.lemmas.Bool.{cases_Bool, eqb-true, eqb-false, leb-true, leb-false, ltb-true, ltb-false}
 use Rattle.std.proofs.lemmas.List.Kept.{AllPairs-from_increasing}
@@ -23,7 +26,8 @@ use Rattle.editor_recovery.proofs.Points.{all_blocks, all_flat, all_points, both
 use Rattle.editor_recovery.proofs.Wrong.{right_there, IsRight}
 
 -- one file more is measured
-module _ (old new real : ℕ → ℕ) (file : ℕ) (is : (other : ℕ) → new other ≡ (if other == file then real file else old other)) where
+module _ (old new real : ℕ → ℕ) (file : ℕ)
+    (is : (other : ℕ) → new other ≡ (if other == file then real file else old other)) where
   measured_case : (P : ℕ → Type 0) (other : ℕ) → (other ≡ file → P (real file)) → P (old other) → P (new other)
   measured_case P other here there = subst P (sym (is other)) (step (other == file) (eqb-true other file))
     where
@@ -35,21 +39,34 @@ module _ (old new real : ℕ → ℕ) (file : ℕ) (is : (other : ℕ) → new o
   measured_right other right = measured_case (λ n. n ≡ real other) other (λ same. ap real (sym same)) right
 
   pub measured_here : new file ≡ real file
-  measured_here = elim (cases_Bool (file == file)) [ inl t ↦ is file ∙ ap (λ (b : Bool). if b then real file else old file) t | inr f ↦ absurd (eqb-false file file f refl) ]
+  measured_here = elim (cases_Bool (file == file)) [
+    | inl t ↦ is file
+        ∙ ap (λ (b : Bool). if b then real file else old file) t
+    | inr f ↦ absurd (eqb-false file file f refl)
+  ]
 
-  pub measured_still : (other : ℕ) → (old other ≡ 0) ⊎ (old other ≡ real other) → (new other ≡ 0) ⊎ (new other ≡ real other)
+  pub measured_still : (other : ℕ) → (old other ≡ 0) ⊎ (old other ≡ real other)
+      → (new other ≡ 0) ⊎ (new other ≡ real other)
   measured_still other old_is = ⊎_elim
       (λ none. measured_case (λ n. (n ≡ 0) ⊎ (n ≡ real other)) other (λ same. inr (ap real (sym same))) (inl none))
       (λ right. inr (measured_right other right)) old_is
 
-pub listed_still : (files : List ℕ) (old new : ℕ → ℕ) (i : ℕ) → i < length files → ((other : ℕ) → (other ≡ get_or files i 0 → ⊥) → new other ≡ old other) → ((file : ℕ) → (old file ≡ 0) ⊎ Contains files file) → (file : ℕ) → (new file ≡ 0) ⊎ Contains files file
+pub listed_still : (files : List ℕ) (old new : ℕ → ℕ) (i : ℕ)
+    → i < length files → ((other : ℕ) → (other ≡ get_or files i 0 → ⊥) → new other ≡ old other)
+    → ((file : ℕ) → (old file ≡ 0) ⊎ Contains files file) → (file : ℕ) → (new file ≡ 0) ⊎ Contains files file
 listed_still files old new i lt same listed file = elim (cases_Bool (file == get_or files i 0)) [
-  | inl t ↦ let e = eqb-true file (get_or files i 0) t in inr (subst (λ (n : ℕ). Contains files n) (sym e) (contains_get files i (get_or files i 0) (slice_get-get_or files i 0 lt)))
+  | inl t ↦
+      let e = eqb-true file (get_or files i 0) t in
+      inr (subst (λ (n : ℕ). Contains files n) (sym e)
+      (contains_get files i (get_or files i 0) (slice_get-get_or files i 0 lt)))
   | inr f ↦ ⊎_elim (λ none. inl (same file (eqb-false file (get_or files i 0) f) ∙ none)) (λ has. inr has) (listed file)
 ]
 
 -- all files that are there were measured
-pub all_measured : (files : Files) (xs : List ℕ) (sizes : ℕ → ℕ) → AreFiles files xs → ((k : ℕ) → k < length xs → sizes (get_or xs k 0) ≡ file_size files (get_or xs k 0)) → ((file : ℕ) → (sizes file ≡ 0) ⊎ (sizes file ≡ file_size files file)) → (file : ℕ) → sizes file ≡ file_size files file
+pub all_measured : (files : Files) (xs : List ℕ) (sizes : ℕ → ℕ)
+    → AreFiles files xs → ((k : ℕ) → k < length xs → sizes (get_or xs k 0) ≡ file_size files (get_or xs k 0))
+    → ((file : ℕ) → (sizes file ≡ 0) ⊎ (sizes file ≡ file_size files file)) → (file : ℕ)
+    → sizes file ≡ file_size files file
 all_measured files xs sizes are there right file = by_file (files file) refl
   where
     by_file : (f : Option (List ℕ)) → files file ≡ f → sizes file ≡ file_size files file
@@ -62,13 +79,19 @@ all_measured files xs sizes are there right file = by_file (files file) refl
         subst (λ (n : ℕ). sizes n ≡ file_size files n) same (there has.0 has.1)
 
 -- the files of blocks that have their size are there
-pub named_listed : {T : Type 0} (files : List ℕ) (sizes : ℕ → ℕ) (ps : List (List Track × ℕ)) (r : Result T OpenFault) → All (λ p. All (λ b. IsBlock b.id b.len) (point_blocks p.0)) ps → ((file : ℕ) → (sizes file ≡ 0) ⊎ Contains files file)
-    → TestsMeasured sizes (all_blocks ps) r → OnOk r (All (λ p. All (λ b. (b.id ≢ 0) × Contains files b.id) (point_blocks p.0)) ps)
+pub named_listed : {T : Type 0} (files : List ℕ) (sizes : ℕ → ℕ) (ps : List (List Track × ℕ)) (r : Result T OpenFault)
+    → All (λ p. All (λ b. IsBlock b.id b.len) (point_blocks p.0)) ps
+    → ((file : ℕ) → (sizes file ≡ 0) ⊎ Contains files file)
+    → TestsMeasured sizes (all_blocks ps) r
+    → OnOk r (All (λ p. All (λ b. (b.id ≢ 0) × Contains files b.id) (point_blocks p.0)) ps)
 named_listed files sizes ps (Err e) blocks listed tests = tt
 named_listed files sizes ps (Ok x) blocks listed tests =
     let P : BlockRef → Type 0 = λ b. (b.id ≢ 0) × Contains files b.id in
     all_points P ps (both_all IsBlockRef (IsRight sizes) P (all_blocks ps)
-    (λ b block right. (λ zero_id. omega (arith, block.id_low, zero_id), ⊎_elim (λ none. absurd (omega (arith, none, right))) (λ has. has) (listed b.id)))
+    (λ b block right. (
+      λ zero_id. omega (arith, block.id_low, zero_id),
+      ⊎_elim (λ none. absurd (omega (arith, none, right))) (λ has. has) (listed b.id),
+    ))
     (all_flat IsBlockRef ps blocks) (right_there sizes (all_blocks ps) tests))
 
 size_rises : (a b : ℕ) → a < b → size_of a < size_of b

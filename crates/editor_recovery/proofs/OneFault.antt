@@ -1,5 +1,6 @@
 -- The first fault of a disk is one.
-use Rattle.std.proofs.Common.{◌≡◌, ◌≤◌, ℕ, inl, inr, ⊎_elim, ◌⊎◌, List, ◌++◌, take, Option, Some, None, refl, sym, ap, subst, ◌∙◌, arith, append_assoc}
+use Rattle.std.proofs.Common.{◌≡◌, ◌≤◌, ℕ, inl, inr, ⊎_elim, ◌⊎◌, List, ◌++◌, take, Option, Some, None, refl, sym, ap}
+use Rattle.std.proofs.Common.{subst, ◌∙◌, arith, append_assoc}
 use Rattle.std.proofs.lemmas.List.{take_at}
 use Rattle.std.specs.List.{flat_map}
 use Rattle.pcm_base.specs.declared.block.BlockRef.{BlockRef}
@@ -30,7 +31,8 @@ header_of bytes j is =
     let parts : bytes ≡ log.head ++ (all ++ is.rest) =
     is.parts ∙ ap (λ (l : List ℕ). l ++ is.rest) log.parts ∙ append_assoc log.head all is.rest in
     let head : take 32 bytes ≡ log.head = ap (take 32) parts ∙ take_at log.head (all ++ is.rest) 32 log.header.size in
-    ap first_failed (sym (tests_take bytes)) ∙ ap (λ (l : List ℕ). first_failed (header_tests l)) head ∙ log.header.sound
+    ap first_failed (sym (tests_take bytes)) ∙ ap (λ (l : List ℕ). first_failed (header_tests l)) head
+    ∙ log.header.sound
 
 same_block : (a b : BlockRef) → IsUpTo a b → IsUpTo b a → a ≡ b
 same_block a b (inl p) (inl q) = absurd (omega (arith, p, q))

@@ -40,7 +40,9 @@ unread files (fault.Foreign file) read = read
 unread files (fault.Damaged file at want have) read = (read.0, read.1, inl read.2)
 
 -- a journal that is stored, as its files are read
-pub stored_read : {D : Type 0} (disk : Ghosts D) (store : D) (files : Files) (j : Contents) (listed : List ℕ) → disk.reads store ≡ files → IsTrue (disk.tells store) → IsStored disk store j → AreFiles files listed → NoForeign files
+pub stored_read : {D : Type 0} (disk : Ghosts D) (store : D) (files : Files) (j : Contents) (listed : List ℕ)
+    → disk.reads store ≡ files → IsTrue (disk.tells store) → IsStored disk store j → AreFiles files listed
+    → NoForeign files
     → IsRead files j listed
 stored_read disk store files j listed same tells stored are foreign =
     let here = stored_here disk store j stored tells in
@@ -48,7 +50,8 @@ stored_read disk store files j listed same tells stored are foreign =
     record { project = is.0; journal = is.1; listed = are; foreign = foreign }
 
 -- the sizes of files
-pub measured : {T : Type 0} (files : Files) (sizes : ℕ → ℕ) (bs : List BlockRef) (r : Result T OpenFault) → ((file : ℕ) → sizes file ≡ file_size files file) → TestsMeasured sizes bs r → TestsSizes files bs r
+pub measured : {T : Type 0} (files : Files) (sizes : ℕ → ℕ) (bs : List BlockRef) (r : Result T OpenFault)
+    → ((file : ℕ) → sizes file ≡ file_size files file) → TestsMeasured sizes bs r → TestsSizes files bs r
 measured files sizes bs (Ok x) same tests = all_right files sizes bs same tests
 measured files sizes bs (Err fault.Absent) same tests = tests
 measured files sizes bs (Err fault.Exists) same tests = tests
@@ -59,7 +62,9 @@ measured files sizes bs (Err (fault.Damaged file at want have)) same tests =
     (tests.0, one_wrong files sizes bs tests.0 same tests.1, tests.2, tests.3, tests.4, tests.5 ∙ same tests.0.id)
 
 -- a block's file that has not its size
-pub unsized : (files : Files) (j : Contents) (listed : List ℕ) (f : Folded) (e : OpenFault) → IsRead files j listed → IsFoldOf j f → TestsSizes {T = Unit {0}} files (history_blocks f.project.history.history) (Err e) → Opens files (Err e)
+pub unsized : (files : Files) (j : Contents) (listed : List ℕ) (f : Folded) (e : OpenFault) → IsRead files j listed
+    → IsFoldOf j f → TestsSizes {T = Unit {0}} files (history_blocks f.project.history.history) (Err e)
+    → Opens files (Err e)
 unsized files j listed f fault.Absent is fold tests = absurd tests
 unsized files j listed f fault.Exists is fold tests = absurd tests
 unsized files j listed f fault.DiskFault is fold tests = tt
@@ -81,11 +86,14 @@ unsized files j listed f (fault.Damaged file at want have) is fold tests =
     )
 
 -- and none
-parts_open : (files : Files) (j : Contents) (listed : List ℕ) (f : Folded) (p : Parts) → IsRead files j listed → IsFoldOf j f → AllHaveSize files (history_blocks f.project.history.history) → ArePartsOf listed f p → Opens files (Ok (found_in p))
+parts_open : (files : Files) (j : Contents) (listed : List ℕ) (f : Folded) (p : Parts) → IsRead files j listed
+    → IsFoldOf j f → AllHaveSize files (history_blocks f.project.history.history) → ArePartsOf listed f p
+    → Opens files (Ok (found_in p))
 parts_open files j listed f p is fold sizes parts = record {
   log = log_of j;
   kept = kept_of f.project;
-  project = record { there = log_there version_1 files j is.project is.journal fold.early; told = fold.leads; sizes = sizes };
+  project =
+      record { there = log_there version_1 files j is.project is.journal fold.early; told = fold.leads; sizes = sizes };
   found = record {
     rate = parts.rate ∙ fold.rate;
     block_size = parts.block_size ∙ fold.block_size;
@@ -98,13 +106,16 @@ parts_open files j listed f p is fold sizes parts = record {
   foreign = is.foreign;
 }
 
-pub parts_result : (files : Files) (j : Contents) (listed : List ℕ) (f : Folded) (r : Result Parts OpenFault) → IsRead files j listed → IsFoldOf j f → AllHaveSize files (history_blocks f.project.history.history)
+pub parts_result : (files : Files) (j : Contents) (listed : List ℕ) (f : Folded) (r : Result Parts OpenFault)
+    → IsRead files j listed → IsFoldOf j f → AllHaveSize files (history_blocks f.project.history.history)
     → IfOk r (ArePartsOf listed f) → IfErr r (λ e. e ≡ fault.NoMemory) → Opens files (answer_in r)
 parts_result files j listed f (Ok p) is fold sizes parts memory = parts_open files j listed f p is fold sizes parts
-parts_result files j listed f (Err e) is fold sizes parts memory = subst (λ (x : OpenFault). Opens files (Err x)) (sym memory) tt
+parts_result files j listed f (Err e) is fold sizes parts memory =
+    subst (λ (x : OpenFault). Opens files (Err x)) (sym memory) tt
 
 -- a listing beside a header without faults
-pub with_listing : (files : Files) (r : Result Disk OpenFault) → IsProject (bytes_of (files 0)) → Lists files (λ d. d.files.items) r → ReadsDisk files r
+pub with_listing : (files : Files) (r : Result Disk OpenFault) → IsProject (bytes_of (files 0))
+    → Lists files (λ d. d.files.items) r → ReadsDisk files r
 with_listing files (Ok d) project lists = (project, lists.0, lists.1)
 with_listing files (Err fault.Absent) project lists = absurd lists
 with_listing files (Err fault.Exists) project lists = absurd lists
@@ -114,17 +125,30 @@ with_listing files (Err (fault.Foreign file)) project lists = (project, lists)
 with_listing files (Err (fault.Damaged file at want have)) project lists = absurd lists
 
 -- a listing beside a header that has a fault
-pub with_fault : (files : Files) (file at want have : ℕ) (r : Result Disk OpenFault) → IsProject (bytes_of (files 0)) × (file ≡ 0) × (first_failed (header_tests (bytes_of (files 0))) ≡ Some (damaged at want have)) → Refuses files at want have r → ReadsDisk files r
+pub with_fault : (files : Files) (file at want have : ℕ) (r : Result Disk OpenFault) → IsProject (bytes_of (files 0))
+    × (file ≡ 0) × (first_failed (header_tests (bytes_of (files 0))) ≡ Some (damaged at want have))
+    → Refuses files at want have r → ReadsDisk files r
 with_fault files file at want have (Ok d) read refuses = absurd refuses
 with_fault files file at want have (Err fault.Absent) read refuses = absurd refuses
 with_fault files file at want have (Err fault.Exists) read refuses = absurd refuses
 with_fault files file at want have (Err fault.DiskFault) read refuses = tt
 with_fault files file at want have (Err fault.NoMemory) read refuses = tt
 with_fault files file at want have (Err (fault.Foreign other)) read refuses = (read.0, refuses)
-with_fault files file at want have (Err (fault.Damaged file' at' want' have')) read refuses =
-    (read.0, refuses.0, (refuses.1, read.2 ∙ (λ i. Some (record { at = sym refuses.2 i; want = sym refuses.3 i; have = sym refuses.4 i }))))
+with_fault files file at want have (Err (fault.Damaged file' at' want' have')) read refuses = (
+  read.0,
+  refuses.0,
+  (
+    refuses.1,
+    read.2 ∙ (λ i. Some (record {
+      at = sym refuses.2 i;
+      want = sym refuses.3 i;
+      have = sym refuses.4 i;
+    })),
+  ),
+)
 
-pub refuses_list : (files : Files) (at want have : ℕ) (e : OpenFault) → TellsForeign files e → Refuses files at want have (Err e)
+pub refuses_list : (files : Files) (at want have : ℕ) (e : OpenFault) → TellsForeign files e
+    → Refuses files at want have (Err e)
 refuses_list files at want have fault.Absent tells = absurd tells
 refuses_list files at want have fault.Exists tells = absurd tells
 refuses_list files at want have fault.DiskFault tells = tt

@@ -1,11 +1,13 @@
 -- The points of a history, one by one.
-use Rattle.std.proofs.Common.{◌≡◌, ◌≢◌, ℕ, zero, suc, ◌+◌, ◌<◌, ◌≤◌, List, [], ◌∷◌, ◌++◌, length, map, drop, get_or, Option, Some, None, refl, sym, ap, subst, ◌∙◌, arith}
+use Rattle.std.proofs.Common.{◌≡◌, ◌≢◌, ℕ, zero, suc, ◌+◌, ◌<◌, ◌≤◌, List, [], ◌∷◌, ◌++◌, length, map, drop, get_or}
+use Rattle.std.proofs.Common.{Option, Some, None, refl, sym, ap, subst, ◌∙◌, arith}
 use Rattle.std.specs.Prelude.{slice_get, slice_index_or, Contains, IsSome}
 use Rattle.std.specs.Option.{option_map}
 use Rattle.std.specs.List.{All, AllByRecursion, flat_map}
 use Rattle.std.proofs.lemmas.List.{length-map}
 use Rattle.std.proofs.lemmas.Option.{slice_get_within, slice_get-get_or, slice_get-map}
-use Rattle.std.proofs.lemmas.List.Elements.{All-from_recursion, recursion_from_All, All-get_or, All-contains, All-weaker, Contains-append_right}
+use Rattle.std.proofs.lemmas.List.Elements.{All-from_recursion, recursion_from_All, All-get_or, All-contains}
+use Rattle.std.proofs.lemmas.List.Elements.{All-weaker, Contains-append_right}
 use Rattle.project_state.proofs.Parts.{drop_some}
 use Rattle.pcm_base.specs.declared.block.BlockRef.{BlockRef}
 use Rattle.pcm_base.specs.History.{point_of, points_of}
@@ -34,7 +36,8 @@ pub record PointAt (ps : List (List Track × ℕ)) (i : ℕ) (ts : List Track) :
   pub read : get_or ps i (ts, 0) ≡ point
   pub is : point.0 ≡ ts
 
-pub point_at : (ps : List (List Track × ℕ)) (i : ℕ) (ts : List Track) → slice_get (map point_of ps) i ≡ Some ts → PointAt ps i ts
+pub point_at : (ps : List (List Track × ℕ)) (i : ℕ) (ts : List Track) → slice_get (map point_of ps) i ≡ Some ts
+    → PointAt ps i ts
 point_at ps i ts e =
     let lt : i < length ps = omega (arith, slice_get_within (map point_of ps) i ts e, length-map ps point_of) in
     let p : List Track × ℕ = get_or ps i (ts, 0) in
@@ -42,36 +45,48 @@ point_at ps i ts e =
     let same : Some (p.0) ≡ Some ts = sym (slice_get-map point_of ps i ∙ ap (option_map point_of) here) ∙ e in
     record { point = p; here = here; within = lt; read = refl; is = some_is (p.0) ts same }
 
-pub blocks_left : (ps : List (List Track × ℕ)) (i : ℕ) (ts : List Track) → slice_get (map point_of ps) i ≡ Some ts → all_blocks (drop i ps) ≡ point_blocks ts ++ all_blocks (drop (i + 1) ps)
+pub blocks_left : (ps : List (List Track × ℕ)) (i : ℕ) (ts : List Track) → slice_get (map point_of ps) i ≡ Some ts
+    → all_blocks (drop i ps) ≡ point_blocks ts ++ all_blocks (drop (i + 1) ps)
 blocks_left ps i ts e =
     let at = point_at ps i ts e in
-    ap all_blocks (drop_some ps i at.point at.here) ∙ ap (λ (t : List Track). point_blocks t ++ all_blocks (drop (i + 1) ps)) at.is
+    ap all_blocks (drop_some ps i at.point at.here)
+    ∙ ap (λ (t : List Track). point_blocks t ++ all_blocks (drop (i + 1) ps)) at.is
 
-pub all_at : (P : List Track → Type 0) (ps : List (List Track × ℕ)) (i : ℕ) (ts : List Track) → All (λ p. P p.0) ps → slice_get (map point_of ps) i ≡ Some ts → P ts
+pub all_at : (P : List Track → Type 0) (ps : List (List Track × ℕ)) (i : ℕ) (ts : List Track) → All (λ p. P p.0) ps
+    → slice_get (map point_of ps) i ≡ Some ts → P ts
 all_at P ps i ts all e =
     let at = point_at ps i ts e in
     subst P (ap (λ (p : List Track × ℕ). p.0) at.read ∙ at.is) (All-get_or (λ p. P p.0) ps i (ts, 0) at.within all)
 
-flat_all : (Q : BlockRef → Type 0) (ps : List (List Track × ℕ)) → AllByRecursion (λ p. All Q (point_blocks p.0)) ps → AllByRecursion Q (all_blocks ps)
+flat_all : (Q : BlockRef → Type 0) (ps : List (List Track × ℕ)) → AllByRecursion (λ p. All Q (point_blocks p.0)) ps
+    → AllByRecursion Q (all_blocks ps)
 flat_all Q [] all = tt
-flat_all Q (p ∷ ps) all = all_append Q (point_blocks p.0) (all_blocks ps) (recursion_from_All Q (point_blocks p.0) all.0) (flat_all Q ps all.1)
+flat_all Q (p ∷ ps) all = all_append Q (point_blocks p.0) (all_blocks ps)
+    (recursion_from_All Q (point_blocks p.0) all.0) (flat_all Q ps all.1)
 
-pub all_flat : (Q : BlockRef → Type 0) (ps : List (List Track × ℕ)) → All (λ p. All Q (point_blocks p.0)) ps → AllByRecursion Q (all_blocks ps)
+pub all_flat : (Q : BlockRef → Type 0) (ps : List (List Track × ℕ)) → All (λ p. All Q (point_blocks p.0)) ps
+    → AllByRecursion Q (all_blocks ps)
 all_flat Q ps all = flat_all Q ps (recursion_from_All (λ p. All Q (point_blocks p.0)) ps all)
 
 -- and back
-pub all_points : (Q : BlockRef → Type 0) (ps : List (List Track × ℕ)) → AllByRecursion Q (all_blocks ps) → All (λ p. All Q (point_blocks p.0)) ps
+pub all_points : (Q : BlockRef → Type 0) (ps : List (List Track × ℕ)) → AllByRecursion Q (all_blocks ps)
+    → All (λ p. All Q (point_blocks p.0)) ps
 all_points Q ps all = All-from_recursion (λ p. All Q (point_blocks p.0)) ps (parts Q ps all)
   where
-    split : (Q : BlockRef → Type 0) (xs ys : List BlockRef) → AllByRecursion Q (xs ++ ys) → AllByRecursion Q xs × AllByRecursion Q ys
+    split : (Q : BlockRef → Type 0) (xs ys : List BlockRef) → AllByRecursion Q (xs ++ ys)
+        → AllByRecursion Q xs × AllByRecursion Q ys
     split Q [] ys all = (tt, all)
     split Q (x ∷ xs) ys all = let rest = split Q xs ys all.1 in ((all.0, rest.0), rest.1)
 
-    parts : (Q : BlockRef → Type 0) (ps : List (List Track × ℕ)) → AllByRecursion Q (all_blocks ps) → AllByRecursion (λ p. All Q (point_blocks p.0)) ps
+    parts : (Q : BlockRef → Type 0) (ps : List (List Track × ℕ)) → AllByRecursion Q (all_blocks ps)
+        → AllByRecursion (λ p. All Q (point_blocks p.0)) ps
     parts Q [] all = tt
-    parts Q (p ∷ ps) all = let both = split Q (point_blocks p.0) (all_blocks ps) all in (All-from_recursion Q (point_blocks p.0) both.0, parts Q ps both.1)
+    parts Q (p ∷ ps) all =
+        let both = split Q (point_blocks p.0) (all_blocks ps) all in
+        (All-from_recursion Q (point_blocks p.0) both.0, parts Q ps both.1)
 
-pub both_all : {X : Type 0} (P Q R : X → Type 0) (xs : List X) → ((x : X) → P x → Q x → R x) → AllByRecursion P xs → AllByRecursion Q xs → AllByRecursion R xs
+pub both_all : {X : Type 0} (P Q R : X → Type 0) (xs : List X) → ((x : X) → P x → Q x → R x) → AllByRecursion P xs
+    → AllByRecursion Q xs → AllByRecursion R xs
 both_all P Q R [] f p q = tt
 both_all P Q R (x ∷ xs) f p q = (f x p.0 q.0, both_all P Q R xs f p.1 q.1)
 
@@ -80,11 +95,13 @@ pub is_held : (count : Option ℕ) (k : ℕ) → IsSome count → IsSome (held c
 is_held count zero has = has
 is_held count (suc k) has = is_held (Some (one_more count)) k refl
 
-pub noted_there : (files : List ℕ) (counts : Counts) (id : ℕ) → AreNoted files counts → (id ≢ 0) × Contains files id → IsSome (counts id)
+pub noted_there : (files : List ℕ) (counts : Counts) (id : ℕ) → AreNoted files counts → (id ≢ 0) × Contains files id
+    → IsSome (counts id)
 noted_there files counts id noted named = subst (λ (o : Option ℕ). IsSome o) (sym (noted.there id named.1 named.0)) refl
 
 -- the block that was found is one of them
-pub wrong_named : (sizes : ℕ → ℕ) (bs : List BlockRef) (b : BlockRef) → first_wrong sizes None bs ≡ Some b → Contains bs b
+pub wrong_named : (sizes : ℕ → ℕ) (bs : List BlockRef) (b : BlockRef) → first_wrong sizes None bs ≡ Some b
+    → Contains bs b
 wrong_named sizes bs b some =
     let found : FoundOne sizes None bs b = subst (Found sizes None bs) some (found_wrong sizes None bs) in
     ⊎_elim (λ o. absurd (none_some o)) (λ n. n.0) found.origin
@@ -92,13 +109,18 @@ wrong_named sizes bs b some =
     none_some : None ≡ Some b → ⊥
     none_some e = cc
 
-pub wrong_few : (sizes : ℕ → ℕ) (ps : List (List Track × ℕ)) (b : BlockRef) → All (λ p. All (λ b. IsBlock b.id b.len) (point_blocks p.0)) ps → first_wrong sizes None (all_blocks ps) ≡ Some b → b.len ≤ 262144
+pub wrong_few : (sizes : ℕ → ℕ) (ps : List (List Track × ℕ)) (b : BlockRef)
+    → All (λ p. All (λ b. IsBlock b.id b.len) (point_blocks p.0)) ps → first_wrong sizes None (all_blocks ps) ≡ Some b
+    → b.len ≤ 262144
 wrong_few sizes ps b all some =
-    (All-contains IsBlockRef (all_blocks ps) b (All-from_recursion IsBlockRef (all_blocks ps) (all_flat IsBlockRef ps all)) (wrong_named sizes (all_blocks ps) b some)).few
+    (All-contains IsBlockRef (all_blocks ps) b (All-from_recursion IsBlockRef (all_blocks ps)
+    (all_flat IsBlockRef ps all)) (wrong_named sizes (all_blocks ps) b some)).few
 
 -- the blocks of later points are among all
-pub blocks_among : (ps : List (List Track × ℕ)) (i : ℕ) (b : BlockRef) → Contains (all_blocks (drop i ps)) b → Contains (all_blocks ps) b
+pub blocks_among : (ps : List (List Track × ℕ)) (i : ℕ) (b : BlockRef) → Contains (all_blocks (drop i ps)) b
+    → Contains (all_blocks ps) b
 blocks_among [] zero b has = has
 blocks_among [] (suc i) b has = has
 blocks_among (p ∷ ps) zero b has = has
-blocks_among (p ∷ ps) (suc i) b has = Contains-append_right (point_blocks p.0) (all_blocks ps) b (blocks_among ps i b has)
+blocks_among (p ∷ ps) (suc i) b has =
+    Contains-append_right (point_blocks p.0) (all_blocks ps) b (blocks_among ps i b has)

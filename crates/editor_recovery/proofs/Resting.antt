@@ -11,7 +11,7 @@ use Rattle.project_journal.proofs.Found.{whole_log, stored_here, stored_rest}
 use Rattle.project_journal.proofs.Kept.{is_at_still}
 use Rattle.project_journal.specs.declared.reader.Reader.{Reader}
 use Rattle.project_journal.specs.Reader.{IsReading}
-use Rattle.project_journal.proofs.Readings.{reading_kept}
+use Rattle.project_journal.proofs.FirstReadings.{reading_kept}
 use Rattle.editor_recovery.specs.declared.disk.Disk.{Disk}
 use Rattle.editor_recovery.specs.declared.disk.Folded.{Folded}
 use Rattle.editor_core.specs.declared.assembly.Parts.{Parts}
@@ -36,21 +36,26 @@ module _ {D : Type 0} {disk : Ghosts D} where
   durable_after mid new (Err e) kept here = tt
 
   -- and so does a reader of the journal
-  pub still_reading : (mid new : D) (reader : Reader) (r : Result Disk OpenFault) → IsReading disk mid reader [] → IfOk r (λ d. d.reader ≡ reader) → Kept disk mid new
+  pub still_reading : (mid new : D) (reader : Reader) (r : Result Disk OpenFault) → IsReading disk mid reader []
+      → IfOk r (λ d. d.reader ≡ reader) → Kept disk mid new
       → IfOk r (λ d. IsReading disk new d.reader [])
   still_reading mid new reader (Err e) here is kept = tt
-  still_reading mid new reader (Ok d) here is kept = subst (λ (x : Reader). IsReading disk new x []) (sym is) (reading_kept reader [] kept here)
+  still_reading mid new reader (Ok d) here is kept =
+      subst (λ (x : Reader). IsReading disk new x []) (sym is) (reading_kept reader [] kept here)
 
   -- the journal that was folded, after what was found beside it
-  pub rest_after : (old mid new : D) (f : Folded) (r : Result Parts OpenFault) → disk.reads mid ≡ disk.reads old → IsTrue (disk.tells mid) → IsDurable disk mid 0
+  pub rest_after : (old mid new : D) (f : Folded) (r : Result Parts OpenFault) → disk.reads mid ≡ disk.reads old
+      → IsTrue (disk.tells mid) → IsDurable disk mid 0
       → FoldsDisk disk mid (Ok f) → IfOk r (λ p. p.journal_end ≡ f.end) → Kept disk mid new
       → IfOk r (λ p. (log : Log) → HasLog version_1 log (disk.reads old) → IsAt version_1 disk new p.journal_end log)
   rest_after old mid new f (Err e) same tells here fold end kept = tt
   rest_after old mid new f (Ok p) same tells here fold end kept = λ log has.
       let j = fold.0 in
       let there = subst (λ (files : Files). HasLog version_1 log files) (sym same) has in
-      let says : log_of j ≡ log = (whole_log log (disk.reads mid) j there (stored_here disk mid j fold.1 tells).1).says in
+      let says : log_of j ≡ log =
+      (whole_log log (disk.reads mid) j there (stored_here disk mid j fold.1 tells).1).says in
       let place : j.end ≡ p.journal_end = sym (end ∙ fold.2.end) in
       still_at mid new p.journal_end log kept
       (subst (λ (n : ℕ). IsAt version_1 disk mid n log) place
-      (subst (λ (l : Log). IsAt version_1 disk mid j.end l) says (stored_rest disk mid j fold.1 tells here fold.2.early)))
+      (subst (λ (l : Log). IsAt version_1 disk mid j.end l) says
+      (stored_rest disk mid j fold.1 tells here fold.2.early)))

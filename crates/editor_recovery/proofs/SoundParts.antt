@@ -22,7 +22,8 @@ use Rattle.editor_recovery.specs.declared.fault.OpenFault.{OpenFault}
 use Rattle.editor_recovery.specs.Bounds.{IsSoundParts}
 use Rattle.editor_recovery.specs.Finding.{ArePartsOf, IsSoundFolded}
 
-format_of : (rate rate' size size' depth depth' : ℕ) → rate ≡ rate' → size ≡ size' → depth ≡ depth' → IsFormat rate' size' depth' → IsFormat rate size depth
+format_of : (rate rate' size size' depth depth' : ℕ) → rate ≡ rate' → size ≡ size' → depth ≡ depth'
+    → IsFormat rate' size' depth' → IsFormat rate size depth
 format_of rate rate' size size' depth depth' p q r f = record {
   rate_least = omega (arith, p, f.rate_least);
   even = omega (arith, q, f.even);
@@ -32,9 +33,11 @@ format_of rate rate' size size' depth depth' p q r f = record {
   depth_most = omega (arith, r, f.depth_most);
 }
 
-tagged_at : (m m' block block' track track' commit commit' : ℕ) (p : List Track × ℕ) → m' ≡ m → block ≤ block' → track' ≡ track → commit' ≡ commit → IsSoundTagged m block track commit p → IsSoundTagged m' block' track' commit' p
+tagged_at : (m m' block block' track track' commit commit' : ℕ) (p : List Track × ℕ) → m' ≡ m → block ≤ block' → track'
+    ≡ track → commit' ≡ commit → IsSoundTagged m block track commit p → IsSoundTagged m' block' track' commit' p
 tagged_at m m' block block' track track' commit commit' p size le same_track same_commit s =
-    subst (λ (n : ℕ). IsSoundTagged n block' track' commit' p) (sym size) (tagged_more m block track commit block' track' commit' p le (omega (arith, same_track)) (omega (arith, same_commit)) s)
+    subst (λ (n : ℕ). IsSoundTagged n block' track' commit' p) (sym size) (tagged_more m block track commit block'
+    track' commit' p le (omega (arith, same_track)) (omega (arith, same_commit)) s)
 
 sound_parts : (files : List ℕ) (f : Folded) (p : Parts) → IsSoundFolded f → find is_foreign files ≡ None
     → HaveOneLength (history_blocks f.project.history.history)
@@ -46,16 +49,21 @@ sound_parts files f p is known one named are =
     let sound = is.kept in
     let rate : p.rate ≡ j.rate = are.rate ∙ is.rate in
     let size : p.block_size ≡ j.block_size = are.block_size ∙ is.block_size in
-    let depth : p.history.history.depth ≡ j.depth = ap (λ (h : History (List Track)). h.depth) are.history ∙ sound.depth_is in
+    let depth : p.history.history.depth ≡ j.depth =
+    ap (λ (h : History (List Track)). h.depth) are.history ∙ sound.depth_is in
     let old = project.history.history.points in
     let all : All (IsSoundTagged p.block_size p.next_block p.next_track p.commit_number) old =
-    All-weaker (IsSoundTagged j.block_size project.next_block project.next_track project.commit) (IsSoundTagged p.block_size p.next_block p.next_track p.commit_number)
-    (λ x s. tagged_at j.block_size p.block_size project.next_block p.next_block project.next_track p.next_track project.commit p.commit_number x size are.next_block.no_lower are.next_track are.commit s) old sound.points in
+    All-weaker (IsSoundTagged j.block_size project.next_block project.next_track project.commit)
+    (IsSoundTagged p.block_size p.next_block p.next_track p.commit_number)
+    (λ x s. tagged_at j.block_size p.block_size project.next_block p.next_block project.next_track p.next_track
+    project.commit p.commit_number x size are.next_block.no_lower are.next_track are.commit s) old sound.points in
     let points : All (IsSoundTagged p.block_size p.next_block p.next_track p.commit_number) p.history.history.points =
-    subst (λ (h : History (List Track)). All (IsSoundTagged p.block_size p.next_block p.next_track p.commit_number) h.points) (sym are.history) all in
+    subst (λ (h : History (List Track)).
+    All (IsSoundTagged p.block_size p.next_block p.next_track p.commit_number) h.points) (sym are.history) all in
     record {
       parts = record {
-        format = format_of p.rate j.rate p.block_size j.block_size p.history.history.depth j.depth rate size depth is.readable.format;
+        format = format_of p.rate j.rate p.block_size j.block_size p.history.history.depth j.depth rate size depth
+            is.readable.format;
         counters = record {
           block_least = omega (arith, sound.block_least, are.next_block.no_lower);
           block_most = are.bound;
@@ -66,16 +74,20 @@ sound_parts files f p is known one named are =
           commit_most = omega (arith, sound.commit_is, are.commit, is.readable.records, is.readable.end);
           end_most = omega (arith, are.end, is.end, is.readable.end);
         };
-        points = recursion_from_All (IsSoundTagged p.block_size p.next_block p.next_track p.commit_number) p.history.history.points points;
-        counted = subst (λ (h : History (List Track)). IsFreshCount (ids_of (history_blocks h)) (count_of p.ledger)) (sym are.history)
+        points = recursion_from_All
+            (IsSoundTagged p.block_size p.next_block p.next_track p.commit_number) p.history.history.points points;
+        counted = subst (λ (h : History (List Track)). IsFreshCount (ids_of (history_blocks h)) (count_of p.ledger))
+            (sym are.history)
             (fresh files (history_blocks project.history.history) (count_of p.ledger) are.ledger
             (all_flat (λ b. (b.id ≢ 0) × Contains files b.id) old named));
-        given = given files (history_blocks project.history.history) (count_of p.ledger) project.next_block p.next_block are.ledger known are.next_block;
+        given = given files (history_blocks project.history.history)
+            (count_of p.ledger) project.next_block p.next_block are.ledger known are.next_block;
       };
       one_length = subst (λ (h : History (List Track)). HaveOneLength (history_blocks h)) (sym are.history) one;
     }
 
-pub sound_result : (files : List ℕ) (f : Folded) (r : Result Parts OpenFault) → IsSoundFolded f → find is_foreign files ≡ None
+pub sound_result : (files : List ℕ) (f : Folded) (r : Result Parts OpenFault) → IsSoundFolded f
+    → find is_foreign files ≡ None
     → HaveOneLength (history_blocks f.project.history.history)
     → All (λ p. All (λ b. (b.id ≢ 0) × Contains files b.id) (point_blocks p.0)) f.project.history.history.points
     → IfOk r (ArePartsOf files f) → IfOk r IsSoundParts

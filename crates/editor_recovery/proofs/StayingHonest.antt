@@ -1,5 +1,6 @@
 -- The calls of a studio leave an honest disk honest.
-use Rattle.std.proofs.Common.{◌≡◌, ◌≢◌, ◌⊎◌, ◌∙◌, inl, inr, ⊎_elim, sym, ap, subst, refl, ℕ, ◌++◌, ◌^◌, ◌≤◌, ◌<◌, Bool, true, false, Option, Some, None, List, [], ◌∷◌, Result, arith}
+use Rattle.std.proofs.Common.{◌≡◌, ◌≢◌, ◌⊎◌, ◌∙◌, inl, inr, ⊎_elim, sym, ap, subst, refl, ℕ, ◌++◌, ◌^◌, ◌≤◌, ◌<◌, Bool}
+use Rattle.std.proofs.Common.{true, false, Option, Some, None, List, [], ◌∷◌, Result, arith}
 use Rattle.std.specs.Prelude.{Contains, IsSome, IsTrue, if◌then◌else◌, nat_le, nat_lt, ◌&&◌, ◌||◌}
 use Rattle.std.specs.List.{AllByRecursion}
 use Rattle.std.proofs.lemmas.Bool.{leb-true}
@@ -26,7 +27,8 @@ use Rattle.project_state.specs.Kept.{LeadTo, history_blocks, new_project}
 use Rattle.project_state.proofs.KeptOnce.{kept_once}
 use Rattle.editor_core.specs.Core.{Core}
 use Rattle.editor_core.specs.Left.{IsBegun, LeavesOthers, MayRemove}
-use Rattle.editor_core.specs.Studios.{IsDurable, IsHeld, IsStudio, clip_blocks, named_blocks, pin_blocks, shown, studio_of}
+use Rattle.editor_core.specs.Studios.{IsDurable, IsHeld, IsStudio, clip_blocks, named_blocks, pin_blocks, shown}
+use Rattle.editor_core.specs.Studios.{studio_of}
 use Rattle.editor_core.specs.Took.{Took}
 use Rattle.editor_recovery.specs.Files.{NoForeign, is_foreign}
 use Rattle.editor_recovery.specs.Honest.{IsHonest, Names}
@@ -52,11 +54,13 @@ none_there : (o : Option (List ℕ)) → o ≡ None → IsSome o → ⊥
 none_there None none some = absurd (cc some)
 none_there (Some bytes) none some = absurd (cc none)
 
-no_foreign : (first last : ℕ) (MayGo : ℕ → Type 0) (d c : Files) → 16 ≤ first → LeavesOthers first last MayGo d c → NoForeign d → NoForeign c
+no_foreign : (first last : ℕ) (MayGo : ℕ → Type 0) (d c : Files) → 16 ≤ first → LeavesOthers first last MayGo d c
+    → NoForeign d → NoForeign c
 no_foreign first last MayGo d c least step before file some foreign = ⊎_elim
     (λ same. before file (subst (λ (o : Option (List ℕ)). IsSome o) same some) foreign)
     (λ gone. none_there (c file) gone.1 some)
-    (step.others file (not_journal file foreign) (λ begun. own file (omega (arith, least, begun.least)) begun.block foreign))
+    (step.others file (not_journal file foreign)
+    (λ begun. own file (omega (arith, least, begun.least)) begun.block foreign))
 
 -- ---- blocks that images name
 
@@ -65,11 +69,13 @@ front_of P [] ys all = tt
 front_of P (x ∷ xs) ys all = (all.0, front_of P xs ys all.1)
 
 same_block : (c d : Files) (id : ℕ) → c id ≡ d id → blocks c id ≡ blocks d id
-same_block c d id same = ap (λ (o : Option (List ℕ)). if nat_le 16 id && nat_lt id (2 ^ 62) then option_and_then (block_in id) o else None) same
+same_block c d id same = ap
+    (λ (o : Option (List ℕ)). if nat_le 16 id && nat_lt id (2 ^ 62) then option_and_then (block_in id) o else None) same
 
 module _ {D : Type 0} (disk : Ghosts D) (s : Core D) (durable : IsDurable disk s) where
   -- what an image names is as the store reads
-  named_same : (c : Files) → disk.may_leave s.store (disk.clock s.store) c → (id : ℕ) → Names c id → c id ≡ disk.reads s.store id
+  named_same : (c : Files) → disk.may_leave s.store (disk.clock s.store) c → (id : ℕ) → Names c id
+      → c id ≡ disk.reads s.store id
   named_same c now id names =
       let has = each_has durable.there c now in
       let log : names.log ≡ durable.log = log_once version_1 names.log durable.log c names.there has in
@@ -80,16 +86,21 @@ module _ {D : Type 0} (disk : Ghosts D) (s : Core D) (durable : IsDurable disk s
       subst (λ h. Contains (history_blocks h) names.block) durable.history
       (subst (λ (k : keeping.Kept). Contains (history_blocks k.history) names.block) kept names.named) in
       let Same : BlockRef → Type 0 = λ b. c b.id ≡ disk.reads s.store b.id in
-      let all = front_of Same (history_blocks s.history) (pin_blocks s.pins ++ clip_blocks s.clipboard) (durable.blocks c now) in
-      subst (λ (n : ℕ). c n ≡ disk.reads s.store n) names.is (All-contains Same (history_blocks s.history) names.block (All-from_recursion Same (history_blocks s.history) all) there)
+      let all = front_of Same (history_blocks s.history) (pin_blocks s.pins ++ clip_blocks s.clipboard)
+      (durable.blocks c now) in
+      subst (λ (n : ℕ). c n ≡ disk.reads s.store n) names.is (All-contains Same (history_blocks s.history) names.block
+      (All-from_recursion Same (history_blocks s.history) all) there)
 
-module _ {D : Type 0} (disk : Ghosts D) (old new : Core D) (call : Call) (sound : SoundMove) (told : Result Reply Refusal) (removed : ℕ)
-    (is : IsStudio disk old) (held : IsHeld disk old) (honest : IsHonest disk old.store) (took : Took disk old call sound told removed new) where
+module _ {D : Type 0} (disk : Ghosts D) (old new : Core D) (call : Call) (sound : SoundMove)
+    (told : Result Reply Refusal) (removed : ℕ)
+    (is : IsStudio disk old) (held : IsHeld disk old) (honest : IsHonest disk old.store)
+    (took : Took disk old call sound told removed new) where
   -- at any moment of it
   no_foreign_since : (c : Files) → disk.may_leave new.store (disk.clock old.store) c → NoForeign c
   no_foreign_since c since =
       let from = took.changed.images.from c since in
-      no_foreign old.next_block new.next_block (MayRemove call old.counts) from.0 c is.counters.block_least from.2 (honest.foreign from.0 from.1)
+      no_foreign old.next_block new.next_block (MayRemove call old.counts) from.0 c is.counters.block_least from.2
+      (honest.foreign from.0 from.1)
 
   goes_on : new.stopped ≡ None → IsHonest disk new.store
   goes_on still =
@@ -98,9 +109,11 @@ module _ {D : Type 0} (disk : Ghosts D) (old new : Core D) (call : Call) (sound 
       let keeps = took.now still held in record {
         model = subst IsTrue (sym took.changed.model) honest.model;
         foreign = λ c now.
-            no_foreign_since c (images.fewer (disk.clock old.store) (disk.clock new.store) c images.later (upto_refl (disk.clock new.store)) now);
+            no_foreign_since c (images.fewer (disk.clock old.store) (disk.clock new.store) c images.later
+            (upto_refl (disk.clock new.store)) now);
         whole = λ c now. inr (shown (studio_of disk new), keeps c now);
-        same = λ c nc d nd id p q. same_block c d id (named_same disk new durable c nc id p ∙ sym (named_same disk new durable d nd id q));
+        same = λ c nc d nd id p q.
+            same_block c d id (named_same disk new durable c nc id p ∙ sym (named_same disk new durable d nd id q));
       }
 
   pub stays_honest : StaysHonest disk old new
@@ -117,11 +130,13 @@ module _ {D : Type 0} (disk : Ghosts D) (old new : Core D) (call : Call) (sound 
   }
 
 -- one image alone
-pub alone_honest : {D : Type 0} (disk : Ghosts D) (store : D) (files : Files) → IsHonestImage files → IsTrue (disk.keeps_model store)
+pub alone_honest : {D : Type 0} (disk : Ghosts D) (store : D) (files : Files) → IsHonestImage files
+    → IsTrue (disk.keeps_model store)
     → EachNow disk store (λ c. c ≡ files) → IsHonest disk store
 alone_honest disk store files image model alone = record {
   model = model;
   foreign = λ c now. subst NoForeign (sym (alone c now)) image.foreign;
-  whole = λ c now. subst (λ (f : Files). NoProject 0 f ⊎ ((found : keeping.Opened) × keeping.Keeps f found)) (sym (alone c now)) image.whole;
+  whole = λ c now. subst (λ (f : Files). NoProject 0 f ⊎ ((found : keeping.Opened) × keeping.Keeps f found))
+      (sym (alone c now)) image.whole;
   same = λ c nc d nd id p q. ap (λ (f : Files). blocks f id) (alone c nc ∙ sym (alone d nd));
 }

@@ -1,5 +1,6 @@
 -- What a check of a studio's blocks answers.
-use Rattle.std.specs.Prelude.{◌≡◌, ℕ, ◌<◌, IsTrue, List, length, take, slice_index_or, Contains, Result, Ok, Err, IfErr, IfOk, IsOkUnless}
+use Rattle.std.specs.Prelude.{◌≡◌, ℕ, ◌<◌, IsTrue, List, length, take, slice_index_or, Contains, Result, Ok, Err, IfErr}
+use Rattle.std.specs.Prelude.{IfOk, IsOkUnless}
 use Rattle.pcm_base.specs.declared.block.BlockRef.{BlockRef}
 use Rattle.disk_model.specs.Disk.{Files}
 use Rattle.disk_model.specs.Frames.{Kept}

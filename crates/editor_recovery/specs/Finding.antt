@@ -34,7 +34,8 @@ pub record IsFoldOf (j : Contents) (f : Folded) : Type 0 where
 -- that of the store's journal, or the first fault of its records, which is in file 0
 abbrev pub FoldsDisk : {D : Type 0} → Ghosts D → D → Result Folded OpenFault → Type 0
 FoldsDisk disk store (Ok f) = (j : Contents) × IsStored disk store j × IsFoldOf j f
-FoldsDisk disk store (Err (fault.Damaged file at want have)) = (j : Contents) × IsStored disk store j × (file ≡ 0) × (journal_fault j ≡ Some (record { at = at; want = want; have = have }))
+FoldsDisk disk store (Err (fault.Damaged file at want have)) = (j : Contents) × IsStored disk store j × (file ≡ 0)
+    × (journal_fault j ≡ Some (record { at = at; want = want; have = have }))
 FoldsDisk disk store (Err fault.NoMemory) = Unit {0}
 FoldsDisk disk store (Err fault.DiskFault) = Unit {0}
 FoldsDisk disk store (Err _) = ⊥
@@ -59,7 +60,8 @@ pub record IsSoundFolded (f : Folded) : Type 0 where
 abbrev pub TestsMeasured : {T : Type 0} → (ℕ → ℕ) → List BlockRef → Result T OpenFault → Type 0
 TestsMeasured sizes blocks (Ok _) = first_wrong sizes None blocks ≡ None
 TestsMeasured sizes blocks (Err (fault.Damaged file at want have)) =
-    (b : BlockRef) × (first_wrong sizes None blocks ≡ Some b) × (file ≡ b.id) × (at ≡ 0) × (want ≡ size_of b.len) × (have ≡ sizes b.id)
+    (b : BlockRef) × (first_wrong sizes None blocks ≡ Some b) × (file ≡ b.id) × (at ≡ 0) × (want ≡ size_of b.len)
+    × (have ≡ sizes b.id)
 TestsMeasured sizes blocks (Err fault.NoMemory) = Unit {0}
 TestsMeasured sizes blocks (Err _) = ⊥
 
@@ -67,7 +69,8 @@ TestsMeasured sizes blocks (Err _) = ⊥
 abbrev pub TestsSizes : {T : Type 0} → Files → List BlockRef → Result T OpenFault → Type 0
 TestsSizes files blocks (Ok _) = AllHaveSize files blocks
 TestsSizes files blocks (Err (fault.Damaged file at want have)) =
-    (b : BlockRef) × IsFirstWrong files blocks b × (file ≡ b.id) × (at ≡ 0) × (want ≡ size_of b.len) × (have ≡ file_size files b.id)
+    (b : BlockRef) × IsFirstWrong files blocks b × (file ≡ b.id) × (at ≡ 0) × (want ≡ size_of b.len)
+    × (have ≡ file_size files b.id)
 TestsSizes files blocks (Err fault.NoMemory) = Unit {0}
 TestsSizes files blocks (Err fault.DiskFault) = Unit {0}
 TestsSizes files blocks (Err _) = ⊥

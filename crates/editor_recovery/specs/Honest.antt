@@ -32,7 +32,8 @@ pub record IsHonest {D : Type 0} (disk : Ghosts D) (store : D) : Type 0 where
   pub model : IsTrue (disk.keeps_model store)
   pub foreign : EachNow disk store NoForeign
   pub whole : EachNow disk store (λ c. NoProject 0 c ⊎ ((found : kept.Opened) × Keeps c found))
-  pub same : EachNow disk store (λ c. EachNow disk store (λ d. (id : ℕ) → Names c id → Names d id → blocks c id ≡ blocks d id))
+  pub same : EachNow disk store
+      (λ c. EachNow disk store (λ d. (id : ℕ) → Names c id → Names d id → blocks c id ≡ blocks d id))
 
 -- The disk keeps one project, which is what was found, and each image after the opening keeps it.
 pub record FindsKept {D : Type 0} (disk : Ghosts D) (old new : D) (f : Found) : Type 0 where

@@ -6,4 +6,5 @@ use Rattle.editor_recovery.specs.Opening.{FirstFault}
 
 -- the first fault of a disk is one, in one file
 abbrev pub HasOneFault : Type 0
-HasOneFault = (files : Files) (f g : ℕ) (d e : Damaged) → FirstFault files f d → FirstFault files g e → (f ≡ g) × (d ≡ e)
+HasOneFault = (files : Files) (f g : ℕ) (d e : Damaged) → FirstFault files f d → FirstFault files g e
+    → (f ≡ g) × (d ≡ e)

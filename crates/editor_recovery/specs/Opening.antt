@@ -27,7 +27,8 @@ HeaderFault files file d = (file ≡ 0) × (first_failed (header_tests (bytes_of
 
 -- or that of the records, or an early end of the file behind them
 abbrev pub RecordFault : Files → ℕ → Damaged → Type 0
-RecordFault files file d = (j : Contents) × IsJournal version_1 (bytes_of (files 0)) j × (file ≡ 0) × (journal_fault j ≡ Some d)
+RecordFault files file d =
+    (j : Contents) × IsJournal version_1 (bytes_of (files 0)) j × (file ≡ 0) × (journal_fault j ≡ Some d)
 
 -- or, where there is none, that of a block's file
 pub record SizeFault (files : Files) (file : ℕ) (d : Damaged) : Type 0 where
@@ -64,7 +65,8 @@ abbrev pub Opens : Files → Result Found OpenFault → Type 0
 Opens files (Ok f) = Finds files f
 Opens files (Err fault.Absent) = IsProject (bytes_of (files 0)) → ⊥
 Opens files (Err (fault.Foreign file)) = IsProject (bytes_of (files 0)) × IsFirstForeign files file
-Opens files (Err (fault.Damaged file at want have)) = IsProject (bytes_of (files 0)) × NoForeign files × FirstFault files file (record { at = at; want = want; have = have })
+Opens files (Err (fault.Damaged file at want have)) = IsProject (bytes_of (files 0)) × NoForeign files
+    × FirstFault files file (record { at = at; want = want; have = have })
 Opens files (Err fault.DiskFault) = Unit {0}
 Opens files (Err fault.NoMemory) = Unit {0}
 Opens files (Err fault.Exists) = ⊥

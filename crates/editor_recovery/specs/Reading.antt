@@ -15,7 +15,8 @@ abbrev pub Refuses : Files → (at want have : ℕ) → Result Disk OpenFault �
 Refuses files at want have (Ok d) = ⊥
 Refuses files at want have (Err fault.Absent) = ⊥
 Refuses files at want have (Err fault.Exists) = ⊥
-Refuses files at want have (Err (fault.Damaged file at' want' have')) = NoForeign files × (file ≡ 0) × (at' ≡ at) × (want' ≡ want) × (have' ≡ have)
+Refuses files at want have (Err (fault.Damaged file at' want' have')) =
+    NoForeign files × (file ≡ 0) × (at' ≡ at) × (want' ≡ want) × (have' ≡ have)
 Refuses files at want have (Err (fault.Foreign file)) = IsFirstForeign files file
 Refuses files at want have (Err fault.DiskFault) = Unit {0}
 Refuses files at want have (Err fault.NoMemory) = Unit {0}
@@ -32,7 +33,8 @@ abbrev pub ReadsDisk : Files → Result Disk OpenFault → Type 0
 ReadsDisk files (Ok d) = IsProject (bytes_of (files 0)) × AreFiles files d.files.items × NoForeign files
 ReadsDisk files (Err fault.Absent) = IsProject (bytes_of (files 0)) → ⊥
 ReadsDisk files (Err fault.Exists) = ⊥
-ReadsDisk files (Err (fault.Damaged file at want have)) = IsProject (bytes_of (files 0)) × NoForeign files × HeaderFault files file (record { at = at; want = want; have = have })
+ReadsDisk files (Err (fault.Damaged file at want have)) = IsProject (bytes_of (files 0)) × NoForeign files
+    × HeaderFault files file (record { at = at; want = want; have = have })
 ReadsDisk files (Err (fault.Foreign file)) = IsProject (bytes_of (files 0)) × IsFirstForeign files file
 ReadsDisk files (Err fault.DiskFault) = Unit {0}
 ReadsDisk files (Err fault.NoMemory) = Unit {0}

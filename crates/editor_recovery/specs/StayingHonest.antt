@@ -20,8 +20,8 @@ pub record IsHonestImage (files : Files) : Type 0 where
   pub foreign : NoForeign files
   pub whole : NoProject 0 files ⊎ ((found : Opened) × Keeps files found)
 
--- A disk that was honest before a call stays so where the studio goes on, and where it had stopped before. At any moment
--- of a call that found the studio going each image is one of an honest disk, also where the call stopped it.
+-- A disk that was honest before a call stays so where the studio goes on, and where it had stopped before. At any
+-- moment of a call that found the studio going each image is one of an honest disk, also where the call stopped it.
 pub record StaysHonest {D : Type 0} (disk : Ghosts D) (old new : Core D) : Type 0 where
   pub going : new.stopped ≡ None → IsHonest disk new.store
   pub rested : IsSome old.stopped → IsHonest disk new.store

@@ -40,7 +40,8 @@ fn note_files(alloc: Global, files: &[u64]) -> Result<Ledger, NoMemory>
 
 fn hold_block(ledger: &mut Ledger, block: &BlockRef)
     requires { IsSome (count_of ledger.old block.now.id) }
-    ensures { SetsCount (count_of ledger.old) (count_of ledger.new) block.now.id (Some (one_more (count_of ledger.old block.now.id))) }
+    ensures { SetsCount (count_of ledger.old) (count_of ledger.new) block.now.id
+        (Some (one_more (count_of ledger.old block.now.id))) }
 {
     ledger.hold(block.id);
 }
@@ -61,7 +62,8 @@ pub(crate) fn count_blocks(
     files: &[u64],
     history: &History<Point>,
 ) -> Result<Ledger, NoMemory>
-    requires { All (λ p. All (λ b. (b.id ≢ 0) × Contains files.now b.id) (point_blocks p.0)) history.now.history.points }
+    requires { All
+        (λ p. All (λ b. (b.id ≢ 0) × Contains files.now b.id) (point_blocks p.0)) history.now.history.points }
     ensures { IfOk result (λ l. IsCounted files.now (history_blocks history.now.history) (count_of l)) }
 {
     let mut ledger = note_files(alloc, files)?;

@@ -36,7 +36,8 @@ fn is_there<S: Store>(store: &mut S) -> Result<bool, OpenFault>
 
 /// The same by the file's size, how many bytes a read of its first gave, and that byte.
 fn is_open(size: u64, count: usize, gate: u8) -> bool
-    ensures { (content : Option (List ℕ)) → IsFront content size count gate → IsTrue result ↔ IsProject (bytes_of content) }
+    ensures { (content : Option (List ℕ)) → IsFront content size count gate
+        → IsTrue result ↔ IsProject (bytes_of content) }
 {
     size >= 33 && count == 1 && gate != 0
 }
@@ -76,7 +77,8 @@ fn make<S: Store>(store: &mut S, rate: u32, block_size: u32, depth: u32) -> Resu
         ⊎ (NoProject 0 c ⊎ HasLog version_1 (fresh rate block_size depth) c)) }
     ensures done { IsTrue (S.tells store.old)
         → OnOk result (IsAt version_1 S.Store store.new 32 (fresh rate block_size depth)) }
-    ensures answer { IsTrue (S.tells store.old) → NoProject 0 (S.reads store.old) → IfErr result (λ e. e ≡ OpenFault.DiskFault) }
+    ensures answer { IsTrue (S.tells store.old) → NoProject 0 (S.reads store.old)
+        → IfErr result (λ e. e ≡ OpenFault.DiskFault) }
     ensures refusals { IfErr result IsCreateRefusal }
     ensures durable { OnOk result (IsDurable S.Store store.new 0) }
     ensures cause { Causes S.Store store.old store.new result }
@@ -91,14 +93,14 @@ fn make<S: Store>(store: &mut S, rate: u32, block_size: u32, depth: u32) -> Resu
     }
 }
 
-/// Makes a project without commits, where none is there. The rate is frames a second, from 1. A largest block is so many
-/// samples, even, from 4 to 262,144. The depth is how many points a history keeps, 1 to 4,096.
+/// Makes a project without commits, where none is there. The rate is frames a second, from 1. A largest block is so
+/// many samples, even, from 4 to 262,144. The depth is how many points a history keeps, 1 to 4,096.
 ///
 /// # Errors
 ///
-/// Exists: a project is there. Foreign: a file is there that is neither the journal nor a block, the least of them. Both
-/// leave the store as it was, and so does NoMemory. After DiskFault a stop leaves no project, the new one, or what it
-/// could leave before.
+/// Exists: a project is there. Foreign: a file is there that is neither the journal nor a block, the least of them.
+/// Both leave the store as it was, and so does NoMemory. After DiskFault a stop leaves no project, the new one, or what
+/// it could leave before.
 pub fn create<S: Store>(
     alloc: Global,
     store: &mut S,
@@ -113,7 +115,8 @@ pub fn create<S: Store>(
         (λ c. S.may_leave store.old (S.clock store.old) c
         ⊎ (NoProject 0 c ⊎ Keeps c (new_opened rate block_size depth))) }
     // After it the store and each image keep the new one.
-    ensures done { IsTrue (S.tells store.old) → OnOk result (Keeps (S.reads store.new) (new_opened rate block_size depth)
+    ensures done { IsTrue (S.tells store.old)
+        → OnOk result (Keeps (S.reads store.new) (new_opened rate block_size depth)
         × EachNow S.Store store.new (λ c. Keeps c (new_opened rate block_size depth))) }
     ensures answer { IsTrue (S.tells store.old) → Creates (S.reads store.old) result }
     // An honest disk stays so, whatever is answered.

@@ -14,7 +14,8 @@ ghost use Rattle.editor_recovery.specs.Bounds.{IsSoundParts};
 ghost use Rattle.editor_recovery.specs.Listing.{AreFiles};
 ghost use Rattle.editor_recovery.specs.Files.{is_foreign, NoForeign};
 ghost use Rattle.editor_recovery.specs.Found.{answer_in};
-ghost use Rattle.editor_recovery.specs.Finding.{FoldsDisk, IsFoldOf, IsSoundFolded, records_fault, TestsMeasured, TestsSizes, ArePartsOf};
+ghost use Rattle.editor_recovery.specs.Finding.{FoldsDisk, IsFoldOf, IsSoundFolded, records_fault, TestsMeasured};
+ghost use Rattle.editor_recovery.specs.Finding.{TestsSizes, ArePartsOf};
 ghost use Rattle.editor_recovery.specs.Measured.{size_in};
 ghost use Rattle.editor_recovery.specs.Causes.{Causes};
 ghost use Rattle.editor_core.specs.Scans.{HaveOneLength};
@@ -116,9 +117,11 @@ fn test_files<S: Store>(
     history: &History<Point>,
 ) -> Result<(), OpenFault>
     requires { All (λ p. All (λ b. IsBlock b.id b.len) (point_blocks p.0)) history.now.history.points }
-    ensures tests { IsTrue (S.tells store.old) → AreFiles (S.reads store.old) files.now → TestsSizes (S.reads store.old) (history_blocks history.now.history) result }
+    ensures tests { IsTrue (S.tells store.old) → AreFiles (S.reads store.old) files.now
+        → TestsSizes (S.reads store.old) (history_blocks history.now.history) result }
     ensures one_length { OnOk result (HaveOneLength (history_blocks history.now.history)) }
-    ensures named { OnOk result (All (λ p. All (λ b. (b.id ≢ 0) × Contains files.now b.id) (point_blocks p.0)) history.now.history.points) }
+    ensures named { OnOk result
+        (All (λ p. All (λ b. (b.id ≢ 0) × Contains files.now b.id) (point_blocks p.0)) history.now.history.points) }
     ensures kept { Kept S.Store store.old store.new }
     ensures cause { Causes S.Store store.old store.new result }
 {
@@ -133,7 +136,8 @@ fn parts_of(alloc: Global, files: &[u64], folded: Folded) -> Result<Parts, OpenF
     requires known { find is_foreign files.now ≡ None }
     requires rising { IsStrictlyIncreasing files.now }
     requires block { folded.project.next_block ≤ 2 ^ 62 }
-    requires named { All (λ p. All (λ b. (b.id ≢ 0) × Contains files.now b.id) (point_blocks p.0)) folded.project.history.history.points }
+    requires named { All (λ p. All (λ b. (b.id ≢ 0) × Contains files.now b.id) (point_blocks p.0))
+        folded.project.history.history.points }
     ensures parts { IfOk result (ArePartsOf files.now folded) }
     ensures memory { IfErr result (λ e. e ≡ OpenFault.NoMemory) }
 {
@@ -167,7 +171,8 @@ fn size_parts<S: Store>(
     requires known { find is_foreign files.now ≡ None }
     requires rising { IsStrictlyIncreasing files.now }
     requires sound { IsSoundFolded folded }
-    ensures opens { (j : Contents) → IsTrue (S.tells store.old) → IsRead (S.reads store.old) j files.now → IsFoldOf j folded → Opens (S.reads store.old) (answer_in result) }
+    ensures opens { (j : Contents) → IsTrue (S.tells store.old) → IsRead (S.reads store.old) j files.now
+        → IsFoldOf j folded → Opens (S.reads store.old) (answer_in result) }
     ensures sound { IfOk result IsSoundParts }
     ensures end { IfOk result (λ p. p.journal_end ≡ folded.end) }
     ensures kept { Kept S.Store store.old store.new }
@@ -188,9 +193,11 @@ pub(crate) fn find_parts<S: Store>(
     requires known { find is_foreign disk.files.items ≡ None }
     requires rising { IsStrictlyIncreasing disk.files.items }
     requires reading { IsReading S.Store store.old disk.reader [] }
-    ensures opens { IsTrue (S.tells store.old) → AreFiles (S.reads store.old) disk.files.items → NoForeign (S.reads store.old) → IsProject (bytes_of (S.reads store.old 0))
+    ensures opens { IsTrue (S.tells store.old) → AreFiles (S.reads store.old) disk.files.items
+        → NoForeign (S.reads store.old) → IsProject (bytes_of (S.reads store.old 0))
         → Opens (S.reads store.old) (answer_in result) }
-    ensures at_rest { IsTrue (S.tells store.old) → IsDurable S.Store store.old 0 → IfOk result (λ p. (log : Log) → HasLog version_1 log (S.reads store.old)
+    ensures at_rest { IsTrue (S.tells store.old) → IsDurable S.Store store.old 0
+        → IfOk result (λ p. (log : Log) → HasLog version_1 log (S.reads store.old)
         → IsAt version_1 S.Store store.new p.journal_end log) }
     ensures sound { IfOk result IsSoundParts }
     ensures kept { Kept S.Store store.old store.new }

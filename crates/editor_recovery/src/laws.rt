@@ -9,8 +9,8 @@ pub fn a_disk_has_one_fault()
     ensures { HasOneFault }
 {}
 
-/// A call of a studio leaves an honest disk honest as long as the studio goes on, and at any moment each image is one of
-/// an honest disk: where it alone is on a disk, that disk is honest.
+/// A call of a studio leaves an honest disk honest as long as the studio goes on, and at any moment each image is one
+/// of an honest disk: where it alone is on a disk, that disk is honest.
 pub fn calls_stay_honest<S: Store>()
     ensures calls { CallsStayHonest S.Store }
     ensures images { ImagesAreHonest S.Store }

@@ -1,5 +1,6 @@
 // The files of a disk.
-ghost use Rattle.std.specs.Prelude.{◌≡◌, ◌↔◌, ◌+◌, ◌^◌, ◌≤◌, ℕ, IsTrue, IsSome, IfSome, IfNone, IfOk, IfErr, Contains, find};
+ghost use Rattle.std.specs.Prelude.{◌≡◌, ◌↔◌, ◌+◌, ◌^◌, ◌≤◌, ℕ, IsTrue, IsSome, IfSome, IfNone, IfOk, IfErr, Contains};
+ghost use Rattle.std.specs.Prelude.{find};
 ghost use Rattle.std.specs.List.Sorted.{IsStrictlyIncreasing};
 ghost use Rattle.disk_model.specs.Frames.{Kept};
 ghost use Rattle.editor_recovery.specs.Files.{is_foreign, IsAbove};

@@ -13,7 +13,8 @@ use std::alloc::Global;
 
 fn measure_one<S: Store>(store: &mut S, sizes: &mut Sizes, file: u64) -> Result<(), OpenFault>
     ensures same { OnOk result ((other : ℕ) → (other ≡ file → ⊥) → size_in sizes.new other ≡ size_in sizes.old other) }
-    ensures sizes { IsTrue (S.tells store.old) → OnOk result ((other : ℕ) → size_in sizes.new other ≡ (if other == file then file_size (S.reads store.old) file else size_in sizes.old other)) }
+    ensures sizes { IsTrue (S.tells store.old) → OnOk result ((other : ℕ) → size_in sizes.new other
+        ≡ (if other == file then file_size (S.reads store.old) file else size_in sizes.old other)) }
     ensures kept { Kept S.Store store.old store.new }
     ensures refused { IfErr result IsRefusal }
     ensures cause { Causes S.Store store.old store.new result }
@@ -30,7 +31,8 @@ pub(crate) fn measure<S: Store>(
     files: &[u64],
 ) -> Result<Sizes, OpenFault>
     ensures listed { IfOk result (λ s. (file : ℕ) → (size_in s file ≡ 0) ⊎ Contains files.now file) }
-    ensures sizes { IsTrue (S.tells store.old) → IfOk result (λ s. AreFiles (S.reads store.old) files.now → (file : ℕ) → size_in s file ≡ file_size (S.reads store.old) file) }
+    ensures sizes { IsTrue (S.tells store.old) → IfOk result (λ s. AreFiles (S.reads store.old) files.now → (file : ℕ)
+        → size_in s file ≡ file_size (S.reads store.old) file) }
     ensures kept { Kept S.Store store.old store.new }
     ensures refused { IfErr result IsRefusal }
     ensures cause { Causes S.Store store.old store.new result }

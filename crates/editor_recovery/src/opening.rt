@@ -27,7 +27,8 @@ use std::alloc::Global;
 /// What a store has of a project.
 fn open_parts<S: Store>(alloc: Global, store: &mut S) -> Result<Parts, OpenFault>
     ensures opens { IsTrue (S.tells store.old) → Opens (S.reads store.old) (answer_in result) }
-    ensures at_rest { IsTrue (S.tells store.old) → IfOk result (λ p. (log : Log) → HasLog version_1 log (S.reads store.old)
+    ensures at_rest { IsTrue (S.tells store.old)
+        → IfOk result (λ p. (log : Log) → HasLog version_1 log (S.reads store.old)
         → IsAt version_1 S.Store store.new p.journal_end log) }
     ensures sound { IfOk result IsSoundParts }
     ensures durable { OnOk result (IsDurable S.Store store.new 0) }

@@ -56,7 +56,8 @@ fn refused<S: Store>(
     }
 }
 
-/// Reads the journal's header and lists the files. Absent comes first, then the first foreign file, and then the header's fault.
+/// Reads the journal's header and lists the files. Absent comes first, then the first foreign file, and then the
+/// header's fault.
 pub(crate) fn read_disk<S: Store>(alloc: Global, store: &mut S) -> Result<Disk, OpenFault>
     ensures reads { IsTrue (S.tells store.old) → ReadsDisk (S.reads store.old) result }
     ensures reading { IfOk result (λ d. IsReading S.Store store.new d.reader []) }

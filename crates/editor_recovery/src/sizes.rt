@@ -30,7 +30,8 @@ impl Sizes {
     }
 
     pub(crate) fn put(&mut self, file: u64, size: u64) -> Result<(), NoMemory>
-        ensures { OnOk result ((other : ℕ) → size_in self.new other ≡ (if other == file then size else size_in self.old other)) }
+        ensures { OnOk result
+            ((other : ℕ) → size_in self.new other ≡ (if other == file then size else size_in self.old other)) }
     {
         self.sizes.insert(file, size)?;
         Ok(())

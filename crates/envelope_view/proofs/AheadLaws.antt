@@ -1,8 +1,10 @@
 -- The cells of what is left, and the samples among them.
-use Rattle.std.proofs.Common.{◌≡◌, ℕ, zero, suc, ◌+◌, ◌-◌, ◌≤◌, ◌<◌, ℤ, List, [], ◌∷◌, ◌++◌, length, take, drop, map, Some, refl, sym, ap, ap₂, subst, ◌∙◌, arith, length-drop}
+use Rattle.std.proofs.Common.{◌≡◌, ℕ, zero, suc, ◌+◌, ◌-◌, ◌≤◌, ◌<◌, ℤ, List, [], ◌∷◌, ◌++◌, length, take, drop, map}
+use Rattle.std.proofs.Common.{Some, refl, sym, ap, ap₂, subst, ◌∙◌, arith, length-drop}
 use Rattle.std.specs.Prelude.{replicate, Contains, FitsSigned}
 use Rattle.std.specs.Int.{w16}
-use Rattle.std.proofs.lemmas.List.{take-append-le, drop-append-le, drop-drop, take-map, take-replicate, length-take, take_rest, nil_from_length}
+use Rattle.std.proofs.lemmas.List.{take-append-le, drop-append-le, drop-drop, take-map, take-replicate, length-take}
+use Rattle.std.proofs.lemmas.List.{take_rest, nil_from_length}
 use Rattle.std.proofs.lemmas.List.Elements.{All-take, All-drop, All-nil, Contains-append_left, Contains-append_right}
 use Rattle.std.proofs.Math.Seq.{take-add}
 use Rattle.disk_model.specs.Disk.{Files, bytes_of}
@@ -24,7 +26,8 @@ use Rattle.peak_summary.specs.Peaks.{AreSamples, summary_of}
 use Rattle.clip_track.specs.declared.rest.Stretch.{Stretch}
 use Rattle.clip_track.specs.declared.rest.Stretch.TheVariants.{Gaps, Block}
 use Rattle.clip_track.specs.declared.items.Item.{Item}
-use Rattle.clip_track.specs.Items.{AreItems, IsItem, item_blocks, item_cells, item_len, part_of_item, strip_blocks, strip_cells}
+use Rattle.clip_track.specs.Items.{AreItems, IsItem, item_blocks, item_cells, item_len, part_of_item, strip_blocks}
+use Rattle.clip_track.specs.Items.{strip_cells}
 use Rattle.clip_track.specs.Rests.{stretch_item}
 use Rattle.clip_track.proofs.Strips.{item_part_cells, item_some, length-item_cells}
 use Rattle.envelope_view.specs.Ahead.{IsInBlock, stretch_blocks, stretch_cells, stretch_len}
@@ -56,19 +59,24 @@ among_few n xs = omega (arith, among_most (take n xs), length-take n xs)
 
 -- of a stretch and what follows it so many cells are taken, first some of the stretch
 pub swept : (xs ys : List Cell) (left size : ℕ) → size ≤ left → size ≤ length xs
-    → samples_among (take left (xs ++ ys)) ≡ samples_among (take size xs) ++ samples_among (take (left - size) (drop size xs ++ ys))
+    → samples_among (take left (xs ++ ys)) ≡ samples_among (take size xs)
+    ++ samples_among (take (left - size) (drop size xs ++ ys))
 swept xs ys left size within part =
     let e : left ≡ size + (left - size) = omega arith in
     ap (λ (k : ℕ). samples_among (take k (xs ++ ys))) e
-    ∙ ap samples_among (take-add size (left - size) (xs ++ ys) ∙ ap₂ (λ (zs ws : List Cell). zs ++ take (left - size) ws) (take-append-le size xs ys part) (drop-append-le size xs ys part))
+    ∙ ap samples_among (take-add size (left - size) (xs ++ ys) ∙ ap₂ (λ (zs ws : List Cell). zs
+    ++ take (left - size) ws) (take-append-le size xs ys part) (drop-append-le size xs ys part))
     ∙ among-append (take size xs) (take (left - size) (drop size xs ++ ys))
 
-pub passed_on : (xs ys : List Cell) (left size : ℕ) → size ≤ left → size ≤ length xs → drop left (xs ++ ys) ≡ drop (left - size) (drop size xs ++ ys)
+pub passed_on : (xs ys : List Cell) (left size : ℕ) → size ≤ left → size ≤ length xs
+    → drop left (xs ++ ys) ≡ drop (left - size) (drop size xs ++ ys)
 passed_on xs ys left size within part =
     let e : size + (left - size) ≡ left = omega arith in
-    sym (ap (drop (left - size)) (sym (drop-append-le size xs ys part)) ∙ drop-drop (left - size) size (xs ++ ys) ∙ ap (λ (k : ℕ). drop k (xs ++ ys)) e)
+    sym (ap (drop (left - size)) (sym (drop-append-le size xs ys part)) ∙ drop-drop (left - size) size (xs ++ ys)
+    ∙ ap (λ (k : ℕ). drop k (xs ++ ys)) e)
 
-pub behind_cells : (src : Sources) (s t : Stretch) (n : ℕ) → n ≤ stretch_len s → stretch_item t ≡ part_of_item n (stretch_len s - n) (stretch_item s)
+pub behind_cells : (src : Sources) (s t : Stretch) (n : ℕ) → n ≤ stretch_len s
+    → stretch_item t ≡ part_of_item n (stretch_len s - n) (stretch_item s)
     → stretch_cells src t ≡ drop n (stretch_cells src s)
 behind_cells src s t n within is =
     let x = stretch_item s in
@@ -77,7 +85,8 @@ behind_cells src s t n within is =
     ∙ ap (λ (k : ℕ). take k (drop n (item_cells src x))) len ∙ take_rest (item_cells src x) n
 
 -- a stretch of a block of the disk
-pub block_front : (files : Files) (b : BlockRef) (from n : ℕ) (xs : List ℤ) → blocks files b.id ≡ Some xs → length xs ≡ b.len → from + n ≤ b.len
+pub block_front : (files : Files) (b : BlockRef) (from n : ℕ) (xs : List ℤ) → blocks files b.id ≡ Some xs
+    → length xs ≡ b.len → from + n ≤ b.len
     → samples_among (take n (stretch_cells (sources_of files) (Block b from))) ≡ part from (from + n) xs
 block_front files b from n xs e size within =
     let ys : List ℤ = stretch (samples_on files b.id) from (b.len - from) in
@@ -91,58 +100,74 @@ pub gaps_front : (src : Sources) (len n : ℕ) → n ≤ len → samples_among (
 gaps_front src len n within = ap samples_among (take-replicate n len Gap within) ∙ among-gaps n
 
 -- samples of whole blocks fit 16 bits
-pub front_fits : (files : Files) (s : Stretch) (n : ℕ) → IsInBlock s → n ≤ stretch_len s → AreWhole files (stretch_blocks s)
+pub front_fits : (files : Files) (s : Stretch) (n : ℕ) → IsInBlock s → n ≤ stretch_len s
+    → AreWhole files (stretch_blocks s)
     → AreSamples (samples_among (take n (stretch_cells (sources_of files) s)))
-front_fits files (Gaps len) n ok within whole = subst AreSamples (sym (gaps_front (sources_of files) len n within)) (All-nil (λ s. FitsSigned w16 s))
+front_fits files (Gaps len) n ok within whole =
+    subst AreSamples (sym (gaps_front (sources_of files) len n within)) (All-nil (λ s. FitsSigned w16 s))
 front_fits files (Block b from) n ok within whole =
     let w = whole b (one_there b) in
     subst AreSamples (sym (block_front files b from n w.0 w.1 w.2 (omega (arith, within, ok))))
-    (All-take (λ s. FitsSigned w16 s) (from + n - from) _ (All-drop (λ s. FitsSigned w16 s) from w.0 (blocks_have files b.id w.0 w.1).spelled.0))
+    (All-take (λ s. FitsSigned w16 s) (from + n - from) _
+    (All-drop (λ s. FitsSigned w16 s) from w.0 (blocks_have files b.id w.0 w.1).spelled.0))
 
 -- the blocks of a stretch are among those that are left
-pub front_there : {X : Type 0} (P : X → Type 0) (xs ys : List X) → ((x : X) → Contains (xs ++ ys) x → P x) → (x : X) → Contains xs x → P x
+pub front_there : {X : Type 0} (P : X → Type 0) (xs ys : List X) → ((x : X) → Contains (xs ++ ys) x → P x) → (x : X)
+    → Contains xs x → P x
 front_there P xs ys all x there = all x (Contains-append_left xs ys x there)
 
 -- the next stretch is entered where all of one is passed
 
 empty_cells : (src : Sources) (x : Stretch) → stretch_len x ≡ 0 → stretch_cells src x ≡ []
-empty_cells src x none = nil_from_length (stretch_cells src x) (omega (arith, length-item_cells src (stretch_item x), none))
+empty_cells src x none =
+    nil_from_length (stretch_cells src x) (omega (arith, length-item_cells src (stretch_item x), none))
 
-pub entered_cells : (src : Sources) (x s : Stretch) (old new : List Item) → stretch_len x ≡ 0 → old ≡ stretch_item s ∷ new
+pub entered_cells : (src : Sources) (x s : Stretch) (old new : List Item) → stretch_len x ≡ 0
+    → old ≡ stretch_item s ∷ new
     → strip_cells src (stretch_item s ∷ new) ≡ strip_cells src (stretch_item x ∷ old)
 entered_cells src x s old new none is =
     sym (ap (λ (cs : List Cell). cs ++ strip_cells src old) (empty_cells src x none) ∙ ap (strip_cells src) is)
 
-pub ended_cells : (src : Sources) (x : Stretch) (new : List Item) → stretch_len x ≡ 0 → new ≡ [] → strip_cells src (stretch_item x ∷ new) ≡ []
-ended_cells src x new none is = ap (λ (cs : List Cell). cs ++ strip_cells src new) (empty_cells src x none) ∙ ap (strip_cells src) is
+pub ended_cells : (src : Sources) (x : Stretch) (new : List Item) → stretch_len x ≡ 0 → new ≡ []
+    → strip_cells src (stretch_item x ∷ new) ≡ []
+ended_cells src x new none is =
+    ap (λ (cs : List Cell). cs ++ strip_cells src new) (empty_cells src x none) ∙ ap (strip_cells src) is
 
 pub entered_blocks : (x s : Stretch) (old new : List Item) (b : BlockRef) → old ≡ stretch_item s ∷ new
     → Contains (strip_blocks (stretch_item s ∷ new)) b → Contains (strip_blocks (stretch_item x ∷ old)) b
 entered_blocks x s old new b is there =
-    Contains-append_right (item_blocks (stretch_item x)) (strip_blocks old) b (subst (λ (ys : List Item). Contains (strip_blocks ys) b) (sym is) there)
+    Contains-append_right (item_blocks (stretch_item x)) (strip_blocks old) b
+    (subst (λ (ys : List Item). Contains (strip_blocks ys) b) (sym is) there)
 
 in_block : (s : Stretch) → IsItem (stretch_item s) → IsInBlock s
 in_block (Gaps len) is = tt
 in_block (Block b from) is = is.1.0
 
-pub entered_ok : (s : Stretch) (old new : List Item) → AreItems old → old ≡ stretch_item s ∷ new → IsInBlock s × (0 < stretch_len s)
+pub entered_ok : (s : Stretch) (old new : List Item) → AreItems old → old ≡ stretch_item s ∷ new
+    → IsInBlock s × (0 < stretch_len s)
 entered_ok s old new ok is = let here = subst AreItems is ok in (in_block s here.0, item_some (stretch_item s) here.0)
 
 -- some cells of a stretch are passed, out of so many
 
-pub step_heard : (src : Sources) (s t : Stretch) (rest : List Item) (old : List Cell) (left size : ℕ) → size ≤ left → size ≤ stretch_len s
-    → stretch_item t ≡ part_of_item size (stretch_len s - size) (stretch_item s) → strip_cells src (stretch_item s ∷ rest) ≡ old
-    → samples_among (take left old) ≡ samples_among (take size (stretch_cells src s)) ++ samples_among (take (left - size) (strip_cells src (stretch_item t ∷ rest)))
+pub step_heard : (src : Sources) (s t : Stretch) (rest : List Item) (old : List Cell) (left size : ℕ) → size ≤ left
+    → size ≤ stretch_len s
+    → stretch_item t ≡ part_of_item size (stretch_len s - size) (stretch_item s)
+    → strip_cells src (stretch_item s ∷ rest) ≡ old
+    → samples_among (take left old) ≡ samples_among (take size (stretch_cells src s))
+    ++ samples_among (take (left - size) (strip_cells src (stretch_item t ∷ rest)))
 step_heard src s t rest old left size within part is all =
     let xs : List Cell = stretch_cells src s in
     let ys : List Cell = strip_cells src rest in
     let long : size ≤ length xs = omega (arith, part, length-item_cells src (stretch_item s)) in
     ap (λ (cs : List Cell). samples_among (take left cs)) (sym all)
     ∙ swept xs ys left size within long
-    ∙ ap (λ (cs : List Cell). samples_among (take size xs) ++ samples_among (take (left - size) (cs ++ ys))) (sym (behind_cells src s t size part is))
+    ∙ ap (λ (cs : List Cell). samples_among (take size xs) ++ samples_among (take (left - size) (cs ++ ys)))
+    (sym (behind_cells src s t size part is))
 
-pub step_passed : (src : Sources) (s t : Stretch) (rest : List Item) (old : List Cell) (left size : ℕ) → size ≤ left → size ≤ stretch_len s
-    → stretch_item t ≡ part_of_item size (stretch_len s - size) (stretch_item s) → strip_cells src (stretch_item s ∷ rest) ≡ old
+pub step_passed : (src : Sources) (s t : Stretch) (rest : List Item) (old : List Cell) (left size : ℕ) → size ≤ left
+    → size ≤ stretch_len s
+    → stretch_item t ≡ part_of_item size (stretch_len s - size) (stretch_item s)
+    → strip_cells src (stretch_item s ∷ rest) ≡ old
     → drop (left - size) (strip_cells src (stretch_item t ∷ rest)) ≡ drop left old
 step_passed src s t rest old left size within part is all =
     let xs : List Cell = stretch_cells src s in
@@ -155,7 +180,8 @@ step_passed src s t rest old left size within part is all =
 -- where no cell is left
 
 pub none_heard : (cells : List Cell) (left : ℕ) → cells ≡ [] → samples_among (take left cells) ≡ []
-none_heard cells left none = nil_from_length (samples_among (take left cells)) (omega (arith, among_most (take left cells), length-take left cells, ap length none))
+none_heard cells left none = nil_from_length (samples_among (take left cells))
+    (omega (arith, among_most (take left cells), length-take left cells, ap length none))
 
 pub none_passed : (cells : List Cell) (left : ℕ) → cells ≡ [] → drop left cells ≡ cells
 none_passed cells left none =
@@ -163,7 +189,8 @@ none_passed cells left none =
 
 -- a stretch by its kind
 
-pub gaps_read : (src : Sources) (s : Stretch) (len n : ℕ) → s ≡ Gaps len → n ≤ stretch_len s → samples_among (take n (stretch_cells src s)) ≡ []
+pub gaps_read : (src : Sources) (s : Stretch) (len n : ℕ) → s ≡ Gaps len → n ≤ stretch_len s
+    → samples_among (take n (stretch_cells src s)) ≡ []
 gaps_read src s len n is within =
     let few = subst (λ (x : Stretch). n ≤ stretch_len x) is within in
     ap (λ (x : Stretch). samples_among (take n (stretch_cells src x))) is ∙ gaps_front src len n few
@@ -176,8 +203,10 @@ pub fault_one : (files : Files) (s : Stretch) (b : BlockRef) (from : ℕ) (why :
 fault_one files s b from why is fault =
     subst (λ (x : Stretch). IsFaultIn files (stretch_blocks x) why) (sym is) (b, one_there b, fault)
 
-pub block_read : (files : Files) (s : Stretch) (b : BlockRef) (from to n : ℕ) (sum : Summary) → s ≡ Block b from → from ≤ b.len → n ≤ stretch_len s → to ≡ from + n
-    → AreWhole files (stretch_blocks s) → ((xs : List ℤ) → blocks files b.id ≡ Some xs → length xs ≡ b.len → sum ≡ summary_of (part from to xs))
+pub block_read : (files : Files) (s : Stretch) (b : BlockRef) (from to n : ℕ) (sum : Summary) → s ≡ Block b from
+    → from ≤ b.len → n ≤ stretch_len s → to ≡ from + n
+    → AreWhole files (stretch_blocks s)
+    → ((xs : List ℤ) → blocks files b.id ≡ Some xs → length xs ≡ b.len → sum ≡ summary_of (part from to xs))
     → sum ≡ summary_of (samples_among (take n (stretch_cells (sources_of files) s)))
 block_read files s b from to n sum is ok within ends whole read =
     let few = subst (λ (x : Stretch). n ≤ stretch_len x) is within in

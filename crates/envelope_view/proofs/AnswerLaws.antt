@@ -32,7 +32,8 @@ pub reason_reads : (why : BlockFault) → IsOfReads (reason_of why)
 reason_reads fault.DiskFault = tt
 reason_reads (fault.Damaged file found) = tt
 
-pub reason_damaged : (files : Files) (bs : List BlockRef) (why : BlockFault) → IsFaultIn files bs why → IsDamagedIn files bs (reason_of why)
+pub reason_damaged : (files : Files) (bs : List BlockRef) (why : BlockFault) → IsFaultIn files bs why
+    → IsDamagedIn files bs (reason_of why)
 reason_damaged files bs fault.DiskFault is = tt
 reason_damaged files bs (fault.Damaged file found) is = is
 
@@ -40,7 +41,8 @@ counted_by : (old new : ℕ) (why : BlockFault) → CountedBy why old new → Is
 counted_by old new fault.DiskFault is = is
 counted_by old new (fault.Damaged file found) is = is
 
-pub reason_counted : (old now new : ℕ) (why : BlockFault) → now ≡ old → CountedBy why now new → IsCountedBy (reason_of why) old new
+pub reason_counted : (old now new : ℕ) (why : BlockFault) → now ≡ old → CountedBy why now new
+    → IsCountedBy (reason_of why) old new
 reason_counted old now new why same is = counted_by old new why (subst (λ (n : ℕ). CountedBy why n new) same is)
 
 abbrev IsOfDisk : BlockFault → Type 0
@@ -48,11 +50,14 @@ IsOfDisk fault.DiskFault = Unit {0}
 IsOfDisk (fault.Damaged file found) = ⊥
 
 -- no fault of a block that is whole
-block_undamaged : (files : Files) (b : BlockRef) (why : BlockFault) → IsWhole files b → IsFault b.id b.len (bytes_of (files b.id)) why → IsOfDisk why
+block_undamaged : (files : Files) (b : BlockRef) (why : BlockFault) → IsWhole files b
+    → IsFault b.id b.len (bytes_of (files b.id)) why → IsOfDisk why
 block_undamaged files b why whole is =
     subst IsOfDisk (sym (block_sound files b.id b.len (size_of b.len) whole.0 why whole.1 whole.2 (omega arith) is)) tt
 
-pub whole_undamaged : (files : Files) (bs : List BlockRef) (e : Refusal) → AllWhole files bs → IsDamagedIn files bs e → IsUndamaged e
+pub whole_undamaged : (files : Files) (bs : List BlockRef) (e : Refusal) → AllWhole files bs → IsDamagedIn files bs e
+    → IsUndamaged e
 whole_undamaged files bs (refusal.Damaged file at want have) whole is =
-    block_undamaged files is.0 (fault.Damaged file (record { at = at; want = want; have = have })) (each_of (IsWhole files) bs whole is.0 is.1) is.2
+    block_undamaged files is.0 (fault.Damaged file (record { at = at; want = want; have = have }))
+    (each_of (IsWhole files) bs whole is.0 is.1) is.2
 whole_undamaged files bs _ whole is = tt

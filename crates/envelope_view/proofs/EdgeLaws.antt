@@ -21,10 +21,12 @@ counted_more n (suc k) =
     let s : suc k + 1 ≡ suc (k + 1) = omega arith in
     rw (s, counted_more (n + 1) k, e)
 
-pub columns_more : {A : Type 0} (f : ℕ → A) (i : ℕ) → map f (counted_from 0 (i + 1)) ≡ map f (counted_from 0 i) ++ f i ∷ []
+pub columns_more : {A : Type 0} (f : ℕ → A) (i : ℕ)
+    → map f (counted_from 0 (i + 1)) ≡ map f (counted_from 0 i) ++ f i ∷ []
 columns_more f i =
     let e : 0 + i ≡ i = omega arith in
-    ap (map f) (counted_more 0 i) ∙ map-append f (counted_from 0 i) ((0 + i) ∷ []) ∙ ap (λ k. map f (counted_from 0 i) ++ f k ∷ []) e
+    ap (map f) (counted_more 0 i) ∙ map-append f (counted_from 0 i) ((0 + i) ∷ [])
+    ∙ ap (λ k. map f (counted_from 0 i) ++ f k ∷ []) e
 
 pub first_edge : (from to w : ℕ) → from ≡ edge from to w 0
 first_edge from to w =

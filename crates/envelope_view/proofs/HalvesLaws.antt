@@ -1,5 +1,6 @@
 -- A whole, a part of it, and the rest.
-use Rattle.std.proofs.Common.{◌≡◌, ℕ, ◌+◌, ◌-◌, ◌^◌, ◌≤◌, ◌<◌, min, ℤ, List, length, take, drop, sym, ap, subst, ◌∙◌, refl, arith}
+use Rattle.std.proofs.Common.{◌≡◌, ℕ, ◌+◌, ◌-◌, ◌^◌, ◌≤◌, ◌<◌, min, ℤ, List, length, take, drop, sym, ap, subst, ◌∙◌}
+use Rattle.std.proofs.Common.{refl, arith}
 use Rattle.std.specs.Int.{int_min, int_max}
 use Rattle.std.proofs.lemmas.Int.{ints, clamps}
 use Rattle.std.proofs.lemmas.Bool.{ne_eqb}
@@ -19,10 +20,18 @@ swapped s t s_some t_some =
     let high : int_max s.max t.max ≡ int_max t.max s.max = omega (arith, ints, clamps) in
     let squares : min (s.squares + t.squares) (2 ^ 64 - 1) ≡ min (t.squares + s.squares) (2 ^ 64 - 1) = omega arith in
     let count : min (s.count + t.count) (2 ^ 64 - 1) ≡ min (t.count + s.count) (2 ^ 64 - 1) = omega arith in
-    rw (ne_eqb s.count 0 (omega (arith, s_some)), ne_eqb t.count 0 (omega (arith, t_some)), low, high, squares, count) refl
+    rw (
+      ne_eqb s.count 0 (omega (arith, s_some)),
+      ne_eqb t.count 0 (omega (arith, t_some)),
+      low,
+      high,
+      squares,
+      count,
+    ) refl
 
 -- of two parts with samples that follow one another each is the rest beside the other
-two_parts : (a b c : ℕ) (xs : List ℤ) (w : Summary) → AreSamples xs → length xs ≤ 2 ^ 32 → a < b → b < c → c ≤ length xs → w ≡ summary_of (part a c xs)
+two_parts : (a b c : ℕ) (xs : List ℤ) (w : Summary) → AreSamples xs → length xs ≤ 2 ^ 32 → a < b → b < c → c ≤ length xs
+    → w ≡ summary_of (part a c xs)
     → IsRest w (summary_of (part a b xs)) (summary_of (part b c xs))
 two_parts a b c xs w fit few low high within is =
     let front : length (part a b xs) ≡ b - a = omega (arith, length-part a b xs, low, high, within) in
@@ -30,19 +39,23 @@ two_parts a b c xs w fit few low high within is =
     let front_squares = squares_le (part a b xs) (fits_part a b xs fit) in
     let back_squares = squares_le (part b c xs) (fits_part b c xs fit) in
     record {
-      is = is ∙ sym (part_joined a b c xs (summary_of (part a b xs)) (summary_of (part b c xs)) fit few (omega (arith, low)) (omega (arith, high)) refl refl);
+      is = is ∙ sym (part_joined a b c xs (summary_of (part a b xs)) (summary_of (part b c xs)) fit few
+          (omega (arith, low)) (omega (arith, high)) refl refl);
       side_some = omega (arith, front, low);
       rest_some = omega (arith, back, high);
       squares = omega (arith, front_squares, back_squares, front, back, low, high, within, few);
       count = omega (arith, front, back, low, high, within, few);
     }
 
-pub rest_after : (a b c : ℕ) (xs : List ℤ) (w s : Summary) → AreSamples xs → length xs ≤ 2 ^ 32 → a < b → b < c → c ≤ length xs → w ≡ summary_of (part a c xs)
+pub rest_after : (a b c : ℕ) (xs : List ℤ) (w s : Summary) → AreSamples xs → length xs ≤ 2 ^ 32 → a < b → b < c
+    → c ≤ length xs → w ≡ summary_of (part a c xs)
     → s ≡ summary_of (part a b xs) → IsRest w s (summary_of (part b c xs))
 rest_after a b c xs w s fit few low high within whole side =
-    subst (λ (z : Summary). IsRest w z (summary_of (part b c xs))) (sym side) (two_parts a b c xs w fit few low high within whole)
+    subst (λ (z : Summary). IsRest w z (summary_of (part b c xs))) (sym side)
+    (two_parts a b c xs w fit few low high within whole)
 
-pub rest_before : (a b c : ℕ) (xs : List ℤ) (w s : Summary) → AreSamples xs → length xs ≤ 2 ^ 32 → a < b → b < c → c ≤ length xs → w ≡ summary_of (part a c xs)
+pub rest_before : (a b c : ℕ) (xs : List ℤ) (w s : Summary) → AreSamples xs → length xs ≤ 2 ^ 32 → a < b → b < c
+    → c ≤ length xs → w ≡ summary_of (part a c xs)
     → s ≡ summary_of (part b c xs) → IsRest w s (summary_of (part a b xs))
 rest_before a b c xs w s fit few low high within whole side =
     let two = two_parts a b c xs w fit few low high within whole in
@@ -58,8 +71,10 @@ rest_before a b c xs w s fit few low high within whole side =
     subst (λ (z : Summary). IsRest w z front) (sym side) other
 
 -- frames that were read, all but the last, and the last
-pub all_but_last : {X : Type 0} (fs out : List X) (first n : ℕ) → out ≡ take (n + 1) (drop first fs) → take n out ≡ take n (drop first fs)
+pub all_but_last : {X : Type 0} (fs out : List X) (first n : ℕ) → out ≡ take (n + 1) (drop first fs)
+    → take n out ≡ take n (drop first fs)
 all_but_last fs out first n is = ap (take n) is ∙ take-take n (n + 1) (drop first fs) (omega arith)
 
-pub last_alone : {X : Type 0} (fs out : List X) (first n : ℕ) → out ≡ take (n + 1) (drop first fs) → drop n out ≡ take 1 (drop (first + n) fs)
+pub last_alone : {X : Type 0} (fs out : List X) (first n : ℕ) → out ≡ take (n + 1) (drop first fs)
+    → drop n out ≡ take 1 (drop (first + n) fs)
 last_alone fs out first n is = ap (drop n) is ∙ drop-take n 1 (drop first fs) ∙ ap (take 1) (drop-drop n first fs)

@@ -7,7 +7,8 @@ use Rattle.pcm_base.specs.declared.block.BlockRef.{BlockRef}
 use Rattle.block_store.specs.declared.fault.BlockFault.{BlockFault}
 use Rattle.block_store.specs.Reads.{IsFaultIn}
 
-each_at : {X : Type 0} (P : X → Type 0) (xs : List X) → AllByRecursion P xs → (k : ℕ) (x : X) → k < length xs → get_or xs k x ≡ x → P x
+each_at : {X : Type 0} (P : X → Type 0) (xs : List X) → AllByRecursion P xs → (k : ℕ) (x : X) → k < length xs
+    → get_or xs k x ≡ x → P x
 each_at P [] all k x lt e = absurd (omega (arith, lt))
 each_at P (y ∷ ys) all zero x lt e = subst P e all.0
 each_at P (y ∷ ys) all (suc k) x lt e = each_at P ys all.1 k x (omega (arith, lt)) e
@@ -16,7 +17,8 @@ pub each_of : {X : Type 0} (P : X → Type 0) (xs : List X) → AllByRecursion P
 each_of P xs all x there = each_at P xs all there.0 x there.1 there.2
 
 -- a fault of one of some blocks is one of those of a longer list, on a disk that reads the same
-pub fault_wider : (files now : Files) (bs cs : List BlockRef) (why : BlockFault) → now ≡ files → ((b : BlockRef) → Contains bs b → Contains cs b)
+pub fault_wider : (files now : Files) (bs cs : List BlockRef) (why : BlockFault) → now ≡ files
+    → ((b : BlockRef) → Contains bs b → Contains cs b)
     → IsFaultIn now bs why → IsFaultIn files cs why
 fault_wider files now bs cs why same all is =
     let here = subst (λ (f : Files). IsFaultIn f bs why) same is in

@@ -1,5 +1,6 @@
 -- A summary of the first of some samples, with those that are left.
-use Rattle.std.proofs.Common.{◌≡◌, ℕ, ◌+◌, ◌-◌, ◌^◌, ◌≤◌, ℤ, List, [], ◌++◌, length, refl, sym, ap, ap₂, ◌∙◌, arith, append_assoc, append-nil, length-append}
+use Rattle.std.proofs.Common.{◌≡◌, ℕ, ◌+◌, ◌-◌, ◌^◌, ◌≤◌, ℤ, List, [], ◌++◌, length, refl, sym, ap, ap₂, ◌∙◌, arith}
+use Rattle.std.proofs.Common.{append_assoc, append-nil, length-append}
 use Rattle.std.specs.Prelude.{FitsSigned}
 use Rattle.std.specs.Int.{w16}
 use Rattle.std.proofs.lemmas.List.Elements.{All-append, All-nil}
@@ -16,10 +17,13 @@ pub record Running (all : Summary) (count left : ℕ) (more target : List ℤ) :
   pub whole : done ++ more ≡ target
 
 pub running_start : (count : ℕ) (target : List ℤ) → Running nothing count count target target
-running_start count target = record { done = []; is = refl; fit = All-nil (λ s. FitsSigned w16 s); few = omega arith; whole = refl }
+running_start count target =
+    record { done = []; is = refl; fit = All-nil (λ s. FitsSigned w16 s); few = omega arith; whole = refl }
 
-pub running_more : (all s : Summary) (count left size : ℕ) (xs more target : List ℤ) → count ≤ 2 ^ 32 → size ≤ left → AreSamples xs → length xs ≤ size
-    → s ≡ summary_of xs → Running all count left (xs ++ more) target → Running (joined all s) count (left - size) more target
+pub running_more : (all s : Summary) (count left size : ℕ) (xs more target : List ℤ) → count ≤ 2 ^ 32 → size ≤ left
+    → AreSamples xs → length xs ≤ size
+    → s ≡ summary_of xs → Running all count left (xs ++ more) target
+    → Running (joined all s) count (left - size) more target
 running_more all s count left size xs more target small within fit few is r =
     let short : length r.done + length xs ≤ 2 ^ 32 = omega (arith, r.few, within, few, small) in
     record {
@@ -30,6 +34,7 @@ running_more all s count left size xs more target small within fit few is r =
       whole = append_assoc r.done xs more ∙ r.whole;
     }
 
-pub running_end : (all : Summary) (count left : ℕ) (more target : List ℤ) → more ≡ [] → Running all count left more target → all ≡ summary_of target
+pub running_end : (all : Summary) (count left : ℕ) (more target : List ℤ) → more ≡ []
+    → Running all count left more target → all ≡ summary_of target
 running_end all count left more target none r =
     r.is ∙ ap summary_of (sym (append-nil r.done) ∙ ap (λ (zs : List ℤ). r.done ++ zs) (sym none) ∙ r.whole)

@@ -11,4 +11,5 @@ use Rattle.peak_summary.specs.Peaks.{summary_of}
 -- of a block of the disk the summary of its samples from one place up to another
 abbrev pub Summarizes : Files → BlockRef → ℕ → ℕ → Result Summary BlockFault → Type 0
 Summarizes files b from to result =
-    (xs : List ℤ) → blocks files b.id ≡ Some xs → length xs ≡ b.len → IfOk result (λ s. s ≡ summary_of (part from to xs))
+    (xs : List ℤ) → blocks files b.id ≡ Some xs → length xs ≡ b.len
+    → IfOk result (λ s. s ≡ summary_of (part from to xs))

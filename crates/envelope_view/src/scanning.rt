@@ -4,7 +4,8 @@ ghost use Rattle.disk_model.specs.Frames.{Kept};
 ghost use Rattle.sample_block.specs.Sources.{AllNamed, AllWhole, sources_of};
 ghost use Rattle.pcm_base.specs.Envelope.{columns_of};
 ghost use Rattle.clip_track.specs.Clips.{end_of, layout_blocks, layout_cells};
-ghost use Rattle.envelope_view.specs.Answers.{AnswersTest, IsDamagedIn, IsOfReads, IsUndamaged, ReasonCounted, column_tests};
+ghost use Rattle.envelope_view.specs.Answers.{AnswersTest, IsDamagedIn, IsOfReads, IsUndamaged, ReasonCounted};
+ghost use Rattle.envelope_view.specs.Answers.{column_tests};
 
 use super::ahead::Ahead;
 use super::edges::{edge, test_columns};
@@ -30,7 +31,8 @@ fn scan_columns<S: Store>(
     requires some { 0 < columns }
     requires few { columns ≤ 4096 }
     ensures read { IsTrue (S.tells store.old) → AllWhole (S.reads store.old) (layout_blocks layout.now)
-        → IfOk result (λ v. v.items ≡ columns_of from to columns (layout_cells (sources_of (S.reads store.old)) layout.now)) }
+        → IfOk result
+        (λ v. v.items ≡ columns_of from to columns (layout_cells (sources_of (S.reads store.old)) layout.now)) }
     ensures reads { IfErr result IsOfReads }
     ensures damaged { IsTrue (S.tells store.old)
         → IfErr result (λ e. IsDamagedIn (S.reads store.old) (layout_blocks layout.now) e) }
@@ -73,7 +75,8 @@ pub fn columns<S: Store>(
     // Each block that the layout names is one that a disk may have.
     requires named { AllNamed (layout_blocks layout.now) }
     ensures read { IsTrue (S.tells store.old) → AllWhole (S.reads store.old) (layout_blocks layout.now)
-        → IfOk result (λ v. v.items ≡ columns_of from to columns (layout_cells (sources_of (S.reads store.old)) layout.now)) }
+        → IfOk result
+        (λ v. v.items ≡ columns_of from to columns (layout_cells (sources_of (S.reads store.old)) layout.now)) }
     // The tests refuse exactly as the model's do; where they are passed only a read or want of memory refuses.
     ensures tests { AnswersTest (column_tests from to columns (end_of 0 layout.now)) result }
     // Damage is told of a block of the layout alone, as it stands in its file, and never where all of them are whole.

@@ -8,7 +8,8 @@ ghost use Rattle.block_store.specs.Reads.{Counted, IsCompared, IsFault, IsFaultI
 ghost use Rattle.block_store.specs.Scans.{samples_among};
 ghost use Rattle.peak_summary.specs.Peaks.{summary_of};
 ghost use Rattle.pcm_base.specs.Pieces.{Sources};
-ghost use Rattle.envelope_view.specs.Ahead.{IsInBlock, ahead_blocks, ahead_cells, stretch_blocks, stretch_cells, stretch_len};
+ghost use Rattle.envelope_view.specs.Ahead.{IsInBlock, ahead_blocks, ahead_cells, stretch_blocks, stretch_cells};
+ghost use Rattle.envelope_view.specs.Ahead.{stretch_len};
 ghost use Rattle.envelope_view.specs.Halves.{IsKnown};
 ghost use Rattle.envelope_view.specs.Named.{AreNamed, AreWhole};
 ghost use Rattle.envelope_view.specs.Parts.{Summarizes};
@@ -107,7 +108,8 @@ pub(crate) fn sweep<S: Store>(
     ensures known { IsTrue (S.tells store.old) → IsKnown (S.reads store.old) known.new }
     ensures stretch { IsInBlock ahead.new.stretch }
     ensures blocks { (b : BlockRef) → Contains (ahead_blocks ahead.new) b → Contains (ahead_blocks ahead.old) b }
-    ensures passed { OnOk result ((src : Sources) → ahead_cells src ahead.new ≡ drop count (ahead_cells src ahead.old)) }
+    ensures passed { OnOk result
+        ((src : Sources) → ahead_cells src ahead.new ≡ drop count (ahead_cells src ahead.old)) }
     ensures read { IsTrue (S.tells store.old) → AreWhole (S.reads store.old) (ahead_blocks ahead.old)
         → IfOk result (λ s. s ≡ summary_of (samples_among (take count (ahead_cells (sources_of (S.reads store.old))
         ahead.old)))) }

@@ -1,5 +1,6 @@
 -- Numbers counted from one on, and what is made of each.
-use Rattle.std.proofs.Common.{◌≡◌, ℕ, zero, suc, ◌+◌, ◌-◌, ◌≤◌, min, List, ◌∷◌, ◌++◌, length, map, take, drop, sym, ap, ◌∙◌, arith}
+use Rattle.std.proofs.Common.{◌≡◌, ℕ, zero, suc, ◌+◌, ◌-◌, ◌≤◌, min, List, ◌∷◌, ◌++◌, length, map, take, drop, sym, ap}
+use Rattle.std.proofs.Common.{◌∙◌, arith}
 use Rattle.std.proofs.lemmas.List.{take-map, drop-map, map-append}
 use Rattle.std.proofs.lemmas.Slice.{take-put_mid}
 use borrow.Rule.Slice.PartMut.{put_mid}
@@ -13,14 +14,19 @@ counted_append from zero m =
 counted_append from (suc n) m =
     let e : suc n + m ≡ suc (n + m) = omega arith in
     let f : from + 1 + n ≡ from + suc n = omega arith in
-    ap (counted_from from) e ∙ ap (λ xs. from ∷ xs) (counted_append (from + 1) n m ∙ ap (λ k. counted_from (from + 1) n ++ counted_from k m) f)
+    ap (counted_from from) e ∙ ap (λ xs. from ∷ xs)
+    (counted_append (from + 1) n m ∙ ap (λ k. counted_from (from + 1) n ++ counted_from k m) f)
 
 -- a piece more is made
-pub made_more : {A : Type 0} (f : ℕ → A) (from done n k next : ℕ) (out part : List A) → done ≤ length out → take done out ≡ map f (counted_from from done)
-    → part ≡ map f (counted_from (from + done) n) → length part ≡ n → next ≡ done + n → take next (put_mid done k out part) ≡ map f (counted_from from next)
+pub made_more : {A : Type 0} (f : ℕ → A) (from done n k next : ℕ) (out part : List A) → done ≤ length out
+    → take done out ≡ map f (counted_from from done)
+    → part ≡ map f (counted_from (from + done) n) → length part ≡ n → next ≡ done + n
+    → take next (put_mid done k out part) ≡ map f (counted_from from next)
 made_more f from done n k next out part le before got size is =
-    take-put_mid done k out part next (omega (arith, size, is)) le ∙ ap (λ xs. xs ++ part) before ∙ ap (λ xs. map f (counted_from from done) ++ xs) got
-    ∙ sym (ap (map f) (counted_append from done n) ∙ map-append f (counted_from from done) (counted_from (from + done) n))
+    take-put_mid done k out part next (omega (arith, size, is)) le ∙ ap (λ xs. xs ++ part) before
+    ∙ ap (λ xs. map f (counted_from from done) ++ xs) got
+    ∙ sym
+    (ap (map f) (counted_append from done n) ∙ map-append f (counted_from from done) (counted_from (from + done) n))
     ∙ ap (λ m. map f (counted_from from m)) (sym is)
 
 drop_counted : (n from k : ℕ) → drop n (counted_from from k) ≡ counted_from (from + n) (k - n)
@@ -42,8 +48,10 @@ take_counted (suc n) from (suc k) =
     ap (λ xs. from ∷ xs) (take_counted n (from + 1) k) ∙ ap (counted_from from) f
 
 -- some from a place on
-pub made_from : {A : Type 0} (f : ℕ → A) (n from len count : ℕ) → count ≡ min n (len - from) → map f (counted_from from count) ≡ take n (drop from (map f (counted_from 0 len)))
+pub made_from : {A : Type 0} (f : ℕ → A) (n from len count : ℕ) → count ≡ min n (len - from)
+    → map f (counted_from from count) ≡ take n (drop from (map f (counted_from 0 len)))
 made_from f n from len count is =
     let start : 0 + from ≡ from = omega arith in
     sym (ap (take n) (drop-map f from (counted_from 0 len)) ∙ take-map f n (drop from (counted_from 0 len))
-    ∙ ap (map f) (ap (take n) (drop_counted from 0 len ∙ ap (λ a. counted_from a (len - from)) start) ∙ take_counted n from (len - from) ∙ ap (counted_from from) (sym is)))
+    ∙ ap (map f) (ap (take n) (drop_counted from 0 len ∙ ap (λ a. counted_from a (len - from)) start)
+    ∙ take_counted n from (len - from) ∙ ap (counted_from from) (sym is)))

@@ -1,5 +1,6 @@
 -- Tracks of a point, one after another.
-use Rattle.std.proofs.Common.{◌≡◌, ℕ, zero, suc, ◌≤◌, ◌<◌, Bool, true, false, List, [], ◌∷◌, ◌++◌, length, take, drop, max, get_or, refl, sym, ap, ap₂, subst, ◌∙◌, arith}
+use Rattle.std.proofs.Common.{◌≡◌, ℕ, zero, suc, ◌≤◌, ◌<◌, Bool, true, false, List, [], ◌∷◌, ◌++◌, length, take, drop}
+use Rattle.std.proofs.Common.{max, get_or, refl, sym, ap, ap₂, subst, ◌∙◌, arith}
 use Rattle.std.specs.Prelude.{if◌then◌else◌, replicate}
 use Rattle.std.proofs.lemmas.List.{length-take}
 use borrow.Rule.Slice.PartMut.{put_mid}
@@ -35,51 +36,65 @@ named_drop zero ts all = all
 named_drop (suc i) [] all = all
 named_drop (suc i) (t ∷ ts) all = named_drop i ts (named_back (layout_blocks t.layout) (point_blocks ts) all)
 
-pub fault_drop : (files : Files) (why : BlockFault) (i : ℕ) (ts : List Track) → IsFaultIn files (point_blocks (drop i ts)) why → IsFaultIn files (point_blocks ts) why
+pub fault_drop : (files : Files) (why : BlockFault) (i : ℕ) (ts : List Track)
+    → IsFaultIn files (point_blocks (drop i ts)) why → IsFaultIn files (point_blocks ts) why
 fault_drop files why zero ts is = is
 fault_drop files why (suc i) [] is = is
-fault_drop files why (suc i) (t ∷ ts) is = fault_later files (layout_blocks t.layout) (point_blocks ts) why (fault_drop files why i ts is)
+fault_drop files why (suc i) (t ∷ ts) is =
+    fault_later files (layout_blocks t.layout) (point_blocks ts) why (fault_drop files why i ts is)
 
 -- what is left of one of the tracks
-pub rests_at : (from : ℕ) (ts : List Track) (ps : List TrackPass) (i : ℕ) (d : Track) (e : TrackPass) → i < length ts → AreRestsOf from ts ps → IsRestOf from (get_or ts i d).layout (get_or ps i e).rest
+pub rests_at : (from : ℕ) (ts : List Track) (ps : List TrackPass) (i : ℕ) (d : Track) (e : TrackPass) → i < length ts
+    → AreRestsOf from ts ps → IsRestOf from (get_or ts i d).layout (get_or ps i e).rest
 rests_at from [] ps i d e lt are = absurd (omega (arith, lt))
 rests_at from (t ∷ ts) [] i d e lt are = absurd are
 rests_at from (t ∷ ts) (p ∷ ps) zero d e lt are = are.0
 rests_at from (t ∷ ts) (p ∷ ps) (suc i) d e lt are = rests_at from ts ps i d e (omega (arith, lt)) are.1
 
-pub rests_set : (from : ℕ) (ts : List Track) (ps : List TrackPass) (i : ℕ) (d : Track) (p' : TrackPass) → i < length ts → AreRestsOf from ts ps → IsRestOf from (get_or ts i d).layout p'.rest → AreRestsOf from ts (set ps i p')
+pub rests_set : (from : ℕ) (ts : List Track) (ps : List TrackPass) (i : ℕ) (d : Track) (p' : TrackPass) → i < length ts
+    → AreRestsOf from ts ps → IsRestOf from (get_or ts i d).layout p'.rest → AreRestsOf from ts (set ps i p')
 rests_set from [] ps i d p' lt are is = absurd (omega (arith, lt))
 rests_set from (t ∷ ts) [] i d p' lt are is = absurd are
 rests_set from (t ∷ ts) (p ∷ ps) zero d p' lt are is = (is, are.1)
-rests_set from (t ∷ ts) (p ∷ ps) (suc i) d p' lt are is = (are.0, rests_set from ts ps i d p' (omega (arith, lt)) are.1 is)
+rests_set from (t ∷ ts) (p ∷ ps) (suc i) d p' lt are is =
+    (are.0, rests_set from ts ps i d p' (omega (arith, lt)) are.1 is)
 
-pub rests_later : (from to : ℕ) (ts : List Track) (ps : List TrackPass) → from ≤ to → AreRestsOf from ts ps → AreRestsOf to ts ps
+pub rests_later : (from to : ℕ) (ts : List Track) (ps : List TrackPass) → from ≤ to → AreRestsOf from ts ps
+    → AreRestsOf to ts ps
 rests_later from to [] ps le are = tt
 rests_later from to (t ∷ ts) [] le are = absurd are
-rests_later from to (t ∷ ts) (p ∷ ps) le are = (rest_later from to t.layout p.rest le are.0, rests_later from to ts ps le are.1)
+rests_later from to (t ∷ ts) (p ∷ ps) le are =
+    (rest_later from to t.layout p.rest le are.0, rests_later from to ts ps le are.1)
 
 -- the block whose header was compared last of one of the tracks
-pub compared_at : (files : Files) (ps : List TrackPass) (i : ℕ) (e : TrackPass) → i < length ps → AreCompared files ps → IsCompared files (get_or ps i e).last
+pub compared_at : (files : Files) (ps : List TrackPass) (i : ℕ) (e : TrackPass) → i < length ps → AreCompared files ps
+    → IsCompared files (get_or ps i e).last
 compared_at files [] i e lt are = absurd (omega (arith, lt))
 compared_at files (p ∷ ps) zero e lt are = are.0
 compared_at files (p ∷ ps) (suc i) e lt are = compared_at files ps i e (omega (arith, lt)) are.1
 
-pub compared_set : (files : Files) (ps : List TrackPass) (i : ℕ) (p' : TrackPass) → IsCompared files p'.last → AreCompared files ps → AreCompared files (set ps i p')
+pub compared_set : (files : Files) (ps : List TrackPass) (i : ℕ) (p' : TrackPass) → IsCompared files p'.last
+    → AreCompared files ps → AreCompared files (set ps i p')
 compared_set files [] i p' is are = are
 compared_set files (p ∷ ps) zero p' is are = (is, are.1)
 compared_set files (p ∷ ps) (suc i) p' is are = (are.0, compared_set files ps i p' is are.1)
 
-pub none_compared : (files : Files) (n : ℕ) (p : TrackPass) → IsCompared files p.last → AreCompared files (replicate n p)
+pub none_compared : (files : Files) (n : ℕ) (p : TrackPass) → IsCompared files p.last
+    → AreCompared files (replicate n p)
 none_compared files zero p is = tt
 none_compared files (suc n) p is = (is, none_compared files n p is)
 
 -- a stretch is put before those of the tracks behind
-pub stretch_put : (from len a k : ℕ) (xs ys : List Cell) (t : cells.Track) (ts : cells.Project) → a ≤ length xs → length ys ≡ len → k ≡ len → IsStretch from len t ys
+pub stretch_put : (from len a k : ℕ) (xs ys : List Cell) (t : cells.Track) (ts : cells.Project) → a ≤ length xs
+    → length ys ≡ len → k ≡ len → IsStretch from len t ys
     → AreStretches from len ts (drop len (drop a xs)) → AreStretches from len (t ∷ ts) (drop a (put_mid a k xs ys))
 stretch_put from len a k xs ys t ts fits size same is are =
-    let here : drop a (put_mid a k xs ys) ≡ ys ++ drop k (drop a xs) = drop_front a (take a xs) (ys ++ drop k (drop a xs)) (omega (arith, length-take a xs, fits)) in
-    let first : take len (drop a (put_mid a k xs ys)) ≡ ys = ap (take len) here ∙ take_front len ys (drop k (drop a xs)) size in
-    let rest : drop len (drop a (put_mid a k xs ys)) ≡ drop len (drop a xs) = ap (drop len) here ∙ drop_front len ys (drop k (drop a xs)) size ∙ ap (λ n. drop n (drop a xs)) same in
+    let here : drop a (put_mid a k xs ys) ≡ ys ++ drop k (drop a xs) =
+    drop_front a (take a xs) (ys ++ drop k (drop a xs)) (omega (arith, length-take a xs, fits)) in
+    let first : take len (drop a (put_mid a k xs ys)) ≡ ys =
+    ap (take len) here ∙ take_front len ys (drop k (drop a xs)) size in
+    let rest : drop len (drop a (put_mid a k xs ys)) ≡ drop len (drop a xs) =
+    ap (drop len) here ∙ drop_front len ys (drop k (drop a xs)) size ∙ ap (λ n. drop n (drop a xs)) same in
     let I : List Cell → Type 0 = λ zs. IsStretch from len t zs in
     let A : List Cell → Type 0 = λ zs. AreStretches from len ts zs in
     (subst I (sym first) is, subst A (sym rest) are)
@@ -92,7 +107,8 @@ longest_of id gain side true cs ts = omega arith
 longest_of id gain side false cs ts = refl
 
 pub longest_first : (src : Sources) (t : Track) (ts : List Track)
-    → mix_length (meant src (t ∷ ts)) ≡ max (if t.mute then 0 else length (layout_cells src t.layout)) (mix_length (meant src ts))
+    → mix_length (meant src (t ∷ ts)) ≡ max (if t.mute then 0 else length (layout_cells src t.layout))
+    (mix_length (meant src ts))
 longest_first src t ts = longest_of t.id t.gain t.side t.mute (layout_cells src t.layout) (meant src ts)
 
 pub gains_meant : (src : Sources) (ts : List Track) → gains_of (meant src ts) ≡ track_gains ts

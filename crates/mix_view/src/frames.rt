@@ -1,5 +1,6 @@
 // The frames of the mix of a point's tracks.
-ghost use Rattle.std.specs.Prelude.{◌≡◌, ◌≤◌, ◌<◌, ◌+◌, ◌-◌, ◌*◌, ◌^◌, length, map, take, drop, min, IsTrue, IsOkUnless, OnOk, IfOk, IfErr};
+ghost use Rattle.std.specs.Prelude.{◌≡◌, ◌≤◌, ◌<◌, ◌+◌, ◌-◌, ◌*◌, ◌^◌, length, map, take, drop, min, IsTrue};
+ghost use Rattle.std.specs.Prelude.{IsOkUnless, OnOk, IfOk, IfErr};
 ghost use Rattle.block_store.specs.declared.fault.BlockFault.TheVariants as fault;
 ghost use Rattle.disk_model.specs.Frames.{Kept};
 ghost use Rattle.block_store.specs.Reads.{Counted, IsFaultIn};

@@ -1,5 +1,6 @@
 // A reader of a mix, which lasts over several calls.
-ghost use Rattle.std.specs.Prelude.{◌≡◌, ◌≤◌, ◌<◌, ◌+◌, ◌-◌, ◌^◌, length, take, drop, min, IsTrue, IsOkUnless, IfOk, IfErr};
+ghost use Rattle.std.specs.Prelude.{◌≡◌, ◌≤◌, ◌<◌, ◌+◌, ◌-◌, ◌^◌, length, take, drop, min, IsTrue, IsOkUnless, IfOk};
+ghost use Rattle.std.specs.Prelude.{IfErr};
 ghost use Rattle.block_store.specs.declared.fault.BlockFault.TheVariants as fault;
 ghost use Rattle.disk_model.specs.Disk.{Files};
 ghost use Rattle.disk_model.specs.Frames.{Kept};
@@ -51,10 +52,11 @@ impl<'a> MixReader<'a> {
         }
     }
 
-    /// Reads the next frames of the mix, as many as are left and as `out` has room for, and answers how many. A buffer is
-    /// handed in, of at least one cell for each track that a project may have: the more cells it has, the longer are the
-    /// stretches that are read of each track. The disk has not changed since the reader was made. It takes no memory.
-    /// After an error `out` may have been written in part, and the reader may have gone on over a part of the frames.
+    /// Reads the next frames of the mix, as many as are left and as `out` has room for, and answers how many. A buffer
+    /// is handed in, of at least one cell for each track that a project may have: the more cells it has, the longer are
+    /// the stretches that are read of each track. The disk has not changed since the reader was made. It takes no
+    /// memory. After an error `out` may have been written in part, and the reader may have gone on over a part of the
+    /// frames.
     pub fn read<S: Store>(
         &mut self,
         store: &mut S,

@@ -213,8 +213,8 @@ fn level(sample: i16) -> Frame {
     }
 }
 
-// With 64 cells for four tracks a stretch has 16 frames. Each track reaches into three of the four stretches, and takes a
-// call for its samples in each of them. Its header is read once: 16 calls behind the eight of the disk.
+// With 64 cells for four tracks a stretch has 16 frames. Each track reaches into three of the four stretches, and takes
+// a call for its samples in each of them. Its header is read once: 16 calls behind the eight of the disk.
 #[test]
 fn one_header_for_each_track(rt: HostRuntime) -> Result<(), Fail> {
     let point = long_project(rt.alloc())?;
@@ -231,8 +231,8 @@ fn one_header_for_each_track(rt: HostRuntime) -> Result<(), Fail> {
     Ok(())
 }
 
-// Twenty frames at a time are stretches of 16 and of 4, so the samples take 6, 8 and 3 calls. With each read the headers
-// are read again, of three tracks, of four and of two.
+// Twenty frames at a time are stretches of 16 and of 4, so the samples take 6, 8 and 3 calls. With each read the
+// headers are read again, of three tracks, of four and of two.
 #[test]
 fn a_header_for_each_read(rt: HostRuntime) -> Result<(), Fail> {
     let point = long_project(rt.alloc())?;

@@ -1,5 +1,6 @@
 -- The mix of stretches of a project's tracks is the mix of the project, from the stretches' place on.
-use Rattle.std.proofs.Common.{◌≡◌, ◌<◌, ◌+◌, ℕ, zero, suc, ℤ, pos, List, [], ◌∷◌, Bool, true, false, take, drop, map, get_or, refl, sym, ap, ap₂, ◌∙◌, arith}
+use Rattle.std.proofs.Common.{◌≡◌, ◌<◌, ◌+◌, ℕ, zero, suc, ℤ, pos, List, [], ◌∷◌, Bool, true, false, take, drop, map}
+use Rattle.std.proofs.Common.{get_or, refl, sym, ap, ap₂, ◌∙◌, arith}
 use Rattle.std.specs.Prelude.{◌+ℤ◌, if◌then◌else◌, filter}
 use Rattle.pcm_base.specs.declared.sound.Cell.{Cell}
 use Rattle.pcm_base.specs.declared.sound.Cell.TheVariants.{Gap}
@@ -38,7 +39,8 @@ left_stretches : (from len : ℕ) (p : Project) (cells : List Cell) (k : ℕ) �
 left_stretches from len [] cells k lt are = refl
 left_stretches from len (t ∷ ts) cells k lt are =
     left_first t.gain t.side (take len cells) (laid len (drop len cells) (gains_of ts) (sides_of ts)) k
-    ∙ ap₂ (λ (c : Cell) (z : ℤ). (if is_on_left t.side then weight t.gain c else pos 0) +ℤ z) (are.0 k lt) (left_stretches from len ts (drop len cells) k lt are.1)
+    ∙ ap₂ (λ (c : Cell) (z : ℤ). (if is_on_left t.side then weight t.gain c else pos 0) +ℤ z) (are.0 k lt)
+    (left_stretches from len ts (drop len cells) k lt are.1)
     ∙ sym (left_of t.id t.gain t.side t.mute t.cells ts (from + k))
 
 right_stretches : (from len : ℕ) (p : Project) (cells : List Cell) (k : ℕ) → k < len → AreStretches from len p cells
@@ -46,15 +48,18 @@ right_stretches : (from len : ℕ) (p : Project) (cells : List Cell) (k : ℕ) �
 right_stretches from len [] cells k lt are = refl
 right_stretches from len (t ∷ ts) cells k lt are =
     right_first t.gain t.side (take len cells) (laid len (drop len cells) (gains_of ts) (sides_of ts)) k
-    ∙ ap₂ (λ (c : Cell) (z : ℤ). (if is_on_right t.side then weight t.gain c else pos 0) +ℤ z) (are.0 k lt) (right_stretches from len ts (drop len cells) k lt are.1)
+    ∙ ap₂ (λ (c : Cell) (z : ℤ). (if is_on_right t.side then weight t.gain c else pos 0) +ℤ z) (are.0 k lt)
+    (right_stretches from len ts (drop len cells) k lt are.1)
     ∙ sym (right_of t.id t.gain t.side t.mute t.cells ts (from + k))
 
 stretches_frame : (from len : ℕ) (p : Project) (cells : List Cell) (k : ℕ) → k < len → AreStretches from len p cells
     → frame_at (laid len cells (gains_of p) (sides_of p)) k ≡ frame_at p (from + k)
-stretches_frame from len p cells k lt are = ap₂ limited (left_stretches from len p cells k lt are) (right_stretches from len p cells k lt are)
+stretches_frame from len p cells k lt are =
+    ap₂ limited (left_stretches from len p cells k lt are) (right_stretches from len p cells k lt are)
 
 -- what is made of numbers in a row
-same_counted : {A : Type 0} (f g : ℕ → A) (a b n : ℕ) → ((k : ℕ) → k < n → f (a + k) ≡ g (b + k)) → map f (counted_from a n) ≡ map g (counted_from b n)
+same_counted : {A : Type 0} (f g : ℕ → A) (a b n : ℕ) → ((k : ℕ) → k < n → f (a + k) ≡ g (b + k))
+    → map f (counted_from a n) ≡ map g (counted_from b n)
 same_counted f g a b zero same = refl
 same_counted f g a b (suc n) same =
     let here : a ≡ a + 0 = omega arith in
@@ -66,16 +71,21 @@ same_counted f g a b (suc n) same =
 
 -- frames of stretches of tracks are those of the tracks
 pub stretches_frames : (from len : ℕ) (p : Project) (cells : List Cell) → AreStretches from len p cells
-    → map (frame_at (laid len cells (gains_of p) (sides_of p))) (counted_from 0 len) ≡ map (frame_at p) (counted_from from len)
-stretches_frames from len p cells are = same_counted (frame_at (laid len cells (gains_of p) (sides_of p))) (frame_at p) 0 from len (λ k lt.
+    → map (frame_at (laid len cells (gains_of p) (sides_of p))) (counted_from 0 len)
+    ≡ map (frame_at p) (counted_from from len)
+stretches_frames from len p cells are =
+    same_counted (frame_at (laid len cells (gains_of p) (sides_of p))) (frame_at p) 0 from len (λ k lt.
     let start : 0 + k ≡ k = omega arith in
     ap (frame_at (laid len cells (gains_of p) (sides_of p))) start ∙ stretches_frame from len p cells k lt are)
 
 -- muted tracks may be left out
-unmuted_first : (id gain : ℕ) (side : Side) (mute : Bool) (cells : List Cell) (ts : Project) → unmuted (unmuted ts) ≡ unmuted ts
-    → unmuted (unmuted (record { id = id; gain = gain; side = side; mute = mute; cells = cells } ∷ ts)) ≡ unmuted (record { id = id; gain = gain; side = side; mute = mute; cells = cells } ∷ ts)
+unmuted_first : (id gain : ℕ) (side : Side) (mute : Bool) (cells : List Cell) (ts : Project)
+    → unmuted (unmuted ts) ≡ unmuted ts
+    → unmuted (unmuted (record { id = id; gain = gain; side = side; mute = mute; cells = cells } ∷ ts))
+    ≡ unmuted (record { id = id; gain = gain; side = side; mute = mute; cells = cells } ∷ ts)
 unmuted_first id gain side true cells ts rest = rest
-unmuted_first id gain side false cells ts rest = ap (λ (q : Project). record { id = id; gain = gain; side = side; mute = false; cells = cells } ∷ q) rest
+unmuted_first id gain side false cells ts rest =
+    ap (λ (q : Project). record { id = id; gain = gain; side = side; mute = false; cells = cells } ∷ q) rest
 
 unmuted_again : (p : Project) → unmuted (unmuted p) ≡ unmuted p
 unmuted_again [] = refl
@@ -83,11 +93,13 @@ unmuted_again (t ∷ ts) = unmuted_first t.id t.gain t.side t.mute t.cells ts (u
 
 unmuted_frame : (p : Project) (i : ℕ) → frame_at (unmuted p) i ≡ frame_at p i
 unmuted_frame p i =
-    ap (λ (q : Project). limited (sum_at i (filter (λ t. is_on_left t.side) q)) (sum_at i (filter (λ t. is_on_right t.side) q))) (unmuted_again p)
+    ap (λ (q : Project). limited (sum_at i (filter (λ t. is_on_left t.side) q))
+    (sum_at i (filter (λ t. is_on_right t.side) q))) (unmuted_again p)
 
 -- frames of stretches of the unmuted tracks are the project's
 pub unmuted_frames : (from len : ℕ) (p : Project) (cells : List Cell) → AreStretches from len (unmuted p) cells
-    → map (frame_at (laid len cells (gains_of (unmuted p)) (sides_of (unmuted p)))) (counted_from 0 len) ≡ map (frame_at p) (counted_from from len)
+    → map (frame_at (laid len cells (gains_of (unmuted p)) (sides_of (unmuted p)))) (counted_from 0 len)
+    ≡ map (frame_at p) (counted_from from len)
 unmuted_frames from len p cells are =
     stretches_frames from len (unmuted p) cells are
     ∙ same_counted (frame_at (unmuted p)) (frame_at p) from from len (λ k lt. unmuted_frame p (from + k))

@@ -1,5 +1,6 @@
 -- Sums of a piece of the frames, one list for each way to be heard.
-use Rattle.std.specs.Prelude.{◌≡◌, ◌≤◌, ◌<◌, ◌+◌, ◌^◌, ℕ, ℤ, pos, ◌+ℤ◌, nat_abs, List, length, Bool, if◌then◌else◌, slice_index_or}
+use Rattle.std.specs.Prelude.{◌≡◌, ◌≤◌, ◌<◌, ◌+◌, ◌^◌, ℕ, ℤ, pos, ◌+ℤ◌, nat_abs, List, length, Bool, if◌then◌else◌}
+use Rattle.std.specs.Prelude.{slice_index_or}
 use Rattle.pcm_base.specs.declared.sound.Cell.{Cell}
 use Rattle.pcm_base.specs.declared.sound.Cell.TheVariants.{Gap}
 use Rattle.pcm_base.specs.declared.sound.Frame.{Frame}
@@ -29,7 +30,8 @@ IsAdded gain cells old new = (k : ℕ) → k < length cells → sum_in new k ≡
 abbrev pub IsHeard : Bool → ℕ → List Cell → (List ℤ × List ℤ) → (List ℤ × List ℤ) → Type 0
 IsHeard here gain cells old new =
     (k : ℕ) → k < length cells
-    → sum_in new.0 k +ℤ sum_in new.1 k ≡ (sum_in old.0 k +ℤ sum_in old.1 k) +ℤ (if here then weight_in gain cells k else pos 0)
+    → sum_in new.0 k +ℤ sum_in new.1 k
+    ≡ (sum_in old.0 k +ℤ sum_in old.1 k) +ℤ (if here then weight_in gain cells k else pos 0)
 
 -- the frame of what is heard on each side, limited once
 abbrev pub limited : ℤ → ℤ → Frame

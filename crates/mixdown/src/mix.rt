@@ -24,7 +24,8 @@ fn mix_piece(
     requires stretches { length stretches.now ≡ length gains.now * len }
     requires piece { length out.old ≤ 256 }
     requires within { at + length out.old ≤ len }
-    ensures { out.new ≡ map (frame_at (laid len stretches.now gains.now sides.now)) (range_with_len at (length out.old)) }
+    ensures { out.new ≡ map (frame_at (laid len stretches.now gains.now sides.now))
+        (range_with_len at (length out.old)) }
 {
     let mut sums = Sums::new();
     for t in 0..gains.len() {
@@ -45,13 +46,16 @@ pub fn mix_into(stretches: &[Cell], gains: &[u32], sides: &[Side], out: &mut [Fr
     requires few { length gains.now ≤ 64 }
     requires sides { length sides.now ≡ length gains.now }
     requires stretches { length stretches.now ≡ length gains.now * length out.old }
-    ensures frames { out.new ≡ map (frame_at (laid (length out.old) stretches.now gains.now sides.now)) (counted_from 0 (length out.old)) }
+    ensures frames { out.new ≡ map (frame_at (laid (length out.old) stretches.now gains.now sides.now))
+        (counted_from 0 (length out.old)) }
     // Stretches of the unmuted tracks of a project, from a place on, give the project's frames from there on.
     ensures heard { (from : ℕ) (p : Project) → gains.now ≡ gains_of (unmuted p) → sides.now ≡ sides_of (unmuted p)
-        → AreStretches from (length out.old) (unmuted p) stretches.now → out.new ≡ map (frame_at p) (counted_from from (length out.old)) }
+        → AreStretches from (length out.old) (unmuted p) stretches.now
+        → out.new ≡ map (frame_at p) (counted_from from (length out.old)) }
     // So do stretches of all its tracks, where those of muted tracks are gaps.
     ensures project { (from : ℕ) (p : Project) → gains.now ≡ gains_of p → sides.now ≡ sides_of p
-        → AreStretches from (length out.old) p stretches.now → out.new ≡ map (frame_at p) (counted_from from (length out.old)) }
+        → AreStretches from (length out.old) p stretches.now
+        → out.new ≡ map (frame_at p) (counted_from from (length out.old)) }
 {
     mix_pieces(stretches, gains, sides, out);
 }
@@ -61,7 +65,8 @@ fn mix_pieces(stretches: &[Cell], gains: &[u32], sides: &[Side], out: &mut [Fram
     requires few { length gains.now ≤ 64 }
     requires sides { length sides.now ≡ length gains.now }
     requires stretches { length stretches.now ≡ length gains.now * length out.old }
-    ensures { out.new ≡ map (frame_at (laid (length out.old) stretches.now gains.now sides.now)) (counted_from 0 (length out.old)) }
+    ensures { out.new ≡ map (frame_at (laid (length out.old) stretches.now gains.now sides.now))
+        (counted_from 0 (length out.old)) }
 {
     let len = out.len();
     let mut done = 0;

@@ -38,8 +38,14 @@ impl Sums {
         requires both { AreWithin (2 ^ 39) (length cells.now) self.old.both }
         requires left { AreWithin (2 ^ 39) (length cells.now) self.old.left }
         requires right { AreWithin (2 ^ 39) (length cells.now) self.old.right }
-        ensures left { IsHeard (is_on_left side) gain cells.now (self.old.both, self.old.left) (self.new.both, self.new.left) }
-        ensures right { IsHeard (is_on_right side) gain cells.now (self.old.both, self.old.right) (self.new.both, self.new.right) }
+        ensures left { IsHeard (is_on_left side) gain cells.now (self.old.both, self.old.left) (
+          self.new.both,
+          self.new.left,
+        ) }
+        ensures right { IsHeard (is_on_right side) gain cells.now (self.old.both, self.old.right) (
+          self.new.both,
+          self.new.right,
+        ) }
         ensures both_bound { Grows (length cells.now) self.old.both self.new.both }
         ensures left_bound { Grows (length cells.now) self.old.left self.new.left }
         ensures right_bound { Grows (length cells.now) self.old.right self.new.right }
@@ -57,7 +63,8 @@ impl Sums {
         requires both { AreWithin (2 ^ 39) (length out.old) self.now.both }
         requires left { AreWithin (2 ^ 39) (length out.old) self.now.left }
         requires right { AreWithin (2 ^ 39) (length out.old) self.now.right }
-        ensures { out.new ≡ map (frame_in self.now.both self.now.left self.now.right) (range_with_len 0 (length out.old)) }
+        ensures { out.new
+            ≡ map (frame_in self.now.both self.now.left self.now.right) (range_with_len 0 (length out.old)) }
     {
         for k in 0..out.len() {
             let both = self.both[k];

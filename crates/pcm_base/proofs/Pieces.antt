@@ -1,11 +1,14 @@
 -- Lemmas on pieces and their samples, for the crates that cut and join them.
-use Rattle.std.proofs.Common.{◌≡◌, ℕ, zero, suc, ◌+◌, ◌-◌, ◌≤◌, List, [], ◌∷◌, ◌++◌, length, get_or, map, take, drop, refl, sym, ap, ap₂, ◌∙◌, pos, append_assoc, length-append, length-drop, arith, ℤ}
-use Rattle.std.proofs.lemmas.List.{take-append-le, drop-append-le, length-replicate, length-map, take-append-drop, drop-drop, drop-map, take-map, drop-replicate, take-replicate, drop_all, drop_more}
+use Rattle.std.proofs.Common.{◌≡◌, ℕ, zero, suc, ◌+◌, ◌-◌, ◌≤◌, List, [], ◌∷◌, ◌++◌, length, get_or, map, take, drop}
+use Rattle.std.proofs.Common.{refl, sym, ap, ap₂, ◌∙◌, pos, append_assoc, length-append, length-drop, arith, ℤ}
+use Rattle.std.proofs.lemmas.List.{take-append-le, drop-append-le, length-replicate, length-map, take-append-drop}
+use Rattle.std.proofs.lemmas.List.{drop-drop, drop-map, take-map, drop-replicate, take-replicate, drop_all, drop_more}
 use Rattle.std.proofs.Math.Seq.{drop-append-add}
 use Rattle.pcm_base.specs.declared.piece.Piece.{Piece}
 use Rattle.pcm_base.specs.declared.piece.Piece.TheVariants.{Old, Scaled, Zero, Given}
 use Rattle.pcm_base.specs.Arithmetic.{scaled, clamped}
-use Rattle.pcm_base.specs.Pieces.{Sources, stretch, piece_len, samples_of, total, all_samples, part_of, IsValid, AllValid, Fits, AllFit}
+use Rattle.pcm_base.specs.Pieces.{Sources, stretch, piece_len, samples_of, total, all_samples, part_of, IsValid}
+use Rattle.pcm_base.specs.Pieces.{AllValid, Fits, AllFit}
 
 pub length-stretch : (f : ℕ → ℤ) (from n : ℕ) → length (stretch f from n) ≡ n
 length-stretch f from zero = refl
@@ -22,10 +25,12 @@ length-all_samples src [] = refl
 length-all_samples src (p ∷ ps) =
     length-append (samples_of src p) (all_samples src ps) ∙ ap₂ ◌+◌ (length-samples src p) (length-all_samples src ps)
 
-pub all_samples-append : (src : Sources) (ps qs : List Piece) → all_samples src (ps ++ qs) ≡ all_samples src ps ++ all_samples src qs
+pub all_samples-append : (src : Sources) (ps qs : List Piece)
+    → all_samples src (ps ++ qs) ≡ all_samples src ps ++ all_samples src qs
 all_samples-append src [] qs = refl
 all_samples-append src (p ∷ ps) qs =
-    ap (λ xs. samples_of src p ++ xs) (all_samples-append src ps qs) ∙ sym (append_assoc (samples_of src p) (all_samples src ps) (all_samples src qs))
+    ap (λ xs. samples_of src p ++ xs) (all_samples-append src ps qs)
+    ∙ sym (append_assoc (samples_of src p) (all_samples src ps) (all_samples src qs))
 
 pub total-append : (ps qs : List Piece) → total (ps ++ qs) ≡ total ps + total qs
 total-append [] qs = omega arith
@@ -43,7 +48,8 @@ drop-stretch f from (suc k) zero h = absurd (omega arith)
 drop-stretch f from (suc k) (suc n) h =
     drop-stretch f (suc from) k n (omega arith) ∙ ap₂ (λ a b. stretch f a b) (omega arith) (omega arith)
 
-pub part-stretch : (f : ℕ → ℤ) (from skip k n : ℕ) → skip + k ≤ n → take k (drop skip (stretch f from n)) ≡ stretch f (from + skip) k
+pub part-stretch : (f : ℕ → ℤ) (from skip k n : ℕ) → skip + k ≤ n
+    → take k (drop skip (stretch f from n)) ≡ stretch f (from + skip) k
 part-stretch f from skip k n h =
     ap (take k) (drop-stretch f from skip n (omega arith)) ∙ take-stretch f (from + skip) k (n - skip) (omega arith)
 
@@ -71,15 +77,18 @@ piece_len-part skip n (Zero len) = refl
 piece_len-part skip n (Given from to) = omega arith
 
 -- a part of a piece has that part of its samples
-pub samples-part : (src : Sources) (skip n : ℕ) (p : Piece) → skip + n ≤ piece_len p → samples_of src (part_of skip n p) ≡ take n (drop skip (samples_of src p))
+pub samples-part : (src : Sources) (skip n : ℕ) (p : Piece) → skip + n ≤ piece_len p
+    → samples_of src (part_of skip n p) ≡ take n (drop skip (samples_of src p))
 samples-part src skip n (Old b from to) h =
-    ap (stretch (src.block b.id) (from + skip)) (omega arith) ∙ sym (part-stretch (src.block b.id) from skip n (to - from) h)
+    ap (stretch (src.block b.id) (from + skip)) (omega arith)
+    ∙ sym (part-stretch (src.block b.id) from skip n (to - from) h)
 samples-part src skip n (Scaled b from to gain) h =
     let f = src.block b.id in
     let g : ℤ → ℤ = λ s. clamped (scaled gain s) in
     ap (λ k. map g (stretch f (from + skip) k)) (omega arith)
     ∙ ap (map g) (sym (part-stretch f from skip n (to - from) h))
-    ∙ sym (ap (take n) (drop-map g skip (stretch f from (to - from))) ∙ take-map g n (drop skip (stretch f from (to - from))))
+    ∙ sym (ap (take n) (drop-map g skip (stretch f from (to - from)))
+    ∙ take-map g n (drop skip (stretch f from (to - from))))
 samples-part src skip n (Zero len) h =
     sym (ap (take n) (drop-replicate skip len (pos 0)) ∙ take-replicate n (len - skip) (pos 0) (omega arith))
 samples-part src skip n (Given from to) h =
@@ -109,8 +118,10 @@ AllFit-append m (p ∷ ps) qs a b = (a.0, AllFit-append m ps qs a.1 b)
 pub stretch_list : (xs : List ℤ) (d : ℤ) → stretch (λ i. get_or xs i d) 0 (length xs) ≡ xs
 stretch_list xs d = from_place xs 0 d (length xs) (omega arith)
   where
-    from_place : (xs : List ℤ) (i : ℕ) (d : ℤ) (n : ℕ) → i + n ≡ length xs → stretch (λ j. get_or xs j d) i n ≡ drop i xs
+    from_place : (xs : List ℤ) (i : ℕ) (d : ℤ) (n : ℕ) → i + n ≡ length xs
+        → stretch (λ j. get_or xs j d) i n ≡ drop i xs
     from_place xs i d zero h = sym (drop_all i xs (omega arith))
     from_place xs i d (suc n) h =
         let e : suc i ≡ i + 1 = omega arith in
-        ap (λ ys. get_or xs i d ∷ ys) (from_place xs (suc i) d n (omega arith) ∙ ap (λ j. drop j xs) e) ∙ sym (drop_more xs i d (omega arith))
+        ap (λ ys. get_or xs i d ∷ ys) (from_place xs (suc i) d n (omega arith) ∙ ap (λ j. drop j xs) e)
+        ∙ sym (drop_more xs i d (omega arith))

@@ -1,5 +1,6 @@
 -- The step of a studio as a relation, and whole runs.
-use Rattle.std.specs.Prelude.{◌≡◌, ◌⊎◌, ℕ, ◌+◌, ◌^◌, ◌≤◌, Bool, true, false, IsTrue, List, [], ◌∷◌, take, Option, Some, None, IsSome, Result, Ok, Err}
+use Rattle.std.specs.Prelude.{◌≡◌, ◌⊎◌, ℕ, ◌+◌, ◌^◌, ◌≤◌, Bool, true, false, IsTrue, List, [], ◌∷◌, take, Option, Some}
+use Rattle.std.specs.Prelude.{None, IsSome, Result, Ok, Err}
 use Rattle.pcm_base.specs.declared.command.Command.{Command}
 use Rattle.pcm_base.specs.declared.command.Command.TheVariants as command
 use Rattle.pcm_base.specs.declared.command.Call.{Call}
@@ -39,7 +40,8 @@ stop_test stopped (call.Unpin pin) = None
 -- this length; the first in this order is told
 abbrev pub refusal_of : Outside → Studio → Call → ℕ → ℕ → Option Refusal
 refusal_of out t c blocks len =
-    (stop_test t.stopped c) otherwise (call_tests out t.state c) otherwise (counter_tests out t c blocks len) otherwise (record_test len)
+    (stop_test t.stopped c) otherwise (call_tests out t.state c) otherwise (counter_tests out t c blocks len) otherwise
+    (record_test len)
 
 -- the studio after a call that nothing refuses
 abbrev pub followed : Outside → Studio → Call → ℕ → ℕ → Studio
@@ -163,7 +165,8 @@ may_change (call.PinLen pin) = false
 may_change (call.ReadPin pin from count) = false
 may_change (call.Unpin pin) = false
 
--- A device broke a call off: ids of blocks may have been given, no more than the call may need and there is room for, and
+-- A device broke a call off: ids of blocks may have been given, no more than the call may need and there is room for,
+-- and
 -- all else is as before.
 pub record BreaksOff (t : Studio) (c : Call) (sound : SoundMove) (u : Studio) : Type 0 where
   pub going : t.stopped ≡ None

@@ -1,5 +1,6 @@
 -- What a call that nothing refuses leaves, and what it answers.
-use Rattle.std.specs.Prelude.{◌≡◌, ℕ, ◌+◌, ◌-◌, ◌≤◌, ◌==◌, if◌then◌else◌, ℤ, List, [], ◌∷◌, ◌++◌, length, map, take, drop, replicate, false, Option, Some, None, Result, Ok, Err}
+use Rattle.std.specs.Prelude.{◌≡◌, ℕ, ◌+◌, ◌-◌, ◌≤◌, ◌==◌, if◌then◌else◌, ℤ, List, [], ◌∷◌, ◌++◌, length, map, take}
+use Rattle.std.specs.Prelude.{drop, replicate, false, Option, Some, None, Result, Ok, Err}
 use Rattle.pcm_base.specs.declared.sound.Cell.{Cell}
 use Rattle.pcm_base.specs.declared.sound.Side.TheVariants.{Both}
 use Rattle.pcm_base.specs.declared.sound.TrackLine.{TrackLine}
@@ -10,8 +11,10 @@ use Rattle.pcm_base.specs.declared.command.Call.TheVariants as call
 use Rattle.pcm_base.specs.declared.answer.Reply.{Reply}
 use Rattle.pcm_base.specs.declared.answer.Reply.TheVariants as reply
 use Rattle.pcm_base.specs.declared.wav.WavFault.{WavFault}
-use Rattle.pcm_base.specs.Cells.{Track, Project, trimmed, tracks_from, cells_at, run_edited, edited_at, dropped, changed_at}
-use Rattle.pcm_base.specs.Edits.{as_cells, ramp_of, part, range_of, inserted, deleted, changed, gained, split_deleted, silenced, kept_only, pasted_over}
+use Rattle.pcm_base.specs.Cells.{Track, Project, trimmed, tracks_from, cells_at, run_edited, edited_at, dropped}
+use Rattle.pcm_base.specs.Cells.{changed_at}
+use Rattle.pcm_base.specs.Edits.{as_cells, ramp_of, part, range_of, inserted, deleted, changed, gained, split_deleted}
+use Rattle.pcm_base.specs.Edits.{silenced, kept_only, pasted_over}
 use Rattle.pcm_base.specs.History.{edited, recorded, at_cursor, purged}
 use Rattle.pcm_base.specs.Mix.{mix_of, mix_length}
 use Rattle.pcm_base.specs.Wave.{Sound, wav_of, wav_text}
@@ -51,7 +54,8 @@ channel_tracks id (samples ∷ more) = new_track id (as_cells samples) ∷ chann
 -- a commit that adds a track for each channel
 abbrev pub with_channels : State → List (List ℤ) → State
 with_channels s channels =
-    record (with_project s (current s ++ channel_tracks s.next_track channels)) { next_track = s.next_track + length channels }
+    record (with_project s
+    (current s ++ channel_tracks s.next_track channels)) { next_track = s.next_track + length channels }
 
 -- the channels of a file, none where it cannot be read
 abbrev pub channels_in : Result Sound WavFault → List (List ℤ)
@@ -68,20 +72,26 @@ line_of_track t = record { id = t.id; gain = t.gain; side = t.side; mute = t.mut
 
 -- the state after a line
 abbrev pub after_line : Outside → State → Command → State
-after_line out s command.Track = record (with_project s (current s ++ new_track s.next_track [] ∷ [])) { next_track = s.next_track + 1 }
+after_line out s command.Track =
+    record (with_project s (current s ++ new_track s.next_track [] ∷ [])) { next_track = s.next_track + 1 }
 after_line out s (command.Drop id) = with_project s (dropped id (current s))
 after_line out s (command.Level id gain) = with_project s (changed_at id (λ t. record t { gain = gain }) (current s))
 after_line out s (command.Side id side) = with_project s (changed_at id (λ t. record t { side = side }) (current s))
 after_line out s (command.Mute id mute) = with_project s (changed_at id (λ t. record t { mute = mute }) (current s))
-after_line out s (command.Put id at samples) = with_project s (edited_at id (inserted at (as_cells samples)) (current s))
-after_line out s (command.Ramp id at n start step) = with_project s (edited_at id (inserted at (ramp_of n start step)) (current s))
+after_line out s (command.Put id at samples) =
+    with_project s (edited_at id (inserted at (as_cells samples)) (current s))
+after_line out s (command.Ramp id at n start step) =
+    with_project s (edited_at id (inserted at (ramp_of n start step)) (current s))
 after_line out s (command.Delete id from to) = with_project s (edited_at id (deleted from to) (current s))
 after_line out s (command.SplitDelete id from to) = with_project s (edited_at id (split_deleted from to) (current s))
 after_line out s (command.Silence id from to) = with_project s (edited_at id (silenced from to) (current s))
 after_line out s (command.Trim id from to) = with_project s (edited_at id (kept_only from to) (current s))
-after_line out s (command.Gain id from to gain) = with_project s (edited_at id (changed (gained gain) from to) (current s))
-after_line out s (command.Cut id n from to) = with_clipboard (with_run s id (replicate n (deleted from to))) (copied id n from to (current s))
-after_line out s (command.SplitCut id n from to) = with_clipboard (with_run s id (replicate n (split_deleted from to))) (copied id n from to (current s))
+after_line out s (command.Gain id from to gain) =
+    with_project s (edited_at id (changed (gained gain) from to) (current s))
+after_line out s (command.Cut id n from to) =
+    with_clipboard (with_run s id (replicate n (deleted from to))) (copied id n from to (current s))
+after_line out s (command.SplitCut id n from to) =
+    with_clipboard (with_run s id (replicate n (split_deleted from to))) (copied id n from to (current s))
 after_line out s (command.Copy id n from to) = with_clipboard s (copied id n from to (current s))
 after_line out s (command.Paste id at) = with_run s id (map (inserted at) (clip_of s))
 after_line out s (command.PasteOver id at) = with_run s id (map (pasted_over at) (clip_of s))
@@ -191,7 +201,8 @@ MayReply out s command.Redo r = r ≡ reply.Done
 MayReply out s (command.Purge n) r = r ≡ reply.Done
 MayReply out s (command.Show id from to) r = r ≡ reply.Cells (part from to (cells_at id (current s)))
 MayReply out s (command.Mix from to) r = r ≡ reply.Frames (part from to (mix_of (current s)))
-MayReply out s (command.Envelope id from to columns) r = r ≡ reply.Columns (columns_of from to columns (cells_at id (current s)))
+MayReply out s (command.Envelope id from to columns) r =
+    r ≡ reply.Columns (columns_of from to columns (cells_at id (current s)))
 MayReply out s command.Tracks r = r ≡ reply.Tracks (map line_of_track (current s))
 MayReply out s (command.Reclaim limit) r = (count : ℕ) × (r ≡ reply.Freed count) × IsWithin limit count
 MayReply out s (command.Import name) r = r ≡ reply.Done
@@ -207,5 +218,6 @@ MayAnswer out s (call.Line c) r = MayReply out s c r
 MayAnswer out s (call.Piece track tag samples) r = r ≡ reply.Done
 MayAnswer out s call.Pin r = r ≡ reply.Pinned s.next_pin
 MayAnswer out s (call.PinLen pin) r = FromPin s pin (λ p. reply.Length (mix_length p)) r
-MayAnswer out s (call.ReadPin pin from count) r = FromPin s pin (λ p. reply.Frames (take count (drop from (mix_of p)))) r
+MayAnswer out s (call.ReadPin pin from count) r =
+    FromPin s pin (λ p. reply.Frames (take count (drop from (mix_of p)))) r
 MayAnswer out s (call.Unpin pin) r = r ≡ reply.Done

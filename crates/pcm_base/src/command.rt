@@ -33,7 +33,8 @@ pub enum Command {
         at: u64,
         samples: Samples,
     },
-    /// Inserts samples from `start` on in steps of `step`, each limited to what a sample can be; 1 to 1,048,576 of them.
+    /// Inserts samples from `start` on in steps of `step`, each limited to what a sample can be; 1 to 1,048,576 of
+    /// them.
     Ramp {
         track: u64,
         at: u64,

@@ -6,7 +6,8 @@ use Rattle.sample_block.specs.Blocks.{blocks}
 use Rattle.sample_block.proofs.BlockLaws.{blocks_have}
 
 -- the file of a block is the spelling of its samples
-pub file_of_block : (files : Files) (id : ℕ) (xs : List ℤ) → blocks files id ≡ Some xs → files id ≡ Some (spelling id xs)
+pub file_of_block : (files : Files) (id : ℕ) (xs : List ℤ) → blocks files id ≡ Some xs
+    → files id ≡ Some (spelling id xs)
 file_of_block files id xs e =
     let has = blocks_have files id xs e in
     has.file ∙ ap (λ (ys : List ℕ). Some ys) has.spelled.1

@@ -27,7 +27,8 @@ abbrev pub NotPut : MakeFault → Type 0 → Type 0
 NotPut (Read why) kept = kept
 NotPut Put kept = Unit {0}
 
--- where the disk failed the count of these faults rose, of reads or of changing calls; the other stays, as both do elsewhere
+-- where the disk failed the count of these faults rose, of reads or of changing calls; the other stays, as both do
+-- elsewhere
 abbrev pub MadeBy : MakeFault → ℕ → ℕ → ℕ → ℕ → Type 0
 MadeBy (Read why) reads reads' changes changes' = CountedBy why reads reads' × (changes' ≡ changes)
 MadeBy Put reads reads' changes changes' = (reads' ≡ reads) × (Rose changes changes' × (changes ≤ changes'))

@@ -67,9 +67,9 @@ pub fn write_new_block<S: Store>(
 }
 
 /// Makes a new block of its pieces: reads their samples into the front of `samples`, and puts the block. Its file is
-/// absent, its id is from 16 to below 2^62, and both buffers have room, so that no memory is taken. Each piece is a part
-/// of a block that a disk may have, zeros, or a part of what the command brings. After an error the file may be there,
-/// whole or in part, but not where a piece could not be read.
+/// absent, its id is from 16 to below 2^62, and both buffers have room, so that no memory is taken. Each piece is a
+/// part of a block that a disk may have, zeros, or a part of what the command brings. After an error the file may be
+/// there, whole or in part, but not where a piece could not be read.
 pub fn make_block<S: Store>(
     store: &mut S,
     block: &NewBlock,

@@ -1,4 +1,8 @@
 -- The lemmas, lowest first.
 pub mod Sums
-pub mod Keeps
+pub mod RuleSteps
+pub mod KeepsTurn
+pub mod KeepsSplits
+pub mod KeepsJoins
+pub mod KeepsEnd
 pub mod Calls

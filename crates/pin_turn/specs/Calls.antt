@@ -30,14 +30,22 @@ module _ {T E : Type 0} where
     pub longer : w.seen ≡ v.seen ++ more
     pub by_others : ByOthers maker (v.number ∷ []) more
 
-  -- f fits a turn of the seat: it may be called at each value that stands for what the seat has seen and for more entries of others, and then leaves one that stands for that list and one entry of the seat's
-  pub record FitsTurn {F R : Type 0} (stands : T → T → List E → Type 0) (maker : E → ℕ) (start : T) (v : View T E) (g : Mut F (MutBor T × Unit {0}) (R × (MutBor T × Unit {0}))) (f : F) (added : R → F → List E) : Type 0 where
-    pub may : (more : List E) (x : T) → ByOthers maker (v.number ∷ []) more → length (v.seen ++ more) < 2 ^ 62 → stands start x (v.seen ++ more) → TakesAtMut g f x
-    pub leaves : (more : List E) (x : T) → ByOthers maker (v.number ∷ []) more → length (v.seen ++ more) < 2 ^ 62 → stands start x (v.seen ++ more) → (r : R) (f' : F) (x' : T) → CalledAtMut g f x r f' x' → stands start x' ((v.seen ++ more) ++ added r f')
+  -- f fits a turn of the seat: it may be called at each value that stands for what the seat has seen and for more
+  -- entries of others, and then leaves one that stands for that list and one entry of the seat's
+  pub record FitsTurn {F R : Type 0} (stands : T → T → List E → Type 0) (maker : E → ℕ) (start : T) (v : View T E)
+      (g : Mut F (MutBor T × Unit {0}) (R × (MutBor T × Unit {0}))) (f : F) (added : R → F → List E) : Type 0 where
+    pub may : (more : List E) (x : T) → ByOthers maker (v.number ∷ []) more → length (v.seen ++ more) < 2 ^ 62
+        → stands start x (v.seen ++ more) → TakesAtMut g f x
+    pub leaves : (more : List E) (x : T) → ByOthers maker (v.number ∷ []) more → length (v.seen ++ more) < 2 ^ 62
+        → stands start x (v.seen ++ more) → (r : R) (f' : F) (x' : T) → CalledAtMut g f x r f' x'
+        → stands start x' ((v.seen ++ more) ++ added r f')
     pub by_seat : (r : R) (f' : F) → (e : E) × (added r f' ≡ e ∷ []) × (maker e ≡ v.number)
 
-  -- a turn was taken: f was called once, at a value that stood for what the seat had seen and for entries of others, and then one entry of the seat's was added
-  pub record TookTurn {F R : Type 0} (stands : T → T → List E → Type 0) (maker : E → ℕ) (start : T) (v : View T E) (g : Mut F (MutBor T × Unit {0}) (R × (MutBor T × Unit {0}))) (f : F) (added : List E) (r : R) (f' : F) (w : View T E) : Type 0 where
+  -- a turn was taken: f was called once, at a value that stood for what the seat had seen and for entries of others,
+  -- and then one entry of the seat's was added
+  pub record TookTurn {F R : Type 0} (stands : T → T → List E → Type 0) (maker : E → ℕ) (start : T) (v : View T E)
+      (g : Mut F (MutBor T × Unit {0}) (R × (MutBor T × Unit {0}))) (f : F) (added : List E) (r : R) (f' : F)
+      (w : View T E) : Type 0 where
     pub between : List E
     pub by_others : ByOthers maker (v.number ∷ []) between
     pub value : T

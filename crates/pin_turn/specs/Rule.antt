@@ -1,5 +1,6 @@
 -- What holds between any two steps on the table of a turn, and what each kind of step tells its caller.
-use Rattle.std.specs.Prelude.{◌≡◌, ◌≢◌, ℕ, ◌+◌, ◌*◌, ◌^◌, ◌<◌, ◌≤◌, true, false, List, [], ◌∷◌, ◌++◌, length, slice_index, Option, Some}
+use Rattle.std.specs.Prelude.{◌≡◌, ◌≢◌, ℕ, ◌+◌, ◌*◌, ◌^◌, ◌<◌, ◌≤◌, true, false, List, [], ◌∷◌, ◌++◌, length}
+use Rattle.std.specs.Prelude.{slice_index, Option, Some}
 use mathlib.Core.Option.{some, none}
 use lib.ListN.{get_elem?}
 use Rattle.atomic_table.specs.Table.{State, Me, Step}
@@ -21,8 +22,10 @@ away_at n v = times n v.away
 abbrev pub has_number : {T E : Type 0} → ℕ → View T E → ℕ
 has_number n v = times n (numbers v)
 
--- what holds of the view v of the seat at place j, where the turns so far made the list `log`, and where while `busy` is 1 the seat at place `holder` has the turn
-pub record Knows {T E : Type 0} (maker : E → ℕ) (start : T) (log : List E) (busy holder j : ℕ) (v : View T E) : Type 0 where
+-- what holds of the view v of the seat at place j, where the turns so far made the list `log`, and where while `busy`
+-- is 1 the seat at place `holder` has the turn
+pub record Knows {T E : Type 0} (maker : E → ℕ) (start : T) (log : List E) (busy holder j : ℕ)
+    (v : View T E) : Type 0 where
   -- what the seat has not seen yet
   pub later : List E
   -- what it has seen begins the list of all
@@ -37,14 +40,17 @@ pub record Knows {T E : Type 0} (maker : E → ℕ) (start : T) (log : List E) (
   pub bare : v.stage ≡ Gone → (v.mine ≡ []) × (v.away ≡ [])
   -- where it found that no turn is left, the word is 2 ^ 63
   pub spent : v.used_up ≡ true → length log * 2 + busy ≡ 2 ^ 63
-  -- between the two steps of a join: the list that it keeps for the comparison begins the list of all, and holds all entries of the seat that had seen it
+  -- between the two steps of a join: the list that it keeps for the comparison begins the list of all, and holds all
+  -- entries of the seat that had seen it
   pub heard : (k owner : ℕ) (told : List E) → v.stage ≡ Joining k owner told
-      → (more : List E) × (log ≡ told ++ more) × ByOthers maker (owner ∷ []) more × (0 < times owner (v.number ∷ k ∷ [])) × (0 < times k v.away)
+      → (more : List E) × (log ≡ told ++ more) × ByOthers maker (owner ∷ []) more
+      × (0 < times owner (v.number ∷ k ∷ [])) × (0 < times k v.away)
   -- only one seat has the turn, only while the word is odd, and it has seen all
   pub holds : v.stage ≡ Holding → (busy ≡ 1) × (holder ≡ j) × (later ≡ [])
 
 -- the rule, where `start` is the value with which the turn began
-pub record TurnRule {T E : Type 0} (stands : T → T → List E → Type 0) (maker : E → ℕ) (start : T) (s : State (Option T) (View T E)) : Type 0 where
+pub record TurnRule {T E : Type 0} (stands : T → T → List E → Type 0) (maker : E → ℕ) (start : T)
+    (s : State (Option T) (View T E)) : Type 0 where
   -- the entries of all turns so far
   pub log : List E
   -- the numbers that were drawn are below it
@@ -78,7 +84,8 @@ pub record TurnRule {T E : Type 0} (stands : T → T → List E → Type 0) (mak
   -- nor is any entry by such a seat
   pub made_before : Each (λ e. maker e < made) log
 
--- no seat had this number before: it is above the seat's own, above those of the seats away from it, and above those of all that made an entry which it has seen
+-- no seat had this number before: it is above the seat's own, above those of the seats away from it, and above those of
+-- all that made an entry which it has seen
 pub record IsNewNumber {T E : Type 0} (maker : E → ℕ) (v : View T E) (n : ℕ) : Type 0 where
   pub above_own : v.number < n
   pub above_away : Each (λ k. k < n) v.away
@@ -89,7 +96,8 @@ abbrev Standing : Type 0 → Type 0 → Type 0
 Standing T E = Me (Option T) (View T E)
 
 -- the turn was taken at the word n: the value is in hand, and stands for all that is seen now
-pub record Took {T E : Type 0} (stands : T → T → List E → Type 0) (maker : E → ℕ) (m : Me (Option T) (View T E)) (n : ℕ) (m' : Me (Option T) (View T E)) : Type 0 where
+pub record Took {T E : Type 0} (stands : T → T → List E → Type 0) (maker : E → ℕ) (m : Me (Option T) (View T E)) (n : ℕ)
+    (m' : Me (Option T) (View T E)) : Type 0 where
   pub value : T
   pub between : List E
   pub hand : m'.1 ≡ (0, Some value) ∷ m.1
@@ -110,13 +118,16 @@ module _ {T E : Type 0} where
 
   -- a store: these entries were added, the place is the seat's own, and the turn was given back
   abbrev pub gave : List E → Step (Option T) → Standing T E → ℕ → Standing T E → Type 0
-  gave added st m n m' = m' ≡ (record m.0 { seen = m.0.seen ++ added; mine = m.0.mine ++ length m.0.seen ∷ []; stage = Resting }, [])
+  gave added st m n m' =
+      m' ≡ (record m.0 { seen = m.0.seen ++ added; mine = m.0.mine ++ length m.0.seen ∷ []; stage = Resting }, [])
 
   -- a load: a number was drawn for a new seat
   abbrev pub drew_number : (E → ℕ) → Step (Option T) → Standing T E → ℕ → Standing T E → Type 0
-  drew_number maker st m n m' = (k : ℕ) × IsNewNumber maker m.0 k × (m' ≡ (record m.0 { away = m.0.away ++ k ∷ []; stage = Splitting k }, m.1))
+  drew_number maker st m n m' =
+      (k : ℕ) × IsNewNumber maker m.0 k × (m' ≡ (record m.0 { away = m.0.away ++ k ∷ []; stage = Splitting k }, m.1))
 
   -- a load: the two lists were compared, the shorter begins the longer, and what follows is not by its owner
   abbrev pub compared : (E → ℕ) → Step (Option T) → Standing T E → ℕ → Standing T E → Type 0
   compared maker st m n m' = (k owner : ℕ) (told : List E) → m.0.stage ≡ Joining k owner told
-      → (m' ≡ (record m.0 { away = without k m.0.away; stage = Resting }, m.1)) × (length told ≤ length m.0.seen → (more : List E) × (m.0.seen ≡ told ++ more) × ByOthers maker (owner ∷ []) more)
+      → (m' ≡ (record m.0 { away = without k m.0.away; stage = Resting }, m.1)) × (length told ≤ length m.0.seen
+      → (more : List E) × (m.0.seen ≡ told ++ more) × ByOthers maker (owner ∷ []) more)

@@ -27,7 +27,8 @@ module _ {T E : Type 0} where
   numbers v = numbers_at v.number v.stage
 
   abbrev pub first_view : T → View T E
-  first_view x = record { start = Some x; number = 0; seen = []; mine = []; away = []; used_up = false; stage = Resting }
+  first_view x =
+      record { start = Some x; number = 0; seen = []; mine = []; away = []; used_up = false; stage = Resting }
 
   abbrev pub gone_view : View T E
   gone_view = record { start = None; number = 0; seen = []; mine = []; away = []; used_up = false; stage = Gone }
@@ -41,11 +42,21 @@ module _ {T E : Type 0} where
 
   -- the seat after it took in another
   abbrev pub joined : View T E → View T E → View T E
-  joined v w = record v { seen = longer v.seen w.seen; mine = v.mine ++ w.mine; away = without w.number v.away; used_up = v.used_up || w.used_up }
+  joined v w = record v {
+    seen = longer v.seen w.seen;
+    mine = v.mine ++ w.mine;
+    away = without w.number v.away;
+    used_up = v.used_up || w.used_up;
+  }
 
   -- and before it has compared what the two had seen
   abbrev pub hearing : View T E → View T E → View T E
-  hearing v w = record v { seen = longer v.seen w.seen; mine = v.mine ++ w.mine; used_up = v.used_up || w.used_up; stage = Joining w.number (of_shorter v.seen w.seen v.number w.number) (shorter v.seen w.seen) }
+  hearing v w = record v {
+    seen = longer v.seen w.seen;
+    mine = v.mine ++ w.mine;
+    used_up = v.used_up || w.used_up;
+    stage = Joining w.number (of_shorter v.seen w.seen v.number w.number) (shorter v.seen w.seen);
+  }
 
   -- the seat at rest, with no slot in hand
   abbrev pub settled : Seat (Option T) (View T E) → Seat (Option T) (View T E)

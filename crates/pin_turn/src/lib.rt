@@ -1,7 +1,9 @@
-//! One value, used by threads in turns. A thread has a [`Seat`], and by [`Turn::with`] it gets the value for one call; nobody else has it meanwhile.
+//! One value, used by threads in turns. A thread has a [`Seat`], and by [`Turn::with`] it gets the value for one call;
+//! nobody else has it meanwhile.
 //!
-//! The layer above says by [`Stands`] what the value stands for: from its start, one list of entries, of which each turn adds one.
-//! It uses the contracts of `Turn::new`, `split`, `join`, `with` and `close`, and `known`, what a seat knows: above all `seen`, the entries so far, and `mine`, which of these are its own.
+//! The layer above says by [`Stands`] what the value stands for: from its start, one list of entries, of which each
+//! turn adds one. It uses the contracts of `Turn::new`, `split`, `join`, `with` and `close`, and `known`, what a seat
+//! knows: above all `seen`, the entries so far, and `mine`, which of these are its own.
 //!
 //! No contract says that a seat ever gets the turn, or when.
 #![tactic(auto)]
@@ -34,8 +36,8 @@ pub trait Stands {
 /// A seat at a turn of `T`.
 pub type SeatOf<T> = Seat<T, <T as Stands>::Entry>;
 
-/// Which entry a call of [`Turn::with`] adds, by what its closure returned (`R`) and what that closure is afterwards (`F`).
-/// The call names `Brand` here, and its proof picks the entry.
+/// Which entry a call of [`Turn::with`] adds, by what its closure returned (`R`) and what that closure is afterwards
+/// (`F`). The call names `Brand` here, and its proof picks the entry.
 pub trait AddsEntry<R, F, E> {
     // A list of one entry.
     ghost added: { R → F → List E };

@@ -1,4 +1,5 @@
-//! The rule of the table, and what each step on it tells its caller. Each kind of step is a type of its own, with nothing in it.
+//! The rule of the table, and what each step on it tells its caller. Each kind of step is a type of its own, with
+//! nothing in it.
 ghost use Rattle.std.specs.Prelude.{List, []};
 ghost use Rattle.pin_turn.specs.Views.{first_view, gone_view, new_view, rested, hearing};
 ghost use Rattle.pin_turn.specs.Rule.{TurnRule, looked, took, gave, drew_number, compared};

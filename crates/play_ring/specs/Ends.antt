@@ -53,4 +53,12 @@ SameOut-trans a b c p q = ((q.0.0 ∙ p.0.0, q.0.1 ∙ p.0.1, q.0.2 ∙ p.0.2, q
 
 -- ends that are still of their rings are still of one ring
 pub IsPair-same : (i i' : PlayIn) (o o' : PlayOut) → IsPair i o → SameIn i i' → SameOut o o' → IsPair i' o'
-IsPair-same i i' o o' pair p q = (p.1 ∙ pair.0, (q.0.0 ∙ pair.1.0 ∙ sym p.0.0, q.0.1 ∙ pair.1.1 ∙ sym p.0.1, q.0.2 ∙ pair.1.2 ∙ sym p.0.2, q.0.3 ∙ pair.1.3 ∙ sym p.0.3))
+IsPair-same i i' o o' pair p q = (
+  p.1 ∙ pair.0,
+  (
+    q.0.0 ∙ pair.1.0 ∙ sym p.0.0,
+    q.0.1 ∙ pair.1.1 ∙ sym p.0.1,
+    q.0.2 ∙ pair.1.2 ∙ sym p.0.2,
+    q.0.3 ∙ pair.1.3 ∙ sym p.0.3,
+  ),
+)

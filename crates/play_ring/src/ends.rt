@@ -1,8 +1,10 @@
 // The two ends.
-ghost use Rattle.std.specs.Prelude.{◌≡◌, ◌∷◌, [], ◌++◌, ◌+◌, ◌<◌, ◌≤◌, ◌↔◌, min, length, take, map, IsTrue, IsFalse, IfOk, if◌then◌else◌};
+ghost use Rattle.std.specs.Prelude.{◌≡◌, ◌∷◌, [], ◌++◌, ◌+◌, ◌<◌, ◌≤◌, ◌↔◌, min, length, take, map, IsTrue, IsFalse};
+ghost use Rattle.std.specs.Prelude.{IfOk, if◌then◌else◌};
 ghost use mathlib.Core.List.{IsPrefix};
 ghost use Rattle.play_ring.specs.Order.{IsOpen};
-ghost use Rattle.play_ring.specs.Ends.{sent, known_free, received, known_items, IsPair, SameIn, SameOut, sounds, end_if};
+ghost use Rattle.play_ring.specs.Ends.{sent, known_free, received, known_items, IsPair, SameIn, SameOut, sounds};
+ghost use Rattle.play_ring.specs.Ends.{end_if};
 
 use pcm_base::{Frame, NoMemory};
 use rtrb::{Consumer, Producer, Protocol, PushError, RingBuffer};
@@ -94,11 +96,13 @@ impl PlayIn {
 }
 
 impl PlayOut {
-    /// Receives frames, and the end mark behind them: fewer than there is room for where the look at the ring showed no item.
+    /// Receives frames, and the end mark behind them: fewer than there is room for where the look at the ring showed no
+    /// item.
     pub fn take(&mut self, out: &mut [Frame]) -> Taken
         ensures ring { SameOut self.old self.new }
         ensures bound { result.count ≤ length out.new }
-        ensures received { received self.new ≡ received self.old ++ sounds (take result.count out.new) ++ end_if result.ended }
+        ensures received { received self.new ≡ received self.old ++ sounds (take result.count out.new)
+            ++ end_if result.ended }
         ensures none { IsFalse result.ended → result.count < length out.old → known_items self.new ≡ [] }
         ensures known { IsPrefix (known_items self.old)
             (sounds (take result.count out.new) ++ end_if result.ended ++ known_items self.new) }

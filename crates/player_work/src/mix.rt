@@ -37,8 +37,8 @@ fn finish<R: Wait, V>(rt: &R, giver: V, mut input: PlayIn, refused: Option<Refus
     }
 }
 
-/// Sends the frames of the giver, at most [`BATCH_FRAMES`] from each call, up to its end or its first refusal, and then the
-/// end mark. After a refusal the giver is not asked again.
+/// Sends the frames of the giver, at most [`BATCH_FRAMES`] from each call, up to its end or its first refusal, and then
+/// the end mark. After a refusal the giver is not asked again.
 pub fn fill<R: Wait, V: FrameGiver, G: Gate>(
     rt: &R,
     mut giver: V,

@@ -12,4 +12,5 @@ mod RowParts
 mod Standing
 pub mod Begun
 pub mod Readings
+pub mod FirstReadings
 mod Headers

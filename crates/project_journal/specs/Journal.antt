@@ -1,5 +1,6 @@
 -- The journal of a disk: a header, and the records behind open gates up to the first gate that is 0.
-use Rattle.std.specs.Prelude.{◌≡◌, ◌⊎◌, ◌≢◌, ℕ, ◌+◌, Option, Some, None, List, [], ◌∷◌, ◌++◌, length, map, slice_index, nat_lt, ◌==◌, if◌then◌else◌}
+use Rattle.std.specs.Prelude.{◌≡◌, ◌⊎◌, ◌≢◌, ℕ, ◌+◌, Option, Some, None, List, [], ◌∷◌, ◌++◌, length, map, slice_index}
+use Rattle.std.specs.Prelude.{nat_lt, ◌==◌, if◌then◌else◌}
 use Rattle.std.specs.List.{flat_map, AllByRecursion}
 use Rattle.byteorder.specs.Endian.{little_number}
 use Rattle.disk_model.specs.Disk.{Files}
@@ -75,7 +76,11 @@ next_of at [] = Early (record { at = at; want = at + 1; have = at })
 next_of at (gate ∷ rest) =
     if gate == 0 then Shut
     else if nat_lt (length rest) 4 then Early (record { at = at + 1; want = at + 5; have = at + 1 + length rest })
-    else if nat_lt (length rest) (4 + little_number 4 rest) then Early (record { at = at + 5; want = at + 5 + little_number 4 rest; have = at + 1 + length rest })
+    else if nat_lt (length rest) (4 + little_number 4 rest) then Early (record {
+      at = at + 5;
+      want = at + 5 + little_number 4 rest;
+      have = at + 1 + length rest;
+    })
     else Whole (little_number 4 rest)
 
 -- the records end here, at a gate that is 0 or too early

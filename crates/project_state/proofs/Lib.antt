@@ -7,6 +7,10 @@ pub mod Sizes
 pub mod Steps
 pub mod SoundBodies
 pub mod Spelled
+pub mod FieldsBack
+pub mod ClipsBack
+pub mod TracksBack
+pub mod SoundBounds
 pub mod ReadBack
 pub mod Lengths
 pub mod KeptBounds

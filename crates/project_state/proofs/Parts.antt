@@ -1,5 +1,6 @@
 -- Parts that are written one after another.
-use Rattle.std.proofs.Common.{◌≡◌, ℕ, zero, suc, ◌+◌, ◌*◌, ◌≤◌, ◌<◌, List, [], ◌∷◌, ◌++◌, length, take, drop, slice_get, get_or, Some, refl, sym, ap, ◌∙◌, arith, length-append}
+use Rattle.std.proofs.Common.{◌≡◌, ℕ, zero, suc, ◌+◌, ◌*◌, ◌≤◌, ◌<◌, List, [], ◌∷◌, ◌++◌, length, take, drop, slice_get}
+use Rattle.std.proofs.Common.{get_or, Some, refl, sym, ap, ◌∙◌, arith, length-append}
 use Rattle.std.specs.List.{flat_map}
 use Rattle.std.proofs.lemmas.Grind.{flat_map-append}
 use Rattle.std.proofs.lemmas.List.{append-nil, take_more, drop_more}
@@ -12,8 +13,10 @@ use Rattle.project_state.specs.Spelling.{block_bytes, clip_bytes}
 use borrow.Rule.Slice.PartMut.{put_mid}
 
 module _ {X : Type 0} (f : X → List ℕ) (xs : List X) where
-  pub parts_more : (i : ℕ) (x : X) → take (i + 1) xs ≡ take i xs ++ x ∷ [] → flat_map f (take (i + 1) xs) ≡ flat_map f (take i xs) ++ f x
-  parts_more i x e = ap (flat_map f) e ∙ flat_map-append f (take i xs) (x ∷ []) ∙ ap (λ (ys : List ℕ). flat_map f (take i xs) ++ ys) (append-nil (f x))
+  pub parts_more : (i : ℕ) (x : X) → take (i + 1) xs ≡ take i xs ++ x ∷ []
+      → flat_map f (take (i + 1) xs) ≡ flat_map f (take i xs) ++ f x
+  parts_more i x e = ap (flat_map f) e ∙ flat_map-append f (take i xs) (x ∷ [])
+      ∙ ap (λ (ys : List ℕ). flat_map f (take i xs) ++ ys) (append-nil (f x))
 
   -- one part more is written
   pub part_written : (i k at : ℕ) (out part : List ℕ) (x : X) → take (i + 1) xs ≡ take i xs ++ x ∷ []
@@ -27,7 +30,8 @@ module _ {X : Type 0} (f : X → List ℕ) (xs : List X) where
       ∙ sym (parts_more i x e)
 
   -- the parts that are left
-  pub parts_left : (i : ℕ) (x : X) → drop i xs ≡ x ∷ drop (i + 1) xs → length (flat_map f (drop i xs)) ≡ length (f x) + length (flat_map f (drop (i + 1) xs))
+  pub parts_left : (i : ℕ) (x : X) → drop i xs ≡ x ∷ drop (i + 1) xs
+      → length (flat_map f (drop i xs)) ≡ length (f x) + length (flat_map f (drop (i + 1) xs))
   parts_left i x e = ap (λ (ys : List X). length (flat_map f ys)) e ∙ length-append (f x) (flat_map f (drop (i + 1) xs))
 
 pub length_blocks : (bs : List BlockRef) → length (flat_map block_bytes bs) ≡ 12 * length bs
@@ -43,7 +47,8 @@ blocks_few [] h = omega arith
 blocks_few (b ∷ bs) h = omega (arith, h.0, blocks_few bs h.1)
 
 -- a clip has at most 24 bytes a sample
-pub clips_few : (at from : ℕ) (cs : List Clip) → at ≤ from → AreClips from cs → length (flat_map clip_bytes cs) + 24 * at ≤ 24 * end_of at cs
+pub clips_few : (at from : ℕ) (cs : List Clip) → at ≤ from → AreClips from cs
+    → length (flat_map clip_bytes cs) + 24 * at ≤ 24 * end_of at cs
 clips_few at from [] h a = omega arith
 clips_few at from (c ∷ cs) h a =
     let n = blocks_few c.blocks a.2 in
@@ -51,14 +56,16 @@ clips_few at from (c ∷ cs) h a =
     omega (arith, length-append (clip_bytes c) (flat_map clip_bytes cs), length_clip c, n, rest, a.0, a.1, h)
 
 -- the item at a place
-take_some_suc : {X : Type 0} (xs : List X) (i : ℕ) (x : X) → slice_get xs i ≡ Some x → take (suc i) xs ≡ take i xs ++ x ∷ []
+take_some_suc : {X : Type 0} (xs : List X) (i : ℕ) (x : X) → slice_get xs i ≡ Some x
+    → take (suc i) xs ≡ take i xs ++ x ∷ []
 take_some_suc [] i x e = absurd cc
 take_some_suc (y ∷ ys) zero x e =
     let same : y ≡ x = cc in
     ap (λ z. z ∷ []) same
 take_some_suc {X} (y ∷ ys) (suc i) x e = ap (λ (zs : List X). y ∷ zs) (take_some_suc ys i x e)
 
-pub take_some : {X : Type 0} (xs : List X) (i : ℕ) (x : X) → slice_get xs i ≡ Some x → take (i + 1) xs ≡ take i xs ++ x ∷ []
+pub take_some : {X : Type 0} (xs : List X) (i : ℕ) (x : X) → slice_get xs i ≡ Some x
+    → take (i + 1) xs ≡ take i xs ++ x ∷ []
 take_some xs i x e =
     let on : i + 1 ≡ suc i = omega arith in
     ap (λ (n : ℕ). take n xs) on ∙ take_some_suc xs i x e
@@ -75,8 +82,10 @@ drop_some {X} xs i x e =
     let on : suc i ≡ i + 1 = omega arith in
     drop_some_suc xs i x e ∙ ap (λ (n : ℕ). x ∷ drop n xs) on
 
-pub take_here : {X : Type 0} (xs : List X) (i : ℕ) (x : X) → i < length xs → x ≡ get_or xs i x → take (i + 1) xs ≡ take i xs ++ x ∷ []
+pub take_here : {X : Type 0} (xs : List X) (i : ℕ) (x : X) → i < length xs → x ≡ get_or xs i x
+    → take (i + 1) xs ≡ take i xs ++ x ∷ []
 take_here {X} xs i x lt e = take_more xs i x lt ∙ ap (λ (y : X). take i xs ++ y ∷ []) (sym e)
 
-pub drop_here : {X : Type 0} (xs : List X) (i : ℕ) (x : X) → i < length xs → x ≡ get_or xs i x → drop i xs ≡ x ∷ drop (i + 1) xs
+pub drop_here : {X : Type 0} (xs : List X) (i : ℕ) (x : X) → i < length xs → x ≡ get_or xs i x
+    → drop i xs ≡ x ∷ drop (i + 1) xs
 drop_here {X} xs i x lt e = drop_more xs i x lt ∙ ap (λ (y : X). y ∷ drop (i + 1) xs) (sym e)

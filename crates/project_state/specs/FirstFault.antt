@@ -1,5 +1,6 @@
 -- The tests of a body's fields, in the order of their places, and at one place in the order in which they are told.
-use Rattle.std.specs.Prelude.{◌≡◌, ℕ, zero, suc, ◌+◌, ◌-◌, ◌^◌, ◌/◌, ◌==◌, nat_lt, Bool, min, max, None, Some, List, [], ◌∷◌, ◌++◌, length, slice_index, if◌then◌else◌, Result, Ok, Err}
+use Rattle.std.specs.Prelude.{◌≡◌, ℕ, zero, suc, ◌+◌, ◌-◌, ◌^◌, ◌/◌, ◌==◌, nat_lt, Bool, min, max, None, Some, List, []}
+use Rattle.std.specs.Prelude.{◌∷◌, ◌++◌, length, slice_index, if◌then◌else◌, Result, Ok, Err}
 use Rattle.project_journal.specs.Fields.{field}
 use Rattle.project_journal.specs.Header.{first_failed}
 use Rattle.project_journal.specs.declared.fault.Damaged.{Damaged}
@@ -26,7 +27,8 @@ place base at = min (base + at) (2 ^ 64 - 1)
 abbrev pub least_len : ℕ → Bool → ℕ
 least_len m several = if several then (m + 1) / 2 else 0
 
--- An id that was given, of a block of sound; a length that does not pass the longest track, and is that of a block, half
+-- An id that was given, of a block of sound; a length that does not pass the longest track, and is that of a block,
+-- half
 -- full in a clip of several. So many cells come before the block.
 abbrev pub block_tests : Limits → Bool → ℕ → ℕ → List ℕ → List Damaged
 block_tests l several before at bytes =
@@ -40,7 +42,8 @@ block_tests l several before at bytes =
 
 abbrev pub blocks_tests : Limits → Bool → ℕ → ℕ → ℕ → List ℕ → List Damaged
 blocks_tests l several zero before at bytes = []
-blocks_tests l several (suc count) before at bytes = block_tests l several before at bytes ++ blocks_tests l several count (before + field (at + 8) 4 bytes) (at + 12) bytes
+blocks_tests l several (suc count) before at bytes = block_tests l several before at bytes
+    ++ blocks_tests l several count (before + field (at + 8) 4 bytes) (at + 12) bytes
 
 -- a start behind the clip before, in reach of the longest track; and at least one block
 abbrev pub clip_head_tests : Limits → ℕ → ℕ → List ℕ → List Damaged
@@ -51,11 +54,13 @@ clip_head_tests l from at bytes =
     ∷ []
 
 abbrev pub clip_tests : Limits → ℕ → ℕ → List ℕ → List Damaged
-clip_tests l from at bytes = clip_head_tests l from at bytes ++ blocks_tests l (nat_lt 1 (block_count at bytes)) (block_count at bytes) (field at 8 bytes) (at + 12) bytes
+clip_tests l from at bytes = clip_head_tests l from at bytes
+    ++ blocks_tests l (nat_lt 1 (block_count at bytes)) (block_count at bytes) (field at 8 bytes) (at + 12) bytes
 
 abbrev pub clips_tests : Limits → ℕ → ℕ → ℕ → List ℕ → List Damaged
 clips_tests l zero from at bytes = []
-clips_tests l (suc count) from at bytes = clip_tests l from at bytes ++ clips_tests l count (clip_end_at at bytes + 1) (at + clip_size at bytes) bytes
+clips_tests l (suc count) from at bytes =
+    clip_tests l from at bytes ++ clips_tests l count (clip_end_at at bytes + 1) (at + clip_size at bytes) bytes
 
 -- an id that was given, above that of the track before; gain, side and mute
 abbrev pub settings_tests : Limits → ℕ → ℕ → List ℕ → List Damaged
@@ -73,7 +78,8 @@ track_tests l from at bytes = settings_tests l from at bytes ++ clips_tests l (c
 
 abbrev pub tracks_tests : Limits → ℕ → ℕ → ℕ → List ℕ → List Damaged
 tracks_tests l zero from at bytes = []
-tracks_tests l (suc count) from at bytes = track_tests l from at bytes ++ tracks_tests l count (field at 8 bytes + 1) (at + track_size at bytes) bytes
+tracks_tests l (suc count) from at bytes =
+    track_tests l from at bytes ++ tracks_tests l count (field at 8 bytes + 1) (at + track_size at bytes) bytes
 
 -- a tag of an earlier record; next block and next track in range, and no lower than before; at most 64 tracks
 abbrev pub head_tests : Before → List ℕ → List Damaged
@@ -90,7 +96,8 @@ head_tests b bytes =
 
 -- the bounds that the fields in front give to the tracks
 abbrev pub limits_at : ℕ → Before → List ℕ → Limits
-limits_at m b bytes = record { base = b.at; block_size = m; next_block = field 9 8 bytes; next_track = field 17 8 bytes }
+limits_at m b bytes =
+    record { base = b.at; block_size = m; next_block = field 9 8 bytes; next_track = field 17 8 bytes }
 
 abbrev pub edit_tests : ℕ → Before → List ℕ → List Damaged
 edit_tests m b bytes = head_tests b bytes ++ tracks_tests (limits_at m b bytes) (track_count bytes) 0 29 bytes
@@ -104,7 +111,8 @@ kind_test b bytes = record { at = b.at; want = max 1 (min 4 (slice_index bytes 0
 
 -- all tests of a body, whose blocks have at most m samples
 abbrev pub body_tests : ℕ → Before → List ℕ → List Damaged
-body_tests m b bytes = length_test b bytes ∷ kind_test b bytes ∷ (if slice_index bytes 0 == 1 then edit_tests m b bytes else [])
+body_tests m b bytes =
+    length_test b bytes ∷ kind_test b bytes ∷ (if slice_index bytes 0 == 1 then edit_tests m b bytes else [])
 
 -- what a reading that takes no memory answers: such a value where all tests pass, else the first that fails
 abbrev pub Tells : {T : Type 0} → List Damaged → (T → Type 0) → Result T Damaged → Type 0

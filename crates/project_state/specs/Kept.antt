@@ -32,7 +32,12 @@ new_project depth = record { history = history_of_one [] 0 depth; next_block = 1
 
 -- what a record makes of it
 abbrev pub after_body : Kept → Body → Kept
-after_body k (Edit tag next_block next_track point) = record { history = recorded k.history point tag; next_block = next_block; next_track = next_track; commit = k.commit + 1 }
+after_body k (Edit tag next_block next_track point) = record {
+  history = recorded k.history point tag;
+  next_block = next_block;
+  next_track = next_track;
+  commit = k.commit + 1;
+}
 after_body k Undo = record k { history = at_cursor k.history (k.history.cursor - 1); commit = k.commit + 1 }
 after_body k Redo = record k { history = at_cursor k.history (k.history.cursor + 1); commit = k.commit + 1 }
 after_body k (Purge n) = record k { history = purged k.history n; commit = k.commit + 1 }

@@ -27,7 +27,8 @@ pub record IsSoundTrack (m next_block next_track : ℕ) (t : Track) : Type 0 whe
 
 abbrev pub AllSoundTracks : ℕ → ℕ → ℕ → List Track → Type 0
 AllSoundTracks m next_block next_track [] = Unit {0}
-AllSoundTracks m next_block next_track (t ∷ ts) = IsSoundTrack m next_block next_track t × AllSoundTracks m next_block next_track ts
+AllSoundTracks m next_block next_track (t ∷ ts) =
+    IsSoundTrack m next_block next_track t × AllSoundTracks m next_block next_track ts
 
 -- an edit, or a piece of a recording that begins with an earlier record
 pub record IsSoundEdit (m : ℕ) (before : Before) (tag next_block next_track : ℕ) (tracks : List Track) : Type 0 where

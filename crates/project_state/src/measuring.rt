@@ -1,6 +1,7 @@
 // How long a body is by its fields.
 ghost use Rattle.std.specs.Prelude.{◌≡◌, ◌+◌, ◌≤◌, ◌<◌, ◌^◌, [], ◌∷◌, length, All};
-ghost use Rattle.project_state.specs.Widths.{blocks_widths, clip_widths, clips_widths, track_widths, tracks_widths, edit_widths, asked_length, Reaches};
+ghost use Rattle.project_state.specs.Widths.{blocks_widths, clip_widths, clips_widths, track_widths, tracks_widths};
+ghost use Rattle.project_state.specs.Widths.{edit_widths, asked_length, Reaches};
 
 use project_journal::u32_at;
 

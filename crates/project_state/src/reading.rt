@@ -84,7 +84,8 @@ fn read_tracks(
 ) -> Result<Point, BadBody>
     requires within { at + there.tracks_size count at bytes.now ≤ length bytes.now }
     requires few { count ≤ 64 }
-    ensures { Finds (test.tracks_tests limits count 0 at bytes.now) (λ p. p ≡ there.tracks_at count at bytes.now) result }
+    ensures { Finds (test.tracks_tests limits count 0 at bytes.now)
+        (λ p. p ≡ there.tracks_at count at bytes.now) result }
 {
     let mut point = Point::new(alloc);
     let mut next = at;
@@ -188,9 +189,11 @@ fn read_fields(alloc: Global, bytes: &[u8], m: u32, before: Before) -> Result<Bo
 /// `Damaged`: the first field, by its place in the file, that is not as `docs/FORMATS.md` asks. The length in front of
 /// the body counts as its first field. `NoMemory`: there is no memory for what the bytes say.
 pub fn read_body(alloc: Global, bytes: &[u8], m: u32, before: Before) -> Result<Body, BadBody>
-    ensures found { Finds (test.body_tests m before bytes.now) (λ b. (spelling b ≡ bytes.now) × IsSound m before b) result }
+    ensures found { Finds (test.body_tests m before bytes.now)
+        (λ b. (spelling b ≡ bytes.now) × IsSound m before b) result }
     // A sound body that was written is read back.
-    ensures back { (body : Body) → spelling body ≡ bytes.now → IsSound m before body → 4 ≤ m → MatchResult result (λ b. b ≡ body) (λ e. e ≡ bad.NoMemory) }
+    ensures back { (body : Body) → spelling body ≡ bytes.now → IsSound m before body → 4 ≤ m
+        → MatchResult result (λ b. b ≡ body) (λ e. e ≡ bad.NoMemory) }
 {
     read_fields(alloc, bytes, m, before)
 }

@@ -22,7 +22,8 @@ fn read_block(
     before: u64,
 ) -> Result<BlockRef, Damaged>
     requires within { at + 12 ≤ length bytes.now }
-    ensures { Tells (test.block_tests limits several before at bytes.now) (λ b. b ≡ there.block_at at bytes.now) result }
+    ensures { Tells (test.block_tests limits several before at bytes.now)
+        (λ b. b ≡ there.block_at at bytes.now) result }
 {
     let id = u64_at(bytes, at);
     let len = u32_at(bytes, at + 8);
@@ -55,7 +56,8 @@ fn read_blocks(
 ) -> Result<Vec<BlockRef>, BadBody>
     requires within { at + 12 * count ≤ length bytes.now }
     requires near { start ≤ 2 ^ 32 }
-    ensures { Finds (test.blocks_tests limits (nat_lt 1 count) count start at bytes.now) (λ v. v.items ≡ there.blocks_at count at bytes.now) result }
+    ensures { Finds (test.blocks_tests limits (nat_lt 1 count) count start at bytes.now)
+        (λ v. v.items ≡ there.blocks_at count at bytes.now) result }
 {
     let mut blocks = Vec::with_capacity(alloc, count as usize)?;
     let mut before = start;

@@ -1,5 +1,6 @@
 // The one spelling of a body.
-ghost use Rattle.std.specs.Prelude.{◌≡◌, ℕ, ◌+◌, ◌*◌, ◌≤◌, ◌<◌, ◌^◌, ◌∷◌, [], ◌++◌, length, drop, IsOk, OnOk, OnErr, vec_capacity};
+ghost use Rattle.std.specs.Prelude.{◌≡◌, ℕ, ◌+◌, ◌*◌, ◌≤◌, ◌<◌, ◌^◌, ◌∷◌, [], ◌++◌, length, drop, IsOk, OnOk, OnErr};
+ghost use Rattle.std.specs.Prelude.{vec_capacity};
 ghost use Rattle.std.specs.List.{flat_map};
 ghost use Rattle.byteorder.specs.Endian.{little_bytes};
 ghost use Rattle.pcm_base.specs.Pieces.{Sources};
@@ -7,7 +8,8 @@ ghost use Rattle.clip_track.specs.Clips.{IsLayout};
 ghost use Rattle.pcm_base.specs.Sizes.{project_body_most};
 ghost use Rattle.project_state.specs.Kept.{meant};
 ghost use Rattle.project_state.specs.Lengths.{AreHalfFull, AreLayouts, told_tracks};
-ghost use Rattle.project_state.specs.Spelling.{block_bytes, clip_bytes, track_bytes, project_bytes, side_byte, mute_byte, spelling};
+ghost use Rattle.project_state.specs.Spelling.{block_bytes, clip_bytes, track_bytes, project_bytes, side_byte};
+ghost use Rattle.project_state.specs.Spelling.{mute_byte, spelling};
 
 use super::body::Body;
 use super::point::Point;
@@ -141,7 +143,8 @@ fn side_number(side: Side) -> u8
 /// Id, gain, side and mute.
 fn write_settings(track: &Track, out: &mut [u8])
     requires { length out.old ≡ 14 }
-    ensures { out.new ≡ little_bytes 8 track.now.id ++ (little_bytes 4 track.now.gain ++ side_byte track.now.side ∷ mute_byte track.now.mute ∷ []) }
+    ensures { out.new ≡ little_bytes 8 track.now.id
+        ++ (little_bytes 4 track.now.gain ++ side_byte track.now.side ∷ mute_byte track.now.mute ∷ []) }
 {
     LittleEndian::write_u64(out, track.id);
     LittleEndian::write_u32(&mut out[8..], track.gain);
@@ -191,7 +194,8 @@ fn write_numbers(tag: u64, next_block: u64, next_track: u64, out: &mut [u8])
 
 fn write_edit(tag: u64, next_block: u64, next_track: u64, point: &Point, out: &mut [u8])
     requires { length out.old ≡ 25 + length (project_bytes point.now) }
-    ensures { out.new ≡ 1 ∷ (little_bytes 8 tag ++ (little_bytes 8 next_block ++ (little_bytes 8 next_track ++ project_bytes point.now))) }
+    ensures { out.new ≡ 1 ∷ (little_bytes 8 tag
+        ++ (little_bytes 8 next_block ++ (little_bytes 8 next_track ++ project_bytes point.now))) }
 {
     write_numbers(tag, next_block, next_track, &mut out[1..EDIT_HEAD]);
     write_project(point, &mut out[EDIT_HEAD..]);

@@ -18,11 +18,14 @@ use Rattle.record_fold.specs.Folds.{kept_of, FoldsOne, FoldsStored, Leads}
 use Rattle.record_fold.proofs.Stepping.{came_none, came_more, came_all, came_fault, SoFar}
 
 module _ {D : Type 0} (disk : Ghosts D) where
-  pub so_none : (store : D) (reader : Reader) (m depth : ℕ) (now : Kept) → IsReading disk store reader [] → now ≡ new_project depth → SoFar disk store reader m depth now
-  so_none store reader m depth now reading e = record { records = []; reading = reading; came = came_none m (new_project depth) now e }
+  pub so_none : (store : D) (reader : Reader) (m depth : ℕ) (now : Kept) → IsReading disk store reader []
+      → now ≡ new_project depth → SoFar disk store reader m depth now
+  so_none store reader m depth now reading e =
+      record { records = []; reading = reading; came = came_none m (new_project depth) now e }
 
   -- one record more was read, and folded
-  pub so_more : (store new : D) (old reader : Reader) (m m' depth : ℕ) (now next : Kept) → m' ≡ m → (so : SoFar disk store old m depth now) → IsReading disk new reader (so.records ++ last_record reader ∷ [])
+  pub so_more : (store new : D) (old reader : Reader) (m m' depth : ℕ) (now next : Kept) → m' ≡ m
+      → (so : SoFar disk store old m depth now) → IsReading disk new reader (so.records ++ last_record reader ∷ [])
       → FoldsOne {T = Unit {0}} m' now (last_record reader) next (Ok tt) → SoFar disk new reader m depth next
   so_more store new old reader m m' depth now next same so reading one =
       let here = subst (λ (k : ℕ). FoldsOne {T = Unit {0}} k now (last_record reader) next (Ok tt)) same one in
@@ -33,10 +36,15 @@ module _ {D : Type 0} (disk : Ghosts D) where
       }
 
   -- the records end at a gate that is 0
-  pub so_done : (store new : D) (old reader : Reader) (m depth : ℕ) (p : Project) → reader.block_size ≡ m → reader.depth ≡ depth → (so : SoFar disk store old m depth (kept_of p)) → Goes disk new reader so.records Shut → Leads disk new reader p
+  pub so_done : (store new : D) (old reader : Reader) (m depth : ℕ) (p : Project) → reader.block_size ≡ m
+      → reader.depth ≡ depth → (so : SoFar disk store old m depth (kept_of p)) → Goes disk new reader so.records Shut
+      → Leads disk new reader p
   so_done store new old reader m depth p size deep so stored =
-      let all = subst (λ (k : ℕ). (first_fault m (new_project k) so.records ≡ None) × LeadTo m (new_project k) (map body_at so.records) (kept_of p)) (sym deep) (came_all m (new_project depth) (kept_of p) so.records so.came) in
-      let here = subst (λ (k : ℕ). (first_fault k (new_project reader.depth) so.records ≡ None) × LeadTo k (new_project reader.depth) (map body_at so.records) (kept_of p)) (sym size) all in
+      let all = subst (λ (k : ℕ). (first_fault m (new_project k) so.records ≡ None)
+      × LeadTo m (new_project k) (map body_at so.records) (kept_of p)) (sym deep)
+      (came_all m (new_project depth) (kept_of p) so.records so.came) in
+      let here = subst (λ (k : ℕ). (first_fault k (new_project reader.depth) so.records ≡ None)
+      × LeadTo k (new_project reader.depth) (map body_at so.records) (kept_of p)) (sym size) all in
       record {
         journal = contents reader so.records None;
         stored = stored;
@@ -49,16 +57,20 @@ module _ {D : Type 0} (disk : Ghosts D) where
       }
 
   -- or with the file
-  pub so_early : (store new : D) (old reader : Reader) (m depth : ℕ) (now : Kept) (d : Damaged) → reader.block_size ≡ m → reader.depth ≡ depth → (so : SoFar disk store old m depth now) → Goes disk new reader so.records (Early d)
+  pub so_early : (store new : D) (old reader : Reader) (m depth : ℕ) (now : Kept) (d : Damaged) → reader.block_size ≡ m
+      → reader.depth ≡ depth → (so : SoFar disk store old m depth now) → Goes disk new reader so.records (Early d)
       → FoldsStored disk new reader (Err (journal.Damaged 0 d.at d.want d.have))
   so_early store new old reader m depth now d size deep so stored =
-      let all = subst (λ (k : ℕ). first_fault m (new_project k) so.records ≡ None) (sym deep) (came_all m (new_project depth) now so.records so.came).0 in
+      let all = subst (λ (k : ℕ). first_fault m (new_project k) so.records ≡ None) (sym deep)
+      (came_all m (new_project depth) now so.records so.came).0 in
       let here = subst (λ (k : ℕ). first_fault k (new_project reader.depth) so.records ≡ None) (sym size) all in
       (contents reader so.records (Some d), stored, refl, ap (λ (o : Option Damaged). option_or o (Some d)) here)
 
   -- or a record has a fault
-  pub so_fault : (store new : D) (old reader : Reader) (m m' depth : ℕ) (now next : Kept) (e : JournalFault) → m' ≡ m → reader.block_size ≡ m → reader.depth ≡ depth → (so : SoFar disk store old m depth now)
-      → IsReading disk new reader (so.records ++ last_record reader ∷ []) → FoldsOne {T = Unit {0}} m' now (last_record reader) next (Err e) → FoldsStored disk new reader (Err e)
+  pub so_fault : (store new : D) (old reader : Reader) (m m' depth : ℕ) (now next : Kept) (e : JournalFault) → m' ≡ m
+      → reader.block_size ≡ m → reader.depth ≡ depth → (so : SoFar disk store old m depth now)
+      → IsReading disk new reader (so.records ++ last_record reader ∷ [])
+      → FoldsOne {T = Unit {0}} m' now (last_record reader) next (Err e) → FoldsStored disk new reader (Err e)
   so_fault store new old reader m m' depth now next journal.DiskFault same size deep so reading one = tt
   so_fault store new old reader m m' depth now next journal.NoMemory same size deep so reading one = tt
   so_fault store new old reader m m' depth now next journal.Absent same size deep so reading one = one
@@ -69,8 +81,10 @@ module _ {D : Type 0} (disk : Ghosts D) where
       let r = last_record reader in
       let all = continued reading.bytes (contents reader (so.records ++ r ∷ []) None) reading.begun in
       let j = all.whole in
-      let here = subst (λ (k : ℕ). FoldsOne {T = Unit {0}} k now r next (Err (journal.Damaged file at want have))) same one in
-      let fault : first_fault m (new_project depth) ((so.records ++ r ∷ []) ++ all.more) ≡ Some d = came_fault m (new_project depth) now so.records all.more r d so.came here.1 in
+      let here =
+      subst (λ (k : ℕ). FoldsOne {T = Unit {0}} k now r next (Err (journal.Damaged file at want have))) same one in
+      let fault : first_fault m (new_project depth) ((so.records ++ r ∷ []) ++ all.more) ≡ Some d =
+      came_fault m (new_project depth) now so.records all.more r d so.came here.1 in
       let told : first_fault j.block_size (new_project j.depth) j.records ≡ Some d =
       ap (first_fault j.block_size (new_project j.depth)) all.records
       ∙ ap (λ (k : ℕ). first_fault k (new_project j.depth) ((so.records ++ r ∷ []) ++ all.more)) (all.block_size ∙ size)

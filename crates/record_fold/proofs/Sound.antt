@@ -1,5 +1,6 @@
 -- What the tests of a record mean.
-use Rattle.std.proofs.Common.{◌≡◌, ◌==◌, ℕ, ◌≤◌, ◌<◌, ◌^◌, min, max, inl, inr, ⊎_elim, ◌⊎◌, List, [], ◌∷◌, map, Some, None, Result, Ok, Err, refl, sym, ap, subst, ◌∙◌, arith}
+use Rattle.std.proofs.Common.{◌≡◌, ◌==◌, ℕ, ◌≤◌, ◌<◌, ◌^◌, min, max, inl, inr, ⊎_elim, ◌⊎◌, List, [], ◌∷◌, map, Some}
+use Rattle.std.proofs.Common.{None, Result, Ok, Err, refl, sym, ap, subst, ◌∙◌, arith}
 use Rattle.std.specs.Prelude.{⊤}
 use Rattle.std.proofs.lemmas.Bool.{eq-eqb, cases_Bool, eqb-true, eqb-false, ne_eqb}
 use Rattle.pcm_base.specs.History.{History}

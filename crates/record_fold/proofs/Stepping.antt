@@ -1,5 +1,6 @@
 -- One record more.
-use Rattle.std.proofs.Common.{◌≡◌, ℕ, ◌+◌, List, [], ◌∷◌, ◌++◌, map, Some, None, refl, sym, ap, subst, ◌∙◌, append_assoc}
+use Rattle.std.proofs.Common.{◌≡◌, ℕ, ◌+◌, List, [], ◌∷◌, ◌++◌, map, Some, None, refl, sym, ap, subst, ◌∙◌}
+use Rattle.std.proofs.Common.{append_assoc}
 use Rattle.std.specs.Option.{option_or}
 use Rattle.std.proofs.lemmas.List.{append-nil}
 use Rattle.disk_model.specs.declared.store.Store.{Ghosts}
@@ -53,7 +54,8 @@ pub record Came (m : ℕ) (first : Kept) (records : List (ℕ × List ℕ)) (now
 pub came_none : (m : ℕ) (first now : Kept) → now ≡ first → Came m first [] now
 came_none m first now e = record { folded = λ more. folded_none m first now more e }
 
-pub came_more : (m : ℕ) (first now next : Kept) (records : List (ℕ × List ℕ)) (r : ℕ × List ℕ) → Came m first records now
+pub came_more : (m : ℕ) (first now next : Kept) (records : List (ℕ × List ℕ)) (r : ℕ × List ℕ)
+    → Came m first records now
     → first_failed (record_tests m now r) ≡ None → IsNext m now r.1 (says r.1) → next ≡ after_body now (says r.1)
     → Came m first (records ++ r ∷ []) next
 came_more m first now next records r came none one e = record {
@@ -67,11 +69,13 @@ pub came_all : (m : ℕ) (first now : Kept) (records : List (ℕ × List ℕ)) �
     → (first_fault m first records ≡ None) × LeadTo m first (map body_at records) now
 came_all m first now records came =
     let folded = came.folded [] in
-    subst (λ (all : List (ℕ × List ℕ)). (first_fault m first all ≡ None) × LeadTo m first (map body_at all) now) (append-nil records)
+    subst (λ (all : List (ℕ × List ℕ)). (first_fault m first all ≡ None) × LeadTo m first (map body_at all) now)
+    (append-nil records)
     (sym folded.fault, folded.leads now refl)
 
 -- the next has the first fault
-pub came_fault : (m : ℕ) (first now : Kept) (records more : List (ℕ × List ℕ)) (r : ℕ × List ℕ) (d : Damaged) → Came m first records now
+pub came_fault : (m : ℕ) (first now : Kept) (records more : List (ℕ × List ℕ)) (r : ℕ × List ℕ) (d : Damaged)
+    → Came m first records now
     → first_failed (record_tests m now r) ≡ Some d → first_fault m first ((records ++ r ∷ []) ++ more) ≡ Some d
 came_fault m first now records more r d came some =
     ap (first_fault m first) (append_assoc records (r ∷ []) more) ∙ sym (came.folded (r ∷ more)).fault

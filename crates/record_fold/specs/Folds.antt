@@ -22,7 +22,8 @@ kept_of p = record {
 
 -- a project after a record that has no fault, or the record's first fault, which is in the journal's file
 abbrev pub FoldsOne : {T : Type 0} → ℕ → Kept → ℕ × List ℕ → Kept → Result T JournalFault → Type 0
-FoldsOne m now r next (Ok x) = (first_failed (record_tests m now r) ≡ None) × IsNext m now r.1 (says r.1) × (next ≡ after_body now (says r.1))
+FoldsOne m now r next (Ok x) =
+    (first_failed (record_tests m now r) ≡ None) × IsNext m now r.1 (says r.1) × (next ≡ after_body now (says r.1))
 FoldsOne m now r next (Err (journal.Damaged file at want have)) =
     (file ≡ 0) × (first_failed (record_tests m now r) ≡ Some (record { at = at; want = want; have = have }))
 FoldsOne m now r next (Err journal.DiskFault) = Unit {0}
@@ -44,7 +45,8 @@ pub record Leads {D : Type 0} (disk : Ghosts D) (store : D) (reader : Reader) (p
 -- may have given any journal.
 abbrev pub FoldsStored : {D : Type 0} → Ghosts D → D → Reader → Result Project JournalFault → Type 0
 FoldsStored disk store reader (Ok p) = Leads disk store reader p
-FoldsStored disk store reader (Err (journal.Damaged file at want have)) = (j : Contents) × IsStored disk store j × (file ≡ 0)
+FoldsStored disk store reader (Err (journal.Damaged file at want have)) =
+    (j : Contents) × IsStored disk store j × (file ≡ 0)
     × (journal_fault j ≡ Some (record { at = at; want = want; have = have }))
 FoldsStored disk store reader (Err journal.DiskFault) = Unit {0}
 FoldsStored disk store reader (Err journal.NoMemory) = Unit {0}

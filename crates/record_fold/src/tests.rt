@@ -13,8 +13,8 @@ const HEADER: [u8; 32] = [
     0, 0, 0, 0, 0, 0,
 ];
 
-/// An edit, at 37 in the sound journal: next block 19, next track 3. Track 1 has the blocks 16 (4 samples) and 17 (3) at
-/// cell 0, and block 18 (1) at cell 9; track 2 is empty.
+/// An edit, at 37 in the sound journal: next block 19, next track 3. Track 1 has the blocks 16 (4 samples) and 17 (3)
+/// at cell 0, and block 18 (1) at cell 9; track 2 is empty.
 const EDIT: [u8; 125] = [
     // Kind, tag, next block, next track, how many tracks.
     1, 0, 0, 0, 0, 0, 0, 0, 0, 19, 0, 0, 0, 0, 0, 0, 0, 3, 0, 0, 0, 0, 0, 0, 0, 2, 0, 0, 0,

@@ -1,5 +1,6 @@
 // The two ends.
-ghost use Rattle.std.specs.Prelude.{◌≡◌, ◌∷◌, [], ◌++◌, ◌+◌, ◌<◌, ◌≤◌, ◌↔◌, length, IsOk, IsSome, OnOk, IfOk, IfErr, IfSome, IfNone, OnSome};
+ghost use Rattle.std.specs.Prelude.{◌≡◌, ◌∷◌, [], ◌++◌, ◌+◌, ◌<◌, ◌≤◌, ◌↔◌, length, IsOk, IsSome, OnOk, IfOk, IfErr};
+ghost use Rattle.std.specs.Prelude.{IfSome, IfNone, OnSome};
 ghost use mathlib.Core.List.{IsPrefix};
 ghost use Rattle.pcm_base.specs.Recordings.{IsOpen};
 ghost use Rattle.record_ring.specs.Ends.{sent, known_free, received, known_items, IsPair, SameIn, SameOut};
@@ -53,7 +54,8 @@ impl RecordIn {
         requires { Follows (sent self.old) chunk }
         ensures ring { SameIn self.old self.new }
         ensures ok { OnOk result (sent self.new ≡ sent self.old ++ chunk ∷ []) }
-        ensures full { IfErr result (λ back. (back ≡ chunk) × (sent self.new ≡ sent self.old) × (known_free self.new ≡ 0)) }
+        ensures full { IfErr result
+            (λ back. (back ≡ chunk) × (sent self.new ≡ sent self.old) × (known_free self.new ≡ 0)) }
         ensures succeeds { 0 < known_free self.old → IsOk result }
         ensures known { known_free self.old ≤ known_free self.new + 1 }
     {

@@ -1,5 +1,6 @@
 // The thread of the track.
-ghost use Rattle.std.specs.Prelude.{◌≡◌, ◌⊎◌, ℕ, ℤ, ◌+◌, ◌^◌, ◌<◌, ◌≤◌, false, List, [], ◌∷◌, ◌++◌, length, Option, Some, None, is_some, IfNone, IfSome};
+ghost use Rattle.std.specs.Prelude.{◌≡◌, ◌⊎◌, ℕ, ℤ, ◌+◌, ◌^◌, ◌<◌, ◌≤◌, false, List, [], ◌∷◌, ◌++◌, length, Option};
+ghost use Rattle.std.specs.Prelude.{Some, None, is_some, IfNone, IfSome};
 ghost use Rattle.edit_ports.specs.Answers.{first_refusal};
 ghost use Rattle.record_ring.specs.Ends.{received, SameOut};
 ghost use Rattle.recorder_work.specs.Drained.{Takes, Drains};
@@ -76,8 +77,10 @@ fn take_chunk<R: Wait, T: PieceTaker>(
     requires small { tally.old.samples + CHUNK_SAMPLES < 2 ^ 64 }
     requires unrefused { tally.old.refused ≡ None → T.refused taker.old ≡ None }
     ensures takes { (start : List (List ℤ × ℕ)) (chunks : List (List ℤ)) →
-        Takes start (T.pieces taker.old) (T.refused taker.old) tally.old.numbers.items tally.old.samples tally.old.refused chunks →
-        Takes start (T.pieces taker.new) (T.refused taker.new) tally.new.numbers.items tally.new.samples tally.new.refused
+        Takes start (T.pieces taker.old)
+        (T.refused taker.old) tally.old.numbers.items tally.old.samples tally.old.refused chunks →
+        Takes start (T.pieces taker.new)
+        (T.refused taker.new) tally.new.numbers.items tally.new.samples tally.new.refused
         (chunks ++ chunk.now.samples ∷ []) }
     ensures grows { tally.new.samples ≤ tally.old.samples + CHUNK_SAMPLES }
     ensures goes { (first : T) → T.follows first (is_some (T.refused taker.old)) taker.old →
@@ -92,9 +95,9 @@ fn take_chunk<R: Wait, T: PieceTaker>(
     }
 }
 
-/// Receives a recording to its end mark, and offers its chunks to the taker up to the first refusal; the rest is received
-/// without use. Where there is no memory for the place of a piece's number, the refusal is NoMemory, and the piece is not
-/// offered. After the first refusal nothing is offered.
+/// Receives a recording to its end mark, and offers its chunks to the taker up to the first refusal; the rest is
+/// received without use. Where there is no memory for the place of a piece's number, the refusal is NoMemory, and the
+/// piece is not offered. After the first refusal nothing is offered.
 pub fn drain<R: Wait, T: PieceTaker, G: Gate>(
     rt: &R,
     alloc: Global,

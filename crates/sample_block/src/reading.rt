@@ -1,8 +1,10 @@
 // A block from bytes, whole or a field of it.
 ghost use Rattle.std.specs.Prelude.{◌≡◌, ◌≤◌, ◌<◌, ◌^◌, ◌+◌, ◌*◌, ◌∷◌, ◌++◌, ◌≢◌, [], length, ℤ, List, IfOk, OnOk};
 ghost use Rattle.std.specs.Int.{w16, cast_signed};
-ghost use Rattle.sample_block.specs.Faults.{number_at, difference, size_difference, damage_of, samples_in, Tells, Gives};
-ghost use Rattle.sample_block.specs.Spelling.{header_fields, sample_field, frame_fields, level_fields, number, size_of, IsSpelled, IsBlock};
+ghost use Rattle.sample_block.specs.Faults.{number_at, difference, size_difference, damage_of, samples_in, Tells};
+ghost use Rattle.sample_block.specs.Faults.{Gives};
+ghost use Rattle.sample_block.specs.Spelling.{header_fields, sample_field, frame_fields, level_fields, number, size_of};
+ghost use Rattle.sample_block.specs.Spelling.{IsSpelled, IsBlock};
 ghost use Rattle.std.specs.List.{flat_map};
 
 use super::block::{Block, Header};
@@ -156,7 +158,8 @@ pub(crate) fn check_both(
     long: &[Summary],
 ) -> Result<(), Damaged>
     requires { at + 12 * (length short.now + length long.now) ≤ length bytes.now }
-    ensures { Tells result (difference bytes.now at (flat_map frame_fields short.now ++ flat_map frame_fields long.now)) }
+    ensures { Tells result
+        (difference bytes.now at (flat_map frame_fields short.now ++ flat_map frame_fields long.now)) }
 {
     if let Err(fault) = check_level(bytes, at, short) {
         return Err(fault);
@@ -182,7 +185,8 @@ fn samples_of(alloc: Global, bytes: &[u8], count: usize) -> Result<Vec<i16>, All
 fn check_frames(bytes: &[u8], samples: &[i16]) -> Result<(), Damaged>
     requires few { length samples.now ≤ 262144 }
     requires size { length bytes.now ≡ size_of (length samples.now) }
-    ensures { Tells result (difference bytes.now (16 + 2 * length samples.now) (level_fields 256 samples.now ++ level_fields 65536 samples.now)) }
+    ensures { Tells result (difference bytes.now (16 + 2 * length samples.now)
+        (level_fields 256 samples.now ++ level_fields 65536 samples.now)) }
 {
     let mut short = [NOTHING; MAX_SHORT_FRAMES];
     let mut long = [NOTHING; MAX_LONG_FRAMES];

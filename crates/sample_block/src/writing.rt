@@ -1,8 +1,10 @@
 // The one spelling of a block.
-ghost use Rattle.std.specs.Prelude.{◌≡◌, ◌≤◌, ◌<◌, ◌^◌, ◌+◌, ◌*◌, ◌++◌, length, drop, vec_capacity, vec_len, IsOk, OnOk, OnErr};
+ghost use Rattle.std.specs.Prelude.{◌≡◌, ◌≤◌, ◌<◌, ◌^◌, ◌+◌, ◌*◌, ◌++◌, length, drop, vec_capacity, vec_len, IsOk};
+ghost use Rattle.std.specs.Prelude.{OnOk, OnErr};
 ghost use Rattle.std.specs.List.{flat_map};
 ghost use Rattle.peak_summary.specs.Peaks.{frame_count};
-ghost use Rattle.sample_block.specs.Spelling.{IsBlock, IsSpelled, spelling, size_of, field_bytes, frame_fields, header_fields, body_fields, level_fields};
+ghost use Rattle.sample_block.specs.Spelling.{IsBlock, IsSpelled, spelling, size_of, field_bytes, frame_fields};
+ghost use Rattle.sample_block.specs.Spelling.{header_fields, body_fields, level_fields};
 
 use super::levels::{MAX_LONG_FRAMES, MAX_SHORT_FRAMES, measure};
 use byteorder::{ByteOrder, LittleEndian};
@@ -61,7 +63,8 @@ fn write_both(short: &[Summary], long: &[Summary], out: &mut [u8])
 /// Both levels of these samples.
 fn write_levels(samples: &[i16], out: &mut [u8])
     requires few { length samples.now ≤ 262144 }
-    requires room { length out.old ≡ 12 * (frame_count 256 (length samples.now) + frame_count 65536 (length samples.now)) }
+    requires room { length out.old
+        ≡ 12 * (frame_count 256 (length samples.now) + frame_count 65536 (length samples.now)) }
     ensures { out.new ≡ flat_map field_bytes (level_fields 256 samples.now ++ level_fields 65536 samples.now) }
 {
     let mut short = [NOTHING; MAX_SHORT_FRAMES];

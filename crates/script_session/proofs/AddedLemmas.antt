@@ -1,6 +1,7 @@
 -- What a script adds to the list of a desk, line by line.
 use Rattle.std.proofs.Common.{◌≡◌, inl, inr, ℕ, if◌then◌else◌, Bool, true, false, IsTrue, List, [], ◌∷◌, ◌++◌}
-use Rattle.std.proofs.Common.{Result, Ok, Err, IfErr, Option, Some, None, IsSome, ◌≤◌, refl, sym, ◌∙◌, ap, subst, append_assoc, eq-eqb, arith}
+use Rattle.std.proofs.Common.{Result, Ok, Err, IfErr, Option, Some, None, IsSome, ◌≤◌, refl, sym, ◌∙◌, ap, subst}
+use Rattle.std.proofs.Common.{append_assoc, eq-eqb, arith}
 use Rattle.std.proofs.lemmas.List.{append-nil}
 use Rattle.pcm_base.specs.declared.answer.Answer.{Answer}
 use Rattle.pcm_base.specs.declared.answer.Reply.{Reply}
@@ -41,7 +42,8 @@ own_number : (seat n : ℕ) (c : Command) (what : Result Reply Refusal) (sound :
     → numbers_of (by_seat seat) n (deed seat (Line c) what sound ∷ [])
     ≡ (if commits what (Line c) then number_after n (deed seat (Line c) what sound ∷ []) ∷ [] else [])
 own_number seat n c what sound =
-    ap (λ (b : Bool). number_if b (commits what (Line c)) (raised (commits what (Line c)) n) ++ []) (eq-eqb seat seat refl)
+    ap (λ (b : Bool). number_if b (commits what (Line c)) (raised (commits what (Line c)) n) ++ [])
+    (eq-eqb seat seat refl)
     ∙ append-nil (if commits what (Line c) then raised (commits what (Line c)) n ∷ [] else [])
 
 -- ---- the count of a vault's faults
@@ -50,7 +52,8 @@ later_by : (why : Refusal) (old new : ℕ) → VaultCountedBy why old new → ol
 later_by refusal.VaultFault old new h = h.1
 later_by why old new h = omega (arith, h)
 
-later : (name : Option (List ℕ)) (what : Result Reply Refusal) (old new : ℕ) → CountsFaults name what old new → old ≤ new
+later : (name : Option (List ℕ)) (what : Result Reply Refusal) (old new : ℕ) → CountsFaults name what old new
+    → old ≤ new
 later None what old new h = omega (arith, h)
 later (Some name) (Ok r) old new h = omega (arith, h)
 later (Some name) (Err why) old new h = later_by why old new h
@@ -111,7 +114,8 @@ module _ (p q : Place) (c : Command) (a : Answer) (h : Enters p c a.reply q) whe
       ∙ (λ i. numbers_others p.seat n h.between h.by_others i
       ++ own_number p.seat (number_after n h.between) c h.what e.sound i)
 
-  told_at : number_after p.first (seen_after p h.between c h.what q.sounds) ≡ number_after (number_after n h.between) (e ∷ [])
+  told_at : number_after p.first (seen_after p h.between c h.what q.sounds)
+      ≡ number_after (number_after n h.between) (e ∷ [])
   told_at = number_append p.first (p.seen ++ h.between) (e ∷ [])
       ∙ ap (λ (m : ℕ). number_after m (e ∷ [])) (number_append p.first p.seen h.between)
 
@@ -162,7 +166,8 @@ module _ (p mid q : Place) (line : List ℕ) (lines : List (List ℕ)) (a : Answ
         tells = k.tells ∙ h.tells;
         own = rw spoken (deeds_in h.added, deeds_in k.added, parts, h.own, own);
         numbers = k.numbers ∙ (λ i. h.numbers i ++ numbers_of (by_seat (seat i)) (at i) k.added)
-            ∙ append_assoc p.commits (numbers_of (by_seat p.seat) n h.added) (numbers_of (by_seat p.seat) (number_after n h.added) k.added)
+            ∙ append_assoc p.commits (numbers_of (by_seat p.seat) n h.added)
+            (numbers_of (by_seat p.seat) (number_after n h.added) k.added)
             ∙ ap (λ (l : List ℕ). p.commits ++ l) (sym (numbers_append (by_seat p.seat) n h.added k.added));
         sounds = λ told.
             let later : Follows mid.sounds (entries_of (deeds_in k.added)) q.sounds =
@@ -199,7 +204,8 @@ adds_silent p q line lines answers silent h = record {
   spares = h.spares;
 }
 
-adds_next : (b : Bool) (p q : Place) (line : List ℕ) (lines : List (List ℕ)) (answers : List Answer) → is_silent line ≡ b
+adds_next : (b : Bool) (p q : Place) (line : List ℕ) (lines : List (List ℕ)) (answers : List Answer)
+    → is_silent line ≡ b
     → ((mid : Place) (later : List Answer) → Session mid lines later q → Adds mid q lines later)
     → Next b p line answers (λ mid later. Session mid lines later q) → Adds p q (line ∷ lines) answers
 adds_next true p q line lines answers is goes h = adds_silent p q line lines answers is (goes p answers h)

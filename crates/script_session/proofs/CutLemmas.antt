@@ -1,5 +1,6 @@
 -- The lines of the bytes so far, and of more.
-use Rattle.std.proofs.Common.{◌≡◌, ◌==◌, ℕ, suc, ◌<◌, slice_index, List, [], ◌∷◌, ◌++◌, length, false, refl, sym, ap, ◌∙◌, arith, append_assoc}
+use Rattle.std.proofs.Common.{◌≡◌, ◌==◌, ℕ, suc, ◌<◌, slice_index, List, [], ◌∷◌, ◌++◌, length, false, refl, sym, ap}
+use Rattle.std.proofs.Common.{◌∙◌, arith, append_assoc}
 use Rattle.std.proofs.lemmas.Bool.Decides.{nat_tests}
 use Rattle.std.proofs.lemmas.List.{append-nil}
 use Rattle.script_text.specs.Lines.{lines_of, ended_lines}
@@ -37,18 +38,22 @@ lines_of-open (b ∷ c ∷ part) h l = rw (no_lf b h.0, lines_of-open (c ∷ par
 pub Cut-start : Cut [] [] []
 Cut-start = record { unended = tt; whole = λ more. refl; ended = λ more. refl }
 
-pub Cut-more : (read : List ℕ) (lines : List (List ℕ)) (part bytes : List ℕ) → HasNoLf bytes → Cut read lines part → Cut (read ++ bytes) lines (part ++ bytes)
+pub Cut-more : (read : List ℕ) (lines : List (List ℕ)) (part bytes : List ℕ) → HasNoLf bytes → Cut read lines part
+    → Cut (read ++ bytes) lines (part ++ bytes)
 Cut-more read lines part bytes n c = record {
   unended = HasNoLf-append part bytes c.unended n;
   whole = λ more. rw (append_assoc read bytes more, append_assoc part bytes more) (c.whole (bytes ++ more));
   ended = λ more. rw (append_assoc read bytes more, append_assoc part bytes more) (c.ended (bytes ++ more));
 }
 
-pub Cut-lf : (read : List ℕ) (lines : List (List ℕ)) (part : List ℕ) → Cut read lines part → Cut (read ++ 10 ∷ []) (lines ++ part ∷ []) []
+pub Cut-lf : (read : List ℕ) (lines : List (List ℕ)) (part : List ℕ) → Cut read lines part
+    → Cut (read ++ 10 ∷ []) (lines ++ part ∷ []) []
 Cut-lf read lines part c = record {
   unended = tt;
-  whole = λ more. rw (append_assoc read (10 ∷ []) more, append_assoc lines (part ∷ []) (lines_of more)) (c.whole (10 ∷ more) ∙ ap (λ l. lines ++ l) (lines_of-part part more c.unended));
-  ended = λ more. rw (append_assoc read (10 ∷ []) more, append_assoc lines (part ∷ []) (ended_lines more)) (c.ended (10 ∷ more) ∙ ap (λ l. lines ++ l) (ended_lines-part part more c.unended));
+  whole = λ more. rw (append_assoc read (10 ∷ []) more, append_assoc lines (part ∷ []) (lines_of more))
+      (c.whole (10 ∷ more) ∙ ap (λ l. lines ++ l) (lines_of-part part more c.unended));
+  ended = λ more. rw (append_assoc read (10 ∷ []) more, append_assoc lines (part ∷ []) (ended_lines more))
+      (c.ended (10 ∷ more) ∙ ap (λ l. lines ++ l) (ended_lines-part part more c.unended));
 }
 
 -- where the bytes break off, the lines are those that ended
@@ -61,5 +66,8 @@ Cut-ended read lines part c =
 pub Cut-end : (read : List ℕ) (lines : List (List ℕ)) → Cut read lines [] → lines ≡ lines_of read
 Cut-end read lines c = let e = rw (append-nil read, append-nil lines) at (c.whole []) in sym e
 
-pub Cut-last : (read : List ℕ) (lines : List (List ℕ)) (part : List ℕ) → 0 < length part → Cut read lines part → lines ++ part ∷ [] ≡ lines_of read
-Cut-last read lines part some c = let e = rw (append-nil read, append-nil part, lines_of-open part c.unended some) at (c.whole []) in sym e
+pub Cut-last : (read : List ℕ) (lines : List (List ℕ)) (part : List ℕ) → 0 < length part → Cut read lines part
+    → lines ++ part ∷ [] ≡ lines_of read
+Cut-last read lines part some c =
+    let e = rw (append-nil read, append-nil part, lines_of-open part c.unended some) at (c.whole []) in
+    sym e

@@ -8,11 +8,15 @@ use Rattle.script_session.specs.Progress.{HasNoLf, Going, Halted, Printed}
 use Rattle.script_session.proofs.CutLemmas.{Cut-start, Cut-more, Cut-lf}
 use Rattle.script_session.proofs.SessionLemmas.{Printed-start}
 
-pub Going-start : (s : Place) (start : Option (List ℕ)) (kept : Kept) → Holds kept [] → Going s s start start kept false []
-Going-start s start kept holds = record { lines = []; part = []; cut = Cut-start; holds = holds; printed = Printed-start s start }
+pub Going-start : (s : Place) (start : Option (List ℕ)) (kept : Kept) → Holds kept []
+    → Going s s start start kept false []
+Going-start s start kept holds =
+    record { lines = []; part = []; cut = Cut-start; holds = holds; printed = Printed-start s start }
 
-pub Going-more : (s t : Place) (start now : Option (List ℕ)) (kept kept' : Kept) (refused : Bool) (read bytes : List ℕ) → HasNoLf bytes →
-    ((part : List ℕ) → Holds kept part → Holds kept' (part ++ bytes)) → Going s t start now kept refused read → Going s t start now kept' refused (read ++ bytes)
+pub Going-more : (s t : Place) (start now : Option (List ℕ)) (kept kept' : Kept) (refused : Bool) (read bytes : List ℕ)
+    → HasNoLf bytes →
+    ((part : List ℕ) → Holds kept part → Holds kept' (part ++ bytes)) → Going s t start now kept refused read
+    → Going s t start now kept' refused (read ++ bytes)
 Going-more s t start now kept kept' refused read bytes n grows g = record {
   lines = g.lines;
   part = g.part ++ bytes;
@@ -21,10 +25,13 @@ Going-more s t start now kept kept' refused read bytes n grows g = record {
   printed = g.printed;
 }
 
-pub Going-lf : (s t u : Place) (start now later : Option (List ℕ)) (kept kept' : Kept) (refused refused' : Bool) (result : Result (Unit {0}) Failed) (read : List ℕ) →
-    ((lines : List (List ℕ)) (part : List ℕ) → Holds kept part → Printed s t start now refused (Ok tt) lines → Printed s u start later refused' result (lines ++ part ∷ [])) →
+pub Going-lf : (s t u : Place) (start now later : Option (List ℕ)) (kept kept' : Kept) (refused refused' : Bool)
+    (result : Result (Unit {0}) Failed) (read : List ℕ) →
+    ((lines : List (List ℕ)) (part : List ℕ) → Holds kept part → Printed s t start now refused (Ok tt) lines
+    → Printed s u start later refused' result (lines ++ part ∷ [])) →
     Holds kept' [] → Going s t start now kept refused read →
-    MatchResult result (λ _. Going s u start later kept' refused' (read ++ 10 ∷ [])) (λ failed. Halted s u start later refused' failed (read ++ 10 ∷ []))
+    MatchResult result (λ _. Going s u start later kept' refused' (read ++ 10 ∷ []))
+    (λ failed. Halted s u start later refused' failed (read ++ 10 ∷ []))
 Going-lf s t u start now later kept kept' refused refused' (Ok x) read answers holds g = record {
   lines = g.lines ++ g.part ∷ [];
   part = [];
@@ -41,7 +48,8 @@ Going-lf s t u start now later kept kept' refused refused' (Err failed) read ans
     }
 
 -- what follows the line whose answer failed is not carried out
-pub Halted-more : (s t : Place) (start now : Option (List ℕ)) (refused : Bool) (failed : Failed) (read more : List ℕ) → Halted s t start now refused failed read → Halted s t start now refused failed (read ++ more)
+pub Halted-more : (s t : Place) (start now : Option (List ℕ)) (refused : Bool) (failed : Failed) (read more : List ℕ)
+    → Halted s t start now refused failed read → Halted s t start now refused failed (read ++ more)
 Halted-more s t start now refused failed read more h = record {
   lines = h.lines;
   cut = λ later. rw (append_assoc read more later) (h.cut (more ++ later));

@@ -1,5 +1,6 @@
 -- A piece of the script, up to the LF of each of its lines.
-use Rattle.std.proofs.Common.{◌≡◌, ℕ, ◌+◌, ◌<◌, ◌≤◌, ◌==◌, true, List, [], ◌∷◌, ◌++◌, length, take, drop, slice_index, append_assoc, sym, ap, ◌∙◌, arith}
+use Rattle.std.proofs.Common.{◌≡◌, ℕ, ◌+◌, ◌<◌, ◌≤◌, ◌==◌, true, List, [], ◌∷◌, ◌++◌, length, take, drop, slice_index}
+use Rattle.std.proofs.Common.{append_assoc, sym, ap, ◌∙◌, arith}
 use Rattle.std.proofs.lemmas.Bool.Decides.{nat_tests}
 use Rattle.std.proofs.lemmas.List.{get_or-take, get_or-drop, take-append-drop, take_more, length-drop, length-take-le}
 use Rattle.std.proofs.Math.Seq.{take-add}
@@ -14,7 +15,8 @@ lf_is : (b : ℕ) → b ≡ 10 → (b == 10) ≡ true
 lf_is b h = grind (arith, nat_tests)
 
 -- before the first LF there is none
-pub line_front : (rest : List ℕ) (len : ℕ) → NoneBefore (Passes (is_byte 10) rest) 0 (length rest) len → HasNoLf (take len rest)
+pub line_front : (rest : List ℕ) (len : ℕ) → NoneBefore (Passes (is_byte 10) rest) 0 (length rest) len
+    → HasNoLf (take len rest)
 line_front rest len first = HasNoLf-nowhere (take len rest) (λ k below is.
     let here : k < len = omega (arith, below, length-take-le len rest (omega (arith, first.high))) in
     first.before k (omega arith) here (lf_is (slice_index rest k) (sym (get_or-take len rest k 0 here) ∙ is)))
@@ -24,7 +26,8 @@ pub no_line : (rest : List ℕ) → Nowhere (Passes (is_byte 10) rest) 0 (length
 no_line rest none = HasNoLf-nowhere rest (λ k below is. none k (omega arith) below (lf_is (slice_index rest k) is))
 
 -- the LF of a line in a piece
-pub line_end : (piece : List ℕ) (at len : ℕ) → at ≤ length piece → NoneBefore (Passes (is_byte 10) (drop at piece)) 0 (length (drop at piece)) len → Passes (is_byte 10) (drop at piece) len →
+pub line_end : (piece : List ℕ) (at len : ℕ) → at ≤ length piece → NoneBefore (Passes (is_byte 10) (drop at piece)) 0
+    (length (drop at piece)) len → Passes (is_byte 10) (drop at piece) len →
     (at + len < length piece) × (slice_index piece (at + len) ≡ 10)
 line_end piece at len within first is = (
   omega (arith, first.high, length-drop at piece),
@@ -37,8 +40,15 @@ pub piece_line : (read piece : List ℕ) (at len : ℕ) → at + len < length pi
 piece_line read piece at len below lf =
     let k : at + (len + 1) ≡ at + len + 1 = omega arith in
     let more = take_more piece (at + len) 0 below ∙ ap (λ b. take (at + len) piece ++ b ∷ []) lf in
-    rw (append_assoc read (take at piece) (take len (drop at piece)), append_assoc read (take at piece ++ take len (drop at piece)) (10 ∷ []), ← take-add at len piece, k, more)
+    rw (
+      append_assoc read (take at piece) (take len (drop at piece)),
+      append_assoc read (take at piece ++ take len (drop at piece)) (10 ∷ []),
+      ← take-add at len piece,
+      k,
+      more,
+    )
 
 -- a piece in two
 pub piece_whole : (read piece : List ℕ) (n : ℕ) → (read ++ take n piece) ++ drop n piece ≡ read ++ piece
-piece_whole read piece n = append_assoc read (take n piece) (drop n piece) ∙ ap (λ l. read ++ l) (take-append-drop n piece)
+piece_whole read piece n =
+    append_assoc read (take n piece) (drop n piece) ∙ ap (λ l. read ++ l) (take-append-drop n piece)

@@ -1,5 +1,6 @@
 -- A seat at a desk as an editor, turn by turn.
-use Rattle.std.proofs.Common.{◌≡◌, inl, inr, ⊎_elim, ℕ, ◌≤◌, Bool, true, false, IsSome, Option, Some, None, List, [], ◌∷◌, ◌++◌, Result, Ok, Err, refl, sym, ◌∙◌, ap, subst, arith, max}
+use Rattle.std.proofs.Common.{◌≡◌, inl, inr, ⊎_elim, ℕ, ◌≤◌, Bool, true, false, IsSome, Option, Some, None, List, []}
+use Rattle.std.proofs.Common.{◌∷◌, ◌++◌, Result, Ok, Err, refl, sym, ◌∙◌, ap, subst, arith, max}
 use Rattle.std.proofs.lemmas.List.{append-nil}
 use Rattle.pcm_base.specs.declared.answer.Reply.{Reply}
 use Rattle.pcm_base.specs.declared.answer.Reply.TheVariants.{Refused}
@@ -75,7 +76,8 @@ module _ {D V : Type 0} (disk : Ghosts D) (vaults : vault.Ghosts V) (start : Cor
     enters : (what : Result Reply Refusal) (at last : ℕ) (numbers numbers' : List ℕ)
         → Turned disk vaults start v (Line c) what sound at w → last ≤ number_after start.commit_number v.seen
         → numbers' ≡ with_number (commits what (Line c)) numbers at
-        → (IsTold (Line c) tells → Heard (name_in_line c) sound before after) → CountsFaults (name_in_line c) what old new
+        → (IsTold (Line c) tells → Heard (name_in_line c) sound before after)
+        → CountsFaults (name_in_line c) what old new
         → Enters (place_of start v last numbers tells before old) c (reply_of what)
         (place_of start w (max last at) numbers' tells after new)
     enters what at last numbers numbers' h low listed heard counted =
@@ -113,7 +115,8 @@ module _ {D V : Type 0} (disk : Ghosts D) (vaults : vault.Ghosts V) (start : Cor
     reason_is reason what a b = cc
 
     -- the count of faults, by what a turn told of it
-    counts : (name : Option (List ℕ)) (r : Reply) (what : Result (Unit {0}) Refusal) → (IsSome name → VaultCounted what old new)
+    counts : (name : Option (List ℕ)) (r : Reply) (what : Result (Unit {0}) Refusal)
+        → (IsSome name → VaultCounted what old new)
         → (name ≡ None → new ≡ old) → CountsFaults name (told_by (λ _. r) what) old new
     counts None r what named silent = silent refl
     counts (Some name) r (Ok x) named silent = named refl
@@ -140,7 +143,8 @@ module _ {D V : Type 0} (disk : Ghosts D) (vaults : vault.Ghosts V) (start : Cor
     ok_turn r said last numbers numbers' ok h low listed heard named silent = ⊎_elim
         (λ (x : Turned disk vaults start v (Line c) (told_by (λ _. r) said.what) sound said.at w).
         inl (enters (Ok r) said.at last numbers numbers' (subst
-        (λ (z : Result (Unit {0}) Refusal). Turned disk vaults start v (Line c) (told_by (λ _. r) z) sound said.at w) ok x)
+        (λ (z : Result (Unit {0}) Refusal). Turned disk vaults start v (Line c) (told_by (λ _. r) z) sound said.at w) ok
+        x)
         low listed heard (told_count r said (Ok tt) ok x named silent)))
         (λ (x : Spends v said w). not_ok (Turn (place_of start v last numbers tells before old) (Ok c) r
         (place_of start w (max last said.at) numbers' tells after new)) tt said.what ok x.what)
@@ -158,10 +162,12 @@ module _ {D V : Type 0} (disk : Ghosts D) (vaults : vault.Ghosts V) (start : Cor
     err_turn r reason said last numbers err h low heard still named silent = ⊎_elim
         (λ (x : Turned disk vaults start v (Line c) (told_by (λ _. r) said.what) sound said.at w).
         inl (enters (Err reason) said.at last numbers numbers (subst
-        (λ (z : Result (Unit {0}) Refusal). Turned disk vaults start v (Line c) (told_by (λ _. r) z) sound said.at w) err x)
+        (λ (z : Result (Unit {0}) Refusal). Turned disk vaults start v (Line c) (told_by (λ _. r) z) sound said.at w)
+        err x)
         low (sym (append-nil numbers)) heard (told_count r said (Err reason) err x named silent)))
         (λ (x : Spends v said w). inr (inl (
           ap Refused (reason_is reason said.what err x.what),
-          (let same = still (ap (λ (z : View (Held D V) Deed). z.used_up) x.view) in spends said last numbers x same.0 same.1),
+          (let same = still (ap (λ (z : View (Held D V) Deed). z.used_up) x.view) in
+              spends said last numbers x same.0 same.1),
         )))
         h

@@ -1,5 +1,6 @@
 -- Where no device fails, a script's deeds tell of none.
-use Rattle.std.proofs.Common.{subst, ℕ, if◌then◌else◌, Bool, true, false, IsSome, IfErr, List, [], ◌∷◌, ◌++◌, Result, Ok, Err}
+use Rattle.std.proofs.Common.{subst, ℕ, if◌then◌else◌, Bool, true, false, IsSome, IfErr, List, [], ◌∷◌, ◌++◌, Result}
+use Rattle.std.proofs.Common.{Ok, Err}
 use Rattle.pcm_base.specs.declared.answer.Answer.{Answer}
 use Rattle.pcm_base.specs.declared.answer.Reply.{Reply}
 use Rattle.pcm_base.specs.declared.command.Call.{Call}
@@ -44,23 +45,28 @@ fair_one c (Err refusal.VaultFault) served unharmed spares = absurd (spares serv
 fair_one c (Err (refusal.Damaged file at want have)) served unharmed spares = absurd unharmed
 fair_one c (Err why) served unharmed spares = tt
 
-fair_each : (ds : List Deed) → Each (λ d. IfErr d.what (IsServed d.call)) ds → Each (λ d. IfErr d.what IsUnharmed) ds → Each SparesVault ds
+fair_each : (ds : List Deed) → Each (λ d. IfErr d.what (IsServed d.call)) ds → Each (λ d. IfErr d.what IsUnharmed) ds
+    → Each SparesVault ds
     → Each TellsNoDevice ds
 fair_each [] served unharmed spares = tt
 fair_each (d ∷ ds) served unharmed spares =
     (fair_one d.call d.what served.0 unharmed.0 spares.0, fair_each ds served.1 unharmed.1 spares.1)
 
 -- of what a script added
-pub fair_added : {D V : Type 0} (disk : Ghosts D) (vaults : vault.Ghosts V) (lines : List (List ℕ)) (answers : List Answer) (p q : Place)
-    (start now : Core D) (later : List Deed) (adds : Adds p q lines answers) → StandsFor disk (AllTell vaults) start now (q.seen ++ later)
+pub fair_added : {D V : Type 0} (disk : Ghosts D) (vaults : vault.Ghosts V) (lines : List (List ℕ))
+    (answers : List Answer) (p q : Place)
+    (start now : Core D) (later : List Deed) (adds : Adds p q lines answers)
+    → StandsFor disk (AllTell vaults) start now (q.seen ++ later)
     → IsUndisturbed disk vaults start now p.faults q.faults → Each TellsNoDevice (deeds_of (by_seat p.seat) adds.added)
 fair_added disk vaults lines answers p q start now later adds stands quiet =
     let all = desks_serve disk vaults start now (q.seen ++ later) stands quiet.told quiet.held quiet.going quiet.calm in
     let Served : Deed → Type 0 = λ d. IfErr d.what (IsServed d.call) in
     let Unharmed : Deed → Type 0 = λ d. IfErr d.what IsUnharmed in
     let own = by_seat p.seat in
-    let served : Each Served (p.seen ++ adds.added) = subst (Each Served) adds.seen (Each-left Served q.seen later all.served) in
-    let unharmed : Each Unharmed (p.seen ++ adds.added) = subst (Each Unharmed) adds.seen (Each-left Unharmed q.seen later all.unharmed) in
+    let served : Each Served (p.seen ++ adds.added) =
+    subst (Each Served) adds.seen (Each-left Served q.seen later all.served) in
+    let unharmed : Each Unharmed (p.seen ++ adds.added) =
+    subst (Each Unharmed) adds.seen (Each-left Unharmed q.seen later all.unharmed) in
     fair_each (deeds_of own adds.added)
     (each_of_kind Served own adds.added (Each-right Served p.seen adds.added served))
     (each_of_kind Unharmed own adds.added (Each-right Unharmed p.seen adds.added unharmed))
@@ -69,4 +75,9 @@ fair_added disk vaults lines answers p q start now later adds stands quiet =
 pub sessions_serve : {D V : Type 0} (disk : Ghosts D) (vaults : vault.Ghosts V) → SessionsServe disk vaults
 sessions_serve disk vaults lines answers p q start now later session stands quiet =
     let adds = sessions_add lines answers p q session in
-    record { added = adds.added; seen = adds.seen; own = adds.own; fair = fair_added disk vaults lines answers p q start now later adds stands quiet }
+    record {
+      added = adds.added;
+      seen = adds.seen;
+      own = adds.own;
+      fair = fair_added disk vaults lines answers p q start now later adds stands quiet;
+    }

@@ -1,5 +1,6 @@
 -- A session, one line on.
-use Rattle.std.proofs.Common.{◌≡◌, ℕ, List, [], ◌∷◌, ◌++◌, Bool, true, false, ◌||◌, Option, Result, Ok, Err, take, refl, sym, ap, ◌∙◌, subst}
+use Rattle.std.proofs.Common.{◌≡◌, ℕ, List, [], ◌∷◌, ◌++◌, Bool, true, false, ◌||◌, Option, Result, Ok, Err, take, refl}
+use Rattle.std.proofs.Common.{sym, ap, ◌∙◌, subst}
 use Rattle.std.specs.List.{list_any, flat_map}
 use Rattle.std.proofs.lemmas.List.{flat_map_more}
 use Rattle.pcm_base.specs.declared.answer.Answer.{Answer}
@@ -12,28 +13,36 @@ use Rattle.script_session.specs.Session.{Session, Next, Answers}
 use Rattle.script_session.specs.Progress.{Printed, WritesAnswers, says_no}
 
 -- what stands behind a line may be weakened
-Next-weaker : (b : Bool) (s : Place) (line : List ℕ) (answers : List Answer) (P Q : Place → List Answer → Type 0) → ((m : Place) (later : List Answer) → P m later → Q m later) → Next b s line answers P → Next b s line answers Q
+Next-weaker : (b : Bool) (s : Place) (line : List ℕ) (answers : List Answer) (P Q : Place → List Answer → Type 0)
+    → ((m : Place) (later : List Answer) → P m later → Q m later) → Next b s line answers P → Next b s line answers Q
 Next-weaker true s line answers P Q f h = f s answers h
 Next-weaker false s line [] P Q f h = h
 Next-weaker false s line (a ∷ answers) P Q f (t, is, h) = (t, is, f t answers h)
 
 -- the same with one more answer at the end
-Next-push : (b : Bool) (s : Place) (line : List ℕ) (answers : List Answer) (last : Answer) (P Q : Place → List Answer → Type 0) → ((m : Place) (later : List Answer) → P m later → Q m (later ++ last ∷ [])) → Next b s line answers P → Next b s line (answers ++ last ∷ []) Q
+Next-push : (b : Bool) (s : Place) (line : List ℕ) (answers : List Answer) (last : Answer)
+    (P Q : Place → List Answer → Type 0) → ((m : Place) (later : List Answer) → P m later → Q m (later ++ last ∷ []))
+    → Next b s line answers P → Next b s line (answers ++ last ∷ []) Q
 Next-push true s line answers last P Q f h = f s answers h
 Next-push false s line [] last P Q f h = absurd h
 Next-push false s line (a ∷ answers) last P Q f (t, is, h) = (t, is, f t answers h)
 
-pub Session-silent : (lines : List (List ℕ)) (s t : Place) (line : List ℕ) (answers : List Answer) → is_silent line ≡ true → Session s lines answers t → Session s (lines ++ line ∷ []) answers t
+pub Session-silent : (lines : List (List ℕ)) (s t : Place) (line : List ℕ) (answers : List Answer)
+    → is_silent line ≡ true → Session s lines answers t → Session s (lines ++ line ∷ []) answers t
 Session-silent [] s t line answers silent h = rw silent h
 Session-silent (l ∷ lines) s t line answers silent h =
-    Next-weaker (is_silent l) s l answers (λ mid later. Session mid lines later t) (λ mid later. Session mid (lines ++ line ∷ []) later t)
+    Next-weaker (is_silent l) s l answers (λ mid later. Session mid lines later t)
+    (λ mid later. Session mid (lines ++ line ∷ []) later t)
     (λ mid later. Session-silent lines mid t line later silent) h
 
-pub Session-answer : (lines : List (List ℕ)) (s t u : Place) (line : List ℕ) (a : Answer) (answers : List Answer) → is_silent line ≡ false → Answers t line a u → Session s lines answers t → Session s (lines ++ line ∷ []) (answers ++ a ∷ []) u
+pub Session-answer : (lines : List (List ℕ)) (s t u : Place) (line : List ℕ) (a : Answer) (answers : List Answer)
+    → is_silent line ≡ false → Answers t line a u → Session s lines answers t
+    → Session s (lines ++ line ∷ []) (answers ++ a ∷ []) u
 Session-answer [] s t u line a answers spoken is h =
     rw (spoken, h.0) (u, subst (λ (x : Place). Answers x line a u) h.1 is, (refl, refl))
 Session-answer (l ∷ lines) s t u line a answers spoken is h =
-    Next-push (is_silent l) s l answers a (λ mid later. Session mid lines later t) (λ mid later. Session mid (lines ++ line ∷ []) later u)
+    Next-push (is_silent l) s l answers a (λ mid later. Session mid lines later t)
+    (λ mid later. Session mid (lines ++ line ∷ []) later u)
     (λ mid later. Session-answer lines mid t u line a later spoken is) h
 
 or_false : (b : Bool) → (b || false) ≡ b
@@ -48,7 +57,8 @@ list_any-push : (p : Answer → Bool) (xs : List Answer) (x : Answer) → list_a
 list_any-push p [] x = or_false (p x)
 list_any-push p (y ∷ ys) x = ap (λ b. p y || b) (list_any-push p ys x) ∙ or_assoc (p y) (list_any p ys) (p x)
 
-pub Printed-silent : (s t : Place) (start now : Option (List ℕ)) (refused : Bool) (lines : List (List ℕ)) (line : List ℕ) → is_silent line ≡ true →
+pub Printed-silent : (s t : Place) (start now : Option (List ℕ)) (refused : Bool) (lines : List (List ℕ))
+    (line : List ℕ) → is_silent line ≡ true →
     Printed s t start now refused (Ok tt) lines → Printed s t start now refused (Ok tt) (lines ++ line ∷ [])
 Printed-silent s t start now refused lines line silent p = record {
   answers = p.answers;
@@ -58,20 +68,24 @@ Printed-silent s t start now refused lines line silent p = record {
 }
 
 -- one answer more is written, or breaks off
-writes_answer : (result : Result (Unit {0}) Failed) (start now later : Option (List ℕ)) (answers : List Answer) (a : Answer) → now ≡ grown start (flat_map text_of answers) → Writes result now later (text_of a) →
+writes_answer : (result : Result (Unit {0}) Failed) (start now later : Option (List ℕ)) (answers : List Answer)
+    (a : Answer) → now ≡ grown start (flat_map text_of answers) → Writes result now later (text_of a) →
     WritesAnswers result start later (answers ++ a ∷ [])
 writes_answer (Ok u) start now later answers a before writes =
-    writes ∙ ap (λ w. grown w (text_of a)) before ∙ grown-grown start (flat_map text_of answers) (text_of a) ∙ ap (grown start) (flat_map_more text_of [] answers a)
+    writes ∙ ap (λ w. grown w (text_of a)) before ∙ grown-grown start (flat_map text_of answers) (text_of a)
+    ∙ ap (grown start) (flat_map_more text_of [] answers a)
 writes_answer (Err failed) start now later answers a before (n, within, is) = record {
   before = answers;
   last = a;
   whole = refl;
   count = n;
   within = within;
-  written = is ∙ ap (λ w. grown w (take n (text_of a))) before ∙ grown-grown start (flat_map text_of answers) (take n (text_of a));
+  written = is ∙ ap (λ w. grown w (take n (text_of a))) before
+      ∙ grown-grown start (flat_map text_of answers) (take n (text_of a));
 }
 
-pub Printed-answer : (s t u : Place) (start now later : Option (List ℕ)) (refused refused' : Bool) (result : Result (Unit {0}) Failed) (lines : List (List ℕ)) (line : List ℕ) (a : Answer) → is_silent line ≡ false →
+pub Printed-answer : (s t u : Place) (start now later : Option (List ℕ)) (refused refused' : Bool)
+    (result : Result (Unit {0}) Failed) (lines : List (List ℕ)) (line : List ℕ) (a : Answer) → is_silent line ≡ false →
     Answers t line a u → Writes result now later (text_of a) → refused' ≡ (refused || says_no a) →
     Printed s t start now refused (Ok tt) lines → Printed s u start later refused' result (lines ++ line ∷ [])
 Printed-answer s t u start now later refused refused' result lines line a spoken is writes rises p = record {

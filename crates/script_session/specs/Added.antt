@@ -1,5 +1,6 @@
 -- What a script adds to the list of a desk, line by line.
-use Rattle.std.specs.Prelude.{◌≡◌, ◌⊎◌, ℕ, ◌≤◌, Bool, true, false, IsTrue, IsSome, List, [], ◌∷◌, ◌++◌, Result, Ok, Err, IfErr}
+use Rattle.std.specs.Prelude.{◌≡◌, ◌⊎◌, ℕ, ◌≤◌, Bool, true, false, IsTrue, IsSome, List, [], ◌∷◌, ◌++◌, Result, Ok, Err}
+use Rattle.std.specs.Prelude.{IfErr}
 use Rattle.pcm_base.specs.declared.answer.Answer.{Answer}
 use Rattle.pcm_base.specs.declared.answer.Reply.{Reply}
 use Rattle.pcm_base.specs.declared.answer.Reply.TheVariants.{Refused}
@@ -53,8 +54,8 @@ abbrev pub SparesVault : Deed → Type 0
 SparesVault d = IsSome (name_in d.call) → IfErr d.what IsNoVault
 
 -- What a script adds to the list: its own deeds are those of its lines, its numbers are those of its commits, and the
--- sounds of a vault that tells its bytes follow its deeds. The vault's count of faults never falls, and where it did not
--- rise no deed that names a sound tells that the vault failed.
+-- sounds of a vault that tells its bytes follow its deeds. The vault's count of faults never falls, and where it did
+-- not rise no deed that names a sound tells that the vault failed.
 pub record Adds (p q : Place) (lines : List (List ℕ)) (answers : List Answer) : Type 0 where
   pub added : List Deed
   pub seen : q.seen ≡ p.seen ++ added

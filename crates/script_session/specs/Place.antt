@@ -64,14 +64,14 @@ after_turn p between c what sounds faults = record p {
   faults = faults;
 }
 
--- The count of a vault's faults behind a line that was answered so. It rises where the line names a sound and the answer
--- is that the vault failed, and stays elsewhere.
+-- The count of a vault's faults behind a line that was answered so. It rises where the line names a sound and the
+-- answer is that the vault failed, and stays elsewhere.
 abbrev pub CountsFaults : Option (List ℕ) → Result Reply Refusal → ℕ → ℕ → Type 0
 CountsFaults None what old new = new ≡ old
 CountsFaults (Some name) what old new = VaultCounted what old new
 
--- A turn was taken: behind what was seen stand deeds of others, and then this one. Of the sounds none changed but the one
--- that the line names.
+-- A turn was taken: behind what was seen stand deeds of others, and then this one. Of the sounds none changed but the
+-- one that the line names.
 pub record Enters (p : Place) (c : Command) (r : Reply) (q : Place) : Type 0 where
   pub between : List Deed
   pub by_others : ByOthers actor_of (p.seat ∷ []) between

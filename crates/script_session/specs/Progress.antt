@@ -1,5 +1,6 @@
 -- How far a session has come.
-use Rattle.std.specs.Prelude.{◌≡◌, ℕ, ◌^◌, ◌<◌, ◌≤◌, List, [], ◌∷◌, ◌++◌, length, Bool, Option, Result, Ok, Err, MatchResult, take, flat_map}
+use Rattle.std.specs.Prelude.{◌≡◌, ℕ, ◌^◌, ◌<◌, ◌≤◌, List, [], ◌∷◌, ◌++◌, length, Bool, Option, Result, Ok, Err}
+use Rattle.std.specs.Prelude.{MatchResult, take, flat_map}
 use Rattle.std.specs.List.{list_any}
 use Rattle.std.specs.Io.KnownBytes.{IsAtEnd}
 use Rattle.pcm_base.specs.declared.answer.Answer.{Answer}
@@ -28,7 +29,8 @@ pub record Cut (read : List ℕ) (lines : List (List ℕ)) (part : List ℕ) : T
 abbrev pub says_no : Answer → Bool
 says_no a = is_refusal a.reply
 
--- the texts of some answers were written behind `start`, but for the last one, of which a part from its front was written
+-- the texts of some answers were written behind `start`, but for the last one, of which a part from its front was
+-- written
 pub record BreaksOff (start now : Option (List ℕ)) (answers : List Answer) : Type 0 where
   pub before : List Answer
   pub last : Answer
@@ -39,17 +41,21 @@ pub record BreaksOff (start now : Option (List ℕ)) (answers : List Answer) : T
 
 -- the texts of some answers were written behind `start`, or after a fault break off in the last one
 abbrev pub WritesAnswers : Result (Unit {0}) Failed → Option (List ℕ) → Option (List ℕ) → List Answer → Type 0
-WritesAnswers result start now answers = MatchResult result (λ _. now ≡ grown start (flat_map text_of answers)) (λ _. BreaksOff start now answers)
+WritesAnswers result start now answers =
+    MatchResult result (λ _. now ≡ grown start (flat_map text_of answers)) (λ _. BreaksOff start now answers)
 
--- these lines lead from s to t, and their answers were written behind `start`, or after a fault break off in the last one
-pub record Printed (s t : Place) (start now : Option (List ℕ)) (refused : Bool) (result : Result (Unit {0}) Failed) (lines : List (List ℕ)) : Type 0 where
+-- these lines lead from s to t, and their answers were written behind `start`, or after a fault break off in the last
+-- one
+pub record Printed (s t : Place) (start now : Option (List ℕ)) (refused : Bool) (result : Result (Unit {0}) Failed)
+    (lines : List (List ℕ)) : Type 0 where
   pub answers : List Answer
   pub session : Session s lines answers t
   pub written : WritesAnswers result start now answers
   pub no : refused ≡ list_any says_no answers
 
 -- after these bytes the answers to all lines that ended are printed, and what has come of the next is kept
-pub record Going (s t : Place) (start now : Option (List ℕ)) (kept : Kept) (refused : Bool) (read : List ℕ) : Type 0 where
+pub record Going (s t : Place) (start now : Option (List ℕ)) (kept : Kept) (refused : Bool)
+    (read : List ℕ) : Type 0 where
   pub lines : List (List ℕ)
   pub part : List ℕ
   pub cut : Cut read lines part
@@ -57,7 +63,8 @@ pub record Going (s t : Place) (start now : Option (List ℕ)) (kept : Kept) (re
   pub printed : Printed s t start now refused (Ok tt) lines
 
 -- the output failed at the answer of a line of these bytes, which was the last one that was carried out
-pub record Halted (s t : Place) (start now : Option (List ℕ)) (refused : Bool) (failed : Failed) (read : List ℕ) : Type 0 where
+pub record Halted (s t : Place) (start now : Option (List ℕ)) (refused : Bool) (failed : Failed)
+    (read : List ℕ) : Type 0 where
   pub lines : List (List ℕ)
   pub cut : (more : List ℕ) → (later : List (List ℕ)) × (lines_of (read ++ more) ≡ lines ++ later)
   pub printed : Printed s t start now refused (Err failed) lines
@@ -89,7 +96,8 @@ IsCauseOf stop.SourceFault a a' o o' = (a ≤ a') × Rose a a' × (o' ≡ o)
 IsCauseOf stop.OutFault a a' o o' = (a' ≡ a) × (o ≤ o') × Rose o o'
 
 -- the bytes so far of a source, and how far they brought a session
-pub record Reading (s t : Place) (start now left left_now : Option (List ℕ)) (kept : Kept) (refused : Bool) (total : ℕ) : Type 0 where
+pub record Reading (s t : Place) (start now left left_now : Option (List ℕ)) (kept : Kept) (refused : Bool)
+    (total : ℕ) : Type 0 where
   pub read : List ℕ
   pub bytes : left ≡ preceded read left_now
   pub count : length read ≡ total
@@ -101,7 +109,8 @@ IsEndCut stop.End read lines = lines ≡ lines_of read
 IsEndCut stop.OutFault read lines = (later : List (List ℕ)) × (lines_of read ≡ lines ++ later)
 IsEndCut other read lines = ⊥
 
-pub record Ended (stop : Stop) (s t : Place) (start now : Option (List ℕ)) (refused : Bool) (read : List ℕ) : Type 0 where
+pub record Ended (stop : Stop) (s t : Place) (start now : Option (List ℕ)) (refused : Bool)
+    (read : List ℕ) : Type 0 where
   pub lines : List (List ℕ)
   pub cut : IsEndCut stop read lines
   pub printed : Printed s t start now refused (outcome_of stop) lines

@@ -28,8 +28,8 @@ IsOfNoDevice why = Unit {0}
 abbrev pub TellsNoDevice : Deed → Type 0
 TellsNoDevice d = IfErr d.what IsOfNoDevice
 
--- Vaults tell their bytes, the disk held a studio that goes on, and no count of faults rose, of the store or of the vault
--- that the script had.
+-- Vaults tell their bytes, the disk held a studio that goes on, and no count of faults rose, of the store or of the
+-- vault that the script had.
 pub record IsUndisturbed {D V : Type 0} (disk : Ghosts D) (vaults : vault.Ghosts V) (start now : Core D)
     (before after : ℕ) : Type 0 where
   pub told : AllTell vaults

@@ -13,7 +13,8 @@ use Rattle.script_text.specs.Grammar.{line_of, is_silent}
 -- turn; where no turn is left, or memory is wanting before it, there is none, and nothing was asked
 abbrev pub Turn : Place → Result Command ℕ → Reply → Place → Type 0
 Turn p (Err column) r q = ((r ≡ Refused (BadLine column)) ⊎ (r ≡ Refused NoMemory)) × (q ≡ p)
-Turn p (Ok command) r q = Enters p command r q ⊎ ((r ≡ Refused spent) × (q ≡ record p { used_up = true })) ⊎ ((r ≡ Refused NoMemory) × (q ≡ p))
+Turn p (Ok command) r q = Enters p command r q ⊎ ((r ≡ Refused spent) × (q ≡ record p { used_up = true }))
+    ⊎ ((r ≡ Refused NoMemory) × (q ≡ p))
 
 -- the same of an answer, which tells the commit number after the turn, and where there was none the number told last
 abbrev pub Answers : Place → List ℕ → Answer → Place → Type 0

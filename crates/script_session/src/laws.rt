@@ -5,15 +5,15 @@ ghost use Rattle.script_session.specs.Served.{SessionsServe};
 use disk_model::Store;
 use edit_ports::Vault;
 
-/// What a script adds to the list of a desk: its own deeds are those of its lines, in order, its numbers are those of its
-/// commits, and the sounds of the vault follow its deeds. Where the vault's count of faults did not rise, no deed that
-/// names a sound tells that it failed.
+/// What a script adds to the list of a desk: its own deeds are those of its lines, in order, its numbers are those of
+/// its commits, and the sounds of the vault follow its deeds. Where the vault's count of faults did not rise, no deed
+/// that names a sound tells that it failed.
 pub fn sessions_add()
     ensures { SessionsAdd }
 {}
 
-/// What a script tells, whoever else is at its desk: where vaults tell their bytes, the disk held a studio that goes on,
-/// and no count of faults of the store or of the script's vault rises, none of its deeds is answered DiskFault,
+/// What a script tells, whoever else is at its desk: where vaults tell their bytes, the disk held a studio that goes
+/// on, and no count of faults of the store or of the script's vault rises, none of its deeds is answered DiskFault,
 /// VaultFault, Damaged or Stopped.
 pub fn sessions_are_served<S: Store, V: Vault>()
     ensures { SessionsServe S.Store V.Vault }

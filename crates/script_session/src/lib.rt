@@ -1,7 +1,7 @@
 //! A script, read and answered line by line by an editor that others may use between two lines.
 //!
-//! `read_script` is what the layer above uses, over any source, any sink and any editor; `DeskEditor` is the editor of a
-//! seat at a desk, where each line is one turn. It opens nothing and prints no last line.
+//! `read_script` is what the layer above uses, over any source, any sink and any editor; `DeskEditor` is the editor of
+//! a seat at a desk, where each line is one turn. It opens nothing and prints no last line.
 #![tactic(auto)]
 
 mod answer;

@@ -29,8 +29,10 @@ fn end_line<R: Wait, E: Editor, O: Sink, G: Gate>(
     ensures goes { (s : Place) (start : Option (List ℕ)) (read : List ℕ) →
         Going s (E.place session.old.editor) start (O.written out.old) session.old.line session.old.refused read →
         MatchResult result
-        (λ _. Going s (E.place session.new.editor) start (O.written out.new) session.new.line session.new.refused ((read ++ rest.now) ++ 10 ∷ []))
-        (λ failed. Halted s (E.place session.new.editor) start (O.written out.new) session.new.refused failed ((read ++ rest.now) ++ 10 ∷ [])) }
+        (λ _. Going s (E.place session.new.editor) start (O.written out.new) session.new.line session.new.refused
+        ((read ++ rest.now) ++ 10 ∷ []))
+        (λ failed. Halted s (E.place session.new.editor) start (O.written out.new) session.new.refused failed
+        ((read ++ rest.now) ++ 10 ∷ [])) }
     ensures cause { HasCause (O.fault_count out.old) (O.fault_count out.new) result }
     ensures follows { (first : E) → E.follows first session.old.editor → E.follows first session.new.editor }
 {
@@ -50,8 +52,10 @@ fn take_piece<R: Wait, E: Editor, O: Sink, G: Gate>(
     ensures goes { (s : Place) (start : Option (List ℕ)) (read : List ℕ) →
         Going s (E.place session.old.editor) start (O.written out.old) session.old.line session.old.refused read →
         MatchResult result
-        (λ _. Going s (E.place session.new.editor) start (O.written out.new) session.new.line session.new.refused (read ++ piece.now))
-        (λ failed. Halted s (E.place session.new.editor) start (O.written out.new) session.new.refused failed (read ++ piece.now)) }
+        (λ _. Going s (E.place session.new.editor) start (O.written out.new) session.new.line session.new.refused
+        (read ++ piece.now))
+        (λ failed. Halted s (E.place session.new.editor) start (O.written out.new) session.new.refused failed
+        (read ++ piece.now)) }
     ensures cause { HasCause (O.fault_count out.old) (O.fault_count out.new) result }
     ensures follows { (first : E) → E.follows first session.old.editor → E.follows first session.new.editor }
 {

@@ -2,8 +2,6 @@
 use Rattle.std.proofs.Common.{◌⊎◌, inl, inr, ⊎_elim, List, sym, subst}
 use Rattle.disk_model.specs.Disk.{Files}
 use Rattle.disk_model.specs.declared.store.Store.{Ghosts}
-use Rattle.edit_ports.specs.declared.sink.Sink as sink
-use Rattle.edit_ports.specs.declared.source.Source as source
 use Rattle.edit_ports.specs.declared.vault.Vault as vault
 use Rattle.editor_core.specs.Core.{Core}
 use Rattle.editor_core.specs.Events.{KeepsPrefix}
@@ -12,10 +10,12 @@ use Rattle.editor_recovery.specs.Honest.{IsHonest}
 use Rattle.studio_seats.specs.declared.deed.Deed.{Deed}
 use Rattle.studio_seats.specs.Deeds.{entries_of}
 use Rattle.studio_seats.specs.Stands.{AllTell, StandsFor}
+use Rattle.desk_session.specs.Lent.{Kinds}
 use Rattle.session_run.specs.Opening.{OpensTo}
 use Rattle.session_run.specs.Runs.{RunsSurvive, Survives}
 
-module _ {D V : Type 0} (disk : Ghosts D) (vaults : vault.Ghosts V) (store : D) (start final : Core D) (deeds : List Deed)
+module _ {D V : Type 0} (disk : Ghosts D) (vaults : vault.Ghosts V) (store : D) (start final : Core D)
+    (deeds : List Deed)
     (opens : OpensTo disk store start) (stands : StandsFor disk (AllTell vaults) start final deeds)
     (honest : IsHonest disk store) (told : AllTell vaults) where
   held : IsHeld disk start
@@ -42,7 +42,6 @@ module _ {D V : Type 0} (disk : Ghosts D) (vaults : vault.Ghosts V) (store : D) 
     stopped = λ stopped. stands.stopped told opens.fresh.stopped stopped held;
   }
 
-pub runs_survive : {D V M P : Type 0} (disk : Ghosts D) (vaults : vault.Ghosts V) (mics : source.Ghosts M)
-    (speakers : sink.Ghosts P) → RunsSurvive disk vaults mics speakers
-runs_survive {D} {V} {M} {P} disk vaults mics speakers store start final before after d beside s opens ran honest told =
-    survives disk vaults store start final ran.session.deeds opens ran.session.stands honest told
+pub runs_survive : {D V M P : Type 0} (k : Kinds D V M P) → RunsSurvive k
+runs_survive {D} {V} {M} {P} k store start final p beside opens ran honest told =
+    survives k.disk k.vaults store start final ran.session.deeds opens ran.session.stands honest told

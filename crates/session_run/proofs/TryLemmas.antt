@@ -1,18 +1,16 @@
 -- What `try` leaves of a fresh project in memory.
 use Rattle.std.proofs.Common.{◌≡◌, ◌⊎◌, inl, inr, ⊎_elim, ℕ, nat_lt, if◌then◌else◌, ap, ◌∙◌, subst, arith}
 use Rattle.disk_model.specs.declared.store.Store.{Ghosts}
-use Rattle.edit_ports.specs.declared.sink.Sink as sink
-use Rattle.edit_ports.specs.declared.source.Source as source
-use Rattle.edit_ports.specs.declared.vault.Vault as vault
 use Rattle.editor_core.specs.Core.{Core}
+use Rattle.desk_session.specs.Lent.{Kinds}
 use Rattle.memory_project.specs.Fresh.{IsFresh}
 use Rattle.memory_project.specs.declared.fresh.FreshProject.{FreshProject}
 use Rattle.script_text.specs.declared.call_fault.CallFault.TheVariants as call
 use Rattle.session_run.specs.declared.ending.Done.{Done}
-use Rattle.session_run.specs.Devices.{Devices, Idle}
+use Rattle.session_run.specs.Ports.{Idle, Ports}
 use Rattle.session_run.specs.Refused.{IsRefused}
 use Rattle.session_run.specs.Runs.{RunsOpened, RunsTo, Wants}
-use Rattle.session_run.specs.Streams.{Streams, Unread}
+use Rattle.session_run.specs.Streams.{Unread}
 use Rattle.session_run.specs.Tries.{Tried, faults_of, nothing, tried_project}
 
 -- the project that was made is that of a script that is tried
@@ -21,9 +19,11 @@ pub tried_at : {D : Type 0} (disk : Ghosts D) (p : FreshProject) (start : Core D
 tried_at disk p start same fresh = subst (λ (q : FreshProject). IsFresh disk q start) same fresh
 
 -- What `try` leaves, where the store that was handed in stands in the place of the memory disk.
-module _ {D V M P C : Type 0} (disk : Ghosts D) (vaults : vault.Ghosts V) (mics : source.Ghosts M)
-    (speakers : sink.Ghosts P) (start : Core D) (before after : V) (d : Devices M P) (s : Streams) (done : Done D)
-    (store : C) (status : ℕ) (fresh_is : IsFresh disk tried_project start) where
+module _ {D V M P C : Type 0} (k : Kinds D V M P) (start : Core D) (p : Ports V M P) (done : Done D)
+    (store : C) (status : ℕ) (fresh_is : IsFresh k.disk tried_project start) where
+  abbrev disk : Ghosts D
+  disk = k.disk
+
   abbrev given : Done C
   given = record {
     status = status;
@@ -37,8 +37,7 @@ module _ {D V M P C : Type 0} (disk : Ghosts D) (vaults : vault.Ghosts V) (mics 
   }
 
   ran : (final : Core D) → status ≡ (if nat_lt 0 (faults_of disk final) then 4 else done.status)
-      → RunsTo disk vaults mics speakers start final before after d nothing s done.status done
-      → Tried disk vaults mics speakers before after d s given
+      → RunsTo k start final p nothing done.status done → Tried k p given
   ran final is r = record {
     start = start;
     final = final;
@@ -59,7 +58,7 @@ module _ {D V M P C : Type 0} (disk : Ghosts D) (vaults : vault.Ghosts V) (mics 
 
   -- nothing was asked of the memory disk, so it has counted nothing
   wants : (final : Core D) → status ≡ (if nat_lt 0 (faults_of disk final) then 4 else done.status)
-      → Wants start final before after d s done → IsRefused call.NoMemory s given
+      → Wants start final p done → IsRefused call.NoMemory p.streams given
   wants final is w =
       let reads : disk.read_fault_count final.store ≡ 0 =
       ap (λ (c : Core D). disk.read_fault_count c.store) w.same.0 ∙ fresh_is.room.reads in
@@ -81,12 +80,11 @@ module _ {D V M P C : Type 0} (disk : Ghosts D) (vaults : vault.Ghosts V) (mics 
         };
       }
 
-  pub tried : (opened : RunsOpened disk vaults mics speakers start before after d nothing s done)
+  pub tried : (opened : RunsOpened k start p nothing done)
       → status ≡ (if nat_lt 0 (faults_of disk opened.0) then 4 else done.status)
-      → Tried disk vaults mics speakers before after d s given
-      ⊎ (IsRefused call.NoMemory s given × Unread s × Idle d × (after ≡ before))
+      → Tried k p given
+      ⊎ (IsRefused call.NoMemory p.streams given × Unread p.streams × Idle p × (p.vault_now ≡ p.vault))
   tried opened is = ⊎_elim
-      (λ (r : RunsTo disk vaults mics speakers start opened.0 before after d nothing s done.status done).
-      inl (ran opened.0 is r))
-      (λ (w : Wants start opened.0 before after d s done). inr (wants opened.0 is w, w.unread, w.idle, w.same.1))
+      (λ (r : RunsTo k start opened.0 p nothing done.status done). inl (ran opened.0 is r))
+      (λ (w : Wants start opened.0 p done). inr (wants opened.0 is w, w.unread, w.idle, w.same.1))
       opened.2

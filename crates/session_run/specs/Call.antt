@@ -3,7 +3,6 @@ use Rattle.std.specs.Prelude.{◌≡◌, ◌⊎◌, ◌||◌, Bool, IsTrue, List
 use Rattle.disk_model.specs.declared.store.Store.{Ghosts}
 use Rattle.edit_ports.specs.declared.sink.Sink as sink
 use Rattle.edit_ports.specs.declared.source.Source as source
-use Rattle.edit_ports.specs.declared.vault.Vault as vault
 use Rattle.pcm_base.specs.Studio.{fault_sum}
 use Rattle.call_words.specs.declared.asked.Words.{Words}
 use Rattle.call_words.specs.declared.asked.Words.TheVariants as words
@@ -11,11 +10,12 @@ use Rattle.call_words.specs.Words.{is_new, words_of}
 use Rattle.call_words.specs.Texts.{Text}
 use Rattle.script_text.specs.declared.call_fault.CallFault.{CallFault}
 use Rattle.script_text.specs.declared.call_fault.CallFault.TheVariants as call
+use Rattle.desk_session.specs.Lent.{Kinds}
 use Rattle.session_run.specs.declared.counts.FaultCounts.{FaultCounts}
 use Rattle.session_run.specs.declared.ending.Done.{Done}
 use Rattle.session_run.specs.declared.ending.Ending.{Ending}
-use Rattle.session_run.specs.Devices.{Devices, Idle}
 use Rattle.session_run.specs.Generates.{Generates}
+use Rattle.session_run.specs.Ports.{Idle, Ports}
 use Rattle.session_run.specs.Projects.{Checks, Lists, Makes}
 use Rattle.session_run.specs.Refused.{IsRefused}
 use Rattle.session_run.specs.Runs.{Runs}
@@ -27,44 +27,39 @@ abbrev pub Turns : {D : Type 0} → CallFault → D → Streams → Done D → T
 Turns fault store s done = IsRefused fault s done × (done.store ≡ store)
 
 -- the script is not read, microphone, speaker and vault are as they were
-abbrev pub LeavesRest : {V M P : Type 0} → V → V → Devices M P → Streams → Type 0
-LeavesRest before after d s = Unread s × Idle d × (after ≡ before)
+abbrev pub LeavesRest : {V M P : Type 0} → Ports V M P → Type 0
+LeavesRest p = Unread p.streams × Idle p × (p.vault_now ≡ p.vault)
 
 -- What is done for the words, where `ram` is the disk in memory.
-abbrev pub DoesWords : {R D V M P : Type 0} → Ghosts R → Ghosts D → vault.Ghosts V → source.Ghosts M → sink.Ghosts P
-    → Option Words → D → V → V → Devices M P → Streams → Done D → Type 0
-DoesWords ram disk vaults mics speakers None store before after d s done =
-    Turns call.Usage store s done × LeavesRest before after d s
-DoesWords ram disk vaults mics speakers (Some (words.New project)) store before after d s done =
-    Makes disk project store s done × LeavesRest before after d s
-DoesWords ram disk vaults mics speakers (Some (words.Run records plays)) store before after d s done =
-    Runs disk vaults mics speakers store before after d (record { records = records; plays = plays }) s done
-DoesWords ram disk vaults mics speakers (Some words.Try) store before after d s done =
-    Tries ram vaults mics speakers store before after d s done
-DoesWords ram disk vaults mics speakers (Some words.List) store before after d s done =
-    Lists disk store s done × LeavesRest before after d s
-DoesWords ram disk vaults mics speakers (Some words.Check) store before after d s done =
-    Checks disk store s done × LeavesRest before after d s
-DoesWords ram disk vaults mics speakers (Some (words.Gen number lines)) store before after d s done =
-    Generates ram number lines store s done × LeavesRest before after d s
+abbrev pub DoesWords : {R D V M P : Type 0} → Ghosts R → Kinds D V M P → Option Words → D → Ports V M P → Done D
+    → Type 0
+DoesWords ram k None store p done = Turns call.Usage store p.streams done × LeavesRest p
+DoesWords ram k (Some (words.New project)) store p done =
+    Makes k.disk project store p.streams done × LeavesRest p
+DoesWords ram k (Some (words.Run records plays)) store p done =
+    Runs k store p (record { records = records; plays = plays }) done
+DoesWords ram k (Some words.Try) store p done =
+    Tries (record { disk = ram; vaults = k.vaults; mics = k.mics; speakers = k.speakers }) store p done
+DoesWords ram k (Some words.List) store p done = Lists k.disk store p.streams done × LeavesRest p
+DoesWords ram k (Some words.Check) store p done = Checks k.disk store p.streams done × LeavesRest p
+DoesWords ram k (Some (words.Gen number lines)) store p done =
+    Generates ram number lines store p.streams done × LeavesRest p
 
 -- The same, or there was no memory to read the options of a new project.
-abbrev pub Does : {R D V M P : Type 0} → Ghosts R → Ghosts D → vault.Ghosts V → source.Ghosts M → sink.Ghosts P
-    → List Text → D → V → V → Devices M P → Streams → Done D → Type 0
-Does ram disk vaults mics speakers texts store before after d s done =
-    DoesWords ram disk vaults mics speakers (words_of texts) store before after d s done
-    ⊎ (IsTrue (is_new texts) × Turns call.NoMemory store s done × LeavesRest before after d s)
+abbrev pub Does : {R D V M P : Type 0} → Ghosts R → Kinds D V M P → List Text → D → Ports V M P → Done D → Type 0
+Does ram k texts store p done = DoesWords ram k (words_of texts) store p done
+    ⊎ (IsTrue (is_new texts) × Turns call.NoMemory store p.streams done × LeavesRest p)
 
 -- the counts of faults of all devices
-abbrev pub counts : {A O D V M P : Type 0} → source.Ghosts A → sink.Ghosts O → Ghosts D → vault.Ghosts V → source.Ghosts M
-    → sink.Ghosts P → A → O → D → V → M → P → FaultCounts
-counts sources sinks disk vaults mics speakers script out store sounds mic speaker = record {
+abbrev pub counts : {A O D V M P : Type 0} → source.Ghosts A → sink.Ghosts O → Kinds D V M P → A → O → D → V → M → P
+    → FaultCounts
+counts sources sinks k script out store sounds mic speaker = record {
   script = sources.fault_count script;
   out = sinks.fault_count out;
-  store = fault_sum (disk.read_fault_count store) (disk.change_fault_count store);
-  vault = vaults.fault_count sounds;
-  mic = mics.fault_count mic;
-  speaker = speakers.fault_count speaker;
+  store = fault_sum (k.disk.read_fault_count store) (k.disk.change_fault_count store);
+  vault = k.vaults.fault_count sounds;
+  mic = k.mics.fault_count mic;
+  speaker = k.speakers.fault_count speaker;
 }
 
 -- whether one is higher afterwards

@@ -1,5 +1,6 @@
 -- What is told of a session at its end.
-use Rattle.std.specs.Prelude.{◌≡◌, ℕ, if◌then◌else◌, Bool, true, false, List, length, Option, Some, None, Result, Ok, Err}
+use Rattle.std.specs.Prelude.{◌≡◌, ℕ, if◌then◌else◌, Bool, true, false, List, length, Option, Some, None, Result, Ok}
+use Rattle.std.specs.Prelude.{Err}
 use Rattle.pcm_base.specs.declared.refusal.Refusal.{Refusal}
 use Rattle.recorder_work.specs.declared.microphone.MicEnd.{MicEnd}
 use Rattle.recorder_work.specs.declared.microphone.MicEnd.TheVariants as mic

@@ -14,8 +14,8 @@ use Rattle.editor_recovery.specs.Honest.{IsHonest, OpensHonest}
 use Rattle.editor_recovery.specs.Opening.{Opens}
 use Rattle.std.specs.Prelude.{Result}
 
--- What an opening does to a store, whatever it answers: it writes nothing, and each image at any moment of it is one that
--- the store could already leave.
+-- What an opening does to a store, whatever it answers: it writes nothing, and each image at any moment of it is one
+-- that the store could already leave.
 pub record Looks {D : Type 0} (disk : Ghosts D) (old new : D) (answer : Result Found OpenFault) : Type 0 where
   -- on a store that tells its bytes it answers what stands there
   pub opens : IsTrue (disk.tells old) → Opens (disk.reads old) answer

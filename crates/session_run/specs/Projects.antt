@@ -27,7 +27,8 @@ use Rattle.session_run.specs.Refused.{IsDone, IsRefused, call_fault_of}
 use Rattle.session_run.specs.Streams.{Prints, Streams}
 
 -- What making a project does to a store.
-pub record Created {D : Type 0} (disk : Ghosts D) (project : NewProject) (old new : D) (answer : Result (Unit {0}) OpenFault)
+pub record Created {D : Type 0} (disk : Ghosts D) (project : NewProject) (old new : D)
+    (answer : Result (Unit {0}) OpenFault)
     : Type 0 where
   -- at any moment each image, but one that the store could already leave, has no project or keeps the new one
   pub any_moment : IsTrue (disk.tells old) → EachSince disk old new (λ c. disk.may_leave old (disk.clock old) c

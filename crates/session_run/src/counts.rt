@@ -25,8 +25,9 @@ pub fn count_faults<A: Source, O: Sink, S: Store, V: Vault, M: Source, P: Sink>(
     mic: &M,
     speaker: &P,
 ) -> FaultCounts
-    ensures { result ≡ counts A.Source O.Sink S.Store V.Vault M.Source P.Sink script.now out.now store.now vault.now
-        mic.now speaker.now }
+    ensures { result ≡ counts A.Source O.Sink
+        (record { disk = S.Store; vaults = V.Vault; mics = M.Source; speakers = P.Sink })
+        script.now out.now store.now vault.now mic.now speaker.now }
 {
     FaultCounts {
         script: script.faults(),

@@ -11,8 +11,8 @@ use memory_project::run_generated;
 use script_text::{CallFault, write_summary};
 use std::alloc::Global;
 
-/// Runs the script of a number on a fresh project in memory, and prints its sum. The store that was handed in comes back
-/// untouched.
+/// Runs the script of a number on a fresh project in memory, and prints its sum. The store that was handed in comes
+/// back untouched.
 pub fn run_gen<S, O: Sink>(alloc: Global, out: &mut O, store: S, number: u64, lines: u32) -> Done<S>
     requires least { 2 ≤ lines }
     requires most { lines ≤ 4096 }

@@ -147,7 +147,8 @@ pub fn record_commit(recording: Option<Result<u64, Refusal>>) -> Option<u64>
     }
 }
 
-/// The status, by what stopped the script, whether the microphone or the speaker failed, and whether anything was refused.
+/// The status, by what stopped the script, whether the microphone or the speaker failed, and whether anything was
+/// refused.
 pub fn status_of(stop: Stop, fault: bool, refused: bool) -> u8
     ensures { result ≡ status_of stop fault refused }
 {

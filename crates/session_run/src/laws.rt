@@ -6,5 +6,5 @@ use edit_ports::{Sink, Source, Vault};
 
 /// What a stop may leave of a session that ran on the project of an honest disk.
 pub fn runs_survive<S: Store, V: Vault, M: Source, P: Sink>()
-    ensures { RunsSurvive S.Store V.Vault M.Source P.Sink }
+    ensures { RunsSurvive (record { disk = S.Store; vaults = V.Vault; mics = M.Source; speakers = P.Sink }) }
 {}

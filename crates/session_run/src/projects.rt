@@ -47,7 +47,8 @@ pub fn make_project<S: Store, O: Sink>(
 fn list_opened<S: Store, O: Sink>(alloc: Global, out: &mut O, studio: Studio<S>) -> Done<S>
     requires studio { IsStudio S.Store (core_of studio) }
     requires going { (core_of studio).stopped ≡ None }
-    ensures listed { (source : Streams) → Listed S.Store (core_of studio) (from_sink O.Sink source out.old out.new) result
+    ensures listed { (source : Streams)
+        → Listed S.Store (core_of studio) (from_sink O.Sink source out.old out.new) result
         ⊎ IsRefused call.NoMemory (from_sink O.Sink source out.old out.new) result }
     ensures store { result.store ≡ (core_of studio).store }
 {

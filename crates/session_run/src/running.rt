@@ -4,7 +4,6 @@ ghost use Rattle.editor_core.specs.Core.{core_of};
 ghost use Rattle.editor_core.specs.Studios.{IsStudio};
 ghost use Rattle.desk_session.specs.Sounds.{piece_numbers};
 ghost use Rattle.script_text.specs.Last.{last_text};
-ghost use Rattle.session_run.specs.Devices.{devices};
 ghost use Rattle.session_run.specs.Last.{
   WritesEnd,
   mic_failed,
@@ -116,9 +115,18 @@ where
     P: Sink + Send,
     G: Gate + Sync,
     requires { IsStudio S.Store (core_of studio) }
-    ensures { RunsOpened S.Store V.Vault M.Source P.Sink (core_of studio) vault.old vault.new
-        (devices mic.old mic.new speaker.old speaker.new) beside
-        (streams A.Source O.Sink script.old script.new out.old out.new) result }
+    ensures { RunsOpened (record { disk = S.Store; vaults = V.Vault; mics = M.Source; speakers = P.Sink })
+        (core_of studio)
+        (record {
+          vault = vault.old;
+          vault_now = vault.new;
+          mic = mic.old;
+          mic_now = mic.new;
+          speaker = speaker.old;
+          speaker_now = speaker.new;
+          streams = streams A.Source O.Sink script.old script.new out.old out.new;
+        })
+        beside result }
 {
     let first = studio.commit_number();
     match Seated::new(alloc, studio, beside) {
@@ -152,9 +160,17 @@ where
     M: Source + Send,
     P: Sink + Send,
     G: Gate + Sync,
-    ensures { Runs S.Store V.Vault M.Source P.Sink store vault.old vault.new
-        (devices mic.old mic.new speaker.old speaker.new) beside
-        (streams A.Source O.Sink script.old script.new out.old out.new) result }
+    ensures { Runs (record { disk = S.Store; vaults = V.Vault; mics = M.Source; speakers = P.Sink }) store
+        (record {
+          vault = vault.old;
+          vault_now = vault.new;
+          mic = mic.old;
+          mic_now = mic.new;
+          speaker = speaker.old;
+          speaker_now = speaker.new;
+          streams = streams A.Source O.Sink script.old script.new out.old out.new;
+        })
+        beside result }
 {
     match open_store(alloc, store) {
         Ok(studio) => run_opened(

@@ -1,8 +1,8 @@
 // The call of the program.
 ghost use Rattle.std.specs.Prelude.{◌≡◌, if◌then◌else◌, map, string_bytes};
+ghost use Rattle.desk_session.specs.Lent.{Kinds};
 ghost use Rattle.session_run.specs.Call.{Does, EndsAs, any_rose, counts};
 ghost use Rattle.session_run.specs.declared.ending.Done.{Done};
-ghost use Rattle.session_run.specs.Devices.{devices};
 ghost use Rattle.session_run.specs.Streams.{streams};
 
 use super::counts::count_faults;
@@ -43,9 +43,19 @@ where
     M: Source + Send,
     P: Sink + Send,
     G: Gate + Sync,
-    ensures { Does ⟦<RamStore as Store>⟧ S.Store V.Vault M.Source P.Sink (map string_bytes words.now) store vault.old
-        vault.new (devices mic.old mic.new speaker.old speaker.new)
-        (streams A.Source O.Sink script.old script.new out.old out.new) result }
+    ensures { Does ⟦<RamStore as Store>⟧
+        (record { disk = S.Store; vaults = V.Vault; mics = M.Source; speakers = P.Sink })
+        (map string_bytes words.now) store
+        (record {
+          vault = vault.old;
+          vault_now = vault.new;
+          mic = mic.old;
+          mic_now = mic.new;
+          speaker = speaker.old;
+          speaker_now = speaker.new;
+          streams = streams A.Source O.Sink script.old script.new out.old out.new;
+        })
+        result }
 {
     match read_words(alloc, words) {
         Ok(Words::New(project)) => make_project(alloc, out, store, project),
@@ -93,13 +103,21 @@ where
     M: Source + Send,
     P: Sink + Send,
     G: Gate + Sync,
-    ensures does { (done : Done S) × Does ⟦<RamStore as Store>⟧ S.Store V.Vault M.Source P.Sink
-        (map string_bytes words.now) store vault.old vault.new (devices mic result.mic speaker result.speaker)
-        (streams A.Source O.Sink script.old script.new out.old out.new) done
+    ensures does { let k : Kinds S V M P = record { disk = S.Store; vaults = V.Vault; mics = M.Source; speakers = P.Sink } in
+        (done : Done S) × Does ⟦<RamStore as Store>⟧ k (map string_bytes words.now) store
+        (record {
+          vault = vault.old;
+          vault_now = vault.new;
+          mic = mic;
+          mic_now = result.mic;
+          speaker = speaker;
+          speaker_now = result.speaker;
+          streams = streams A.Source O.Sink script.old script.new out.old out.new;
+        })
+        done
         × EndsAs (any_rose
-        (counts A.Source O.Sink S.Store V.Vault M.Source P.Sink script.old out.old store vault.old mic speaker)
-        (counts A.Source O.Sink S.Store V.Vault M.Source P.Sink script.new out.new result.store vault.new result.mic
-        result.speaker))
+        (counts A.Source O.Sink k script.old out.old store vault.old mic speaker)
+        (counts A.Source O.Sink k script.new out.new result.store vault.new result.mic result.speaker))
         done result }
 {
     let before = count_faults(script, out, &store, vault, &mic, &speaker);

@@ -1,5 +1,6 @@
 // A mix is written to a vault.
-ghost use Rattle.std.specs.Prelude.{◌≡◌, ◌≤◌, ◌<◌, ◌+◌, ◌*◌, ◌^◌, ◌++◌, ℕ, length, Some, IsTrue, OnOk, OnErr, IfOk, IfErr, Err};
+ghost use Rattle.std.specs.Prelude.{◌≡◌, ◌≤◌, ◌<◌, ◌+◌, ◌*◌, ◌^◌, ◌++◌, ℕ, length, Some, IsTrue, OnOk, OnErr, IfOk};
+ghost use Rattle.std.specs.Prelude.{IfErr, Err};
 ghost use Rattle.disk_model.specs.Frames.{Kept};
 ghost use Rattle.pcm_base.specs.Causes.{HasCause};
 ghost use Rattle.pcm_base.specs.Mix.{mix_of};

@@ -1,5 +1,6 @@
 // Frames of a mix, appended to a sound a stretch at a time.
-ghost use Rattle.std.specs.Prelude.{◌≡◌, ◌≤◌, ◌<◌, ◌+◌, ◌-◌, ◌*◌, ◌^◌, ◌++◌, ℕ, length, take, drop, min, Some, IsTrue, OnOk, OnErr, IfOk, IfErr};
+ghost use Rattle.std.specs.Prelude.{◌≡◌, ◌≤◌, ◌<◌, ◌+◌, ◌-◌, ◌*◌, ◌^◌, ◌++◌, ℕ, length, take, drop, min, Some, IsTrue};
+ghost use Rattle.std.specs.Prelude.{OnOk, OnErr, IfOk, IfErr};
 ghost use Rattle.disk_model.specs.Frames.{Kept};
 ghost use Rattle.pcm_base.specs.Pieces.{Sources};
 ghost use Rattle.pcm_base.specs.Causes.{HasCause};
@@ -59,7 +60,8 @@ fn append_stretch<'a, S: Store, V: Vault>(
     requires cells { 64 ≤ length cells.old }
     requires bytes { 4 * length frames.old ≤ length bytes.old }
     requires few { reader.old.at + length frames.old < 2 ^ 64 }
-    ensures count { IfOk result (λ n. n ≡ min (length frames.old) (mix_length_of reader.old.point.now - reader.old.at)) }
+    ensures count { IfOk result
+        (λ n. n ≡ min (length frames.old) (mix_length_of reader.old.point.now - reader.old.at)) }
     ensures place { IfOk result (λ n. reader.new.at ≡ reader.old.at + n) }
     ensures reader { IsReader reader.new }
     ensures point { reader.new.point.now ≡ reader.old.point.now }

@@ -132,8 +132,8 @@ fn each_read_fails(rt: HostRuntime) -> Result<(), Fail> {
     Ok(())
 }
 
-// From place 2 on block 16 stands in both stretches of frames. Its header is read once, and samples of it twice; block 17
-// takes two calls.
+// From place 2 on block 16 stands in both stretches of frames. Its header is read once, and samples of it twice; block
+// 17 takes two calls.
 #[test]
 fn one_header_for_two_stretches(rt: HostRuntime) -> Result<(), Fail> {
     let point = project(rt.alloc(), 2)?;

@@ -6,6 +6,7 @@ ghost use Rattle.script_session.specs.Kept.{Holds};
 ghost use Rattle.script_session.specs.Progress.{Ran, IsCauseOf};
 ghost use Rattle.sound_session.specs.IfGiven.{IfGiven};
 
+use super::lent::take_back;
 use super::playback::Playback;
 use super::recording::Recording;
 use super::task::{Task, run_task};
@@ -75,11 +76,6 @@ impl<'a, 'b, 'c, E: Editor, A: Source, O: Sink> Task for Lines<'a, 'b, 'c, E, A,
     }
 }
 
-// This use of a returned reference ties it to the one that was lent.
-fn take_back<T>(x: &mut T)
-    ensures { x.new ≡ x.old }
-{}
-
 // The script in one thread, and each of the others in two.
 fn run_threads<
     R: Threads + Wait + Sync,
@@ -110,12 +106,8 @@ fn run_threads<
     ensures cause { IsCauseOf result.0 (A.fault_count script.old) (A.fault_count script.new)
         (O.fault_count out.old) (O.fault_count out.new) }
     ensures follows { (first : E) → E.follows first session.old.editor → E.follows first session.new.editor }
-    ensures records { IfGiven (λ r done. Records M.left M.fault_count M.follows T.pieces T.refused T.follows r.mic
-        r.taker done)
-        recording result.1 }
-    ensures plays { IfGiven (λ p done. Plays V.shows V.refused V.follows P.written P.fault_count P.follows p.giver
-        p.speaker done)
-        playback result.2 }
+    ensures records { IfGiven (λ r done. Records M.Source T.PieceTaker r.mic r.taker done) recording result.1 }
+    ensures plays { IfGiven (λ p done. Plays V.FrameGiver P.Sink p.giver p.speaker done) playback result.2 }
 {
     let task = Lines {
         session,
@@ -163,12 +155,8 @@ pub fn run_beside<
     ensures cause { IsCauseOf result.0 (A.fault_count script.old) (A.fault_count script.new)
         (O.fault_count out.old) (O.fault_count out.new) }
     ensures follows { (first : E) → E.follows first session.old.editor → E.follows first session.new.editor }
-    ensures records { IfGiven (λ r done. Records M.left M.fault_count M.follows T.pieces T.refused T.follows r.mic
-        r.taker done)
-        recording result.1 }
-    ensures plays { IfGiven (λ p done. Plays V.shows V.refused V.follows P.written P.fault_count P.follows p.giver
-        p.speaker done)
-        playback result.2 }
+    ensures records { IfGiven (λ r done. Records M.Source T.PieceTaker r.mic r.taker done) recording result.1 }
+    ensures plays { IfGiven (λ p done. Plays V.FrameGiver P.Sink p.giver p.speaker done) playback result.2 }
 {
     match (recording, playback) {
         (Err(idle), Err(other)) => {

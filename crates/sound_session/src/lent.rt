@@ -1,4 +1,6 @@
 // A source and a sink that were lent.
+ghost use Rattle.std.specs.Prelude.{◌≡◌};
+
 use edit_ports::{Sink, Source};
 use pcm_base::Failed;
 
@@ -9,7 +11,7 @@ pub struct LentSource<'a, M> {
 }
 
 impl<'a, M: Source> Source for LentSource<'a, M> {
-    ghost use Rattle.std.specs.Prelude.{◌≡◌, false};
+    ghost use Rattle.std.specs.Prelude.{false};
 
     ghost left = { λ s. M.left s.source.now };
 
@@ -35,7 +37,7 @@ pub struct LentSink<'a, P> {
 }
 
 impl<'a, P: Sink> Sink for LentSink<'a, P> {
-    ghost use Rattle.std.specs.Prelude.{◌≡◌, false};
+    ghost use Rattle.std.specs.Prelude.{false};
 
     ghost written = { λ s. P.written s.sink.now };
 
@@ -53,3 +55,9 @@ impl<'a, P: Sink> Sink for LentSink<'a, P> {
         self.sink.faults()
     }
 }
+
+/// Takes a reference back that was lent to a thread and handed back: this use ties it to the one that was lent, so that
+/// what it leads to is what stands behind the lender's.
+pub fn take_back<T>(lent: &mut T)
+    ensures { lent.new ≡ lent.old }
+{}

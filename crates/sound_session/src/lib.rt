@@ -13,7 +13,7 @@ mod sounds;
 mod task;
 
 pub use beside::run_beside;
-pub use lent::{LentSink, LentSource};
+pub use lent::{LentSink, LentSource, take_back};
 pub use playback::{PlayRing, Playback};
 pub use recording::{RecordRing, Recording};
 pub use sounds::run_sounds;

@@ -61,7 +61,7 @@ impl<V: FrameGiver + Send + Drop, P: Sink + Send + Drop> Playback<V, P> {
         rt: &R,
         gate: &G,
     ) -> Played<V, P>
-        ensures { Plays V.shows V.refused V.follows P.written P.fault_count P.follows self.giver self.speaker result }
+        ensures { Plays V.FrameGiver P.Sink self.giver self.speaker result }
     {
         let Playback {
             ring,

@@ -58,7 +58,7 @@ impl<M: Source + Send + Drop, T: PieceTaker + Send + Drop> Recording<M, T> {
         alloc: Global,
         gate: &G,
     ) -> Recorded<M, T>
-        ensures { Records M.left M.fault_count M.follows T.pieces T.refused T.follows self.mic self.taker result }
+        ensures { Records M.Source T.PieceTaker self.mic self.taker result }
     {
         let Recording { ring, mic, taker } = self;
         let RecordRing { ends } = ring;

@@ -26,10 +26,8 @@ fn run_both<
     playback: Playback<V, P>,
     gate: &G,
 ) -> (Recorded<M, T>, Played<V, P>)
-    ensures records { Records M.left M.fault_count M.follows T.pieces T.refused T.follows recording.mic
-        recording.taker result.0 }
-    ensures plays { Plays V.shows V.refused V.follows P.written P.fault_count P.follows playback.giver
-        playback.speaker result.1 }
+    ensures records { Records M.Source T.PieceTaker recording.mic recording.taker result.0 }
+    ensures plays { Plays V.FrameGiver P.Sink playback.giver playback.speaker result.1 }
 {
     let Recording { ring, mic, taker } = recording;
     let RecordRing { ends: record_ends } = ring;
@@ -70,12 +68,8 @@ pub fn run_sounds<
     playback: Result<Playback<V, P>, J>,
     gate: &G,
 ) -> (Result<Recorded<M, T>, I>, Result<Played<V, P>, J>)
-    ensures records { IfGiven (λ r done. Records M.left M.fault_count M.follows T.pieces T.refused T.follows r.mic
-        r.taker done)
-        recording result.0 }
-    ensures plays { IfGiven (λ p done. Plays V.shows V.refused V.follows P.written P.fault_count P.follows p.giver
-        p.speaker done)
-        playback result.1 }
+    ensures records { IfGiven (λ r done. Records M.Source T.PieceTaker r.mic r.taker done) recording result.0 }
+    ensures plays { IfGiven (λ p done. Plays V.FrameGiver P.Sink p.giver p.speaker done) playback result.1 }
 {
     match (recording, playback) {
         (Err(idle), Err(other)) => (Err(idle), Err(other)),

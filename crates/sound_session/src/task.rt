@@ -49,12 +49,8 @@ pub fn run_task<
 ) -> (B, (Result<Recorded<M, T>, I>, Result<Played<V, P>, J>))
     requires { S.can_run task }
     ensures task { S.run_gives task result.0 }
-    ensures records { IfGiven (λ r done. Records M.left M.fault_count M.follows T.pieces T.refused T.follows r.mic
-        r.taker done)
-        recording result.1.0 }
-    ensures plays { IfGiven (λ p done. Plays V.shows V.refused V.follows P.written P.fault_count P.follows p.giver
-        p.speaker done)
-        playback result.1.1 }
+    ensures records { IfGiven (λ r done. Records M.Source T.PieceTaker r.mic r.taker done) recording result.1.0 }
+    ensures plays { IfGiven (λ p done. Plays V.FrameGiver P.Sink p.giver p.speaker done) playback result.1.1 }
 {
     thread::join(
         rt,
@@ -63,12 +59,9 @@ pub fn run_task<
             ensures { S.run_gives task result }
         { task.run(rt, alloc, gate) },
         move || -> (Result<Recorded<M, T>, I>, Result<Played<V, P>, J>)
-            ensures records { IfGiven (λ r done. Records M.left M.fault_count M.follows T.pieces T.refused T.follows
-                r.mic r.taker done)
+            ensures records { IfGiven (λ r done. Records M.Source T.PieceTaker r.mic r.taker done)
                 recording result.0 }
-            ensures plays { IfGiven (λ p done. Plays V.shows V.refused V.follows P.written P.fault_count P.follows
-                p.giver p.speaker done)
-                playback result.1 }
+            ensures plays { IfGiven (λ p done. Plays V.FrameGiver P.Sink p.giver p.speaker done) playback result.1 }
         { run_sounds(rt, alloc, recording, playback, gate) },
     )
 }

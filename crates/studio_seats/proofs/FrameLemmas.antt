@@ -1,5 +1,6 @@
 -- The frames of a pin, turn by turn.
-use Rattle.std.proofs.Common.{◌≡◌, ⊎_elim, ℕ, Bool, true, false, List, [], ◌∷◌, ◌++◌, length, take, drop, Option, Some, if◌then◌else◌, refl, sym, ◌∙◌, ap, subst, append_assoc, eq-eqb, rules, Result, Ok, Err}
+use Rattle.std.proofs.Common.{◌≡◌, ⊎_elim, ℕ, Bool, true, false, List, [], ◌∷◌, ◌++◌, length, take, drop, Option, Some}
+use Rattle.std.proofs.Common.{if◌then◌else◌, refl, sym, ◌∙◌, ap, subst, append_assoc, eq-eqb, rules, Result, Ok, Err}
 use Rattle.std.proofs.lemmas.List.{append-nil}
 use Rattle.std.specs.Prelude.{IfOk, IsTrue}
 use Rattle.pcm_base.specs.declared.answer.Reply.{Reply}
@@ -37,44 +38,56 @@ made_if false x y f h = f h
 -- a pin that was made in a run was made in a longer one
 pub made_on : (pin : ℕ) (es more : List Entry) → IsTrue (is_made pin es) → IsTrue (is_made pin (es ++ more))
 made_on pin [] more h = absurd (none_made h)
-made_on pin (e ∷ es) more h = made_if (makes_pin e.call e.reply pin) (is_made pin es) (is_made pin (es ++ more)) (made_on pin es more) h
+made_on pin (e ∷ es) more h =
+    made_if (makes_pin e.call e.reply pin) (is_made pin es) (is_made pin (es ++ more)) (made_on pin es more) h
 
-some_if : (b x : Bool) (all : List Frame) (o : Option (List Frame)) → (IsTrue x → (frames : List Frame) × (o ≡ Some frames)) → IsTrue (if b then true else x)
+some_if : (b x : Bool) (all : List Frame) (o : Option (List Frame))
+    → (IsTrue x → (frames : List Frame) × (o ≡ Some frames)) → IsTrue (if b then true else x)
     → (frames : List Frame) × ((if b then Some all else o) ≡ Some frames)
 some_if true x all o f h = (all, refl)
 some_if false x all o f h = f h
 
 -- a pin that was made shows frames
-pub frames_made : (rate : ℕ) (s : State) (pin : ℕ) (es : List Entry) → IsTrue (is_made pin es) → (frames : List Frame) × (pin_frames rate s es pin ≡ Some frames)
+pub frames_made : (rate : ℕ) (s : State) (pin : ℕ) (es : List Entry) → IsTrue (is_made pin es)
+    → (frames : List Frame) × (pin_frames rate s es pin ≡ Some frames)
 frames_made rate s pin [] h = absurd (none_made h)
 frames_made rate s pin (e ∷ es) h =
-    some_if (makes_pin e.call e.reply pin) (is_made pin es) (mix_of (current s)) (pin_frames rate (after_entry rate s e) es pin) (frames_made rate (after_entry rate s e) pin es) h
+    some_if (makes_pin e.call e.reply pin) (is_made pin es) (mix_of (current s))
+    (pin_frames rate (after_entry rate s e) es pin) (frames_made rate (after_entry rate s e) pin es) h
 
 -- the last entry made the pin
-made_last : (pin : ℕ) (es : List Entry) (e : Entry) → makes_pin e.call e.reply pin ≡ true → IsTrue (is_made pin (es ++ e ∷ []))
+made_last : (pin : ℕ) (es : List Entry) (e : Entry) → makes_pin e.call e.reply pin ≡ true
+    → IsTrue (is_made pin (es ++ e ∷ []))
 made_last pin [] e makes = subst (λ (b : Bool). IsTrue (if b then true else false)) (sym makes) refl
-made_last pin (x ∷ xs) e makes = either_way (makes_pin x.call x.reply pin) (is_made pin (xs ++ e ∷ [])) (made_last pin xs e makes)
+made_last pin (x ∷ xs) e makes =
+    either_way (makes_pin x.call x.reply pin) (is_made pin (xs ++ e ∷ [])) (made_last pin xs e makes)
   where
     either_way : (b y : Bool) → IsTrue y → IsTrue (if b then true else y)
     either_way true y h = refl
     either_way false y h = h
 
 -- a seat to which a pin was answered has seen how it was made
-pub pinned_made : {D V : Type 0} (disk : Ghosts D) (vaults : vault.Ghosts V) (start : Core D) (v w : View (Held D V) Deed) (said : Said ℕ)
-    → Says disk vaults start v Pin (told_by Pinned said.what) silent said w → IfOk said.what (λ pin. IsTrue (is_made pin (entries_of w.seen)))
+pub pinned_made : {D V : Type 0} (disk : Ghosts D) (vaults : vault.Ghosts V) (start : Core D)
+    (v w : View (Held D V) Deed) (said : Said ℕ)
+    → Says disk vaults start v Pin (told_by Pinned said.what) silent said w
+    → IfOk said.what (λ pin. IsTrue (is_made pin (entries_of w.seen)))
 pinned_made {D} {V} disk vaults start v w said h = ⊎_elim
     (λ (x : Turned disk vaults start v Pin (told_by Pinned said.what) silent said.at w). in_turn said.what said.at x)
-    (λ (x : Spends v said w). subst (λ (r : Result ℕ Refusal). IfOk r (λ pin. IsTrue (is_made pin (entries_of w.seen)))) (sym x.what) tt)
+    (λ (x : Spends v said w). subst (λ (r : Result ℕ Refusal). IfOk r (λ pin. IsTrue (is_made pin (entries_of w.seen))))
+    (sym x.what) tt)
     h
   where
-    in_turn : (what : Result ℕ Refusal) (at : ℕ) → Turned disk vaults start v Pin (told_by Pinned what) silent at w → IfOk what (λ pin. IsTrue (is_made pin (entries_of w.seen)))
+    in_turn : (what : Result ℕ Refusal) (at : ℕ) → Turned disk vaults start v Pin (told_by Pinned what) silent at w
+        → IfOk what (λ pin. IsTrue (is_made pin (entries_of w.seen)))
     in_turn (Ok pin) at x =
         let d : Deed = deed v.number Pin (Ok (Pinned pin)) silent in
-        subst (λ (es : List Entry). IsTrue (is_made pin es)) (sym (ap (λ (z : View (Held D V) Deed). entries_of z.seen) x.view ∙ entries_append (v.seen ++ x.between) (d ∷ [])))
+        subst (λ (es : List Entry). IsTrue (is_made pin es)) (sym (ap
+        (λ (z : View (Held D V) Deed). entries_of z.seen) x.view ∙ entries_append (v.seen ++ x.between) (d ∷ [])))
         (made_last pin (entries_of (v.seen ++ x.between)) (entry_of d) (eq-eqb pin pin refl))
     in_turn (Err why) at x = tt
 
-module _ {D V : Type 0} (disk : Ghosts D) (vaults : vault.Ghosts V) (start : Core D) (pin from : ℕ) (old new : List Frame) (v w : View (Held D V) Deed) (said : Said ℕ) where
+module _ {D V : Type 0} (disk : Ghosts D) (vaults : vault.Ghosts V) (start : Core D) (pin from : ℕ)
+    (old new : List Frame) (v w : View (Held D V) Deed) (said : Said ℕ) where
   abbrev t : model.Studio
   t = studio_of disk start
 
@@ -92,40 +105,55 @@ module _ {D V : Type 0} (disk : Ghosts D) (vaults : vault.Ghosts V) (start : Cor
       (λ (x : Reads said.what said.at).
       let d : Deed = deed v.number (ReadPin pin from (length old)) (what_of said.what) silent in (
         entries_of (x.between ++ d ∷ []),
-        ap (λ (z : View (Held D V) Deed). entries_of z.seen) x.view ∙ ap entries_of (append_assoc v.seen x.between (d ∷ [])) ∙ entries_append v.seen (x.between ++ d ∷ []),
+        ap (λ (z : View (Held D V) Deed). entries_of z.seen) x.view
+            ∙ ap entries_of (append_assoc v.seen x.between (d ∷ [])) ∙ entries_append v.seen (x.between ++ d ∷ []),
       ))
-      (λ (x : Spends v said w). ([], ap (λ (z : View (Held D V) Deed). entries_of z.seen) x.view ∙ sym (append-nil (entries_of v.seen))))
+      (λ (x : Spends v said w).
+      ([], ap (λ (z : View (Held D V) Deed). entries_of z.seen) x.view ∙ sym (append-nil (entries_of v.seen))))
       h
 
   -- the seat has still seen how the pin was made
   pub still_made : SaysRead → IsTrue (is_made pin (entries_of v.seen)) → IsTrue (is_made pin (entries_of w.seen))
-  still_made h made = let more = seen_on h in subst (λ (es : List Entry). IsTrue (is_made pin es)) (sym more.1) (made_on pin (entries_of v.seen) more.0 made)
+  still_made h made =
+      let more = seen_on h in
+      subst (λ (es : List Entry). IsTrue (is_made pin es)) (sym more.1) (made_on pin (entries_of v.seen) more.0 made)
 
   -- and it shows the same frames
-  pub same_frames : SaysRead → (all : List Frame) → IsMixOf disk vaults start v.seen pin all → IsMixOf disk vaults start w.seen pin all
+  pub same_frames : SaysRead → (all : List Frame) → IsMixOf disk vaults start v.seen pin all
+      → IsMixOf disk vaults start w.seen pin all
   same_frames h all shows = let more = seen_on h in record {
     told = shows.told;
     held = shows.held;
-    frames = ap (λ (es : List Entry). pin_frames t.rate t.state es pin) more.1 ∙ frames_on t.rate t.state (entries_of v.seen) more.0 pin all shows.frames;
+    frames = ap (λ (es : List Entry). pin_frames t.rate t.state es pin) more.1
+        ∙ frames_on t.rate t.state (entries_of v.seen) more.0 pin all shows.frames;
   }
 
-  pub back_frames : SaysRead → IsTrue (is_made pin (entries_of v.seen)) → (all : List Frame) → IsMixOf disk vaults start w.seen pin all → IsMixOf disk vaults start v.seen pin all
-  back_frames h made all shows = let more = seen_on h in let first = frames_made t.rate t.state pin (entries_of v.seen) made in record {
-    told = shows.told;
-    held = shows.held;
-    frames = first.1 ∙ (sym (ap (λ (es : List Entry). pin_frames t.rate t.state es pin) more.1 ∙ frames_on t.rate t.state (entries_of v.seen) more.0 pin first.0 first.1) ∙ shows.frames);
-  }
+  pub back_frames : SaysRead → IsTrue (is_made pin (entries_of v.seen)) → (all : List Frame)
+      → IsMixOf disk vaults start w.seen pin all → IsMixOf disk vaults start v.seen pin all
+  back_frames h made all shows =
+      let more = seen_on h in
+      let first = frames_made t.rate t.state pin (entries_of v.seen) made in
+      record {
+        told = shows.told;
+        held = shows.held;
+        frames = first.1 ∙ (sym (ap (λ (es : List Entry). pin_frames t.rate t.state es pin) more.1
+            ∙ frames_on t.rate t.state (entries_of v.seen) more.0 pin first.0 first.1) ∙ shows.frames);
+      }
 
   abbrev Given : ℕ → Type 0
-  Given count = (all : List Frame) → IsMixOf disk vaults start v.seen pin all → take count new ≡ take (length old) (drop from all)
+  Given count = (all : List Frame) → IsMixOf disk vaults start v.seen pin all
+      → take count new ≡ take (length old) (drop from all)
 
   gives_at : (what : Result ℕ Refusal) (at : ℕ) → Reads what at → IfOk what Given
   gives_at (Ok count) at h = λ all shows.
       let step = (h.does.took (λ some. shows.told)).step (h.stood.held shows.told shows.held) in
       let frames : pin_frames t.rate t.state (entries_of (v.seen ++ h.between)) pin ≡ Some all =
-      ap (λ (es : List Entry). pin_frames t.rate t.state es pin) (entries_append v.seen h.between) ∙ frames_on t.rate t.state (entries_of v.seen) (entries_of h.between) pin all shows.frames in
-      read_frames (studio_of disk h.before) (studio_of disk h.after) pin from (length old) silent (take count new) all step
-      (run_shows pin t (studio_of disk h.before) (entries_of (v.seen ++ h.between)) all (h.stood.run shows.told shows.held) frames)
+      ap (λ (es : List Entry). pin_frames t.rate t.state es pin) (entries_append v.seen h.between)
+      ∙ frames_on t.rate t.state (entries_of v.seen) (entries_of h.between) pin all shows.frames in
+      read_frames (studio_of disk h.before) (studio_of disk h.after) pin from (length old) silent
+      (take count new) all step
+      (run_shows pin t (studio_of disk h.before) (entries_of (v.seen ++ h.between)) all
+      (h.stood.run shows.told shows.held) frames)
   gives_at (Err why) at h = tt
 
   -- which are those that it gives

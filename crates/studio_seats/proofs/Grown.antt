@@ -1,5 +1,6 @@
 -- A list of deeds that is one longer.
-use Rattle.std.proofs.Common.{◌≡◌, ◌⊎◌, inl, inr, ⊎_elim, refl, sym, ap, ◌∙◌, subst, ℕ, ◌-◌, IsSome, Option, Some, None, List, [], ◌∷◌, ◌++◌, append_assoc, Result, Ok, Err}
+use Rattle.std.proofs.Common.{◌≡◌, ◌⊎◌, inl, inr, ⊎_elim, refl, sym, ap, ◌∙◌, subst, ℕ, ◌-◌, IsSome, Option, Some, None}
+use Rattle.std.proofs.Common.{List, [], ◌∷◌, ◌++◌, append_assoc, Result, Ok, Err}
 use Rattle.std.specs.Prelude.{IfErr}
 use Rattle.pcm_base.specs.declared.answer.Reply.{Reply}
 use Rattle.pcm_base.specs.declared.command.Call.{Call}
@@ -43,15 +44,18 @@ number_append n (d ∷ ds) es = number_append (raised (is_commit d) n) ds es
 
 -- ---- one entry more
 
-run_more : (t s u : model.Studio) (es : List Entry) (e : Entry) → Run t es s → Step s e.call e.sound e.reply u → Run t (es ++ e ∷ []) u
+run_more : (t s u : model.Studio) (es : List Entry) (e : Entry) → Run t es s → Step s e.call e.sound e.reply u
+    → Run t (es ++ e ∷ []) u
 run_more t s u [] e run step = (u, subst (λ (z : model.Studio). Step z e.call e.sound e.reply u) run step, refl)
 run_more t s u (x ∷ xs) e run step = (run.0, run.1, run_more run.0 s u xs e run.2 step)
 
-next_more : (u : model.Studio) (es : List Entry) (e : Entry) (c : Files) → NextInFlight u es c → NextInFlight u (es ++ e ∷ []) c
+next_more : (u : model.Studio) (es : List Entry) (e : Entry) (c : Files) → NextInFlight u es c
+    → NextInFlight u (es ++ e ∷ []) c
 next_more u [] e c h = absurd h
 next_more u (x ∷ xs) e c h = h
 
-prefix_more : (t : model.Studio) (es : List Entry) (e : Entry) (c : Files) → KeepsPrefix t es c → KeepsPrefix t (es ++ e ∷ []) c
+prefix_more : (t : model.Studio) (es : List Entry) (e : Entry) (c : Files) → KeepsPrefix t es c
+    → KeepsPrefix t (es ++ e ∷ []) c
 prefix_more t es e c h = record {
   front = h.front;
   back = h.back ++ e ∷ [];
@@ -61,7 +65,8 @@ prefix_more t es e c h = record {
   keeps = ⊎_elim (λ kept. inl kept) (λ flies. inr (next_more h.reached h.back e c flies)) h.keeps;
 }
 
-flight_more : (t : model.Studio) (es : List Entry) (e : Entry) (c : Files) → StopsInFlight t es c → StopsInFlight t (es ++ e ∷ []) c
+flight_more : (t : model.Studio) (es : List Entry) (e : Entry) (c : Files) → StopsInFlight t es c
+    → StopsInFlight t (es ++ e ∷ []) c
 flight_more t es e c h = record {
   front = h.front;
   last = h.last;
@@ -79,20 +84,25 @@ flight_more t es e c h = record {
 -- ---- a call makes the list longer
 
 -- a call that names no sound
-pub does_silent : {D : Type 0} (disk : Ghosts D) (told : Type 0) (old : Core D) (call : Call) (what : Result Reply Refusal) (removed : ℕ) (new : Core D)
+pub does_silent : {D : Type 0} (disk : Ghosts D) (told : Type 0) (old : Core D) (call : Call)
+    (what : Result Reply Refusal) (removed : ℕ) (new : Core D)
     → Took disk old call silent what removed new → Does disk told old call what silent new
-does_silent disk told old call what removed new took = record { removed = removed; took = λ may. took; lasts = lasts_took disk old call what removed new took }
+does_silent disk told old call what removed new took =
+    record { removed = removed; took = λ may. took; lasts = lasts_took disk old call what removed new took }
 
 -- where the disk held the studio, no call tells a damaged file
-unharmed : {D : Type 0} (disk : Ghosts D) (old new : Core D) (call : Call) (what : Result Reply Refusal) → IsHeld disk old
+unharmed : {D : Type 0} (disk : Ghosts D) (old new : Core D) (call : Call) (what : Result Reply Refusal)
+    → IsHeld disk old
     → IfErr what (Left disk old (MayRemove call old.counts) new) → IfErr what IsUnharmed
 unharmed disk old new call (Ok r) held left = tt
 unharmed disk old new call (Err (refusal.Damaged file at want have)) held left =
     absurd (held_undamaged disk old new (MayRemove call old.counts) (refusal.Damaged file at want have) held left)
 unharmed disk old new call (Err why) held left = tt
 
-module _ {D : Type 0} (disk : Ghosts D) (told : Type 0) (start old new : Core D) (deeds : List Deed) (was : StandsFor disk told start old deeds)
-    (actor : ℕ) (call : Call) (what : Result Reply Refusal) (sound : SoundMove) (does : Does disk told old call what sound new) where
+module _ {D : Type 0} (disk : Ghosts D) (told : Type 0) (start old new : Core D) (deeds : List Deed)
+    (was : StandsFor disk told start old deeds)
+    (actor : ℕ) (call : Call) (what : Result Reply Refusal) (sound : SoundMove)
+    (does : Does disk told old call what sound new) where
   abbrev t : model.Studio
   t = studio_of disk start
 
@@ -106,12 +116,14 @@ module _ {D : Type 0} (disk : Ghosts D) (told : Type 0) (start old new : Core D)
   took tell = does.took (λ some. tell)
 
   step : told → IsHeld disk start → Step (studio_of disk old) call sound (entry_of d).reply (studio_of disk new)
-  step tell held = step_of (studio_of disk old) (studio_of disk new) call sound what ((took tell).step (was.held tell held))
+  step tell held =
+      step_of (studio_of disk old) (studio_of disk new) call sound what ((took tell).step (was.held tell held))
 
   -- ---- at any moment
 
   first : told → start.stopped ≡ None → IsHeld disk start → EachSince disk start.store old.store (KeepsPrefix t all)
-  first tell going held c since = prefix_more t (entries_of deeds) (entry_of d) c (was.any_moment tell going held c since)
+  first tell going held c since =
+      prefix_more t (entries_of deeds) (entry_of d) c (was.any_moment tell going held c since)
 
   -- while the call is under way
   second : told → old.stopped ≡ None → IsHeld disk start → EachSince disk old.store new.store (KeepsPrefix t all)
@@ -125,12 +137,15 @@ module _ {D : Type 0} (disk : Ghosts D) (told : Type 0) (start old new : Core D)
   }
 
   -- a studio that had stopped asks nothing more of the disk
-  stays : (o : Option ℕ) → old.stopped ≡ o → told → start.stopped ≡ None → IsHeld disk start → EachSince disk start.store new.store (KeepsPrefix t all)
+  stays : (o : Option ℕ) → old.stopped ≡ o → told → start.stopped ≡ None → IsHeld disk start
+      → EachSince disk start.store new.store (KeepsPrefix t all)
   stays None still tell going held =
-      each_on (KeepsPrefix t all) (disk.clock start.store) (took tell).changed.images was.others.images.later (first tell going held) (second tell still held)
+      each_on (KeepsPrefix t all) (disk.clock start.store) (took tell).changed.images was.others.images.later
+      (first tell going held) (second tell still held)
   stays (Some faults) stopped tell going held =
       let same = does.lasts.rests (subst IsSome (sym stopped) refl) in
-      subst (λ (z : D). EachSince disk start.store z (KeepsPrefix t all)) (sym (ap (λ (z : Core D). z.store) same)) (first tell going held)
+      subst (λ (z : D). EachSince disk start.store z (KeepsPrefix t all)) (sym (ap (λ (z : Core D). z.store) same))
+      (first tell going held)
 
   -- ---- from now on, where it has stopped
 
@@ -142,7 +157,8 @@ module _ {D : Type 0} (disk : Ghosts D) (told : Type 0) (start old new : Core D)
   stops tell still some held c now =
       let images = (took tell).changed.images in
       let since = images.fewer (disk.clock old.store) (disk.clock new.store) c images.later (upto_refl _) now in
-      let same = stopped_shown (studio_of disk old) (studio_of disk new) call sound what ((took tell).step (was.held tell held)) still some in
+      let same = stopped_shown (studio_of disk old) (studio_of disk new) call sound what
+      ((took tell).step (was.held tell held)) still some in
       ⊎_elim
       (λ kept. inl (subst (λ (z : _). Keeps c z) (sym same) kept))
       (λ flight. inr record {
@@ -161,15 +177,19 @@ module _ {D : Type 0} (disk : Ghosts D) (told : Type 0) (start old new : Core D)
       ((took tell).any_moment still (was.held tell held) c since)
 
   -- an earlier one did
-  stopped_still : told → start.stopped ≡ None → IsSome old.stopped → IsHeld disk start → EachNow disk old.store (Ends old)
+  stopped_still : told → start.stopped ≡ None → IsSome old.stopped → IsHeld disk start
+      → EachNow disk old.store (Ends old)
   stopped_still tell going some held c now =
-      ⊎_elim (λ kept. inl kept) (λ flight. inr (flight_more t (entries_of deeds) (entry_of d) c flight)) (was.stopped tell going some held c now)
+      ⊎_elim (λ kept. inl kept) (λ flight. inr (flight_more t (entries_of deeds) (entry_of d) c flight))
+      (was.stopped tell going some held c now)
 
-  ends : (o : Option ℕ) → old.stopped ≡ o → told → start.stopped ≡ None → IsSome new.stopped → IsHeld disk start → EachNow disk new.store (Ends new)
+  ends : (o : Option ℕ) → old.stopped ≡ o → told → start.stopped ≡ None → IsSome new.stopped → IsHeld disk start
+      → EachNow disk new.store (Ends new)
   ends None still tell going some held = stops tell still some held
   ends (Some faults) stopped tell going some held =
       let some_old = subst IsSome (sym stopped) refl in
-      subst (λ (z : Core D). EachNow disk z.store (Ends z)) (sym (does.lasts.rests some_old)) (stopped_still tell going some_old held)
+      subst (λ (z : Core D). EachNow disk z.store (Ends z)) (sym (does.lasts.rests some_old))
+      (stopped_still tell going some_old held)
 
   more : entries_of (deeds ++ d ∷ []) ≡ all
   more = entries_append deeds (d ∷ [])
@@ -179,22 +199,28 @@ module _ {D : Type 0} (disk : Ghosts D) (told : Type 0) (start old new : Core D)
   pub extends : StandsFor disk told start new (deeds ++ d ∷ [])
   extends = record {
     studio = does.lasts.studio;
-    number = does.lasts.number ∙ number_raised what call old.commit_number ∙ ap (raised (is_commit d)) was.number ∙ sym (number_append start.commit_number deeds (d ∷ []));
+    number = does.lasts.number ∙ number_raised what call old.commit_number ∙ ap (raised (is_commit d)) was.number
+        ∙ sym (number_append start.commit_number deeds (d ∷ []));
     held = λ tell held. (took tell).held (was.held tell held);
     run = λ tell held. subst (λ (es : List Entry). Run t es (studio_of disk new)) (sym more)
-        (run_more t (studio_of disk old) (studio_of disk new) (entries_of deeds) (entry_of d) (was.run tell held) (step tell held));
+        (run_more t (studio_of disk old) (studio_of disk new) (entries_of deeds) (entry_of d) (was.run tell held)
+        (step tell held));
     whole = λ tell held. Each-append (λ (z : Deed). IfErr z.what IsUnharmed) deeds (d ∷ []) (was.whole tell held)
         (unharmed disk old new call what (was.held tell held) does.lasts.left, tt);
-    any_moment = λ tell going held. subst (λ (es : List Entry). EachSince disk start.store new.store (KeepsPrefix t es)) (sym more) (stays old.stopped refl tell going held);
+    any_moment = λ tell going held. subst (λ (es : List Entry). EachSince disk start.store new.store (KeepsPrefix t es))
+        (sym more) (stays old.stopped refl tell going held);
     going = λ tell still held. (took tell).now still (was.held tell held);
-    stopped = λ tell going some held. subst (λ (es : List Entry). EachNow disk new.store (λ c. Keeps c (shown (studio_of disk new)) ⊎ StopsInFlight t es c)) (sym more)
+    stopped = λ tell going some held. subst (λ (es : List Entry).
+        EachNow disk new.store (λ c. Keeps c (shown (studio_of disk new)) ⊎ StopsInFlight t es c)) (sym more)
         (ends old.stopped refl tell going some held);
-    others = foreign_more disk start.store old new call (asks old.block_size (new.next_block - old.next_block) does.lasts.len does.removed) was.studio was.others
+    others = foreign_more disk start.store old new call
+        (asks old.block_size (new.next_block - old.next_block) does.lasts.len does.removed) was.studio was.others
         does.lasts.changed;
   }
 
 -- a studio stands for nothing from itself on
-pub begins : {D : Type 0} (disk : Ghosts D) (told : Type 0) (start : Core D) → IsStudio disk start → Fewer disk start.store → StandsFor disk told start start []
+pub begins : {D : Type 0} (disk : Ghosts D) (told : Type 0) (start : Core D) → IsStudio disk start
+    → Fewer disk start.store → StandsFor disk told start start []
 begins disk told start is fewer = record {
   studio = is;
   number = refl;

@@ -3,9 +3,11 @@ pub mod Refused
 pub mod Grown
 pub mod Turns
 pub mod Lines
+pub mod PinSteps
 pub mod PinLemmas
 pub mod FrameLemmas
 pub mod PieceLemmas
 pub mod MergeLemmas
+pub mod TestFaults
 pub mod FaultLemmas
 pub mod OnwardLemmas

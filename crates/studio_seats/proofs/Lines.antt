@@ -1,5 +1,6 @@
 -- What a line did, over a vault.
-use Rattle.std.proofs.Common.{◌≡◌, ◌∙◌, refl, sym, ap, subst, ℕ, Bool, IsTrue, List, Option, Some, None, Result, Ok, Err}
+use Rattle.std.proofs.Common.{◌≡◌, ◌∙◌, refl, sym, ap, subst, ℕ, Bool, IsTrue, List, Option, Some, None, Result, Ok}
+use Rattle.std.proofs.Common.{Err}
 use Rattle.std.specs.Prelude.{IfErr}
 use Rattle.pcm_base.specs.declared.answer.Answer.{Answer}
 use Rattle.pcm_base.specs.declared.answer.Reply.{Reply}
@@ -17,13 +18,15 @@ use Rattle.studio_seats.specs.Stands.{Does}
 
 module _ {R : Type 0} where
   -- the answer and the result tell what the line was told
-  told_is : (told : Result Reply Refusal) (result : Result R Refusal) (reply : Reply) → reply ≡ reply_of told → EndsAlike told result → told ≡ told_by (λ _. reply) result
+  told_is : (told : Result Reply Refusal) (result : Result R Refusal) (reply : Reply) → reply ≡ reply_of told
+      → EndsAlike told result → told ≡ told_by (λ _. reply) result
   told_is (Ok r) (Ok x) reply is ends = ap Ok (sym is)
   told_is (Ok r) (Err why) reply is ends = absurd ends
   told_is (Err why) (Ok x) reply is ends = absurd ends
   told_is (Err why) (Err other) reply is ends = ap Err (sym ends)
 
-  pub does_line : {D : Type 0} (disk : Ghosts D) (tells : Bool) (told : Type 0) (before after : Sounds) (old : Core D) (c : Command) (result : Result R Refusal) (answer : Answer)
+  pub does_line : {D : Type 0} (disk : Ghosts D) (tells : Bool) (told : Type 0) (before after : Sounds) (old : Core D)
+      (c : Command) (result : Result R Refusal) (answer : Answer)
       (new : Core D) → (told → IsTrue tells) → Applies disk tells before after old (Line c) result answer new
       → Does disk told old (Line c) (told_by (λ _. answer.reply) result) (move_of (name_in_line c) before after) new
   does_line disk tells told before after old c result answer new tell a =
@@ -32,7 +35,8 @@ module _ {R : Type 0} where
       (record { removed = a.over.removed; took = λ may. a.over.took (λ some. tell (may some)); lasts = a.over.lasts })
 
   -- a refusal stands in the answer too
-  pub refused_reply : (told : Result Reply Refusal) (result : Result R Refusal) (reply : Reply) → reply ≡ reply_of told → EndsAlike told result → IfErr result (λ why. reply ≡ Refused why)
+  pub refused_reply : (told : Result Reply Refusal) (result : Result R Refusal) (reply : Reply) → reply ≡ reply_of told
+      → EndsAlike told result → IfErr result (λ why. reply ≡ Refused why)
   refused_reply (Ok r) (Ok x) reply is ends = tt
   refused_reply (Ok r) (Err why) reply is ends = absurd ends
   refused_reply (Err why) (Ok x) reply is ends = absurd ends

@@ -1,5 +1,6 @@
 -- A seat goes on, turn by turn.
-use Rattle.std.proofs.Common.{◌≡◌, ⊎_elim, ℕ, ◌+◌, if◌then◌else◌, ◌==◌, Bool, true, false, List, [], ◌∷◌, ◌++◌, length, refl, sym, ◌∙◌, ap, subst, arith, append_assoc, eq-eqb, Result}
+use Rattle.std.proofs.Common.{◌≡◌, ⊎_elim, ℕ, ◌+◌, if◌then◌else◌, ◌==◌, Bool, true, false, List, [], ◌∷◌, ◌++◌, length}
+use Rattle.std.proofs.Common.{refl, sym, ◌∙◌, ap, subst, arith, append_assoc, eq-eqb, Result}
 use Rattle.std.proofs.lemmas.List.{append-nil, length-append}
 use Rattle.pcm_base.specs.declared.answer.Reply.{Reply}
 use Rattle.pcm_base.specs.declared.command.Call.{Call}
@@ -23,12 +24,14 @@ pub each_append : (P : Deed → Type 0) (xs ys : List Deed) → Each P xs → Ea
 each_append P [] ys h k = k
 each_append P (x ∷ xs) ys h k = (h.0, each_append P xs ys h.1 k)
 
-pub places_append : (kind : Deed → Bool) (k : ℕ) (xs ys : List Deed) → places_of kind k (xs ++ ys) ≡ places_of kind k xs ++ places_of kind (k + length xs) ys
+pub places_append : (kind : Deed → Bool) (k : ℕ) (xs ys : List Deed)
+    → places_of kind k (xs ++ ys) ≡ places_of kind k xs ++ places_of kind (k + length xs) ys
 places_append kind k [] ys = ap (λ (n : ℕ). places_of kind n ys) (omega arith)
 places_append kind k (x ∷ xs) ys =
     let here = if kind x then k ∷ [] else [] in
     let shift : k + 1 + length xs ≡ k + length (x ∷ xs) = omega arith in
-    ap (λ (l : List ℕ). here ++ l) (places_append kind (k + 1) xs ys ∙ ap (λ (n : ℕ). places_of kind (k + 1) xs ++ places_of kind n ys) shift)
+    ap (λ (l : List ℕ). here ++ l)
+    (places_append kind (k + 1) xs ys ∙ ap (λ (n : ℕ). places_of kind (k + 1) xs ++ places_of kind n ys) shift)
     ∙ sym (append_assoc here (places_of kind (k + 1) xs) (places_of kind (k + length (x ∷ xs)) ys))
 
 no_place : (b : Bool) (k : ℕ) → (if b then 1 else 0) + 0 ≡ 0 → (if b then k ∷ [] else []) ≡ []
@@ -36,42 +39,58 @@ no_place true k h = absurd (omega (arith, h))
 no_place false k h = refl
 
 -- deeds of others stand at no places of the seat
-pub places_others : (seat k : ℕ) (more : List Deed) → ByOthers actor_of (seat ∷ []) more → places_of (by_seat seat) k more ≡ []
+pub places_others : (seat k : ℕ) (more : List Deed) → ByOthers actor_of (seat ∷ []) more
+    → places_of (by_seat seat) k more ≡ []
 places_others seat k [] h = refl
-places_others seat k (e ∷ es) h = ap (λ (l : List ℕ). l ++ places_of (by_seat seat) (k + 1) es) (no_place (seat == e.actor) k h.0) ∙ places_others seat (k + 1) es h.1
+places_others seat k (e ∷ es) h = ap (λ (l : List ℕ). l ++ places_of (by_seat seat) (k + 1) es)
+    (no_place (seat == e.actor) k h.0) ∙ places_others seat (k + 1) es h.1
 
 not_own : (seat actor : ℕ) → (if seat == actor then 1 else 0) + 0 ≡ 0 → actor ≡ seat → ⊥
 not_own seat actor h is = let b : (seat == actor) ≡ true = eq-eqb seat actor (sym is) in
-    let one : (if true then 1 else 0) + 0 ≡ 0 = subst (λ (b : Bool). (if b then 1 else 0) + 0 ≡ 0) b h in absurd (omega (arith, one))
+    let one : (if true then 1 else 0) + 0 ≡ 0 = subst (λ (b : Bool). (if b then 1 else 0) + 0 ≡ 0) b h in
+    absurd (omega (arith, one))
 
-pub asks_others : (fits : Call → Type 0) (seat : ℕ) (more : List Deed) → ByOthers actor_of (seat ∷ []) more → Asks fits seat more
+pub asks_others : (fits : Call → Type 0) (seat : ℕ) (more : List Deed) → ByOthers actor_of (seat ∷ []) more
+    → Asks fits seat more
 asks_others fits seat [] h = tt
 asks_others fits seat (e ∷ es) h = ((λ is. absurd (not_own seat e.actor h.0 is)), asks_others fits seat es h.1)
 
-one_place : (seat k : ℕ) (c : Call) (what : Result Reply Refusal) (sound : SoundMove) → places_of (by_seat seat) k (deed seat c what sound ∷ []) ≡ k ∷ []
+one_place : (seat k : ℕ) (c : Call) (what : Result Reply Refusal) (sound : SoundMove)
+    → places_of (by_seat seat) k (deed seat c what sound ∷ []) ≡ k ∷ []
 one_place seat k c what sound = ap (λ (b : Bool). (if b then k ∷ [] else []) ++ []) (eq-eqb seat seat refl)
 
 module _ {D V : Type 0} (fits : Call → Type 0) where
   pub onward_self : (v : View (Held D V) Deed) → Onward fits v v
-  onward_self v = record { added = []; seen = sym (append-nil v.seen); asks = tt; number = refl; away = refl; mine = sym (append-nil v.mine) }
+  onward_self v = record {
+    added = [];
+    seen = sym (append-nil v.seen);
+    asks = tt;
+    number = refl;
+    away = refl;
+    mine = sym (append-nil v.mine);
+  }
 
   pub onward_on : (u v w : View (Held D V) Deed) → Onward fits u v → Onward fits v w → Onward fits u w
   onward_on u v w h k = record {
     added = h.added ++ k.added;
     seen = k.seen ∙ (ap (λ (l : List Deed). l ++ k.added) h.seen ∙ append_assoc u.seen h.added k.added);
-    asks = each_append (λ e. e.actor ≡ u.number → fits e.call) h.added k.added h.asks (subst (λ (n : ℕ). Asks fits n k.added) h.number k.asks);
+    asks = each_append (λ e. e.actor ≡ u.number → fits e.call) h.added k.added h.asks
+        (subst (λ (n : ℕ). Asks fits n k.added) h.number k.asks);
     number = k.number ∙ h.number;
     away = k.away ∙ h.away;
     mine =
         let at : length v.seen ≡ length u.seen + length h.added = ap length h.seen ∙ length-append u.seen h.added in
-        let later : places_of (by_seat v.number) (length v.seen) k.added ≡ places_of (by_seat u.number) (length u.seen + length h.added) k.added =
+        let later : places_of (by_seat v.number) (length v.seen) k.added
+        ≡ places_of (by_seat u.number) (length u.seen + length h.added) k.added =
         ap (λ (p : ℕ × ℕ). places_of (by_seat p.0) p.1 k.added) (λ i. (h.number i, at i)) in
-        k.mine ∙ (λ i. h.mine i ++ later i) ∙ append_assoc u.mine (places_of (by_seat u.number) (length u.seen) h.added) (places_of (by_seat u.number) (length u.seen + length h.added) k.added)
+        k.mine ∙ (λ i. h.mine i ++ later i) ∙ append_assoc u.mine (places_of (by_seat u.number) (length u.seen) h.added)
+        (places_of (by_seat u.number) (length u.seen + length h.added) k.added)
         ∙ ap (λ (l : List ℕ). u.mine ++ l) (sym (places_append (by_seat u.number) (length u.seen) h.added k.added));
   }
 
   -- one turn
-  pub onward_turn : {A : Type 0} (disk : Ghosts D) (vaults : vault.Ghosts V) (start : Core D) (v w : View (Held D V) Deed) (c : Call) (what : Result Reply Refusal) (sound : SoundMove) (said : Said A)
+  pub onward_turn : {A : Type 0} (disk : Ghosts D) (vaults : vault.Ghosts V) (start : Core D)
+      (v w : View (Held D V) Deed) (c : Call) (what : Result Reply Refusal) (sound : SoundMove) (said : Said A)
       → fits c → Says disk vaults start v c what sound said w → Onward fits v w
   onward_turn {A} disk vaults start v w c what sound said fit h = ⊎_elim
       (λ (x : Turned disk vaults start v c what sound said.at w).
@@ -79,14 +98,17 @@ module _ {D V : Type 0} (fits : Call → Type 0) where
       record {
         added = x.between ++ e ∷ [];
         seen = ap (λ (z : View (Held D V) Deed). z.seen) x.view ∙ append_assoc v.seen x.between (e ∷ []);
-        asks = each_append (λ e. e.actor ≡ v.number → fits e.call) x.between (e ∷ []) (asks_others fits v.number x.between x.by_others) ((λ is. fit), tt);
+        asks = each_append (λ e. e.actor ≡ v.number → fits e.call) x.between (e ∷ [])
+            (asks_others fits v.number x.between x.by_others) ((λ is. fit), tt);
         number = ap (λ (z : View (Held D V) Deed). z.number) x.view;
         away = ap (λ (z : View (Held D V) Deed). z.away) x.view;
         mine =
             let k = length v.seen in
             let at : length (v.seen ++ x.between) ≡ k + length x.between = length-append v.seen x.between in
             ap (λ (z : View (Held D V) Deed). z.mine) x.view ∙ ap (λ (l : List ℕ). v.mine ++ l)
-            (ap (λ (n : ℕ). n ∷ []) at ∙ sym (places_append (by_seat v.number) k x.between (e ∷ []) ∙ (λ i. places_others v.number k x.between x.by_others i ++ one_place v.number (k + length x.between) c what sound i)));
+            (ap (λ (n : ℕ). n ∷ []) at
+            ∙ sym (places_append (by_seat v.number) k x.between (e ∷ []) ∙ (λ i. places_others v.number k x.between
+            x.by_others i ++ one_place v.number (k + length x.between) c what sound i)));
       })
       (λ (x : Spends v said w). record {
         added = [];

@@ -1,5 +1,6 @@
 -- The pieces of a seat, turn by turn.
-use Rattle.std.proofs.Common.{◌≡◌, ⊎_elim, ℕ, ◌+◌, ◌≤◌, ◌==◌, ◌&&◌, if◌then◌else◌, ℤ, Bool, true, false, List, [], ◌∷◌, ◌++◌, refl, sym, ◌∙◌, ap, subst, arith, append_assoc, eq-eqb, Result, Ok, Err}
+use Rattle.std.proofs.Common.{◌≡◌, ⊎_elim, ℕ, ◌+◌, ◌≤◌, ◌==◌, ◌&&◌, if◌then◌else◌, ℤ, Bool, true, false, List, [], ◌∷◌}
+use Rattle.std.proofs.Common.{◌++◌, refl, sym, ◌∙◌, ap, subst, arith, append_assoc, eq-eqb, Result, Ok, Err}
 use Rattle.std.specs.Prelude.{MatchResult, IfOk, IfErr}
 use Rattle.std.proofs.lemmas.List.{append-nil}
 use Rattle.pcm_base.specs.declared.answer.Reply.TheVariants.{Done}
@@ -28,17 +29,23 @@ err_of : {A B : Type 0} (P : A → Type 0) (Q : B → Type 0) (r : Result A B) �
 err_of P Q (Ok x) h = tt
 err_of P Q (Err y) h = h
 
-pub pieces_append : (to by seat n : ℕ) (xs ys : List Deed) → pieces_by to by seat n (xs ++ ys) ≡ pieces_by to by seat n xs ++ pieces_by to by seat (number_after n xs) ys
+pub pieces_append : (to by seat n : ℕ) (xs ys : List Deed)
+    → pieces_by to by seat n (xs ++ ys) ≡ pieces_by to by seat n xs ++ pieces_by to by seat (number_after n xs) ys
 pieces_append to by seat n [] ys = refl
-pieces_append to by seat n (d ∷ ds) ys = ap (λ (l : List (List ℤ × ℕ)). piece_by to by seat d (raised (is_commit d) n) ++ l) (pieces_append to by seat (raised (is_commit d) n) ds ys)
-    ∙ sym (append_assoc (piece_by to by seat d (raised (is_commit d) n)) (pieces_by to by seat (raised (is_commit d) n) ds) (pieces_by to by seat (number_after (raised (is_commit d) n) ds) ys))
+pieces_append to by seat n (d ∷ ds) ys =
+    ap (λ (l : List (List ℤ × ℕ)). piece_by to by seat d (raised (is_commit d) n) ++ l)
+    (pieces_append to by seat (raised (is_commit d) n) ds ys)
+    ∙ sym (append_assoc (piece_by to by seat d (raised (is_commit d) n)) (pieces_by to by seat
+    (raised (is_commit d) n) ds) (pieces_by to by seat (number_after (raised (is_commit d) n) ds) ys))
 
-not_by : (mine commits : Bool) (piece : List (List ℤ × ℕ)) → (if mine then 1 else 0) + 0 ≡ 0 → (if mine && commits then piece else []) ≡ []
+not_by : (mine commits : Bool) (piece : List (List ℤ × ℕ)) → (if mine then 1 else 0) + 0 ≡ 0
+    → (if mine && commits then piece else []) ≡ []
 not_by true commits piece h = absurd (omega (arith, h))
 not_by false commits piece h = refl
 
 -- deeds of others have no piece of the seat
-pub pieces_others : (to by seat n : ℕ) (more : List Deed) → ByOthers actor_of (seat ∷ []) more → pieces_by to by seat n more ≡ []
+pub pieces_others : (to by seat n : ℕ) (more : List Deed) → ByOthers actor_of (seat ∷ []) more
+    → pieces_by to by seat n more ≡ []
 pieces_others to by seat n [] h = refl
 pieces_others to by seat n (d ∷ ds) h =
     ap (λ (l : List (List ℤ × ℕ)). l ++ pieces_by to by seat (raised (is_commit d) n) ds)
@@ -47,30 +54,43 @@ pieces_others to by seat n (d ∷ ds) h =
 
 -- one turn of the seat
 one_turn : (to by seat n : ℕ) (seen between : List Deed) (d : Deed) → ByOthers actor_of (seat ∷ []) between
-    → pieces_by to by seat n ((seen ++ between) ++ d ∷ []) ≡ pieces_by to by seat n seen ++ pieces_by to by seat (number_after n (seen ++ between)) (d ∷ [])
+    → pieces_by to by seat n ((seen ++ between) ++ d ∷ []) ≡ pieces_by to by seat n seen
+    ++ pieces_by to by seat (number_after n (seen ++ between)) (d ∷ [])
 one_turn to by seat n seen between d others =
-    pieces_append to by seat n (seen ++ between) (d ∷ []) ∙ ap (λ (l : List (List ℤ × ℕ)). l ++ pieces_by to by seat (number_after n (seen ++ between)) (d ∷ []))
+    pieces_append to by seat n (seen ++ between) (d ∷ [])
+    ∙ ap (λ (l : List (List ℤ × ℕ)). l ++ pieces_by to by seat (number_after n (seen ++ between)) (d ∷ []))
     (pieces_append to by seat n seen between
-    ∙ (ap (λ (l : List (List ℤ × ℕ)). pieces_by to by seat n seen ++ l) (pieces_others to by seat (number_after n seen) between others) ∙ append-nil (pieces_by to by seat n seen)))
+    ∙ (ap (λ (l : List (List ℤ × ℕ)). pieces_by to by seat n seen ++ l)
+    (pieces_others to by seat (number_after n seen) between others) ∙ append-nil (pieces_by to by seat n seen)))
 
-piece_taken : (seat n track tag : ℕ) (samples : List ℤ) → pieces_by track tag seat n (deed seat (Piece track tag samples) (Ok Done) silent ∷ []) ≡ (samples, n + 1) ∷ []
+piece_taken : (seat n track tag : ℕ) (samples : List ℤ)
+    → pieces_by track tag seat n (deed seat (Piece track tag samples) (Ok Done) silent ∷ []) ≡ (samples, n + 1) ∷ []
 piece_taken seat n track tag samples =
-    λ i. (if (eq-eqb seat seat refl) i && true then (if (eq-eqb track track refl) i && (eq-eqb tag tag refl) i then (samples, n + 1) ∷ [] else []) else []) ++ []
+    λ i. (if (eq-eqb seat seat refl) i && true then
+    (if (eq-eqb track track refl) i && (eq-eqb tag tag refl) i then (samples, n + 1) ∷ [] else []) else []) ++ []
 
-piece_left : (seat n track tag : ℕ) (samples : List ℤ) (why : Refusal) → pieces_by track tag seat n (deed seat (Piece track tag samples) (Err why) silent ∷ []) ≡ []
-piece_left seat n track tag samples why = ap (λ (b : Bool). (if b && false then piece_in track tag (Piece track tag samples) n else []) ++ []) (eq-eqb seat seat refl)
+piece_left : (seat n track tag : ℕ) (samples : List ℤ) (why : Refusal)
+    → pieces_by track tag seat n (deed seat (Piece track tag samples) (Err why) silent ∷ []) ≡ []
+piece_left seat n track tag samples why =
+    ap (λ (b : Bool). (if b && false then piece_in track tag (Piece track tag samples) n else []) ++ [])
+    (eq-eqb seat seat refl)
 
 -- the samples of a chunk are those that were asked for
-pub of_samples : {D V : Type 0} (disk : Ghosts D) (vaults : vault.Ghosts V) (start : Core D) (track tag : ℕ) (samples other : List ℤ) (v w : View (Held D V) Deed) (said : Said ℕ) → other ≡ samples
-    → Says disk vaults start v (Piece track tag other) (told_by (λ _. Done) said.what) silent said w → Says disk vaults start v (Piece track tag samples) (told_by (λ _. Done) said.what) silent said w
-of_samples disk vaults start track tag samples other v w said is h = subst (λ (z : List ℤ). Says disk vaults start v (Piece track tag z) (told_by (λ _. Done) said.what) silent said w) is h
+pub of_samples : {D V : Type 0} (disk : Ghosts D) (vaults : vault.Ghosts V) (start : Core D) (track tag : ℕ)
+    (samples other : List ℤ) (v w : View (Held D V) Deed) (said : Said ℕ) → other ≡ samples
+    → Says disk vaults start v (Piece track tag other) (told_by (λ _. Done) said.what) silent said w
+    → Says disk vaults start v (Piece track tag samples) (told_by (λ _. Done) said.what) silent said w
+of_samples disk vaults start track tag samples other v w said is h = subst
+    (λ (z : List ℤ). Says disk vaults start v (Piece track tag z) (told_by (λ _. Done) said.what) silent said w) is h
 
-module _ {D V : Type 0} (disk : Ghosts D) (vaults : vault.Ghosts V) (start : Core D) (track tag : ℕ) (samples : List ℤ) (v w : View (Held D V) Deed) where
+module _ {D V : Type 0} (disk : Ghosts D) (vaults : vault.Ghosts V) (start : Core D) (track tag : ℕ) (samples : List ℤ)
+    (v w : View (Held D V) Deed) where
   abbrev Pieces : View (Held D V) Deed → List (List ℤ × ℕ)
   Pieces x = pieces_by track tag x.number start.commit_number x.seen
 
   abbrev Then : Result ℕ Refusal → Type 0
-  Then what = MatchResult what (λ (number : ℕ). Pieces w ≡ Pieces v ++ (samples, number) ∷ []) (λ (why : Refusal). Pieces w ≡ Pieces v)
+  Then what = MatchResult what (λ (number : ℕ). Pieces w ≡ Pieces v ++ (samples, number) ∷ [])
+      (λ (why : Refusal). Pieces w ≡ Pieces v)
 
   abbrev Took : Result ℕ Refusal → ℕ → Type 0
   Took what at = Turned disk vaults start v (Piece track tag samples) (told_by (λ _. Done) what) silent at w
@@ -81,13 +101,18 @@ module _ {D V : Type 0} (disk : Ghosts D) (vaults : vault.Ghosts V) (start : Cor
   taken : (what : Result ℕ Refusal) (at : ℕ) → Took what at → IfOk what (λ (number : ℕ). number ≡ at) → Then what
   taken (Ok number) at h is =
       let d : Deed = deed v.number (Piece track tag samples) (Ok Done) silent in
-      let counts : at ≡ number_after start.commit_number (v.seen ++ h.between) + 1 = h.number ∙ h.stands.number ∙ number_append start.commit_number (v.seen ++ h.between) (d ∷ []) in
-      ap Pieces h.view ∙ (one_turn track tag v.number start.commit_number v.seen h.between d h.by_others ∙ ap (λ (l : List (List ℤ × ℕ)). pieces_by track tag v.number start.commit_number v.seen ++ l)
-      (piece_taken v.number (number_after start.commit_number (v.seen ++ h.between)) track tag samples ∙ ap (λ (n : ℕ). (samples, n) ∷ []) (sym (is ∙ counts))))
+      let counts : at ≡ number_after start.commit_number (v.seen ++ h.between) + 1 =
+      h.number ∙ h.stands.number ∙ number_append start.commit_number (v.seen ++ h.between) (d ∷ []) in
+      ap Pieces h.view ∙ (one_turn track tag v.number start.commit_number v.seen h.between d h.by_others
+      ∙ ap (λ (l : List (List ℤ × ℕ)). pieces_by track tag v.number start.commit_number v.seen ++ l)
+      (piece_taken v.number (number_after start.commit_number (v.seen ++ h.between)) track tag samples
+      ∙ ap (λ (n : ℕ). (samples, n) ∷ []) (sym (is ∙ counts))))
   taken (Err why) at h is =
       let d : Deed = deed v.number (Piece track tag samples) (Err why) silent in
-      ap Pieces h.view ∙ (one_turn track tag v.number start.commit_number v.seen h.between d h.by_others ∙ (ap (λ (l : List (List ℤ × ℕ)). pieces_by track tag v.number start.commit_number v.seen ++ l)
-      (piece_left v.number (number_after start.commit_number (v.seen ++ h.between)) track tag samples why) ∙ append-nil (pieces_by track tag v.number start.commit_number v.seen)))
+      ap Pieces h.view ∙ (one_turn track tag v.number start.commit_number v.seen h.between d h.by_others
+      ∙ (ap (λ (l : List (List ℤ × ℕ)). pieces_by track tag v.number start.commit_number v.seen ++ l)
+      (piece_left v.number (number_after start.commit_number (v.seen ++ h.between)) track tag samples why)
+      ∙ append-nil (pieces_by track tag v.number start.commit_number v.seen)))
 
   -- after a call at the desk the seat has one piece more, or as many as before
   takes : (said : Said ℕ) → SaysPiece said → IfOk said.what (λ (number : ℕ). number ≡ said.at) → Then said.what
@@ -96,20 +121,29 @@ module _ {D V : Type 0} (disk : Ghosts D) (vaults : vault.Ghosts V) (start : Cor
       (λ (x : Spends v said w). subst Then (sym x.what) (ap Pieces x.view))
       h
 
-  pub takes_ok : (said : Said ℕ) → SaysPiece said → IfOk said.what (λ (number : ℕ). number ≡ said.at) → IfOk said.what (λ (number : ℕ). Pieces w ≡ Pieces v ++ (samples, number) ∷ [])
-  takes_ok said h is = ok_of (λ (number : ℕ). Pieces w ≡ Pieces v ++ (samples, number) ∷ []) (λ (why : Refusal). Pieces w ≡ Pieces v) said.what (takes said h is)
+  pub takes_ok : (said : Said ℕ) → SaysPiece said → IfOk said.what (λ (number : ℕ). number ≡ said.at)
+      → IfOk said.what (λ (number : ℕ). Pieces w ≡ Pieces v ++ (samples, number) ∷ [])
+  takes_ok said h is = ok_of (λ (number : ℕ). Pieces w ≡ Pieces v ++ (samples, number) ∷ [])
+      (λ (why : Refusal). Pieces w ≡ Pieces v) said.what (takes said h is)
 
-  pub takes_err : (said : Said ℕ) → SaysPiece said → IfOk said.what (λ (number : ℕ). number ≡ said.at) → IfErr said.what (λ (why : Refusal). Pieces w ≡ Pieces v)
-  takes_err said h is = err_of (λ (number : ℕ). Pieces w ≡ Pieces v ++ (samples, number) ∷ []) (λ (why : Refusal). Pieces w ≡ Pieces v) said.what (takes said h is)
+  pub takes_err : (said : Said ℕ) → SaysPiece said → IfOk said.what (λ (number : ℕ). number ≡ said.at)
+      → IfErr said.what (λ (why : Refusal). Pieces w ≡ Pieces v)
+  takes_err said h is = err_of (λ (number : ℕ). Pieces w ≡ Pieces v ++ (samples, number) ∷ [])
+      (λ (why : Refusal). Pieces w ≡ Pieces v) said.what (takes said h is)
 
   -- a number to which the deeds led that it had seen is no higher than that to which they lead now
-  pub tagged : (said : Said ℕ) (least : ℕ) → SaysPiece said → least ≤ number_after start.commit_number v.seen → least ≤ number_after start.commit_number w.seen
+  pub tagged : (said : Said ℕ) (least : ℕ) → SaysPiece said → least ≤ number_after start.commit_number v.seen
+      → least ≤ number_after start.commit_number w.seen
   tagged said least h low = ⊎_elim
       (λ (x : Took said.what said.at).
       let d : Deed = deed v.number (Piece track tag samples) (told_by (λ _. Done) said.what) silent in
-      let one = number_on start.commit_number v.seen x.between in let two = number_on start.commit_number (v.seen ++ x.between) (d ∷ []) in
-      let same : number_after start.commit_number w.seen ≡ number_after start.commit_number ((v.seen ++ x.between) ++ d ∷ []) = ap (λ (z : View (Held D V) Deed). number_after start.commit_number z.seen) x.view in
+      let one = number_on start.commit_number v.seen x.between in
+      let two = number_on start.commit_number (v.seen ++ x.between) (d ∷ []) in
+      let same : number_after start.commit_number w.seen
+      ≡ number_after start.commit_number ((v.seen ++ x.between) ++ d ∷ []) =
+      ap (λ (z : View (Held D V) Deed). number_after start.commit_number z.seen) x.view in
       omega (arith, low, one, two, same))
       (λ (x : Spends v said w).
-      let same : number_after start.commit_number w.seen ≡ number_after start.commit_number v.seen = ap (λ (z : View (Held D V) Deed). number_after start.commit_number z.seen) x.view in omega (arith, low, same))
+      let same : number_after start.commit_number w.seen ≡ number_after start.commit_number v.seen =
+      ap (λ (z : View (Held D V) Deed). number_after start.commit_number z.seen) x.view in omega (arith, low, same))
       h

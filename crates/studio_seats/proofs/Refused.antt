@@ -1,6 +1,7 @@
 -- What is answered, and what a refusal leaves.
 use Rattle.std.proofs.lemmas.Option.{none-some}
-use Rattle.std.proofs.Common.{◌≡◌, inl, inr, refl, sym, ap, ◌∙◌, subst, ℕ, ◌+◌, ◌==◌, Option, Some, None, IsSome, Result, Ok, Err, arith}
+use Rattle.std.proofs.Common.{◌≡◌, inl, inr, refl, sym, ap, ◌∙◌, subst, ℕ, ◌+◌, ◌==◌, Option, Some, None, IsSome}
+use Rattle.std.proofs.Common.{Result, Ok, Err, arith}
 use Rattle.pcm_base.specs.declared.answer.Reply.{Reply}
 use Rattle.pcm_base.specs.declared.command.Call.{Call}
 use Rattle.pcm_base.specs.declared.command.Call.TheVariants as call
@@ -67,10 +68,12 @@ call_answered out s (call.ReadPin pin from count) r h = answered r _ h.2 refl
 call_answered out s (call.Unpin pin) r h = answered r _ h refl
 
 -- what a call answers is a step of a run
-pub step_of : (t u : model.Studio) (c : Call) (sound : SoundMove) (what : Result Reply Refusal) → Answers t c sound what u → Step t c sound (reply_of what) u
+pub step_of : (t u : model.Studio) (c : Call) (sound : SoundMove) (what : Result Reply Refusal)
+    → Answers t c sound what u → Step t c sound (reply_of what) u
 step_of t u c sound (Err why) h = h
 step_of t u c sound (Ok r) h =
-    subst (λ (z : Result Reply Refusal). Answers t c sound z u) (sym (call_answered (outside t sound) t.state c r h.answers)) h
+    subst (λ (z : Result Reply Refusal). Answers t c sound z u)
+    (sym (call_answered (outside t sound) t.state c r h.answers)) h
 
 -- ---- a refusal leaves all that a script can see
 
@@ -101,13 +104,18 @@ broken_same t u c sound (refusal.RateDiffers have want) h = absurd h
 broken_same t u c sound (refusal.TooLong frames) h = absurd h
 broken_same t u c sound (refusal.SpaceSpent have need) h = absurd h
 broken_same t u c sound (refusal.RecordLimit len) h = absurd h
-broken_same t u c sound (refusal.Damaged file at want have) h = same_of t u _ h.breaks.is (record { state = refl; rate = refl; block_size = refl })
-broken_same t u c sound refusal.DiskFault h = same_of t u _ h.breaks.is (record { state = refl; rate = refl; block_size = refl })
-broken_same t u c sound refusal.VaultFault h = same_of t u _ h.1.breaks.is (record { state = refl; rate = refl; block_size = refl })
+broken_same t u c sound (refusal.Damaged file at want have) h =
+    same_of t u _ h.breaks.is (record { state = refl; rate = refl; block_size = refl })
+broken_same t u c sound refusal.DiskFault h =
+    same_of t u _ h.breaks.is (record { state = refl; rate = refl; block_size = refl })
+broken_same t u c sound refusal.VaultFault h =
+    same_of t u _ h.1.breaks.is (record { state = refl; rate = refl; block_size = refl })
 broken_same t u c sound (refusal.NoPin pin) h = absurd h
-broken_same t u c sound refusal.NoMemory h = same_of t u t h.same (record { state = refl; rate = refl; block_size = refl })
+broken_same t u c sound refusal.NoMemory h =
+    same_of t u t h.same (record { state = refl; rate = refl; block_size = refl })
 
-pub refused_same : (t u : model.Studio) (c : Call) (sound : SoundMove) (why : Refusal) → Answers t c sound (Err why) u → Same t u
+pub refused_same : (t u : model.Studio) (c : Call) (sound : SoundMove) (why : Refusal) → Answers t c sound (Err why) u
+    → Same t u
 refused_same t u c sound why (inl h) = same_of t u t h.same (record { state = refl; rate = refl; block_size = refl })
 refused_same t u c sound why (inr h) = broken_same t u c sound why h
 
@@ -121,9 +129,11 @@ same_shown t u h = λ i. record {
 }
 
 -- a call that stops the studio leaves what an image keeps
-pub stopped_shown : (t u : model.Studio) (c : Call) (sound : SoundMove) (what : Result Reply Refusal) → Answers t c sound what u → t.stopped ≡ None → IsSome u.stopped
+pub stopped_shown : (t u : model.Studio) (c : Call) (sound : SoundMove) (what : Result Reply Refusal)
+    → Answers t c sound what u → t.stopped ≡ None → IsSome u.stopped
     → shown u ≡ shown t
-stopped_shown t u c sound (Ok r) h going stops = absurd (stopped_not u.stopped stops (ap (λ (z : model.Studio). z.stopped) h.is ∙ going))
+stopped_shown t u c sound (Ok r) h going stops =
+    absurd (stopped_not u.stopped stops (ap (λ (z : model.Studio). z.stopped) h.is ∙ going))
 stopped_shown t u c sound (Err why) h going stops = same_shown t u (refused_same t u c sound why h)
 
 -- ---- the commit number
@@ -166,6 +176,7 @@ call_raised (call.ReadPin pin from count) n = omega arith
 call_raised (call.Unpin pin) n = omega arith
 
 -- it is raised by one at each commit
-pub number_raised : (what : Result Reply Refusal) (c : Call) (n : ℕ) → number_behind what c n ≡ raised (commits what c) n
+pub number_raised : (what : Result Reply Refusal) (c : Call) (n : ℕ)
+    → number_behind what c n ≡ raised (commits what c) n
 number_raised (Ok r) c n = call_raised c n
 number_raised (Err why) c n = refl

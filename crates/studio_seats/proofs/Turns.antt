@@ -1,5 +1,6 @@
 -- One turn of a seat, put together.
-use Rattle.std.proofs.Common.{◌≡◌, inl, inr, ⊎_elim, refl, sym, ap, ◌∙◌, subst, ℕ, ◌≤◌, Bool, false, true, List, [], ◌∷◌, ◌++◌, Result, Ok, Err, MatchResult, arith}
+use Rattle.std.proofs.Common.{◌≡◌, inl, inr, ⊎_elim, refl, sym, ap, ◌∙◌, subst, ℕ, ◌≤◌, Bool, false, true, List, []}
+use Rattle.std.proofs.Common.{◌∷◌, ◌++◌, Result, Ok, Err, MatchResult, arith}
 use Rattle.std.proofs.lemmas.Bool.{true≢false}
 use Rattle.std.specs.Fn.{Mut, CalledAtMut}
 use denote.Ref.{MutBor}
@@ -30,42 +31,56 @@ module _ {D V : Type 0} (disk : Ghosts D) (vaults : vault.Ghosts V) where
   core x = core_of x.studio
 
   -- a call may be made of the studio that a turn finds, through a reference
-  pub is_studio : (start x y : Held D V) (deeds : List Deed) → HeldFor disk vaults start x deeds → y ≡ x → IsStudio disk (core y)
+  pub is_studio : (start x y : Held D V) (deeds : List Deed) → HeldFor disk vaults start x deeds → y ≡ x
+      → IsStudio disk (core y)
   is_studio start x y deeds stands is = subst (λ (z : Held D V). IsStudio disk (core z)) (sym is) stands.studio
 
   -- what a call did, shown and left through a reference
-  does_at : (s t s' t' : Held D V) (call : Call) (what : Result Reply Refusal) (sound : SoundMove) → Does disk (AllTell vaults) (core s') call what sound (core t')
+  does_at : (s t s' t' : Held D V) (call : Call) (what : Result Reply Refusal) (sound : SoundMove)
+      → Does disk (AllTell vaults) (core s') call what sound (core t')
       → s' ≡ s → t' ≡ t → Does disk (AllTell vaults) (core s) call what sound (core t)
-  does_at s t s' t' call what sound does a b = subst (λ (z : Held D V × Held D V). Does disk (AllTell vaults) (core z.0) call what sound (core z.1)) (λ i. (a i, b i)) does
+  does_at s t s' t' call what sound does a b =
+      subst (λ (z : Held D V × Held D V). Does disk (AllTell vaults) (core z.0) call what sound (core z.1))
+      (λ i. (a i, b i)) does
 
   module _ {F A : Type 0} (start : Held D V) (v : View (Held D V) Deed)
       (g : Mut F (MutBor (Held D V) × Unit {0}) (Said A × (MutBor (Held D V) × Unit {0}))) (f : F)
       (call : Call) (what : Said A → F → Result Reply Refusal) (sound : F → SoundMove) where
     -- the closure may be called at what the turn finds, and is one call of the studio
-    pub fits : ((more : List Deed) (x : Held D V) → ByOthers actor_of (v.number ∷ []) more → HeldFor disk vaults start x (v.seen ++ more) → TakesAtMut g f x)
-        → ((s : Said A) (f' : F) (x x' : Held D V) (called : CalledAtMut g f x s f' x') → Does disk (AllTell vaults) (core called.shown.now) call (what s f') (sound f') (core called.left.now))
+    pub fits : ((more : List Deed) (x : Held D V) → ByOthers actor_of (v.number ∷ []) more
+        → HeldFor disk vaults start x (v.seen ++ more) → TakesAtMut g f x)
+        → ((s : Said A) (f' : F) (x x' : Held D V) (called : CalledAtMut g f x s f' x')
+        → Does disk (AllTell vaults) (core called.shown.now) call (what s f') (sound f') (core called.left.now))
         → FitsTurn (HeldFor disk vaults) actor_of start v g f (λ s f'. deed v.number call (what s f') (sound f') ∷ [])
     fits may does = record {
       may = λ more x others few stood. may more x others stood;
       leaves = λ more x others few stood s f' x' called.
-          extends disk (AllTell vaults) (core start) (core x) (core x') (v.seen ++ more) stood v.number call (what s f') (sound f')
-          (does_at x x' called.shown.now called.left.now call (what s f') (sound f') (does s f' x x' called) called.shows called.leaves);
+          extends disk (AllTell vaults) (core start) (core x) (core x') (v.seen ++ more) stood v.number call (what s f')
+          (sound f')
+          (does_at x x' called.shown.now called.left.now call (what s f') (sound f')
+          (does s f' x x' called) called.shows called.leaves);
       by_seat = λ s f'. (deed v.number call (what s f') (sound f'), refl, refl);
     }
 
     -- what the closure says of a call, which is told to the caller in other words
-    pub record Called (f' : F) (s : Said A) (x x' : Held D V) (said_what : Said A → Result Reply Refusal) (said_sound : SoundMove) : Type 0 where
+    pub record Called (f' : F) (s : Said A) (x x' : Held D V) (said_what : Said A → Result Reply Refusal)
+        (said_sound : SoundMove) : Type 0 where
       pub does : Does disk (AllTell vaults) (core x) call (what s f') (sound f') (core x')
       pub number : s.at ≡ (core x').commit_number
       pub what_is : what s f' ≡ said_what s
       pub sound_is : sound f' ≡ said_sound
 
-    turned : (s : Said A) (f' : F) (w : View (Held D V) Deed) (said_what : Said A → Result Reply Refusal) (said_sound : SoundMove)
-        (took : TookTurn (HeldFor disk vaults) actor_of start v g f (deed v.number call (what s f') (sound f') ∷ []) s f' w)
-        → Called f' s took.called.shown.now took.called.left.now said_what said_sound → Turned disk vaults (core start) v call (said_what s) said_sound s.at w
+    turned : (s : Said A) (f' : F) (w : View (Held D V) Deed) (said_what : Said A → Result Reply Refusal)
+        (said_sound : SoundMove)
+        (took : TookTurn (HeldFor disk vaults) actor_of start v g f
+        (deed v.number call (what s f') (sound f') ∷ []) s f' w)
+        → Called f' s took.called.shown.now took.called.left.now said_what said_sound
+        → Turned disk vaults (core start) v call (said_what s) said_sound s.at w
     turned s f' w said_what said_sound took at =
-        let does = does_at took.value took.value' took.called.shown.now took.called.left.now call (what s f') (sound f') at.does took.called.shows took.called.leaves in
-        subst (λ (z : Result Reply Refusal × SoundMove). Turned disk vaults (core start) v call z.0 z.1 s.at w) (λ i. (at.what_is i, at.sound_is i)) record {
+        let does = does_at took.value took.value' took.called.shown.now took.called.left.now call (what s f')
+        (sound f') at.does took.called.shows took.called.leaves in
+        subst (λ (z : Result Reply Refusal × SoundMove). Turned disk vaults (core start) v call z.0 z.1 s.at w)
+        (λ i. (at.what_is i, at.sound_is i)) record {
           between = took.between;
           by_others = took.by_others;
           few = took.few;
@@ -75,15 +90,19 @@ module _ {D V : Type 0} (disk : Ghosts D) (vaults : vault.Ghosts V) where
           after = core took.value';
           stood = took.stood;
           does = does;
-          stands = extends disk (AllTell vaults) (core start) (core took.value) (core took.value') (v.seen ++ took.between) took.stood v.number call (what s f') (sound f') does;
+          stands = extends disk (AllTell vaults) (core start) (core took.value) (core took.value')
+              (v.seen ++ took.between) took.stood v.number call (what s f') (sound f') does;
           number = at.number ∙ ap (λ (z : Held D V). (core z).commit_number) took.called.leaves;
         }
 
     -- what the seat then says
-    pub says : (f' : F) (said_what : Said A → Result Reply Refusal) (said_sound : SoundMove) (w : View (Held D V) Deed) (result : Result (Said A) Spent) (said : Said A)
-        → MatchResult result (λ s. TookTurn (HeldFor disk vaults) actor_of start v g f (deed v.number call (what s f') (sound f') ∷ []) s f' w) (λ _. (w ≡ record v { used_up = true }) × (f' ≡ f))
+    pub says : (f' : F) (said_what : Said A → Result Reply Refusal) (said_sound : SoundMove) (w : View (Held D V) Deed)
+        (result : Result (Said A) Spent) (said : Said A)
+        → MatchResult result (λ s. TookTurn (HeldFor disk vaults) actor_of start v g f
+        (deed v.number call (what s f') (sound f') ∷ []) s f' w) (λ _. (w ≡ record v { used_up = true }) × (f' ≡ f))
         → MatchResult result (λ s. said ≡ s) (λ _. (said.at ≡ 0) × (said.what ≡ Err spent))
-        → ((s : Said A) (x x' : Held D V) (called : CalledAtMut g f x s f' x') → Called f' s called.shown.now called.left.now said_what said_sound)
+        → ((s : Said A) (x x' : Held D V) (called : CalledAtMut g f x s f' x')
+        → Called f' s called.shown.now called.left.now said_what said_sound)
         → Says disk vaults (core start) v call (said_what said) said_sound said w
     says f' said_what said_sound w (Ok s) said took same at =
         inl (subst (λ (z : Said A). Turned disk vaults (core start) v call (said_what z) said_sound z.at w) (sym same)
@@ -91,25 +110,31 @@ module _ {D V : Type 0} (disk : Ghosts D) (vaults : vault.Ghosts V) where
     says f' said_what said_sound w (Err y) said h none at = inr record { at = none.0; what = none.1; view = h.0 }
 
     -- a fact of the call, where the turn was taken
-    pub if_taken : (f' : F) (w : View (Held D V) Deed) (result : Result (Said A) Spent) (said : Said A) (P : Said A → Type 0)
-        → MatchResult result (λ s. TookTurn (HeldFor disk vaults) actor_of start v g f (deed v.number call (what s f') (sound f') ∷ []) s f' w) (λ _. (w ≡ record v { used_up = true }) × (f' ≡ f))
+    pub if_taken : (f' : F) (w : View (Held D V) Deed) (result : Result (Said A) Spent) (said : Said A)
+        (P : Said A → Type 0)
+        → MatchResult result (λ s. TookTurn (HeldFor disk vaults) actor_of start v g f
+        (deed v.number call (what s f') (sound f') ∷ []) s f' w) (λ _. (w ≡ record v { used_up = true }) × (f' ≡ f))
         → MatchResult result (λ s. said ≡ s) (λ _. (said.at ≡ 0) × (said.what ≡ Err spent))
         → ((s : Said A) (x x' : Held D V) (called : CalledAtMut g f x s f' x') → P s)
         → w.used_up ≡ false → P said
     if_taken f' w (Ok s) said P took same met unspent = subst P (sym same) (met s took.value took.value' took.called)
-    if_taken f' w (Err y) said P h none met unspent = absurd (true≢false (sym (ap (λ (z : View (Held D V) Deed). z.used_up) h.0) ∙ unspent))
+    if_taken f' w (Err y) said P h none met unspent =
+        absurd (true≢false (sym (ap (λ (z : View (Held D V) Deed). z.used_up) h.0) ∙ unspent))
 
     -- and where there was none, the closure is as it was
     pub if_spent : (f' : F) (w : View (Held D V) Deed) (result : Result (Said A) Spent) (said : Said A)
-        → MatchResult result (λ s. TookTurn (HeldFor disk vaults) actor_of start v g f (deed v.number call (what s f') (sound f') ∷ []) s f' w) (λ _. (w ≡ record v { used_up = true }) × (f' ≡ f))
+        → MatchResult result (λ s. TookTurn (HeldFor disk vaults) actor_of start v g f
+        (deed v.number call (what s f') (sound f') ∷ []) s f' w) (λ _. (w ≡ record v { used_up = true }) × (f' ≡ f))
         → MatchResult result (λ s. said ≡ s) (λ _. (said.at ≡ 0) × (said.what ≡ Err spent))
         → w.used_up ≡ true → f' ≡ f
-    if_spent f' w (Ok s) said took same used = absurd (true≢false (sym used ∙ ap (λ (z : View (Held D V) Deed). z.used_up) took.view ∙ took.unspent))
+    if_spent f' w (Ok s) said took same used =
+        absurd (true≢false (sym used ∙ ap (λ (z : View (Held D V) Deed). z.used_up) took.view ∙ took.unspent))
     if_spent f' w (Err y) said h none used = h.1
 
     -- taken or not
     pub either_way : (f' : F) (w : View (Held D V) Deed) (result : Result (Said A) Spent) (P : Type 0)
-        → MatchResult result (λ s. TookTurn (HeldFor disk vaults) actor_of start v g f (deed v.number call (what s f') (sound f') ∷ []) s f' w) (λ _. (w ≡ record v { used_up = true }) × (f' ≡ f))
+        → MatchResult result (λ s. TookTurn (HeldFor disk vaults) actor_of start v g f
+        (deed v.number call (what s f') (sound f') ∷ []) s f' w) (λ _. (w ≡ record v { used_up = true }) × (f' ≡ f))
         → (f' ≡ f → P) → ((s : Said A) (x x' : Held D V) (called : CalledAtMut g f x s f' x') → P) → P
     either_way f' w (Ok s) P took still met = met s took.value took.value' took.called
     either_way f' w (Err y) P h still met = still h.1
@@ -122,15 +147,20 @@ raised_grows false n = omega arith
 
 pub number_grows : (n : ℕ) (ds : List Deed) → n ≤ number_after n ds
 number_grows n [] = omega arith
-number_grows n (d ∷ ds) = let h = number_grows (raised (is_commit d) n) ds in let k = raised_grows (is_commit d) n in omega (arith, h, k)
+number_grows n (d ∷ ds) =
+    let h = number_grows (raised (is_commit d) n) ds in
+    let k = raised_grows (is_commit d) n in
+    omega (arith, h, k)
 
 pub number_on : (n : ℕ) (ds more : List Deed) → number_after n ds ≤ number_after n (ds ++ more)
 number_on n [] more = number_grows n more
 number_on n (d ∷ ds) more = number_on (raised (is_commit d) n) ds more
 
 -- a tag that is no higher than a number to which deeds lead stays so
-pub tag_fits : {D V : Type 0} (disk : Ghosts D) (vaults : vault.Ghosts V) (start x y : Held D V) (tag : ℕ) (ds more : List Deed)
-    → tag ≤ number_after start.studio.commit_number ds → HeldFor disk vaults start x (ds ++ more) → y ≡ x → tag ≤ y.studio.commit_number
+pub tag_fits : {D V : Type 0} (disk : Ghosts D) (vaults : vault.Ghosts V) (start x y : Held D V) (tag : ℕ)
+    (ds more : List Deed)
+    → tag ≤ number_after start.studio.commit_number ds → HeldFor disk vaults start x (ds ++ more) → y ≡ x
+    → tag ≤ y.studio.commit_number
 tag_fits {D} {V} disk vaults start x y tag ds more low stands is =
     let on = number_on start.studio.commit_number ds more in
     let at = stands.number in
@@ -138,19 +168,24 @@ tag_fits {D} {V} disk vaults start x y tag ds more low stands is =
     omega (arith, low, on, at, same)
 
 -- a call leaves the seat's number, and what is away from it
-pub seat_stays : {D V A : Type 0} (disk : Ghosts D) (vaults : vault.Ghosts V) (start : Core D) (v w : View (Held D V) Deed) (call : Call) (what : Result Reply Refusal) (sound : SoundMove) (said : Said A)
+pub seat_stays : {D V A : Type 0} (disk : Ghosts D) (vaults : vault.Ghosts V) (start : Core D)
+    (v w : View (Held D V) Deed) (call : Call) (what : Result Reply Refusal) (sound : SoundMove) (said : Said A)
     → Says disk vaults start v call what sound said w → (w.number ≡ v.number) × (w.away ≡ v.away)
 seat_stays {D} {V} {A} disk vaults start v w call what sound said h = ⊎_elim
-    (λ (x : Turned disk vaults start v call what sound said.at w). (ap (λ (z : View (Held D V) Deed). z.number) x.view, ap (λ (z : View (Held D V) Deed). z.away) x.view))
-    (λ (x : Spends v said w). (ap (λ (z : View (Held D V) Deed). z.number) x.view, ap (λ (z : View (Held D V) Deed). z.away) x.view))
+    (λ (x : Turned disk vaults start v call what sound said.at w).
+    (ap (λ (z : View (Held D V) Deed). z.number) x.view, ap (λ (z : View (Held D V) Deed). z.away) x.view))
+    (λ (x : Spends v said w).
+    (ap (λ (z : View (Held D V) Deed). z.number) x.view, ap (λ (z : View (Held D V) Deed). z.away) x.view))
     h
 
 -- the number that is told is none above that to which the deeds lead that the seat has seen
-pub said_number : {D V A : Type 0} (disk : Ghosts D) (vaults : vault.Ghosts V) (start : Core D) (v w : View (Held D V) Deed) (call : Call) (what : Result Reply Refusal) (sound : SoundMove) (said : Said A)
+pub said_number : {D V A : Type 0} (disk : Ghosts D) (vaults : vault.Ghosts V) (start : Core D)
+    (v w : View (Held D V) Deed) (call : Call) (what : Result Reply Refusal) (sound : SoundMove) (said : Said A)
     → Says disk vaults start v call what sound said w → said.at ≤ number_after start.commit_number w.seen
 said_number {D} {V} {A} disk vaults start v w call what sound said h = ⊎_elim
     (λ (x : Turned disk vaults start v call what sound said.at w).
-    let same : said.at ≡ number_after start.commit_number w.seen = x.number ∙ x.stands.number ∙ sym (ap (λ (z : View (Held D V) Deed). number_after start.commit_number z.seen) x.view) in
+    let same : said.at ≡ number_after start.commit_number w.seen = x.number ∙ x.stands.number
+    ∙ sym (ap (λ (z : View (Held D V) Deed). number_after start.commit_number z.seen) x.view) in
     omega (arith, same))
     (λ (x : Spends v said w). let none = x.at in omega (arith, none))
     h

@@ -40,9 +40,10 @@ module _ {D V : Type 0} where
     pub away : v.away ≡ []
     pub unspent : v.used_up ≡ false
 
-  -- A turn of a seat: behind all that it had seen it has seen deeds of others, and then its own, by which the studio went
-  -- from `before` to `after`. It tells the commit number behind the turn.
-  pub record Turned (disk : Ghosts D) (vaults : vault.Ghosts V) (start : Core D) (v : View (Held D V) Deed) (call : Call)
+  -- A turn of a seat: behind all that it had seen it has seen deeds of others, and then its own, by which the studio
+  -- went from `before` to `after`. It tells the commit number behind the turn.
+  pub record Turned (disk : Ghosts D) (vaults : vault.Ghosts V) (start : Core D) (v : View (Held D V) Deed)
+      (call : Call)
       (what : Result Reply Refusal) (sound : SoundMove) (at : ℕ) (w : View (Held D V) Deed) : Type 0 where
     pub between : List Deed
     pub by_others : ByOthers actor_of (v.number ∷ []) between
@@ -65,7 +66,8 @@ module _ {D V : Type 0} where
     pub what : said.what ≡ Err spent
     pub view : w ≡ record v { used_up = true }
 
-  abbrev pub Says : {A : Type 0} → Ghosts D → vault.Ghosts V → Core D → View (Held D V) Deed → Call → Result Reply Refusal
+  abbrev pub Says : {A : Type 0} → Ghosts D → vault.Ghosts V → Core D → View (Held D V) Deed → Call
+      → Result Reply Refusal
       → SoundMove → Said A → View (Held D V) Deed → Type 0
   Says disk vaults start v call what sound said w =
       Turned disk vaults start v call what sound said.at w ⊎ Spends v said w

@@ -1,5 +1,6 @@
 -- One list of deeds, by their makers.
-use Rattle.std.specs.Prelude.{◌≡◌, ℕ, ◌+◌, ◌<◌, ◌==◌, ◌&&◌, if◌then◌else◌, ℤ, Bool, true, false, List, [], ◌∷◌, ◌++◌, length, take}
+use Rattle.std.specs.Prelude.{◌≡◌, ℕ, ◌+◌, ◌<◌, ◌==◌, ◌&&◌, if◌then◌else◌, ℤ, Bool, true, false, List, [], ◌∷◌, ◌++◌}
+use Rattle.std.specs.Prelude.{length, take}
 use Rattle.std.specs.List.{zip}
 use Rattle.pin_turn.specs.Counts.{Each, times, once_below}
 use Rattle.pin_turn.specs.Rule.{ByOthers}
@@ -22,7 +23,8 @@ number_if kind commit n = if kind && commit then n ∷ [] else []
 -- the commit numbers of the deeds of a kind, by the number before the list
 abbrev pub numbers_of : (Deed → Bool) → ℕ → List Deed → List ℕ
 numbers_of kind n [] = []
-numbers_of kind n (e ∷ es) = number_if (kind e) (is_commit e) (raised (is_commit e) n) ++ numbers_of kind (raised (is_commit e) n) es
+numbers_of kind n (e ∷ es) =
+    number_if (kind e) (is_commit e) (raised (is_commit e) n) ++ numbers_of kind (raised (is_commit e) n) es
 
 -- the deeds of a kind, in order
 abbrev pub deeds_of : (Deed → Bool) → List Deed → List Deed
@@ -44,7 +46,8 @@ SplitsIn one two es = Each (λ e. is_commit e ≡ true → one_if (one e) + one_
 -- The list that all seats made together, by the number before it. The first seat did some things alone, of which the
 -- last commit is the recording's own. Then the script, by the first seat, and the recorder, by another, made all the
 -- commits.
-pub record Merged (first : ℕ) (log : List Deed) (script recorder : ℕ) (opening_commits script_commits piece_commits : List ℕ) : Type 0 where
+pub record Merged (first : ℕ) (log : List Deed) (script recorder : ℕ)
+    (opening_commits script_commits piece_commits : List ℕ) : Type 0 where
   pub opening : List Deed
   pub rest : List Deed
   pub split : log ≡ opening ++ rest
@@ -55,14 +58,17 @@ pub record Merged (first : ℕ) (log : List Deed) (script recorder : ℕ) (openi
 
 -- the numbers are together all from above the first to the last, each once, and each list rises
 pub record Numbers (first last : ℕ) (opening_commits script_commits piece_commits : List ℕ) : Type 0 where
-  pub each : (k : ℕ) → once_below k (first + 1) + (times k opening_commits + times k script_commits + times k piece_commits) ≡ once_below k (last + 1)
+  pub each : (k : ℕ) → once_below k
+      (first + 1) + (times k opening_commits + times k script_commits + times k piece_commits) ≡ once_below k (last + 1)
   pub opening_rises : Rises first opening_commits
   pub script_rises : Rises first script_commits
   pub pieces_rise : Rises first piece_commits
 
 abbrev pub MergedNumbers : Type 0
-MergedNumbers = (first : ℕ) (log : List Deed) (script recorder : ℕ) (opening_commits script_commits piece_commits : List ℕ)
-    → Merged first log script recorder opening_commits script_commits piece_commits → Numbers first (number_after first log) opening_commits script_commits piece_commits
+MergedNumbers =
+    (first : ℕ) (log : List Deed) (script recorder : ℕ) (opening_commits script_commits piece_commits : List ℕ)
+    → Merged first log script recorder opening_commits script_commits piece_commits
+    → Numbers first (number_after first log) opening_commits script_commits piece_commits
 
 abbrev pub is_piece : ℕ → ℕ → Call → Bool
 is_piece to by (call.Line c) = false
@@ -88,7 +94,8 @@ PieceNumbers = (to by seat first : ℕ) (before seen more : List Deed) (chunks :
     → pieces_by to by seat first seen ≡ pieces_by to by seat first before ++ zip (take (length numbers) chunks) numbers
     → ByOthers actor_of (seat ∷ []) more
     → OnlyPieces to by seat (seen ++ more)
-    → (pieces_by to by seat first (seen ++ more) ≡ zip (take (length numbers) chunks) numbers) × (numbers_of (by_seat seat) first (seen ++ more) ≡ numbers_in (zip (take (length numbers) chunks) numbers))
+    → (pieces_by to by seat first (seen ++ more) ≡ zip (take (length numbers) chunks) numbers)
+    × (numbers_of (by_seat seat) first (seen ++ more) ≡ numbers_in (zip (take (length numbers) chunks) numbers))
 
 -- a turn of a seat comes behind its earlier ones
 abbrev pub OwnOrder : Type 0

@@ -21,4 +21,5 @@ piece_by to by seat e n = if (seat == e.actor) && is_commit e then piece_in to b
 -- the pieces of a recording that this seat added, each with its commit number, by the number before the list
 abbrev pub pieces_by : ℕ → ℕ → ℕ → ℕ → List Deed → List (List ℤ × ℕ)
 pieces_by to by seat n [] = []
-pieces_by to by seat n (e ∷ es) = piece_by to by seat e (raised (is_commit e) n) ++ pieces_by to by seat (raised (is_commit e) n) es
+pieces_by to by seat n (e ∷ es) =
+    piece_by to by seat e (raised (is_commit e) n) ++ pieces_by to by seat (raised (is_commit e) n) es

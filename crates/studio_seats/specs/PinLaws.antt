@@ -10,12 +10,15 @@ use Rattle.pcm_base.specs.Run.{Answers, Run}
 use Rattle.pcm_base.specs.Studio as model
 use Rattle.studio_seats.specs.Pins.{IsKept, ShowsPin, pin_frames}
 
--- In a run a pin was made, and nobody let it go: then it shows the mix of the project that was current where it was made,
--- a length that is answered is that of the mix, and frames that are answered are those of the mix from the place on.
+-- In a run a pin was made, and nobody let it go: then it shows the mix of the project that was current where it was
+-- made, a length that is answered is that of the mix, and frames that are answered are those of the mix from the place
+-- on.
 pub record PinStays (u : model.Studio) (pin : ℕ) (frames : List Frame) : Type 0 where
   pub shows : ShowsPin u.state pin frames
-  pub len : (sound : SoundMove) (r : Reply) (after : model.Studio) → Answers u (PinLen pin) sound (Ok r) after → r ≡ Length (length frames)
-  pub reads : (from count : ℕ) (sound : SoundMove) (r : Reply) (after : model.Studio) → Answers u (ReadPin pin from count) sound (Ok r) after
+  pub len : (sound : SoundMove) (r : Reply) (after : model.Studio) → Answers u (PinLen pin) sound (Ok r) after
+      → r ≡ Length (length frames)
+  pub reads : (from count : ℕ) (sound : SoundMove) (r : Reply) (after : model.Studio)
+      → Answers u (ReadPin pin from count) sound (Ok r) after
       → r ≡ Frames (take count (drop from frames))
 
 abbrev pub PinsStay : Type 0

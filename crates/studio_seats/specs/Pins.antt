@@ -1,5 +1,6 @@
 -- What the pins of a run show.
-use Rattle.std.specs.Prelude.{◌≡◌, ℕ, ◌==◌, if◌then◌else◌, Bool, true, false, List, [], ◌∷◌, Option, Some, None, Result, Ok, Err}
+use Rattle.std.specs.Prelude.{◌≡◌, ℕ, ◌==◌, if◌then◌else◌, Bool, true, false, List, [], ◌∷◌, Option, Some, None, Result}
+use Rattle.std.specs.Prelude.{Ok, Err}
 use Rattle.pcm_base.specs.declared.answer.Reply.{Reply}
 use Rattle.pcm_base.specs.declared.answer.Reply.TheVariants as reply
 use Rattle.pcm_base.specs.declared.command.Call.{Call}
@@ -68,7 +69,8 @@ abbrev pub IsKept : ℕ → List Entry → Type 0
 IsKept pin [] = Unit {0}
 IsKept pin (e ∷ es) = (drops_pin e.call (result_of e.reply) pin ≡ false) × IsKept pin es
 
--- the frames that the pin of this number shows, where it was made in the run: the mix of the project that was current then
+-- the frames that the pin of this number shows, where it was made in the run: the mix of the project that was current
+-- then
 abbrev pub pin_frames : ℕ → State → List Entry → ℕ → Option (List Frame)
 pin_frames rate s [] pin = None
 pin_frames rate s (e ∷ es) pin =

@@ -10,9 +10,10 @@ use Rattle.studio_seats.specs.Deeds.{entries_of}
 use Rattle.studio_seats.specs.Pins.{pin_frames}
 use Rattle.studio_seats.specs.Stands.{AllTell}
 
--- Where vaults tell their bytes and the disk held the studio at the start, these are the frames of the mix of the project
--- that was current where the pin was made.
-pub record IsMixOf {D V : Type 0} (disk : Ghosts D) (vaults : vault.Ghosts V) (start : Core D) (seen : List Deed) (pin : ℕ)
+-- Where vaults tell their bytes and the disk held the studio at the start, these are the frames of the mix of the
+-- project that was current where the pin was made.
+pub record IsMixOf {D V : Type 0} (disk : Ghosts D) (vaults : vault.Ghosts V) (start : Core D) (seen : List Deed)
+    (pin : ℕ)
     (all : List Frame) : Type 0 where
   pub told : AllTell vaults
   pub held : IsHeld disk start

@@ -47,7 +47,8 @@ pub record StopsInFlight (t : model.Studio) (entries : List Entry) (files : File
   pub flight : InFlight reached last.call last.sound files
 
 -- One call of a studio: a step, where it names no sound, or it is `told` that vaults tell their bytes.
-pub record Does {D : Type 0} (disk : Ghosts D) (told : Type 0) (old : Core D) (call : Call) (what : Result Reply Refusal)
+pub record Does {D : Type 0} (disk : Ghosts D) (told : Type 0) (old : Core D) (call : Call)
+    (what : Result Reply Refusal)
     (sound : SoundMove) (new : Core D) : Type 0 where
   -- how many files of blocks went
   pub removed : ℕ
@@ -56,7 +57,8 @@ pub record Does {D : Type 0} (disk : Ghosts D) (told : Type 0) (old : Core D) (c
 
 -- From the start on, the studio stands for these deeds. Whatever disk and vaults tell, it is a studio, and its commit
 -- number is that to which they lead.
-pub record StandsFor {D : Type 0} (disk : Ghosts D) (told : Type 0) (start now : Core D) (deeds : List Deed) : Type 0 where
+pub record StandsFor {D : Type 0} (disk : Ghosts D) (told : Type 0) (start now : Core D)
+    (deeds : List Deed) : Type 0 where
   pub studio : IsStudio disk now
   pub number : now.commit_number ≡ number_after start.commit_number deeds
   -- the disk that held it at the start holds it, with all blocks that a point, a pin or the clipboard names, and the
@@ -65,8 +67,8 @@ pub record StandsFor {D : Type 0} (disk : Ghosts D) (told : Type 0) (start now :
   pub run : told → IsHeld disk start → Run (studio_of disk start) (entries_of deeds) (studio_of disk now)
   -- and no deed tells a damaged file
   pub whole : told → IsHeld disk start → Each (λ d. IfErr d.what IsUnharmed) deeds
-  -- at any moment since the start each image has the project behind some of the first entries, the one in flight counted
-  -- last
+  -- at any moment since the start each image has the project behind some of the first entries, the one in flight
+  -- counted last
   pub any_moment : told → start.stopped ≡ None → IsHeld disk start
       → EachSince disk start.store now.store (KeepsPrefix (studio_of disk start) (entries_of deeds))
   -- each image now has the project behind all of them; or, where one of them stopped the studio, that one in flight
@@ -74,5 +76,6 @@ pub record StandsFor {D : Type 0} (disk : Ghosts D) (told : Type 0) (start now :
       → EachNow disk now.store (λ c. Keeps c (shown (studio_of disk now)))
   pub stopped : told → start.stopped ≡ None → IsSome now.stopped → IsHeld disk start → EachNow disk now.store (λ c.
       Keeps c (shown (studio_of disk now)) ⊎ StopsInFlight (studio_of disk start) (entries_of deeds) c)
-  -- no file changes but the journal and those of blocks, here and in what a stop may leave, of moments before the start too
+  -- no file changes but the journal and those of blocks, here and in what a stop may leave, of moments before the start
+  -- too
   pub others : KeepsForeign disk start.store now.store

@@ -21,8 +21,8 @@ pub fn turns_keep_order()
     ensures { OwnOrder }
 {}
 
-/// A pin that was made in a run, and that nobody let go, shows the mix of the project that was current then, and all that
-/// is asked of it is answered so.
+/// A pin that was made in a run, and that nobody let go, shows the mix of the project that was current then, and all
+/// that is asked of it is answered so.
 pub fn pins_stay()
     ensures { PinsStay }
 {}

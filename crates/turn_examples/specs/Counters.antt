@@ -16,7 +16,8 @@ pub record IsRaised (start now : Counter) (raises : List Increment) : Type 0 whe
   pub found : FoundFrom start.count raises
 
 -- one raise more: between what the seat had seen and its own raise are others', and what it found counts all of these
-pub record Raises (start : Counter) (old : View Counter Increment) (found : ℕ) (new : View Counter Increment) : Type 0 where
+pub record Raises (start : Counter) (old : View Counter Increment) (found : ℕ)
+    (new : View Counter Increment) : Type 0 where
   pub between : List Increment
   pub by_others : ByOthers (λ (r : Increment). r.by) (old.number ∷ []) between
   pub seen : new.seen ≡ (old.seen ++ between) ++ record { by = old.number; found = found } ∷ []

@@ -1,6 +1,8 @@
 // Points behind one another.
-ghost use Rattle.std.specs.Prelude.{◌≡◌, ◌⊎◌, ◌+◌, ◌-◌, ◌<◌, ◌≤◌, Some, IfOk, IfErr, OnOk, OnErr, length, slice_index, slice_get};
-ghost use Rattle.pcm_base.specs.History.{IsHistory, history_of_one, points_of, tags_of, edited, amended, at_cursor, purged};
+ghost use Rattle.std.specs.Prelude.{◌≡◌, ◌⊎◌, ◌+◌, ◌-◌, ◌<◌, ◌≤◌, Some, IfOk, IfErr, OnOk, OnErr, length, slice_index};
+ghost use Rattle.std.specs.Prelude.{slice_get};
+ghost use Rattle.pcm_base.specs.History.{IsHistory, history_of_one, points_of, tags_of, edited, amended, at_cursor};
+ghost use Rattle.pcm_base.specs.History.{purged};
 
 use pcm_base::{NoMemory, Refusal};
 use std::alloc::Global;
@@ -22,7 +24,10 @@ impl<P> Model for History<P> {
 
     ghost Value = { Stored P };
 
-    ghost view = { λ h. record { history = record { points = h.points.items; cursor = h.cursor; depth = h.depth }; capacity = deque_capacity h.points } };
+    ghost view = { λ h. record {
+      history = record { points = h.points.items; cursor = h.cursor; depth = h.depth };
+      capacity = deque_capacity h.points;
+    } };
 
     ghost invariant = { λ h. IsHistory (record { points = h.points.items; cursor = h.cursor; depth = h.depth }) };
 }
@@ -58,9 +63,9 @@ impl<P: Drop> History<P> {
         Ok(())
     }
 
-    /// Puts a point behind the current one and makes it current. Points that could be redone are dropped, and beyond the
-    /// depth the oldest goes. It takes memory only where there is no room for one point more; where there is none, the
-    /// point comes back and nothing changes.
+    /// Puts a point behind the current one and makes it current. Points that could be redone are dropped, and beyond
+    /// the depth the oldest goes. It takes memory only where there is no room for one point more; where there is none,
+    /// the point comes back and nothing changes.
     pub fn push(&mut self, point: P, tag: u64) -> Result<(), P>
         ensures ok { OnOk result (self.new.history ≡ edited self.old.history point tag) }
         ensures err { IfErr result (λ p. (p ≡ point) × (self.new.history ≡ self.old.history)) }
@@ -92,7 +97,8 @@ impl<P: Drop> History<P> {
     pub fn undo(&mut self) -> Result<(), Refusal>
         ensures ok { OnOk result ((0 < self.old.history.cursor)
             × (self.new ≡ record self.old { history = at_cursor self.old.history (self.old.history.cursor - 1) })) }
-        ensures err { IfErr result (λ e. (e ≡ Refusal.NothingToUndo) × (self.old.history.cursor ≡ 0) × (self.new ≡ self.old)) }
+        ensures err { IfErr result
+            (λ e. (e ≡ Refusal.NothingToUndo) × (self.old.history.cursor ≡ 0) × (self.new ≡ self.old)) }
     {
         if self.cursor == 0 {
             return Err(Refusal::NothingToUndo);
@@ -105,7 +111,8 @@ impl<P: Drop> History<P> {
     pub fn redo(&mut self) -> Result<(), Refusal>
         ensures ok { OnOk result ((self.old.history.cursor + 1 < length self.old.history.points)
             × (self.new ≡ record self.old { history = at_cursor self.old.history (self.old.history.cursor + 1) })) }
-        ensures err { IfErr result (λ e. (e ≡ Refusal.NothingToRedo) × (self.old.history.cursor + 1 ≡ length self.old.history.points) × (self.new ≡ self.old)) }
+        ensures err { IfErr result (λ e. (e ≡ Refusal.NothingToRedo)
+            × (self.old.history.cursor + 1 ≡ length self.old.history.points) × (self.new ≡ self.old)) }
     {
         if self.cursor + 1 == self.points.len() {
             return Err(Refusal::NothingToRedo);
@@ -118,7 +125,8 @@ impl<P: Drop> History<P> {
     pub fn purge(&mut self, count: u64) -> Result<(), Refusal>
         ensures ok { OnOk result ((1 ≤ count) × (count ≤ self.old.history.cursor)
             × (self.new ≡ record self.old { history = purged self.old.history count })) }
-        ensures err { IfErr result (λ e. (e ≡ Refusal.BadRange) × ((count ≡ 0) ⊎ (self.old.history.cursor < count)) × (self.new ≡ self.old)) }
+        ensures err { IfErr result
+            (λ e. (e ≡ Refusal.BadRange) × ((count ≡ 0) ⊎ (self.old.history.cursor < count)) × (self.new ≡ self.old)) }
     {
         if count == 0 || count > self.cursor as u64 {
             return Err(Refusal::BadRange);

@@ -1,6 +1,7 @@
 // The chunks of a file, up to the `data` chunk.
 ghost use Rattle.std.specs.Prelude.{◌≡◌, ◌≤◌, ◌<◌, ◌+◌, Err, length, take, drop, IfOk, IfSome, OnSome};
-ghost use Rattle.pcm_base.specs.Wave.{wav_of, data_of, ended, format_of, some_format, seen_after, chunks_from, is_riff as says_riff, padded};
+ghost use Rattle.pcm_base.specs.Wave.{wav_of, data_of, ended, format_of, some_format, seen_after, chunks_from};
+ghost use Rattle.pcm_base.specs.Wave.{is_riff as says_riff, padded};
 ghost use Rattle.wav_pcm.specs.Wavs.{Says, seen_in, sound_in_data};
 
 use super::bytes::u32_at;

@@ -108,8 +108,8 @@ impl<S: Store, V: Vault> Desk<S, V> {
         )
     }
 
-    /// Puts the frames of the mix of a pinned project from a place on at the front of `out`, as many as there are and as it
-    /// has room for, and answers how many. Where no turn is left `out` is as it was.
+    /// Puts the frames of the mix of a pinned project from a place on at the front of `out`, as many as there are and
+    /// as it has room for, and answers how many. Where no turn is left `out` is as it was.
     ///
     /// # Errors
     ///
@@ -124,7 +124,8 @@ impl<S: Store, V: Vault> Desk<S, V> {
     ) -> Said<usize>
         requires { IsAt self.now seat.old }
         ensures same { IsAt self.now seat.new }
-        ensures says { Says S.Store V.Vault (start_at self.now) (known seat.old) (call.ReadPin pin from (length out.old))
+        ensures says { Says S.Store V.Vault (start_at self.now) (known seat.old)
+            (call.ReadPin pin from (length out.old))
             (told_by (λ n. reply.Frames (take n out.new)) result.what) silent result (known seat.new) }
         ensures bound { IfOk result.what (λ n. n ≤ length out.new) }
         ensures limit { IfOk result.what (λ n. 0 < n → from + n ≤ 2 ^ 32) }
@@ -136,7 +137,8 @@ impl<S: Store, V: Vault> Desk<S, V> {
                 seat,
                 &mut |held: &mut Held<S, V>| -> Said<usize>
                     requires { IsStudio S.Store (core_of held.old.studio) }
-                    ensures took { Took S.Store (core_of held.old.studio) (call.ReadPin pin from (length out.entry.now)) silent
+                    ensures took { Took S.Store (core_of held.old.studio)
+                        (call.ReadPin pin from (length out.entry.now)) silent
                         (told_by (λ n. reply.Frames (take n out.exit.now)) result.what) 0 (core_of held.new.studio) }
                     ensures at { result.at ≡ (core_of held.new.studio).commit_number }
                     ensures bound { IfOk result.what (λ n. n ≤ length out.exit.now) }

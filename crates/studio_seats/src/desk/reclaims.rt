@@ -20,8 +20,8 @@ use std::marker::Brand;
 use std::sync::Wait;
 
 impl<S: Store, V: Vault> Desk<S, V> {
-    /// Removes block files that nothing names, as [`Studio::reclaim`](editor_core::Studio::reclaim) does, and answers how
-    /// many went. It takes no memory.
+    /// Removes block files that nothing names, as [`Studio::reclaim`](editor_core::Studio::reclaim) does, and answers
+    /// how many went. It takes no memory.
     ///
     /// # Errors
     ///

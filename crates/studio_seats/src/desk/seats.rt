@@ -61,7 +61,8 @@ impl<S: Store, V: Vault> Desk<S, V> {
         requires desk { IsAt self.now seat.old × IsAt self.now other }
         requires away { (0 < times (known other).number (known seat.old).away) × ((known other).away ≡ []) }
         ensures kept { IsAt self.now seat.new × (known seat.new ≡ joined (known seat.old) (known other)) }
-        ensures alike { Begins actor_of (known seat.old) (known other) ⊎ Begins actor_of (known other) (known seat.old) }
+        ensures alike { Begins actor_of (known seat.old) (known other)
+            ⊎ Begins actor_of (known other) (known seat.old) }
     {
         self.turn.join(seat, other);
     }

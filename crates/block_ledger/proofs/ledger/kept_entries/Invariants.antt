@@ -4,4 +4,5 @@ use Rattle.block_ledger.specs.Entries.{is_kept}
 use Rattle.block_ledger.proofs.ledger.kept_entries.Given as goal
 
 abbrev pub invariant-loop-entry : goal.invariant-loop-entry
-invariant-loop-entry l = (l.kept.items ≡ filter is_kept (take l.entry-index l.entries)) × (l.places ≤ vec_capacity l.kept)
+invariant-loop-entry l =
+    (l.kept.items ≡ filter is_kept (take l.entry-index l.entries)) × (l.places ≤ vec_capacity l.kept)

@@ -3,7 +3,8 @@ use Rattle.std.proofs.Common.{◌≡◌, ◌+◌, ◌≤◌, ◌++◌, List, [],
 use Rattle.pcm_base.specs.declared.piece.Piece.{Piece}
 use Rattle.pcm_base.specs.declared.piece.Piece.TheVariants.{Old}
 use Rattle.pcm_base.specs.Pieces.{all_samples, piece_len, part_of}
-use Rattle.pcm_base.proofs.Pieces.{total-append, piece_len-part, IsValid-part, Fits-part, AllValid-append, AllFit-append}
+use Rattle.pcm_base.proofs.Pieces.{total-append, piece_len-part, IsValid-part, Fits-part, AllValid-append}
+use Rattle.pcm_base.proofs.Pieces.{AllFit-append}
 use Rattle.block_sequence.proofs.Rest.{valid_at, fits_at, below, total_next, samples_next, samples_part, samples_push}
 use Rattle.block_sequence.proofs.Origins.{IsFrom-part, from_at, AllFrom-append}
 use Rattle.block_sequence.proofs.cutting.cut_off.Goals as goal
@@ -36,7 +37,8 @@ loop-left-preserved-then-len-skip c =
       within = omega (arith, t);
       rest = omega (arith, t);
       samples = λ src. rw c.piece_len-len.ensures (
-          ap (λ (ys : List ℤ). all_samples src c.loop-left.out.items ++ ys) (samples_next src ps i c.loop-left.skip nothing h (omega arith))
+          ap (λ (ys : List ℤ). all_samples src c.loop-left.out.items ++ ys)
+          (samples_next src ps i c.loop-left.skip nothing h (omega arith))
           ∙ c.loop-left.invariant.samples src);
     }
 
@@ -53,10 +55,15 @@ loop-left-preserved c =
     let n = piece_len-part c.loop-left.skip c.min-size.result p in
     rw (c.in_ok-push.ensures.items, part) (record {
       valid = AllValid-append _ _ c.loop-left.invariant.valid (IsValid-part _ _ p k v, tt);
-      fit = λ m f. AllFit-append m _ _ (c.loop-left.invariant.fit m f) (Fits-part m _ _ p (fits_at m ps i nothing h f), tt);
-      origin = λ blocks count f. AllFrom-append blocks count _ _ (c.loop-left.invariant.origin blocks count f) (IsFrom-part blocks count _ _ p k v (from_at blocks count ps i nothing h f), tt);
+      fit = λ m f. AllFit-append m _ _ (c.loop-left.invariant.fit m f) (
+        Fits-part m _ _ p (fits_at m ps i nothing h f),
+        tt,
+      );
+      origin = λ blocks count f. AllFrom-append blocks count _ _ (c.loop-left.invariant.origin blocks count f)
+          (IsFrom-part blocks count _ _ p k v (from_at blocks count ps i nothing h f), tt);
       taken = omega (arith, total-append c.loop-left.out.items (part_of c.loop-left.skip c.min-size.result p ∷ []), n);
       within = omega arith;
       rest = omega (arith, total-append c.loop-left.out.items (part_of c.loop-left.skip c.min-size.result p ∷ []), n);
-      samples = λ src. samples_push src c.loop-left.out.items _ _ _ _ (samples_part src ps i c.loop-left.skip c.min-size.result nothing h k) (c.loop-left.invariant.samples src);
+      samples = λ src. samples_push src c.loop-left.out.items _ _ _ _
+          (samples_part src ps i c.loop-left.skip c.min-size.result nothing h k) (c.loop-left.invariant.samples src);
     })

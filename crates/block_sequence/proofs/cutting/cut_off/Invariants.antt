@@ -14,7 +14,8 @@ invariant-loop-left l = record {
   taken : total l.out.items + l.left ≡ l.n;
   within : l.skip + l.left ≤ total (drop l.at l.pieces);
   rest : total_from l.pieces l.at l.skip + total l.out.items ≡ total_from l.pieces l.fn.place.at l.fn.place.skip;
-  samples : (src : Sources) → all_samples src l.out.items ++ samples_from src l.pieces l.at l.skip ≡ samples_from src l.pieces l.fn.place.at l.fn.place.skip;
+  samples : (src : Sources) → all_samples src l.out.items ++ samples_from src l.pieces l.at l.skip
+      ≡ samples_from src l.pieces l.fn.place.at l.fn.place.skip;
 }
 
 abbrev pub decreases-loop-left : goal.decreases-loop-left

@@ -10,8 +10,10 @@ pub nonzero_rem-run : goal.nonzero_rem-run
 nonzero_rem-run c = omega (arith, count_sizes c.args.m c.args.run c.requires.some)
 
 pub returns-then-k-run : goal.returns-then-k-run
-returns-then-k-run c = rw c.div_ceil-n.ensures (size_low c.args.m c.args.run c.args.k (rw c.div_ceil-n.ensures at c.if-k-run.true))
+returns-then-k-run c =
+    rw c.div_ceil-n.ensures (size_low c.args.m c.args.run c.args.k (rw c.div_ceil-n.ensures at c.if-k-run.true))
 
 pub returns-else-k-run : goal.returns-else-k-run
 returns-else-k-run c =
-    rw c.div_ceil-n.ensures (size_high c.args.m c.args.run c.args.k (rw c.div_ceil-n.ensures at c.if-k-run.false) (omega (arith, count_sizes c.args.m c.args.run c.requires.some)))
+    rw c.div_ceil-n.ensures (size_high c.args.m c.args.run c.args.k (rw c.div_ceil-n.ensures at c.if-k-run.false)
+    (omega (arith, count_sizes c.args.m c.args.run c.requires.some)))

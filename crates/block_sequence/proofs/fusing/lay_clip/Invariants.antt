@@ -15,5 +15,6 @@ invariant-loop-i l = record {
   before : l.start ≤ l.i;
   open_run : total (drop l.start l.pieces) ≡ l.run + total (drop l.i l.pieces);
   sizes : parts l.out.items ++ laid_from l.first l.m l.run (drop l.i l.pieces) ≡ laying.laid_clip l.m l.pieces;
-  samples : (src : Sources) → all_laid_samples src l.out.items ++ all_samples src (drop l.start l.pieces) ≡ all_samples src l.pieces;
+  samples : (src : Sources)
+      → all_laid_samples src l.out.items ++ all_samples src (drop l.start l.pieces) ≡ all_samples src l.pieces;
 }

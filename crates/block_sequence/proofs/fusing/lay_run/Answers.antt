@@ -35,13 +35,15 @@ loop-k-preserved c =
           (c.in_ok-cut.ensures.valid, c.in_ok-cut.ensures.fit c.args.m c.requires.fit, c.in_ok-cut.ensures.total);
       sizes =
           parts_push c.loop-k.out.items l (made (drop (k + 1) sizes))
-          ∙ ap (λ (ps : List layout.Part). parts c.loop-k.out.items ++ ps) (ap (λ n. layout.Made n ∷ made (drop (k + 1) sizes)) c.block_size-len.ensures ∙ sym (made_next sizes k h))
+          ∙ ap (λ (ps : List layout.Part). parts c.loop-k.out.items ++ ps)
+          (ap (λ n. layout.Made n ∷ made (drop (k + 1) sizes)) c.block_size-len.ensures ∙ sym (made_next sizes k h))
           ∙ c.loop-k.invariant.sizes;
       samples = λ src.
           samples_push_laid src c.loop-k.out.items l _
           ∙ ap (λ (xs : List ℤ). all_laid_samples src c.loop-k.out.items ++ xs) (c.in_ok-cut.ensures.samples src)
           ∙ c.loop-k.invariant.samples src;
-      origin = λ blocks count f g. AllLaidFrom-push blocks count c.loop-k.out.items l (c.loop-k.invariant.origin blocks count f g) (c.in_ok-cut.ensures.from blocks count f);
+      origin = λ blocks count f g. AllLaidFrom-push blocks count c.loop-k.out.items l
+          (c.loop-k.invariant.origin blocks count f g) (c.in_ok-cut.ensures.from blocks count f);
       within = c.in_ok-cut.ensures.within;
       left = omega (arith, next, c.in_ok-cut.ensures.rest);
     })
@@ -50,4 +52,6 @@ pub returns-clause-samples : goal.returns-clause-samples
 returns-clause-samples c =
     let sizes = layout.block_sizes c.args.m c.args.run in
     let none : added (drop c.loop-k.k sizes) ≡ 0 = added_all sizes c.loop-k.k (omega arith) in
-    λ src. sym (none_left src c.args.pieces.now c.loop-k.place.at c.loop-k.place.skip _ (c.loop-k.invariant.left ∙ none)) ∙ c.loop-k.invariant.samples src
+    λ src.
+    sym (none_left src c.args.pieces.now c.loop-k.place.at c.loop-k.place.skip _ (c.loop-k.invariant.left ∙ none))
+    ∙ c.loop-k.invariant.samples src

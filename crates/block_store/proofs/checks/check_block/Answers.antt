@@ -3,7 +3,9 @@ use Rattle.block_store.proofs.CheckLaws.{whole_result, sound_check}
 use Rattle.block_store.proofs.checks.check_block.Goals as goal
 
 pub returns-clause-whole : goal.returns-clause-whole
-returns-clause-whole g c = λ told. whole_result c.check_file.result (g.S.Store.reads c.args.store.now) c.args.block.id c.args.block.len c.requires.block (c.check_file.ensures.spelled told)
+returns-clause-whole g c = λ told. whole_result c.check_file.result (g.S.Store.reads c.args.store.now) c.args.block.id
+    c.args.block.len c.requires.block (c.check_file.ensures.spelled told)
 
 pub returns-clause-sound : goal.returns-clause-sound
-returns-clause-sound g c = λ told whole. sound_check c.check_file.result (g.S.Store.reads c.args.store.now) c.args.block.id c.args.block.len whole (c.check_file.ensures.checked told)
+returns-clause-sound g c = λ told whole. sound_check c.check_file.result
+    (g.S.Store.reads c.args.store.now) c.args.block.id c.args.block.len whole (c.check_file.ensures.checked told)

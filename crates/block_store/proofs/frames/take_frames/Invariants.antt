@@ -6,4 +6,5 @@ use Rattle.block_store.specs.Reads.{frame_samples}
 use Rattle.block_store.proofs.frames.take_frames.Given as goal
 
 abbrev pub invariant-loop-i : goal.invariant-loop-i
-invariant-loop-i l = take l.i l.out ≡ map (λ k. frame_in l.bytes (12 * k) (frame_samples l.level l.len (l.from + k))) (range_with_len 0 l.i)
+invariant-loop-i l = take l.i l.out ≡ map (λ k. frame_in l.bytes (12 * k) (frame_samples l.level l.len (l.from + k)))
+    (range_with_len 0 l.i)

@@ -5,5 +5,6 @@ use Rattle.block_store.proofs.parts.compare_header.Goals as goal
 
 pub returns-clause-sound : goal.returns-clause-sound
 returns-clause-sound g c = λ xs told block len.
-    sound_result c.read_header.result (g.S.Store.reads c.args.store.now) c.args.block.id c.args.block.len 16 xs block len
+    sound_result c.read_header.result
+    (g.S.Store.reads c.args.store.now) c.args.block.id c.args.block.len 16 xs block len
     (omega arith) (c.read_header.ensures.damaged told)

@@ -1,5 +1,6 @@
 -- The bytes that were read are those of the samples.
-use Rattle.std.proofs.Common.{◌≡◌, ◌+◌, ◌*◌, ◌≤◌, ℕ, ℤ, List, ◌++◌, take, drop, arith, length, length-drop, ◌∙◌, ap, subst}
+use Rattle.std.proofs.Common.{◌≡◌, ◌+◌, ◌*◌, ◌≤◌, ℕ, ℤ, List, ◌++◌, take, drop, arith, length, length-drop, ◌∙◌, ap}
+use Rattle.std.proofs.Common.{subst}
 use Rattle.std.proofs.lemmas.List.{take_at, length-take}
 use Rattle.std.proofs.lemmas.Grind.{common_steps}
 use Rattle.std.specs.Int.{w16, cast_signed}
@@ -11,14 +12,19 @@ use Rattle.block_store.proofs.reads.read_piece.Goals as goal
 
 piece_read : (bytes new rest : List ℕ) (out : List ℤ) (at n size : ℕ) → length out ≡ n → size ≡ 2 * n
     → (at + size ≤ length bytes) × (new ≡ take size (drop at bytes))
-    → IsReadBy (λ ys. cast_signed w16 (little_number 2 ys)) 2 (take (2 * n) (new ++ rest)) out → out ≡ samples_in bytes at n
+    → IsReadBy (λ ys. cast_signed w16 (little_number 2 ys)) 2 (take (2 * n) (new ++ rest)) out
+    → out ≡ samples_in bytes at n
 piece_read bytes new rest out at n size len e part got =
-    let long : length new ≡ 2 * n = omega (arith, e, ap length part.1, length-take size (drop at bytes), length-drop at bytes) in
-    let cut : take (2 * n) (new ++ rest) ≡ take (2 * n) (drop at bytes) = take_at new rest (2 * n) long ∙ part.1 ∙ ap (λ (m : ℕ). take m (drop at bytes)) e in
+    let long : length new ≡ 2 * n =
+    omega (arith, e, ap length part.1, length-take size (drop at bytes), length-drop at bytes) in
+    let cut : take (2 * n) (new ++ rest) ≡ take (2 * n) (drop at bytes) =
+    take_at new rest (2 * n) long ∙ part.1 ∙ ap (λ (m : ℕ). take m (drop at bytes)) e in
     let P : List ℕ → Type 0 = λ src. IsReadBy (λ ys. cast_signed w16 (little_number 2 ys)) 2 src out in
     samples_read_at bytes out at n len (subst P cut got)
 
 pub returns-clause-samples : goal.returns-clause-samples
 returns-clause-samples g c = λ told.
     let len : length c.read_i16_into.new.dst ≡ length c.args.out.now = omega (arith, c.read_i16_into.auto.dst) in
-    piece_read (bytes_of (g.S.Store.reads c.args.store.now c.args.block.id)) c.read_part.new.buf _ c.read_i16_into.new.dst (16 + 2 * c.args.from) (length c.args.out.now) _ len (grind (arith, common_steps)) (c.in_default.ensures.ok told) c.read_i16_into.ensures
+    piece_read (bytes_of (g.S.Store.reads c.args.store.now c.args.block.id)) c.read_part.new.buf
+    _ c.read_i16_into.new.dst (16 + 2 * c.args.from) (length c.args.out.now) _ len (grind (arith, common_steps))
+    (c.in_default.ensures.ok told) c.read_i16_into.ensures

@@ -11,8 +11,10 @@ invariant-pieces g l = record {
   within : l.done ≤ length l.out;
   kept : Kept g.S.Store l.fn.store l.store;
   count : g.S.Store.read_fault_count l.store ≡ g.S.Store.read_fault_count l.fn.store;
-  whole : IsTrue (g.S.Store.tells l.fn.store) → 0 < l.done → 16 + 2 * (l.from + l.done) ≤ length (bytes_of (g.S.Store.reads l.fn.store l.block.id));
-  samples : IsTrue (g.S.Store.tells l.fn.store) → take l.done l.out ≡ samples_in (bytes_of (g.S.Store.reads l.fn.store l.block.id)) (16 + 2 * l.from) l.done;
+  whole : IsTrue (g.S.Store.tells l.fn.store) → 0 < l.done
+      → 16 + 2 * (l.from + l.done) ≤ length (bytes_of (g.S.Store.reads l.fn.store l.block.id));
+  samples : IsTrue (g.S.Store.tells l.fn.store)
+      → take l.done l.out ≡ samples_in (bytes_of (g.S.Store.reads l.fn.store l.block.id)) (16 + 2 * l.from) l.done;
 }
 
 abbrev pub decreases-pieces : goal.decreases-pieces

@@ -48,19 +48,27 @@ returns-clause-stored g c = λ told.
     let gap : List Cell = replicate (r.start - r.at) cell.Gap in
     let sound : List Cell = map cell.Sample (block_samples src r.blocks.now) in
     let rest : List Cell = cells_from src r.end r.clips.now in
-    let still : IsTrue (g.S.Store.tells c.put_blocks.new.store) = subst (λ (t : Bool). IsTrue t) (sym kept.same_tells) told in
+    let still : IsTrue (g.S.Store.tells c.put_blocks.new.store) =
+    subst (λ (t : Bool). IsTrue t) (sym kept.same_tells) told in
     let two = c.in_ok-put_blocks.ensures.stored told in
     let U : Files → Type 0 = λ f. OnOk c.put_clips.result
     (Puts a.from a.to r.end (cells_from (stored_of f) r.end r.clips.now) c.put_blocks.new.out c.put_clips.new.out) in
     let three = subst U kept.same_reads (c.put_clips.ensures.stored still) in
     let size = length-replicate (r.start - r.at) cell.Gap in
     let place : r.start ≡ r.at + length gap = omega (arith, size, c.requires.rest.later) in
-    let long : length sound ≡ r.end - r.start = omega (arith, length-map (block_samples src r.blocks.now) cell.Sample, length-blocks src r.blocks.now, c.requires.rest.whole) in
-    let end : r.end ≡ r.at + length (gap ++ sound) = omega (arith, length-append gap sound, size, long, c.requires.rest.later, c.requires.rest.whole) in
+    let long : length sound ≡ r.end - r.start = omega (
+      arith,
+      length-map (block_samples src r.blocks.now) cell.Sample,
+      length-blocks src r.blocks.now,
+      c.requires.rest.whole,
+    ) in
+    let end : r.end ≡ r.at + length (gap ++ sound) =
+    omega (arith, length-append gap sound, size, long, c.requires.rest.later, c.requires.rest.whole) in
     let Q : ℕ → Type 0 = λ n. Puts a.from a.to n sound c.put_gap.new.out c.put_blocks.new.out in
     let T : ℕ → Type 0 = λ n. Puts a.from a.to n rest c.put_blocks.new.out c.put_clips.new.out in
     on_ok_weaker c.put_clips.result
     (λ last. puts_turn a.from a.to r.at (gap ++ sound) rest a.out.now c.put_blocks.new.out c.put_clips.new.out
-    (puts_turn a.from a.to r.at gap sound a.out.now c.put_gap.new.out c.put_blocks.new.out c.put_gap.ensures (subst Q place two))
+    (puts_turn a.from a.to r.at gap sound a.out.now c.put_gap.new.out c.put_blocks.new.out c.put_gap.ensures
+    (subst Q place two))
     (subst T end last))
     three

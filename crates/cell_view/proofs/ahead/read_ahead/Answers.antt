@@ -25,7 +25,8 @@ returns-in_err-put_rest-clause-sound g c = λ told whole.
 pub returns-in_err-put_rest-clause-damaged : goal.returns-in_err-put_rest-clause-damaged
 returns-in_err-put_rest-clause-damaged g c = λ told.
     let p = err_from_is_err_and c.from_residual.result c.from_residual.ensures.1 in
-    rw (p.1, p.2) (c.requires.rest.blocks_fault (g.S.Store.reads c.args.store.now) _ (c.in_err-put_rest.ensures.damaged told))
+    rw (p.1, p.2)
+    (c.requires.rest.blocks_fault (g.S.Store.reads c.args.store.now) _ (c.in_err-put_rest.ensures.damaged told))
 
 pub returns-clause-stored : goal.returns-clause-stored
 returns-clause-stored g c = λ told.
@@ -36,8 +37,10 @@ returns-clause-stored g c = λ told.
     let k = length mid - count in
     let m = length (take k (drop count mid)) in
     let many : m ≡ length mid - count = omega (arith, length-take k (drop count mid), length-drop count mid) in
-    let place : count ≡ place_in a.from (a.from + length a.out.now) (end_of 0 a.layout.now) = c.place_in-count.ensures ∙ ap (λ n. place_in a.from (a.from + length a.out.now) n) c.len.ensures.value in
-    seen (stored_of files) a.from (a.from + length a.out.now) a.layout.now a.rest.now count m a.out.now mid _ c.requires.rest (omega arith) place
+    let place : count ≡ place_in a.from (a.from + length a.out.now) (end_of 0 a.layout.now) =
+    c.place_in-count.ensures ∙ ap (λ n. place_in a.from (a.from + length a.out.now) n) c.len.ensures.value in
+    seen (stored_of files) a.from
+    (a.from + length a.out.now) a.layout.now a.rest.now count m a.out.now mid _ c.requires.rest (omega arith) place
     (c.in_ok-put_rest.ensures.stored told) many
     (put_tail count k mid c.fill_gaps.new.out (omega arith) ∙ ap (λ ys. take count mid ++ ys) c.fill_gaps.ensures)
 

@@ -1,5 +1,6 @@
 -- What is seen of the block is put.
-use Rattle.std.proofs.Common.{◌≡◌, ◌≤◌, ◌+◌, ◌*◌, ◌-◌, ℕ, ℤ, Bool, List, map, length, take, drop, arith, sym, subst, ◌∙◌, length-drop}
+use Rattle.std.proofs.Common.{◌≡◌, ◌≤◌, ◌+◌, ◌*◌, ◌-◌, ℕ, ℤ, Bool, List, map, length, take, drop, arith, sym, subst}
+use Rattle.std.proofs.Common.{◌∙◌, length-drop}
 use Rattle.std.specs.Prelude.{IsTrue}
 use Rattle.std.proofs.lemmas.List.{length-map, length-take}
 use Rattle.std.proofs.lemmas.Result.{on_ok_weaker}
@@ -21,7 +22,8 @@ returns-then-start-end-clause-stored g c = λ told.
     let samples = stretch f 0 c.args.block.len in
     let size : length (map Sample samples) ≡ c.args.block.len =
     length-map samples Sample ∙ length-stretch f 0 c.args.block.len in
-    puts_none c.args.from c.args.to c.args.at c.args.block.len (map Sample samples) c.args.out.now (omega (arith, c.requires.size)) size
+    puts_none c.args.from c.args.to c.args.at c.args.block.len (map Sample samples) c.args.out.now
+    (omega (arith, c.requires.size)) size
     (omega (arith, c.place_in-start.ensures, c.if-start-end.true, c.place_in-end.ensures))
 
 pub returns-then-start-end-clause-kept : goal.returns-then-start-end-clause-kept

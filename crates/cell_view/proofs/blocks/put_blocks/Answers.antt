@@ -1,5 +1,6 @@
 -- One block more is put.
-use Rattle.std.proofs.Common.{◌≡◌, ℕ, ◌+◌, ℤ, List, [], ◌∷◌, ◌++◌, length, drop, map, get_or, refl, sym, ap, subst, ◌∙◌, arith, Bool}
+use Rattle.std.proofs.Common.{◌≡◌, ℕ, ◌+◌, ℤ, List, [], ◌∷◌, ◌++◌, length, drop, map, get_or, refl, sym, ap, subst, ◌∙◌}
+use Rattle.std.proofs.Common.{arith, Bool}
 use Rattle.std.proofs.lemmas.List.{length-map}
 use Rattle.std.specs.Prelude.{IsTrue}
 use Rattle.std.proofs.lemmas.List.{drop_more, drop_all, map-append}
@@ -33,14 +34,16 @@ pub put_block-requires-clause-few : goal.put_block-requires-clause-few
 put_block-requires-clause-few g c =
     let bs = c.args.blocks.now in
     let i = c.rows.block-index in
-    let e : drop i bs ≡ get_or bs i (record { id = 0; len = 0 }) ∷ drop (i + 1) bs = drop_more bs i (record { id = 0; len = 0 }) c.rows-test.true in
+    let e : drop i bs ≡ get_or bs i (record { id = 0; len = 0 }) ∷ drop (i + 1) bs =
+    drop_more bs i (record { id = 0; len = 0 }) c.rows-test.true in
     omega (arith, ap blocks_len e, c.rows.invariant.left, c.requires.few)
 
 pub put_block-requires-clause-block : goal.put_block-requires-clause-block
 put_block-requires-clause-block g c =
     let bs = c.args.blocks.now in
     let i = c.rows.block-index in
-    let e : drop i bs ≡ get_or bs i (record { id = 0; len = 0 }) ∷ drop (i + 1) bs = drop_more bs i (record { id = 0; len = 0 }) c.rows-test.true in
+    let e : drop i bs ≡ get_or bs i (record { id = 0; len = 0 }) ∷ drop (i + 1) bs =
+    drop_more bs i (record { id = 0; len = 0 }) c.rows-test.true in
     let N : List BlockRef → Type 0 = AllNamed in
     (subst N e c.rows.invariant.named).0
 
@@ -48,7 +51,8 @@ pub overflow_add-place : goal.overflow_add-place
 overflow_add-place g c =
     let bs = c.args.blocks.now in
     let i = c.rows.block-index in
-    let e : drop i bs ≡ get_or bs i (record { id = 0; len = 0 }) ∷ drop (i + 1) bs = drop_more bs i (record { id = 0; len = 0 }) c.rows-test.true in
+    let e : drop i bs ≡ get_or bs i (record { id = 0; len = 0 }) ∷ drop (i + 1) bs =
+    drop_more bs i (record { id = 0; len = 0 }) c.rows-test.true in
     let sum = ap blocks_len e in
     let left = c.rows.invariant.left in
     let few = c.requires.few in
@@ -58,14 +62,16 @@ pub returns-in-Err-clause-damaged : goal.returns-in-Err-clause-damaged
 returns-in-Err-clause-damaged g c = λ told.
     let bs = c.args.blocks.now in
     let i = c.rows.block-index in
-    let e : drop i bs ≡ get_or bs i (record { id = 0; len = 0 }) ∷ drop (i + 1) bs = drop_more bs i (record { id = 0; len = 0 }) c.rows-test.true in
+    let e : drop i bs ≡ get_or bs i (record { id = 0; len = 0 }) ∷ drop (i + 1) bs =
+    drop_more bs i (record { id = 0; len = 0 }) c.rows-test.true in
     let inv = c.rows.invariant in
     let files : Files = g.S.Store.reads c.args.store.now in
     let still : IsTrue (g.S.Store.tells c.rows.store) = subst (λ (b : Bool). IsTrue b) (sym inv.kept.same_tells) told in
     let at : BlockRef = get_or bs i (record { id = 0; len = 0 }) in
     let D : Files → Type 0 = λ f. IsFault at.id at.len (bytes_of (f at.id)) c.in-Err.fault in
     let F : List BlockRef → Type 0 = λ qs. IsFaultIn files qs c.in-Err.fault in
-    inv.rest_fault c.in-Err.fault (subst F (sym e) (at, (0, omega arith, refl), subst D inv.kept.same_reads (c.in-Err.ensures.damaged still)))
+    inv.rest_fault c.in-Err.fault
+    (subst F (sym e) (at, (0, omega arith, refl), subst D inv.kept.same_reads (c.in-Err.ensures.damaged still)))
 
 pub returns-in-Err-clause-kept : goal.returns-in-Err-clause-kept
 returns-in-Err-clause-kept g c = kept_turn c.rows.invariant.kept c.put_block.ensures.kept
@@ -85,20 +91,28 @@ rows-preserved g c =
       named = (subst N e inv.named).1;
       kept = kept_turn inv.kept c.put_block.ensures.kept;
       compared = λ told.
-          let still : IsTrue (g.S.Store.tells c.rows.store) = subst (λ (t : Bool). IsTrue t) (sym inv.kept.same_tells) told in
-          subst (λ (f : Files). IsCompared f c.put_block.new.last) inv.kept.same_reads (c.put_block.ensures.compared still);
+          let still : IsTrue (g.S.Store.tells c.rows.store) =
+          subst (λ (t : Bool). IsTrue t) (sym inv.kept.same_tells) told in
+          subst (λ (f : Files). IsCompared f c.put_block.new.last) inv.kept.same_reads
+          (c.put_block.ensures.compared still);
       count = c.in_default.ensures.faults ∙ inv.count;
-      rest_fault = λ why f. let F : List BlockRef → Type 0 = λ qs. IsFaultIn files qs why in inv.rest_fault why (subst F (sym e) (fault_later files (b ∷ []) rest why f));
+      rest_fault = λ why f.
+          let F : List BlockRef → Type 0 = λ qs. IsFaultIn files qs why in
+          inv.rest_fault why (subst F (sym e) (fault_later files (b ∷ []) rest why f));
       stored = λ told new puts.
-          let still : IsTrue (g.S.Store.tells c.rows.store) = subst (λ (t : Bool). IsTrue t) (sym inv.kept.same_tells) told in
-          let P : Files → Type 0 = λ f. Puts c.args.from c.args.to c.rows.place (map Sample (stretch (stored_on f b.id) 0 b.len)) c.rows.out c.put_block.new.out in
+          let still : IsTrue (g.S.Store.tells c.rows.store) =
+          subst (λ (t : Bool). IsTrue t) (sym inv.kept.same_tells) told in
+          let P : Files → Type 0 = λ f. Puts c.args.from c.args.to c.rows.place
+          (map Sample (stretch (stored_on f b.id) 0 b.len)) c.rows.out c.put_block.new.out in
           let one = subst P inv.kept.same_reads (c.in_default.ensures.stored still) in
           let xs : List ℤ = stretch (stored_on files b.id) 0 b.len in
           let ys : List ℤ = block_samples (stored_of files) rest in
-          let size : length (map Sample xs) ≡ b.len = length-map xs Sample ∙ length-stretch (stored_on files b.id) 0 b.len in
+          let size : length (map Sample xs) ≡ b.len =
+          length-map xs Sample ∙ length-stretch (stored_on files b.id) 0 b.len in
           let Q : ℕ → Type 0 = λ n. Puts c.args.from c.args.to n (map Sample ys) c.put_block.new.out new in
           let place : c.rows.place + b.len ≡ c.rows.place + length (map Sample xs) = omega (arith, size) in
-          let both = puts_turn c.args.from c.args.to c.rows.place (map Sample xs) (map Sample ys) c.rows.out c.put_block.new.out new one (subst Q place puts) in
+          let both = puts_turn c.args.from c.args.to c.rows.place (map Sample xs)
+          (map Sample ys) c.rows.out c.put_block.new.out new one (subst Q place puts) in
           let R : List Cell → Type 0 = λ cs. Puts c.args.from c.args.to c.rows.place cs c.rows.out new in
           let all : map Sample xs ++ map Sample ys ≡ map Sample (block_samples (stored_of files) (drop i bs)) =
           sym (map-append Sample xs ys) ∙ ap (λ qs. map Sample (block_samples (stored_of files) qs)) (sym e) in
@@ -112,13 +126,16 @@ returns-clause-stored g c = λ told.
     let none : drop i bs ≡ [] = drop_all i bs (omega arith) in
     let inv = c.rows.invariant in
     let files : Files = g.S.Store.reads c.args.store.now in
-    let R : List BlockRef → Type 0 = λ qs. Puts c.args.from c.args.to c.rows.place (map Sample (block_samples (stored_of files) qs)) c.rows.out c.rows.out in
+    let R : List BlockRef → Type 0 = λ qs. Puts c.args.from c.args.to c.rows.place
+    (map Sample (block_samples (stored_of files) qs)) c.rows.out c.rows.out in
     let stop : c.rows.place ≡ c.rows.place + 0 = omega arith in
-    inv.stored told c.rows.out (subst R (sym none) (puts_none c.args.from c.args.to c.rows.place 0 [] c.rows.out (omega (arith, c.requires.size)) refl (ap (place_in c.args.from c.args.to) stop)))
+    inv.stored told c.rows.out (subst R (sym none) (puts_none c.args.from c.args.to c.rows.place 0 [] c.rows.out
+    (omega (arith, c.requires.size)) refl (ap (place_in c.args.from c.args.to) stop)))
 
 -- the blocks that are left stand behind the view
 pub returns-then-place-to-clause-stored : goal.returns-then-place-to-clause-stored
 returns-then-place-to-clause-stored g c = λ told.
     let files : Files = g.S.Store.reads c.args.store.now in
     let left : List Cell = map Sample (block_samples (stored_of files) (drop c.rows.block-index c.args.blocks.now)) in
-    c.rows.invariant.stored told c.rows.out (puts_none c.args.from c.args.to c.rows.place (length left) left c.rows.out (omega (arith, c.requires.size)) refl (omega arith))
+    c.rows.invariant.stored told c.rows.out (puts_none c.args.from c.args.to c.rows.place (length left) left c.rows.out
+    (omega (arith, c.requires.size)) refl (omega arith))

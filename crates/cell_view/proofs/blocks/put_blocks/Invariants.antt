@@ -19,8 +19,11 @@ invariant-rows g l = record {
   kept : Kept g.S.Store l.fn.store l.store;
   compared : IsTrue (g.S.Store.tells l.fn.store) → IsCompared (g.S.Store.reads l.fn.store) l.last;
   count : g.S.Store.read_fault_count l.store ≡ g.S.Store.read_fault_count l.fn.store;
-  rest_fault : (why : BlockFault) → IsFaultIn (g.S.Store.reads l.fn.store) (drop l.block-index l.blocks) why → IsFaultIn (g.S.Store.reads l.fn.store) l.blocks why;
+  rest_fault : (why : BlockFault) → IsFaultIn (g.S.Store.reads l.fn.store) (drop l.block-index l.blocks) why
+      → IsFaultIn (g.S.Store.reads l.fn.store) l.blocks why;
   stored : IsTrue (g.S.Store.tells l.fn.store) → (new : List Cell)
-      → Puts l.from l.to l.place (map Sample (block_samples (stored_of (g.S.Store.reads l.fn.store)) (drop l.block-index l.blocks))) l.out new
-      → Puts l.from l.to l.at (map Sample (block_samples (stored_of (g.S.Store.reads l.fn.store)) l.blocks)) l.fn.out new;
+      → Puts l.from l.to l.place
+      (map Sample (block_samples (stored_of (g.S.Store.reads l.fn.store)) (drop l.block-index l.blocks))) l.out new
+      → Puts l.from l.to l.at
+      (map Sample (block_samples (stored_of (g.S.Store.reads l.fn.store)) l.blocks)) l.fn.out new;
 }

@@ -16,5 +16,6 @@ returns-in_err-read_compared_samples-clause-damaged g c = λ told.
     let most : ℕ = size_of b.len in
     let p = err_from_is_err_and c.from_residual.result c.from_residual.ensures.1 in
     rw (p.1, p.2) (fault_on b.id b.len (end_of n place) most (bytes_of (g.S.Store.reads c.args.store.now b.id)) _
-    (end_most n place most (omega arith) (omega (arith, length-take (length c.args.out.now) c.args.buf.now, c.requires.within)))
+    (end_most n place most (omega arith)
+    (omega (arith, length-take (length c.args.out.now) c.args.buf.now, c.requires.within)))
     (c.in_err-read_compared_samples.ensures.damaged told))

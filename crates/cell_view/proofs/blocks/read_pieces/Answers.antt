@@ -1,5 +1,6 @@
 -- One piece more is read.
-use Rattle.std.proofs.Common.{◌≡◌, ℕ, ◌+◌, ◌*◌, ◌-◌, ◌≤◌, Bool, List, ◌++◌, take, drop, map, length, arith, ◌∙◌, ap, sym, subst, refl}
+use Rattle.std.proofs.Common.{◌≡◌, ℕ, ◌+◌, ◌*◌, ◌-◌, ◌≤◌, Bool, List, ◌++◌, take, drop, map, length, arith, ◌∙◌, ap}
+use Rattle.std.proofs.Common.{sym, subst, refl}
 use Rattle.std.specs.Prelude.{IsTrue}
 use Rattle.std.proofs.lemmas.Grind.{common_steps}
 use Rattle.std.proofs.lemmas.List.{length-map, map-append}
@@ -60,8 +61,11 @@ pieces-preserved g c = record {
       let still : IsTrue (g.S.Store.tells c.pieces.store) = subst (λ (t : Bool). IsTrue t) (sym kept.same_tells) told in
       let m : ℕ = length (take (c.pieces.done + c.min.result - c.pieces.done) (drop c.pieces.done c.pieces.out)) in
       let bytes : List ℕ = bytes_of (g.S.Store.reads c.args.store.now id) in
-      let same : bytes_of (g.S.Store.reads c.pieces.store id) ≡ bytes = ap (λ (f : Files). bytes_of (f id)) kept.same_reads in
-      let P : List ℕ → Type 0 = λ bs. c.read_piece.new.out ≡ map Sample (samples_in bs (16 + 2 * (c.args.from + c.pieces.done)) m) in
-      piece_more bytes c.args.from c.pieces.done c.min.result _ _ c.pieces.out c.read_piece.new.out c.pieces.invariant.within
+      let same : bytes_of (g.S.Store.reads c.pieces.store id) ≡ bytes =
+      ap (λ (f : Files). bytes_of (f id)) kept.same_reads in
+      let P : List ℕ → Type 0 =
+      λ bs. c.read_piece.new.out ≡ map Sample (samples_in bs (16 + 2 * (c.args.from + c.pieces.done)) m) in
+      piece_more bytes c.args.from c.pieces.done c.min.result _ _ c.pieces.out c.read_piece.new.out
+      c.pieces.invariant.within
       (c.pieces.invariant.stored told) (subst P same (c.in_default.ensures.stored still)) (grind (arith, common_steps));
 }

@@ -13,7 +13,8 @@ invariant-pieces g l = record {
   kept : Kept g.S.Store l.fn.store l.store;
   count : g.S.Store.read_fault_count l.store ≡ g.S.Store.read_fault_count l.fn.store;
   stored : IsTrue (g.S.Store.tells l.fn.store)
-      → take l.done l.out ≡ map Sample (samples_in (bytes_of (g.S.Store.reads l.fn.store l.block.id)) (16 + 2 * l.from) l.done);
+      → take l.done l.out
+      ≡ map Sample (samples_in (bytes_of (g.S.Store.reads l.fn.store l.block.id)) (16 + 2 * l.from) l.done);
 }
 
 abbrev pub decreases-pieces : goal.decreases-pieces

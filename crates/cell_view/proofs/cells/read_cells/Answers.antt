@@ -26,7 +26,8 @@ pub returns-clause-read : goal.returns-clause-read
 returns-clause-read g c = λ told whole.
     let files : Files = g.S.Store.reads c.args.store.now in
     returns-clause-stored g c told
-    ∙ ap (λ (cs : List Cell). take (length c.args.out.now) (drop c.args.from cs)) (stored_cells files 0 c.args.layout.now whole)
+    ∙ ap (λ (cs : List Cell). take (length c.args.out.now) (drop c.args.from cs))
+    (stored_cells files 0 c.args.layout.now whole)
 
 pub returns-clause-rest : goal.returns-clause-rest
 returns-clause-rest g c =

@@ -1,5 +1,6 @@
 -- One clip more is put.
-use Rattle.std.proofs.Common.{◌≡◌, ℕ, ◌+◌, ◌-◌, ◌≤◌, List, [], ◌∷◌, ◌++◌, length, drop, map, refl, sym, ap, subst, ◌∙◌, arith, Bool, length-append}
+use Rattle.std.proofs.Common.{◌≡◌, ℕ, ◌+◌, ◌-◌, ◌≤◌, List, [], ◌∷◌, ◌++◌, length, drop, map, refl, sym, ap, subst, ◌∙◌}
+use Rattle.std.proofs.Common.{arith, Bool, length-append}
 use Rattle.std.specs.Prelude.{IsTrue, replicate}
 use Rattle.std.proofs.lemmas.List.{drop_more, drop_all, length-map, length-replicate}
 use Rattle.disk_model.specs.Disk.{Files}
@@ -38,7 +39,8 @@ put_clip-requires-clause-named g c =
     let x : Clip = c.clip-item.result in
     let rest = drop (i + 1) cs in
     let inv = c.rows.invariant in
-    let e : drop i cs ≡ x ∷ rest = drop_more cs i x c.rows-test.true ∙ ap (λ (y : Clip). y ∷ rest) (sym c.clip-item.is) in
+    let e : drop i cs ≡ x ∷ rest =
+    drop_more cs i x c.rows-test.true ∙ ap (λ (y : Clip). y ∷ rest) (sym c.clip-item.is) in
     let N : List Clip → Type 0 = λ ds. AllNamed (layout_blocks ds) in
     named_front x.blocks (layout_blocks rest) (subst N e inv.named)
 
@@ -49,9 +51,16 @@ put_clip-requires-clause-few g c =
     let x : Clip = c.clip-item.result in
     let rest = drop (i + 1) cs in
     let inv = c.rows.invariant in
-    let e : drop i cs ≡ x ∷ rest = drop_more cs i x c.rows-test.true ∙ ap (λ (y : Clip). y ∷ rest) (sym c.clip-item.is) in
+    let e : drop i cs ≡ x ∷ rest =
+    drop_more cs i x c.rows-test.true ∙ ap (λ (y : Clip). y ∷ rest) (sym c.clip-item.is) in
     let P : List Clip → Type 0 = λ ds. AreClips c.rows.at ds in
-    omega (arith, end_within c.rows.at x rest (subst P e inv.apart), ap (end_of c.rows.at) e, inv.same_end, c.requires.few)
+    omega (
+      arith,
+      end_within c.rows.at x rest (subst P e inv.apart),
+      ap (end_of c.rows.at) e,
+      inv.same_end,
+      c.requires.few,
+    )
 
 pub put_clip-requires-clause-later : goal.put_clip-requires-clause-later
 put_clip-requires-clause-later g c =
@@ -60,7 +69,8 @@ put_clip-requires-clause-later g c =
     let x : Clip = c.clip-item.result in
     let rest = drop (i + 1) cs in
     let inv = c.rows.invariant in
-    let e : drop i cs ≡ x ∷ rest = drop_more cs i x c.rows-test.true ∙ ap (λ (y : Clip). y ∷ rest) (sym c.clip-item.is) in
+    let e : drop i cs ≡ x ∷ rest =
+    drop_more cs i x c.rows-test.true ∙ ap (λ (y : Clip). y ∷ rest) (sym c.clip-item.is) in
     let P : List Clip → Type 0 = λ ds. AreClips c.rows.at ds in
     (subst P e inv.apart).0
 
@@ -71,7 +81,8 @@ overflow_add-at g c =
     let x : Clip = c.clip-item.result in
     let rest = drop (i + 1) cs in
     let inv = c.rows.invariant in
-    let e : drop i cs ≡ x ∷ rest = drop_more cs i x c.rows-test.true ∙ ap (λ (y : Clip). y ∷ rest) (sym c.clip-item.is) in
+    let e : drop i cs ≡ x ∷ rest =
+    drop_more cs i x c.rows-test.true ∙ ap (λ (y : Clip). y ∷ rest) (sym c.clip-item.is) in
     let P : List Clip → Type 0 = λ ds. AreClips c.rows.at ds in
     let within = end_within c.rows.at x rest (subst P e inv.apart) in
     let sum = ap (end_of c.rows.at) e in
@@ -87,12 +98,14 @@ returns-in-Err-clause-damaged g c = λ told.
     let x : Clip = c.clip-item.result in
     let rest = drop (i + 1) cs in
     let inv = c.rows.invariant in
-    let e : drop i cs ≡ x ∷ rest = drop_more cs i x c.rows-test.true ∙ ap (λ (y : Clip). y ∷ rest) (sym c.clip-item.is) in
+    let e : drop i cs ≡ x ∷ rest =
+    drop_more cs i x c.rows-test.true ∙ ap (λ (y : Clip). y ∷ rest) (sym c.clip-item.is) in
     let files : Files = g.S.Store.reads c.args.store.now in
     let still : IsTrue (g.S.Store.tells c.rows.store) = subst (λ (t : Bool). IsTrue t) (sym inv.kept.same_tells) told in
     let D : Files → Type 0 = λ f. IsFaultIn f x.blocks c.in-Err.fault in
     let F : List Clip → Type 0 = λ ds. IsFaultIn files (layout_blocks ds) c.in-Err.fault in
-    inv.rest_fault c.in-Err.fault (subst F (sym e) (fault_first files x.blocks (layout_blocks rest) c.in-Err.fault (subst D inv.kept.same_reads (c.in-Err.ensures.damaged still))))
+    inv.rest_fault c.in-Err.fault (subst F (sym e) (fault_first files x.blocks (layout_blocks rest) c.in-Err.fault
+    (subst D inv.kept.same_reads (c.in-Err.ensures.damaged still))))
 
 pub returns-in-Err-clause-kept : goal.returns-in-Err-clause-kept
 returns-in-Err-clause-kept g c = kept_turn c.rows.invariant.kept c.put_clip.ensures.kept
@@ -104,7 +117,8 @@ rows-preserved g c =
     let x : Clip = c.clip-item.result in
     let rest = drop (i + 1) cs in
     let inv = c.rows.invariant in
-    let e : drop i cs ≡ x ∷ rest = drop_more cs i x c.rows-test.true ∙ ap (λ (y : Clip). y ∷ rest) (sym c.clip-item.is) in
+    let e : drop i cs ≡ x ∷ rest =
+    drop_more cs i x c.rows-test.true ∙ ap (λ (y : Clip). y ∷ rest) (sym c.clip-item.is) in
     let files : Files = g.S.Store.reads c.args.store.now in
     let at = c.rows.at in
     let P : List Clip → Type 0 = λ ds. AreClips at ds in
@@ -116,22 +130,33 @@ rows-preserved g c =
       named = named_back x.blocks (layout_blocks rest) (subst N e inv.named);
       kept = kept_turn inv.kept c.put_clip.ensures.kept;
       compared = λ told.
-          let still : IsTrue (g.S.Store.tells c.rows.store) = subst (λ (t : Bool). IsTrue t) (sym inv.kept.same_tells) told in
-          subst (λ (f : Files). IsCompared f c.put_clip.new.last) inv.kept.same_reads (c.put_clip.ensures.compared still);
+          let still : IsTrue (g.S.Store.tells c.rows.store) =
+          subst (λ (t : Bool). IsTrue t) (sym inv.kept.same_tells) told in
+          subst (λ (f : Files). IsCompared f c.put_clip.new.last) inv.kept.same_reads
+          (c.put_clip.ensures.compared still);
       count = c.in_default.ensures.faults ∙ inv.count;
-      rest_fault = λ why f. let F : List Clip → Type 0 = λ ds. IsFaultIn files (layout_blocks ds) why in inv.rest_fault why (subst F (sym e) (fault_later files x.blocks (layout_blocks rest) why f));
+      rest_fault = λ why f.
+          let F : List Clip → Type 0 = λ ds. IsFaultIn files (layout_blocks ds) why in
+          inv.rest_fault why (subst F (sym e) (fault_later files x.blocks (layout_blocks rest) why f));
       stored = λ told new puts.
-          let still : IsTrue (g.S.Store.tells c.rows.store) = subst (λ (t : Bool). IsTrue t) (sym inv.kept.same_tells) told in
-          let U : Files → Type 0 = λ f. Puts c.args.from c.args.to at (replicate (x.start - at) cell.Gap ++ map cell.Sample (block_samples (stored_of f) x.blocks)) c.rows.out c.put_clip.new.out in
+          let still : IsTrue (g.S.Store.tells c.rows.store) =
+          subst (λ (t : Bool). IsTrue t) (sym inv.kept.same_tells) told in
+          let U : Files → Type 0 = λ f. Puts c.args.from c.args.to at (replicate (x.start - at) cell.Gap
+          ++ map cell.Sample (block_samples (stored_of f) x.blocks)) c.rows.out c.put_clip.new.out in
           let one = subst U inv.kept.same_reads (c.in_default.ensures.stored still) in
           let gap : List Cell = replicate (x.start - at) cell.Gap in
           let sound : List Cell = map cell.Sample (block_samples (stored_of files) x.blocks) in
           let later : at ≤ x.start = (subst P e inv.apart).0 in
-          let size : length sound ≡ blocks_len x.blocks = length-map (block_samples (stored_of files) x.blocks) cell.Sample ∙ length-blocks (stored_of files) x.blocks in
-          let place : clip_end x ≡ at + length (gap ++ sound) = omega (arith, length-append gap sound, length-replicate (x.start - at) cell.Gap, size, later) in
-          let Q : ℕ → Type 0 = λ n. Puts c.args.from c.args.to n (cells_from (stored_of files) (clip_end x) rest) c.put_clip.new.out new in
-          let both = puts_turn c.args.from c.args.to at (gap ++ sound) (cells_from (stored_of files) (clip_end x) rest) c.rows.out c.put_clip.new.out new one (subst Q place puts) in
-          let R : List Clip → Type 0 = λ ds. Puts c.args.from c.args.to at (cells_from (stored_of files) at ds) c.rows.out new in
+          let size : length sound ≡ blocks_len x.blocks = length-map
+          (block_samples (stored_of files) x.blocks) cell.Sample ∙ length-blocks (stored_of files) x.blocks in
+          let place : clip_end x ≡ at + length (gap ++ sound) =
+          omega (arith, length-append gap sound, length-replicate (x.start - at) cell.Gap, size, later) in
+          let Q : ℕ → Type 0 = λ n.
+          Puts c.args.from c.args.to n (cells_from (stored_of files) (clip_end x) rest) c.put_clip.new.out new in
+          let both = puts_turn c.args.from c.args.to at (gap ++ sound) (cells_from (stored_of files) (clip_end x) rest)
+          c.rows.out c.put_clip.new.out new one (subst Q place puts) in
+          let R : List Clip → Type 0 =
+          λ ds. Puts c.args.from c.args.to at (cells_from (stored_of files) at ds) c.rows.out new in
           inv.stored told new (subst R (sym e) both);
     })
 
@@ -142,13 +167,16 @@ returns-clause-stored g c = λ told.
     let none : drop i cs ≡ [] = drop_all i cs (omega arith) in
     let inv = c.rows.invariant in
     let files : Files = g.S.Store.reads c.args.store.now in
-    let R : List Clip → Type 0 = λ ds. Puts c.args.from c.args.to c.rows.at (cells_from (stored_of files) c.rows.at ds) c.rows.out c.rows.out in
+    let R : List Clip → Type 0 =
+    λ ds. Puts c.args.from c.args.to c.rows.at (cells_from (stored_of files) c.rows.at ds) c.rows.out c.rows.out in
     let stop : c.rows.at ≡ c.rows.at + 0 = omega arith in
-    inv.stored told c.rows.out (subst R (sym none) (puts_none c.args.from c.args.to c.rows.at 0 [] c.rows.out (omega (arith, c.requires.size)) refl (ap (place_in c.args.from c.args.to) stop)))
+    inv.stored told c.rows.out (subst R (sym none) (puts_none c.args.from c.args.to c.rows.at 0 [] c.rows.out
+    (omega (arith, c.requires.size)) refl (ap (place_in c.args.from c.args.to) stop)))
 
 -- the clips that are left stand behind the view
 pub returns-then-at-to-clause-stored : goal.returns-then-at-to-clause-stored
 returns-then-at-to-clause-stored g c = λ told.
     let files : Files = g.S.Store.reads c.args.store.now in
     let left : List Cell = cells_from (stored_of files) c.rows.at (drop c.rows.clip-index c.args.clips.now) in
-    c.rows.invariant.stored told c.rows.out (puts_none c.args.from c.args.to c.rows.at (length left) left c.rows.out (omega (arith, c.requires.size)) refl (omega arith))
+    c.rows.invariant.stored told c.rows.out (puts_none c.args.from c.args.to c.rows.at (length left) left c.rows.out
+    (omega (arith, c.requires.size)) refl (omega arith))

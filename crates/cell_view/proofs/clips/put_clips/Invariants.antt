@@ -20,8 +20,11 @@ invariant-rows g l = record {
   kept : Kept g.S.Store l.fn.store l.store;
   compared : IsTrue (g.S.Store.tells l.fn.store) → IsCompared (g.S.Store.reads l.fn.store) l.last;
   count : g.S.Store.read_fault_count l.store ≡ g.S.Store.read_fault_count l.fn.store;
-  rest_fault : (why : BlockFault) → IsFaultIn (g.S.Store.reads l.fn.store) (layout_blocks (drop l.clip-index l.clips)) why → IsFaultIn (g.S.Store.reads l.fn.store) (layout_blocks l.clips) why;
+  rest_fault : (why : BlockFault)
+      → IsFaultIn (g.S.Store.reads l.fn.store) (layout_blocks (drop l.clip-index l.clips)) why
+      → IsFaultIn (g.S.Store.reads l.fn.store) (layout_blocks l.clips) why;
   stored : IsTrue (g.S.Store.tells l.fn.store) → (new : List Cell)
-      → Puts l.from l.to l.at (cells_from (stored_of (g.S.Store.reads l.fn.store)) l.at (drop l.clip-index l.clips)) l.out new
+      → Puts l.from l.to l.at
+      (cells_from (stored_of (g.S.Store.reads l.fn.store)) l.at (drop l.clip-index l.clips)) l.out new
       → Puts l.from l.to l.start (cells_from (stored_of (g.S.Store.reads l.fn.store)) l.start l.clips) l.fn.out new;
 }

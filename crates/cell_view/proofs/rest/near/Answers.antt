@@ -1,5 +1,6 @@
 -- The layout is cut before the clip that is near.
-use Rattle.std.proofs.Common.{◌≡◌, ◌+◌, ◌-◌, ◌≤◌, ◌++◌, ◌∷◌, List, [], length, take, drop, min, arith, refl, ap, sym, subst, ◌∙◌}
+use Rattle.std.proofs.Common.{◌≡◌, ◌+◌, ◌-◌, ◌≤◌, ◌++◌, ◌∷◌, List, [], length, take, drop, min, arith, refl, ap, sym}
+use Rattle.std.proofs.Common.{subst, ◌∙◌}
 use Rattle.std.proofs.lemmas.List.{nil_from_length, length-take}
 use Rattle.clip_track.specs.declared.clips.Clip.{Clip}
 use Rattle.clip_track.specs.Clips.{IsLayout, AreClips, clip_end, end_of}

@@ -18,7 +18,12 @@ overflow_add-end c =
     omega (arith, ap blocks_len same, ok.whole, ends_from r.end r.clips.now ok.apart, ok.few)
 
 pub rows-smaller : goal.rows-smaller
-rows-smaller c = omega (arith, length-take (length c.rows.left.blocks.now - 1) (drop 1 c.rows.left.blocks.now), length-drop 1 c.rows.left.blocks.now, c.in-len1-up.len_at_least)
+rows-smaller c = omega (
+  arith,
+  length-take (length c.rows.left.blocks.now - 1) (drop 1 c.rows.left.blocks.now),
+  length-drop 1 c.rows.left.blocks.now,
+  c.in-len1-up.len_at_least,
+)
 
 pub rows-preserved : goal.rows-preserved
 rows-preserved c =
@@ -29,5 +34,6 @@ rows-preserved c =
       rest = block_rest r _ b same refl refl refl refl c.rows.invariant.rest;
       end = c.rows.invariant.end;
       clips = c.rows.invariant.clips;
-      of = λ cs is. block_passed r _ b same refl refl refl refl c.rows.invariant.rest c.args.from cs (omega arith) (c.rows.invariant.of cs is);
+      of = λ cs is. block_passed r _ b same refl refl refl refl c.rows.invariant.rest c.args.from cs (omega arith)
+          (c.rows.invariant.of cs is);
     }

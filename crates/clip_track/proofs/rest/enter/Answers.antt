@@ -5,7 +5,12 @@ use Rattle.clip_track.proofs.RestItems.{within_none}
 use Rattle.clip_track.proofs.rest.enter.Goals as goal
 
 pub overflow_add-result : goal.overflow_add-result
-overflow_add-result c = omega (arith, end_within c.args.end c.args.clip.now c.args.more.now c.requires.apart, c.requires.few, c.len.ensures.value)
+overflow_add-result c = omega (
+  arith,
+  end_within c.args.end c.args.clip.now c.args.more.now c.requires.apart,
+  c.requires.few,
+  c.len.ensures.value,
+)
 
 pub returns-clause-left : goal.returns-clause-left
 returns-clause-left c =

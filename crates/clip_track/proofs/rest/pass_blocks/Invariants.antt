@@ -10,7 +10,8 @@ abbrev pub invariant-rows : goal.invariant-rows
 invariant-rows l = record {
   within : l.skip < blocks_len l.blocks;
   some : NoneEmpty l.blocks;
-  items : items_after l.skip (sound_items l.blocks ++ items_from l.left.end l.left.clips.now) ≡ items_after l.count (left_items l.fn.left);
+  items : items_after l.skip (sound_items l.blocks ++ items_from l.left.end l.left.clips.now)
+      ≡ items_after l.count (left_items l.fn.left);
 }
 
 abbrev pub decreases-rows : goal.decreases-rows

@@ -1,5 +1,6 @@
 -- The goals of `collect_clips` that the search leaves open.
-use Rattle.std.proofs.Common.{◌≡◌, ◌+◌, ◌-◌, ◌<◌, ◌++◌, List, [], ◌∷◌, drop, map, replicate, refl, sym, ap, subst, ◌∙◌, arith}
+use Rattle.std.proofs.Common.{◌≡◌, ◌+◌, ◌-◌, ◌<◌, ◌++◌, List, [], ◌∷◌, drop, map, replicate, refl, sym, ap, subst, ◌∙◌}
+use Rattle.std.proofs.Common.{arith}
 use Rattle.std.proofs.lemmas.List.{drop_more}
 use Rattle.pcm_base.specs.declared.sound.Cell.TheVariants as cell
 use Rattle.pcm_base.specs.Pieces.{all_samples}
@@ -20,7 +21,8 @@ loop-item-preserved c =
     let inv = c.loop-item.invariant in
     elim c.match-item.branch [
       | in-Gap+in_ok-close-in-Gap w ↦
-          let d : drop i items ≡ Gap w.in-Gap.len ∷ rest = drop_more items i (Gap 0) c.loop-item-test.true ∙ ap (λ (x : Item). x ∷ rest) w.in-Gap.is in
+          let d : drop i items ≡ Gap w.in-Gap.len ∷ rest =
+          drop_more items i (Gap 0) c.loop-item-test.true ∙ ap (λ (x : Item). x ∷ rest) w.in-Gap.is in
           let ok = subst AreItems d inv.rest_ok in
           let len = ap strip_len d in
           let some : 0 < w.in-Gap.len = ok.0 in
@@ -31,14 +33,18 @@ loop-item-preserved c =
             apart = w.in_ok-close-in-Gap.ensures.apart;
             later = omega (arith, w.in_ok-close-in-Gap.ensures.later, some);
             rest_ok = ok.1;
-            cells = λ src. gap_cells (clips.clips_cells src 0 w.close.new.out.items) _ _ w.in-Gap.len _ (strip_cells src rest) _
+            cells = λ src. gap_cells (clips.clips_cells src 0 w.close.new.out.items) _ _ w.in-Gap.len _
+                (strip_cells src rest) _
                 (omega (arith, w.in_ok-close-in-Gap.ensures.end))
                 (w.in_ok-close-in-Gap.ensures.cells src)
-                (ap (λ (xs : List Item). clips.clips_cells src 0 c.loop-item.out.items ++ replicate (c.loop-item.start - clips.clips_end 0 c.loop-item.out.items) cell.Gap ++ map cell.Sample (all_samples src c.loop-item.held.items) ++ strip_cells src xs) (sym d)
+                (ap (λ (xs : List Item). clips.clips_cells src 0 c.loop-item.out.items
+                ++ replicate (c.loop-item.start - clips.clips_end 0 c.loop-item.out.items) cell.Gap
+                ++ map cell.Sample (all_samples src c.loop-item.held.items) ++ strip_cells src xs) (sym d)
                 ∙ inv.cells src);
           })
       | in-Sound+in_ok-push-in-Sound w ↦
-          let d : drop i items ≡ Sound w.in-Sound.piece ∷ rest = drop_more items i (Gap 0) c.loop-item-test.true ∙ ap (λ (x : Item). x ∷ rest) w.in-Sound.is in
+          let d : drop i items ≡ Sound w.in-Sound.piece ∷ rest =
+          drop_more items i (Gap 0) c.loop-item-test.true ∙ ap (λ (x : Item). x ∷ rest) w.in-Sound.is in
           let ok = subst AreItems d inv.rest_ok in
           let len = ap strip_len d in
           let p = w.in-Sound.piece in
@@ -51,7 +57,9 @@ loop-item-preserved c =
             later = inv.later;
             rest_ok = ok.1;
             cells = λ src. sound_cells src _ c.loop-item.held.items p (strip_cells src rest) _ (
-                ap (λ (xs : List Item). clips.clips_cells src 0 c.loop-item.out.items ++ replicate (c.loop-item.start - clips.clips_end 0 c.loop-item.out.items) cell.Gap ++ map cell.Sample (all_samples src c.loop-item.held.items) ++ strip_cells src xs) (sym d)
+                ap (λ (xs : List Item). clips.clips_cells src 0 c.loop-item.out.items
+                ++ replicate (c.loop-item.start - clips.clips_end 0 c.loop-item.out.items) cell.Gap
+                ++ map cell.Sample (all_samples src c.loop-item.held.items) ++ strip_cells src xs) (sym d)
                 ∙ inv.cells src);
           })
     ]

@@ -14,6 +14,7 @@ invariant-loop-item l = record {
   apart : clips.AreStripClips 0 l.out.items;
   later : clips.next_start 0 l.out.items ≤ l.start;
   rest_ok : AreItems (drop l.item-index l.items);
-  cells : (src : Sources) → clips.clips_cells src 0 l.out.items ++ replicate (l.start - clips.clips_end 0 l.out.items) cell.Gap ++ map cell.Sample (all_samples src l.held.items) ++ strip_cells src (drop l.item-index l.items)
+  cells : (src : Sources) → clips.clips_cells src 0 l.out.items ++ replicate (l.start - clips.clips_end 0 l.out.items)
+      cell.Gap ++ map cell.Sample (all_samples src l.held.items) ++ strip_cells src (drop l.item-index l.items)
       ≡ strip_cells src l.items;
 }

@@ -9,7 +9,8 @@ pub returns-in-Ok-clause-at : goal.returns-in-Ok-clause-at
 returns-in-Ok-clause-at g c = tells_number _ _ _ _ _ _ _ c.apply-at.result c.apply-at.ensures.says
 
 pub returns-clause-opens : goal.returns-clause-opens
-returns-clause-opens g c = track_refused _ _ _ _ _ _ c.apply-at.result c.apply-at.ensures.says c.in-Err.reason c.in-Err.is
+returns-clause-opens g c =
+    track_refused _ _ _ _ _ _ c.apply-at.result c.apply-at.ensures.says c.in-Err.reason c.in-Err.is
 
 pub returns-clause-at : goal.returns-clause-at
 returns-clause-at g c = tells_number _ _ _ _ _ _ _ c.apply-at.result c.apply-at.ensures.says

@@ -71,7 +71,8 @@ returns-clause-sat g c =
       player = known c.let_go.new.seat;
       seats = rejoined (record_calls c.args.track o.recording) (play_calls o.pin) v
           (known c.split-recorder.new.seat) r (known c.split-player.new.seat) p (known w.seats.script)
-          (known w.seats.recorder) (known c.let_go.new.seat) one.kept.1 one.new.1 one.number two.kept.1 two.new.1 two.number
+          (known w.seats.recorder)
+          (known c.let_go.new.seat) one.kept.1 one.new.1 one.number two.kept.1 two.new.1 two.number
           c.run_work-seats.ensures.goes (recorder_goes o.recording c.args.track _ _
           (where_both o.recording c.run_work-seats.ensures.records (λ tag h. h.0) (λ h. h.0)))
           (player_goes o.pin _ _ _ (where_both o.pin c.run_work-seats.ensures.plays (λ pin h. h.0) (λ h. h.0))

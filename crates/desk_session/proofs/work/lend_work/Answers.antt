@@ -16,7 +16,8 @@ use Rattle.desk_session.proofs.work.lend_work.Goals as goal
 pub returns-clause-ran : goal.returns-clause-ran
 returns-clause-ran g c =
     let s = c.run_beside-stop.new.session in
-    let first = c.run_beside-stop.ensures.follows c.new.result (refl, refl, onward_self IsLine (known c.new.result.seat)) in
+    let first =
+    c.run_beside-stop.ensures.follows c.new.result (refl, refl, onward_self IsLine (known c.new.result.seat)) in
     let desk = first.0 ∙ c.new.ensures.of.0 in (
       s.editor.last,
       subst (λ (z : Place × Place). Ran c.run_beside-stop.result.0 z.0 z.1 (g.O.Sink.written c.args.out.now)
@@ -56,7 +57,7 @@ returns-clause-records g c =
           (pieces_by (track i) (tag_is i) (h.2.3 i).number (start_at (h.2.2 i)).commit_number (h.2.3 i).seen)
           (pieces_by ((goes.1 ∙ track) i) ((goes.2 ∙ tag_is) i) (sym h.4.1 i).number (start_at (at i)).commit_number
           (sym h.4.1 i).seen) k)
-          (recorded_of g.M.Source (λ l. l.source.now) _ _ _ _ w.mic w.taker a k h.3 f.0 f.1 f.2 f.3)),
+          (recorded_of g.M.Source _ _ (λ l. l.source.now) (λ l. refl) (λ l. refl) w.mic w.taker a k h.3 f.0 f.1 f.2 f.3)),
     ))
     (λ h. (ap known h.2.0 ∙ h.1.0, h.2.3, h.2.2 ∙ h.1.3))
 
@@ -76,14 +77,15 @@ returns-clause-plays g c =
           (λ k f. subst (λ (X : Type 0). X)
           (λ i. IsPlayed g.P.Sink (h.2.1 i) (sym h.4.3 i)
           (IsMixOf g.S.Store g.V.Vault (start_at (h.2.2 i)) (h.2.3 i).seen (pin_is i)) k)
-          (played_of g.P.Sink (λ l. l.sink.now) _ _ _ _ w.giver w.speaker a k h.3 f.0 f.1 f.2)),
+          (played_of g.P.Sink _ _ (λ l. l.sink.now) (λ l. refl) (λ l. refl) w.giver w.speaker a k h.3 f.0 f.1 f.2)),
     ))
     (λ h. (ap known h.2.0 ∙ h.1.0, h.2.3, h.2.2 ∙ h.1.3))
 
 pub returns-clause-at : goal.returns-clause-at
 returns-clause-at g c =
     let desk = c.args.desk.now in
-    let first = c.run_beside-stop.ensures.follows c.new.result (refl, refl, onward_self IsLine (known c.new.result.seat)) in
+    let first =
+    c.run_beside-stop.ensures.follows c.new.result (refl, refl, onward_self IsLine (known c.new.result.seat)) in
     let recorded = back _ _ _ _ _ c.args.opened.recording c.lend_recorder-recording.result c.run_beside-stop.result.1
     c.lend_recorder-recording.ensures c.run_beside-stop.ensures.records
     c.take_recorder-recorder.ensures in
@@ -94,17 +96,20 @@ returns-clause-at g c =
       where_any c.args.opened.recording recorded
           (λ tag h. subst (λ d. IsAt d c.take_recorder-recorder.result.0)
           ((h.3.taker_goes h.0.taker
-          (refl, refl, refl, onward_self (IsPieceOf h.0.taker.track h.0.taker.tag) (known h.0.taker.seat))).0 ∙ h.2.2) h.4.0)
+          (refl, refl, refl, onward_self (IsPieceOf h.0.taker.track h.0.taker.tag) (known h.0.taker.seat))).0 ∙ h.2.2)
+          h.4.0)
           (λ h. subst (λ s. IsAt desk s) (sym h.2.0) h.1.1),
       where_any c.args.opened.pin played
           (λ pin h. subst (λ d. IsAt d c.take_player-player.result.0)
-          ((h.3.giver_goes h.0.giver (refl, refl, onward_self (IsReadOf h.0.giver.pin) (known h.0.giver.seat))).0 ∙ h.2.2) h.4.0)
+          ((h.3.giver_goes h.0.giver (refl, refl, onward_self (IsReadOf h.0.giver.pin) (known h.0.giver.seat))).0
+          ∙ h.2.2) h.4.0)
           (λ h. subst (λ s. IsAt desk s) (sym h.2.0) h.1.1),
     )
 
 pub returns-clause-same_references : goal.returns-clause-same_references
 returns-clause-same_references g c =
-    let first = c.run_beside-stop.ensures.follows c.new.result (refl, refl, onward_self IsLine (known c.new.result.seat)) in
+    let first =
+    c.run_beside-stop.ensures.follows c.new.result (refl, refl, onward_self IsLine (known c.new.result.seat)) in
     let recorded = back _ _ _ _ _ c.args.opened.recording c.lend_recorder-recording.result c.run_beside-stop.result.1
     c.lend_recorder-recording.ensures c.run_beside-stop.ensures.records
     c.take_recorder-recorder.ensures in
@@ -112,8 +117,10 @@ returns-clause-same_references g c =
     c.lend_player-playback.ensures c.run_beside-stop.ensures.plays
     c.take_player-player.ensures in (
       c.into_parts-script.ensures.vault.0 ∙ first.1 ∙ c.new.ensures.of.1,
-      where_any c.args.opened.recording recorded (λ tag h. h.4.2 ∙ (h.3.mic_goes h.0.mic (refl, λ before x. x)).0 ∙ h.2.0)
+      where_any c.args.opened.recording recorded
+          (λ tag h. h.4.2 ∙ (h.3.mic_goes h.0.mic (refl, λ before x. x)).0 ∙ h.2.0)
           (λ h. h.2.1 ∙ h.1.2),
-      where_any c.args.opened.pin played (λ pin h. h.4.2 ∙ (h.3.speaker_goes h.0.speaker (refl, λ before x. x)).0 ∙ h.2.0)
+      where_any c.args.opened.pin played
+          (λ pin h. h.4.2 ∙ (h.3.speaker_goes h.0.speaker (refl, λ before x. x)).0 ∙ h.2.0)
           (λ h. h.2.1 ∙ h.1.2),
     )

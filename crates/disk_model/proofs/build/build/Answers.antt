@@ -8,7 +8,8 @@ use Rattle.disk_model.proofs.FileCalls.{image_alike}
 use Rattle.disk_model.proofs.build.build.Goals as goal
 
 pub build_sorted-requires-clause-held : goal.build_sorted-requires-clause-held
-build_sorted-requires-clause-held c = subst (λ (l : List Call). AllHeld (length c.args.row.now) l) (sym c.deref.ensures.value) (c.in_ok-sorted.ensures.held (length c.args.row.now) c.requires)
+build_sorted-requires-clause-held c = subst (λ (l : List Call). AllHeld (length c.args.row.now) l)
+    (sym c.deref.ensures.value) (c.in_ok-sorted.ensures.held (length c.args.row.now) c.requires)
 
 pub build_sorted-requires-clause-by_file : goal.build_sorted-requires-clause-by_file
 build_sorted-requires-clause-by_file c = subst IsByFile (sym c.deref.ensures.value) c.in_ok-sorted.ensures.rising

@@ -5,5 +5,6 @@ use Rattle.disk_model.proofs.build.name_call.Goals as goal
 pub returns-in_ok-insert-in-Write : goal.returns-in_ok-insert-in-Write
 returns-in_ok-insert-in-Write c = λ h was f absent.
     let call = c.args.call.now in
-    let apart = still_absent call.file f c.args.there.now c.insert.new.self c.in_ok-insert-in-Write.ensures.updates absent in
+    let apart =
+    still_absent call.file f c.args.there.now c.insert.new.self c.in_ok-insert-in-Write.ensures.updates absent in
     other_next call.kind call.file call.at _ h f apart.0 (was f apart.1)

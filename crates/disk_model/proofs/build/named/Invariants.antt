@@ -8,4 +8,6 @@ use Rattle.disk_model.specs.Calls.{history_of}
 use Rattle.disk_model.proofs.build.named.Given as goal
 
 abbrev pub invariant-loop-call : goal.invariant-loop-call
-invariant-loop-call l = (f : ℕ) → contains nat_cmp l.there f ≡ false → IsUnnamed (history_of l.row (take l.call-index l.calls)) f × (reads_of (history_of l.row (take l.call-index l.calls)) f ≡ None)
+invariant-loop-call l =
+    (f : ℕ) → contains nat_cmp l.there f ≡ false → IsUnnamed (history_of l.row (take l.call-index l.calls)) f
+    × (reads_of (history_of l.row (take l.call-index l.calls)) f ≡ None)

@@ -21,4 +21,5 @@ returns-clause-left c =
     let first = history_of row (take from calls) in
     left_parts row calls from draws.choice c.args.file draws.state _ _
     (c.in_ok-left.ensures.left first draws.state
-    (subst (λ (x : Option (List ℕ)). IsLeft draws.choice c.args.file first draws.state x draws.state) (sym c.in_ok-synced.ensures) (c.pending_from-from.ensures.settled row draws.choice draws.state)))
+    (subst (λ (x : Option (List ℕ)). IsLeft draws.choice c.args.file first draws.state x draws.state)
+    (sym c.in_ok-synced.ensures) (c.pending_from-from.ensures.settled row draws.choice draws.state)))

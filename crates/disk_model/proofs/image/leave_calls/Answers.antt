@@ -22,7 +22,10 @@ loop-call-preserved c =
       left = λ h start first.
           let none : Call = record { kind = Write; file = 0; at = 0; from = 0; len = 0 } in
           let earlier = history_on h row (take i c.args.calls.now) in
-          let before = subst (λ (k : ℕ). IsLeft k file earlier start (items_of c.loop-call.image) c.loop-call.draws.state) (sym was.choice) (was.left h start first) in
-          left_next row c.args.calls.now i c.args.draws.now.choice c.loop-call.draws.choice file start c.leave_call.new.draws.state none h (items_of c.in_ok-image.image) (omega arith) was.choice
+          let before =
+          subst (λ (k : ℕ). IsLeft k file earlier start (items_of c.loop-call.image) c.loop-call.draws.state)
+          (sym was.choice) (was.left h start first) in
+          left_next row c.args.calls.now i c.args.draws.now.choice c.loop-call.draws.choice file start
+          c.leave_call.new.draws.state none h (items_of c.in_ok-image.image) (omega arith) was.choice
           (c.in_ok-image.ensures.left earlier start before);
     }

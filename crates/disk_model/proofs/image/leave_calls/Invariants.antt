@@ -9,5 +9,6 @@ abbrev pub invariant-loop-call : goal.invariant-loop-call
 invariant-loop-call l = record {
   choice : l.draws.choice ≡ l.fn.draws.choice;
   left : (h : List Step) (start : ℕ) → IsLeft l.fn.draws.choice l.file h start (items_of l.fn.image) l.fn.draws.state
-      → IsLeft l.fn.draws.choice l.file (history_on h l.row (take l.call-index l.calls)) start (items_of l.image) l.draws.state;
+      → IsLeft l.fn.draws.choice l.file (history_on h l.row (take l.call-index l.calls)) start
+      (items_of l.image) l.draws.state;
 }

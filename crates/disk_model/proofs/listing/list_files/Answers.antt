@@ -10,8 +10,10 @@ use Rattle.disk_model.proofs.listing.list_files.Goals as goal
 
 pub returns-clause-listed : goal.returns-clause-listed
 returns-clause-listed c = files_listed c.args.heads.now c.loop-head.out.items c.requires
-    (c.loop-head.invariant ∙ ap (λ (l : List Head). map (λ (h : Head). h.file) (filter (λ (h : Head). is_some h.size) l)) (take_all _ c.args.heads.now (omega arith)))
+    (c.loop-head.invariant ∙ ap (λ (l : List Head). map (λ (h : Head). h.file)
+    (filter (λ (h : Head). is_some h.size) l)) (take_all _ c.args.heads.now (omega arith)))
 
 pub returns-clause-rising : goal.returns-clause-rising
 returns-clause-rising c = files_rise c.args.heads.now c.loop-head.out.items c.requires
-    (c.loop-head.invariant ∙ ap (λ (l : List Head). map (λ (h : Head). h.file) (filter (λ (h : Head). is_some h.size) l)) (take_all _ c.args.heads.now (omega arith)))
+    (c.loop-head.invariant ∙ ap (λ (l : List Head). map (λ (h : Head). h.file)
+    (filter (λ (h : Head). is_some h.size) l)) (take_all _ c.args.heads.now (omega arith)))

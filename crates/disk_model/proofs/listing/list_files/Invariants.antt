@@ -6,4 +6,5 @@ use Rattle.disk_model.specs.declared.heads.Head.{Head}
 use Rattle.disk_model.proofs.listing.list_files.Given as goal
 
 abbrev pub invariant-loop-head : goal.invariant-loop-head
-invariant-loop-head l = l.out.items ≡ map (λ (h : Head). h.file) (filter (λ (h : Head). is_some h.size) (take l.head-index l.heads))
+invariant-loop-head l =
+    l.out.items ≡ map (λ (h : Head). h.file) (filter (λ (h : Head). is_some h.size) (take l.head-index l.heads))

@@ -12,5 +12,7 @@ returns-in-Write c = λ h was.
     let row = c.args.row.now in
     let e = c.overlay.ensures in
     subst (λ (o : List ℕ). IsWindow o c.args.at c.overlay.new.buf)
-    (ap (λ (b : List ℕ). written (bytes_of (reads_of h c.args.file)) call.at b) c.bytes_in.ensures ∙ sym (ap bytes_of (reads_call row call h c.args.file c.in-Write.is c.if-call-file.false)))
-    (window_written (bytes_of (reads_of h c.args.file)) c.bytes_in.result.now c.args.buf.now c.overlay.new.buf c.args.at call.at (omega arith) was e.inside e.before e.after)
+    (ap (λ (b : List ℕ). written (bytes_of (reads_of h c.args.file)) call.at b) c.bytes_in.ensures
+    ∙ sym (ap bytes_of (reads_call row call h c.args.file c.in-Write.is c.if-call-file.false)))
+    (window_written (bytes_of (reads_of h c.args.file)) c.bytes_in.result.now c.args.buf.now c.overlay.new.buf c.args.at
+    call.at (omega arith) was e.inside e.before e.after)

@@ -11,6 +11,7 @@ size_after-size-requires c = held_at _ c.args.calls.now c.loop-call.call-index _
 pub loop-call-preserved : goal.loop-call-preserved
 loop-call-preserved c = record {
   size = c.size_after-size.ensures.size _ c.loop-call.invariant.size
-      ∙ ap (λ (h : List Step). option_map length (reads_of h c.args.file)) (sym (history_next c.args.row.now c.args.calls.now c.loop-call.call-index _ (omega arith)));
+      ∙ ap (λ (h : List Step). option_map length (reads_of h c.args.file))
+      (sym (history_next c.args.row.now c.args.calls.now c.loop-call.call-index _ (omega arith)));
   bounded = c.size_after-size.ensures.bounded c.loop-call.invariant.bounded;
 }

@@ -1,5 +1,6 @@
 -- The goals of `lay_strip` that the search leaves open.
-use Rattle.std.proofs.Common.{◌≡◌, ◌+◌, ◌-◌, ◌<◌, ◌++◌, List, [], ◌∷◌, drop, map, replicate, refl, sym, ap, subst, ◌∙◌, arith}
+use Rattle.std.proofs.Common.{◌≡◌, ◌+◌, ◌-◌, ◌<◌, ◌++◌, List, [], ◌∷◌, drop, map, replicate, refl, sym, ap, subst, ◌∙◌}
+use Rattle.std.proofs.Common.{arith}
 use Rattle.std.proofs.lemmas.List.{drop_more, drop_all, append-nil}
 use Rattle.pcm_base.specs.declared.sound.Cell.TheVariants as cell
 use Rattle.pcm_base.specs.Pieces.{all_samples}
@@ -28,7 +29,8 @@ loop-item-preserved c =
     let inv = c.loop-item.invariant in
     elim c.match-item.branch [
       | in-Gap+in_ok-close-in-Gap w ↦
-          let d : drop i items ≡ Gap w.in-Gap.len ∷ rest = drop_more items i (Gap 0) c.loop-item-test.true ∙ ap (λ (x : Item). x ∷ rest) w.in-Gap.is in
+          let d : drop i items ≡ Gap w.in-Gap.len ∷ rest =
+          drop_more items i (Gap 0) c.loop-item-test.true ∙ ap (λ (x : Item). x ∷ rest) w.in-Gap.is in
           let ok = subst AreItems d inv.rest_ok in
           let F : List Item → Type 0 = λ xs. ItemsFit c.args.m xs in
           let len = ap strip_len d in
@@ -45,8 +47,11 @@ loop-item-preserved c =
             origin = λ old count h.
                 let f = inv.origin old count h in
                 let S : List Piece → Type 0 = AllFrom old count in
-                let T : List Item → Type 0 = ItemsFrom old count in
-                (tt, (subst T d f.1).1, w.in_ok-close-in-Gap.ensures.origin old count (subst S (sym w.as_slice.ensures.value) f.0) f.2);
+                let T : List Item → Type 0 = ItemsFrom old count in (
+                  tt,
+                  (subst T d f.1).1,
+                  w.in_ok-close-in-Gap.ensures.origin old count (subst S (sym w.as_slice.ensures.value) f.0) f.2,
+                );
             few_made = λ h.
                 let f = inv.few_made h in
                 let e = ap (rough_from c.args.m c.loop-item.held.items) d in
@@ -62,15 +67,21 @@ loop-item-preserved c =
               ap (clip_room c.args.m) w.as_slice.ensures.value,
               w.in_ok-close-in-Gap.ensures.few_samples,
             );
-            cells = λ src. gap_cells (clips.laid_cells src 0 w.close.new.out.items) _ _ w.in-Gap.len _ (strip_cells src rest) _
+            cells = λ src. gap_cells (clips.laid_cells src 0 w.close.new.out.items) _ _ w.in-Gap.len _
+                (strip_cells src rest) _
                 (omega (arith, w.in_ok-close-in-Gap.ensures.end))
                 (w.in_ok-close-in-Gap.ensures.cells src)
-                (ap (λ (ps : List Piece). clips.laid_cells src 0 c.loop-item.out.items ++ replicate (c.loop-item.start - clips.laid_end 0 c.loop-item.out.items) cell.Gap ++ map cell.Sample (all_samples src ps) ++ strip_cells src (Gap w.in-Gap.len ∷ rest)) w.as_slice.ensures.value
-                ∙ ap (λ (xs : List Item). clips.laid_cells src 0 c.loop-item.out.items ++ replicate (c.loop-item.start - clips.laid_end 0 c.loop-item.out.items) cell.Gap ++ map cell.Sample (all_samples src c.loop-item.held.items) ++ strip_cells src xs) (sym d)
+                (ap (λ (ps : List Piece). clips.laid_cells src 0 c.loop-item.out.items ++ replicate
+                (c.loop-item.start - clips.laid_end 0 c.loop-item.out.items) cell.Gap ++ map cell.Sample
+                (all_samples src ps) ++ strip_cells src (Gap w.in-Gap.len ∷ rest)) w.as_slice.ensures.value
+                ∙ ap (λ (xs : List Item). clips.laid_cells src 0 c.loop-item.out.items
+                ++ replicate (c.loop-item.start - clips.laid_end 0 c.loop-item.out.items) cell.Gap
+                ++ map cell.Sample (all_samples src c.loop-item.held.items) ++ strip_cells src xs) (sym d)
                 ∙ inv.cells src);
           })
       | in-Sound+in_ok-push-in-Sound w ↦
-          let d : drop i items ≡ Sound w.in-Sound.piece ∷ rest = drop_more items i (Gap 0) c.loop-item-test.true ∙ ap (λ (x : Item). x ∷ rest) w.in-Sound.is in
+          let d : drop i items ≡ Sound w.in-Sound.piece ∷ rest =
+          drop_more items i (Gap 0) c.loop-item-test.true ∙ ap (λ (x : Item). x ∷ rest) w.in-Sound.is in
           let ok = subst AreItems d inv.rest_ok in
           let F : List Item → Type 0 = λ xs. ItemsFit c.args.m xs in
           let fit = subst F d inv.rest_fit in
@@ -95,11 +106,16 @@ loop-item-preserved c =
                 let f = inv.few_made h in
                 let e = ap (rough_from c.args.m c.loop-item.held.items) d in
                 let T : List Item → Type 0 = ItemsShort c.args.m in
-                let g = subst T d f.1 in
-                (AllShort-append c.args.m c.loop-item.held.items (p ∷ []) f.0 ((ok.0.0, g.0), tt), g.1, omega (arith, f.2, e));
+                let g = subst T d f.1 in (
+                  AllShort-append c.args.m c.loop-item.held.items (p ∷ []) f.0 ((ok.0.0, g.0), tt),
+                  g.1,
+                  omega (arith, f.2, e),
+                );
             few_samples = omega (arith, inv.few_samples, ap (room_from c.args.m c.loop-item.held.items) d);
             cells = λ src. sound_cells src _ c.loop-item.held.items p (strip_cells src rest) _ (
-                ap (λ (xs : List Item). clips.laid_cells src 0 c.loop-item.out.items ++ replicate (c.loop-item.start - clips.laid_end 0 c.loop-item.out.items) cell.Gap ++ map cell.Sample (all_samples src c.loop-item.held.items) ++ strip_cells src xs) (sym d)
+                ap (λ (xs : List Item). clips.laid_cells src 0 c.loop-item.out.items
+                ++ replicate (c.loop-item.start - clips.laid_end 0 c.loop-item.out.items) cell.Gap
+                ++ map cell.Sample (all_samples src c.loop-item.held.items) ++ strip_cells src xs) (sym d)
                 ∙ inv.cells src);
           })
     ]
@@ -108,12 +124,14 @@ pub returns-clause-cells : goal.returns-clause-cells
 returns-clause-cells c src =
     let items = c.args.items.now in
     let d = drop_all c.loop-item.item-index items c.loop-item-test.false in
-    let before = clips.laid_cells src 0 c.loop-item.out.items ++ replicate (c.loop-item.start - clips.laid_end 0 c.loop-item.out.items) cell.Gap in
+    let before = clips.laid_cells src 0 c.loop-item.out.items
+    ++ replicate (c.loop-item.start - clips.laid_end 0 c.loop-item.out.items) cell.Gap in
     ended_cells c.args.m src c.close-2.new.out.items _ _ c.in_ok-close.ensures.apart (
     c.in_ok-close.ensures.cells src
     ∙ ap (λ (ps : List Piece). before ++ map cell.Sample (all_samples src ps)) c.as_slice-2.ensures.value
     ∙ sym (append-nil (before ++ map cell.Sample (all_samples src c.loop-item.held.items)))
-    ∙ ap (λ (xs : List Item). before ++ map cell.Sample (all_samples src c.loop-item.held.items) ++ strip_cells src xs) (sym d)
+    ∙ ap (λ (xs : List Item). before ++ map cell.Sample (all_samples src c.loop-item.held.items) ++ strip_cells src xs)
+    (sym d)
     ∙ c.loop-item.invariant.cells src)
 
 pub returns-clause-origin : goal.returns-clause-origin

@@ -23,10 +23,14 @@ invariant-loop-item l = record {
   rest_ok : AreItems (drop l.item-index l.items);
   rest_fit : ItemsFit l.m (drop l.item-index l.items);
   origin : (old : List BlockRef) (count : ℕ) → ItemsFrom old count l.items
-      → AllFrom old count l.held.items × ItemsFrom old count (drop l.item-index l.items) × clips.ClipsFrom old count l.out.items;
+      → AllFrom old count l.held.items × ItemsFrom old count (drop l.item-index l.items)
+      × clips.ClipsFrom old count l.out.items;
   few_made : ItemsShort l.m l.items → AllShort l.m l.held.items × ItemsShort l.m (drop l.item-index l.items)
-      × (clips.made_clips l.out.items + 2 * rough_from l.m l.held.items (drop l.item-index l.items) ≤ 2 * rough_from l.m [] l.items);
-  few_samples : l.m * clips.made_clips l.out.items + room_from l.m l.held.items (drop l.item-index l.items) ≤ room_from l.m [] l.items;
-  cells : (src : Sources) → clips.laid_cells src 0 l.out.items ++ replicate (l.start - clips.laid_end 0 l.out.items) cell.Gap ++ map cell.Sample (all_samples src l.held.items) ++ strip_cells src (drop l.item-index l.items)
+      × (clips.made_clips l.out.items + 2 * rough_from l.m l.held.items (drop l.item-index l.items)
+      ≤ 2 * rough_from l.m [] l.items);
+  few_samples : l.m * clips.made_clips l.out.items + room_from l.m l.held.items (drop l.item-index l.items)
+      ≤ room_from l.m [] l.items;
+  cells : (src : Sources) → clips.laid_cells src 0 l.out.items ++ replicate (l.start - clips.laid_end 0 l.out.items)
+      cell.Gap ++ map cell.Sample (all_samples src l.held.items) ++ strip_cells src (drop l.item-index l.items)
       ≡ strip_cells src l.items;
 }

@@ -14,7 +14,8 @@ plan_strip-requires-clause-fit c =
     let w = c.in_ok-whole.ensures in
     let m = c.args.m in
     let h = c.requires.half_full in
-    let t = tame_placed m _ c.args.placing c.args.at c.args.clip.now c.in_ok-whole.whole w.ok (tame_layout m c.args.t.now _ w.items (w.fit m h) (w.short m h) (w.smooth m h)) c.requires.clip in
+    let t = tame_placed m _ c.args.placing c.args.at c.args.clip.now c.in_ok-whole.whole w.ok
+    (tame_layout m c.args.t.now _ w.items (w.fit m h) (w.short m h) (w.smooth m h)) c.requires.clip in
     rw c.in_ok-strip.ensures.items t.fit
 
 pub returns : goal.returns
@@ -26,7 +27,8 @@ returns c =
     let old = layout_blocks c.args.t.now ++ strip_blocks clip in
     let P : List Item → Type 0 = Tame m old 4 in
     let t = subst P (sym c.in_ok-strip.ensures.items)
-    (tame_placed m _ c.args.placing c.args.at clip c.in_ok-whole.whole w.ok (tame_layout m c.args.t.now _ w.items (w.fit m h) (w.short m h) (w.smooth m h)) c.requires.clip) in
+    (tame_placed m _ c.args.placing c.args.at clip c.in_ok-whole.whole w.ok
+    (tame_layout m c.args.t.now _ w.items (w.fit m h) (w.short m h) (w.smooth m h)) c.requires.clip) in
     record {
       plan = c.in_ok-plan_strip.ensures.plan old 0 t.origin;
       cells = λ src k.

@@ -10,6 +10,7 @@ invariant-loop-part l = record {
   is_finite : (goal.iterator-loop-part).is_finite l.part-iterator;
   room : l.id + length (into_iter_items l.part-iterator) < 2 ^ 64;
   all_blocks : l.blocks.items ++ named l.id (into_iter_items l.part-iterator) ≡ named l.next l.fn.parts.items;
-  all_makes : l.makes.items ++ new_blocks l.id (into_iter_items l.part-iterator) ≡ l.fn.makes.items ++ new_blocks l.next l.fn.parts.items;
+  all_makes : l.makes.items ++ new_blocks l.id (into_iter_items l.part-iterator) ≡ l.fn.makes.items
+      ++ new_blocks l.next l.fn.parts.items;
   same_next : next_after l.id (into_iter_items l.part-iterator) ≡ next_after l.next l.fn.parts.items;
 }

@@ -6,7 +6,8 @@ use Rattle.std.specs.Vec.Iter.{into_iter_items}
 use Rattle.edit_ops.specs.declared.types.LaidClip.{LaidClip}
 use Rattle.edit_ops.specs.LaidClips.{named}
 use Rattle.edit_ops.specs.LaidClips as laid
-use Rattle.edit_ops.proofs.Named.{AllLaid, AllLaid-from, count_laid_le, half_full_named, none_empty, len_named, next_after_le, IsLayout-named}
+use Rattle.edit_ops.proofs.Named.{AllLaid, AllLaid-from, count_laid_le, half_full_named, none_empty, len_named}
+use Rattle.edit_ops.proofs.Named.{next_after_le, IsLayout-named}
 use Rattle.edit_ops.proofs.planning.name_clips.Goals as goal
 
 pub loop-clip-init : goal.loop-clip-init
@@ -26,17 +27,24 @@ loop-clip-init c =
 
 -- the clip that was taken is laid out as it should be
 taken : (c : goal.In_ok-named) → AllLaid c.args.m (c.in-Some.clip ∷ into_iter_items c.next.new.self)
-taken c = let P : List LaidClip → Type 0 = AllLaid c.args.m in subst P c.in-Some.ensures.steps.0 c.loop-clip.invariant.each
+taken c =
+    let P : List LaidClip → Type 0 = AllLaid c.args.m in
+    subst P c.in-Some.ensures.steps.0 c.loop-clip.invariant.each
 
 pub new-blocks-requires-clause-full : goal.new-blocks-requires-clause-full
-new-blocks-requires-clause-full c = rw c.in_ok-named.ensures.blocks (c.args.m, half_full_named c.args.m c.loop-clip.id c.in-Some.clip.laid.items (taken c).0)
+new-blocks-requires-clause-full c = rw c.in_ok-named.ensures.blocks (
+  c.args.m,
+  half_full_named c.args.m c.loop-clip.id c.in-Some.clip.laid.items (taken c).0,
+)
 
 pub new-blocks-requires-clause-none_empty : goal.new-blocks-requires-clause-none_empty
 new-blocks-requires-clause-none_empty c = rw c.in_ok-named.ensures.blocks (
-    none_empty c.args.m (named c.loop-clip.id c.in-Some.clip.laid.items) c.requires.some (half_full_named c.args.m c.loop-clip.id c.in-Some.clip.laid.items (taken c).0))
+    none_empty c.args.m (named c.loop-clip.id c.in-Some.clip.laid.items) c.requires.some
+    (half_full_named c.args.m c.loop-clip.id c.in-Some.clip.laid.items (taken c).0))
 
 pub new-blocks-requires-clause-few : goal.new-blocks-requires-clause-few
-new-blocks-requires-clause-few c = rw c.in_ok-named.ensures.blocks (omega (arith, len_named c.loop-clip.id c.in-Some.clip.laid.items, (taken c).1))
+new-blocks-requires-clause-few c =
+    rw c.in_ok-named.ensures.blocks (omega (arith, len_named c.loop-clip.id c.in-Some.clip.laid.items, (taken c).1))
 
 pub loop-clip-preserved : goal.loop-clip-preserved
 loop-clip-preserved c =
@@ -47,7 +55,13 @@ loop-clip-preserved c =
     let ls = c.in-Some.clip.laid.items in
     let P : List LaidClip → Type 0 = AllLaid c.args.m in
     let n = ap laid.count_laid s in
-    rw (c.in_ok-push.ensures.items, c.new-blocks.ensures, c.in_ok-named.ensures.blocks, c.in_ok-named.ensures.makes, c.in_ok-named.ensures.next) (record {
+    rw (
+      c.in_ok-push.ensures.items,
+      c.new-blocks.ensures,
+      c.in_ok-named.ensures.blocks,
+      c.in_ok-named.ensures.makes,
+      c.in_ok-named.ensures.next,
+    ) (record {
       can_next = tt;
       is_finite = tt;
       each = (subst P s inv.each).2;

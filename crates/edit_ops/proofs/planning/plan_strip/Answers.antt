@@ -12,7 +12,8 @@ use Rattle.edit_ops.specs.declared.types.NewBlock.{NewBlock}
 use Rattle.edit_ops.specs.LaidClips.{clips_new_blocks, made_clips}
 use Rattle.edit_ops.specs.Plans.{AreWritten}
 use Rattle.edit_ops.specs.Strips.{ItemsFrom}
-use Rattle.edit_ops.proofs.Named.{AllHalfFull-named, cells_named, clips_next_counts, count_clips_new, AreNew-clips, AllNewFrom-clips, old_or_new_clips}
+use Rattle.edit_ops.proofs.Named.{AllHalfFull-named, cells_named, clips_next_counts, count_clips_new, AreNew-clips}
+use Rattle.edit_ops.proofs.Named.{AllNewFrom-clips, old_or_new_clips}
 use Rattle.edit_ops.proofs.planning.plan_strip.Goals as goal
 
 pub returns-clause-plan : goal.returns-clause-plan
@@ -28,7 +29,8 @@ returns-clause-plan c old count h =
       new = rw named.makes (AreNew-clips m 0 next clips c.requires.some c.in_ok-clips.ensures.apart);
       origin = rw named.makes (AllNewFrom-clips old count next clips f);
       blocks = rw (named.makes, named.layout) (old_or_new_clips old count next clips f);
-      next_id = named.next ∙ clips_next_counts next clips ∙ ap (λ (ms : List NewBlock). next + length ms) (sym named.makes);
+      next_id =
+          named.next ∙ clips_next_counts next clips ∙ ap (λ (ms : List NewBlock). next + length ms) (sym named.makes);
     }
 
 pub returns-clause-cells : goal.returns-clause-cells
@@ -46,11 +48,17 @@ returns-clause-few_made c h =
     let T : List Item → Type 0 = ItemsShort c.args.m in
     let few = c.in_ok-clips.ensures.few_made (subst T (sym c.as_slice.ensures.value) h) in
     let same = ap (rough_from c.args.m []) c.as_slice.ensures.value in
-    rw c.in_ok-name_clips.ensures.makes (omega (arith, count_clips_new c.args.next clips, few, same, rough_from_le c.args.m c.args.strip.now))
+    rw c.in_ok-name_clips.ensures.makes
+    (omega (arith, count_clips_new c.args.next clips, few, same, rough_from_le c.args.m c.args.strip.now))
 
 pub returns-clause-few_samples : goal.returns-clause-few_samples
 returns-clause-few_samples c =
     let m = c.args.m in
     let clips = c.in_ok-clips.clips.items in
     let e : length (clips_new_blocks c.args.next clips) ≡ made_clips clips = count_clips_new c.args.next clips in
-    rw (c.in_ok-name_clips.ensures.makes, e) (omega (arith, c.in_ok-clips.ensures.few_samples, ap (room_from m []) c.as_slice.ensures.value, room_from_le m c.args.strip.now))
+    rw (c.in_ok-name_clips.ensures.makes, e) (omega (
+      arith,
+      c.in_ok-clips.ensures.few_samples,
+      ap (room_from m []) c.as_slice.ensures.value,
+      room_from_le m c.args.strip.now,
+    ))

@@ -18,7 +18,8 @@ use Rattle.clip_track.specs.Clips.{layout_blocks}
 use Rattle.edit_ops.proofs.plans.plan_with_change.Goals as goal
 
 pub plan_strip-requires-clause-fit : goal.plan_strip-requires-clause-fit
-plan_strip-requires-clause-fit c = rw c.in_ok-strip.ensures.items (fit_change c.args.m c.args.change c.args.from c.args.to _ (c.in_ok-whole.ensures.fit c.args.m c.requires.half_full))
+plan_strip-requires-clause-fit c = rw c.in_ok-strip.ensures.items (fit_change c.args.m c.args.change c.args.from
+    c.args.to _ (c.in_ok-whole.ensures.fit c.args.m c.requires.half_full))
 
 pub returns-clause-plan : goal.returns-clause-plan
 returns-clause-plan c =
@@ -26,7 +27,8 @@ returns-clause-plan c =
     let old = layout_blocks c.args.t.now in
     let P : List Item → Type 0 = ItemsFrom old 0 in
     let f = subst P (sym w.items) (ItemsFrom-layout 0 c.args.t.now) in
-    c.in_ok-plan_strip.ensures.plan old 0 (subst P (sym c.in_ok-strip.ensures.items) (from_change old 0 c.args.change c.args.from c.args.to c.in_ok-whole.whole w.ok f))
+    c.in_ok-plan_strip.ensures.plan old 0 (subst P (sym c.in_ok-strip.ensures.items)
+    (from_change old 0 c.args.change c.args.from c.args.to c.in_ok-whole.whole w.ok f))
 
 pub returns-clause-cells : goal.returns-clause-cells
 returns-clause-cells c src w =
@@ -34,7 +36,8 @@ returns-clause-cells c src w =
     c.in_ok-plan_strip.ensures.cells src w
     ∙ ap trimmed (ap (strip_cells src) c.in_ok-strip.ensures.items
     ∙ cells_with_change src c.args.change c.args.from c.args.to c.in_ok-whole.whole o
-    ∙ ap (λ (cells : List Cell). take c.args.from cells ++ map (cell_change c.args.change) (part c.args.from c.args.to cells) ++ drop c.args.to cells) (c.in_ok-whole.ensures.cells src))
+    ∙ ap (λ (cells : List Cell). take c.args.from cells ++ map (cell_change c.args.change)
+    (part c.args.from c.args.to cells) ++ drop c.args.to cells) (c.in_ok-whole.ensures.cells src))
 
 pub returns-clause-few_made : goal.returns-clause-few_made
 returns-clause-few_made c src =
@@ -48,5 +51,6 @@ returns-clause-few_made c src =
     let smooth : Smooth m whole = record { items_ok = w.ok; short = w.short m h; smooth = w.smooth m h } in
     let few : m * k ≤ strip_room m First true (with_change c.args.change from to whole) =
     omega (arith, c.in_ok-plan_strip.ensures.few_samples, ap (strip_room m First true) c.in_ok-strip.ensures.items) in
-    let P : List Cell → Type 0 = λ cells. k ≤ 8 + sample_count (part from to cells) / m + clip_count (part from to cells) in
+    let P : List Cell → Type 0 =
+    λ cells. k ≤ 8 + sample_count (part from to cells) / m + clip_count (part from to cells) in
     subst P (w.cells src) (few_changed m k from to c.args.change src whole c.requires.some smooth few)

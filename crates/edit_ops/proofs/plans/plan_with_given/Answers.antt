@@ -21,7 +21,9 @@ with_inserted-requires c =
 pub plan_strip-requires-clause-fit : goal.plan_strip-requires-clause-fit
 plan_strip-requires-clause-fit c =
     let P : List Item → Type 0 = ItemsFit c.args.m in
-    rw c.in_ok-strip.ensures.items (fit_inserted c.args.m c.args.at _ _ (c.in_ok-whole.ensures.fit c.args.m c.requires.half_full) (subst P (sym c.in_ok-given.ensures) (given_fit c.args.m c.args.count)))
+    rw c.in_ok-strip.ensures.items
+    (fit_inserted c.args.m c.args.at _ _ (c.in_ok-whole.ensures.fit c.args.m c.requires.half_full)
+    (subst P (sym c.in_ok-given.ensures) (given_fit c.args.m c.args.count)))
 
 pub plan_strip-requires-clause-few : goal.plan_strip-requires-clause-few
 plan_strip-requires-clause-few c =
@@ -35,14 +37,16 @@ returns-clause-plan c =
     let P : List Item → Type 0 = ItemsFrom old c.args.count in
     let f = subst P (sym w.items) (ItemsFrom-layout c.args.count c.args.t.now) in
     let g = subst P (sym c.in_ok-given.ensures) (given_from old c.args.count) in
-    c.in_ok-plan_strip.ensures.plan old c.args.count (subst P (sym c.in_ok-strip.ensures.items) (from_inserted old c.args.count c.args.at _ c.in_ok-whole.whole w.ok f g))
+    c.in_ok-plan_strip.ensures.plan old c.args.count (subst P (sym c.in_ok-strip.ensures.items)
+    (from_inserted old c.args.count c.args.at _ c.in_ok-whole.whole w.ok f g))
 
 pub returns-clause-cells : goal.returns-clause-cells
 returns-clause-cells c src w =
     c.in_ok-plan_strip.ensures.cells src w
     ∙ ap trimmed (ap (strip_cells src) c.in_ok-strip.ensures.items
     ∙ cells_with_inserted src c.args.at c.in_ok-given.given c.in_ok-whole.whole
-    ∙ ap₂ (λ (cells : List Cell) (ys : List Cell). take c.args.at (continued c.args.at cells) ++ ys ++ drop c.args.at cells)
+    ∙ ap₂ (λ (cells : List Cell) (ys : List Cell). take c.args.at (continued c.args.at cells) ++ ys
+    ++ drop c.args.at cells)
     (c.in_ok-whole.ensures.cells src)
     (ap (strip_cells src) c.in_ok-given.ensures ∙ cells_given src c.args.count))
 
@@ -54,7 +58,8 @@ returns-clause-few_made c =
     let whole = c.in_ok-whole.whole in
     let k = length c.in_ok-plan_strip.field-0.makes in
     let smooth : Smooth m whole = record { items_ok = w.ok; short = w.short m h; smooth = w.smooth m h } in
-    let same = c.in_ok-strip.ensures.items ∙ ap (λ (ys : List Item). with_inserted c.args.at ys whole) c.in_ok-given.ensures in
+    let same =
+    c.in_ok-strip.ensures.items ∙ ap (λ (ys : List Item). with_inserted c.args.at ys whole) c.in_ok-given.ensures in
     let few : m * k ≤ strip_room m First true (with_inserted c.args.at (given_items c.args.count) whole) =
     omega (arith, c.in_ok-plan_strip.ensures.few_samples, ap (strip_room m First true) same) in
     few_inserted m k c.args.count c.args.at whole c.requires.some smooth few

@@ -7,4 +7,5 @@ use Rattle.edit_ops.proofs.runs.copy.Goals as goal
 
 pub returns-clause-copies : goal.returns-clause-copies
 returns-clause-copies c =
-    subst (λ (ts : List (List Clip)). AreCopies c.args.from c.args.to ts c.in_ok-strips.strips) (layouts_take c.args.n c.args.run.now) c.in_ok-strips.ensures
+    subst (λ (ts : List (List Clip)). AreCopies c.args.from c.args.to ts c.in_ok-strips.strips)
+    (layouts_take c.args.n c.args.run.now) c.in_ok-strips.ensures

@@ -18,8 +18,13 @@ returns c =
     let P : List Item → Type 0 = ItemsFrom (layout_blocks c.args.t.now) 0 in
     let f = subst P (sym w.items) (ItemsFrom-layout 0 c.args.t.now) in
     record {
-      cells = λ src. ap (strip_cells src) e ∙ cells_range src c.args.from c.args.to c.in_ok-whole.whole ∙ ap (range_of c.args.from c.args.to) (w.cells src);
+      cells = λ src. ap (strip_cells src) e ∙ cells_range src c.args.from c.args.to c.in_ok-whole.whole
+          ∙ ap (range_of c.args.from c.args.to) (w.cells src);
       len = c.in_ok-range_part.ensures.len;
-      clip = λ m h. let Q : List Item → Type 0 = IsClip m in subst Q (sym e) (clip_range m c.args.from c.args.to c.in_ok-whole.whole w.ok old (w.fit m h) (w.short m h) (w.smooth m h));
-      origin = subst P (sym e) (from_range (layout_blocks c.args.t.now) c.args.from c.args.to c.in_ok-whole.whole w.ok f);
+      clip = λ m h.
+          let Q : List Item → Type 0 = IsClip m in
+          subst Q (sym e)
+          (clip_range m c.args.from c.args.to c.in_ok-whole.whole w.ok old (w.fit m h) (w.short m h) (w.smooth m h));
+      origin =
+          subst P (sym e) (from_range (layout_blocks c.args.t.now) c.args.from c.args.to c.in_ok-whole.whole w.ok f);
     }

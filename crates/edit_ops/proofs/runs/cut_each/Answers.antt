@@ -14,10 +14,12 @@ plan_removal-requires-clause-half_full c =
     let t = c.t-item.result in
     let i = c.loop-t.t-index in
     subst P (sym (layouts_at run i t c.loop-t-test.true c.t-item.is))
-    (half_full_at c.args.m (layouts run) i t.now (omega (arith, length-layouts run, c.loop-t-test.true)) c.requires.half_full)
+    (half_full_at c.args.m (layouts run) i t.now
+    (omega (arith, length-layouts run, c.loop-t-test.true)) c.requires.half_full)
 
 pub plan_removal-requires-clause-room : goal.plan_removal-requires-clause-room
-plan_removal-requires-clause-room c = omega (arith, c.in_ok-plans.plans.small, c.in_ok-plans.ensures.exact, c.loop-t-test.true, c.loop-t.invariant.few)
+plan_removal-requires-clause-room c =
+    omega (arith, c.in_ok-plans.plans.small, c.in_ok-plans.ensures.exact, c.loop-t-test.true, c.loop-t.invariant.few)
 
 pub loop-t-preserved : goal.loop-t-preserved
 loop-t-preserved c =
@@ -32,7 +34,8 @@ loop-t-preserved c =
     let P : List (List Clip) → Type 0 = λ ts. AreCuts edit c.args.m c.args.next ts (plans ++ p ∷ []) in
     let Q : ℕ → Type 0 = λ n. IsCut edit c.args.m n t p in
     rw c.in_ok-push.ensures.items (record {
-      cuts = subst P (sym e) (AreCuts-push edit c.args.m c.args.next (take i (layouts run)) plans t p inv.cuts (subst Q inv.same_id c.in_ok-plan.ensures));
+      cuts = subst P (sym e) (AreCuts-push edit c.args.m c.args.next (take i (layouts run)) plans t p inv.cuts
+          (subst Q inv.same_id c.in_ok-plan.ensures));
       same_id = sym (next_of-push c.args.next plans p);
       few = omega (arith, inv.few, c.in_ok-plan.ensures.plan.next_id, c.in_ok-plan.ensures.few_made);
     })

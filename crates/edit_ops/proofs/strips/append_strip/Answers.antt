@@ -8,5 +8,7 @@ use Rattle.edit_ops.proofs.strips.append_strip.Goals as goal
 
 pub returns-clause-items : goal.returns-clause-items
 returns-clause-items c = on_ok_weaker c.append_part.result
-    (λ e. e ∙ ap (λ (xs : List Item). c.args.out.now.items ++ xs) (ap (part_items 0 c.len.result) c.as_slice.ensures.value ∙ part_all c.len.result c.args.strip.now c.as_slice.ensures.ok (omega (arith, c.len.ensures))))
+    (λ e.
+    e ∙ ap (λ (xs : List Item). c.args.out.now.items ++ xs) (ap (part_items 0 c.len.result) c.as_slice.ensures.value
+    ∙ part_all c.len.result c.args.strip.now c.as_slice.ensures.ok (omega (arith, c.len.ensures))))
     c.append_part.ensures.items

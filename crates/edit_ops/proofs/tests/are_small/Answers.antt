@@ -15,5 +15,7 @@ loop-i-preserved c = λ rest.
     let t = c.index-run-i.result in
     let s = c.index-clip-i.result in
     let lt : i < length run = omega arith in
-    let strip : drop i clip ≡ s ∷ drop (i + 1) clip = drop_more clip i s c.loop-i-test.true ∙ ap (λ (x : List Item). x ∷ drop (i + 1) clip) (sym c.index-clip-i.is) in
-    c.loop-i.invariant (rw (strip, layouts_left run i t lt c.index-run-i.is) (omega (arith, c.len-cells.ensures, c.len-track.ensures.value), rest))
+    let strip : drop i clip ≡ s ∷ drop (i + 1) clip =
+    drop_more clip i s c.loop-i-test.true ∙ ap (λ (x : List Item). x ∷ drop (i + 1) clip) (sym c.index-clip-i.is) in
+    c.loop-i.invariant (rw (strip, layouts_left run i t lt c.index-run-i.is)
+    (omega (arith, c.len-cells.ensures, c.len-track.ensures.value), rest))

@@ -9,10 +9,12 @@ pub paste_over-requires-clause-clips : goal.paste_over-requires-clause-clips
 paste_over-requires-clause-clips c = λ x e.
     let P : List (List Item) → Type 0 = AreClips 4 in
     let same : c.in_ok-clip.clip ≡ x = cc in
-    subst P same (clips_of_copies 4 1 4 _ _ c.in_ok-clip.ensures.copies (half_full_take 4 2 (layouts c.args.run.now) c.requires.half_full))
+    subst P same (clips_of_copies 4 1 4 _ _ c.in_ok-clip.ensures.copies
+    (half_full_take 4 2 (layouts c.args.run.now) c.requires.half_full))
 
 pub paste-requires-clause-clips : goal.paste-requires-clause-clips
 paste-requires-clause-clips c = λ x e.
     let P : List (List Item) → Type 0 = AreClips 4 in
     let same : c.in_ok-clip.clip ≡ x = cc in
-    subst P same (clips_of_copies 4 1 4 _ _ c.in_ok-clip.ensures.copies (half_full_take 4 2 (layouts c.args.run.now) c.requires.half_full))
+    subst P same (clips_of_copies 4 1 4 _ _ c.in_ok-clip.ensures.copies
+    (half_full_take 4 2 (layouts c.args.run.now) c.requires.half_full))

@@ -18,7 +18,8 @@ drop_item-requires c =
     let o = count_of c.args.ledger.now in
     let m = count_of c.loop-item.ledger in
     all_here item_blocks items i _ (slice_get-get_or items i none c.loop-item-test.true) o m
-    (subst (HasAll o) (strip_flat items) c.requires) (subst (Dropped o m) (strip_flat (take i items)) c.loop-item.invariant)
+    (subst (HasAll o) (strip_flat items) c.requires)
+    (subst (Dropped o m) (strip_flat (take i items)) c.loop-item.invariant)
 
 pub loop-item-preserved : goal.loop-item-preserved
 loop-item-preserved c =
@@ -29,4 +30,5 @@ loop-item-preserved c =
     let m = count_of c.loop-item.ledger in
     let n = count_of c.drop_item.new.ledger in
     subst (Dropped o n) (sym (strip_flat (take (i + 1) items)))
-    (dropped_on item_blocks items i _ (slice_get-get_or items i none c.loop-item-test.true) o m n (subst (Dropped o m) (strip_flat (take i items)) c.loop-item.invariant) c.drop_item.ensures)
+    (dropped_on item_blocks items i _ (slice_get-get_or items i none c.loop-item-test.true) o m n
+    (subst (Dropped o m) (strip_flat (take i items)) c.loop-item.invariant) c.drop_item.ensures)

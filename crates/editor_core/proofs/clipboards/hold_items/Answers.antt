@@ -19,7 +19,8 @@ hold_item-requires-clause-there c =
     let o = count_of c.args.ledger.now in
     let m = count_of c.loop-item.ledger in
     there_here item_blocks items i _ (slice_get-get_or items i none c.loop-item-test.true) o m
-    (subst (HasIds o) (strip_flat items) c.requires.there) (subst (Held o m) (strip_flat (take i items)) c.loop-item.invariant)
+    (subst (HasIds o) (strip_flat items) c.requires.there)
+    (subst (Held o m) (strip_flat (take i items)) c.loop-item.invariant)
 
 pub hold_item-requires-clause-few : goal.hold_item-requires-clause-few
 hold_item-requires-clause-few c =
@@ -29,7 +30,8 @@ hold_item-requires-clause-few c =
     let o = count_of c.args.ledger.now in
     let m = count_of c.loop-item.ledger in
     few_here item_blocks items i _ (slice_get-get_or items i none c.loop-item-test.true) o m
-    (subst (Few o) (strip_flat items) c.requires.few) (subst (Held o m) (strip_flat (take i items)) c.loop-item.invariant)
+    (subst (Few o) (strip_flat items) c.requires.few)
+    (subst (Held o m) (strip_flat (take i items)) c.loop-item.invariant)
 
 pub loop-item-preserved : goal.loop-item-preserved
 loop-item-preserved c =
@@ -40,4 +42,5 @@ loop-item-preserved c =
     let m = count_of c.loop-item.ledger in
     let n = count_of c.hold_item.new.ledger in
     subst (Held o n) (sym (strip_flat (take (i + 1) items)))
-    (held_on item_blocks items i _ (slice_get-get_or items i none c.loop-item-test.true) o m n (subst (Held o m) (strip_flat (take i items)) c.loop-item.invariant) c.hold_item.ensures)
+    (held_on item_blocks items i _ (slice_get-get_or items i none c.loop-item-test.true) o m n
+    (subst (Held o m) (strip_flat (take i items)) c.loop-item.invariant) c.hold_item.ensures)

@@ -14,9 +14,11 @@ use Rattle.editor_core.proofs.clipboards.hold_strips.Goals as goal
 
 pub hold_items-requires-clause-there : goal.hold_items-requires-clause-there
 hold_items-requires-clause-there c =
-    let here = slice_get_read c.args.strips.now _ c.loop-strip.strip-index c.strip-item.result refl c.loop-strip-test.true c.strip-item.is in
+    let here = slice_get_read c.args.strips.now _ c.loop-strip.strip-index c.strip-item.result refl
+    c.loop-strip-test.true c.strip-item.is in
     subst (λ (z : List Item). HasIds (count_of c.loop-strip.ledger) (strip_blocks z)) (sym c.as_slice.ensures.value)
-    (there_here strip_blocks c.args.strips.now c.loop-strip.strip-index c.strip-item.result here (count_of c.args.ledger.now) (count_of c.loop-strip.ledger) c.requires.there c.loop-strip.invariant.0)
+    (there_here strip_blocks c.args.strips.now c.loop-strip.strip-index c.strip-item.result here
+    (count_of c.args.ledger.now) (count_of c.loop-strip.ledger) c.requires.there c.loop-strip.invariant.0)
 
 pub hold_items-requires-clause-few : goal.hold_items-requires-clause-few
 hold_items-requires-clause-few c =
@@ -24,11 +26,24 @@ hold_items-requires-clause-few c =
     let mine = strip_blocks c.strip-item.result in
     let small = items_few c.strip-item.result c.as_slice.ensures.ok in
     subst (λ (z : List Item). Few (count_of c.loop-strip.ledger) (strip_blocks z)) (sym c.as_slice.ensures.value)
-    (λ id. omega (arith, c.loop-strip.invariant.0.counts id, named_most id front, c.loop-strip.invariant.1, named_most id mine, small, c.as_slice.ensures.small, c.requires.room id, c.requires.few, c.loop-strip-test.true))
+    (λ id. omega (
+      arith,
+      c.loop-strip.invariant.0.counts id,
+      named_most id front,
+      c.loop-strip.invariant.1,
+      named_most
+          id mine,
+      small,
+      c.as_slice.ensures.small,
+      c.requires.room id,
+      c.requires.few,
+      c.loop-strip-test.true,
+    ))
 
 pub loop-strip-preserved : goal.loop-strip-preserved
 loop-strip-preserved c =
-    let here = slice_get_read c.args.strips.now _ c.loop-strip.strip-index c.strip-item.result refl c.loop-strip-test.true c.strip-item.is in
+    let here = slice_get_read c.args.strips.now _ c.loop-strip.strip-index c.strip-item.result refl
+    c.loop-strip-test.true c.strip-item.is in
     let o = count_of c.args.ledger.now in
     let m = count_of c.loop-strip.ledger in
     let n = count_of c.hold_items.new.ledger in
@@ -36,6 +51,14 @@ loop-strip-preserved c =
     let front = strips_blocks (take i c.args.strips.now) in
     let mine = strip_blocks c.strip-item.result in
     let small = items_few c.strip-item.result c.as_slice.ensures.ok in (
-      held_on strip_blocks c.args.strips.now i c.strip-item.result here o m n c.loop-strip.invariant.0 (subst (λ (z : List Item). Held m n (strip_blocks z)) c.as_slice.ensures.value c.hold_items.ensures),
-      omega (arith, ap length (next strip_blocks c.args.strips.now i c.strip-item.result here), length-append front mine, c.loop-strip.invariant.1, small, c.as_slice.ensures.small),
+      held_on strip_blocks c.args.strips.now i c.strip-item.result here o m n c.loop-strip.invariant.0
+          (subst (λ (z : List Item). Held m n (strip_blocks z)) c.as_slice.ensures.value c.hold_items.ensures),
+      omega (
+        arith,
+        ap length (next strip_blocks c.args.strips.now i c.strip-item.result here),
+        length-append front mine,
+        c.loop-strip.invariant.1,
+        small,
+        c.as_slice.ensures.small,
+      ),
     )

@@ -14,4 +14,5 @@ loop-i-preserved c =
     let t = c.track_at.result.now in
     let i = c.loop-i.i in
     c.in_ok-add_layout.ensures ∙ ap (λ (z : List (List Clip)). z ++ layouts_at id t) c.loop-i.invariant
-    ∙ sym (ap (run_of id) (take_some ts i t c.track_at.ensures) ∙ flat_map-append (layouts_at id) (take i ts) (t ∷ []) ∙ ap (λ (z : List (List Clip)). run_of id (take i ts) ++ z) (append-nil (layouts_at id t)))
+    ∙ sym (ap (run_of id) (take_some ts i t c.track_at.ensures) ∙ flat_map-append (layouts_at id) (take i ts) (t ∷ [])
+    ∙ ap (λ (z : List (List Clip)). run_of id (take i ts) ++ z) (append-nil (layouts_at id t)))

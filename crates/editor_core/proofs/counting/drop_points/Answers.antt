@@ -13,11 +13,14 @@ loop-i-init c = range_none point_blocks (points_of c.args.history.now.history) c
 pub drop_point-requires : goal.drop_point-requires
 drop_point-requires c =
     let h = c.args.history.now.history in
-    range_all point_blocks (points_of h) c.args.from c.args.to c.loop-i.i _ c.point.ensures c.loop-i.auto.i c.loop-i-test.true (omega (arith, length-map h.points point_of, c.loop-i-test.true, c.requires.within))
+    range_all point_blocks (points_of h) c.args.from c.args.to c.loop-i.i _ c.point.ensures c.loop-i.auto.i
+    c.loop-i-test.true (omega (arith, length-map h.points point_of, c.loop-i-test.true, c.requires.within))
     (count_of c.args.ledger.now) (count_of c.loop-i.ledger) c.requires.all c.loop-i.invariant
 
 pub loop-i-preserved : goal.loop-i-preserved
 loop-i-preserved c =
     let h = c.args.history.now.history in
-    range_dropped point_blocks (points_of h) c.args.from c.args.to c.loop-i.i _ c.point.ensures c.loop-i.auto.i c.loop-i-test.true (omega (arith, length-map h.points point_of, c.loop-i-test.true, c.requires.within))
-    (count_of c.args.ledger.now) (count_of c.loop-i.ledger) (count_of c.drop_point.new.ledger) c.loop-i.invariant c.drop_point.ensures
+    range_dropped point_blocks (points_of h) c.args.from c.args.to c.loop-i.i _ c.point.ensures c.loop-i.auto.i
+    c.loop-i-test.true (omega (arith, length-map h.points point_of, c.loop-i-test.true, c.requires.within))
+    (count_of c.args.ledger.now) (count_of c.loop-i.ledger)
+    (count_of c.drop_point.new.ledger) c.loop-i.invariant c.drop_point.ensures

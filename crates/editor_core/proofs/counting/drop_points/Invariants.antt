@@ -7,4 +7,5 @@ use Rattle.editor_core.specs.Occurrences.{Dropped}
 use Rattle.editor_core.proofs.counting.drop_points.Given as goal
 
 abbrev pub invariant-loop-i : goal.invariant-loop-i
-invariant-loop-i l = Dropped (count_of l.fn.ledger) (count_of l.ledger) (flat_map point_blocks (drop l.from (take l.i (points_of l.history.history))))
+invariant-loop-i l = Dropped (count_of l.fn.ledger) (count_of l.ledger)
+    (flat_map point_blocks (drop l.from (take l.i (points_of l.history.history))))

@@ -12,7 +12,8 @@ use Rattle.editor_core.proofs.imports.plan_channel.Goals as goal
 
 pub moved_blocks-requires : goal.moved_blocks-requires
 moved_blocks-requires c =
-    let plan = subst (λ (cs : List Clip). IsPlan c.args.block_size c.args.next (layout_blocks cs) c.args.count c.in_ok-plan.plan) c.new.ensures c.in_ok-plan.ensures.plan in
+    let plan = subst (λ (cs : List Clip). IsPlan c.args.block_size c.args.next
+    (layout_blocks cs) c.args.count c.in_ok-plan.plan) c.new.ensures c.in_ok-plan.ensures.plan in
     let makes = c.in_ok-plan.plan.makes in
     subst (λ (bs : List NewBlock). AllFitBehind c.args.from bs) (sym c.as_slice.ensures)
     (fit_blocks c.args.block_size c.args.next c.args.count c.args.from makes plan.origin plan.new c.requires.few)
@@ -23,7 +24,10 @@ returns-clause-plan c =
     let next = c.args.next in
     let count = c.args.count in
     let p = c.in_ok-plan.plan in
-    let plan = subst (λ (cs : List Clip). IsPlan m next (layout_blocks cs) count p) c.new.ensures c.in_ok-plan.ensures.plan in
-    let means = subst (λ (cs : List Clip). Means (λ src. inserted 0 (as_cells (stretch src.given 0 count))) cs p) c.new.ensures c.in_ok-plan.ensures.cells in
-    channel_plan c.args.from count m next p.next p.layout p.makes c.from_vec.result (subst IsLayout c.layout.view_is c.layout.invariant) plan means c.in_ok-plan.ensures.few_made
+    let plan =
+    subst (λ (cs : List Clip). IsPlan m next (layout_blocks cs) count p) c.new.ensures c.in_ok-plan.ensures.plan in
+    let means = subst (λ (cs : List Clip). Means (λ src. inserted 0 (as_cells (stretch src.given 0 count))) cs p)
+    c.new.ensures c.in_ok-plan.ensures.cells in
+    channel_plan c.args.from count m next p.next p.layout p.makes c.from_vec.result
+    (subst IsLayout c.layout.view_is c.layout.invariant) plan means c.in_ok-plan.ensures.few_made
     (c.from_vec.ensures ∙ c.in_ok-makes.ensures ∙ ap (map (block_behind c.args.from)) c.as_slice.ensures)

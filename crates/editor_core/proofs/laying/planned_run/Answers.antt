@@ -1,5 +1,6 @@
 -- One track more.
-use Rattle.std.proofs.Common.{◌≡◌, sym, ap, ◌∙◌, subst, ℕ, ◌+◌, ◌≤◌, ◌<◌, List, [], ◌∷◌, ◌++◌, length, map, take, drop, append_assoc}
+use Rattle.std.proofs.Common.{◌≡◌, sym, ap, ◌∙◌, subst, ℕ, ◌+◌, ◌≤◌, ◌<◌, List, [], ◌∷◌, ◌++◌, length, map, take, drop}
+use Rattle.std.proofs.Common.{append_assoc}
 use Rattle.std.specs.Vec.Iter.{into_iter_items}
 use Rattle.std.proofs.lemmas.List.{map-append}
 use Rattle.project_state.specs.declared.track.Track.{Track}
@@ -32,7 +33,10 @@ add-requires c =
     let old = c.track_at.result.now in
     let below = to_ids old.id (take i ts) (below_taken 1 i ts old c.requires.rising c.track_at.ensures).0 in
     let here = subst (Below old.id) (sym c.loop-i.invariant.ids) below in
-    record { above = from_ids c.in_ok-track.track.id c.loop-i.point (subst (λ (n : ℕ). Below n (ids c.loop-i.point)) (sym c.in_ok-track.ensures.lays.id_is) here) }
+    record {
+      above = from_ids c.in_ok-track.track.id c.loop-i.point
+          (subst (λ (n : ℕ). Below n (ids c.loop-i.point)) (sym c.in_ok-track.ensures.lays.id_is) here);
+    }
 
 pub loop-i-preserved : goal.loop-i-preserved
 loop-i-preserved c =
@@ -50,11 +54,14 @@ loop-i-preserved c =
     record {
       len = c.in_ok-track.ensures.len;
       ids = ap ids more ∙ map-append (λ (t : Track). t.id) c.loop-i.point (new ∷ [])
-          ∙ ap (λ (z : List ℕ). z ++ new.id ∷ []) c.loop-i.invariant.ids ∙ ap (λ (n : ℕ). ids (take i ts) ++ n ∷ []) lays.id_is
-          ∙ sym (ap ids (take_some ts i old c.track_at.ensures) ∙ map-append (λ (t : Track). t.id) (take i ts) (old ∷ []));
+          ∙ ap (λ (z : List ℕ). z ++ new.id ∷ []) c.loop-i.invariant.ids
+          ∙ ap (λ (n : ℕ). ids (take i ts) ++ n ∷ []) lays.id_is
+          ∙ sym (ap ids (take_some ts i old c.track_at.ensures)
+          ∙ map-append (λ (t : Track). t.id) (take i ts) (old ∷ []));
       tracks = c.loop-i.invariant.tracks ∙ ap (λ (z : List Track). c.loop-i.point ++ laid_from id was z) at
           ∙ ap (λ (z : List Track). c.loop-i.point ++ z) (lays.track rest)
-          ∙ sym (ap (λ (z : List Track). z ++ laid_from id left rest) more ∙ append_assoc c.loop-i.point (new ∷ []) (laid_from id left rest));
+          ∙ sym (ap (λ (z : List Track). z ++ laid_from id left rest) more
+          ∙ append_assoc c.loop-i.point (new ∷ []) (laid_from id left rest));
       makes = lays.makes ∙ c.loop-i.invariant.makes;
       layouts = λ h. c.loop-i.invariant.layouts (lays.layouts h);
       fits = lays.fits rest (subst (λ (z : List Track). length was ≤ length (run_of id z)) at c.loop-i.invariant.fits);

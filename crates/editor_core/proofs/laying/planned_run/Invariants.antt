@@ -10,7 +10,8 @@ abbrev pub invariant-loop-i : goal.invariant-loop-i
 invariant-loop-i l = record {
   len : into_iter_len l.left ≡ length (into_iter_items l.left);
   ids : map (λ (t : Track). t.id) l.point ≡ map (λ (t : Track). t.id) (take l.i l.project);
-  tracks : laid_from l.id l.fn.plans l.project ≡ l.point ++ laid_from l.id (into_iter_items l.left) (drop l.i l.project);
+  tracks : laid_from l.id l.fn.plans l.project ≡ l.point
+      ++ laid_from l.id (into_iter_items l.left) (drop l.i l.project);
   makes : l.makes.items ++ made_by (into_iter_items l.left) ≡ made_by l.fn.plans;
   layouts : AreLayouts (into_iter_items l.left) → AreLayouts l.fn.plans;
   fits : length (into_iter_items l.left) ≤ length (run_of l.id (drop l.i l.project));

@@ -13,5 +13,7 @@ loop-i-preserved c = λ src.
     let ts = c.args.point.now in
     let t = c.track_at.result.now in
     let i = c.loop-i.i in
-    c.in_ok-push.ensures.items ∙ ap (λ (z : List TrackLine). z ++ c.line_of.result ∷ []) (c.loop-i.invariant src) ∙ ap (λ (x : TrackLine). map line_of_track (meant src (take i ts)) ++ x ∷ []) (c.line_of.ensures src)
-    ∙ sym (ap (λ (z : List Track). map line_of_track (meant src z)) (take_some ts i t c.track_at.ensures) ∙ lines_more src (take i ts) t)
+    c.in_ok-push.ensures.items ∙ ap (λ (z : List TrackLine). z ++ c.line_of.result ∷ []) (c.loop-i.invariant src)
+    ∙ ap (λ (x : TrackLine). map line_of_track (meant src (take i ts)) ++ x ∷ []) (c.line_of.ensures src)
+    ∙ sym (ap (λ (z : List Track). map line_of_track (meant src z)) (take_some ts i t c.track_at.ensures)
+    ∙ lines_more src (take i ts) t)

@@ -10,5 +10,9 @@ returns-then-pin-number c =
     let pins = c.args.pins.now in
     let i = c.loop-pin.pin-index in
     let x : Pin = c.pin-item.result in
-    let here = slice_get_read pins _ i x refl c.loop-pin-test.true c.pin-item.is in
-    (take i pins, drop (i + 1) pins, around pins i x here ∙ (λ j. take i pins ++ record { number = c.if-pin-number.true j; point = x.point } ∷ drop (i + 1) pins))
+    let here = slice_get_read pins _ i x refl c.loop-pin-test.true c.pin-item.is in (
+      take i pins,
+      drop (i + 1) pins,
+      around pins i x here
+          ∙ (λ j. take i pins ++ record { number = c.if-pin-number.true j; point = x.point } ∷ drop (i + 1) pins),
+    )

@@ -17,4 +17,5 @@ loop-i-preserved c =
     ∙ ap (λ cs. c.loop-i.blocks.items ++ layout_blocks cs) c.as_slice.ensures.value
     ∙ ap (λ (bs : List BlockRef). bs ++ layout_blocks t.layout) c.loop-i.invariant
     ∙ append_assoc old before (layout_blocks t.layout)
-    ∙ ap (λ (bs : List BlockRef). old ++ bs) (sym (next (λ (x : Track). layout_blocks x.layout) ts c.loop-i.i t c.track_at.ensures))
+    ∙ ap (λ (bs : List BlockRef). old ++ bs)
+    (sym (next (λ (x : Track). layout_blocks x.layout) ts c.loop-i.i t c.track_at.ensures))

@@ -10,4 +10,5 @@ pub returns-clause-none : goal.returns-clause-none
 returns-clause-none c =
     let blocks = c.args.blocks.now in
     let all = take_all c.loop-block.block-index blocks (omega (arith, c.loop-block-test.false)) in
-    none_with blocks c.args.id (subst (λ (bs : List BlockRef). AllByRecursion (λ (b : BlockRef). b.id ≢ c.args.id) bs) all c.loop-block.invariant)
+    none_with blocks c.args.id (subst
+    (λ (bs : List BlockRef). AllByRecursion (λ (b : BlockRef). b.id ≢ c.args.id) bs) all c.loop-block.invariant)

@@ -19,5 +19,6 @@ loop-i-preserved c =
 pub returns : goal.returns
 returns c =
     let h = c.args.history.now.history in
-    let all = take_all c.loop-i.i (points_of h) (omega (arith, c.loop-i-test.false, c.len-i-end.ensures.len, length-map h.points point_of)) in
+    let all = take_all c.loop-i.i (points_of h)
+    (omega (arith, c.loop-i-test.false, c.len-i-end.ensures.len, length-map h.points point_of)) in
     c.loop-i.invariant ∙ ap (flat_map point_blocks) all ∙ points_blocks h

@@ -15,7 +15,9 @@ returns c =
     record {
       rising = rw is (IsStrictlyIncreasing-dedup _ c.sort_unstable.ensures.sorted);
       each = λ id. (
-        (λ h. subst (λ (l : List ℕ). Contains l id) ids (Contains-permutation _ _ id (IsPermutation-sym _ _ moved) (Contains-from_dedup _ _ id (rw is at h)))),
-        (λ h. rw is (Contains-dedup_nat _ id (Contains-permutation _ _ id moved (subst (λ (l : List ℕ). Contains l id) (sym ids) h)))),
+        (λ h. subst (λ (l : List ℕ). Contains l id) ids
+            (Contains-permutation _ _ id (IsPermutation-sym _ _ moved) (Contains-from_dedup _ _ id (rw is at h)))),
+        (λ h. rw is (Contains-dedup_nat _ id
+            (Contains-permutation _ _ id moved (subst (λ (l : List ℕ). Contains l id) (sym ids) h)))),
       );
     }

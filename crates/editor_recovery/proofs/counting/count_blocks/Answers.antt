@@ -19,9 +19,11 @@ hold_blocks-requires c =
     let P : BlockRef → Type 0 = λ b. (b.id ≢ 0) × Contains files b.id in
     let Q : BlockRef → Type 0 = λ b. IsSome (count_of c.loop-i.ledger b.id) in
     let ts = c.point.result.now in
-    let here : All P (point_blocks ts) = all_at (λ ts. All P (point_blocks ts)) c.args.history.now.history.points c.loop-i.i ts c.requires c.point.ensures in
+    let here : All P (point_blocks ts) = all_at
+    (λ ts. All P (point_blocks ts)) c.args.history.now.history.points c.loop-i.i ts c.requires c.point.ensures in
     let all : All Q (point_blocks ts) =
-    All-weaker P Q (λ b named. c.loop-i.invariant.holding.there b.id (noted_there files (count_of c.in_ok-ledger.ledger) b.id c.in_ok-ledger.ensures named)) (point_blocks ts) here in
+    All-weaker P Q (λ b named. c.loop-i.invariant.holding.there b.id (noted_there files
+    (count_of c.in_ok-ledger.ledger) b.id c.in_ok-ledger.ensures named)) (point_blocks ts) here in
     subst (λ (bs : List BlockRef). All Q bs) (sym (c.deref.ensures.value ∙ c.in_ok-list_blocks.ensures)) all
 
 pub loop-i-preserved : goal.loop-i-preserved
@@ -29,12 +31,22 @@ loop-i-preserved c =
     let ps = c.args.history.now.history.points in
     let some = c.deref.result.now in
     let is : all_blocks (drop c.loop-i.i ps) ≡ some ++ all_blocks (drop (c.loop-i.i + 1) ps) =
-    blocks_left ps c.loop-i.i c.point.result.now c.point.ensures ∙ ap (λ (bs : List BlockRef). bs ++ all_blocks (drop (c.loop-i.i + 1) ps)) (sym (c.deref.ensures.value ∙ c.in_ok-list_blocks.ensures)) in
+    blocks_left ps c.loop-i.i c.point.result.now c.point.ensures ∙ ap (λ (bs : List BlockRef). bs
+    ++ all_blocks (drop (c.loop-i.i + 1) ps)) (sym (c.deref.ensures.value ∙ c.in_ok-list_blocks.ensures)) in
     record {
-      holding = holding_some (count_of c.in_ok-ledger.ledger) (count_of c.loop-i.ledger) (count_of c.hold_blocks.new.ledger) (all_blocks ps) (all_blocks (drop c.loop-i.i ps)) (all_blocks (drop (c.loop-i.i + 1) ps)) some
+      holding =
+          holding_some (count_of c.in_ok-ledger.ledger) (count_of c.loop-i.ledger) (count_of c.hold_blocks.new.ledger)
+          (all_blocks ps) (all_blocks (drop c.loop-i.i ps)) (all_blocks (drop (c.loop-i.i + 1) ps)) some
           is c.hold_blocks.ensures.counts
-          (λ id has. subst IsSome (sym (c.hold_blocks.ensures.counts id)) (is_held (count_of c.loop-i.ledger id) (occurrences some id) has)) c.loop-i.invariant.holding;
-      few = omega (arith, c.loop-i.invariant.few, ap length is, length-append some (all_blocks (drop (c.loop-i.i + 1) ps)), c.hold_blocks.ensures.few);
+          (λ id has. subst IsSome (sym (c.hold_blocks.ensures.counts id))
+          (is_held (count_of c.loop-i.ledger id) (occurrences some id) has)) c.loop-i.invariant.holding;
+      few = omega (
+        arith,
+        c.loop-i.invariant.few,
+        ap length is,
+        length-append some (all_blocks (drop (c.loop-i.i + 1) ps)),
+        c.hold_blocks.ensures.few,
+      );
     }
 
 pub returns : goal.returns
@@ -44,7 +56,12 @@ returns c =
     let old = count_of c.in_ok-ledger.ledger in
     let P : BlockRef → Type 0 = λ b. (b.id ≢ 0) × Contains files b.id in
     let Q : BlockRef → Type 0 = λ b. IsSome (old b.id) in
-    let all = both_all P P Q (all_blocks ps) (λ b named other. noted_there files old b.id c.in_ok-ledger.ensures named) (all_flat P ps c.requires) (all_flat P ps c.requires) in
-    let none : all_blocks (drop c.loop-i.i ps) ≡ [] = ap all_blocks (drop_all c.loop-i.i ps (omega (arith, c.loop-i-test.false, c.len-i-end.ensures.len))) in
-    let held : Holding old (count_of c.loop-i.ledger) (all_blocks ps) [] = subst (λ (bs : List BlockRef). Holding old (count_of c.loop-i.ledger) (all_blocks ps) bs) none c.loop-i.invariant.holding in
-    counted files (all_blocks ps) old (count_of c.loop-i.ledger) (omega (arith, c.loop-i.invariant.few, ap length none)) c.in_ok-ledger.ensures all (holding_all old (count_of c.loop-i.ledger) (all_blocks ps) held)
+    let all = both_all P P Q (all_blocks ps) (λ b named other. noted_there files old b.id c.in_ok-ledger.ensures named)
+    (all_flat P ps c.requires) (all_flat P ps c.requires) in
+    let none : all_blocks (drop c.loop-i.i ps) ≡ [] =
+    ap all_blocks (drop_all c.loop-i.i ps (omega (arith, c.loop-i-test.false, c.len-i-end.ensures.len))) in
+    let held : Holding old (count_of c.loop-i.ledger) (all_blocks ps) [] =
+    subst (λ (bs : List BlockRef). Holding old (count_of c.loop-i.ledger) (all_blocks ps) bs) none
+    c.loop-i.invariant.holding in
+    counted files (all_blocks ps) old (count_of c.loop-i.ledger) (omega (arith, c.loop-i.invariant.few, ap length none))
+    c.in_ok-ledger.ensures all (holding_all old (count_of c.loop-i.ledger) (all_blocks ps) held)

@@ -11,7 +11,8 @@ use Rattle.editor_recovery.proofs.creating.create.Goals as goal
 pub returns-in-Ok-clause-any_moment : goal.returns-in-Ok-clause-any_moment
 returns-in-Ok-clause-any_moment g c = λ tells.
     let kept = c.may_create.ensures.kept in
-    any_moment_both g.S.Store c.args.rate c.args.block_size c.args.depth c.args.store.now c.may_create.new.store c.make.new.store
+    any_moment_both g.S.Store c.args.rate c.args.block_size c.args.depth c.args.store.now c.may_create.new.store
+    c.make.new.store
     kept.same_images c.make.ensures.changed.images (c.make.ensures.any_moment (kept.same_tells ∙ tells))
 
 pub returns-in-Ok-clause-done : goal.returns-in-Ok-clause-done
@@ -23,14 +24,18 @@ pub returns-in-Ok-clause-honest : goal.returns-in-Ok-clause-honest
 returns-in-Ok-clause-honest g c = λ honest.
     let kept = c.may_create.ensures.kept in
     let told = (g.met.S.Store.may_stay c.args.store.now honest.model).0 in
-    made_honest g.S.Store c.may_create.new.store c.make.new.store c.args.rate c.args.block_size c.args.depth c.make.ensures.changed.images c.make.ensures.changed.model
-    (c.make.ensures.any_moment (kept.same_tells ∙ told)) (still_honest g.S.Store c.args.store.now c.may_create.new.store kept.same_images kept.same_model honest)
+    made_honest g.S.Store c.may_create.new.store c.make.new.store c.args.rate c.args.block_size c.args.depth
+    c.make.ensures.changed.images c.make.ensures.changed.model
+    (c.make.ensures.any_moment (kept.same_tells ∙ told))
+    (still_honest g.S.Store c.args.store.now c.may_create.new.store kept.same_images kept.same_model honest)
 
 pub returns-in-Ok-clause-cause : goal.returns-in-Ok-clause-cause
-returns-in-Ok-clause-cause g c = causes_turn g.S.Store c.args.store.now c.may_create.new.store c.make.new.store c.make.result c.in-Ok.ensures.cause c.make.ensures.cause
+returns-in-Ok-clause-cause g c = causes_turn g.S.Store c.args.store.now c.may_create.new.store c.make.new.store
+    c.make.result c.in-Ok.ensures.cause c.make.ensures.cause
 
 pub returns-in-Ok-clause-left : goal.returns-in-Ok-clause-left
-returns-in-Ok-clause-left g c = left_turn g.S.Store c.args.store.now c.may_create.new.store c.make.new.store c.make.result c.may_create.ensures.kept c.make.ensures.left
+returns-in-Ok-clause-left g c = left_turn g.S.Store c.args.store.now c.may_create.new.store c.make.new.store
+    c.make.result c.may_create.ensures.kept c.make.ensures.left
 
 pub returns-in-Ok-clause-changed : goal.returns-in-Ok-clause-changed
 returns-in-Ok-clause-changed g c =
@@ -41,7 +46,8 @@ returns-in-Ok-clause-changed g c =
 
 pub returns-in-Err-clause-honest : goal.returns-in-Err-clause-honest
 returns-in-Err-clause-honest g c = λ honest.
-    still_honest g.S.Store c.args.store.now c.may_create.new.store c.may_create.ensures.kept.same_images c.may_create.ensures.kept.same_model honest
+    still_honest g.S.Store c.args.store.now c.may_create.new.store c.may_create.ensures.kept.same_images
+    c.may_create.ensures.kept.same_model honest
 
 pub returns-in-Err-clause-changed : goal.returns-in-Err-clause-changed
 returns-in-Err-clause-changed g c = changed_kept (λ d o ne. refl) c.may_create.ensures.kept

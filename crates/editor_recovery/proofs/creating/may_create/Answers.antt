@@ -7,4 +7,5 @@ pub returns-in-Ok-false-clause-kept : goal.returns-in-Ok-false-clause-kept
 returns-in-Ok-false-clause-kept g c = kept_turn c.is_there.ensures.kept c.list_none.ensures.kept
 
 pub returns-in-Ok-false-clause-cause : goal.returns-in-Ok-false-clause-cause
-returns-in-Ok-false-clause-cause g c = causes_turn g.S.Store c.args.store.now c.is_there.new.store c.list_none.new.store c.list_none.result c.in-Ok-false.ensures.cause c.list_none.ensures.cause
+returns-in-Ok-false-clause-cause g c = causes_turn g.S.Store c.args.store.now c.is_there.new.store c.list_none.new.store
+    c.list_none.result c.in-Ok-false.ensures.cause c.list_none.ensures.cause

@@ -21,16 +21,20 @@ returns-in-Ok-clause-opens g c = λ tells are foreign project.
     let listed = subst (λ (l : List ℕ). AreFiles old l) (sym c.deref.ensures.value) are in
     let is = stored_read g.S.Store mid old fold.0 c.deref.result.now kept.same_reads told fold.1 listed foreign in
     subst (λ (f : Files). Opens f (answer_in c.size_parts.result)) kept.same_reads
-    (c.size_parts.ensures.opens fold.0 told (subst (λ (f : Files). IsRead f fold.0 c.deref.result.now) (sym kept.same_reads) is) fold.2)
+    (c.size_parts.ensures.opens fold.0 told
+    (subst (λ (f : Files). IsRead f fold.0 c.deref.result.now) (sym kept.same_reads) is) fold.2)
 
 pub returns-in-Ok-clause-at_rest : goal.returns-in-Ok-clause-at_rest
 returns-in-Ok-clause-at_rest g c = λ tells here.
     let kept = c.fold_disk.ensures.kept in
-    rest_after {disk = g.S.Store} c.args.store.now c.fold_disk.new.store c.size_parts.new.store c.in-Ok.folded c.size_parts.result kept.same_reads (kept.same_tells ∙ tells)
-    (still_durable {disk = g.S.Store} c.args.store.now c.fold_disk.new.store 0 kept here) c.in-Ok.ensures.folds c.size_parts.ensures.end c.size_parts.ensures.kept
+    rest_after {disk = g.S.Store} c.args.store.now c.fold_disk.new.store c.size_parts.new.store c.in-Ok.folded
+    c.size_parts.result kept.same_reads (kept.same_tells ∙ tells)
+    (still_durable {disk = g.S.Store} c.args.store.now c.fold_disk.new.store 0 kept here) c.in-Ok.ensures.folds
+    c.size_parts.ensures.end c.size_parts.ensures.kept
 
 pub returns-in-Ok-clause-kept : goal.returns-in-Ok-clause-kept
 returns-in-Ok-clause-kept g c = kept_turn c.fold_disk.ensures.kept c.size_parts.ensures.kept
 
 pub returns-in-Ok-clause-cause : goal.returns-in-Ok-clause-cause
-returns-in-Ok-clause-cause g c = causes_turn g.S.Store c.args.store.now c.fold_disk.new.store c.size_parts.new.store c.size_parts.result c.in-Ok.ensures.cause c.size_parts.ensures.cause
+returns-in-Ok-clause-cause g c = causes_turn g.S.Store c.args.store.now c.fold_disk.new.store c.size_parts.new.store
+    c.size_parts.result c.in-Ok.ensures.cause c.size_parts.ensures.cause

@@ -11,7 +11,8 @@ pub test_files-requires : goal.test_files-requires
 test_files-requires g c =
     let s = c.requires.sound in
     let j = s.journal in
-    sound_blocks j.block_size j.depth (length j.records) (kept_of c.args.folded.project) (omega (arith, s.readable.format.block_most)) s.kept
+    sound_blocks j.block_size j.depth (length j.records) (kept_of c.args.folded.project)
+    (omega (arith, s.readable.format.block_most)) s.kept
 
 pub returns-in-Ok-clause-opens : goal.returns-in-Ok-clause-opens
 returns-in-Ok-clause-opens g c = λ j tells is fold.
@@ -20,12 +21,15 @@ returns-in-Ok-clause-opens g c = λ j tells is fold.
 
 pub returns-in-Err-clause-opens : goal.returns-in-Err-clause-opens
 returns-in-Err-clause-opens g c = λ j tells is fold.
-    unsized (g.S.Store.reads c.args.store.now) j c.args.files.now c.args.folded c.in-Err.fault is fold (c.in-Err.ensures.tests tells is.listed)
+    unsized (g.S.Store.reads c.args.store.now) j c.args.files.now c.args.folded c.in-Err.fault is fold
+    (c.in-Err.ensures.tests tells is.listed)
 
 pub returns-in-Ok-clause-sound : goal.returns-in-Ok-clause-sound
 returns-in-Ok-clause-sound g c =
-    sound_result c.args.files.now c.args.folded c.parts_of.result c.requires.sound c.requires.known c.in-Ok.ensures.one_length c.in-Ok.ensures.named c.parts_of.ensures.parts
+    sound_result c.args.files.now c.args.folded c.parts_of.result c.requires.sound c.requires.known
+    c.in-Ok.ensures.one_length c.in-Ok.ensures.named c.parts_of.ensures.parts
 
 pub returns-in-Ok-clause-cause : goal.returns-in-Ok-clause-cause
-returns-in-Ok-clause-cause g c = causes_none g.S.Store c.args.store.now c.test_files.new.store c.parts_of.result c.in-Ok.ensures.cause
+returns-in-Ok-clause-cause g c =
+    causes_none g.S.Store c.args.store.now c.test_files.new.store c.parts_of.result c.in-Ok.ensures.cause
     (memory_none c.parts_of.result c.parts_of.ensures.memory)

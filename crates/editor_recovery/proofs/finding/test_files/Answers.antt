@@ -8,15 +8,19 @@ use Rattle.editor_recovery.proofs.finding.test_files.Goals as goal
 
 pub returns-in-Ok-clause-tests : goal.returns-in-Ok-clause-tests
 returns-in-Ok-clause-tests g c = λ tells are.
-    measured (g.S.Store.reads c.args.store.now) (size_in c.in-Ok.sizes) (all_blocks c.args.history.now.history.points) c.test_blocks.result (c.in-Ok.ensures.sizes tells are) c.test_blocks.ensures.tests
+    measured (g.S.Store.reads c.args.store.now) (size_in c.in-Ok.sizes) (all_blocks c.args.history.now.history.points)
+    c.test_blocks.result (c.in-Ok.ensures.sizes tells are) c.test_blocks.ensures.tests
 
 pub returns-in-Ok-clause-named : goal.returns-in-Ok-clause-named
 returns-in-Ok-clause-named g c =
-    named_listed c.args.files.now (size_in c.in-Ok.sizes) c.args.history.now.history.points c.test_blocks.result c.requires c.in-Ok.ensures.listed c.test_blocks.ensures.tests
+    named_listed c.args.files.now (size_in c.in-Ok.sizes) c.args.history.now.history.points c.test_blocks.result
+    c.requires c.in-Ok.ensures.listed c.test_blocks.ensures.tests
 
 pub returns-in-Ok-clause-cause : goal.returns-in-Ok-clause-cause
-returns-in-Ok-clause-cause g c = causes_none g.S.Store c.args.store.now c.measure.new.store c.test_blocks.result c.in-Ok.ensures.cause c.test_blocks.ensures.no_fault
+returns-in-Ok-clause-cause g c = causes_none g.S.Store c.args.store.now c.measure.new.store c.test_blocks.result
+    c.in-Ok.ensures.cause c.test_blocks.ensures.no_fault
 
 pub returns-in-Ok-clause-one_length : goal.returns-in-Ok-clause-one_length
 returns-in-Ok-clause-one_length g c =
-    one_length (size_in c.in-Ok.sizes) (all_blocks c.args.history.now.history.points) c.test_blocks.result c.test_blocks.ensures.tests
+    one_length (size_in c.in-Ok.sizes)
+    (all_blocks c.args.history.now.history.points) c.test_blocks.result c.test_blocks.ensures.tests

@@ -27,7 +27,8 @@ returns-in_err-measure_one-clause-kept g c = kept_turn c.loop-i.invariant.kept c
 pub returns-in_err-measure_one-clause-cause : goal.returns-in_err-measure_one-clause-cause
 returns-in_err-measure_one-clause-cause g c =
     let p = err_from_is_err_and c.from_residual.result c.from_residual.ensures.1 in
-    rw (p.1, p.2) (causes_handed g.S.Store (Unit {0}) Sizes c.args.store.now c.loop-i.store c.measure_one.new.store c.in_err-measure_one.field-0.0
+    rw (p.1, p.2) (causes_handed g.S.Store
+    (Unit {0}) Sizes c.args.store.now c.loop-i.store c.measure_one.new.store c.in_err-measure_one.field-0.0
     c.loop-i.invariant.no_fault c.in_err-measure_one.ensures.cause)
 
 pub loop-i-preserved : goal.loop-i-preserved
@@ -40,18 +41,24 @@ loop-i-preserved g c =
     let real = file_size (g.S.Store.reads c.args.store.now) in
     record {
       kept = kept_turn inv.kept c.measure_one.ensures.kept;
-      no_fault = none_turn g.S.Store c.args.store.now c.loop-i.store c.measure_one.new.store inv.no_fault c.in_ok-measure_one.ensures.cause;
+      no_fault = none_turn g.S.Store c.args.store.now c.loop-i.store c.measure_one.new.store inv.no_fault
+          c.in_ok-measure_one.ensures.cause;
       listed = listed_still files old new c.loop-i.i c.loop-i-test.true c.in_ok-measure_one.ensures.same inv.listed;
       there = λ tells.
           let is : (other : ℕ) → new other ≡ (if other == file then real file else old other) = λ other.
-          c.in_ok-measure_one.ensures.sizes (inv.kept.same_tells ∙ tells) other ∙ ap (λ (f : Files). if other == file then file_size f file else old other) inv.kept.same_reads in
-          below_more (λ k. new (get_or files k 0) ≡ real (get_or files k 0)) c.loop-i.i (λ k lt. measured_right old new real file is (get_or files k 0) (inv.there tells k lt)) (measured_here old new real file is);
+          c.in_ok-measure_one.ensures.sizes (inv.kept.same_tells ∙ tells) other
+          ∙ ap (λ (f : Files). if other == file then file_size f file else old other) inv.kept.same_reads in
+          below_more (λ k. new (get_or files k 0) ≡ real (get_or files k 0)) c.loop-i.i
+          (λ k lt. measured_right old new real file is (get_or files k 0) (inv.there tells k lt))
+          (measured_here old new real file is);
       right = λ tells other.
           let is : (other : ℕ) → new other ≡ (if other == file then real file else old other) = λ other.
-          c.in_ok-measure_one.ensures.sizes (inv.kept.same_tells ∙ tells) other ∙ ap (λ (f : Files). if other == file then file_size f file else old other) inv.kept.same_reads in
+          c.in_ok-measure_one.ensures.sizes (inv.kept.same_tells ∙ tells) other
+          ∙ ap (λ (f : Files). if other == file then file_size f file else old other) inv.kept.same_reads in
           measured_still old new real file is other (inv.right tells other);
     }
 
 pub returns-clause-sizes : goal.returns-clause-sizes
 returns-clause-sizes g c = λ tells are.
-    all_measured (g.S.Store.reads c.args.store.now) c.args.files.now (size_in c.loop-i.sizes) are (λ k lt. c.loop-i.invariant.there tells k (omega (arith, lt, c.loop-i-test.false))) (c.loop-i.invariant.right tells)
+    all_measured (g.S.Store.reads c.args.store.now) c.args.files.now (size_in c.loop-i.sizes) are (λ k lt.
+    c.loop-i.invariant.there tells k (omega (arith, lt, c.loop-i-test.false))) (c.loop-i.invariant.right tells)

@@ -16,21 +16,29 @@ use Rattle.editor_recovery.proofs.opening.open_parts.Goals as goal
 pub returns-in-Ok-clause-opens : goal.returns-in-Ok-clause-opens
 returns-in-Ok-clause-opens g c = λ tells.
     let read = c.in-Ok.ensures.reads tells in
-    subst (λ (f : Files). AreFiles f c.in-Ok.disk.files.items → NoForeign f → IsProject (bytes_of (f 0)) → Opens f (answer_in c.find_parts.result)) c.read_disk.ensures.reads_same
+    subst (λ (f : Files). AreFiles f c.in-Ok.disk.files.items → NoForeign f → IsProject (bytes_of (f 0))
+    → Opens f (answer_in c.find_parts.result)) c.read_disk.ensures.reads_same
     (c.find_parts.ensures.opens (c.read_disk.ensures.changed.tells ∙ tells)) read.1 read.2 read.0
 
 pub returns-in-Ok-clause-at_rest : goal.returns-in-Ok-clause-at_rest
 returns-in-Ok-clause-at_rest g c = λ tells.
-    subst (λ (f : Files). IfOk c.find_parts.result (λ p. (log : Log) → HasLog version_1 log f → IsAt version_1 g.S.Store c.find_parts.new.store p.journal_end log)) c.read_disk.ensures.reads_same
+    subst (λ (f : Files). IfOk c.find_parts.result (λ p. (log : Log) → HasLog version_1 log f
+    → IsAt version_1 g.S.Store c.find_parts.new.store p.journal_end log)) c.read_disk.ensures.reads_same
     (c.find_parts.ensures.at_rest (c.read_disk.ensures.changed.tells ∙ tells) c.in-Ok.ensures.durable)
 
 pub returns-in-Ok-clause-durable : goal.returns-in-Ok-clause-durable
-returns-in-Ok-clause-durable g c = durable_after c.read_disk.new.store c.find_parts.new.store c.find_parts.result c.find_parts.ensures.kept c.in-Ok.ensures.durable
+returns-in-Ok-clause-durable g c = durable_after c.read_disk.new.store c.find_parts.new.store c.find_parts.result
+    c.find_parts.ensures.kept c.in-Ok.ensures.durable
 
 pub returns-in-Ok-clause-cause : goal.returns-in-Ok-clause-cause
-returns-in-Ok-clause-cause g c = causes_turn g.S.Store c.args.store.now c.read_disk.new.store c.find_parts.new.store c.find_parts.result c.in-Ok.ensures.cause c.find_parts.ensures.cause
+returns-in-Ok-clause-cause g c = causes_turn g.S.Store c.args.store.now c.read_disk.new.store c.find_parts.new.store
+    c.find_parts.result c.in-Ok.ensures.cause c.find_parts.ensures.cause
 
 pub returns-in-Ok-clause-changed : goal.returns-in-Ok-clause-changed
 returns-in-Ok-clause-changed g c =
-    changed_then_stays {two = record { files = 0; bytes = 0; calls = 0 }} (record { files = omega arith; bytes = omega arith; calls = omega arith })
+    changed_then_stays {two = record { files = 0; bytes = 0; calls = 0 }} (record {
+      files = omega arith;
+      bytes = omega arith;
+      calls = omega arith;
+    })
     c.read_disk.ensures.changed (changed_kept (λ d. refl) c.find_parts.ensures.kept)

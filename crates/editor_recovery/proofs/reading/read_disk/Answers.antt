@@ -18,26 +18,38 @@ returns-in-Ok-clause-reads g c = λ tells.
 
 pub returns-in-Ok-clause-reading : goal.returns-in-Ok-clause-reading
 returns-in-Ok-clause-reading g c =
-    still_reading {disk = g.S.Store} c.open_journal.new.store c.with_files.new.store c.in-Ok.reader c.with_files.result c.in-Ok.ensures.reading c.with_files.ensures.reader c.with_files.ensures.kept
+    still_reading {disk = g.S.Store} c.open_journal.new.store c.with_files.new.store c.in-Ok.reader c.with_files.result
+    c.in-Ok.ensures.reading c.with_files.ensures.reader c.with_files.ensures.kept
 
 pub returns-in-Ok-clause-durable : goal.returns-in-Ok-clause-durable
-returns-in-Ok-clause-durable g c = durable_after c.open_journal.new.store c.with_files.new.store c.with_files.result c.with_files.ensures.kept c.in-Ok.ensures.durable
+returns-in-Ok-clause-durable g c = durable_after c.open_journal.new.store c.with_files.new.store c.with_files.result
+    c.with_files.ensures.kept c.in-Ok.ensures.durable
 
 pub returns-in-Ok-clause-cause : goal.returns-in-Ok-clause-cause
-returns-in-Ok-clause-cause g c = causes_turn g.S.Store c.args.store.now c.open_journal.new.store c.with_files.new.store c.with_files.result c.in-Ok.ensures.cause c.with_files.ensures.cause
+returns-in-Ok-clause-cause g c = causes_turn g.S.Store c.args.store.now c.open_journal.new.store c.with_files.new.store
+    c.with_files.result c.in-Ok.ensures.cause c.with_files.ensures.cause
 
 pub returns-in-Ok-clause-changed : goal.returns-in-Ok-clause-changed
 returns-in-Ok-clause-changed g c =
-    changed_then_stays {two = record { files = 0; bytes = 0; calls = 0 }} (record { files = omega arith; bytes = omega arith; calls = omega arith })
+    changed_then_stays {two = record { files = 0; bytes = 0; calls = 0 }} (record {
+      files = omega arith;
+      bytes = omega arith;
+      calls = omega arith;
+    })
     c.open_journal.ensures.changed (changed_kept (λ d. refl) c.with_files.ensures.kept)
 
 pub returns-in-Err-Damaged-clause-cause : goal.returns-in-Err-Damaged-clause-cause
 returns-in-Err-Damaged-clause-cause g c =
     causes_turn g.S.Store c.args.store.now c.open_journal.new.store c.refused.new.store c.refused.result
-    (journal_none g.S.Store Reader c.args.store.now c.open_journal.new.store c.in-Err-Damaged.field-0 (λ same. absurd cc) c.in-Err-Damaged.ensures.cause)
+    (journal_none g.S.Store Reader c.args.store.now c.open_journal.new.store c.in-Err-Damaged.field-0
+    (λ same. absurd cc) c.in-Err-Damaged.ensures.cause)
     c.refused.ensures.cause
 
 pub returns-in-Err-Damaged-clause-changed : goal.returns-in-Err-Damaged-clause-changed
 returns-in-Err-Damaged-clause-changed g c =
-    changed_then_stays {two = record { files = 0; bytes = 0; calls = 0 }} (record { files = omega arith; bytes = omega arith; calls = omega arith })
+    changed_then_stays {two = record { files = 0; bytes = 0; calls = 0 }} (record {
+      files = omega arith;
+      bytes = omega arith;
+      calls = omega arith;
+    })
     c.open_journal.ensures.changed (changed_kept (λ d. refl) c.refused.ensures.kept)

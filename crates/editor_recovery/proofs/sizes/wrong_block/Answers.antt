@@ -14,7 +14,8 @@ pub wrong_among-found-requires : goal.wrong_among-found-requires
 wrong_among-found-requires c =
     let ts = c.point.result.now in
     subst (λ (bs : List BlockRef). All IsBlockRef bs) (sym (c.deref.ensures.value ∙ c.in_ok-list_blocks.ensures))
-    (all_at (λ ts. All IsBlockRef (point_blocks ts)) c.args.history.now.history.points c.loop-i.i ts c.requires c.point.ensures)
+    (all_at (λ ts. All IsBlockRef (point_blocks ts)) c.args.history.now.history.points c.loop-i.i ts c.requires
+    c.point.ensures)
 
 pub loop-i-preserved : goal.loop-i-preserved
 loop-i-preserved c =
@@ -22,7 +23,8 @@ loop-i-preserved c =
     let sizes = size_in c.args.sizes.now in
     let rest = all_blocks (drop (c.loop-i.i + 1) ps) in
     let bs = point_blocks c.point.result.now in
-    ap (λ f. first_wrong sizes f rest) (c.wrong_among-found.ensures ∙ ap (first_wrong sizes c.loop-i.found) (c.deref.ensures.value ∙ c.in_ok-list_blocks.ensures))
+    ap (λ f. first_wrong sizes f rest) (c.wrong_among-found.ensures
+    ∙ ap (first_wrong sizes c.loop-i.found) (c.deref.ensures.value ∙ c.in_ok-list_blocks.ensures))
     ∙ sym (wrong_append sizes c.loop-i.found bs rest)
     ∙ ap (first_wrong sizes c.loop-i.found) (sym (blocks_left ps c.loop-i.i c.point.result.now c.point.ensures))
     ∙ c.loop-i.invariant

@@ -7,4 +7,6 @@ use Rattle.editor_recovery.specs.Sizes.{first_wrong}
 use Rattle.editor_recovery.proofs.sizes.wrong_block.Given as goal
 
 abbrev pub invariant-loop-i : goal.invariant-loop-i
-invariant-loop-i l = first_wrong (size_in l.sizes) l.found (flat_map (λ p. point_blocks p.0) (drop l.i l.history.history.points)) ≡ first_wrong (size_in l.sizes) None (flat_map (λ p. point_blocks p.0) l.history.history.points)
+invariant-loop-i l =
+    first_wrong (size_in l.sizes) l.found (flat_map (λ p. point_blocks p.0) (drop l.i l.history.history.points))
+    ≡ first_wrong (size_in l.sizes) None (flat_map (λ p. point_blocks p.0) l.history.history.points)

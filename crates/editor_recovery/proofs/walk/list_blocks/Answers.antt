@@ -14,7 +14,8 @@ loop-i-preserved c =
     let ts = c.args.point.now in
     let t = c.track_at.result.now in
     let rest = point_blocks (drop (c.loop-i.i + 1) ts) in
-    ap (λ (bs : List BlockRef). bs ++ rest) (c.in_ok-add_blocks.ensures ∙ ap (λ (cs : List Clip). out ++ layout_blocks cs) c.as_slice.ensures.value)
+    ap (λ (bs : List BlockRef). bs ++ rest)
+    (c.in_ok-add_blocks.ensures ∙ ap (λ (cs : List Clip). out ++ layout_blocks cs) c.as_slice.ensures.value)
     ∙ append_assoc out (layout_blocks t.layout) rest
     ∙ ap (λ (l : List Track). out ++ point_blocks l) (sym (drop_some ts c.loop-i.i t c.track_at.ensures))
     ∙ c.loop-i.invariant

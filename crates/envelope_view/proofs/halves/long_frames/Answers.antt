@@ -22,12 +22,15 @@ returns-clause-read g c = λ told xs e len.
     let out : List Summary = c.read_compared_frames.new.out in
     let W : ℕ → Type 0 = λ k. last + 1 ≤ frame_count 65536 k in
     let within : last + 1 ≤ frame_count 65536 (length xs) = subst W (sym len) (omega (arith, c.requires.within)) in
-    let read : out ≡ take (n + 1) (drop first fs) = c.in_ok-read_compared_frames.ensures.read xs told e len ∙ ap (λ (k : ℕ). take k (drop first fs)) (grind (arith, common_steps)) in
+    let read : out ≡ take (n + 1) (drop first fs) = c.in_ok-read_compared_frames.ensures.read xs told e len
+    ∙ ap (λ (k : ℕ). take k (drop first fs)) (grind (arith, common_steps)) in
     let place : first + n ≡ last = omega (arith, c.requires.rising) in
     let stop : 65536 * (last + 1) ≡ 65536 * last + 65536 = omega arith in
     let before : c.join_all-before.result ≡ summary_of (part (65536 * first) (65536 * last) xs) =
-    frames_read 65536 first last n xs c.join_all-before.result (take n out) fit few c.requires.rising (omega (arith, within)) c.join_all-before.ensures (all_but_last fs out first n read) (omega arith) in
+    frames_read 65536 first last n xs c.join_all-before.result (take n out) fit few c.requires.rising
+    (omega (arith, within)) c.join_all-before.ensures (all_but_last fs out first n read) (omega arith) in
     let after : c.join_all-after.result ≡ summary_of (part (65536 * last) (65536 * (last + 1)) xs) =
-    frames_read 65536 last (last + 1) 1 xs c.join_all-after.result (drop n out) fit few (omega arith) within (c.join_all-after.ensures ∙ ap (fold joined nothing) (take_rest out n))
+    frames_read 65536 last (last + 1) 1 xs c.join_all-after.result (drop n out) fit few (omega arith) within
+    (c.join_all-after.ensures ∙ ap (fold joined nothing) (take_rest out n))
     (last_alone fs out first n read ∙ ap (λ (k : ℕ). take 1 (drop k fs)) place) (omega arith) in
     (before, after ∙ ap (λ (k : ℕ). summary_of (part (65536 * last) k xs)) stop)

@@ -12,7 +12,8 @@ other_side-requires-clause-rest g c = λ told xs e len.
     let files : Files = g.S.Store.reads c.args.store.now in
     let kept = c.by_short.ensures.kept in
     let before : IsTrue (g.S.Store.tells c.args.store.now) = subst IsTrue kept.same_tells told in
-    let there : blocks files c.args.block.id ≡ Some xs = ap (λ (f : Files). blocks f c.args.block.id) (sym kept.same_reads) ∙ e in
+    let there : blocks files c.args.block.id ≡ Some xs =
+    ap (λ (f : Files). blocks f c.args.block.id) (sym kept.same_reads) ∙ e in
     rest_after c.args.from c.args.edge c.args.to xs c.args.whole c.in_ok-before.before
     (block_samples_fit files c.args.block.id xs there) (block_samples_few files c.args.block.id xs there)
     c.requires.before c.requires.behind (omega (arith, len, c.requires.within))
@@ -23,7 +24,8 @@ other_side-requires-2-clause-rest g c = λ told xs e len.
     let files : Files = g.S.Store.reads c.args.store.now in
     let kept = c.by_short-2.ensures.kept in
     let before : IsTrue (g.S.Store.tells c.args.store.now) = subst IsTrue kept.same_tells told in
-    let there : blocks files c.args.block.id ≡ Some xs = ap (λ (f : Files). blocks f c.args.block.id) (sym kept.same_reads) ∙ e in
+    let there : blocks files c.args.block.id ≡ Some xs =
+    ap (λ (f : Files). blocks f c.args.block.id) (sym kept.same_reads) ∙ e in
     rest_before c.args.from c.args.edge c.args.to xs c.args.whole c.in_ok-after-2.after
     (block_samples_fit files c.args.block.id xs there) (block_samples_few files c.args.block.id xs there)
     c.requires.before c.requires.behind (omega (arith, len, c.requires.within))

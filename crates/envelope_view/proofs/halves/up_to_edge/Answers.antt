@@ -12,12 +12,15 @@ pub sides-requires-clause-whole : goal.sides-requires-clause-whole
 sides-requires-clause-whole g c = λ told xs e len.
     let kept = c.long_frames.ensures.kept in
     let before : IsTrue (g.S.Store.tells c.by_short.new.store) = subst IsTrue kept.same_tells told in
-    let there : blocks (g.S.Store.reads c.by_short.new.store) c.args.block.id ≡ Some xs = ap (λ (f : Files). blocks f c.args.block.id) (sym kept.same_reads) ∙ e in
+    let there : blocks (g.S.Store.reads c.by_short.new.store) c.args.block.id ≡ Some xs =
+    ap (λ (f : Files). blocks f c.args.block.id) (sym kept.same_reads) ∙ e in
     let start : ℕ = 65536 * c.args.frame in
     let stop : c.args.to ≡ min c.args.to (start + 65536) = omega (arith, c.requires.few) in
     let same : min (start + 65536) (length xs) ≡ min c.args.to (length xs) =
-    stop_same (start + 65536) c.args.to c.args.block.len c.args.to (length xs) stop c.requires.last c.requires.within len in
-    (c.in_ok-long.ensures.read before xs there len).1 ∙ ap (λ (ys : List ℤ). summary_of ys) (part_end start (start + 65536) c.args.to xs same)
+    stop_same (start + 65536) c.args.to c.args.block.len c.args.to
+    (length xs) stop c.requires.last c.requires.within len in
+    (c.in_ok-long.ensures.read before xs there len).1
+    ∙ ap (λ (ys : List ℤ). summary_of ys) (part_end start (start + 65536) c.args.to xs same)
 
 pub returns-clause-read : goal.returns-clause-read
 returns-clause-read g c = λ told xs e len.
@@ -26,10 +29,12 @@ returns-clause-read g c = λ told xs e len.
     let few = block_samples_few files c.args.block.id xs e in
     let kept = c.by_short.ensures.kept in
     let still : IsTrue (g.S.Store.tells c.by_short.new.store) = subst IsTrue (sym kept.same_tells) told in
-    let here : blocks (g.S.Store.reads c.by_short.new.store) c.args.block.id ≡ Some xs = ap (λ (f : Files). blocks f c.args.block.id) kept.same_reads ∙ e in
+    let here : blocks (g.S.Store.reads c.by_short.new.store) c.args.block.id ≡ Some xs =
+    ap (λ (f : Files). blocks f c.args.block.id) kept.same_reads ∙ e in
     let then = c.long_frames.ensures.kept in
     let still_then : IsTrue (g.S.Store.tells c.long_frames.new.store) = subst IsTrue (sym then.same_tells) still in
-    let here_then : blocks (g.S.Store.reads c.long_frames.new.store) c.args.block.id ≡ Some xs = ap (λ (f : Files). blocks f c.args.block.id) then.same_reads ∙ here in
+    let here_then : blocks (g.S.Store.reads c.long_frames.new.store) c.args.block.id ≡ Some xs =
+    ap (λ (f : Files). blocks f c.args.block.id) then.same_reads ∙ here in
     let first : ℕ = c.div_ceil-first.result in
     let start : ℕ = 65536 * c.args.frame in
     let halves = c.in_ok-halves.ensures.read still_then xs here_then len in

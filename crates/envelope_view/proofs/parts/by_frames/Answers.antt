@@ -11,5 +11,7 @@ returns-clause-read g c = λ told xs e len.
     let files = g.S.Store.reads c.args.store.now in
     let n : ℕ = frame_len c.args.level in
     let W : ℕ → Type 0 = λ k. c.args.end ≤ frame_count n k in
-    frames_read n c.args.first c.args.end _ xs c.join_all.result c.read_compared_frames.new.out (block_samples_fit files c.args.block.id xs e) (block_samples_few files c.args.block.id xs e)
-    c.requires.rising (subst W (sym len) c.requires.within) c.join_all.ensures (c.in_ok-read_compared_frames.ensures.read xs told e len) (grind (arith, common_steps))
+    frames_read n c.args.first c.args.end _ xs c.join_all.result c.read_compared_frames.new.out
+    (block_samples_fit files c.args.block.id xs e) (block_samples_few files c.args.block.id xs e)
+    c.requires.rising (subst W (sym len) c.requires.within) c.join_all.ensures
+    (c.in_ok-read_compared_frames.ensures.read xs told e len) (grind (arith, common_steps))

@@ -11,7 +11,8 @@ returns-clause-read g c = λ told xs e len.
     let files : Files = g.S.Store.reads c.args.store.now in
     let kept = c.by_samples-2.ensures.kept in
     let still : IsTrue (g.S.Store.tells c.by_samples-2.new.store) = subst IsTrue (sym kept.same_tells) told in
-    let here : blocks (g.S.Store.reads c.by_samples-2.new.store) c.args.block.id ≡ Some xs = ap (λ (f : Files). blocks f c.args.block.id) kept.same_reads ∙ e in
+    let here : blocks (g.S.Store.reads c.by_samples-2.new.store) c.args.block.id ≡ Some xs =
+    ap (λ (f : Files). blocks f c.args.block.id) kept.same_reads ∙ e in
     c.join.ensures.exact
     ∙ part_joined c.args.from (256 * c.div_ceil-first.result) c.args.to xs c.in_ok-front.front c.in_ok-back.back
     (block_samples_fit files c.args.block.id xs e) (block_samples_few files c.args.block.id xs e)

@@ -12,12 +12,15 @@ returns-clause-read g c = λ told xs e len.
     let files : Files = g.S.Store.reads c.args.store.now in
     let kept = c.by_frames.ensures.kept in
     let still : IsTrue (g.S.Store.tells c.by_frames.new.store) = subst IsTrue (sym kept.same_tells) told in
-    let here : blocks (g.S.Store.reads c.by_frames.new.store) c.args.block.id ≡ Some xs = ap (λ (f : Files). blocks f c.args.block.id) kept.same_reads ∙ e in
+    let here : blocks (g.S.Store.reads c.by_frames.new.store) c.args.block.id ≡ Some xs =
+    ap (λ (f : Files). blocks f c.args.block.id) kept.same_reads ∙ e in
     let from : ℕ = c.min-from.result in
     let start : ℕ = 65536 * c.args.first in
     let same : min (65536 * c.args.end) (length xs) ≡ min from (length xs) =
-    stop_same (65536 * c.args.end) c.args.to c.args.block.len from (length xs) c.min-from.ensures c.requires.last c.requires.within len in
-    let front = c.in_ok-front.ensures.read told xs e len ∙ ap (λ (ys : List ℤ). summary_of ys) (part_end start (65536 * c.args.end) from xs same) in
+    stop_same (65536 * c.args.end) c.args.to c.args.block.len from
+    (length xs) c.min-from.ensures c.requires.last c.requires.within len in
+    let front = c.in_ok-front.ensures.read told xs e len
+    ∙ ap (λ (ys : List ℤ). summary_of ys) (part_end start (65536 * c.args.end) from xs same) in
     c.join.ensures.exact
     ∙ part_joined start from c.args.to xs c.in_ok-front.front c.in_ok-back.back
     (block_samples_fit files c.args.block.id xs e) (block_samples_few files c.args.block.id xs e)

@@ -13,12 +13,14 @@ returns-in_err-test_columns-clause-kept g c = kept_none _ (g.met.S.Store.may_few
 pub returns-in_err-test_columns-clause-tests : goal.returns-in_err-test_columns-clause-tests
 returns-in_err-test_columns-clause-tests g c =
     let p = err_from_is_err_and c.from_residual.result c.from_residual.ensures.1 in
-    rw (p.1, p.2) (inl (ap (column_tests c.args.from c.args.to c.args.columns) (sym c.len.ensures.value) ∙ c.in_err-test_columns.ensures.tests))
+    rw (p.1, p.2) (inl (ap (column_tests c.args.from c.args.to c.args.columns) (sym c.len.ensures.value)
+    ∙ c.in_err-test_columns.ensures.tests))
 
 pub returns-in_err-test_columns-clause-damaged : goal.returns-in_err-test_columns-clause-damaged
 returns-in_err-test_columns-clause-damaged g c = λ told.
     let p = err_from_is_err_and c.from_residual.result c.from_residual.ensures.1 in
-    rw (p.1, p.2) (undamaged_in (g.S.Store.reads c.args.store.now) (layout_blocks c.args.layout.now) _ (tests_undamaged _ c.in_err-test_columns.ensures.reasons))
+    rw (p.1, p.2) (undamaged_in (g.S.Store.reads c.args.store.now) (layout_blocks c.args.layout.now) _
+    (tests_undamaged _ c.in_err-test_columns.ensures.reasons))
 
 pub returns-in_err-test_columns-clause-sound : goal.returns-in_err-test_columns-clause-sound
 returns-in_err-test_columns-clause-sound g c = λ told whole.
@@ -33,9 +35,14 @@ returns-in_err-test_columns-clause-faults g c =
 pub returns-in_err-scans-clause-tests : goal.returns-in_err-scans-clause-tests
 returns-in_err-scans-clause-tests g c =
     let p = err_from_is_err_and c.from_residual-in_err-scans.result c.from_residual-in_err-scans.ensures.1 in
-    rw (p.1, p.2) (inr (ap (column_tests c.args.from c.args.to c.args.columns) (sym c.len.ensures.value) ∙ c.in_ok-test_columns.ensures.tests, c.in_err-scans.ensures.reads))
+    rw (p.1, p.2) (inr (
+      ap (column_tests c.args.from c.args.to c.args.columns) (sym c.len.ensures.value)
+          ∙ c.in_ok-test_columns.ensures.tests,
+      c.in_err-scans.ensures.reads,
+    ))
 
 pub returns-in_err-scans-clause-sound : goal.returns-in_err-scans-clause-sound
 returns-in_err-scans-clause-sound g c = λ told whole.
     let p = err_from_is_err_and c.from_residual-in_err-scans.result c.from_residual-in_err-scans.ensures.1 in
-    rw (p.1, p.2) (whole_undamaged (g.S.Store.reads c.args.store.now) (layout_blocks c.args.layout.now) _ whole (c.in_err-scans.ensures.damaged told))
+    rw (p.1, p.2) (whole_undamaged (g.S.Store.reads c.args.store.now) (layout_blocks c.args.layout.now) _ whole
+    (c.in_err-scans.ensures.damaged told))

@@ -1,5 +1,6 @@
 -- One column more.
-use Rattle.std.proofs.Common.{◌≡◌, ℕ, ◌+◌, ◌-◌, ◌≤◌, List, [], ◌∷◌, ◌++◌, Option, take, drop, map, refl, sym, ap, subst, ◌∙◌, arith}
+use Rattle.std.proofs.Common.{◌≡◌, ℕ, ◌+◌, ◌-◌, ◌≤◌, List, [], ◌∷◌, ◌++◌, Option, take, drop, map, refl, sym, ap, subst}
+use Rattle.std.proofs.Common.{◌∙◌, arith}
 use Rattle.std.specs.Prelude.{IsTrue}
 use Rattle.std.proofs.lemmas.List.{drop-drop}
 use Rattle.std.proofs.lemmas.Grind.{common_steps}
@@ -32,7 +33,8 @@ pub rows-init : goal.rows-init
 rows-init g c = record {
   stretch = tt;
   blocks = λ b there. c.rest.ensures.blocks b there;
-  cells = λ src. c.rest.ensures.cells src ∙ ap (λ (k : ℕ). drop k (layout_cells src c.args.layout.now)) (first_edge c.args.from c.args.to c.args.columns);
+  cells = λ src. c.rest.ensures.cells src ∙ ap (λ (k : ℕ). drop k (layout_cells src c.args.layout.now))
+      (first_edge c.args.from c.args.to c.args.columns);
   kept = kept_none _ (g.met.S.Store.may_fewer _);
   compared = λ told. tt;
   known = λ told. tt;
@@ -41,7 +43,8 @@ rows-init g c = record {
 }
 
 pub sweep-requires-clause-named : goal.sweep-requires-clause-named
-sweep-requires-clause-named g c = λ b there. each_of IsNamed (layout_blocks c.args.layout.now) c.requires.named b (c.rows.invariant.blocks b there)
+sweep-requires-clause-named g c =
+    λ b there. each_of IsNamed (layout_blocks c.args.layout.now) c.requires.named b (c.rows.invariant.blocks b there)
 
 pub rows-preserved : goal.rows-preserved
 rows-preserved g c =
@@ -59,7 +62,8 @@ rows-preserved g c =
       blocks = λ b there. inv.blocks b (c.sweep.ensures.blocks b there);
       cells = λ src.
           let cells : List Cell = layout_cells src a.layout.now in
-          let next : edge a.from a.to a.columns i + (end - begin) ≡ edge a.from a.to a.columns (i + 1) = omega (arith, low, high, rising) in
+          let next : edge a.from a.to a.columns i + (end - begin) ≡ edge a.from a.to a.columns (i + 1) =
+          omega (arith, low, high, rising) in
           c.in_ok-summary.ensures.passed src
           ∙ ap (drop (end - begin)) (inv.cells src)
           ∙ drop-drop (end - begin) (edge a.from a.to a.columns i) cells
@@ -75,19 +79,25 @@ rows-preserved g c =
       read = λ told whole.
           let src : Sources = sources_of files in
           let cells : List Cell = layout_cells src a.layout.now in
-          let F : ℕ → Option Scan = λ k. scan_of (part (edge a.from a.to a.columns k) (edge a.from a.to a.columns (k + 1)) cells) in
+          let F : ℕ → Option Scan =
+          λ k. scan_of (part (edge a.from a.to a.columns k) (edge a.from a.to a.columns (k + 1)) cells) in
           let still : IsTrue (g.S.Store.tells c.rows.store) = subst IsTrue (sym inv.kept.same_tells) told in
-          let there : AreWhole files (ahead_blocks c.rows.ahead) = λ b is. each_of (IsWhole files) (layout_blocks a.layout.now) whole b (inv.blocks b is) in
+          let there : AreWhole files (ahead_blocks c.rows.ahead) =
+          λ b is. each_of (IsWhole files) (layout_blocks a.layout.now) whole b (inv.blocks b is) in
           let here = subst (λ (f : Files). AreWhole f (ahead_blocks c.rows.ahead)) (sym inv.kept.same_reads) there in
-          let size : end - begin ≡ edge a.from a.to a.columns (i + 1) - edge a.from a.to a.columns i = omega (arith, low, high) in
-          let column : c.in_ok-summary.summary ≡ summary_of (samples_among (part (edge a.from a.to a.columns i) (edge a.from a.to a.columns (i + 1)) cells)) =
+          let size : end - begin ≡ edge a.from a.to a.columns (i + 1) - edge a.from a.to a.columns i =
+          omega (arith, low, high) in
+          let column : c.in_ok-summary.summary ≡ summary_of
+          (samples_among (part (edge a.from a.to a.columns i) (edge a.from a.to a.columns (i + 1)) cells)) =
           c.in_ok-summary.ensures.read still here
-          ∙ ap (λ (f : Files). summary_of (samples_among (take (end - begin) (ahead_cells (sources_of f) c.rows.ahead)))) inv.kept.same_reads
+          ∙ ap (λ (f : Files). summary_of
+          (samples_among (take (end - begin) (ahead_cells (sources_of f) c.rows.ahead)))) inv.kept.same_reads
           ∙ ap (λ (cs : List Cell). summary_of (samples_among (take (end - begin) cs))) (inv.cells src)
           ∙ ap (λ (k : ℕ). summary_of (samples_among (take k (drop (edge a.from a.to a.columns i) cells)))) size in
           c.in_ok-push.ensures.items
           ∙ ap (λ (xs : List (Option Scan)). xs ++ c.scan.result ∷ []) (inv.read told whole)
-          ∙ ap (λ (x : Option Scan). map F (counted_from 0 i) ++ x ∷ []) (c.scan.ensures.law (part (edge a.from a.to a.columns i) (edge a.from a.to a.columns (i + 1)) cells) column)
+          ∙ ap (λ (x : Option Scan). map F (counted_from 0 i) ++ x ∷ []) (c.scan.ensures.law
+          (part (edge a.from a.to a.columns i) (edge a.from a.to a.columns (i + 1)) cells) column)
           ∙ sym (columns_more F i);
     }
 
@@ -107,9 +117,15 @@ returns-in_err-summary-clause-damaged g c = λ told.
     let inv = c.rows.invariant in
     let still : IsTrue (g.S.Store.tells c.rows.store) = subst IsTrue (sym inv.kept.same_tells) told in
     let p = err_from_is_err_and c.from_residual-in_err-summary.result c.from_residual-in_err-summary.ensures.1 in
-    rw (p.1, p.2) (reason_damaged (g.S.Store.reads c.args.store.now) (layout_blocks c.args.layout.now) _ (fault_wider (g.S.Store.reads c.args.store.now) (g.S.Store.reads c.rows.store) (ahead_blocks c.rows.ahead) (layout_blocks c.args.layout.now) _ inv.kept.same_reads inv.blocks (c.in_err-summary.ensures.damaged still)))
+    rw (p.1, p.2) (reason_damaged (g.S.Store.reads c.args.store.now) (layout_blocks c.args.layout.now) _
+    (fault_wider (g.S.Store.reads c.args.store.now) (g.S.Store.reads c.rows.store) (ahead_blocks c.rows.ahead)
+    (layout_blocks c.args.layout.now) _ inv.kept.same_reads inv.blocks (c.in_err-summary.ensures.damaged still)))
 
 pub returns-in_err-summary-clause-faults : goal.returns-in_err-summary-clause-faults
 returns-in_err-summary-clause-faults g c =
     let p = err_from_is_err_and c.from_residual-in_err-summary.result c.from_residual-in_err-summary.ensures.1 in
-    rw (p.1, p.2) (reason_counted (g.S.Store.read_fault_count c.args.store.now) (g.S.Store.read_fault_count c.rows.store) (g.S.Store.read_fault_count c.sweep.new.store) _ c.rows.invariant.faults c.in_err-summary.ensures.faults)
+    rw (
+      p.1,
+      p.2,
+    ) (reason_counted (g.S.Store.read_fault_count c.args.store.now) (g.S.Store.read_fault_count c.rows.store)
+    (g.S.Store.read_fault_count c.sweep.new.store) _ c.rows.invariant.faults c.in_err-summary.ensures.faults)

@@ -24,5 +24,6 @@ invariant-rows g l = record {
   known : IsTrue (g.S.Store.tells l.fn.store) → IsKnown (g.S.Store.reads l.fn.store) l.known;
   faults : g.S.Store.read_fault_count l.store ≡ g.S.Store.read_fault_count l.fn.store;
   read : IsTrue (g.S.Store.tells l.fn.store) → AllWhole (g.S.Store.reads l.fn.store) (layout_blocks l.layout)
-      → l.scans.items ≡ map (λ i. scan_of (part (edge l.from l.to l.columns i) (edge l.from l.to l.columns (i + 1)) (layout_cells (sources_of (g.S.Store.reads l.fn.store)) l.layout))) (counted_from 0 l.i);
+      → l.scans.items ≡ map (λ i. scan_of (part (edge l.from l.to l.columns i) (edge l.from l.to l.columns (i + 1))
+      (layout_cells (sources_of (g.S.Store.reads l.fn.store)) l.layout))) (counted_from 0 l.i);
 }

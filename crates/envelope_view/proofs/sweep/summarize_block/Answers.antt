@@ -14,7 +14,8 @@ returns-clause-read g c = λ told xs e len.
     let files : Files = g.S.Store.reads c.args.store.now in
     let kept = c.compare_once.ensures.kept in
     let still : IsTrue (g.S.Store.tells c.compare_once.new.store) = subst IsTrue (sym kept.same_tells) told in
-    let here : blocks (g.S.Store.reads c.compare_once.new.store) c.args.block.id ≡ Some xs = ap (λ (f : Files). blocks f c.args.block.id) kept.same_reads ∙ e in
+    let here : blocks (g.S.Store.reads c.compare_once.new.store) c.args.block.id ≡ Some xs =
+    ap (λ (f : Files). blocks f c.args.block.id) kept.same_reads ∙ e in
     let front = c.front_of-front.result in
     let is = c.front_of-front.ensures in
     let its : blocks files front.block.id ≡ Some xs = ap (λ (b : BlockRef). blocks files b.id) is.block ∙ e in

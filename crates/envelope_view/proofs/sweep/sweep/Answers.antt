@@ -46,7 +46,8 @@ summarize_stretch-requires-clause-stretch g c = subst IsInBlock (sym c.in-Some.e
 pub summarize_stretch-requires-clause-named : goal.summarize_stretch-requires-clause-named
 summarize_stretch-requires-clause-named g c = λ b there.
     let rest = strip_blocks c.next.new.self.rest in
-    let ahead = subst (λ (s : Stretch). Contains (stretch_blocks s ++ rest) b) c.in-Some.ensures.found.0 (Contains-append_left (stretch_blocks c.in-Some.stretch) rest b there) in
+    let ahead = subst (λ (s : Stretch). Contains (stretch_blocks s ++ rest) b) c.in-Some.ensures.found.0
+    (Contains-append_left (stretch_blocks c.in-Some.stretch) rest b there) in
     c.requires.named b (c.stretches.invariant.blocks b (c.next.ensures.blocks b ahead))
 
 pub behind-ahead-requires-clause-stretch : goal.behind-ahead-requires-clause-stretch
@@ -66,9 +67,11 @@ returns-in_err-part-clause-damaged g c = λ told.
     let still : IsTrue (g.S.Store.tells c.stretches.store) = subst IsTrue (sym inv.kept.same_tells) told in
     let there : (b : BlockRef) → Contains (stretch_blocks s) b → Contains (ahead_blocks c.args.ahead.now) b =
     λ b is. inv.blocks b (c.next.ensures.blocks b
-    (subst (λ (x : Stretch). Contains (stretch_blocks x ++ rest) b) c.in-Some.ensures.found.0 (Contains-append_left (stretch_blocks s) rest b is))) in
+    (subst (λ (x : Stretch). Contains (stretch_blocks x ++ rest) b) c.in-Some.ensures.found.0
+    (Contains-append_left (stretch_blocks s) rest b is))) in
     let p = err_from_is_err_and c.from_residual.result c.from_residual.ensures.1 in
-    rw (p.1, p.2) (fault_wider (g.S.Store.reads c.args.store.now) (g.S.Store.reads c.stretches.store) (stretch_blocks s) (ahead_blocks c.args.ahead.now) _ inv.kept.same_reads there (c.in_err-part.ensures.damaged still))
+    rw (p.1, p.2) (fault_wider (g.S.Store.reads c.args.store.now) (g.S.Store.reads c.stretches.store) (stretch_blocks s)
+    (ahead_blocks c.args.ahead.now) _ inv.kept.same_reads there (c.in_err-part.ensures.damaged still))
 
 pub stretches-preserved : goal.stretches-preserved
 stretches-preserved g c =
@@ -84,37 +87,48 @@ stretches-preserved g c =
     let part : size ≤ stretch_len s = omega (arith, c.min-size.ensures, c.len_of.ensures) in
     let cells : (src : Sources) → strip_cells src (stretch_item s ∷ rest) ≡ ahead_cells src c.stretches.ahead =
     λ src. ap (λ (x : Stretch). strip_cells src (stretch_item x ∷ rest)) same ∙ c.next.ensures.cells src in
-    let there : (b : BlockRef) → Contains (stretch_blocks s ++ strip_blocks rest) b → Contains (ahead_blocks c.args.ahead.now) b =
-    λ b is. inv.blocks b (c.next.ensures.blocks b (subst (λ (x : Stretch). Contains (stretch_blocks x ++ strip_blocks rest) b) same is)) in
+    let there : (b : BlockRef) → Contains (stretch_blocks s ++ strip_blocks rest) b
+    → Contains (ahead_blocks c.args.ahead.now) b =
+    λ b is. inv.blocks b (c.next.ensures.blocks b
+    (subst (λ (x : Stretch). Contains (stretch_blocks x ++ strip_blocks rest) b) same is)) in
     record {
       within = omega (arith, inv.within);
       stretch = c.behind-ahead.ensures.stretch;
-      blocks = λ b is. there b (subst (λ (bs : List BlockRef). Contains (bs ++ strip_blocks rest) b) c.behind-ahead.ensures.blocks is);
-      passed = λ src. step_passed src s c.behind-ahead.result rest (ahead_cells src c.stretches.ahead) left size within part c.behind-ahead.ensures.item (cells src) ∙ inv.passed src;
+      blocks = λ b is. there b
+          (subst (λ (bs : List BlockRef). Contains (bs ++ strip_blocks rest) b) c.behind-ahead.ensures.blocks is);
+      passed = λ src. step_passed src s c.behind-ahead.result rest (ahead_cells src c.stretches.ahead) left size within
+          part c.behind-ahead.ensures.item (cells src) ∙ inv.passed src;
       kept = kept_turn inv.kept c.summarize_stretch.ensures.kept;
       compared = λ told.
           let still : IsTrue (g.S.Store.tells c.stretches.store) = subst IsTrue (sym inv.kept.same_tells) told in
-          subst (λ (f : Files). IsCompared f c.summarize_stretch.new.last) inv.kept.same_reads (c.summarize_stretch.ensures.compared still);
+          subst (λ (f : Files). IsCompared f c.summarize_stretch.new.last) inv.kept.same_reads
+          (c.summarize_stretch.ensures.compared still);
       known = λ told.
           let still : IsTrue (g.S.Store.tells c.stretches.store) = subst IsTrue (sym inv.kept.same_tells) told in
-          subst (λ (f : Files). IsKnown f c.summarize_stretch.new.known) inv.kept.same_reads (c.summarize_stretch.ensures.known still);
+          subst (λ (f : Files). IsKnown f c.summarize_stretch.new.known) inv.kept.same_reads
+          (c.summarize_stretch.ensures.known still);
       faults = c.in_ok-part.ensures.faults ∙ inv.faults;
       read = λ told whole.
           let still : IsTrue (g.S.Store.tells c.stretches.store) = subst IsTrue (sym inv.kept.same_tells) told in
-          let whole_s : AreWhole files (stretch_blocks s) = λ b is. whole b (there b (Contains-append_left (stretch_blocks s) (strip_blocks rest) b is)) in
+          let whole_s : AreWhole files (stretch_blocks s) =
+          λ b is. whole b (there b (Contains-append_left (stretch_blocks s) (strip_blocks rest) b is)) in
           let here = subst (λ (f : Files). AreWhole f (stretch_blocks s)) (sym inv.kept.same_reads) whole_s in
           let ok = subst IsInBlock (sym same) c.next.ensures.stretch in
           let got : c.in_ok-part.part ≡ summary_of (samples_among (take size (stretch_cells all_src s))) =
-          c.in_ok-part.ensures.read still here ∙ ap (λ (f : Files). summary_of (samples_among (take size (stretch_cells (sources_of f) s)))) inv.kept.same_reads in
+          c.in_ok-part.ensures.read still here ∙ ap (λ (f : Files).
+          summary_of (samples_among (take size (stretch_cells (sources_of f) s)))) inv.kept.same_reads in
           let target : List ℤ = samples_among (take c.args.count (ahead_cells all_src c.args.ahead.now)) in
           let xs : List ℤ = samples_among (take size (stretch_cells all_src s)) in
-          let more : List ℤ = samples_among (take (left - size) (strip_cells all_src (stretch_item c.behind-ahead.result ∷ rest))) in
+          let more : List ℤ =
+          samples_among (take (left - size) (strip_cells all_src (stretch_item c.behind-ahead.result ∷ rest))) in
           let run : Running c.stretches.all c.args.count left (xs ++ more) target =
           subst (λ (ys : List ℤ). Running c.stretches.all c.args.count left ys target)
-          (step_heard all_src s c.behind-ahead.result rest (ahead_cells all_src c.stretches.ahead) left size within part c.behind-ahead.ensures.item (cells all_src))
+          (step_heard all_src s c.behind-ahead.result rest
+          (ahead_cells all_src c.stretches.ahead) left size within part c.behind-ahead.ensures.item (cells all_src))
           (inv.read told whole) in
           subst (λ (z : Summary). Running z c.args.count (left - size) more target) (sym c.join-all.ensures.exact)
-          (running_more c.stretches.all c.in_ok-part.part c.args.count left size xs more target c.requires.few within (front_fits files s size ok part whole_s) (among_few size (stretch_cells all_src s)) got run);
+          (running_more c.stretches.all c.in_ok-part.part c.args.count left size xs more target c.requires.few within
+          (front_fits files s size ok part whole_s) (among_few size (stretch_cells all_src s)) got run);
     }
 
 pub returns-in_default-clause-blocks : goal.returns-in_default-clause-blocks
@@ -131,7 +145,8 @@ returns-in_default-clause-read g c = λ told whole.
     let src : Sources = sources_of (g.S.Store.reads c.args.store.now) in
     let cells : List Cell = ahead_cells src c.stretches.ahead in
     let none : cells ≡ [] = sym (c.next.ensures.cells src) ∙ c.in_default.ensures.found src in
-    running_end c.stretches.all c.args.count c.stretches.left (samples_among (take c.stretches.left cells)) _ (none_heard cells c.stretches.left none) (c.stretches.invariant.read told whole)
+    running_end c.stretches.all c.args.count c.stretches.left (samples_among (take c.stretches.left cells)) _
+    (none_heard cells c.stretches.left none) (c.stretches.invariant.read told whole)
 
 pub returns-clause-passed : goal.returns-clause-passed
 returns-clause-passed g c = λ src.

@@ -24,7 +24,8 @@ invariant-stretches g l = record {
   known : IsTrue (g.S.Store.tells l.fn.store) → IsKnown (g.S.Store.reads l.fn.store) l.known;
   faults : g.S.Store.read_fault_count l.store ≡ g.S.Store.read_fault_count l.fn.store;
   read : IsTrue (g.S.Store.tells l.fn.store) → AreWhole (g.S.Store.reads l.fn.store) (ahead_blocks l.fn.ahead)
-      → Running l.all l.fn.count l.left (samples_among (take l.left (ahead_cells (sources_of (g.S.Store.reads l.fn.store)) l.ahead)))
+      → Running l.all l.fn.count l.left
+      (samples_among (take l.left (ahead_cells (sources_of (g.S.Store.reads l.fn.store)) l.ahead)))
       (samples_among (take l.fn.count (ahead_cells (sources_of (g.S.Store.reads l.fn.store)) l.fn.ahead)));
 }
 

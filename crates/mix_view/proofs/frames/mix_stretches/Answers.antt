@@ -1,5 +1,6 @@
 -- One stretch more is mixed.
-use Rattle.std.proofs.Common.{◌≡◌, ℕ, ◌+◌, ◌-◌, ◌≤◌, Bool, List, length, take, drop, map, refl, sym, ap, subst, ◌∙◌, arith, length-drop}
+use Rattle.std.proofs.Common.{◌≡◌, ℕ, ◌+◌, ◌-◌, ◌≤◌, Bool, List, length, take, drop, map, refl, sym, ap, subst, ◌∙◌}
+use Rattle.std.proofs.Common.{arith, length-drop}
 use Rattle.std.specs.Prelude.{IsTrue}
 use Rattle.std.proofs.lemmas.List.{length-take}
 use Rattle.disk_model.specs.Disk.{Files}
@@ -43,26 +44,33 @@ stretches-preserved g c =
       point = c.mix_stretch.ensures.point ∙ inv.point;
       place = omega (arith, c.in_default.ensures.place, inv.place, size);
       compared = λ told.
-          let still : IsTrue (g.S.Store.tells c.stretches.store) = subst (λ (b : Bool). IsTrue b) (sym inv.kept.same_tells) told in
-          subst (λ (f : Files). HasCompared f c.mix_stretch.new.reader) inv.kept.same_reads (c.mix_stretch.ensures.compared still);
+          let still : IsTrue (g.S.Store.tells c.stretches.store) =
+          subst (λ (b : Bool). IsTrue b) (sym inv.kept.same_tells) told in
+          subst (λ (f : Files). HasCompared f c.mix_stretch.new.reader) inv.kept.same_reads
+          (c.mix_stretch.ensures.compared still);
       kept = kept_turn inv.kept c.mix_stretch.ensures.kept;
       count = c.in_default.ensures.faults ∙ inv.count;
       stored = λ told.
-          let still : IsTrue (g.S.Store.tells c.stretches.store) = subst (λ (b : Bool). IsTrue b) (sym inv.kept.same_tells) told in
-          let P : Files → Type 0 = λ f. c.mix_stretch.new.out ≡ map (frame_at (meant (stored_of f) c.stretches.reader.point.now)) (counted_from c.stretches.reader.at m) in
+          let still : IsTrue (g.S.Store.tells c.stretches.store) =
+          subst (λ (b : Bool). IsTrue b) (sym inv.kept.same_tells) told in
+          let P : Files → Type 0 = λ f. c.mix_stretch.new.out ≡ map
+          (frame_at (meant (stored_of f) c.stretches.reader.point.now)) (counted_from c.stretches.reader.at m) in
           let got = subst P inv.kept.same_reads (c.in_default.ensures.stored still) in
           let f : ℕ → Frame = frame_at (meant (stored_of files) r.point.now) in
           let here : c.mix_stretch.new.out ≡ map f (counted_from (r.at + done) n) =
           got
-          ∙ ap (λ (ts : List Track). map (frame_at (meant (stored_of files) ts)) (counted_from c.stretches.reader.at m)) inv.point
+          ∙ ap (λ (ts : List Track). map (frame_at (meant (stored_of files) ts)) (counted_from c.stretches.reader.at m))
+          inv.point
           ∙ ap (λ (a : ℕ). map f (counted_from a m)) inv.place
           ∙ ap (λ (k : ℕ). map f (counted_from (r.at + done) k)) size in
-          made_more f r.at done n (done + n - done) (done + n) old c.mix_stretch.new.out (omega (arith, fits)) (inv.stored told)
+          made_more f r.at done n (done + n - done) (done + n) old c.mix_stretch.new.out (omega (arith, fits))
+          (inv.stored told)
           here (omega (arith, c.mix_stretch.auto.out, size)) refl;
     }
 
 pub returns-in-Err-clause-compared : goal.returns-in-Err-clause-compared
 returns-in-Err-clause-compared g c = λ told.
     let kept = c.stretches.invariant.kept in
-    let still : IsTrue (g.S.Store.tells c.stretches.store) = subst (λ (b : Bool). IsTrue b) (sym kept.same_tells) told in
+    let still : IsTrue (g.S.Store.tells c.stretches.store) =
+    subst (λ (b : Bool). IsTrue b) (sym kept.same_tells) told in
     subst (λ (f : Files). HasCompared f c.mix_stretch.new.reader) kept.same_reads (c.mix_stretch.ensures.compared still)

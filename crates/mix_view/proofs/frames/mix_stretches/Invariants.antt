@@ -19,7 +19,8 @@ invariant-stretches g l = record {
   kept : Kept g.S.Store l.fn.store l.store;
   count : g.S.Store.read_fault_count l.store ≡ g.S.Store.read_fault_count l.fn.store;
   stored : IsTrue (g.S.Store.tells l.fn.store)
-      → take l.done l.out ≡ map (frame_at (meant (stored_of (g.S.Store.reads l.fn.store)) l.fn.reader.point.now)) (counted_from l.fn.reader.at l.done);
+      → take l.done l.out ≡ map (frame_at (meant (stored_of (g.S.Store.reads l.fn.store)) l.fn.reader.point.now))
+      (counted_from l.fn.reader.at l.done);
 }
 
 abbrev pub decreases-stretches : goal.decreases-stretches

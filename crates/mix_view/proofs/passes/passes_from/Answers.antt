@@ -31,7 +31,10 @@ rest_at-rest-requires c =
     let t : Track = c.track_at.result.now in
     let e : drop k ts ≡ t ∷ drop (k + 1) ts = drop_some ts k t c.track_at.ensures in
     let N : List Track → Type 0 = λ us. AllNamed (point_blocks us) in
-    record { named = named_front (layout_blocks t.layout) (point_blocks (drop (k + 1) ts)) (subst N e (named_drop k ts c.requires)) }
+    record {
+      named = named_front (layout_blocks t.layout) (point_blocks (drop (k + 1) ts))
+          (subst N e (named_drop k ts c.requires));
+    }
 
 pub rows-preserved : goal.rows-preserved
 rows-preserved c =
@@ -42,7 +45,8 @@ rows-preserved c =
     let next : i ≡ k + 1 = omega arith in
     let e : t ∷ drop i ts ≡ drop k ts = ap (λ n. t ∷ drop n ts) next ∙ sym (drop_some ts k t c.track_at.ensures) in
     let one : TrackPass = record { rest = c.rest_at-rest.result; last = None } in
-    let f : one ∷ drop i c.rows.out ≡ _ = ap (λ n. one ∷ drop n c.rows.out) next ∙ sym (drop-set c.rows.out k one (omega (arith, c.rows.invariant.size, c.rows.invariant.within, c.len-i.ensures.few, c.len-i.ensures.value))) in
+    let f : one ∷ drop i c.rows.out ≡ _ = ap (λ n. one ∷ drop n c.rows.out) next ∙ sym (drop-set c.rows.out k one
+    (omega (arith, c.rows.invariant.size, c.rows.invariant.within, c.len-i.ensures.few, c.len-i.ensures.value))) in
     let P : List Track → Type 0 = λ us. AreRestsOf c.args.from us (one ∷ drop i c.rows.out) in
     let Q : List TrackPass → Type 0 = λ rs. AreRestsOf c.args.from (drop k ts) rs in
     record {

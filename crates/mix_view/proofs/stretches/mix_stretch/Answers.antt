@@ -6,7 +6,8 @@ use Rattle.mix_view.proofs.stretches.mix_stretch.Goals as goal
 
 pub returns-clause-stored : goal.returns-clause-stored
 returns-clause-stored g c = λ told.
-    c.mix_cells.ensures (stored_of (g.S.Store.reads c.args.store.now)) c.args.reader.now.at (c.in_ok-read_stretches.ensures.stored told)
+    c.mix_cells.ensures (stored_of (g.S.Store.reads c.args.store.now)) c.args.reader.now.at
+    (c.in_ok-read_stretches.ensures.stored told)
 
 pub returns-clause-reader : goal.returns-clause-reader
 returns-clause-reader g c =
@@ -14,5 +15,6 @@ returns-clause-reader g c =
     record {
       gains = c.requires.reader.gains;
       sides = c.requires.reader.sides;
-      rests = rests_later r.at (r.at + length c.mix_cells.new.out) r.point.now c.read_stretches.new.passes (omega arith) c.read_stretches.ensures.rests;
+      rests = rests_later r.at (r.at + length c.mix_cells.new.out) r.point.now c.read_stretches.new.passes
+          (omega arith) c.read_stretches.ensures.rests;
     }

@@ -1,5 +1,6 @@
 -- One track more is read, from the last to the first.
-use Rattle.std.proofs.Common.{◌≡◌, ℕ, ◌+◌, ◌-◌, ◌*◌, ◌≤◌, ◌<◌, Bool, List, ◌∷◌, length, take, drop, get_or, refl, sym, ap, subst, ◌∙◌, arith, length-drop}
+use Rattle.std.proofs.Common.{◌≡◌, ℕ, ◌+◌, ◌-◌, ◌*◌, ◌≤◌, ◌<◌, Bool, List, ◌∷◌, length, take, drop, get_or, refl, sym}
+use Rattle.std.proofs.Common.{ap, subst, ◌∙◌, arith, length-drop}
 use Rattle.std.specs.Prelude.{IsTrue}
 use Rattle.std.proofs.Math.Nat.{mul-le-mul_right}
 use Rattle.std.proofs.lemmas.List.{drop_all, drop-drop, length-take}
@@ -23,34 +24,41 @@ use Rattle.mix_view.proofs.stretches.read_stretches.Goals as goal
 
 pub rows-init : goal.rows-init
 rows-init g c =
-    let P : List Track → Type 0 = λ ts. AreStretches c.args.from c.args.len (meant (stored_of (g.S.Store.reads c.args.store.now)) ts) (drop (c.len-i.result * c.args.len) c.args.cells.now) in
+    let P : List Track
+    → Type 0 = λ ts. AreStretches c.args.from c.args.len (meant (stored_of (g.S.Store.reads c.args.store.now)) ts)
+    (drop (c.len-i.result * c.args.len) c.args.cells.now) in
     record {
       within = omega (arith, c.len-i.ensures.value);
       rests = c.requires.rests;
       compared = c.requires.compared;
       kept = kept_none _ (g.met.S.Store.may_fewer _);
       count = refl;
-      stored = λ told. subst P (sym (drop_all c.len-i.result c.args.point.now (omega (arith, c.len-i.ensures.value)))) tt;
+      stored =
+          λ told. subst P (sym (drop_all c.len-i.result c.args.point.now (omega (arith, c.len-i.ensures.value)))) tt;
     }
 
 pub overflow_mul-at : goal.overflow_mul-at
 overflow_mul-at g c =
-    let rows : (c.rows.i - 1 + 1) * c.args.len ≤ length c.args.point.now * c.args.len = mul-le-mul_right c.args.len (omega (arith, c.rows.invariant.within, c.rows-test.true)) in
+    let rows : (c.rows.i - 1 + 1) * c.args.len ≤ length c.args.point.now * c.args.len =
+    mul-le-mul_right c.args.len (omega (arith, c.rows.invariant.within, c.rows-test.true)) in
     omega (arith, rows, c.rows.auto.cells, c.requires.room)
 
 pub overflow_add-at : goal.overflow_add-at
 overflow_add-at g c =
-    let rows : (c.rows.i - 1 + 1) * c.args.len ≤ length c.args.point.now * c.args.len = mul-le-mul_right c.args.len (omega (arith, c.rows.invariant.within, c.rows-test.true)) in
+    let rows : (c.rows.i - 1 + 1) * c.args.len ≤ length c.args.point.now * c.args.len =
+    mul-le-mul_right c.args.len (omega (arith, c.rows.invariant.within, c.rows-test.true)) in
     omega (arith, rows, c.rows.auto.cells, c.requires.room)
 
 pub offset_bounds-cells-at : goal.offset_bounds-cells-at
 offset_bounds-cells-at g c =
-    let rows : (c.rows.i - 1 + 1) * c.args.len ≤ length c.args.point.now * c.args.len = mul-le-mul_right c.args.len (omega (arith, c.rows.invariant.within, c.rows-test.true)) in
+    let rows : (c.rows.i - 1 + 1) * c.args.len ≤ length c.args.point.now * c.args.len =
+    mul-le-mul_right c.args.len (omega (arith, c.rows.invariant.within, c.rows-test.true)) in
     omega (arith, rows, c.rows.auto.cells, c.requires.room)
 
 pub slice_bounds-read_track-end : goal.slice_bounds-read_track-end
 slice_bounds-read_track-end g c =
-    let rows : (c.rows.i - 1 + 1) * c.args.len ≤ length c.args.point.now * c.args.len = mul-le-mul_right c.args.len (omega (arith, c.rows.invariant.within, c.rows-test.true)) in
+    let rows : (c.rows.i - 1 + 1) * c.args.len ≤ length c.args.point.now * c.args.len =
+    mul-le-mul_right c.args.len (omega (arith, c.rows.invariant.within, c.rows-test.true)) in
     let long = c.rows.auto.cells in
     let room = c.requires.room in
     grind arith
@@ -71,7 +79,8 @@ read_track-requires-clause-compared g c = λ still.
     let told : IsTrue (g.S.Store.tells c.args.store.now) = subst (λ (b : Bool). IsTrue b) kept.same_tells still in
     let k = c.rows.i - 1 in
     let p : TrackPass = c.index-passes-i.result in
-    let below : k < length c.rows.passes = omega (arith, c.rows.invariant.within, c.rows-test.true, c.requires.tracks, c.rows.auto.passes) in
+    let below : k < length c.rows.passes =
+    omega (arith, c.rows.invariant.within, c.rows-test.true, c.requires.tracks, c.rows.auto.passes) in
     subst (λ (f : Files). IsCompared f (get_or c.rows.passes k p).last) (sym kept.same_reads)
     (compared_at (g.S.Store.reads c.args.store.now) c.rows.passes k p below (c.rows.invariant.compared told))
 
@@ -81,7 +90,8 @@ returns-in-Err-clause-rests g c =
     let ts : List Track = c.args.point.now in
     let t : Track = c.track_at-track.result.now in
     let I : Track → Type 0 = λ u. IsRestOf c.args.from u.layout c.read_track.new.left.rest in
-    rests_set c.args.from ts c.rows.passes k t c.read_track.new.left (omega (arith, c.rows.invariant.within, c.rows-test.true)) c.rows.invariant.rests
+    rests_set c.args.from ts c.rows.passes k t c.read_track.new.left
+    (omega (arith, c.rows.invariant.within, c.rows-test.true)) c.rows.invariant.rests
     (subst I (sym (get_or_from_slice_get ts k t t c.track_at-track.ensures)) c.read_track.ensures.rest)
 
 pub returns-in-Err-clause-compared : goal.returns-in-Err-clause-compared
@@ -89,7 +99,8 @@ returns-in-Err-clause-compared g c = λ told.
     let kept = c.rows.invariant.kept in
     let still : IsTrue (g.S.Store.tells c.rows.store) = subst (λ (b : Bool). IsTrue b) (sym kept.same_tells) told in
     compared_set (g.S.Store.reads c.args.store.now) c.rows.passes (c.rows.i - 1) c.read_track.new.left
-    (subst (λ (f : Files). IsCompared f c.read_track.new.left.last) kept.same_reads (c.read_track.ensures.compared still)) (c.rows.invariant.compared told)
+    (subst (λ (f : Files). IsCompared f c.read_track.new.left.last) kept.same_reads
+    (c.read_track.ensures.compared still)) (c.rows.invariant.compared told)
 
 pub returns-in-Err-clause-damaged : goal.returns-in-Err-clause-damaged
 returns-in-Err-clause-damaged g c = λ told.
@@ -102,7 +113,8 @@ returns-in-Err-clause-damaged g c = λ told.
     let still : IsTrue (g.S.Store.tells c.rows.store) = subst (λ (b : Bool). IsTrue b) (sym inv.kept.same_tells) told in
     let D : Files → Type 0 = λ f. IsFaultIn f (layout_blocks t.layout) c.in-Err.fault in
     let F : List Track → Type 0 = λ us. IsFaultIn files (point_blocks us) c.in-Err.fault in
-    fault_drop files c.in-Err.fault k ts (subst F (sym e) (fault_first files (layout_blocks t.layout) (point_blocks (drop (k + 1) ts)) c.in-Err.fault (subst D inv.kept.same_reads (c.in-Err.ensures.damaged still))))
+    fault_drop files c.in-Err.fault k ts (subst F (sym e) (fault_first files (layout_blocks t.layout)
+    (point_blocks (drop (k + 1) ts)) c.in-Err.fault (subst D inv.kept.same_reads (c.in-Err.ensures.damaged still))))
 
 pub returns-in-Err-clause-kept : goal.returns-in-Err-clause-kept
 returns-in-Err-clause-kept g c = kept_turn c.rows.invariant.kept c.read_track.ensures.kept
@@ -117,31 +129,49 @@ rows-preserved g c =
     let files : Files = g.S.Store.reads c.args.store.now in
     let below : k < length ts = omega (arith, inv.within, c.rows-test.true) in
     let next : k + 1 ≡ c.rows.i = omega (arith, c.rows-test.true) in
-    let e : drop k ts ≡ t ∷ drop c.rows.i ts = drop_some ts k t c.track_at-track.ensures ∙ ap (λ n. t ∷ drop n ts) next in
+    let e : drop k ts ≡ t ∷ drop c.rows.i ts =
+    drop_some ts k t c.track_at-track.ensures ∙ ap (λ n. t ∷ drop n ts) next in
     let rows : (k + 1) * len ≤ length ts * len = mul-le-mul_right len (omega (arith, below)) in
     let fits : k * len + len ≤ length c.rows.cells = omega (arith, rows, c.rows.auto.cells, c.requires.room) in
-    let size : length (take (k * len + len - k * len) (drop (k * len) c.rows.cells)) ≡ len = omega (arith, length-take (k * len + len - k * len) (drop (k * len) c.rows.cells), length-drop (k * len) c.rows.cells, fits) in
+    let size : length (take (k * len + len - k * len) (drop (k * len) c.rows.cells)) ≡ len =
+    omega (
+      arith,
+      length-take (k * len + len - k * len) (drop (k * len) c.rows.cells),
+      length-drop (k * len) c.rows.cells,
+      fits,
+    ) in
     let I : Track → Type 0 = λ u. IsRestOf c.args.from u.layout c.read_track.new.left.rest in
     record {
       within = omega (arith, below);
-      rests = rests_set c.args.from ts c.rows.passes k t c.read_track.new.left below inv.rests (subst I (sym (get_or_from_slice_get ts k t t c.track_at-track.ensures)) c.read_track.ensures.rest);
+      rests = rests_set c.args.from ts c.rows.passes k t c.read_track.new.left below inv.rests
+          (subst I (sym (get_or_from_slice_get ts k t t c.track_at-track.ensures)) c.read_track.ensures.rest);
       compared = λ told.
-          let still : IsTrue (g.S.Store.tells c.rows.store) = subst (λ (b : Bool). IsTrue b) (sym inv.kept.same_tells) told in
+          let still : IsTrue (g.S.Store.tells c.rows.store) =
+          subst (λ (b : Bool). IsTrue b) (sym inv.kept.same_tells) told in
           compared_set files c.rows.passes k c.read_track.new.left
-          (subst (λ (f : Files). IsCompared f c.read_track.new.left.last) inv.kept.same_reads (c.read_track.ensures.compared still)) (inv.compared told);
+          (subst (λ (f : Files). IsCompared f c.read_track.new.left.last) inv.kept.same_reads
+          (c.read_track.ensures.compared still)) (inv.compared told);
       kept = kept_turn inv.kept c.read_track.ensures.kept;
       count = c.in_default.ensures.faults ∙ inv.count;
       stored = λ told.
-          let still : IsTrue (g.S.Store.tells c.rows.store) = subst (λ (b : Bool). IsTrue b) (sym inv.kept.same_tells) told in
-          let P : Files → Type 0 = λ f. IsStretch c.args.from (length (take (k * len + len - k * len) (drop (k * len) c.rows.cells))) (meant_track (stored_of f) t) c.read_track.new.out in
+          let still : IsTrue (g.S.Store.tells c.rows.store) =
+          subst (λ (b : Bool). IsTrue b) (sym inv.kept.same_tells) told in
+          let P : Files → Type 0 =
+          λ f. IsStretch c.args.from (length (take (k * len + len - k * len) (drop (k * len) c.rows.cells)))
+          (meant_track (stored_of f) t) c.read_track.new.out in
           let one = subst P inv.kept.same_reads (c.in_default.ensures.stored still) in
           let Q : ℕ → Type 0 = λ n. IsStretch c.args.from n (meant_track (stored_of files) t) c.read_track.new.out in
           let from : drop (c.rows.i * len) c.rows.cells ≡ drop len (drop (k * len) c.rows.cells) =
-          (let place : c.rows.i * len ≡ k * len + len = omega (arith, ap (λ n. n * len) next) in ap (λ n. drop n c.rows.cells) place ∙ sym (drop-drop len (k * len) c.rows.cells)) in
-          let R : List Cell → Type 0 = λ cs. AreStretches c.args.from len (meant (stored_of files) (drop c.rows.i ts)) cs in
-          let all = stretch_put c.args.from len (k * len) (k * len + len - k * len) c.rows.cells c.read_track.new.out (meant_track (stored_of files) t) (meant (stored_of files) (drop c.rows.i ts))
-          (omega (arith, fits)) (omega (arith, c.read_track.auto.out, size)) (omega arith) (subst Q size one) (subst R from (inv.stored told)) in
-          let S : List Track → Type 0 = λ us. AreStretches c.args.from len (meant (stored_of files) us) (drop (k * len) (put_mid (k * len) (k * len + len - k * len) c.rows.cells c.read_track.new.out)) in
+          (let place : c.rows.i * len ≡ k * len + len = omega (arith, ap (λ n. n * len) next) in
+          ap (λ n. drop n c.rows.cells) place ∙ sym (drop-drop len (k * len) c.rows.cells)) in
+          let R : List Cell → Type 0 =
+          λ cs. AreStretches c.args.from len (meant (stored_of files) (drop c.rows.i ts)) cs in
+          let all = stretch_put c.args.from len (k * len) (k * len + len - k * len) c.rows.cells c.read_track.new.out
+          (meant_track (stored_of files) t) (meant (stored_of files) (drop c.rows.i ts))
+          (omega (arith, fits)) (omega (arith, c.read_track.auto.out, size)) (omega arith) (subst Q size one)
+          (subst R from (inv.stored told)) in
+          let S : List Track → Type 0 = λ us. AreStretches c.args.from len (meant (stored_of files) us)
+          (drop (k * len) (put_mid (k * len) (k * len + len - k * len) c.rows.cells c.read_track.new.out)) in
           subst S (sym e) all;
     }
 
@@ -149,6 +179,8 @@ pub returns-clause-stored : goal.returns-clause-stored
 returns-clause-stored g c = λ told.
     let none : c.rows.i ≡ 0 = omega arith in
     let start : c.rows.i * c.args.len ≡ 0 = omega (arith, ap (λ n. n * c.args.len) none) in
-    let P : ℕ → Type 0 = λ n. AreStretches c.args.from c.args.len (meant (stored_of (g.S.Store.reads c.args.store.now)) (drop n c.args.point.now)) (drop (c.rows.i * c.args.len) c.rows.cells) in
-    let Q : ℕ → Type 0 = λ n. AreStretches c.args.from c.args.len (meant (stored_of (g.S.Store.reads c.args.store.now)) c.args.point.now) (drop n c.rows.cells) in
+    let P : ℕ → Type 0 = λ n. AreStretches c.args.from c.args.len (meant (stored_of (g.S.Store.reads c.args.store.now))
+    (drop n c.args.point.now)) (drop (c.rows.i * c.args.len) c.rows.cells) in
+    let Q : ℕ → Type 0 = λ n. AreStretches c.args.from c.args.len
+    (meant (stored_of (g.S.Store.reads c.args.store.now)) c.args.point.now) (drop n c.rows.cells) in
     subst Q start (subst P none (c.rows.invariant.stored told))

@@ -16,7 +16,8 @@ invariant-rows g l = record {
   kept : Kept g.S.Store l.fn.store l.store;
   count : g.S.Store.read_fault_count l.store ≡ g.S.Store.read_fault_count l.fn.store;
   stored : IsTrue (g.S.Store.tells l.fn.store)
-      → AreStretches l.from l.len (meant (stored_of (g.S.Store.reads l.fn.store)) (drop l.i l.point)) (drop (l.i * l.len) l.cells);
+      → AreStretches l.from l.len (meant (stored_of (g.S.Store.reads l.fn.store)) (drop l.i l.point))
+      (drop (l.i * l.len) l.cells);
 }
 
 abbrev pub decreases-rows : goal.decreases-rows

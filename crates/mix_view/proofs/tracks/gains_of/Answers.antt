@@ -16,10 +16,12 @@ rows-preserved c =
     record {
       size = length-set c.rows.out i t.gain ∙ inv.size;
       front = take_more_set c.rows.out i t.gain within ∙ ap (λ xs. xs ++ t.gain ∷ []) inv.front
-          ∙ sym (ap track_gains (take_some ts i t c.track_at.ensures) ∙ map-append (λ (u : Track). u.gain) (take i ts) (t ∷ []));
+          ∙ sym (ap track_gains (take_some ts i t c.track_at.ensures)
+          ∙ map-append (λ (u : Track). u.gain) (take i ts) (t ∷ []));
     }
 
 pub returns : goal.returns
 returns c =
     let e : length c.args.point.now ≡ c.rows.i = omega arith in
-    ap (λ n. take n c.rows.out) e ∙ c.rows.invariant.front ∙ ap track_gains (take_all c.rows.i c.args.point.now (omega arith))
+    ap (λ n. take n c.rows.out) e ∙ c.rows.invariant.front
+    ∙ ap track_gains (take_all c.rows.i c.args.point.now (omega arith))

@@ -21,7 +21,14 @@ rows-preserved c =
     let inv = c.rows.invariant in
     record {
       value = omega (arith, ap mix_length_of e, inv.value, c.heard_len.ensures.value, c.max-len.ensures);
-      frames = λ src. omega (arith, ap (λ (us : List Track). mix_length (meant src us)) e, longest_first src t (drop (i + 1) ts), inv.frames src, c.heard_len.ensures.cells src, c.max-len.ensures);
+      frames = λ src. omega (
+        arith,
+        ap (λ (us : List Track). mix_length (meant src us)) e,
+        longest_first src t (drop (i + 1) ts),
+        inv.frames src,
+        c.heard_len.ensures.cells src,
+        c.max-len.ensures,
+      );
       few = omega (arith, inv.few, c.heard_len.ensures.few, c.max-len.ensures);
     }
 

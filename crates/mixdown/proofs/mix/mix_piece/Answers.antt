@@ -1,5 +1,6 @@
 -- One track more is summed.
-use Rattle.std.proofs.Common.{◌≡◌, ◌<◌, ◌≤◌, ◌+◌, ◌*◌, ◌^◌, ℕ, ℤ, pos, ◌-◌, List, [], length, take, drop, replicate, get_or, length-drop, arith, refl, ap, ◌∙◌}
+use Rattle.std.proofs.Common.{◌≡◌, ◌<◌, ◌≤◌, ◌+◌, ◌*◌, ◌^◌, ℕ, ℤ, pos, ◌-◌, List, [], length, take, drop, replicate}
+use Rattle.std.proofs.Common.{get_or, length-drop, arith, refl, ap, ◌∙◌}
 use Rattle.std.specs.Prelude.{◌+ℤ◌, nat_abs}
 use Rattle.std.proofs.Math.Nat.{mul-le-mul_right}
 use Rattle.std.proofs.lemmas.Int.{ints}
@@ -23,14 +24,16 @@ left_start : (len i : ℕ) (S : List Cell) (G : List ℕ) (D : List Side) (a b :
     → (a +ℤ b) +ℤ left_sum (laid len (drop (0 * len) S) G D) i ≡ left_sum (laid len S G D) i
 left_start len i S G D a b ea eb =
     let none : 0 * len ≡ 0 = omega arith in
-    let start : left_sum (laid len (drop (0 * len) S) G D) i ≡ left_sum (laid len S G D) i = ap (λ (n : ℕ). left_sum (laid len (drop n S) G D) i) none in
+    let start : left_sum (laid len (drop (0 * len) S) G D) i ≡ left_sum (laid len S G D) i =
+    ap (λ (n : ℕ). left_sum (laid len (drop n S) G D) i) none in
     omega (arith, ints, ea, eb, start)
 
 right_start : (len i : ℕ) (S : List Cell) (G : List ℕ) (D : List Side) (a b : ℤ) → a ≡ pos 0 → b ≡ pos 0
     → (a +ℤ b) +ℤ right_sum (laid len (drop (0 * len) S) G D) i ≡ right_sum (laid len S G D) i
 right_start len i S G D a b ea eb =
     let none : 0 * len ≡ 0 = omega arith in
-    let start : right_sum (laid len (drop (0 * len) S) G D) i ≡ right_sum (laid len S G D) i = ap (λ (n : ℕ). right_sum (laid len (drop n S) G D) i) none in
+    let start : right_sum (laid len (drop (0 * len) S) G D) i ≡ right_sum (laid len S G D) i =
+    ap (λ (n : ℕ). right_sum (laid len (drop n S) G D) i) none in
     omega (arith, ints, ea, eb, start)
 
 -- a sum that has grown with one track more
@@ -38,12 +41,15 @@ bound_more : (t a b : ℕ) → a ≤ b + 2 ^ 32 → b ≤ t * 2 ^ 32 → a ≤ (
 bound_more t a b grown so_far = omega (arith, grown, so_far)
 
 -- what a cell of a part weighs
-weighs_part : (g from n k at : ℕ) (S : List Cell) → k < n → from + k ≡ at → weight_in g (take (from + n - from) (drop from S)) k ≡ weight g (get_or S at Gap)
+weighs_part : (g from n k at : ℕ) (S : List Cell) → k < n → from + k ≡ at
+    → weight_in g (take (from + n - from) (drop from S)) k ≡ weight g (get_or S at Gap)
 weighs_part g from n k at S lt e =
     let size : from + n - from ≡ n = omega arith in
-    ap (weight g) (get_or-take (from + n - from) (drop from S) k Gap (omega (arith, size, lt)) ∙ get_or-drop from S k Gap ∙ ap (λ (j : ℕ). get_or S j Gap) e)
+    ap (weight g) (get_or-take (from + n - from) (drop from S) k Gap (omega (arith, size, lt))
+    ∙ get_or-drop from S k Gap ∙ ap (λ (j : ℕ). get_or S j Gap) e)
 
-within_part : (from n k : ℕ) (S : List Cell) → k < n → from + n ≤ length S → k < length (take (from + n - from) (drop from S))
+within_part : (from n k : ℕ) (S : List Cell) → k < n → from + n ≤ length S
+    → k < length (take (from + n - from) (drop from S))
 within_part from n k S lt le = omega (arith, lt, le, length-take (from + n - from) (drop from S), length-drop from S)
 
 -- no track is left
@@ -51,14 +57,16 @@ left_end : (len t i : ℕ) (S : List Cell) (G : List ℕ) (D : List Side) (a who
     → a +ℤ left_sum (laid len (drop (t * len) S) (drop t G) (drop t D)) i ≡ whole → a ≡ whole
 left_end len t i S G D a whole le so_far =
     let none : drop t G ≡ [] = drop_all t G le in
-    let nothing : left_sum (laid len (drop (t * len) S) (drop t G) (drop t D)) i ≡ pos 0 = ap (λ (gs : List ℕ). left_sum (laid len (drop (t * len) S) gs (drop t D)) i) none in
+    let nothing : left_sum (laid len (drop (t * len) S) (drop t G) (drop t D)) i ≡ pos 0 =
+    ap (λ (gs : List ℕ). left_sum (laid len (drop (t * len) S) gs (drop t D)) i) none in
     omega (arith, ints, nothing, so_far)
 
 right_end : (len t i : ℕ) (S : List Cell) (G : List ℕ) (D : List Side) (a whole : ℤ) → length G ≤ t
     → a +ℤ right_sum (laid len (drop (t * len) S) (drop t G) (drop t D)) i ≡ whole → a ≡ whole
 right_end len t i S G D a whole le so_far =
     let none : drop t G ≡ [] = drop_all t G le in
-    let nothing : right_sum (laid len (drop (t * len) S) (drop t G) (drop t D)) i ≡ pos 0 = ap (λ (gs : List ℕ). right_sum (laid len (drop (t * len) S) gs (drop t D)) i) none in
+    let nothing : right_sum (laid len (drop (t * len) S) (drop t G) (drop t D)) i ≡ pos 0 =
+    ap (λ (gs : List ℕ). right_sum (laid len (drop (t * len) S) gs (drop t D)) i) none in
     omega (arith, ints, nothing, so_far)
 
 frame_is : (a b l r : ℤ) → a ≡ l → b ≡ r → limited a b ≡ limited l r
@@ -70,8 +78,10 @@ loop-t-init c =
     let zero_left = λ (k : ℕ) (lt : k < 256). nothing_in c.new-sums.result.left 256 k lt c.new-sums.ensures.left in
     let zero_right = λ (k : ℕ) (lt : k < 256). nothing_in c.new-sums.result.right 256 k lt c.new-sums.ensures.right in
     record {
-      left = λ k lt. left_start c.args.len (c.args.at + k) c.args.stretches.now c.args.gains.now c.args.sides.now _ _ (zero_both k (omega (arith, lt, c.requires.piece))) (zero_left k (omega (arith, lt, c.requires.piece)));
-      right = λ k lt. right_start c.args.len (c.args.at + k) c.args.stretches.now c.args.gains.now c.args.sides.now _ _ (zero_both k (omega (arith, lt, c.requires.piece))) (zero_right k (omega (arith, lt, c.requires.piece)));
+      left = λ k lt. left_start c.args.len (c.args.at + k) c.args.stretches.now c.args.gains.now c.args.sides.now _ _
+          (zero_both k (omega (arith, lt, c.requires.piece))) (zero_left k (omega (arith, lt, c.requires.piece)));
+      right = λ k lt. right_start c.args.len (c.args.at + k) c.args.stretches.now c.args.gains.now c.args.sides.now _ _
+          (zero_both k (omega (arith, lt, c.requires.piece))) (zero_right k (omega (arith, lt, c.requires.piece)));
       both_bound = λ k lt. omega (arith, ap nat_abs (zero_both k (omega (arith, lt, c.requires.piece))));
       left_bound = λ k lt. omega (arith, ap nat_abs (zero_left k (omega (arith, lt, c.requires.piece))));
       right_bound = λ k lt. omega (arith, ap nat_abs (zero_right k (omega (arith, lt, c.requires.piece))));
@@ -79,38 +89,58 @@ loop-t-init c =
 
 pub overflow_mul-from : goal.overflow_mul-from
 overflow_mul-from c =
-    let rows : (c.loop-t.t + 1) * c.args.len ≤ length c.args.gains.now * c.args.len = mul-le-mul_right c.args.len (omega (arith, c.loop-t-test.true)) in
+    let rows : (c.loop-t.t + 1) * c.args.len ≤ length c.args.gains.now * c.args.len =
+    mul-le-mul_right c.args.len (omega (arith, c.loop-t-test.true)) in
     omega (arith, rows, c.requires.stretches)
 
 pub overflow_add-from : goal.overflow_add-from
 overflow_add-from c =
-    let rows : (c.loop-t.t + 1) * c.args.len ≤ length c.args.gains.now * c.args.len = mul-le-mul_right c.args.len (omega (arith, c.loop-t-test.true)) in
+    let rows : (c.loop-t.t + 1) * c.args.len ≤ length c.args.gains.now * c.args.len =
+    mul-le-mul_right c.args.len (omega (arith, c.loop-t-test.true)) in
     omega (arith, rows, c.requires.stretches, c.requires.within)
 
 pub loop-t-preserved : goal.loop-t-preserved
 loop-t-preserved c =
     let from : ℕ = c.loop-t.t * c.args.len + c.args.at in
     let n : ℕ = length c.args.out.now in
-    let rows : (c.loop-t.t + 1) * c.args.len ≤ length c.args.gains.now * c.args.len = mul-le-mul_right c.args.len (omega (arith, c.loop-t-test.true)) in
+    let rows : (c.loop-t.t + 1) * c.args.len ≤ length c.args.gains.now * c.args.len =
+    mul-le-mul_right c.args.len (omega (arith, c.loop-t-test.true)) in
     let fits : from + n ≤ length c.args.stretches.now = omega (arith, rows, c.requires.stretches, c.requires.within) in
     let gain : ℕ = get_or c.args.gains.now c.loop-t.t 0 in
     record {
       left = λ k lt.
-          left_more c.args.len c.loop-t.t (c.args.at + k) (c.loop-t.t * c.args.len + (c.args.at + k)) c.args.stretches.now c.args.gains.now c.args.sides.now Gap Both _ _ _ _ c.loop-t-test.true c.requires.sides (omega (arith, lt, c.requires.within)) refl c.requires.stretches
-          (weighs_part gain from n k (c.loop-t.t * c.args.len + (c.args.at + k)) c.args.stretches.now lt (omega arith)) (c.loop-t.invariant.left k lt) (c.add.ensures.left k (within_part from n k c.args.stretches.now lt fits));
+          left_more c.args.len c.loop-t.t (c.args.at + k) (c.loop-t.t * c.args.len + (c.args.at + k))
+          c.args.stretches.now c.args.gains.now c.args.sides.now Gap Both _ _ _ _ c.loop-t-test.true
+          c.requires.sides (omega (arith, lt, c.requires.within)) refl c.requires.stretches
+          (weighs_part gain from n k (c.loop-t.t * c.args.len + (c.args.at + k)) c.args.stretches.now lt (omega arith))
+          (c.loop-t.invariant.left k lt) (c.add.ensures.left k (within_part from n k c.args.stretches.now lt fits));
       right = λ k lt.
-          right_more c.args.len c.loop-t.t (c.args.at + k) (c.loop-t.t * c.args.len + (c.args.at + k)) c.args.stretches.now c.args.gains.now c.args.sides.now Gap Both _ _ _ _ c.loop-t-test.true c.requires.sides (omega (arith, lt, c.requires.within)) refl c.requires.stretches
-          (weighs_part gain from n k (c.loop-t.t * c.args.len + (c.args.at + k)) c.args.stretches.now lt (omega arith)) (c.loop-t.invariant.right k lt) (c.add.ensures.right k (within_part from n k c.args.stretches.now lt fits));
-      both_bound = λ k lt. bound_more c.loop-t.t _ _ (c.add.ensures.both_bound k (within_part from n k c.args.stretches.now lt fits)) (c.loop-t.invariant.both_bound k lt);
-      left_bound = λ k lt. bound_more c.loop-t.t _ _ (c.add.ensures.left_bound k (within_part from n k c.args.stretches.now lt fits)) (c.loop-t.invariant.left_bound k lt);
-      right_bound = λ k lt. bound_more c.loop-t.t _ _ (c.add.ensures.right_bound k (within_part from n k c.args.stretches.now lt fits)) (c.loop-t.invariant.right_bound k lt);
+          right_more c.args.len c.loop-t.t (c.args.at + k) (c.loop-t.t * c.args.len + (c.args.at + k))
+          c.args.stretches.now c.args.gains.now c.args.sides.now Gap Both _ _ _ _ c.loop-t-test.true
+          c.requires.sides (omega (arith, lt, c.requires.within)) refl c.requires.stretches
+          (weighs_part gain from n k (c.loop-t.t * c.args.len + (c.args.at + k)) c.args.stretches.now lt (omega arith))
+          (c.loop-t.invariant.right k lt)
+          (c.add.ensures.right k (within_part from n k c.args.stretches.now lt fits));
+      both_bound = λ k lt.
+          bound_more c.loop-t.t _ _ (c.add.ensures.both_bound k (within_part from n k c.args.stretches.now lt fits))
+          (c.loop-t.invariant.both_bound k lt);
+      left_bound = λ k lt.
+          bound_more c.loop-t.t _ _ (c.add.ensures.left_bound k (within_part from n k c.args.stretches.now lt fits))
+          (c.loop-t.invariant.left_bound k lt);
+      right_bound = λ k lt.
+          bound_more c.loop-t.t _ _ (c.add.ensures.right_bound k (within_part from n k c.args.stretches.now lt fits))
+          (c.loop-t.invariant.right_bound k lt);
     }
 
 pub returns : goal.returns
 returns c =
     let P : Project = laid c.args.len c.args.stretches.now c.args.gains.now c.args.sides.now in
     let sums = c.loop-t.sums in
-    c.limit.ensures ∙ same_piece (frame_in sums.both sums.left sums.right) (frame_at P) c.args.at (length c.args.out.now) (λ k lt.
-    frame_is (sum_in sums.both k +ℤ sum_in sums.left k) (sum_in sums.both k +ℤ sum_in sums.right k) (left_sum P (c.args.at + k)) (right_sum P (c.args.at + k))
-    (left_end c.args.len c.loop-t.t (c.args.at + k) c.args.stretches.now c.args.gains.now c.args.sides.now _ _ (omega arith) (c.loop-t.invariant.left k lt))
-    (right_end c.args.len c.loop-t.t (c.args.at + k) c.args.stretches.now c.args.gains.now c.args.sides.now _ _ (omega arith) (c.loop-t.invariant.right k lt)))
+    c.limit.ensures ∙ same_piece (frame_in sums.both sums.left sums.right) (frame_at P) c.args.at
+    (length c.args.out.now) (λ k lt.
+    frame_is (sum_in sums.both k +ℤ sum_in sums.left k) (sum_in sums.both k +ℤ sum_in sums.right k)
+    (left_sum P (c.args.at + k)) (right_sum P (c.args.at + k))
+    (left_end c.args.len c.loop-t.t (c.args.at + k) c.args.stretches.now c.args.gains.now c.args.sides.now _ _
+    (omega arith) (c.loop-t.invariant.left k lt))
+    (right_end c.args.len c.loop-t.t (c.args.at + k) c.args.stretches.now c.args.gains.now c.args.sides.now _ _
+    (omega arith) (c.loop-t.invariant.right k lt)))

@@ -10,4 +10,5 @@ pub returns-in-Err-clause-sound : goal.returns-in-Err-clause-sound
 returns-in-Err-clause-sound g c = λ told there.
     let files : Files = g.S.Store.reads c.args.store.now in
     let F : List Piece → Type 0 = λ ps. IsFaultAmong files ps c.in-Err.fault in
-    sound_pieces files c.args.block.now.pieces c.in-Err.fault there (subst F c.as_slice.ensures (c.in-Err.ensures.damaged told))
+    sound_pieces files c.args.block.now.pieces c.in-Err.fault there
+    (subst F c.as_slice.ensures (c.in-Err.ensures.damaged told))

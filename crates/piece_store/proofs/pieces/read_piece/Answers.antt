@@ -19,7 +19,8 @@ returns-in_default-clause-read g c = λ told there.
     let T : Piece → Type 0 = IsThere files in
     let whole = subst T c.in-Old.is there in
     let size : length c.args.out.now ≡ c.in-Old.to - c.in-Old.from = c.requires.len ∙ ap piece_len c.in-Old.is in
-    old_read files b c.in-Old.from c.in-Old.to _ c.read_old.new.out ok.1 ok.2 size whole (λ xs e len. c.in_default.ensures.read xs told e len)
+    old_read files b c.in-Old.from c.in-Old.to _ c.read_old.new.out ok.1 ok.2 size whole
+    (λ xs e len. c.in_default.ensures.read xs told e len)
     ∙ ap (samples_of (sources_with files (brought c.args.given.now))) (sym c.in-Old.is)
 
 pub returns-in_default-read_old-clause-read : goal.returns-in_default-read_old-clause-read
@@ -30,9 +31,12 @@ returns-in_default-read_old-clause-read g c = λ told there.
     let ok = subst R c.in-Scaled.is c.requires.piece in
     let T : Piece → Type 0 = IsThere files in
     let whole = subst T c.in-Scaled.is there in
-    let size : length c.args.out.now ≡ c.in-Scaled.to - c.in-Scaled.from = c.requires.len ∙ ap piece_len c.in-Scaled.is in
+    let size : length c.args.out.now ≡ c.in-Scaled.to - c.in-Scaled.from =
+    c.requires.len ∙ ap piece_len c.in-Scaled.is in
     c.scale.ensures
-    ∙ ap (map (λ s. clamped (scaled c.in-Scaled.gain s))) (old_read files b c.in-Scaled.from c.in-Scaled.to _ c.read_old-in-Scaled.new.out ok.1 ok.2 size whole (λ xs e len. c.in_default-read_old.ensures.read xs told e len))
+    ∙ ap (map (λ s. clamped (scaled c.in-Scaled.gain s)))
+    (old_read files b c.in-Scaled.from c.in-Scaled.to _ c.read_old-in-Scaled.new.out ok.1 ok.2 size whole
+    (λ xs e len. c.in_default-read_old.ensures.read xs told e len))
     ∙ ap (samples_of (sources_with files (brought c.args.given.now))) (sym c.in-Scaled.is)
 
 pub returns-in-Zero-clause-kept : goal.returns-in-Zero-clause-kept

@@ -17,8 +17,12 @@ invariant-pieces g l = record {
   kept : Kept g.S.Store l.fn.store l.store;
   compared : IsTrue (g.S.Store.tells l.fn.store) → IsCompared (g.S.Store.reads l.fn.store) l.last;
   count : g.S.Store.read_fault_count l.store ≡ g.S.Store.read_fault_count l.fn.store;
-  rest_there : AllThere (g.S.Store.reads l.fn.store) l.pieces → AllThere (g.S.Store.reads l.fn.store) (drop l.piece-index l.pieces);
-  rest_fault : (why : BlockFault) → IsFaultAmong (g.S.Store.reads l.fn.store) (drop l.piece-index l.pieces) why → IsFaultAmong (g.S.Store.reads l.fn.store) l.pieces why;
+  rest_there : AllThere (g.S.Store.reads l.fn.store) l.pieces
+      → AllThere (g.S.Store.reads l.fn.store) (drop l.piece-index l.pieces);
+  rest_fault : (why : BlockFault) → IsFaultAmong (g.S.Store.reads l.fn.store) (drop l.piece-index l.pieces) why
+      → IsFaultAmong (g.S.Store.reads l.fn.store) l.pieces why;
   read : IsTrue (g.S.Store.tells l.fn.store) → AllThere (g.S.Store.reads l.fn.store) l.pieces
-      → take l.done l.out ++ all_samples (sources_with (g.S.Store.reads l.fn.store) (brought l.given)) (drop l.piece-index l.pieces) ≡ all_samples (sources_with (g.S.Store.reads l.fn.store) (brought l.given)) l.pieces;
+      → take l.done l.out
+      ++ all_samples (sources_with (g.S.Store.reads l.fn.store) (brought l.given)) (drop l.piece-index l.pieces)
+      ≡ all_samples (sources_with (g.S.Store.reads l.fn.store) (brought l.given)) l.pieces;
 }

@@ -4,4 +4,5 @@ use Rattle.pin_turn.specs.Calls.{known, IsOf}
 use Rattle.pin_turn.proofs.tests.write_all.Given as goal
 
 abbrev pub invariant-loop-count : goal.invariant-loop-count
-invariant-loop-count g l = IsOf l.turn l.seat × ((known l.seat).number ≡ (known l.fn.seat).number) × ((known l.seat).away ≡ (known l.fn.seat).away)
+invariant-loop-count g l = IsOf l.turn l.seat × ((known l.seat).number ≡ (known l.fn.seat).number)
+    × ((known l.seat).away ≡ (known l.fn.seat).away)

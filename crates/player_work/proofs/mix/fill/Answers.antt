@@ -26,11 +26,14 @@ returns-then-count-lt-BATCH_FRAMES g c =
     let unrefused = rw c.in-Ok.is at c.give_frames-what.ensures.unrefused in
     let back = c.finish.ensures.back in
     record {
-      sends = Sends-end _ _ _ _ c.loop.from c.in-Ok.count c.give_frames-what.new.out _ back.1 i.small limit i.gave c.send.ensures.sent bound (λ xs h. given xs ((i.same xs).0 h)) c.if-count-lt-BATCH_FRAMES.true c.finish.ensures.sent;
+      sends = Sends-end _ _ _
+          _ c.loop.from c.in-Ok.count c.give_frames-what.new.out _ back.1 i.small limit i.gave c.send.ensures.sent bound
+          (λ xs h. given xs ((i.same xs).0 h)) c.if-count-lt-BATCH_FRAMES.true c.finish.ensures.sent;
       same = λ all. rw back.0 (λ h. (same all).0 ((i.same all).0 h), λ h. (i.same all).1 ((same all).1 h));
       cause = rw (back.0, back.1) (unrefused ∙ i.unrefused);
       goes = λ first h. rw (back.0, back.1) (rw c.in-Ok.is at (c.give_frames-what.ensures.goes first (i.goes first h)));
-      ring = SameIn-trans c.args.input c.send.new.input c.finish.result.input (SameIn-trans c.args.input c.loop.input c.send.new.input i.ring c.send.ensures.ring) c.finish.ensures.ring;
+      ring = SameIn-trans c.args.input c.send.new.input c.finish.result.input
+          (SameIn-trans c.args.input c.loop.input c.send.new.input i.ring c.send.ensures.ring) c.finish.ensures.ring;
     }
 
 pub loop-preserved : goal.loop-preserved
@@ -43,7 +46,8 @@ loop-preserved g c =
     let wide : length c.give_frames-what.new.out ≡ 1024 = c.give_frames-what.auto.out ∙ i.wide in
     let full : c.in-Ok.count ≡ 1024 = omega (arith, bound, wide, c.if-count-lt-BATCH_FRAMES.false) in
     record {
-      gave = Gave-more _ _ _ c.loop.from c.in-Ok.count c.give_frames-what.new.out i.gave c.send.ensures.sent bound (λ xs h. given xs ((i.same xs).0 h)) full;
+      gave = Gave-more _ _ _ c.loop.from c.in-Ok.count c.give_frames-what.new.out i.gave c.send.ensures.sent bound
+          (λ xs h. given xs ((i.same xs).0 h)) full;
       same = λ all. (λ h. (same all).0 ((i.same all).0 h), λ h. (i.same all).1 ((same all).1 h));
       goes = λ first h. rw c.in-Ok.is at (c.give_frames-what.ensures.goes first (i.goes first h));
       unrefused = (rw c.in-Ok.is at c.give_frames-what.ensures.unrefused) ∙ i.unrefused;
@@ -63,6 +67,7 @@ returns-in-Err g c =
       sends = Sends-refused _ _ _ c.loop.from _ c.in-Err.reason back.1 i.small i.gave c.finish-in-Err.ensures.sent;
       same = λ all. rw back.0 (λ h. (same all).0 ((i.same all).0 h), λ h. (i.same all).1 ((same all).1 h));
       cause = rw (back.0, back.1) refusal;
-      goes = λ first h. rw (back.0, back.1) (rw c.in-Err.is at (c.give_frames-what.ensures.goes first (i.goes first h)));
+      goes =
+          λ first h. rw (back.0, back.1) (rw c.in-Err.is at (c.give_frames-what.ensures.goes first (i.goes first h)));
       ring = SameIn-trans c.args.input c.loop.input c.finish-in-Err.result.input i.ring c.finish-in-Err.ensures.ring;
     }

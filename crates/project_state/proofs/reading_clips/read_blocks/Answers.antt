@@ -15,7 +15,9 @@ returns-in_err-block c =
     let several = nat_lt 1 c.args.count in
     let at = c.args.at + 12 * c.loop-i.i in
     let before = c.loop-i.before in
-    let fails = step_fails (λ n. blocks_tests c.args.limits several n before at bytes) (λ n. blocks_tests c.args.limits several n (before + field (at + 8) 4 bytes) (at + 12) bytes) (block_tests c.args.limits several before at bytes) (λ j. refl)
+    let fails = step_fails (λ n. blocks_tests c.args.limits several n before at bytes)
+    (λ n. blocks_tests c.args.limits several n (before + field (at + 8) 4 bytes) (at + 12) bytes)
+    (block_tests c.args.limits several before at bytes) (λ j. refl)
     (c.args.count - c.loop-i.i) c.in_err-block.field-0.0 (omega (arith, c.loop-i-test.true)) c.in_err-block.ensures in
     rw (p.1, p.2) (sym c.loop-i.invariant.1 ∙ fails)
 
@@ -33,11 +35,15 @@ loop-i-preserved c =
     let some : 0 < n = omega (arith, c.loop-i-test.true) in
     let less : k ≡ n - 1 = omega arith in
     let behind : at + 12 ≡ next = omega arith in
-    let len : before + field (at + 8) 4 bytes ≡ before + block.len = ap (λ b. before + b.len) (sym c.in_ok-block.ensures.1) in
+    let len : before + field (at + 8) 4 bytes ≡ before + block.len =
+    ap (λ b. before + b.len) (sym c.in_ok-block.ensures.1) in
     let adds = step_adds (λ j. blocks_at j at bytes) (λ j. blocks_at j next bytes) block
-    (λ j. ap₂ (λ b a. b ∷ blocks_at j a bytes) (sym c.in_ok-block.ensures.1) behind) c.loop-i.blocks.items n k some less in
-    let passes = step_passes (λ j. blocks_tests l several j before at bytes) (λ j. blocks_tests l several j (before + block.len) next bytes) (block_tests l several before at bytes)
-    (λ j. ap₂ (λ b a. block_tests l several before at bytes ++ blocks_tests l several j b a bytes) len behind) n k some less c.in_ok-block.ensures.0 in
+    (λ j. ap₂ (λ b a. b ∷ blocks_at j a bytes) (sym c.in_ok-block.ensures.1) behind) c.loop-i.blocks.items n k some
+    less in
+    let passes = step_passes (λ j. blocks_tests l several j before at bytes)
+    (λ j. blocks_tests l several j (before + block.len) next bytes) (block_tests l several before at bytes)
+    (λ j. ap₂ (λ b a. block_tests l several before at bytes ++ blocks_tests l several j b a bytes) len behind) n k some
+    less c.in_ok-block.ensures.0 in
     let pass = all_pass (block_tests l several before at bytes) c.in_ok-block.ensures.0 in (
       ap (λ items. items ++ blocks_at k next bytes) c.in_ok-push.ensures.items ∙ adds ∙ c.loop-i.invariant.0,
       passes ∙ c.loop-i.invariant.1,

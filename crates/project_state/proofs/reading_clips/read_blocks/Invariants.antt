@@ -8,5 +8,6 @@ use Rattle.project_state.proofs.reading_clips.read_blocks.Given as goal
 abbrev pub invariant-loop-i : goal.invariant-loop-i
 invariant-loop-i l =
     (l.blocks.items ++ blocks_at (l.count - l.i) (l.at + 12 * l.i) l.bytes ≡ blocks_at l.count l.at l.bytes)
-    × (first_failed (blocks_tests l.limits (nat_lt 1 l.count) (l.count - l.i) l.before (l.at + 12 * l.i) l.bytes) ≡ first_failed (blocks_tests l.limits (nat_lt 1 l.count) l.count l.start l.at l.bytes))
+    × (first_failed (blocks_tests l.limits (nat_lt 1 l.count) (l.count - l.i) l.before (l.at + 12 * l.i) l.bytes)
+    ≡ first_failed (blocks_tests l.limits (nat_lt 1 l.count) l.count l.start l.at l.bytes))
     × (l.before ≤ 2 ^ 32)

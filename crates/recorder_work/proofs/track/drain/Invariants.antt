@@ -9,8 +9,10 @@ abbrev pub invariant-loop : goal.invariant-loop
 invariant-loop g l = record {
   chunks : List (List ℤ);
   so_far : received l.output ≡ numbered 0 chunks;
-  takes : Takes (g.T.PieceTaker.pieces l.fn.taker) (g.T.PieceTaker.pieces l.taker) (g.T.PieceTaker.refused l.taker) l.tally.numbers.items l.tally.samples l.tally.refused chunks;
-  goes : (first : g.row.T.Denot) → g.T.PieceTaker.follows first false l.fn.taker → g.T.PieceTaker.follows first (is_some (g.T.PieceTaker.refused l.taker)) l.taker;
+  takes : Takes (g.T.PieceTaker.pieces l.fn.taker) (g.T.PieceTaker.pieces l.taker)
+      (g.T.PieceTaker.refused l.taker) l.tally.numbers.items l.tally.samples l.tally.refused chunks;
+  goes : (first : g.row.T.Denot) → g.T.PieceTaker.follows first false l.fn.taker
+      → g.T.PieceTaker.follows first (is_some (g.T.PieceTaker.refused l.taker)) l.taker;
   ring : SameOut l.fn.output l.output;
   small : l.tally.samples ≤ 256 * length chunks;
 }

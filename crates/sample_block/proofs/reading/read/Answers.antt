@@ -10,7 +10,8 @@ use Rattle.sample_block.proofs.reading.read.Goals as goal
 -- the frames of the samples as they were read
 frames_read : (bytes : List ℕ) (xs : List ℤ) (n : ℕ) (r : Option Damaged) → xs ≡ samples_in bytes 16 n
     → difference bytes (16 + 2 * length xs) (level_fields 256 xs ++ level_fields 65536 xs) ≡ r
-    → difference bytes (16 + 2 * n) (level_fields 256 (samples_in bytes 16 n) ++ level_fields 65536 (samples_in bytes 16 n)) ≡ r
+    → difference bytes (16 + 2 * n)
+    (level_fields 256 (samples_in bytes 16 n) ++ level_fields 65536 (samples_in bytes 16 n)) ≡ r
 frames_read bytes xs n r e frames =
     let len : length xs ≡ n = ap length e ∙ length_samples bytes 16 n in
     ap (λ (ys : List ℤ). difference bytes (16 + 2 * n) (level_fields 256 ys ++ level_fields 65536 ys)) (sym e)
@@ -21,23 +22,28 @@ returns-in-Err-clause-exact c = front_found c.args.id c.args.len c.args.bytes.no
 
 pub check_frames-requires-clause-few : goal.check_frames-requires-clause-few
 check_frames-requires-clause-few c =
-    let len : length c.deref.result.now ≡ c.args.len = ap length (c.deref.ensures.value ∙ c.in-Ok.ensures) ∙ length_samples c.args.bytes.now 16 c.args.len in
+    let len : length c.deref.result.now ≡ c.args.len =
+    ap length (c.deref.ensures.value ∙ c.in-Ok.ensures) ∙ length_samples c.args.bytes.now 16 c.args.len in
     omega (arith, len, c.requires)
 
 pub check_frames-requires-clause-size : goal.check_frames-requires-clause-size
 check_frames-requires-clause-size c =
-    let len : length c.deref.result.now ≡ c.args.len = ap length (c.deref.ensures.value ∙ c.in-Ok.ensures) ∙ length_samples c.args.bytes.now 16 c.args.len in
+    let len : length c.deref.result.now ≡ c.args.len =
+    ap length (c.deref.ensures.value ∙ c.in-Ok.ensures) ∙ length_samples c.args.bytes.now 16 c.args.len in
     c.in_default.ensures.size ∙ ap size_of (sym len)
 
 pub returns-in-Err-check_frames-clause-exact : goal.returns-in-Err-check_frames-clause-exact
 returns-in-Err-check_frames-clause-exact c =
     let fit : IsBytes c.args.bytes.now = record { below = λ i. omega (arith, c.type_inv.bytes i) } in
     frames_found c.args.id c.args.len c.args.bytes.now _ fit c.in_default.ensures.size c.in_default.ensures.fields
-    (frames_read c.args.bytes.now c.deref.result.now c.args.len _ (c.deref.ensures.value ∙ c.in-Ok.ensures) c.in-Err-check_frames.ensures)
+    (frames_read c.args.bytes.now c.deref.result.now c.args.len _
+    (c.deref.ensures.value ∙ c.in-Ok.ensures) c.in-Err-check_frames.ensures)
 
 pub returns-clause-exact : goal.returns-clause-exact
 returns-clause-exact c =
     let fit : IsBytes c.args.bytes.now = record { below = λ i. omega (arith, c.type_inv.bytes i) } in
-    let none = frames_found c.args.id c.args.len c.args.bytes.now None fit c.in_default.ensures.size c.in_default.ensures.fields
-    (frames_read c.args.bytes.now c.deref.result.now c.args.len None (c.deref.ensures.value ∙ c.in-Ok.ensures) c.in_default-check_frames.ensures) in
+    let none = frames_found c.args.id c.args.len c.args.bytes.now None fit c.in_default.ensures.size
+    c.in_default.ensures.fields
+    (frames_read c.args.bytes.now c.deref.result.now c.args.len None
+    (c.deref.ensures.value ∙ c.in-Ok.ensures) c.in_default-check_frames.ensures) in
     (none, c.new.ensures ∙ c.in-Ok.ensures)

@@ -6,6 +6,9 @@ use Rattle.sample_block.proofs.reading.samples_of.Goals as goal
 
 pub returns : goal.returns
 returns c =
-    let len : length c.read_i16_into.new.dst ≡ c.args.count = omega (arith, c.as_mut_slice.ensures.len, c.in_ok-resize_with.ensures.len) in
-    let whole = samples_read c.args.bytes.now c.read_i16_into.new.dst c.args.count len c.requires c.read_i16_into.ensures in
-    take_at c.read_i16_into.new.dst (drop (length c.read_i16_into.new.dst) c.resize_with.new.self.items) c.resize_with.new.self.len (omega (arith, len, c.in_ok-resize_with.ensures.len)) ∙ whole
+    let len : length c.read_i16_into.new.dst ≡ c.args.count =
+    omega (arith, c.as_mut_slice.ensures.len, c.in_ok-resize_with.ensures.len) in
+    let whole =
+    samples_read c.args.bytes.now c.read_i16_into.new.dst c.args.count len c.requires c.read_i16_into.ensures in
+    take_at c.read_i16_into.new.dst (drop (length c.read_i16_into.new.dst) c.resize_with.new.self.items)
+    c.resize_with.new.self.len (omega (arith, len, c.in_ok-resize_with.ensures.len)) ∙ whole

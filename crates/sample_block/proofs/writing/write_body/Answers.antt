@@ -10,6 +10,7 @@ pub returns : goal.returns
 returns c =
     let front : c.write_i16_into.new.dst ≡ flat_map field_bytes (map sample_field c.args.samples.now) =
     c.write_i16_into.ensures ∙ sym (flat_map-map field_bytes sample_field c.args.samples.now) in
-    let all = flat_map-append field_bytes (map sample_field c.args.samples.now) (level_fields 256 c.args.samples.now ++ level_fields 65536 c.args.samples.now) in
+    let all = flat_map-append field_bytes (map sample_field c.args.samples.now)
+    (level_fields 256 c.args.samples.now ++ level_fields 65536 c.args.samples.now) in
     let rest = c.write_levels.ensures in
     grind (arith, common_steps, front, all, rest)

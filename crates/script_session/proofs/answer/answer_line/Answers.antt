@@ -9,5 +9,7 @@ returns-then-is_silent_line-clause-printed g c = λ s start lines part holds p.
 
 pub returns-clause-printed : goal.returns-clause-printed
 returns-clause-printed g c = λ s start lines part holds p.
-    Printed-answer s _ _ start _ _ _ _ c.write_answer-written.result lines part c.next_answer-answer.result (sym (c.if-is_silent_line.ensures part holds))
-    (c.next_answer-answer.ensures.answers part holds) c.write_answer-written.ensures.bytes c.next_answer-answer.ensures.no p
+    Printed-answer s _ _ start _ _ _ _ c.write_answer-written.result lines part c.next_answer-answer.result
+    (sym (c.if-is_silent_line.ensures part holds))
+    (c.next_answer-answer.ensures.answers part holds) c.write_answer-written.ensures.bytes
+    c.next_answer-answer.ensures.no p

@@ -5,5 +5,6 @@ use Rattle.script_session.proofs.read.end_line.Goals as goal
 
 pub returns-clause-goes : goal.returns-clause-goes
 returns-clause-goes g c = λ s start read going.
-    Going-lf s _ _ start _ _ _ _ _ _ c.answer_line.result (read ++ c.args.rest.now) (c.answer_line.ensures.printed s start) c.answer_line.ensures.cleared
+    Going-lf s _ _ start _ _ _ _ _ _ c.answer_line.result (read ++ c.args.rest.now)
+    (c.answer_line.ensures.printed s start) c.answer_line.ensures.cleared
     (Going-more s _ start _ _ _ _ read c.args.rest.now c.requires c.extend.ensures going)

@@ -7,9 +7,12 @@ use Rattle.script_session.proofs.read.read_script.Given as goal
 abbrev pub invariant-loop-total : goal.invariant-loop-total
 invariant-loop-total g l = record {
   goes : (s : Place) (start : Option (List ℕ)) →
-      Going s (g.E.Editor.place l.fn.session.editor) start (g.O.Sink.written l.fn.out) l.fn.session.line l.fn.session.refused [] →
-      Reading s (g.E.Editor.place l.session.editor) start (g.O.Sink.written l.out) (g.A.Source.left l.fn.script) (g.A.Source.left l.script) l.session.line l.session.refused l.total;
-  follows : (first : g.row.E.Denot) → g.E.Editor.follows first l.fn.session.editor → g.E.Editor.follows first l.session.editor;
+      Going s (g.E.Editor.place l.fn.session.editor) start
+      (g.O.Sink.written l.fn.out) l.fn.session.line l.fn.session.refused [] →
+      Reading s (g.E.Editor.place l.session.editor) start (g.O.Sink.written l.out) (g.A.Source.left l.fn.script)
+      (g.A.Source.left l.script) l.session.line l.session.refused l.total;
+  follows : (first : g.row.E.Denot) → g.E.Editor.follows first l.fn.session.editor
+      → g.E.Editor.follows first l.session.editor;
   bound : l.total ≤ 4294967296;
   source : g.A.Source.fault_count l.script ≡ g.A.Source.fault_count l.fn.script;
   sink : g.O.Sink.fault_count l.out ≡ g.O.Sink.fault_count l.fn.out;

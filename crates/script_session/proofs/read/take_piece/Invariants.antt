@@ -8,9 +8,12 @@ abbrev pub invariant-loop-len : goal.invariant-loop-len
 invariant-loop-len g l = record {
   bound : l.at ≤ length l.piece;
   goes : (s : Place) (start : Option (List ℕ)) (read : List ℕ) →
-      Going s (g.E.Editor.place l.fn.session.editor) start (g.O.Sink.written l.fn.out) l.fn.session.line l.fn.session.refused read →
-      Going s (g.E.Editor.place l.session.editor) start (g.O.Sink.written l.out) l.session.line l.session.refused (read ++ take l.at l.piece);
-  follows : (first : g.row.E.Denot) → g.E.Editor.follows first l.fn.session.editor → g.E.Editor.follows first l.session.editor;
+      Going s (g.E.Editor.place l.fn.session.editor) start
+      (g.O.Sink.written l.fn.out) l.fn.session.line l.fn.session.refused read →
+      Going s (g.E.Editor.place l.session.editor) start (g.O.Sink.written l.out) l.session.line l.session.refused
+      (read ++ take l.at l.piece);
+  follows : (first : g.row.E.Denot) → g.E.Editor.follows first l.fn.session.editor
+      → g.E.Editor.follows first l.session.editor;
   count : g.O.Sink.fault_count l.out ≡ g.O.Sink.fault_count l.fn.out;
 }
 

@@ -13,7 +13,9 @@ loop-column-preserved g c = record {
       let columns = c.args.columns.now in
       let so_far = take i columns in
       let one_more = flat_map_more column_text text so_far (get_or columns i None) in
-      let written = c.put_column.ensures.bytes start (text ++ flat_map column_text so_far) (c.loop-column.invariant.bytes start text said) in
-      rw (take_more columns i None c.loop-column-test.true) (subst (λ t. Said c.put_column.new.text start (g.O.Sink.written c.put_column.new.out) t) one_more written);
+      let written = c.put_column.ensures.bytes start (text ++ flat_map column_text so_far)
+      (c.loop-column.invariant.bytes start text said) in
+      rw (take_more columns i None c.loop-column-test.true)
+      (subst (λ t. Said c.put_column.new.text start (g.O.Sink.written c.put_column.new.out) t) one_more written);
   cause = λ before counted. c.put_column.ensures.cause before (c.loop-column.invariant.cause before counted);
 }

@@ -18,7 +18,9 @@ loop-track-preserved g c = record {
       let tracks = c.args.tracks.now in
       let so_far = take i tracks in
       let one_more = flat_map_more track_text text so_far (get_or tracks i none) in
-      let written = c.put_track.ensures.bytes start (text ++ flat_map track_text so_far) (c.loop-track.invariant.bytes start text said) in
-      rw (take_more tracks i none c.loop-track-test.true) (subst (λ t. Said c.put_track.new.text start (g.O.Sink.written c.put_track.new.out) t) one_more written);
+      let written = c.put_track.ensures.bytes start (text ++ flat_map track_text so_far)
+      (c.loop-track.invariant.bytes start text said) in
+      rw (take_more tracks i none c.loop-track-test.true)
+      (subst (λ t. Said c.put_track.new.text start (g.O.Sink.written c.put_track.new.out) t) one_more written);
   cause = λ before counted. c.put_track.ensures.cause before (c.loop-track.invariant.cause before counted);
 }

@@ -76,5 +76,6 @@ returns-in-Err g c = λ source.
         changed = e.changed;
         stays_honest = e.stays_honest;
       }),
-      refused_as _ _ _ c.refuse-in-Err.result c.call_fault-in-Err.ensures c.refuse-in-Err.ensures.printed c.refuse-in-Err.ensures.done,
+      refused_as _ _ _ c.refuse-in-Err.result c.call_fault-in-Err.ensures c.refuse-in-Err.ensures.printed
+          c.refuse-in-Err.ensures.done,
     )

@@ -9,7 +9,8 @@ pub returns-in-Err : goal.returns-in-Err
 returns-in-Err g c = λ source.
     let e = c.in-Err.ensures in record {
       answer = Err c.in-Err.fault;
-      created = subst (λ z. Created g.S.Store c.args.project c.args.store z (Err c.in-Err.fault)) (sym c.refuse.ensures.store)
+      created =
+          subst (λ z. Created g.S.Store c.args.project c.args.store z (Err c.in-Err.fault)) (sym c.refuse.ensures.store)
           (record {
             any_moment = e.any_moment;
             made = λ tells. tt;
@@ -27,7 +28,8 @@ pub returns-in-Ok : goal.returns-in-Ok
 returns-in-Ok g c = λ source.
     let e = c.in-Ok.ensures in record {
       answer = Ok tt;
-      created = subst (λ z. Created g.S.Store c.args.project c.args.store z (Ok tt)) (sym c.without_script.ensures.store)
+      created =
+          subst (λ z. Created g.S.Store c.args.project c.args.store z (Ok tt)) (sym c.without_script.ensures.store)
           (record {
             any_moment = e.any_moment;
             made = e.done;

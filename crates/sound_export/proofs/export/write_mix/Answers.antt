@@ -26,7 +26,8 @@ pub returns-in_err-start_sound-clause-kept : goal.returns-in_err-start_sound-cla
 returns-in_err-start_sound-clause-kept g c = kept_none _ (g.met.S.Store.may_fewer _)
 
 pub returns-in_err-start_sound-clause-whole : goal.returns-in_err-start_sound-clause-whole
-returns-in_err-start_sound-clause-whole g c = λ whole. stored_whole (g.S.Store.reads c.args.store.now) c.args.point.now whole
+returns-in_err-start_sound-clause-whole g c =
+    λ whole. stored_whole (g.S.Store.reads c.args.store.now) c.args.point.now whole
 
 pub returns-in_err-start_sound-clause-failed : goal.returns-in_err-start_sound-clause-failed
 returns-in_err-start_sound-clause-failed g c = λ told mine.
@@ -45,7 +46,8 @@ returns-in_err-start_sound-clause-failed g c = λ told mine.
     (c.in_err-start_sound.ensures.failed told)))
 
 pub returns-in_err-append_mix-clause-whole : goal.returns-in_err-append_mix-clause-whole
-returns-in_err-append_mix-clause-whole g c = λ whole. stored_whole (g.S.Store.reads c.args.store.now) c.args.point.now whole
+returns-in_err-append_mix-clause-whole g c =
+    λ whole. stored_whole (g.S.Store.reads c.args.store.now) c.args.point.now whole
 
 pub returns-in_err-append_mix-clause-failed : goal.returns-in_err-append_mix-clause-failed
 returns-in_err-append_mix-clause-failed g c = λ told mine.
@@ -70,13 +72,15 @@ pub returns-in_err-append_mix-clause-long : goal.returns-in_err-append_mix-claus
 returns-in_err-append_mix-clause-long g c =
     let p = err_from_is_err_and c.from_residual-in_err-append_mix.result c.from_residual-in_err-append_mix.ensures.1 in
     rw (p.1, p.2)
-    (device_fits (mix_length_of c.args.point.now) _ (omega (arith, c.mix_len-len.ensures.value)) c.in_err-append_mix.ensures.device)
+    (device_fits (mix_length_of c.args.point.now) _
+    (omega (arith, c.mix_len-len.ensures.value)) c.in_err-append_mix.ensures.device)
 
 pub returns-in_err-append_mix-clause-sound : goal.returns-in_err-append_mix-clause-sound
 returns-in_err-append_mix-clause-sound g c = λ mine whole.
     let p = err_from_is_err_and c.from_residual-in_err-append_mix.result c.from_residual-in_err-append_mix.ensures.1 in
     rw (p.1, p.2)
-    (no_damage (g.S.Store.reads c.args.store.now) (point_blocks c.args.point.now) _ whole (c.in_err-append_mix.ensures.damaged mine))
+    (no_damage (g.S.Store.reads c.args.store.now) (point_blocks c.args.point.now) _ whole
+    (c.in_err-append_mix.ensures.damaged mine))
 
 pub returns-clause-whole : goal.returns-clause-whole
 returns-clause-whole g c = λ whole. stored_whole (g.S.Store.reads c.args.store.now) c.args.point.now whole

@@ -1,5 +1,6 @@
 -- One stretch more is appended.
-use Rattle.std.proofs.Common.{◌≡◌, ℕ, ◌++◌, Bool, List, length, take, drop, min, ◌-◌, Some, refl, sym, ap, subst, ◌∙◌, arith, append-nil}
+use Rattle.std.proofs.Common.{◌≡◌, ℕ, ◌++◌, Bool, List, length, take, drop, min, ◌-◌, Some, refl, sym, ap, subst, ◌∙◌}
+use Rattle.std.proofs.Common.{arith, append-nil}
 use Rattle.std.specs.Prelude.{IsTrue}
 use Rattle.std.proofs.lemmas.List.{take_all}
 use Rattle.disk_model.specs.Disk.{Files}
@@ -28,10 +29,14 @@ stretches-init g c = record {
   count = refl;
   faults = refl;
   held = λ told mine.
-      let none : take 0 (stored_mix (g.S.Store.reads c.args.store.now) c.args.point.now) ≡ take c.new-reader.result.at (stored_mix (g.S.Store.reads c.args.store.now) c.args.point.now) =
-      ap (λ (n : ℕ). take n (stored_mix (g.S.Store.reads c.args.store.now) c.args.point.now)) (sym c.new-reader.ensures.place) in
-      c.requires.there told ∙ ap Some (sym (append-nil (sound_bytes (g.V.Vault.holds c.args.vault.now c.args.name.now))))
-      ∙ ap (λ (fs : List Frame). Some (sound_bytes (g.V.Vault.holds c.args.vault.now c.args.name.now) ++ frame_bytes fs)) none;
+      let none : take 0 (stored_mix (g.S.Store.reads c.args.store.now) c.args.point.now)
+      ≡ take c.new-reader.result.at (stored_mix (g.S.Store.reads c.args.store.now) c.args.point.now) =
+      ap (λ (n : ℕ). take n (stored_mix (g.S.Store.reads c.args.store.now) c.args.point.now))
+      (sym c.new-reader.ensures.place) in
+      c.requires.there told
+      ∙ ap Some (sym (append-nil (sound_bytes (g.V.Vault.holds c.args.vault.now c.args.name.now))))
+      ∙ ap (λ (fs : List Frame).
+      Some (sound_bytes (g.V.Vault.holds c.args.vault.now c.args.name.now) ++ frame_bytes fs)) none;
 }
 
 pub stretches-preserved : goal.stretches-preserved
@@ -44,24 +49,32 @@ stretches-preserved g c =
     let files : Files = g.S.Store.reads c.args.store.now in
     let T : Bool → Type 0 = λ b. IsTrue b in
     let left : n ≡ min (length c.stretches.frames) (mix_length_of ts - at) =
-    c.in_default.ensures.count ∙ ap (λ (us : List Track). min (length c.stretches.frames) (mix_length_of us - at)) inv.point in
+    c.in_default.ensures.count
+    ∙ ap (λ (us : List Track). min (length c.stretches.frames) (mix_length_of us - at)) inv.point in
     record {
       within = omega (arith, inv.within, left, c.in_default.ensures.place, c.requires.len);
       reader = c.append_stretch.ensures.reader;
       point = c.append_stretch.ensures.point ∙ inv.point;
       compared = λ mine.
-          subst (λ (f : Files). HasCompared f c.append_stretch.new.reader) inv.kept.same_reads (c.append_stretch.ensures.compared (subst T (sym inv.kept.same_tells) mine));
+          subst (λ (f : Files). HasCompared f c.append_stretch.new.reader) inv.kept.same_reads
+          (c.append_stretch.ensures.compared (subst T (sym inv.kept.same_tells) mine));
       tells = c.append_stretch.ensures.tells ∙ inv.tells;
-      others = λ told other differs. c.append_stretch.ensures.others (subst T (sym inv.tells) told) other differs ∙ inv.others told other differs;
+      others = λ told other differs. c.append_stretch.ensures.others (subst T (sym inv.tells) told) other differs
+          ∙ inv.others told other differs;
       kept = kept_turn inv.kept c.append_stretch.ensures.kept;
       count = c.in_default.ensures.faults.0 ∙ inv.count;
       faults = c.in_default.ensures.faults.1 ∙ inv.faults;
       held = λ told mine.
-          let P : Files → List Track → Type 0 = λ f us. g.V.Vault.holds c.append_stretch.new.vault name ≡ Some (sound_bytes (g.V.Vault.holds c.stretches.vault name) ++ frame_bytes (take n (drop at (stored_mix f us)))) in
-          let got = subst (λ (f : Files). P f c.stretches.reader.point.now) inv.kept.same_reads (c.in_default.ensures.appended (subst T (sym inv.tells) told) (subst T (sym inv.kept.same_tells) mine)) in
-          let Q : ℕ → Type 0 = λ k. g.V.Vault.holds c.append_stretch.new.vault name ≡ Some (sound_bytes (g.V.Vault.holds c.args.vault.now name) ++ frame_bytes (take k (stored_mix files ts))) in
+          let P : Files
+          → List Track → Type 0 = λ f us. g.V.Vault.holds c.append_stretch.new.vault name ≡ Some (sound_bytes
+          (g.V.Vault.holds c.stretches.vault name) ++ frame_bytes (take n (drop at (stored_mix f us)))) in
+          let got = subst (λ (f : Files). P f c.stretches.reader.point.now) inv.kept.same_reads
+          (c.in_default.ensures.appended (subst T (sym inv.tells) told) (subst T (sym inv.kept.same_tells) mine)) in
+          let Q : ℕ → Type 0 = λ k. g.V.Vault.holds c.append_stretch.new.vault name ≡ Some
+          (sound_bytes (g.V.Vault.holds c.args.vault.now name) ++ frame_bytes (take k (stored_mix files ts))) in
           subst Q (sym c.in_default.ensures.place)
-          (held_more (g.V.Vault.holds c.args.vault.now name) (g.V.Vault.holds c.stretches.vault name) (g.V.Vault.holds c.append_stretch.new.vault name) at n (stored_mix files ts) (inv.held told mine)
+          (held_more (g.V.Vault.holds c.args.vault.now name) (g.V.Vault.holds c.stretches.vault name)
+          (g.V.Vault.holds c.append_stretch.new.vault name) at n (stored_mix files ts) (inv.held told mine)
           (subst (P files) inv.point got));
     }
 
@@ -73,15 +86,21 @@ returns-in-Err-clause-failed g c = λ told mine.
     let at = c.stretches.reader.at in
     let files : Files = g.S.Store.reads c.args.store.now in
     let T : Bool → Type 0 = λ b. IsTrue b in
-    let P : Files → List Track → Type 0 = λ f us. (n : ℕ) × MayHaveGrown (frame_bytes (take n (drop at (stored_mix f us)))) (g.V.Vault.holds c.stretches.vault name) (g.V.Vault.holds c.append_stretch.new.vault name) in
-    let got = subst (λ (f : Files). P f c.stretches.reader.point.now) inv.kept.same_reads (c.in-Err.ensures.failed (subst T (sym inv.tells) told) (subst T (sym inv.kept.same_tells) mine)) in
+    let P : Files
+    → List Track → Type 0 = λ f us. (n : ℕ) × MayHaveGrown (frame_bytes (take n (drop at (stored_mix f us))))
+    (g.V.Vault.holds c.stretches.vault name) (g.V.Vault.holds c.append_stretch.new.vault name) in
+    let got = subst (λ (f : Files). P f c.stretches.reader.point.now) inv.kept.same_reads
+    (c.in-Err.ensures.failed (subst T (sym inv.tells) told) (subst T (sym inv.kept.same_tells) mine)) in
     let grown = subst (P files) inv.point got in
-    held_failed (g.V.Vault.holds c.args.vault.now name) (g.V.Vault.holds c.stretches.vault name) (g.V.Vault.holds c.append_stretch.new.vault name) at grown.0 (stored_mix files ts) (inv.held told mine) grown.1
+    held_failed (g.V.Vault.holds c.args.vault.now name) (g.V.Vault.holds c.stretches.vault name)
+    (g.V.Vault.holds c.append_stretch.new.vault name) at grown.0 (stored_mix files ts) (inv.held told mine) grown.1
 
 pub returns-clause-appended : goal.returns-clause-appended
 returns-clause-appended g c = λ told mine.
     let inv = c.stretches.invariant in
     let src = stored_of (g.S.Store.reads c.args.store.now) in
     let mix : List Frame = mix_of (meant src c.args.point.now) in
-    let all : take c.stretches.reader.at mix ≡ mix = take_all c.stretches.reader.at mix (omega (arith, length_mix (meant src c.args.point.now), c.requires.mix src)) in
-    inv.held told mine ∙ ap (λ (fs : List Frame). Some (sound_bytes (g.V.Vault.holds c.args.vault.now c.args.name.now) ++ frame_bytes fs)) all
+    let all : take c.stretches.reader.at mix ≡ mix = take_all c.stretches.reader.at mix
+    (omega (arith, length_mix (meant src c.args.point.now), c.requires.mix src)) in
+    inv.held told mine ∙ ap (λ (fs : List Frame).
+    Some (sound_bytes (g.V.Vault.holds c.args.vault.now c.args.name.now) ++ frame_bytes fs)) all

@@ -16,12 +16,14 @@ invariant-stretches g l = record {
   point : l.reader.point.now ≡ l.point;
   compared : IsTrue (g.S.Store.tells l.fn.store) → HasCompared (g.S.Store.reads l.fn.store) l.reader;
   tells : g.V.Vault.tells l.vault ≡ g.V.Vault.tells l.fn.vault;
-  others : IsTrue (g.V.Vault.tells l.fn.vault) → SameElsewhere l.name (g.V.Vault.holds l.fn.vault) (g.V.Vault.holds l.vault);
+  others : IsTrue (g.V.Vault.tells l.fn.vault)
+      → SameElsewhere l.name (g.V.Vault.holds l.fn.vault) (g.V.Vault.holds l.vault);
   kept : Kept g.S.Store l.fn.store l.store;
   count : g.S.Store.read_fault_count l.store ≡ g.S.Store.read_fault_count l.fn.store;
   faults : g.V.Vault.fault_count l.vault ≡ g.V.Vault.fault_count l.fn.vault;
   held : IsTrue (g.V.Vault.tells l.fn.vault) → IsTrue (g.S.Store.tells l.fn.store)
-      → g.V.Vault.holds l.vault l.name ≡ Some (sound_bytes (g.V.Vault.holds l.fn.vault l.name) ++ frame_bytes (take l.reader.at (stored_mix (g.S.Store.reads l.fn.store) l.point)));
+      → g.V.Vault.holds l.vault l.name ≡ Some (sound_bytes (g.V.Vault.holds l.fn.vault l.name)
+      ++ frame_bytes (take l.reader.at (stored_mix (g.S.Store.reads l.fn.store) l.point)));
 }
 
 abbrev pub decreases-stretches : goal.decreases-stretches

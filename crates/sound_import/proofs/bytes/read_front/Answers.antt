@@ -1,5 +1,6 @@
 -- One piece more is read.
-use Rattle.std.proofs.Common.{◌≡◌, ℕ, ◌+◌, ◌-◌, ◌++◌, Bool, List, length, take, drop, sym, subst, ◌∙◌, arith, length-drop}
+use Rattle.std.proofs.Common.{◌≡◌, ℕ, ◌+◌, ◌-◌, ◌++◌, Bool, List, length, take, drop, sym, subst, ◌∙◌, arith}
+use Rattle.std.proofs.Common.{length-drop}
 use Rattle.std.specs.Prelude.{IsTrue, min}
 use Rattle.std.proofs.lemmas.List.{length-take}
 use Rattle.pcm_base.specs.Outside.{Sounds}
@@ -23,10 +24,15 @@ pieces-preserved g c =
     let R : Sounds → Type 0 = λ s. c.read_at.new.buf ≡ take n (drop done (sound_bytes (s name))) ++ drop n part in
     record {
       within = omega (arith, c.in-Ok.ensures.within, size, inv.within, c.pieces.auto.out);
-      there = λ told. omega (arith, subst C inv.same (c.in-Ok.ensures.count (subst T (sym inv.tells) told)), inv.there told);
+      there = λ told. omega (
+        arith,
+        subst C inv.same (c.in-Ok.ensures.count (subst T (sym inv.tells) told)),
+        inv.there told,
+      );
       read = λ told.
           let count = subst C inv.same (c.in-Ok.ensures.count (subst T (sym inv.tells) told)) in
-          piece_more done n k out c.read_at.new.buf sound (drop n part) (omega (arith, inv.within, c.pieces.auto.out)) (omega (arith, count, inv.there told)) (inv.read told)
+          piece_more done n k out c.read_at.new.buf sound (drop n part) (omega (arith, inv.within, c.pieces.auto.out))
+          (omega (arith, count, inv.there told)) (inv.read told)
           (subst R inv.same (c.in-Ok.ensures.read (subst T (sym inv.tells) told)));
       same = c.read_at.ensures.same ∙ inv.same;
       tells = c.read_at.ensures.tells ∙ inv.tells;

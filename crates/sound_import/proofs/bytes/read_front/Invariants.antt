@@ -8,7 +8,8 @@ abbrev pub invariant-pieces : goal.invariant-pieces
 invariant-pieces g l = record {
   within : l.done ≤ length l.fn.out;
   there : IsTrue (g.V.Vault.tells l.fn.vault) → l.done ≤ length (sound_bytes (g.V.Vault.holds l.fn.vault l.name));
-  read : IsTrue (g.V.Vault.tells l.fn.vault) → take l.done l.out ≡ take l.done (sound_bytes (g.V.Vault.holds l.fn.vault l.name));
+  read : IsTrue (g.V.Vault.tells l.fn.vault)
+      → take l.done l.out ≡ take l.done (sound_bytes (g.V.Vault.holds l.fn.vault l.name));
   same : g.V.Vault.holds l.vault ≡ g.V.Vault.holds l.fn.vault;
   tells : g.V.Vault.tells l.vault ≡ g.V.Vault.tells l.fn.vault;
   faults : g.V.Vault.fault_count l.vault ≡ g.V.Vault.fault_count l.fn.vault;

@@ -14,19 +14,28 @@ refresh-requires-clause-before c = λ k lt.
     let all = c.self.invariant in
     let entries = c.self.inside.entries.items in
     let new : Entry = record { id = c.args.id; count = Some 1 } in
-    let gap : IsGap entries c.args.id c.args.i = subst (λ (k : Kept). IsGap k.entries c.args.id c.args.i) (sym c.self.view_is) c.requires.gap in
-    let spare : length entries < length c.self.inside.free = omega (arith, subst (λ (k : Kept). 0 < k.spare) (sym c.self.view_is) c.requires.room) in
-    let items : c.insert.new.self.items ≡ insert entries c.args.i new = c.insert.ensures.items ∙ cond-true (is_ok c.insert.result) _ _ (c.insert.ensures.succeeds (omega (arith, all.room, spare, c.self.inside.entries.ok.0))) in
-    leaves_before entries c.self.inside.free c.args.i new gap.within all.leaves k lt ∙ ap (λ (l : List Entry). get_or (map free_of l) k None) (sym (c.deref.ensures.value ∙ items))
+    let gap : IsGap entries c.args.id c.args.i =
+    subst (λ (k : Kept). IsGap k.entries c.args.id c.args.i) (sym c.self.view_is) c.requires.gap in
+    let spare : length entries < length c.self.inside.free =
+    omega (arith, subst (λ (k : Kept). 0 < k.spare) (sym c.self.view_is) c.requires.room) in
+    let items : c.insert.new.self.items ≡ insert entries c.args.i new =
+    c.insert.ensures.items ∙ cond-true (is_ok c.insert.result) _ _
+    (c.insert.ensures.succeeds (omega (arith, all.room, spare, c.self.inside.entries.ok.0))) in
+    leaves_before entries c.self.inside.free c.args.i new gap.within all.leaves k lt
+    ∙ ap (λ (l : List Entry). get_or (map free_of l) k None) (sym (c.deref.ensures.value ∙ items))
 
 pub invariant_of-self : goal.invariant_of-self
 invariant_of-self c =
     let all = c.self.invariant in
     let entries = c.self.inside.entries.items in
     let new : Entry = record { id = c.args.id; count = Some 1 } in
-    let gap : IsGap entries c.args.id c.args.i = subst (λ (k : Kept). IsGap k.entries c.args.id c.args.i) (sym c.self.view_is) c.requires.gap in
-    let spare : length entries < length c.self.inside.free = omega (arith, subst (λ (k : Kept). 0 < k.spare) (sym c.self.view_is) c.requires.room) in
-    let items : c.insert.new.self.items ≡ insert entries c.args.i new = c.insert.ensures.items ∙ cond-true (is_ok c.insert.result) _ _ (c.insert.ensures.succeeds (omega (arith, all.room, spare, c.self.inside.entries.ok.0))) in
+    let gap : IsGap entries c.args.id c.args.i =
+    subst (λ (k : Kept). IsGap k.entries c.args.id c.args.i) (sym c.self.view_is) c.requires.gap in
+    let spare : length entries < length c.self.inside.free =
+    omega (arith, subst (λ (k : Kept). 0 < k.spare) (sym c.self.view_is) c.requires.room) in
+    let items : c.insert.new.self.items ≡ insert entries c.args.i new =
+    c.insert.ensures.items ∙ cond-true (is_ok c.insert.result) _ _
+    (c.insert.ensures.succeeds (omega (arith, all.room, spare, c.self.inside.entries.ok.0))) in
     record {
       rising = subst IsRising (sym items) (rising_insert entries c.args.i new all.rising gap);
       leaves = subst (λ (l : List Entry). IsLeaves l c.refresh.new.free) c.deref.ensures.value c.refresh.ensures.leaves;

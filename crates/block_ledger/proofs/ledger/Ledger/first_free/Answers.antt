@@ -10,7 +10,8 @@ pub returns-clause-found : goal.returns-clause-found
 returns-clause-found c =
     let all = c.self.invariant in
     subst (λ (k : Kept). IfSome c.least.result (IsFirstFree (count_of k))) c.self.view_is
-    (first_found c.self.inside.entries.items c.self.inside.free c.least.result all.rising all.few all.leaves c.least.ensures.found c.least.ensures.least)
+    (first_found c.self.inside.entries.items c.self.inside.free c.least.result all.rising all.few all.leaves
+    c.least.ensures.found c.least.ensures.least)
 
 pub returns-clause-none : goal.returns-clause-none
 returns-clause-none c =

@@ -10,14 +10,23 @@ use Rattle.block_ledger.proofs.ledger.Ledger.named_len.Goals as goal
 
 pub overflow_add-named : goal.overflow_add-named
 overflow_add-named c =
-    omega (arith, c.loop-entry.invariant, passed_most is_named c.deref-entry-items.result.now c.loop-entry.entry-index, c.loop-entry-test.true, c.deref-entry-items.ensures.len, c.self.inside.entries.small)
+    omega (
+      arith,
+      c.loop-entry.invariant,
+      passed_most is_named c.deref-entry-items.result.now c.loop-entry.entry-index,
+      c.loop-entry-test.true,
+      c.deref-entry-items.ensures.len,
+      c.self.inside.entries.small,
+    )
 
 pub returns-clause-ids : goal.returns-clause-ids
 returns-clause-ids c =
     let entries = c.self.inside.entries.items in
-    let all = c.loop-entry.invariant ∙ ap (λ es. length (filter is_named es)) (take_all _ _ c.loop-entry-test.false ∙ c.deref-entry-items.ensures.value) in (
+    let all = c.loop-entry.invariant ∙ ap (λ es. length (filter is_named es))
+    (take_all _ _ c.loop-entry-test.false ∙ c.deref-entry-items.ensures.value) in (
       named_in entries,
-      subst (λ (k : Kept). AreNamed (count_of k) (named_in entries)) c.self.view_is (are_named entries c.self.invariant.rising),
+      subst (λ (k : Kept). AreNamed (count_of k) (named_in entries)) c.self.view_is
+          (are_named entries c.self.invariant.rising),
       omega (arith, all, length-map (filter is_named entries) id_of),
     )
 

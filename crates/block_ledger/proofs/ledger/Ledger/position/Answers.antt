@@ -9,12 +9,16 @@ use Rattle.block_ledger.proofs.ledger.Ledger.position.Goals as goal
 pub returns-clause-found : goal.returns-clause-found
 returns-clause-found c =
     let facts = c.binary_search_by_key.ensures in
-    subst (λ (l : List Entry). IfOk c.binary_search_by_key.result (IsAt l c.args.id)) (c.deref.ensures.value ∙ ap (λ (k : Kept). k.entries) c.self.view_is)
-    (found_at c.deref.result.now c.args.id c.binary_search_by_key.result facts.bound (facts.position (λ entry. entry.id) (answers_always _ _ _ (λ f a r g called. search rules))))
+    subst (λ (l : List Entry). IfOk c.binary_search_by_key.result (IsAt l c.args.id))
+    (c.deref.ensures.value ∙ ap (λ (k : Kept). k.entries) c.self.view_is)
+    (found_at c.deref.result.now c.args.id c.binary_search_by_key.result facts.bound
+    (facts.position (λ entry. entry.id) (answers_always _ _ _ (λ f a r g called. search rules))))
 
 pub returns-clause-absent : goal.returns-clause-absent
 returns-clause-absent c =
     let facts = c.binary_search_by_key.ensures in
-    subst (λ (l : List Entry). IfErr c.binary_search_by_key.result (IsGap l c.args.id)) (c.deref.ensures.value ∙ ap (λ (k : Kept). k.entries) c.self.view_is)
-    (gap_at c.deref.result.now c.args.id c.binary_search_by_key.result (subst IsRising (sym c.deref.ensures.value) c.self.invariant.rising) facts.bound
+    subst (λ (l : List Entry). IfErr c.binary_search_by_key.result (IsGap l c.args.id))
+    (c.deref.ensures.value ∙ ap (λ (k : Kept). k.entries) c.self.view_is)
+    (gap_at c.deref.result.now c.args.id c.binary_search_by_key.result
+    (subst IsRising (sym c.deref.ensures.value) c.self.invariant.rising) facts.bound
     (facts.position (λ entry. entry.id) (answers_always _ _ _ (λ f a r g called. search rules))))

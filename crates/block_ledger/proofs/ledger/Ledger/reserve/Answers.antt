@@ -15,12 +15,16 @@ places_for-requires c = omega (arith, c.kept_len.ensures.most, c.deref.ensures.l
 pub invariant_of-self : goal.invariant_of-self
 invariant_of-self c =
     let entries = c.self.inside.entries.items in
-    let kept : c.in_ok-entries.entries.items ≡ filter is_kept entries = c.in_ok-entries.ensures.items ∙ ap (filter is_kept) c.deref-2.ensures.value in
-    let long : length c.refresh.new.free ≡ c.in_ok-places.places = c.refresh.ensures.len ∙ ap length c.in_ok-free.ensures ∙ length-replicate {A = Option ℕ} c.in_ok-places.places None in
-    let there : c.kept_len.result ≡ length (filter is_kept entries) = c.kept_len.ensures.value ∙ ap (λ es. length (filter is_kept es)) c.deref.ensures.value in
+    let kept : c.in_ok-entries.entries.items ≡ filter is_kept entries =
+    c.in_ok-entries.ensures.items ∙ ap (filter is_kept) c.deref-2.ensures.value in
+    let long : length c.refresh.new.free ≡ c.in_ok-places.places = c.refresh.ensures.len
+    ∙ ap length c.in_ok-free.ensures ∙ length-replicate {A = Option ℕ} c.in_ok-places.places None in
+    let there : c.kept_len.result ≡ length (filter is_kept entries) =
+    c.kept_len.ensures.value ∙ ap (λ es. length (filter is_kept es)) c.deref.ensures.value in
     record {
       rising = subst IsRising (sym kept) (rising_filter is_kept entries c.self.invariant.rising);
-      leaves = subst (λ (l : List Entry). IsLeaves l c.refresh.new.free) c.deref-3.ensures.value c.refresh.ensures.leaves;
+      leaves =
+          subst (λ (l : List Entry). IsLeaves l c.refresh.new.free) c.deref-3.ensures.value c.refresh.ensures.leaves;
       few = omega (arith, long, ap length kept, there, c.in_ok-places.ensures.0);
       room = omega (arith, long, c.in_ok-entries.ensures.room);
     }
@@ -28,19 +32,34 @@ invariant_of-self c =
 pub returns-clause-counts : goal.returns-clause-counts
 returns-clause-counts c = λ id.
     let entries = c.self.inside.entries.items in
-    let kept : c.in_ok-entries.entries.items ≡ filter is_kept entries = c.in_ok-entries.ensures.items ∙ ap (filter is_kept) c.deref-2.ensures.value in
-    ap (λ (l : List Entry). count_in l id) kept ∙ count_filter entries id c.self.invariant.rising ∙ ap (λ (k : Kept). count_of k id) c.self.view_is
+    let kept : c.in_ok-entries.entries.items ≡ filter is_kept entries =
+    c.in_ok-entries.ensures.items ∙ ap (filter is_kept) c.deref-2.ensures.value in
+    ap (λ (l : List Entry). count_in l id) kept ∙ count_filter entries id c.self.invariant.rising
+    ∙ ap (λ (k : Kept). count_of k id) c.self.view_is
 
 pub returns-clause-places : goal.returns-clause-places
 returns-clause-places c = λ few.
     let entries = c.self.inside.entries.items in
-    let kept : c.in_ok-entries.entries.items ≡ filter is_kept entries = c.in_ok-entries.ensures.items ∙ ap (filter is_kept) c.deref-2.ensures.value in
-    let long : length c.refresh.new.free ≡ c.in_ok-places.places = c.refresh.ensures.len ∙ ap length c.in_ok-free.ensures ∙ length-replicate {A = Option ℕ} c.in_ok-places.places None in
-    let there : c.kept_len.result ≡ length (filter is_kept entries) = c.kept_len.ensures.value ∙ ap (λ es. length (filter is_kept es)) c.deref.ensures.value in
-    let rising : IsRising c.in_ok-entries.entries.items = subst IsRising (sym kept) (rising_filter is_kept entries c.self.invariant.rising) in
-    let all_kept : length (filter is_kept c.in_ok-entries.entries.items) ≡ length (filter is_kept entries) = ap (λ es. length (filter is_kept es)) kept ∙ ap length (filter_twice is_kept entries) in
+    let kept : c.in_ok-entries.entries.items ≡ filter is_kept entries =
+    c.in_ok-entries.ensures.items ∙ ap (filter is_kept) c.deref-2.ensures.value in
+    let long : length c.refresh.new.free ≡ c.in_ok-places.places = c.refresh.ensures.len
+    ∙ ap length c.in_ok-free.ensures ∙ length-replicate {A = Option ℕ} c.in_ok-places.places None in
+    let there : c.kept_len.result ≡ length (filter is_kept entries) =
+    c.kept_len.ensures.value ∙ ap (λ es. length (filter is_kept es)) c.deref.ensures.value in
+    let rising : IsRising c.in_ok-entries.entries.items =
+    subst IsRising (sym kept) (rising_filter is_kept entries c.self.invariant.rising) in
+    let all_kept : length (filter is_kept c.in_ok-entries.entries.items) ≡ length (filter is_kept entries) =
+    ap (λ es. length (filter is_kept es)) kept ∙ ap length (filter_twice is_kept entries) in
     record {
       ids = there_in c.in_ok-entries.entries.items;
       there = are_there c.in_ok-entries.entries.items rising;
-      size = omega (arith, long, ap length kept, there, c.in_ok-places.ensures.0, length-map (filter is_kept c.in_ok-entries.entries.items) id_of, all_kept);
+      size = omega (
+        arith,
+        long,
+        ap length kept,
+        there,
+        c.in_ok-places.ensures.0,
+        length-map (filter is_kept c.in_ok-entries.entries.items) id_of,
+        all_kept,
+      );
     }

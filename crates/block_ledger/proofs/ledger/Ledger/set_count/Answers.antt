@@ -16,12 +16,16 @@ invariant_of-self c =
     let i = c.args.i in
     let new : Entry = record { id = c.index_mut.result.now.id; count = c.args.count } in
     let within : i < length entries = subst (λ (k : Kept). i < length k.entries) (sym c.self.view_is) c.requires in
-    let same : new.id ≡ id_at entries i = ap id_of (get_or_read entries i c.index_mut.result.now within c.index_mut.ensures.value no_entry) ∙ sym (id_at_is entries i) in
-    let read : c.free_id.result ≡ free_of new = c.free_id.ensures ∙ ap free_of (c.index.ensures ∙ get_or-set_same entries i new c.index.result.now within) in
+    let same : new.id ≡ id_at entries i =
+    ap id_of (get_or_read entries i c.index_mut.result.now within c.index_mut.ensures.value no_entry)
+    ∙ sym (id_at_is entries i) in
+    let read : c.free_id.result ≡ free_of new =
+    c.free_id.ensures ∙ ap free_of (c.index.ensures ∙ get_or-set_same entries i new c.index.result.now within) in
     let leaf : c.set.new.self ≡ set free i (free_of new) = c.set.ensures ∙ ap (set free i) read in
     record {
       rising = rising_set entries i new all.rising within same;
-      leaves = subst (IsLeaves (set entries i new)) (sym leaf) (leaves_set entries free i new within all.few all.leaves);
+      leaves =
+          subst (IsLeaves (set entries i new)) (sym leaf) (leaves_set entries free i new within all.few all.leaves);
       few = omega (arith, all.few, length-set entries i new, ap length leaf, length-set free i (free_of new));
       room = omega (arith, all.room, ap length leaf, length-set free i (free_of new));
     }

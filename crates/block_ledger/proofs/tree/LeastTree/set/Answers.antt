@@ -13,9 +13,12 @@ loop-node-preserved c =
     let i = c.loop-node.node / 2 in
     let least : 1 ≤ i = omega (arith, c.loop-node-test.true) in
     let inner : i < leaves = omega (arith, all.2) in
-    let left : c.index.result.now ≡ node nodes (2 * i) = get_or_read nodes (2 * i) c.index.result.now (omega (arith, inner, all.3)) c.index.ensures None in
-    let right : c.index-in-loop-node.result.now ≡ node nodes (2 * i + 1) = get_or_read nodes (2 * i + 1) c.index-in-loop-node.result.now (omega (arith, inner, all.3)) c.index-in-loop-node.ensures None in
-    let is = c.lesser.ensures ∙ ap (λ (o : Option ℕ). lesser o c.index-in-loop-node.result.now) left ∙ ap (λ (o : Option ℕ). lesser (node nodes (2 * i)) o) right in (
+    let left : c.index.result.now ≡ node nodes (2 * i) =
+    get_or_read nodes (2 * i) c.index.result.now (omega (arith, inner, all.3)) c.index.ensures None in
+    let right : c.index-in-loop-node.result.now ≡ node nodes (2 * i + 1) = get_or_read nodes
+    (2 * i + 1) c.index-in-loop-node.result.now (omega (arith, inner, all.3)) c.index-in-loop-node.ensures None in
+    let is = c.lesser.ensures ∙ ap (λ (o : Option ℕ). lesser o c.index-in-loop-node.result.now) left
+    ∙ ap (λ (o : Option ℕ). lesser (node nodes (2 * i)) o) right in (
       all.0,
       least,
       omega (arith, inner),

@@ -6,5 +6,7 @@ use Rattle.block_ledger.proofs.tree.LeastTree.with_leaves.Goals as goal
 pub returns : goal.returns
 returns c =
     let twice : 2 * c.args.leaves ≡ c.args.leaves + c.args.leaves = omega arith in
-    let made : c.resize.new.self.items ≡ replicate {A = Option ℕ} (2 * c.args.leaves) None = grind (arith, c.in_ok-resize.ensures.items, c.new-nodes.ensures.items, c.new-nodes.ensures.len) in
-    ap (drop c.args.leaves) (made ∙ ap (λ (n : ℕ). replicate {A = Option ℕ} n None) twice) ∙ drop_replicate c.args.leaves c.args.leaves None
+    let made : c.resize.new.self.items ≡ replicate {A = Option ℕ} (2 * c.args.leaves) None =
+    grind (arith, c.in_ok-resize.ensures.items, c.new-nodes.ensures.items, c.new-nodes.ensures.len) in
+    ap (drop c.args.leaves) (made ∙ ap (λ (n : ℕ). replicate {A = Option ℕ} n None) twice)
+    ∙ drop_replicate c.args.leaves c.args.leaves None

@@ -5,4 +5,5 @@ use Rattle.block_sequence.proofs.Whole.{length-blocks}
 use Rattle.block_sequence.proofs.seq.Sequence.len.Goals as goal
 
 pub returns-clause-samples : goal.returns-clause-samples
-returns-clause-samples c src = length-blocks src c.args.self.now ∙ sym (ap blocks_len c.self.view_is) ∙ c.self.invariant.same_len
+returns-clause-samples c src =
+    length-blocks src c.args.self.now ∙ sym (ap blocks_len c.self.view_is) ∙ c.self.invariant.same_len

@@ -8,14 +8,21 @@ use Rattle.block_sequence.proofs.Whole.{total_whole, samples_whole, valid_whole}
 use Rattle.block_sequence.proofs.seq.Sequence.slice.Goals as goal
 
 pub cut_off-requires-clause-valid : goal.cut_off-requires-clause-valid
-cut_off-requires-clause-valid c = rw (c.as_slice-2.ensures.value, c.in_ok-pieces.ensures, c.as_slice.ensures.value) (valid_whole _ c.self.invariant.none_empty)
+cut_off-requires-clause-valid c = rw (c.as_slice-2.ensures.value, c.in_ok-pieces.ensures, c.as_slice.ensures.value)
+    (valid_whole _ c.self.invariant.none_empty)
 
 pub cut_off-requires-clause-small : goal.cut_off-requires-clause-small
-cut_off-requires-clause-small c = rw (c.as_slice-2.ensures.value, c.in_ok-pieces.ensures, c.as_slice.ensures.value, total_whole) (omega (arith, c.self.invariant))
+cut_off-requires-clause-small c = rw (
+  c.as_slice-2.ensures.value,
+  c.in_ok-pieces.ensures,
+  c.as_slice.ensures.value,
+  total_whole,
+) (omega (arith, c.self.invariant))
 
 pub cut_off-requires-clause-within : goal.cut_off-requires-clause-within
 cut_off-requires-clause-within c =
-    rw (c.as_slice-2.ensures.value, c.in_ok-pieces.ensures, c.as_slice.ensures.value, total_whole, c.self.view_is) (omega arith)
+    rw (c.as_slice-2.ensures.value, c.in_ok-pieces.ensures, c.as_slice.ensures.value, total_whole, c.self.view_is)
+    (omega arith)
 
 pub returns-clause-samples : goal.returns-clause-samples
 returns-clause-samples c src =

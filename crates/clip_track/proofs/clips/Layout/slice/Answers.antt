@@ -11,15 +11,23 @@ pub from_items-requires-clause-ok : goal.from_items-requires-clause-ok
 from_items-requires-clause-ok c =
     let l : IsLayout c.args.self.now = subst IsLayout c.self.view_is c.self.invariant in
     let items = items_from 0 c.args.self.now in
-    let made = c.in_ok-items.ensures ∙ ap (part_items 0 (c.args.to - c.args.from)) c.rest-rest.ensures.items ∙ part_after c.args.from (c.args.to - c.args.from) items in
-    subst AreItems (sym made) (AreItems-part c.args.from (c.args.to - c.args.from) items (AreItems-items 0 0 c.args.self.now l.apart))
+    let made = c.in_ok-items.ensures ∙ ap (part_items 0 (c.args.to - c.args.from)) c.rest-rest.ensures.items
+    ∙ part_after c.args.from (c.args.to - c.args.from) items in
+    subst AreItems (sym made)
+    (AreItems-part c.args.from (c.args.to - c.args.from) items (AreItems-items 0 0 c.args.self.now l.apart))
 
 pub from_items-requires-clause-room : goal.from_items-requires-clause-room
 from_items-requires-clause-room c =
     let l : IsLayout c.args.self.now = subst IsLayout c.self.view_is c.self.invariant in
     let items = items_from 0 c.args.self.now in
-    let made = c.in_ok-items.ensures ∙ ap (part_items 0 (c.args.to - c.args.from)) c.rest-rest.ensures.items ∙ part_after c.args.from (c.args.to - c.args.from) items in
-    let len = ap strip_len made ∙ strip_len-part c.args.from (c.args.to - c.args.from) items (omega (arith, strip_len-items 0 0 c.args.self.now (omega arith) l.apart, c.requires.rising, c.requires.within)) in
+    let made = c.in_ok-items.ensures ∙ ap (part_items 0 (c.args.to - c.args.from)) c.rest-rest.ensures.items
+    ∙ part_after c.args.from (c.args.to - c.args.from) items in
+    let len = ap strip_len made ∙ strip_len-part c.args.from (c.args.to - c.args.from) items (omega (
+      arith,
+      strip_len-items 0 0 c.args.self.now (omega arith) l.apart,
+      c.requires.rising,
+      c.requires.within,
+    )) in
     omega (arith, len, c.ranges.to.fits)
 
 pub returns-clause-items : goal.returns-clause-items
@@ -41,9 +49,11 @@ returns-clause-len c =
     let l : IsLayout c.args.self.now = subst IsLayout c.self.view_is c.self.invariant in
     let items = items_from 0 c.args.self.now in
     ap strip_len (returns-clause-items c)
-    ∙ strip_len-part c.args.from (c.args.to - c.args.from) items (omega (arith, strip_len-items 0 0 c.args.self.now (omega arith) l.apart, c.requires.rising, c.requires.within))
+    ∙ strip_len-part c.args.from (c.args.to - c.args.from) items
+    (omega (arith, strip_len-items 0 0 c.args.self.now (omega arith) l.apart, c.requires.rising, c.requires.within))
 
 pub returns-clause-fit : goal.returns-clause-fit
 returns-clause-fit c m h =
     subst (ItemsFit m) (sym (returns-clause-items c))
-    (ItemsFit-part m c.args.from (c.args.to - c.args.from) (items_from 0 c.args.self.now) (ItemsFit-items m 0 c.args.self.now h))
+    (ItemsFit-part m c.args.from (c.args.to - c.args.from) (items_from 0 c.args.self.now)
+    (ItemsFit-items m 0 c.args.self.now h))

@@ -10,7 +10,8 @@ pub returns-in-0-clause-result : goal.returns-in-0-clause-result
 returns-in-0-clause-result c = sym (ap (λ (k : ℕ). takes k (next_state c.args.self.now.state)) c.in-0.is ∙ takes_all _)
 
 pub returns-in-1-clause-result : goal.returns-in-1-clause-result
-returns-in-1-clause-result c = sym (ap (λ (k : ℕ). takes k (next_state c.args.self.now.state)) c.in-1.is ∙ takes_nothing _)
+returns-in-1-clause-result c =
+    sym (ap (λ (k : ℕ). takes k (next_state c.args.self.now.state)) c.in-1.is ∙ takes_nothing _)
 
 pub returns-in_default-clause-result : goal.returns-in_default-clause-result
 unfolding takes

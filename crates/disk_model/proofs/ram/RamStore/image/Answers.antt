@@ -20,7 +20,9 @@ returns-clause-nothing c = λ one.
 
 pub returns-clause-left : goal.returns-clause-left
 returns-clause-left c = subst (λ (f : Files). IsImage c.args.self.now.log.history f)
-    (sym (c.in_ok-log.ensures.reads ∙ ap (λ (r : Ram). image_of c.args.choice r.log.history) c.self.view_is)) (image_is_image c.args.choice c.args.self.now.log.history)
+    (sym (c.in_ok-log.ensures.reads ∙ ap (λ (r : Ram). image_of c.args.choice r.log.history) c.self.view_is))
+    (image_is_image c.args.choice c.args.self.now.log.history)
 
 pub returns-clause-may_be_left : goal.returns-clause-may_be_left
-returns-clause-may_be_left c = image_since c.args.self.now.log.history (length c.args.self.now.log.history) _ (returns-clause-left c)
+returns-clause-may_be_left c =
+    image_since c.args.self.now.log.history (length c.args.self.now.log.history) _ (returns-clause-left c)

@@ -9,8 +9,10 @@ pub returns-then-count_write-clause-images : goal.returns-then-count_write-claus
 returns-then-count_write-clause-images c = write_same _ _ _ _ _ (ap (λ (r : Ram). r.log.history) c.self.view_is)
 
 pub returns-in-Err-clause-images : goal.returns-in-Err-clause-images
-returns-in-Err-clause-images c = write_same _ _ _ _ _ (ap (λ (l : Log). l.history) c.in-Err.ensures.err ∙ ap (λ (r : Ram). r.log.history) c.self.view_is)
+returns-in-Err-clause-images c = write_same _ _ _ _ _
+    (ap (λ (l : Log). l.history) c.in-Err.ensures.err ∙ ap (λ (r : Ram). r.log.history) c.self.view_is)
 
 pub returns-in-Ok-clause-images : goal.returns-in-Ok-clause-images
 returns-in-Ok-clause-images c = write_more c.args.file c.args.at c.args.bytes.now _ _
-    (ap (λ (l : Log). l.history) c.in-Ok.ensures.ok ∙ ap (λ (r : Ram). Wrote c.args.file c.args.at c.args.bytes.now ∷ r.log.history) c.self.view_is)
+    (ap (λ (l : Log). l.history) c.in-Ok.ensures.ok
+    ∙ ap (λ (r : Ram). Wrote c.args.file c.args.at c.args.bytes.now ∷ r.log.history) c.self.view_is)

@@ -1,5 +1,6 @@
 -- A track for each channel is a step.
-use Rattle.std.proofs.Common.{◌≡◌, ◌∙◌, refl, sym, ap, subst, ℕ, ◌+◌, IfErr, Option, Some, None, List, length, map, Err, arith}
+use Rattle.std.proofs.Common.{◌≡◌, ◌∙◌, refl, sym, ap, subst, ℕ, ◌+◌, IfErr, Option, Some, None, List, length, map, Err}
+use Rattle.std.proofs.Common.{arith}
 use Rattle.std.proofs.lemmas.Result.{err_from_is_err_and}
 use Rattle.pcm_base.specs.declared.answer.Reply.TheVariants as reply
 use Rattle.pcm_base.specs.declared.command.Call.TheVariants.{Line}
@@ -14,11 +15,16 @@ use Rattle.sound_import.specs.declared.fault.ImportFault.TheVariants.{NoMemory}
 use Rattle.editor_core.specs.Applied.{Lasts}
 use Rattle.editor_core.specs.Core.{core_of}
 use Rattle.editor_core.specs.Edits.{IsEdit, IsPlanned, clip_then}
-use Rattle.editor_core.specs.Imports.{IsChannelsPlan, IsNoVault, NoChannelsPlan, all_of, channels_refusal, left_as, total_of}
+use Rattle.editor_core.specs.Imports.{IsChannelsPlan, IsNoVault, NoChannelsPlan, all_of, channels_refusal, left_as}
+use Rattle.editor_core.specs.Imports.{total_of}
 use Rattle.editor_core.specs.Points.{current_tracks}
 use Rattle.editor_core.specs.Took.{Took, told_by}
 use Rattle.editor_core.proofs.Applying.{lasts_idle}
-use Rattle.editor_core.proofs.ChannelLaws.{all_length, channels_edit, channels_plain, channels_planned, channels_refused, channels_tell, channels_unplanned, no_plan_plain, no_plan_tells_both, placed}
+use Rattle.editor_core.proofs.ChannelLaws.{all_length, channels_plain}
+use Rattle.editor_core.proofs.ChannelSteps.{channels_edit, channels_planned}
+use Rattle.editor_core.proofs.ChannelLaws.{channels_tell, no_plan_plain}
+use Rattle.editor_core.proofs.ChannelSteps.{channels_refused, channels_unplanned}
+use Rattle.editor_core.proofs.ChannelLaws.{no_plan_tells_both, placed}
 use Rattle.editor_core.proofs.ImportRefused.{import_refused}
 use Rattle.editor_core.proofs.ImportTests.{channels_pass}
 use Rattle.editor_core.proofs.studio.Studio.add_channels.Goals as goal
@@ -29,15 +35,19 @@ pub returns-in_err-counts-clause-took : goal.returns-in_err-counts-clause-took
 returns-in_err-counts-clause-took g c = λ name sound has.
     let s = core_of c.args.self.now in
     let r = err_from_is_err_and c.from_residual.result c.from_residual.ensures.1 in
-    subst (λ x. Took g.S.Store s (Line (command.Import name)) (left_as sound) (told_by (λ (n : ℕ). reply.Done) x) 0 s) (sym (r.1 ∙ ap Err r.2))
-    (import_refused g.S.Store s c.requires.studio (g.met.S.Store.may_fewer s.store) name sound c.requires.going NoMemory tt)
+    subst (λ x. Took g.S.Store s (Line (command.Import name)) (left_as sound) (told_by (λ (n : ℕ). reply.Done) x) 0 s)
+    (sym (r.1 ∙ ap Err r.2))
+    (import_refused g.S.Store s c.requires.studio
+    (g.met.S.Store.may_fewer s.store) name sound c.requires.going NoMemory tt)
 
 pub returns-in_err-counts-clause-lasts : goal.returns-in_err-counts-clause-lasts
 returns-in_err-counts-clause-lasts g c = λ name.
     let s = core_of c.args.self.now in
     let r = err_from_is_err_and c.from_residual.result c.from_residual.ensures.1 in
-    subst (λ x. Lasts g.S.Store s (Line (command.Import name)) (told_by (λ (n : ℕ). reply.Done) x) 0 s) (sym (r.1 ∙ ap Err r.2))
-    (lasts_idle g.S.Store s c.requires.studio (g.met.S.Store.may_fewer s.store) (Line (command.Import name)) refusal.NoMemory tt)
+    subst (λ x. Lasts g.S.Store s (Line (command.Import name)) (told_by (λ (n : ℕ). reply.Done) x) 0 s)
+    (sym (r.1 ∙ ap Err r.2))
+    (lasts_idle g.S.Store s c.requires.studio (g.met.S.Store.may_fewer s.store)
+    (Line (command.Import name)) refusal.NoMemory tt)
 
 -- ---- a test refuses them
 
@@ -46,24 +56,30 @@ returns-in-Some-clause-took g c = λ name sound has.
     let s = core_of c.args.self.now in
     let why = c.in-Some.reason in
     let counts_are = c.as_slice-2.ensures.value ∙ c.in_ok-counts.ensures ∙ ap (map length) c.as_slice.ensures in
-    let test = subst (λ (ns : List ℕ). channels_refusal (length (current_tracks s.history)) ns ≡ Some why) counts_are (sym c.channels_refusal.ensures ∙ c.in-Some.is) in
-    channels_refused g.S.Store s c.requires.studio c.args.channels name sound has (g.met.S.Store.may_fewer s.store) c.requires.going why test
+    let test = subst (λ (ns : List ℕ). channels_refusal (length (current_tracks s.history)) ns ≡ Some why) counts_are
+    (sym c.channels_refusal.ensures ∙ c.in-Some.is) in
+    channels_refused g.S.Store s c.requires.studio c.args.channels name sound has
+    (g.met.S.Store.may_fewer s.store) c.requires.going why test
 
 pub returns-in-Some-clause-lasts : goal.returns-in-Some-clause-lasts
 returns-in-Some-clause-lasts g c = λ name.
     let s = core_of c.args.self.now in
-    lasts_idle g.S.Store s c.requires.studio (g.met.S.Store.may_fewer s.store) (Line (command.Import name)) c.in-Some.reason
-    (channels_plain (length (current_tracks s.history)) c.as_slice-2.result.now c.in-Some.reason (sym c.channels_refusal.ensures ∙ c.in-Some.is))
+    lasts_idle g.S.Store s c.requires.studio (g.met.S.Store.may_fewer s.store)
+    (Line (command.Import name)) c.in-Some.reason
+    (channels_plain (length (current_tracks s.history)) c.as_slice-2.result.now c.in-Some.reason
+    (sym c.channels_refusal.ensures ∙ c.in-Some.is))
 
 pub returns-in-Some-clause-sound : goal.returns-in-Some-clause-sound
 returns-in-Some-clause-sound g c = λ held.
     let s = core_of c.args.self.now in
-    (channels_tell (length (current_tracks s.history)) c.as_slice-2.result.now c.in-Some.reason (sym c.channels_refusal.ensures ∙ c.in-Some.is)).0
+    (channels_tell (length (current_tracks s.history)) c.as_slice-2.result.now c.in-Some.reason
+    (sym c.channels_refusal.ensures ∙ c.in-Some.is)).0
 
 pub returns-in-Some-clause-device : goal.returns-in-Some-clause-device
 returns-in-Some-clause-device g c =
     let s = core_of c.args.self.now in
-    (channels_tell (length (current_tracks s.history)) c.as_slice-2.result.now c.in-Some.reason (sym c.channels_refusal.ensures ∙ c.in-Some.is)).1
+    (channels_tell (length (current_tracks s.history)) c.as_slice-2.result.now c.in-Some.reason
+    (sym c.channels_refusal.ensures ∙ c.in-Some.is)).1
 
 -- ---- no memory for the samples
 
@@ -71,15 +87,19 @@ pub returns-in_err-samples-clause-took : goal.returns-in_err-samples-clause-took
 returns-in_err-samples-clause-took g c = λ name sound has.
     let s = core_of c.args.self.now in
     let r = err_from_is_err_and c.from_residual-in_err-samples.result c.from_residual-in_err-samples.ensures.1 in
-    subst (λ x. Took g.S.Store s (Line (command.Import name)) (left_as sound) (told_by (λ (n : ℕ). reply.Done) x) 0 s) (sym (r.1 ∙ ap Err r.2))
-    (import_refused g.S.Store s c.requires.studio (g.met.S.Store.may_fewer s.store) name sound c.requires.going NoMemory tt)
+    subst (λ x. Took g.S.Store s (Line (command.Import name)) (left_as sound) (told_by (λ (n : ℕ). reply.Done) x) 0 s)
+    (sym (r.1 ∙ ap Err r.2))
+    (import_refused g.S.Store s c.requires.studio
+    (g.met.S.Store.may_fewer s.store) name sound c.requires.going NoMemory tt)
 
 pub returns-in_err-samples-clause-lasts : goal.returns-in_err-samples-clause-lasts
 returns-in_err-samples-clause-lasts g c = λ name.
     let s = core_of c.args.self.now in
     let r = err_from_is_err_and c.from_residual-in_err-samples.result c.from_residual-in_err-samples.ensures.1 in
-    subst (λ x. Lasts g.S.Store s (Line (command.Import name)) (told_by (λ (n : ℕ). reply.Done) x) 0 s) (sym (r.1 ∙ ap Err r.2))
-    (lasts_idle g.S.Store s c.requires.studio (g.met.S.Store.may_fewer s.store) (Line (command.Import name)) refusal.NoMemory tt)
+    subst (λ x. Lasts g.S.Store s (Line (command.Import name)) (told_by (λ (n : ℕ). reply.Done) x) 0 s)
+    (sym (r.1 ∙ ap Err r.2))
+    (lasts_idle g.S.Store s c.requires.studio (g.met.S.Store.may_fewer s.store)
+    (Line (command.Import name)) refusal.NoMemory tt)
 
 -- ---- there is no plan
 
@@ -89,33 +109,42 @@ returns-in_err-planned-clause-took g c = λ name sound has.
     let why = c.in_err-planned.field-0.0 in
     let tracks = length (current_tracks s.history) in
     let counts_are = c.in_ok-counts.ensures ∙ ap (map length) c.as_slice.ensures in
-    let pass = subst (λ (ns : List ℕ). channels_refusal tracks ns ≡ None) (c.as_slice-2.ensures.value ∙ counts_are) (sym c.channels_refusal.ensures ∙ c.in_default.is) in
-    let unplanned = subst (λ (ns : List ℕ). NoChannelsPlan s.block_size s.next_block ns why) (c.as_slice-3.ensures.value ∙ counts_are) c.in_err-planned.ensures.err in
+    let pass = subst (λ (ns : List ℕ). channels_refusal tracks ns ≡ None) (c.as_slice-2.ensures.value ∙ counts_are)
+    (sym c.channels_refusal.ensures ∙ c.in_default.is) in
+    let unplanned = subst (λ (ns : List ℕ). NoChannelsPlan s.block_size s.next_block ns why)
+    (c.as_slice-3.ensures.value ∙ counts_are) c.in_err-planned.ensures.err in
     let r = err_from_is_err_and c.from_residual-in_err-planned.result c.from_residual-in_err-planned.ensures.1 in
-    subst (λ x. Took g.S.Store s (Line (command.Import name)) (left_as sound) (told_by (λ (n : ℕ). reply.Done) x) 0 s) (sym (r.1 ∙ ap Err r.2))
-    (channels_unplanned g.S.Store s c.requires.studio c.args.channels name sound has (g.met.S.Store.may_fewer s.store) c.requires.going pass why unplanned)
+    subst (λ x. Took g.S.Store s (Line (command.Import name)) (left_as sound) (told_by (λ (n : ℕ). reply.Done) x) 0 s)
+    (sym (r.1 ∙ ap Err r.2))
+    (channels_unplanned g.S.Store s c.requires.studio c.args.channels name sound has
+    (g.met.S.Store.may_fewer s.store) c.requires.going pass why unplanned)
 
 pub returns-in_err-planned-clause-lasts : goal.returns-in_err-planned-clause-lasts
 returns-in_err-planned-clause-lasts g c = λ name.
     let s = core_of c.args.self.now in
     let r = err_from_is_err_and c.from_residual-in_err-planned.result c.from_residual-in_err-planned.ensures.1 in
-    subst (λ x. Lasts g.S.Store s (Line (command.Import name)) (told_by (λ (n : ℕ). reply.Done) x) 0 s) (sym (r.1 ∙ ap Err r.2))
-    (lasts_idle g.S.Store s c.requires.studio (g.met.S.Store.may_fewer s.store) (Line (command.Import name)) c.in_err-planned.field-0.0
-    (no_plan_plain s.block_size s.next_block c.as_slice-3.result.now c.in_err-planned.field-0.0 c.in_err-planned.ensures.err))
+    subst (λ x. Lasts g.S.Store s (Line (command.Import name)) (told_by (λ (n : ℕ). reply.Done) x) 0 s)
+    (sym (r.1 ∙ ap Err r.2))
+    (lasts_idle g.S.Store s c.requires.studio (g.met.S.Store.may_fewer s.store)
+    (Line (command.Import name)) c.in_err-planned.field-0.0
+    (no_plan_plain s.block_size s.next_block c.as_slice-3.result.now c.in_err-planned.field-0.0
+    c.in_err-planned.ensures.err))
 
 pub returns-in_err-planned-clause-sound : goal.returns-in_err-planned-clause-sound
 returns-in_err-planned-clause-sound g c = λ held.
     let s = core_of c.args.self.now in
     let r = err_from_is_err_and c.from_residual-in_err-planned.result c.from_residual-in_err-planned.ensures.1 in
     subst (λ x. IfErr x IsUndamaged) (sym (r.1 ∙ ap Err r.2))
-    (no_plan_tells_both s.block_size s.next_block c.as_slice-3.result.now c.in_err-planned.field-0.0 c.in_err-planned.ensures.err).0
+    (no_plan_tells_both s.block_size s.next_block c.as_slice-3.result.now c.in_err-planned.field-0.0
+    c.in_err-planned.ensures.err).0
 
 pub returns-in_err-planned-clause-device : goal.returns-in_err-planned-clause-device
 returns-in_err-planned-clause-device g c =
     let s = core_of c.args.self.now in
     let r = err_from_is_err_and c.from_residual-in_err-planned.result c.from_residual-in_err-planned.ensures.1 in
     subst (λ x. IfErr x IsNoVault) (sym (r.1 ∙ ap Err r.2))
-    (no_plan_tells_both s.block_size s.next_block c.as_slice-3.result.now c.in_err-planned.field-0.0 c.in_err-planned.ensures.err).1
+    (no_plan_tells_both s.block_size s.next_block c.as_slice-3.result.now c.in_err-planned.field-0.0
+    c.in_err-planned.ensures.err).1
 
 -- ---- they are added
 
@@ -126,10 +155,14 @@ carry_out-requires-clause-planned g c =
     let old = current_tracks s.history in
     let given = Samples c.as_slice-4.result in
     let counts_are = c.in_ok-counts.ensures ∙ ap (map length) c.as_slice.ensures in
-    let pass = subst (λ (ns : List ℕ). channels_refusal (length old) ns ≡ None) (c.as_slice-2.ensures.value ∙ counts_are) (sym c.channels_refusal.ensures ∙ c.in_default.is) in
-    let plan = subst (λ (ns : List ℕ). IsChannelsPlan s.block_size s.next_block s.next_track ns old p) (c.as_slice-3.ensures.value ∙ counts_are) c.in_ok-planned.ensures.plan in
-    let all : brought_count given ≡ total_of (map length c.args.channels) = ap length (c.as_slice-4.ensures.value ∙ c.in_ok-samples.ensures) ∙ all_length c.args.channels in
-    subst (λ (z : Option (List (List Item))). IsPlanned s given p.makes 0 p.tracks p.point (clip_then z s.clipboard)) (sym c.in_ok-planned.ensures.clip)
+    let pass = subst (λ (ns : List ℕ). channels_refusal (length old) ns ≡ None)
+    (c.as_slice-2.ensures.value ∙ counts_are) (sym c.channels_refusal.ensures ∙ c.in_default.is) in
+    let plan = subst (λ (ns : List ℕ). IsChannelsPlan s.block_size s.next_block s.next_track ns old p)
+    (c.as_slice-3.ensures.value ∙ counts_are) c.in_ok-planned.ensures.plan in
+    let all : brought_count given ≡ total_of (map length c.args.channels) =
+    ap length (c.as_slice-4.ensures.value ∙ c.in_ok-samples.ensures) ∙ all_length c.args.channels in
+    subst (λ (z : Option (List (List Item))). IsPlanned s given p.makes 0 p.tracks p.point (clip_then z s.clipboard))
+    (sym c.in_ok-planned.ensures.clip)
     (channels_planned g.S.Store s c.requires.studio c.args.channels pass p plan given all)
 
 pub carry_out-requires-clause-next : goal.carry_out-requires-clause-next
@@ -144,7 +177,13 @@ carry_out-requires-clause-few g c =
     let s = core_of c.args.self.now in
     let old = current_tracks s.history in
     let pass = channels_pass (length old) c.as_slice-2.result.now (sym c.channels_refusal.ensures ∙ c.in_default.is) in
-    omega (arith, c.in_ok-planned.ensures.plan.tracks_is, pass.0, ap length c.as_slice-2.ensures.value, ap length c.as_slice-3.ensures.value)
+    omega (
+      arith,
+      c.in_ok-planned.ensures.plan.tracks_is,
+      pass.0,
+      ap length c.as_slice-2.ensures.value,
+      ap length c.as_slice-3.ensures.value,
+    )
 
 pub returns-clause-took : goal.returns-clause-took
 returns-clause-took g c = λ name sound has.
@@ -154,11 +193,15 @@ returns-clause-took g c = λ name sound has.
     let given = Samples c.as_slice-4.result in
     let line = Line (command.Import name) in
     let counts_are = c.in_ok-counts.ensures ∙ ap (map length) c.as_slice.ensures in
-    let pass = subst (λ (ns : List ℕ). channels_refusal (length old) ns ≡ None) (c.as_slice-2.ensures.value ∙ counts_are) (sym c.channels_refusal.ensures ∙ c.in_default.is) in
-    let plan = subst (λ (ns : List ℕ). IsChannelsPlan s.block_size s.next_block s.next_track ns old p) (c.as_slice-3.ensures.value ∙ counts_are) c.in_ok-planned.ensures.plan in
-    let bring : brought given ≡ placed (all_of c.args.channels) = ap placed (c.as_slice-4.ensures.value ∙ c.in_ok-samples.ensures) in
+    let pass = subst (λ (ns : List ℕ). channels_refusal (length old) ns ≡ None)
+    (c.as_slice-2.ensures.value ∙ counts_are) (sym c.channels_refusal.ensures ∙ c.in_default.is) in
+    let plan = subst (λ (ns : List ℕ). IsChannelsPlan s.block_size s.next_block s.next_track ns old p)
+    (c.as_slice-3.ensures.value ∙ counts_are) c.in_ok-planned.ensures.plan in
+    let bring : brought given ≡ placed (all_of c.args.channels) =
+    ap placed (c.as_slice-4.ensures.value ∙ c.in_ok-samples.ensures) in
     c.carry_out.ensures.took line (left_as sound)
-    (subst (λ (z : Option (List (List Item))). IsEdit g.S.Store s line (left_as sound) p.tracks given p.makes (recorded s.history p.point 0) (clip_then z s.clipboard)) (sym c.in_ok-planned.ensures.clip)
+    (subst (λ (z : Option (List (List Item))). IsEdit g.S.Store s line (left_as sound) p.tracks given p.makes
+    (recorded s.history p.point 0) (clip_then z s.clipboard)) (sym c.in_ok-planned.ensures.clip)
     (channels_edit g.S.Store s c.requires.studio c.args.channels pass p plan given name sound has bring))
 
 pub returns-clause-lasts : goal.returns-clause-lasts

@@ -10,8 +10,10 @@ use Rattle.editor_core.proofs.studio.Studio.apply.Goals as goal
 
 pub returns-in-Ok-clause-applied : goal.returns-in-Ok-clause-applied
 returns-in-Ok-clause-applied g c =
-    let Over : Result Reply Refusal → Type 0 = λ r. TookOver g.S.Store (g.V.Vault.tells c.args.vault.now) (g.V.Vault.holds c.args.vault.now)
-    (g.V.Vault.holds c.reply_to-told.new.vault) (core_of c.args.self.now) (Line c.args.command.now) r (core_of c.reply_to-told.new.self) in record {
+    let Over : Result Reply Refusal → Type 0 =
+    λ r. TookOver g.S.Store (g.V.Vault.tells c.args.vault.now) (g.V.Vault.holds c.args.vault.now)
+    (g.V.Vault.holds c.reply_to-told.new.vault) (core_of c.args.self.now) (Line c.args.command.now) r
+    (core_of c.reply_to-told.new.self) in record {
       told = Ok c.in-Ok.reply;
       over = subst Over c.in-Ok.is c.reply_to-told.ensures.took;
       commit = refl;
@@ -27,8 +29,10 @@ returns-in-Ok-clause-faults g c = λ some.
 
 pub returns-in-Err-clause-applied : goal.returns-in-Err-clause-applied
 returns-in-Err-clause-applied g c =
-    let Over : Result Reply Refusal → Type 0 = λ r. TookOver g.S.Store (g.V.Vault.tells c.args.vault.now) (g.V.Vault.holds c.args.vault.now)
-    (g.V.Vault.holds c.reply_to-told.new.vault) (core_of c.args.self.now) (Line c.args.command.now) r (core_of c.reply_to-told.new.self) in record {
+    let Over : Result Reply Refusal → Type 0 =
+    λ r. TookOver g.S.Store (g.V.Vault.tells c.args.vault.now) (g.V.Vault.holds c.args.vault.now)
+    (g.V.Vault.holds c.reply_to-told.new.vault) (core_of c.args.self.now) (Line c.args.command.now) r
+    (core_of c.reply_to-told.new.self) in record {
       told = Err c.in-Err.reason;
       over = subst Over c.in-Err.is c.reply_to-told.ensures.took;
       commit = refl;

@@ -4,16 +4,18 @@ use Rattle.project_state.specs.Spelling.{spelling}
 use Rattle.editor_core.specs.Adding.{Adds}
 use Rattle.editor_core.specs.Core.{Core, core_of}
 use Rattle.editor_core.specs.Makes.{AreSynced, Making}
-use Rattle.editor_core.proofs.EditSteps.{carried_by}
+use Rattle.editor_core.proofs.CarriedEdits.{carried_by}
 use Rattle.editor_core.proofs.studio.Studio.carry.Goals as goal
 
 pub make_blocks-requires-clause-below : goal.make_blocks-requires-clause-below
 make_blocks-requires-clause-below g c =
-    subst (λ (z : Core g.row.S.Denot). (id : ℕ) → IsSome (z.counts id) → id < z.next_block) (sym c.in_ok-prepare.ensures.same) (λ id some. (c.requires.studio.given id some).1)
+    subst (λ (z : Core g.row.S.Denot). (id : ℕ) → IsSome (z.counts id) → id < z.next_block)
+    (sym c.in_ok-prepare.ensures.same) (λ id some. (c.requires.studio.given id some).1)
 
 pub make_blocks-requires-clause-size : goal.make_blocks-requires-clause-size
 make_blocks-requires-clause-size g c =
-    subst (λ (z : Core g.row.S.Denot). z.block_size ≤ 262144) (sym c.in_ok-prepare.ensures.same) c.requires.studio.format.block_most
+    subst (λ (z : Core g.row.S.Denot). z.block_size ≤ 262144)
+    (sym c.in_ok-prepare.ensures.same) c.requires.studio.format.block_most
 
 pub returns-clause-carried : goal.returns-clause-carried
 returns-clause-carried g c =
@@ -22,12 +24,18 @@ returns-clause-carried g c =
     let mid = core_of c.make_blocks.new.self in
     let bs = c.args.makes.now in
     let made = c.in_ok-make_blocks.ensures.made in
-    let making = subst (λ (z : Core g.row.S.Denot). Making g.S.Store z c.args.given.now (length bs) bs mid) same made.0 in
+    let making =
+    subst (λ (z : Core g.row.S.Denot). Making g.S.Store z c.args.given.now (length bs) bs mid) same made.0 in
     let reads = made.1 ∙ ap (λ (z : Core g.row.S.Denot). g.S.Store.read_fault_count z.store) same in
-    let synced = subst (λ (z : Core g.row.S.Denot). AreSynced g.S.Store z.next_block (length bs) mid.store) same made.2 in
-    let body : c.make_blocks.new.self.body.items ≡ spelling c.args.body.now = ap (λ b. b.items) c.in_ok-make_blocks.ensures.body ∙ c.in_ok-prepare.ensures.body in
-    let adds = subst (λ (b : List ℕ). Adds g.S.Store mid b c.commit_written.result (core_of c.commit_written.new.self)) body c.commit_written.ensures.record in
+    let synced =
+    subst (λ (z : Core g.row.S.Denot). AreSynced g.S.Store z.next_block (length bs) mid.store) same made.2 in
+    let body : c.make_blocks.new.self.body.items ≡ spelling c.args.body.now =
+    ap (λ b. b.items) c.in_ok-make_blocks.ensures.body ∙ c.in_ok-prepare.ensures.body in
+    let adds = subst (λ (b : List ℕ). Adds g.S.Store mid b c.commit_written.result (core_of c.commit_written.new.self))
+    body c.commit_written.ensures.record in
     let row = ap vec_capacity c.in_ok-make_blocks.ensures.row in
-    let room : 5 + length c.make_blocks.new.self.body.items ≤ vec_capacity c.make_blocks.new.self.row = omega (arith, ap (λ (b : List ℕ). length b) body, row, c.in_ok-prepare.ensures.row) in
-    carried_by g.S.Store s mid (core_of c.commit_written.new.self) c.args.given.now bs c.args.tracks (spelling c.args.body.now) c.commit_written.result making reads synced
+    let room : 5 + length c.make_blocks.new.self.body.items ≤ vec_capacity c.make_blocks.new.self.row =
+    omega (arith, ap (λ (b : List ℕ). length b) body, row, c.in_ok-prepare.ensures.row) in
+    carried_by g.S.Store s mid (core_of c.commit_written.new.self) c.args.given.now bs c.args.tracks
+    (spelling c.args.body.now) c.commit_written.result making reads synced
     c.in_ok-prepare.ensures.prepared adds (c.commit_written.ensures.memory room)

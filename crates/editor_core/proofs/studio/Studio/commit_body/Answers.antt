@@ -15,7 +15,8 @@ returns-in_err-may_add-clause-record g c =
     let why = c.in_err-may_add.field-0.0 in
     let over = subst (λ (n : ℕ). Exceeds s.journal_end n why) c.body_len.ensures.value c.in_err-may_add.ensures.err in
     subst (λ r. Adds g.S.Store s (spelling c.args.body.now) r s) (sym (p.1 ∙ ap Err p.2))
-    (adds_nothing g.S.Store s (spelling c.args.body.now) why (g.met.S.Store.may_fewer s.store) (exceeds (Unit {0}) g.S.Store s (length (spelling c.args.body.now)) why over))
+    (adds_nothing g.S.Store s (spelling c.args.body.now) why (g.met.S.Store.may_fewer s.store)
+    (exceeds (Unit {0}) g.S.Store s (length (spelling c.args.body.now)) why over))
 
 pub returns-in_err-write_body-clause-record : goal.returns-in_err-write_body-clause-record
 returns-in_err-write_body-clause-record g c =

@@ -7,7 +7,8 @@ use Rattle.editor_core.proofs.studio.Studio.commit_written.Goals as goal
 pub returns-clause-record : goal.returns-clause-record
 returns-clause-record g c =
     let a = rw c.deref.ensures.value at c.append-added.ensures in
-    settled g.S.Store (core_of c.args.self.now) c.append-added.new.store c.args.self.now.body.items a.any_moment a.changed a.read_faults c.requires.short
+    settled g.S.Store (core_of c.args.self.now) c.append-added.new.store c.args.self.now.body.items a.any_moment
+    a.changed a.read_faults c.requires.short
     c.append-added.result c.settle.result _ a.answer a.cause a.rose a.done a.untouched c.settle.ensures.fields
 
 pub returns-clause-memory : goal.returns-clause-memory
@@ -16,4 +17,5 @@ returns-clause-memory g c room =
     no_want g.S.Store _ c.append-added.result c.settle.result _ _ _ _ a.answer a.room room c.settle.ensures.fields
 
 pub returns-clause-undamaged : goal.returns-clause-undamaged
-returns-clause-undamaged g c = undamaged_settle g.S.Store _ c.append-added.result c.settle.result _ c.settle.ensures.fields
+returns-clause-undamaged g c =
+    undamaged_settle g.S.Store _ c.append-added.result c.settle.result _ c.settle.ensures.fields

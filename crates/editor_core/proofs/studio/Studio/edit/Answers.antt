@@ -24,7 +24,8 @@ use Rattle.editor_core.proofs.Bounds.{few_more, named_there}
 use Rattle.editor_core.proofs.Editing.{counts_named, current_below, current_sound}
 use Rattle.editor_core.proofs.Moving.{tested_out}
 use Rattle.editor_core.proofs.NoDamage.{TellsNone, undamaged_test}
-use Rattle.editor_core.proofs.PlainEdits.{call_by, own_is, needs_none, names, sound, edit_fails, edit_done}
+use Rattle.editor_core.proofs.PlainEdits.{own_is, needs_none, names, sound, edit_fails, edit_done}
+use Rattle.editor_core.proofs.PlainLines.{call_by}
 use Rattle.editor_core.proofs.Staying.{wants}
 use Rattle.editor_core.proofs.Times.{Few}
 use Rattle.editor_core.proofs.Undamaged.{adding_tells, refusal_tells}
@@ -38,9 +39,11 @@ returns-in_err-may_commit-clause-took g c =
     let is = c.requires.studio in
     let why = c.in_err-may_commit.field-0.0 in
     subst (λ r. Took g.S.Store s (Line (line_of e)) silent (told_by (λ (n : ℕ). Done) r) 0 s) (sym (p.1 ∙ ap Err p.2))
-    (tested_out g.S.Store s (Line (line_of e)) (tracks_by e) 0 c.edit_refusal.result why is (g.met.S.Store.may_fewer s.store) (call_by e) (λ held. needs_none g.S.Store s is e)
+    (tested_out g.S.Store s (Line (line_of e)) (tracks_by e) 0 c.edit_refusal.result why is
+    (g.met.S.Store.may_fewer s.store) (call_by e) (λ held. needs_none g.S.Store s is e)
     (c.edit_refusal.ensures ∙ own_is g.S.Store s is e)
-    (subst (λ (n : ℕ). Tested s.stopped c.edit_refusal.result s.next_track n s.commit_number (Err why)) c.tracks_for-tracks.ensures c.in_err-may_commit.ensures))
+    (subst (λ (n : ℕ). Tested s.stopped c.edit_refusal.result s.next_track n s.commit_number (Err why))
+    c.tracks_for-tracks.ensures c.in_err-may_commit.ensures))
 
 pub returns-in_err-make_room-clause-took : goal.returns-in_err-make_room-clause-took
 returns-in_err-make_room-clause-took g c =
@@ -48,24 +51,29 @@ returns-in_err-make_room-clause-took g c =
     let s = core_of c.args.self.now in
     let s1 = core_of c.make_room.new.self in
     let line = line_of c.args.edit in
-    let idle = wants g.S.Store s (Line line) silent c.requires.studio (g.met.S.Store.may_fewer s.store) refl 0 (λ held. (0, needs_none g.S.Store s c.requires.studio c.args.edit)) in
+    let idle = wants g.S.Store s (Line line) silent c.requires.studio (g.met.S.Store.may_fewer s.store) refl 0
+    (λ held. (0, needs_none g.S.Store s c.requires.studio c.args.edit)) in
     subst (λ r. Took g.S.Store s (Line line) silent (told_by (λ (n : ℕ). Done) r) 0 s1) (sym (p.1 ∙ ap Err p.2))
-    (subst (λ (z : Core g.row.S.Denot). Took g.S.Store s (Line line) silent (Err refusal.NoMemory) 0 z) (sym c.make_room.ensures.same) idle)
+    (subst (λ (z : Core g.row.S.Denot). Took g.S.Store s (Line line) silent (Err refusal.NoMemory) 0 z)
+    (sym c.make_room.ensures.same) idle)
 
 pub edited-requires-clause-there : goal.edited-requires-clause-there
 edited-requires-clause-there g c =
     let none = sym c.edit_refusal.ensures ∙ c.in_ok-may_commit.ensures.1 in
-    subst (λ (z : Core g.row.S.Denot). refusal_by c.args.edit (current_tracks z.history) ≡ None) (sym c.make_room.ensures.same) none
+    subst (λ (z : Core g.row.S.Denot). refusal_by c.args.edit (current_tracks z.history) ≡ None)
+    (sym c.make_room.ensures.same) none
 
 pub edited-requires-clause-rising : goal.edited-requires-clause-rising
 edited-requires-clause-rising g c =
     let s = core_of c.args.self.now in
-    subst (λ (z : Core g.row.S.Denot). AreAbove 1 (current_tracks z.history)) (sym c.make_room.ensures.same) (current_sound g.S.Store s c.requires.studio).rising
+    subst (λ (z : Core g.row.S.Denot). AreAbove 1 (current_tracks z.history)) (sym c.make_room.ensures.same)
+    (current_sound g.S.Store s c.requires.studio).rising
 
 pub edited-requires-clause-below : goal.edited-requires-clause-below
 edited-requires-clause-below g c =
     let s = core_of c.args.self.now in
-    subst (λ (z : Core g.row.S.Denot). AllBelow z.next_track (current_tracks z.history)) (sym c.make_room.ensures.same) (current_below g.S.Store s c.requires.studio)
+    subst (λ (z : Core g.row.S.Denot). AllBelow z.next_track (current_tracks z.history)) (sym c.make_room.ensures.same)
+    (current_below g.S.Store s c.requires.studio)
 
 pub returns-in_err-point-clause-took : goal.returns-in_err-point-clause-took
 returns-in_err-point-clause-took g c =
@@ -73,9 +81,11 @@ returns-in_err-point-clause-took g c =
     let s = core_of c.args.self.now in
     let s1 = core_of c.make_room.new.self in
     let line = line_of c.args.edit in
-    let idle = wants g.S.Store s (Line line) silent c.requires.studio (g.met.S.Store.may_fewer s.store) refl 0 (λ held. (0, needs_none g.S.Store s c.requires.studio c.args.edit)) in
+    let idle = wants g.S.Store s (Line line) silent c.requires.studio (g.met.S.Store.may_fewer s.store) refl 0
+    (λ held. (0, needs_none g.S.Store s c.requires.studio c.args.edit)) in
     subst (λ r. Took g.S.Store s (Line line) silent (told_by (λ (n : ℕ). Done) r) 0 s1) (sym (p.1 ∙ ap Err p.2))
-    (subst (λ (z : Core g.row.S.Denot). Took g.S.Store s (Line line) silent (Err refusal.NoMemory) 0 z) (sym c.make_room.ensures.same) idle)
+    (subst (λ (z : Core g.row.S.Denot). Took g.S.Store s (Line line) silent (Err refusal.NoMemory) 0 z)
+    (sym c.make_room.ensures.same) idle)
 
 pub returns-in_err-point-2-clause-took : goal.returns-in_err-point-2-clause-took
 returns-in_err-point-2-clause-took g c =
@@ -85,16 +95,22 @@ returns-in_err-point-2-clause-took g c =
     let same : s1 ≡ s = c.make_room.ensures.same in
     let is = c.requires.studio in
     let e = c.args.edit in
-    let may = subst (λ (n : ℕ). (s.stopped ≡ None) × (c.edit_refusal.result ≡ None) × (s.next_track + n ≤ 2 ^ 62) × (s.commit_number < 2 ^ 62)) c.tracks_for-tracks.ensures c.in_ok-may_commit.ensures in
+    let may = subst (λ (n : ℕ). (s.stopped ≡ None) × (c.edit_refusal.result ≡ None) × (s.next_track + n ≤ 2 ^ 62)
+    × (s.commit_number < 2 ^ 62)) c.tracks_for-tracks.ensures c.in_ok-may_commit.ensures in
     let none : refusal_by e (current_tracks s.history) ≡ None = sym c.edit_refusal.ensures ∙ may.1 in
     let p = c.in_ok-point.point in
-    let ed = subst (λ (z : Core g.row.S.Denot). IsEdited e z.next_track (current_tracks z.history) p) same c.in_ok-point.ensures in
+    let ed = subst
+    (λ (z : Core g.row.S.Denot). IsEdited e z.next_track (current_tracks z.history) p) same c.in_ok-point.ensures in
     let mid = core_of c.commit_point.new.self in
     let why = c.in_err-point-2.field-0.0 in
-    let adds' = subst (λ (z : Core g.row.S.Denot). Adds {R = List Track} g.S.Store z (spelling (Edit 0 z.next_block (z.next_track + c.tracks_for-tracks.result) p)) (Err why) mid) same c.in_err-point-2.ensures.record in
-    let adds = subst (λ (n : ℕ). Adds {R = List Track} g.S.Store s (spelling (Edit 0 s.next_block (s.next_track + n) p)) (Err why) mid) c.tracks_for-tracks.ensures adds' in
+    let adds' = subst (λ (z : Core g.row.S.Denot). Adds {R = List Track} g.S.Store z
+    (spelling (Edit 0 z.next_block (z.next_track + c.tracks_for-tracks.result) p)) (Err why) mid) same
+    c.in_err-point-2.ensures.record in
+    let adds = subst (λ (n : ℕ). Adds {R = List Track} g.S.Store s (spelling (Edit 0 s.next_block (s.next_track + n) p))
+    (Err why) mid) c.tracks_for-tracks.ensures adds' in
     subst (λ x. Took g.S.Store s (Line (line_of e)) silent (told_by (λ (n : ℕ). Done) x) 0 mid) (sym (r.1 ∙ ap Err r.2))
-    (edit_fails g.S.Store s is e c.requires.good none p ed may.2 may.0 may.3 why mid (g.met.S.Store.may_fewer s.store) adds)
+    (edit_fails g.S.Store s is e c.requires.good none p ed may.2 may.0 may.3 why mid
+    (g.met.S.Store.may_fewer s.store) adds)
 
 pub take_point-requires-clause-there : goal.take_point-requires-clause-there
 take_point-requires-clause-there g c =
@@ -103,14 +119,19 @@ take_point-requires-clause-there g c =
     let same : s1 ≡ s = c.make_room.ensures.same in
     let is = c.requires.studio in
     let e = c.args.edit in
-    let may = subst (λ (n : ℕ). (s.stopped ≡ None) × (c.edit_refusal.result ≡ None) × (s.next_track + n ≤ 2 ^ 62) × (s.commit_number < 2 ^ 62)) c.tracks_for-tracks.ensures c.in_ok-may_commit.ensures in
+    let may = subst (λ (n : ℕ). (s.stopped ≡ None) × (c.edit_refusal.result ≡ None) × (s.next_track + n ≤ 2 ^ 62)
+    × (s.commit_number < 2 ^ 62)) c.tracks_for-tracks.ensures c.in_ok-may_commit.ensures in
     let none : refusal_by e (current_tracks s.history) ≡ None = sym c.edit_refusal.ensures ∙ may.1 in
     let p = c.in_ok-point.point in
-    let ed = subst (λ (z : Core g.row.S.Denot). IsEdited e z.next_track (current_tracks z.history) p) same c.in_ok-point.ensures in
+    let ed = subst
+    (λ (z : Core g.row.S.Denot). IsEdited e z.next_track (current_tracks z.history) p) same c.in_ok-point.ensures in
     let p2 : c.in_ok-point-2.point ≡ p = c.in_ok-point-2.ensures.same in
-    let ledger : c.commit_point.new.self.ledger ≡ c.args.self.now.ledger = c.in_ok-point-2.ensures.ledger ∙ c.make_room.ensures.ledger in
-    let base : HasIds s.counts (point_blocks p) = named_there g.S.Store s is (point_blocks p) (names g.S.Store s is e c.requires.good none p ed) in
-    subst (λ (l : Kept). HasIds (count_of l) (point_blocks c.in_ok-point-2.point)) (sym ledger) (subst (λ (z : List Track). HasIds s.counts (point_blocks z)) (sym p2) base)
+    let ledger : c.commit_point.new.self.ledger ≡ c.args.self.now.ledger =
+    c.in_ok-point-2.ensures.ledger ∙ c.make_room.ensures.ledger in
+    let base : HasIds s.counts (point_blocks p) =
+    named_there g.S.Store s is (point_blocks p) (names g.S.Store s is e c.requires.good none p ed) in
+    subst (λ (l : Kept). HasIds (count_of l) (point_blocks c.in_ok-point-2.point)) (sym ledger)
+    (subst (λ (z : List Track). HasIds s.counts (point_blocks z)) (sym p2) base)
 
 pub take_point-requires-clause-few : goal.take_point-requires-clause-few
 take_point-requires-clause-few g c =
@@ -119,14 +140,19 @@ take_point-requires-clause-few g c =
     let same : s1 ≡ s = c.make_room.ensures.same in
     let is = c.requires.studio in
     let e = c.args.edit in
-    let may = subst (λ (n : ℕ). (s.stopped ≡ None) × (c.edit_refusal.result ≡ None) × (s.next_track + n ≤ 2 ^ 62) × (s.commit_number < 2 ^ 62)) c.tracks_for-tracks.ensures c.in_ok-may_commit.ensures in
+    let may = subst (λ (n : ℕ). (s.stopped ≡ None) × (c.edit_refusal.result ≡ None) × (s.next_track + n ≤ 2 ^ 62)
+    × (s.commit_number < 2 ^ 62)) c.tracks_for-tracks.ensures c.in_ok-may_commit.ensures in
     let none : refusal_by e (current_tracks s.history) ≡ None = sym c.edit_refusal.ensures ∙ may.1 in
     let p = c.in_ok-point.point in
-    let ed = subst (λ (z : Core g.row.S.Denot). IsEdited e z.next_track (current_tracks z.history) p) same c.in_ok-point.ensures in
+    let ed = subst
+    (λ (z : Core g.row.S.Denot). IsEdited e z.next_track (current_tracks z.history) p) same c.in_ok-point.ensures in
     let p2 : c.in_ok-point-2.point ≡ p = c.in_ok-point-2.ensures.same in
-    let ledger : c.commit_point.new.self.ledger ≡ c.args.self.now.ledger = c.in_ok-point-2.ensures.ledger ∙ c.make_room.ensures.ledger in
-    let base : Few s.counts (point_blocks p) = few_more g.S.Store s is p (s.next_track + tracks_by e) (sound g.S.Store s is e c.requires.good none p ed) in
-    subst (λ (l : Kept). Few (count_of l) (point_blocks c.in_ok-point-2.point)) (sym ledger) (subst (λ (z : List Track). Few s.counts (point_blocks z)) (sym p2) base)
+    let ledger : c.commit_point.new.self.ledger ≡ c.args.self.now.ledger =
+    c.in_ok-point-2.ensures.ledger ∙ c.make_room.ensures.ledger in
+    let base : Few s.counts (point_blocks p) =
+    few_more g.S.Store s is p (s.next_track + tracks_by e) (sound g.S.Store s is e c.requires.good none p ed) in
+    subst (λ (l : Kept). Few (count_of l) (point_blocks c.in_ok-point-2.point)) (sym ledger)
+    (subst (λ (z : List Track). Few s.counts (point_blocks z)) (sym p2) base)
 
 pub take_point-requires-clause-named : goal.take_point-requires-clause-named
 take_point-requires-clause-named g c =
@@ -134,8 +160,10 @@ take_point-requires-clause-named g c =
     let s1 = core_of c.make_room.new.self in
     let same : s1 ≡ s = c.make_room.ensures.same in
     let is = c.requires.studio in
-    let ledger : c.commit_point.new.self.ledger ≡ c.args.self.now.ledger = c.in_ok-point-2.ensures.ledger ∙ c.make_room.ensures.ledger in
-    let mid : (core_of c.commit_point.new.self).history ≡ s.history = ap (λ (z : Stored (List Track)). z.history) c.in_ok-point-2.ensures.history ∙ ap (λ (z : Core g.row.S.Denot). z.history) same in
+    let ledger : c.commit_point.new.self.ledger ≡ c.args.self.now.ledger =
+    c.in_ok-point-2.ensures.ledger ∙ c.make_room.ensures.ledger in
+    let mid : (core_of c.commit_point.new.self).history ≡ s.history = ap (λ (z : Stored (List Track)). z.history)
+    c.in_ok-point-2.ensures.history ∙ ap (λ (z : Core g.row.S.Denot). z.history) same in
     subst (λ (l : Kept). HasAll (count_of l) (history_blocks (core_of c.commit_point.new.self).history)) (sym ledger)
     (subst (λ (h : History (List Track)). HasAll s.counts (history_blocks h)) (sym mid) (counts_named g.S.Store s is))
 
@@ -146,25 +174,37 @@ returns-clause-took g c =
     let same : s1 ≡ s = c.make_room.ensures.same in
     let is = c.requires.studio in
     let e = c.args.edit in
-    let may = subst (λ (n : ℕ). (s.stopped ≡ None) × (c.edit_refusal.result ≡ None) × (s.next_track + n ≤ 2 ^ 62) × (s.commit_number < 2 ^ 62)) c.tracks_for-tracks.ensures c.in_ok-may_commit.ensures in
+    let may = subst (λ (n : ℕ). (s.stopped ≡ None) × (c.edit_refusal.result ≡ None) × (s.next_track + n ≤ 2 ^ 62)
+    × (s.commit_number < 2 ^ 62)) c.tracks_for-tracks.ensures c.in_ok-may_commit.ensures in
     let none : refusal_by e (current_tracks s.history) ≡ None = sym c.edit_refusal.ensures ∙ may.1 in
     let p = c.in_ok-point.point in
-    let ed = subst (λ (z : Core g.row.S.Denot). IsEdited e z.next_track (current_tracks z.history) p) same c.in_ok-point.ensures in
+    let ed = subst
+    (λ (z : Core g.row.S.Denot). IsEdited e z.next_track (current_tracks z.history) p) same c.in_ok-point.ensures in
     let p2 : c.in_ok-point-2.point ≡ p = c.in_ok-point-2.ensures.same in
-    let ledger : c.commit_point.new.self.ledger ≡ c.args.self.now.ledger = c.in_ok-point-2.ensures.ledger ∙ c.make_room.ensures.ledger in
+    let ledger : c.commit_point.new.self.ledger ≡ c.args.self.now.ledger =
+    c.in_ok-point-2.ensures.ledger ∙ c.make_room.ensures.ledger in
     let mid = core_of c.commit_point.new.self in
     let tracks : c.tracks_for-tracks.result ≡ tracks_by e = c.tracks_for-tracks.ensures in
-    let adds' = subst (λ (z : Core g.row.S.Denot). Adds {R = List Track} g.S.Store z (spelling (Edit 0 z.next_block (z.next_track + c.tracks_for-tracks.result) p)) (Ok c.in_ok-point-2.point) mid) same c.in_ok-point-2.ensures.record in
-    let adds = subst (λ (n : ℕ). Adds {R = List Track} g.S.Store s (spelling (Edit 0 s.next_block (s.next_track + n) p)) (Ok c.in_ok-point-2.point) mid) tracks adds' in
-    let was : mid.history ≡ s.history = ap (λ (z : Stored (List Track)). z.history) c.in_ok-point-2.ensures.history ∙ ap (λ (z : Core g.row.S.Denot). z.history) same in
+    let adds' = subst (λ (z : Core g.row.S.Denot). Adds {R = List Track} g.S.Store z
+    (spelling (Edit 0 z.next_block (z.next_track + c.tracks_for-tracks.result) p)) (Ok c.in_ok-point-2.point) mid)
+    same c.in_ok-point-2.ensures.record in
+    let adds = subst (λ (n : ℕ). Adds {R = List Track} g.S.Store s (spelling (Edit 0 s.next_block (s.next_track + n) p))
+    (Ok c.in_ok-point-2.point) mid) tracks adds' in
+    let was : mid.history ≡ s.history = ap (λ (z : Stored (List Track)). z.history) c.in_ok-point-2.ensures.history
+    ∙ ap (λ (z : Core g.row.S.Denot). z.history) same in
     let moved : edited mid.history c.in_ok-point-2.point 0 ≡ edited s.history p 0 = λ i. edited (was i) (p2 i) 0 in
     let counts = count_of c.take_point.new.self.ledger in
-    let moves = subst (λ (l : Kept). Moves (count_of l) counts (history_blocks s.history) (history_blocks (edited s.history p 0))) ledger
-    (subst (λ (z : List Track). Moves mid.counts counts (history_blocks s.history) (history_blocks (edited s.history z 0))) p2
-    (subst (λ (h : History (List Track)). Moves mid.counts counts (history_blocks h) (history_blocks (edited h c.in_ok-point-2.point 0))) was c.take_point.ensures.counts)) in
+    let moves = subst (λ (l : Kept).
+    Moves (count_of l) counts (history_blocks s.history) (history_blocks (edited s.history p 0))) ledger
+    (subst (λ (z : List Track).
+    Moves mid.counts counts (history_blocks s.history) (history_blocks (edited s.history z 0))) p2
+    (subst (λ (h : History (List Track)). Moves mid.counts counts (history_blocks h)
+    (history_blocks (edited h c.in_ok-point-2.point 0))) was c.take_point.ensures.counts)) in
     let next : mid.next_track ≡ s.next_track = ap (λ (z : Core g.row.S.Denot). z.next_track) adds.fields.0 in
-    subst (λ (z : Core g.row.S.Denot). Took g.S.Store s (Line (line_of e)) silent (Ok Done) 0 z) (sym c.take_point.ensures.fields)
-    (edit_done g.S.Store s is e c.requires.good none p ed may.2 may.0 may.3 c.in_ok-point-2.point mid (edited mid.history c.in_ok-point-2.point 0) counts
+    subst (λ (z : Core g.row.S.Denot). Took g.S.Store s (Line (line_of e)) silent (Ok Done) 0 z)
+    (sym c.take_point.ensures.fields)
+    (edit_done g.S.Store s is e c.requires.good none p ed may.2 may.0 may.3 c.in_ok-point-2.point mid
+    (edited mid.history c.in_ok-point-2.point 0) counts
     (mid.next_track + c.tracks_for-tracks.result) adds moved moves (λ i. next i + tracks i))
 
 pub returns-in_err-may_commit-clause-number : goal.returns-in_err-may_commit-clause-number
@@ -193,7 +233,8 @@ returns-in_err-may_commit-clause-undamaged g c =
     let s = core_of c.args.self.now in
     let own = subst TellsNone (sym c.edit_refusal.ensures) (refusal_tells c.args.edit (current_tracks s.history)) in
     subst (λ r. IfErr r IsUndamaged) (sym (p.1 ∙ ap Err p.2))
-    (undamaged_test s.stopped c.edit_refusal.result s.next_track c.tracks_for-tracks.result s.commit_number c.in_err-may_commit.field-0.0 own c.in_err-may_commit.ensures)
+    (undamaged_test s.stopped c.edit_refusal.result s.next_track c.tracks_for-tracks.result s.commit_number
+    c.in_err-may_commit.field-0.0 own c.in_err-may_commit.ensures)
 
 pub returns-in_err-make_room-clause-undamaged : goal.returns-in_err-make_room-clause-undamaged
 returns-in_err-make_room-clause-undamaged g c =
@@ -211,4 +252,5 @@ returns-in_err-point-2-clause-undamaged g c =
     let s = core_of c.make_room.new.self in
     let body = spelling (Edit 0 s.next_block (s.next_track + c.tracks_for-tracks.result) c.in_ok-point.point) in
     subst (λ r. IfErr r IsUndamaged) (sym (p.1 ∙ ap Err p.2))
-    (adding_tells g.S.Store s (core_of c.commit_point.new.self) body c.in_err-point-2.field-0.0 c.in_err-point-2.ensures.record)
+    (adding_tells g.S.Store s
+    (core_of c.commit_point.new.self) body c.in_err-point-2.field-0.0 c.in_err-point-2.ensures.record)

@@ -24,7 +24,8 @@ returns-in-Some-clause-took g c =
     let range = c.args.range in
     let e = range_edit c.args.edit range.from range.to in
     let line = range_call c.args.edit range.track range.from range.to in
-    track_stopped g.S.Store s c.requires (Line (range_line c.args.edit range.track range.from range.to)) silent e Nothing range.track 0 line c.in-Some.faults (g.met.S.Store.may_fewer s.store) c.in-Some.is
+    track_stopped g.S.Store s c.requires (Line (range_line c.args.edit range.track range.from range.to)) silent e
+    Nothing range.track 0 line c.in-Some.faults (g.met.S.Store.may_fewer s.store) c.in-Some.is
 
 pub returns-in_err-planned-clause-took : goal.returns-in_err-planned-clause-took
 returns-in_err-planned-clause-took g c =
@@ -36,7 +37,8 @@ returns-in_err-planned-clause-took g c =
     let r = err_from_is_err_and c.from_residual.result c.from_residual.ensures.1 in
     let why = c.in_err-planned.field-0.0 in
     subst (λ x. Took g.S.Store s call silent (told_by (λ (n : ℕ). Done) x) 0 s) (sym (r.1 ∙ ap Err r.2))
-    (track_refused g.S.Store s c.requires call silent e Nothing range.track 0 line why (g.met.S.Store.may_fewer s.store) c.in_default.is c.in_err-planned.ensures.err)
+    (track_refused g.S.Store s c.requires call silent e Nothing range.track 0 line why
+    (g.met.S.Store.may_fewer s.store) c.in_default.is c.in_err-planned.ensures.err)
 
 pub returns-in_err-planned-clause-sound : goal.returns-in_err-planned-clause-sound
 returns-in_err-planned-clause-sound g c = λ held.
@@ -45,7 +47,8 @@ returns-in_err-planned-clause-sound g c = λ held.
     let e = range_edit c.args.edit range.from range.to in
     let r = err_from_is_err_and c.from_residual.result c.from_residual.ensures.1 in
     subst (λ x. IfErr x IsUndamaged) (sym (r.1 ∙ ap Err r.2))
-    (no_plan_tells e range.track (current_tracks s.history) c.in_err-planned.field-0.0 (λ len. range_tells range.from range.to len) c.in_err-planned.ensures.err)
+    (no_plan_tells e range.track (current_tracks s.history) c.in_err-planned.field-0.0
+    (λ len. range_tells range.from range.to len) c.in_err-planned.ensures.err)
 
 pub carry_out-requires-clause-planned : goal.carry_out-requires-clause-planned
 carry_out-requires-clause-planned g c =
@@ -53,16 +56,19 @@ carry_out-requires-clause-planned g c =
     let range = c.args.range in
     let e = range_edit c.args.edit range.from range.to in
     let p = c.in_ok-planned.planned in
-    subst (λ (z : Option (List (List Item))). IsPlanned s Nothing p.makes 0 p.tracks p.point (clip_then z s.clipboard)) (sym c.in_ok-planned.ensures.clip)
+    subst (λ (z : Option (List (List Item))). IsPlanned s Nothing p.makes 0 p.tracks p.point (clip_then z s.clipboard))
+    (sym c.in_ok-planned.ensures.clip)
     (subst (λ (k : ℕ). IsPlanned s Nothing p.makes 0 k p.point s.clipboard) (sym c.in_ok-planned.ensures.tracks)
-    (track_planned g.S.Store s c.requires e Nothing range.track p.point p.makes p.next c.in_ok-planned.ensures.plan 0 (omega arith)))
+    (track_planned g.S.Store s c.requires e Nothing range.track p.point p.makes p.next c.in_ok-planned.ensures.plan 0
+    (omega arith)))
 
 pub carry_out-requires-clause-next : goal.carry_out-requires-clause-next
 carry_out-requires-clause-next g c =
     let s = core_of c.args.self.now in
     let range = c.args.range in
     let p = c.in_ok-planned.planned in
-    track_next g.S.Store s c.requires (range_edit c.args.edit range.from range.to) Nothing range.track p.point p.makes p.next c.in_ok-planned.ensures.plan
+    track_next g.S.Store s c.requires (range_edit c.args.edit range.from range.to) Nothing range.track p.point p.makes
+    p.next c.in_ok-planned.ensures.plan
 
 pub returns-clause-took : goal.returns-clause-took
 returns-clause-took g c =
@@ -73,6 +79,9 @@ returns-clause-took g c =
     let line = range_call c.args.edit range.track range.from range.to in
     let p = c.in_ok-planned.planned in
     c.carry_out.ensures.took call silent
-    (subst (λ (z : Option (List (List Item))). IsEdit g.S.Store s call silent p.tracks Nothing p.makes (recorded s.history p.point 0) (clip_then z s.clipboard)) (sym c.in_ok-planned.ensures.clip)
-    (subst (λ (k : ℕ). IsEdit g.S.Store s call silent k Nothing p.makes (recorded s.history p.point 0) s.clipboard) (sym c.in_ok-planned.ensures.tracks)
-    (track_edit g.S.Store s c.requires call silent e Nothing range.track 0 line p.point p.makes p.next c.in_ok-planned.ensures.plan)))
+    (subst (λ (z : Option (List (List Item))). IsEdit g.S.Store s call silent p.tracks Nothing p.makes
+    (recorded s.history p.point 0) (clip_then z s.clipboard)) (sym c.in_ok-planned.ensures.clip)
+    (subst (λ (k : ℕ). IsEdit g.S.Store s call silent k Nothing p.makes (recorded s.history p.point 0) s.clipboard)
+    (sym c.in_ok-planned.ensures.tracks)
+    (track_edit g.S.Store s c.requires call silent e Nothing range.track 0 line p.point p.makes p.next
+    c.in_ok-planned.ensures.plan)))

@@ -18,8 +18,10 @@ pub returns-in-Some : goal.returns-in-Some
 returns-in-Some g c =
     let s = core_of c.args.self.now in
     let fewer = g.met.S.Store.may_fewer s.store in
-    idle_looks g.S.Store s (Line (Envelope c.args.track c.args.from c.args.to c.args.columns)) fewer (refusal.Stopped c.in-Some.faults) tt
-    (scan_stopped g.S.Store s c.requires c.args.track c.args.from c.args.to fewer c.args.columns c.in-Some.faults c.in-Some.is)
+    idle_looks g.S.Store s (Line (Envelope c.args.track c.args.from c.args.to c.args.columns)) fewer
+    (refusal.Stopped c.in-Some.faults) tt
+    (scan_stopped g.S.Store s c.requires c.args.track c.args.from c.args.to fewer c.args.columns c.in-Some.faults
+    c.in-Some.is)
 
 pub returns-in_err-layout : goal.returns-in_err-layout
 returns-in_err-layout g c =
@@ -28,14 +30,19 @@ returns-in_err-layout g c =
     let fewer = g.met.S.Store.may_fewer s.store in
     let call = Line (Envelope c.args.track c.args.from c.args.to c.args.columns) in
     let why = refusal.NoTrack c.args.track in
-    subst (λ r. Looks g.S.Store s call (told_by reply.Columns r) s) (sym (p.1 ∙ ap Err (p.2 ∙ c.in_err-layout.ensures.0)))
+    subst (λ r. Looks g.S.Store s call (told_by reply.Columns r) s)
+    (sym (p.1 ∙ ap Err (p.2 ∙ c.in_err-layout.ensures.0)))
     (idle_looks g.S.Store s call fewer why tt
-    (scan_lacks g.S.Store s c.requires c.args.track c.args.from c.args.to fewer c.args.columns why c.in_default.is (ap (lacks c.args.track) c.in_err-layout.ensures.1)))
+    (scan_lacks g.S.Store s c.requires c.args.track c.args.from c.args.to fewer c.args.columns why c.in_default.is
+    (ap (lacks c.args.track) c.in_err-layout.ensures.1)))
 
 pub columns-requires : goal.columns-requires
 columns-requires g c =
     let s = core_of c.args.self.now in
-    record { named = layout_may_read g.S.Store s c.requires c.args.track c.in_ok-layout.layout.now c.in_ok-layout.ensures }
+    record {
+      named = layout_may_read g.S.Store s c.requires c.args.track c.in_ok-layout.layout.now
+          c.in_ok-layout.ensures;
+    }
 
 pub returns-in_err-scans : goal.returns-in_err-scans
 returns-in_err-scans g c =
@@ -50,7 +57,9 @@ returns-in_err-scans g c =
     subst (λ r. Looks g.S.Store s call (told_by reply.Columns r) (record s { store = store })) (sym (p.1 ∙ ap Err p.2))
     (unread_looks g.S.Store s call store c.columns.ensures.kept why
     (λ held. c.in_err-scans.ensures.sound held.tells (layout_whole g.S.Store s c.requires c.args.track layout has held))
-    (scan_failed g.S.Store s c.requires c.args.track c.args.from c.args.to fewer c.args.columns layout has c.in_default.is store c.columns.ensures.kept why c.in_err-scans.ensures.tests c.in_err-scans.ensures.faults c.in_err-scans.ensures.damaged))
+    (scan_failed g.S.Store s c.requires c.args.track c.args.from c.args.to fewer c.args.columns layout
+    has c.in_default.is store c.columns.ensures.kept why c.in_err-scans.ensures.tests c.in_err-scans.ensures.faults
+    c.in_err-scans.ensures.damaged))
 
 pub returns : goal.returns
 returns g c =
@@ -63,5 +72,6 @@ returns g c =
     let found = c.in_ok-scans.scans.items in
     subst (λ xs. Looks g.S.Store s call (Ok (reply.Columns xs)) (record s { store = store })) (sym c.new.ensures)
     (read_looks g.S.Store s call store c.columns.ensures.kept (reply.Columns found)
-    (scan_done g.S.Store s c.requires c.args.track c.args.from c.args.to fewer c.args.columns layout has c.in_default.is store c.columns.ensures.kept found c.in_ok-scans.ensures.tests c.in_ok-scans.ensures.faults
+    (scan_done g.S.Store s c.requires c.args.track c.args.from c.args.to fewer c.args.columns layout has c.in_default.is
+    store c.columns.ensures.kept found c.in_ok-scans.ensures.tests c.in_ok-scans.ensures.faults
     (λ held. c.in_ok-scans.ensures.read held.tells (layout_whole g.S.Store s c.requires c.args.track layout has held))))

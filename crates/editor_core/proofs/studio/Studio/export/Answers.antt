@@ -23,7 +23,8 @@ use Rattle.editor_core.specs.Studios.{IsHeld, named_blocks}
 use Rattle.editor_core.specs.Took.{Took, silent, told_by}
 use Rattle.editor_core.proofs.Applying.{lasts_idle, lasts_looked}
 use Rattle.editor_core.proofs.Currents.{current_may_read, current_named, current_whole}
-use Rattle.editor_core.proofs.Exporting.{export_failed, export_left, export_len, export_stopped, export_undamaged, exported}
+use Rattle.editor_core.proofs.Exporting.{export_failed, export_left, export_len, export_stopped, export_undamaged}
+use Rattle.editor_core.proofs.Exporting.{exported}
 use Rattle.editor_core.proofs.NamedDamage.{export_among}
 use Rattle.editor_core.proofs.studio.Studio.export.Goals as goal
 
@@ -31,7 +32,8 @@ pub returns-in-Some-clause-took : goal.returns-in-Some-clause-took
 returns-in-Some-clause-took g c = λ told.
     let s = core_of c.args.self.now in
     let was = g.V.Vault.holds c.args.vault.now c.args.name.now in
-    export_stopped g.S.Store s c.requires c.args.name.now (moved_from was was) (g.met.S.Store.may_fewer s.store) refl c.in-Some.faults c.in-Some.is
+    export_stopped g.S.Store s c.requires c.args.name.now (moved_from was was)
+    (g.met.S.Store.may_fewer s.store) refl c.in-Some.faults c.in-Some.is
 
 pub returns-in-Some-clause-kept : goal.returns-in-Some-clause-kept
 returns-in-Some-clause-kept g c = kept_none c.args.self.now.store (g.met.S.Store.may_fewer c.args.self.now.store)
@@ -39,7 +41,8 @@ returns-in-Some-clause-kept g c = kept_none c.args.self.now.store (g.met.S.Store
 pub write_stretches-requires : goal.write_stretches-requires
 write_stretches-requires g c =
     let s = core_of c.args.self.now in
-    subst (λ (z : List Track). AllNamed (point_blocks z)) (sym c.current_of-point.ensures) (current_may_read g.S.Store s c.requires)
+    subst (λ (z : List Track). AllNamed (point_blocks z)) (sym c.current_of-point.ensures)
+    (current_may_read g.S.Store s c.requires)
 
 pub returns-in_err-bytes-clause-took : goal.returns-in_err-bytes-clause-took
 returns-in_err-bytes-clause-took g c = λ told.
@@ -56,17 +59,23 @@ returns-in_err-bytes-clause-took g c = λ told.
     let why = c.in_err-bytes.field-0.0 in
     let p = err_from_is_err_and c.from_residual.result c.from_residual.ensures.1 in
     let whole : IsHeld g.S.Store s → AllWhole files (point_blocks point) =
-    λ held. subst (λ (z : List Track). AllWhole files (point_blocks z)) (sym same) (current_whole g.S.Store s c.requires held) in
-    let begun : IsHeld g.S.Store s → MayBegin (wav_text (mix_of (meant (sources_of files) (current_tracks s.history))) s.rate) was now =
+    λ held. subst (λ (z : List Track). AllWhole files (point_blocks z)) (sym same)
+    (current_whole g.S.Store s c.requires held) in
+    let begun : IsHeld g.S.Store s
+    → MayBegin (wav_text (mix_of (meant (sources_of files) (current_tracks s.history))) s.rate) was now =
     λ held. subst (λ (z : List Track). MayBegin (wav_text (mix_of (meant (sources_of files) z)) s.rate) was now) same
     (c.in_err-bytes.ensures.written told held.tells (whole held)) in
     let long = ap mix_length_of same ∙ export_len g.S.Store s c.requires name sound in
-    subst (λ r. Took g.S.Store s call sound (told_by reply.Wrote r) 0 (record s { store = c.write_stretches.new.store })) (sym (p.1 ∙ ap Err p.2))
-    (export_failed g.S.Store s c.requires name sound c.in_default.is c.write_stretches.new.store kept why (mix_length_of point)
-    (g.V.Vault.fault_count c.args.vault.now) (g.V.Vault.fault_count c.write_stretches.new.vault) long c.in_err-bytes.ensures.fits c.in_err-bytes.ensures.faults
+    subst (λ r. Took g.S.Store s call sound (told_by reply.Wrote r) 0
+    (record s { store = c.write_stretches.new.store })) (sym (p.1 ∙ ap Err p.2))
+    (export_failed g.S.Store s c.requires name sound c.in_default.is c.write_stretches.new.store kept why
+    (mix_length_of point)
+    (g.V.Vault.fault_count c.args.vault.now) (g.V.Vault.fault_count c.write_stretches.new.vault) long
+    c.in_err-bytes.ensures.fits c.in_err-bytes.ensures.faults
     (c.in_err-bytes.ensures.untouched told) begun
     (λ told.
-    export_among files (named_blocks s) (point_blocks (current_tracks s.history)) why (current_named g.S.Store s c.requires)
+    export_among files (named_blocks s) (point_blocks (current_tracks s.history)) why
+    (current_named g.S.Store s c.requires)
     (subst (λ (z : List Track). IsBlockFault files (point_blocks z) why) same (c.in_err-bytes.ensures.damaged told))))
 
 pub returns-in_err-bytes-clause-sound : goal.returns-in_err-bytes-clause-sound
@@ -74,7 +83,8 @@ returns-in_err-bytes-clause-sound g c = λ held.
     let s = core_of c.args.self.now in
     let files = g.S.Store.reads s.store in
     let p = err_from_is_err_and c.from_residual.result c.from_residual.ensures.1 in
-    let whole = subst (λ (z : List Track). AllWhole files (point_blocks z)) (sym c.current_of-point.ensures) (current_whole g.S.Store s c.requires held) in
+    let whole = subst (λ (z : List Track). AllWhole files (point_blocks z)) (sym c.current_of-point.ensures)
+    (current_whole g.S.Store s c.requires held) in
     subst (λ r. IfErr r IsUndamaged) (sym (p.1 ∙ ap Err p.2))
     (export_undamaged c.in_err-bytes.field-0.0 (c.in_err-bytes.ensures.sound held.tells whole))
 
@@ -90,10 +100,13 @@ returns-clause-took g c = λ told.
     let same = c.current_of-point.ensures in
     let fine = c.in_ok-bytes.ensures in
     let whole : IsHeld g.S.Store s → AllWhole files (point_blocks point) =
-    λ held. subst (λ (z : List Track). AllWhole files (point_blocks z)) (sym same) (current_whole g.S.Store s c.requires held) in
+    λ held. subst (λ (z : List Track). AllWhole files (point_blocks z)) (sym same)
+    (current_whole g.S.Store s c.requires held) in
     let long = ap mix_length_of same ∙ export_len g.S.Store s c.requires name sound in
-    exported g.S.Store s c.requires name sound c.in_default.is c.write_stretches.new.store fine.kept c.in_ok-bytes.bytes (mix_length_of point) long fine.fits fine.len fine.faults.0
-    (λ held. fine.written told held.tells (whole held) ∙ ap (λ (z : List Track). Some (wav_text (mix_of (meant (sources_of files) z)) s.rate)) same)
+    exported g.S.Store s c.requires name sound c.in_default.is c.write_stretches.new.store fine.kept c.in_ok-bytes.bytes
+    (mix_length_of point) long fine.fits fine.len fine.faults.0
+    (λ held. fine.written told held.tells (whole held)
+    ∙ ap (λ (z : List Track). Some (wav_text (mix_of (meant (sources_of files) z)) s.rate)) same)
 
 pub returns-in-Some-clause-lasts : goal.returns-in-Some-clause-lasts
 returns-in-Some-clause-lasts g c =
@@ -107,17 +120,24 @@ returns-in_err-bytes-clause-lasts g c =
     let call = Line (command.Export c.args.name.now) in
     let why = c.in_err-bytes.field-0.0 in
     let p = err_from_is_err_and c.from_residual.result c.from_residual.ensures.1 in
-    subst (λ r. Lasts g.S.Store s call (told_by reply.Wrote r) 0 (record s { store = c.write_stretches.new.store })) (sym (p.1 ∙ ap Err p.2))
-    (lasts_looked g.S.Store s c.requires call c.in_default.is c.write_stretches.new.store c.in_err-bytes.ensures.kept (Err _) refl
-    (export_left g.S.Store s c.requires c.args.name.now silent c.in_default.is c.write_stretches.new.store c.in_err-bytes.ensures.kept why
-    (g.V.Vault.fault_count c.args.vault.now) (g.V.Vault.fault_count c.write_stretches.new.vault) c.in_err-bytes.ensures.faults
+    subst (λ r. Lasts g.S.Store s call (told_by reply.Wrote r) 0 (record s { store = c.write_stretches.new.store }))
+    (sym (p.1 ∙ ap Err p.2))
+    (lasts_looked g.S.Store s c.requires call c.in_default.is c.write_stretches.new.store c.in_err-bytes.ensures.kept
+    (Err _) refl
+    (export_left g.S.Store s c.requires c.args.name.now silent c.in_default.is c.write_stretches.new.store
+    c.in_err-bytes.ensures.kept why
+    (g.V.Vault.fault_count c.args.vault.now)
+    (g.V.Vault.fault_count c.write_stretches.new.vault) c.in_err-bytes.ensures.faults
     (λ told.
-    export_among files (named_blocks s) (point_blocks (current_tracks s.history)) why (current_named g.S.Store s c.requires)
-    (subst (λ (z : List Track). IsBlockFault files (point_blocks z) why) c.current_of-point.ensures (c.in_err-bytes.ensures.damaged told)))))
+    export_among files (named_blocks s) (point_blocks (current_tracks s.history)) why
+    (current_named g.S.Store s c.requires)
+    (subst (λ (z : List Track). IsBlockFault files (point_blocks z) why) c.current_of-point.ensures
+    (c.in_err-bytes.ensures.damaged told)))))
 
 pub returns-clause-lasts : goal.returns-clause-lasts
 returns-clause-lasts g c =
     let s = core_of c.args.self.now in
     let same : s.commit_number ≡ s.commit_number + 0 = omega arith in
-    lasts_looked g.S.Store s c.requires (Line (command.Export c.args.name.now)) c.in_default.is c.write_stretches.new.store c.in_ok-bytes.ensures.kept
+    lasts_looked g.S.Store s c.requires
+    (Line (command.Export c.args.name.now)) c.in_default.is c.write_stretches.new.store c.in_ok-bytes.ensures.kept
     (Ok (reply.Wrote c.in_ok-bytes.bytes)) same tt

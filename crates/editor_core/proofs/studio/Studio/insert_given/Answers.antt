@@ -23,7 +23,8 @@ returns-in-Some-clause-took g c = λ call sound line.
     let s = core_of c.args.self.now in
     let given = c.args.given.now in
     let e = place_edit c.args.place (brought_count given) in
-    track_stopped g.S.Store s c.requires.studio call sound e given c.args.track c.args.tag line c.in-Some.faults (g.met.S.Store.may_fewer s.store) c.in-Some.is
+    track_stopped g.S.Store s c.requires.studio call sound e given c.args.track c.args.tag line c.in-Some.faults
+    (g.met.S.Store.may_fewer s.store) c.in-Some.is
 
 pub returns-in_err-planned-clause-took : goal.returns-in_err-planned-clause-took
 returns-in_err-planned-clause-took g c = λ call sound line.
@@ -32,9 +33,11 @@ returns-in_err-planned-clause-took g c = λ call sound line.
     let e = place_edit c.args.place (brought_count given) in
     let r = err_from_is_err_and c.from_residual.result c.from_residual.ensures.1 in
     let why = c.in_err-planned.field-0.0 in
-    let not = subst (λ (k : ℕ). NoTrackPlan (place_edit c.args.place k) c.args.track (current_tracks s.history) why) c.count_of.ensures.value c.in_err-planned.ensures.err in
+    let not = subst (λ (k : ℕ). NoTrackPlan (place_edit c.args.place k) c.args.track (current_tracks s.history) why)
+    c.count_of.ensures.value c.in_err-planned.ensures.err in
     subst (λ x. Took g.S.Store s call sound (told_by (λ (n : ℕ). Done) x) 0 s) (sym (r.1 ∙ ap Err r.2))
-    (track_refused g.S.Store s c.requires.studio call sound e given c.args.track c.args.tag line why (g.met.S.Store.may_fewer s.store) c.in_default.is not)
+    (track_refused g.S.Store s c.requires.studio call sound e given c.args.track c.args.tag line why
+    (g.met.S.Store.may_fewer s.store) c.in_default.is not)
 
 pub returns-in_err-planned-clause-sound : goal.returns-in_err-planned-clause-sound
 returns-in_err-planned-clause-sound g c = λ held.
@@ -42,25 +45,31 @@ returns-in_err-planned-clause-sound g c = λ held.
     let count = c.count_of.result in
     let r = err_from_is_err_and c.from_residual.result c.from_residual.ensures.1 in
     subst (λ x. IfErr x IsUndamaged) (sym (r.1 ∙ ap Err r.2))
-    (no_plan_tells (place_edit c.args.place count) c.args.track (current_tracks s.history) c.in_err-planned.field-0.0 (λ len. place_tells c.args.place count len) c.in_err-planned.ensures.err)
+    (no_plan_tells (place_edit c.args.place count) c.args.track (current_tracks s.history) c.in_err-planned.field-0.0
+    (λ len. place_tells c.args.place count len) c.in_err-planned.ensures.err)
 
 pub carry_out-requires-clause-planned : goal.carry_out-requires-clause-planned
 carry_out-requires-clause-planned g c =
     let s = core_of c.args.self.now in
     let given = c.args.given.now in
     let p = c.in_ok-planned.planned in
-    let plan = subst (λ (k : ℕ). IsTrackPlan (place_edit c.args.place k) k c.args.track s.block_size s.next_block (current_tracks s.history) p.point p.makes p.next) c.count_of.ensures.value c.in_ok-planned.ensures.plan in
-    subst (λ (z : Option (List (List Item))). IsPlanned s given p.makes c.args.tag p.tracks p.point (clip_then z s.clipboard)) (sym c.in_ok-planned.ensures.clip)
+    let plan = subst (λ (k : ℕ). IsTrackPlan (place_edit c.args.place k) k c.args.track s.block_size s.next_block
+    (current_tracks s.history) p.point p.makes p.next) c.count_of.ensures.value c.in_ok-planned.ensures.plan in
+    subst (λ (z : Option (List (List Item))). IsPlanned s given p.makes c.args.tag p.tracks p.point
+    (clip_then z s.clipboard)) (sym c.in_ok-planned.ensures.clip)
     (subst (λ (k : ℕ). IsPlanned s given p.makes c.args.tag k p.point s.clipboard) (sym c.in_ok-planned.ensures.tracks)
-    (track_planned g.S.Store s c.requires.studio (place_edit c.args.place (brought_count given)) given c.args.track p.point p.makes p.next plan c.args.tag c.requires.tag))
+    (track_planned g.S.Store s c.requires.studio (place_edit c.args.place (brought_count given)) given c.args.track
+    p.point p.makes p.next plan c.args.tag c.requires.tag))
 
 pub carry_out-requires-clause-next : goal.carry_out-requires-clause-next
 carry_out-requires-clause-next g c =
     let s = core_of c.args.self.now in
     let given = c.args.given.now in
     let p = c.in_ok-planned.planned in
-    let plan = subst (λ (k : ℕ). IsTrackPlan (place_edit c.args.place k) k c.args.track s.block_size s.next_block (current_tracks s.history) p.point p.makes p.next) c.count_of.ensures.value c.in_ok-planned.ensures.plan in
-    track_next g.S.Store s c.requires.studio (place_edit c.args.place (brought_count given)) given c.args.track p.point p.makes p.next plan
+    let plan = subst (λ (k : ℕ). IsTrackPlan (place_edit c.args.place k) k c.args.track s.block_size s.next_block
+    (current_tracks s.history) p.point p.makes p.next) c.count_of.ensures.value c.in_ok-planned.ensures.plan in
+    track_next g.S.Store s c.requires.studio
+    (place_edit c.args.place (brought_count given)) given c.args.track p.point p.makes p.next plan
 
 pub returns-clause-took : goal.returns-clause-took
 returns-clause-took g c = λ call sound line.
@@ -68,8 +77,12 @@ returns-clause-took g c = λ call sound line.
     let given = c.args.given.now in
     let e = place_edit c.args.place (brought_count given) in
     let p = c.in_ok-planned.planned in
-    let plan = subst (λ (k : ℕ). IsTrackPlan (place_edit c.args.place k) k c.args.track s.block_size s.next_block (current_tracks s.history) p.point p.makes p.next) c.count_of.ensures.value c.in_ok-planned.ensures.plan in
+    let plan = subst (λ (k : ℕ). IsTrackPlan (place_edit c.args.place k) k c.args.track s.block_size s.next_block
+    (current_tracks s.history) p.point p.makes p.next) c.count_of.ensures.value c.in_ok-planned.ensures.plan in
     c.carry_out.ensures.took call sound
-    (subst (λ (z : Option (List (List Item))). IsEdit g.S.Store s call sound p.tracks given p.makes (recorded s.history p.point c.args.tag) (clip_then z s.clipboard)) (sym c.in_ok-planned.ensures.clip)
-    (subst (λ (k : ℕ). IsEdit g.S.Store s call sound k given p.makes (recorded s.history p.point c.args.tag) s.clipboard) (sym c.in_ok-planned.ensures.tracks)
-    (track_edit g.S.Store s c.requires.studio call sound e given c.args.track c.args.tag line p.point p.makes p.next plan)))
+    (subst (λ (z : Option (List (List Item))). IsEdit g.S.Store s call sound p.tracks given p.makes
+    (recorded s.history p.point c.args.tag) (clip_then z s.clipboard)) (sym c.in_ok-planned.ensures.clip)
+    (subst (λ (k : ℕ). IsEdit g.S.Store s call sound k given p.makes
+    (recorded s.history p.point c.args.tag) s.clipboard) (sym c.in_ok-planned.ensures.tracks)
+    (track_edit g.S.Store s c.requires.studio call sound e given c.args.track c.args.tag line p.point p.makes p.next
+    plan)))

@@ -33,14 +33,17 @@ returns-in_err-may_view g c =
     let s = core_of c.args.self.now in
     let fewer = g.met.S.Store.may_fewer s.store in
     let call = Line (Mix c.args.from c.args.to) in
-    subst (λ r. Sees g.S.Store s call Frames c.args.out.now r s) (sym (p.1 ∙ ap Err (p.2 ∙ c.in_err-may_view.ensures.0)))
+    subst (λ r. Sees g.S.Store s call Frames c.args.out.now r s)
+    (sym (p.1 ∙ ap Err (p.2 ∙ c.in_err-may_view.ensures.0)))
     (idle_sees g.S.Store s call Frames c.args.out.now fewer refusal.BadRange tt tt
-    (mix_beyond g.S.Store s c.requires.studio fewer c.args.from c.args.to refusal.BadRange c.in_default.is c.in_err-may_view.ensures.1))
+    (mix_beyond g.S.Store s c.requires.studio fewer c.args.from c.args.to refusal.BadRange c.in_default.is
+    c.in_err-may_view.ensures.1))
 
 pub read_mix-requires-clause-named : goal.read_mix-requires-clause-named
 read_mix-requires-clause-named g c =
     let s = core_of c.args.self.now in
-    subst (λ (z : List Track). AllNamed (point_blocks z)) (sym c.current_of-point.ensures) (current_may_read g.S.Store s c.requires.studio)
+    subst (λ (z : List Track). AllNamed (point_blocks z)) (sym c.current_of-point.ensures)
+    (current_may_read g.S.Store s c.requires.studio)
 
 pub returns-in_err-count : goal.returns-in_err-count
 returns-in_err-count g c =
@@ -53,9 +56,12 @@ returns-in_err-count g c =
     subst (λ r. Sees g.S.Store s call Frames c.read_mix.new.out r (record s { store = store })) (sym (p.1 ∙ ap Err p.2))
     (unread_sees g.S.Store s call store c.read_mix.ensures.kept Frames c.read_mix.new.out fault
     (λ held. c.in_err-count.ensures.sound held.tells
-    (subst (λ (z : List Track). AllWhole (g.S.Store.reads s.store) (point_blocks z)) (sym c.current_of-point.ensures) (current_whole g.S.Store s c.requires.studio held)))
-    (mix_failed g.S.Store s c.requires.studio fewer c.args.from c.args.to c.in_default.is store c.read_mix.ensures.kept fault c.in_err-count.ensures.faults
-    (subst (λ (z : List Track). IsTrue (g.S.Store.tells s.store) → IsFaultIn (g.S.Store.reads s.store) (point_blocks z) fault) c.current_of-point.ensures
+    (subst (λ (z : List Track). AllWhole (g.S.Store.reads s.store) (point_blocks z)) (sym c.current_of-point.ensures)
+    (current_whole g.S.Store s c.requires.studio held)))
+    (mix_failed g.S.Store s c.requires.studio fewer c.args.from c.args.to c.in_default.is store c.read_mix.ensures.kept
+    fault c.in_err-count.ensures.faults
+    (subst (λ (z : List Track). IsTrue (g.S.Store.tells s.store)
+    → IsFaultIn (g.S.Store.reads s.store) (point_blocks z) fault) c.current_of-point.ensures
     c.in_err-count.ensures.damaged)))
 
 pub returns : goal.returns
@@ -69,7 +75,11 @@ returns g c =
     let whole : IsHeld g.S.Store s → AllWhole files (point_blocks c.current_of-point.result.now) =
     λ held. subst (λ (z : List Track). AllWhole files (point_blocks z)) (sym c.current_of-point.ensures)
     (current_whole g.S.Store s c.requires.studio held) in
-    let same = ap (λ (z : List Track). part c.args.from c.args.to (mix_of (meant (sources_of files) z))) c.current_of-point.ensures in
+    let same = ap (λ (z : List Track). part c.args.from c.args.to (mix_of (meant (sources_of files) z)))
+    c.current_of-point.ensures in
     read_sees g.S.Store s call store c.read_mix.ensures.kept Frames c.read_mix.new.out n c.in_ok-count.ensures.fits
-    (mix_done g.S.Store s c.requires.studio fewer c.args.from c.args.to c.in_default.is store c.read_mix.ensures.kept _ c.in_ok-may_view.ensures c.in_ok-count.ensures.faults
-    (λ held. c.in_ok-count.ensures.read held.tells (whole held) ∙ as_many (sources_of files) c.current_of-point.result.now c.args.from (c.args.to - c.args.from) n c.in_ok-count.ensures.count (c.read_mix.ensures.len (sources_of files)) ∙ same))
+    (mix_done g.S.Store s c.requires.studio fewer c.args.from c.args.to c.in_default.is store c.read_mix.ensures.kept _
+    c.in_ok-may_view.ensures c.in_ok-count.ensures.faults
+    (λ held. c.in_ok-count.ensures.read held.tells (whole held)
+    ∙ as_many (sources_of files) c.current_of-point.result.now c.args.from
+    (c.args.to - c.args.from) n c.in_ok-count.ensures.count (c.read_mix.ensures.len (sources_of files)) ∙ same))

@@ -12,13 +12,16 @@ use Rattle.editor_core.specs.Edits.{IsEdit, IsPlanned, clip_then}
 use Rattle.editor_core.specs.Pastes.{paste_line}
 use Rattle.editor_core.specs.Points.{current_tracks}
 use Rattle.editor_core.specs.Took.{Took, silent, told_by}
-use Rattle.editor_core.proofs.PasteLaws.{no_paste_tells, paste_edit, paste_planned, paste_refused, paste_stopped}
+use Rattle.editor_core.proofs.PasteLaws.{no_paste_tells}
+use Rattle.editor_core.proofs.PasteSteps.{paste_edit, paste_planned}
+use Rattle.editor_core.proofs.PasteSteps.{paste_refused, paste_stopped}
 use Rattle.editor_core.proofs.studio.Studio.paste_strips.Goals as goal
 
 pub returns-in-Some-clause-took : goal.returns-in-Some-clause-took
 returns-in-Some-clause-took g c =
     let s = core_of c.args.self.now in
-    paste_stopped g.S.Store s c.requires.studio c.args.edit c.args.track c.args.at c.in-Some.faults (g.met.S.Store.may_fewer s.store) c.in-Some.is
+    paste_stopped g.S.Store s c.requires.studio c.args.edit c.args.track c.args.at c.in-Some.faults
+    (g.met.S.Store.may_fewer s.store) c.in-Some.is
 
 pub returns-in_err-planned-clause-took : goal.returns-in_err-planned-clause-took
 returns-in_err-planned-clause-took g c =
@@ -27,22 +30,26 @@ returns-in_err-planned-clause-took g c =
     let r = err_from_is_err_and c.from_residual.result c.from_residual.ensures.1 in
     let why = c.in_err-planned.field-0.0 in
     subst (λ x. Took g.S.Store s call silent (told_by (λ (n : ℕ). Done) x) 0 s) (sym (r.1 ∙ ap Err r.2))
-    (paste_refused g.S.Store s c.requires.studio c.args.edit c.args.track c.args.at why (g.met.S.Store.may_fewer s.store) c.in_default.is c.in_err-planned.ensures.err)
+    (paste_refused g.S.Store s c.requires.studio c.args.edit c.args.track c.args.at why
+    (g.met.S.Store.may_fewer s.store) c.in_default.is c.in_err-planned.ensures.err)
 
 pub returns-in_err-planned-clause-sound : goal.returns-in_err-planned-clause-sound
 returns-in_err-planned-clause-sound g c = λ held.
     let s = core_of c.args.self.now in
     let r = err_from_is_err_and c.from_residual.result c.from_residual.ensures.1 in
     subst (λ x. IfErr x IsUndamaged) (sym (r.1 ∙ ap Err r.2))
-    (no_paste_tells c.args.edit c.args.track c.args.at s.clipboard (current_tracks s.history) c.in_err-planned.field-0.0 c.in_err-planned.ensures.err)
+    (no_paste_tells c.args.edit c.args.track c.args.at s.clipboard
+    (current_tracks s.history) c.in_err-planned.field-0.0 c.in_err-planned.ensures.err)
 
 pub carry_out-requires-clause-planned : goal.carry_out-requires-clause-planned
 carry_out-requires-clause-planned g c =
     let s = core_of c.args.self.now in
     let p = c.in_ok-planned.planned in
-    subst (λ (z : Option (List (List Item))). IsPlanned s Nothing p.makes 0 p.tracks p.point (clip_then z s.clipboard)) (sym c.in_ok-planned.ensures.clip)
+    subst (λ (z : Option (List (List Item))). IsPlanned s Nothing p.makes 0 p.tracks p.point (clip_then z s.clipboard))
+    (sym c.in_ok-planned.ensures.clip)
     (subst (λ (k : ℕ). IsPlanned s Nothing p.makes 0 k p.point s.clipboard) (sym c.in_ok-planned.ensures.tracks)
-    (paste_planned g.S.Store s c.requires.studio c.args.edit c.args.track c.args.at p.point p.makes p.next c.in_ok-planned.ensures.plan))
+    (paste_planned g.S.Store s c.requires.studio c.args.edit c.args.track c.args.at p.point p.makes p.next
+    c.in_ok-planned.ensures.plan))
 
 pub carry_out-requires-clause-next : goal.carry_out-requires-clause-next
 carry_out-requires-clause-next g c = c.in_ok-planned.ensures.plan.laid.after_is
@@ -53,6 +60,9 @@ returns-clause-took g c =
     let call = Line (paste_line c.args.edit c.args.track c.args.at) in
     let p = c.in_ok-planned.planned in
     c.carry_out.ensures.took call silent
-    (subst (λ (z : Option (List (List Item))). IsEdit g.S.Store s call silent p.tracks Nothing p.makes (recorded s.history p.point 0) (clip_then z s.clipboard)) (sym c.in_ok-planned.ensures.clip)
-    (subst (λ (k : ℕ). IsEdit g.S.Store s call silent k Nothing p.makes (recorded s.history p.point 0) s.clipboard) (sym c.in_ok-planned.ensures.tracks)
-    (paste_edit g.S.Store s c.requires.studio c.args.edit c.args.track c.args.at p.point p.makes p.next c.in_ok-planned.ensures.plan)))
+    (subst (λ (z : Option (List (List Item))). IsEdit g.S.Store s call silent p.tracks Nothing p.makes
+    (recorded s.history p.point 0) (clip_then z s.clipboard)) (sym c.in_ok-planned.ensures.clip)
+    (subst (λ (k : ℕ). IsEdit g.S.Store s call silent k Nothing p.makes (recorded s.history p.point 0) s.clipboard)
+    (sym c.in_ok-planned.ensures.tracks)
+    (paste_edit g.S.Store s c.requires.studio c.args.edit c.args.track c.args.at p.point p.makes p.next
+    c.in_ok-planned.ensures.plan)))

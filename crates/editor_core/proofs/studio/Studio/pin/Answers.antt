@@ -35,21 +35,25 @@ returns-in_err-add_pin-clause-took g c =
     let e = err_from_is_err_and c.from_residual.result c.from_residual.ensures.1 in
     let s = core_of c.args.self.now in
     let mid = core_of c.add_pin.new.self in
-    subst (λ r. Took g.S.Store s call.Pin silent (told_by reply.Pinned r) 0 mid) (sym (e.1 ∙ ap Err (e.2 ∙ c.in_err-add_pin.ensures.memory)))
+    subst (λ r. Took g.S.Store s call.Pin silent (told_by reply.Pinned r) 0 mid)
+    (sym (e.1 ∙ ap Err (e.2 ∙ c.in_err-add_pin.ensures.memory)))
     (pin_wanting g.S.Store s c.requires (g.met.S.Store.may_fewer s.store) mid c.in_err-add_pin.ensures.err)
 
 pub returns-in_err-add_pin-clause-pinned : goal.returns-in_err-add_pin-clause-pinned
 returns-in_err-add_pin-clause-pinned g c =
     let e = err_from_is_err_and c.from_residual.result c.from_residual.ensures.1 in
-    subst (λ r. AnswersPin (core_of c.args.self.now) r (core_of c.add_pin.new.self)) (sym (e.1 ∙ ap Err e.2)) c.in_err-add_pin.ensures.err
+    subst (λ r. AnswersPin (core_of c.args.self.now) r (core_of c.add_pin.new.self))
+    (sym (e.1 ∙ ap Err e.2)) c.in_err-add_pin.ensures.err
 
 pub hold_current-requires-clause-there : goal.hold_current-requires-clause-there
 hold_current-requires-clause-there g c =
     let s = core_of c.args.self.now in
     let was : c.add_pin.new.self.history ≡ c.args.self.now.history = c.in_ok-add_pin.ensures.history in
     let ledger : c.add_pin.new.self.ledger ≡ c.args.self.now.ledger = c.in_ok-add_pin.ensures.ledger in
-    let base : HasIds s.counts (point_blocks (current_tracks s.history)) = named_there g.S.Store s c.requires (point_blocks (current_tracks s.history)) (old_names g.S.Store s c.requires) in
-    subst (λ (l : Kept). HasIds (count_of l) (point_blocks (current_tracks c.add_pin.new.self.history.history))) (sym ledger)
+    let base : HasIds s.counts (point_blocks (current_tracks s.history)) = named_there g.S.Store s c.requires
+    (point_blocks (current_tracks s.history)) (old_names g.S.Store s c.requires) in
+    subst (λ (l : Kept). HasIds (count_of l) (point_blocks (current_tracks c.add_pin.new.self.history.history)))
+    (sym ledger)
     (subst (λ (h : Stored (List Track)). HasIds s.counts (point_blocks (current_tracks h.history))) (sym was) base)
 
 pub hold_current-requires-clause-few : goal.hold_current-requires-clause-few
@@ -57,8 +61,10 @@ hold_current-requires-clause-few g c =
     let s = core_of c.args.self.now in
     let was : c.add_pin.new.self.history ≡ c.args.self.now.history = c.in_ok-add_pin.ensures.history in
     let ledger : c.add_pin.new.self.ledger ≡ c.args.self.now.ledger = c.in_ok-add_pin.ensures.ledger in
-    let base : Few s.counts (point_blocks (current_tracks s.history)) = few_more g.S.Store s c.requires (current_tracks s.history) s.next_track (current_sound g.S.Store s c.requires) in
-    subst (λ (l : Kept). Few (count_of l) (point_blocks (current_tracks c.add_pin.new.self.history.history))) (sym ledger)
+    let base : Few s.counts (point_blocks (current_tracks s.history)) = few_more g.S.Store s c.requires
+    (current_tracks s.history) s.next_track (current_sound g.S.Store s c.requires) in
+    subst (λ (l : Kept). Few (count_of l) (point_blocks (current_tracks c.add_pin.new.self.history.history)))
+    (sym ledger)
     (subst (λ (h : Stored (List Track)). Few s.counts (point_blocks (current_tracks h.history))) (sym was) base)
 
 pub returns-clause-took : goal.returns-clause-took
@@ -70,12 +76,15 @@ returns-clause-took g c =
     let mid = core_of c.add_pin.new.self in
     let counts = count_of c.hold_current.new.ledger in
     let held = subst (λ (l : Kept). Held (count_of l) counts (point_blocks (current_tracks s.history))) ledger
-    (subst (λ (h : Stored (List Track)). Held mid.counts counts (point_blocks (current_tracks h.history))) was c.hold_current.ensures) in
+    (subst (λ (h : Stored (List Track)). Held mid.counts counts (point_blocks (current_tracks h.history))) was
+    c.hold_current.ensures) in
     let room : s.next_pin < 2 ^ 62 = omega (arith, c.if-self-eq-MOST.false, is.counters.pin_most) in
     let number : mid.next_pin ≡ s.next_pin = ap (λ (z : Core g.row.S.Denot). z.next_pin) c.in_ok-add_pin.ensures.ok in
     let replied : s.next_pin ≡ mid.next_pin + 1 - 1 = omega (arith, number) in
-    subst (λ (n : ℕ). Took g.S.Store s call.Pin silent (Ok (reply.Pinned n)) 0 (record mid { next_pin = mid.next_pin + 1; counts = counts })) replied
-    (subst (λ (z : Core g.row.S.Denot). Took g.S.Store s call.Pin silent (Ok (reply.Pinned s.next_pin)) 0 (record z { next_pin = z.next_pin + 1; counts = counts })) (sym c.in_ok-add_pin.ensures.ok)
+    subst (λ (n : ℕ). Took g.S.Store s call.Pin silent (Ok (reply.Pinned n)) 0
+    (record mid { next_pin = mid.next_pin + 1; counts = counts })) replied
+    (subst (λ (z : Core g.row.S.Denot). Took g.S.Store s call.Pin silent (Ok (reply.Pinned s.next_pin)) 0
+    (record z { next_pin = z.next_pin + 1; counts = counts })) (sym c.in_ok-add_pin.ensures.ok)
     (pinned g.S.Store s is (g.met.S.Store.may_fewer s.store) counts held room c.in_default.is))
 
 pub returns-clause-pinned : goal.returns-clause-pinned

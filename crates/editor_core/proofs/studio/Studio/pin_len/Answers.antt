@@ -23,7 +23,8 @@ pub returns-in_err-point-clause-took : goal.returns-in_err-point-clause-took
 returns-in_err-point-clause-took g c =
     let p = err_from_is_err_and c.from_residual.result c.from_residual.ensures.1 in
     let s = core_of c.args.self.now in
-    subst (λ r. Took g.S.Store s (PinLen c.args.pin) silent (told_by reply.Length r) 0 s) (sym (p.1 ∙ ap Err (p.2 ∙ c.in_err-point.ensures.0)))
+    subst (λ r. Took g.S.Store s (PinLen c.args.pin) silent (told_by reply.Length r) 0 s)
+    (sym (p.1 ∙ ap Err (p.2 ∙ c.in_err-point.ensures.0)))
     (len_lacks g.S.Store s c.requires (g.met.S.Store.may_fewer s.store) c.args.pin c.in_default.is
     (subst (LacksPin c.args.pin) c.deref.ensures.value c.in_err-point.ensures.1))
 
@@ -37,7 +38,8 @@ returns-clause-took g c =
     let s = core_of c.args.self.now in
     let point = c.in_ok-point.point.now in
     measured g.S.Store s c.requires (g.met.S.Store.may_fewer s.store) c.args.pin c.in_default.is point c.mix_len.result
-    (subst (λ (ps : List Pin). MayFind ps c.args.pin (Some point)) c.deref.ensures.value c.in_ok-point.ensures) (c.mix_len.ensures.frames (sources_of (g.S.Store.reads s.store)))
+    (subst (λ (ps : List Pin). MayFind ps c.args.pin (Some point)) c.deref.ensures.value c.in_ok-point.ensures)
+    (c.mix_len.ensures.frames (sources_of (g.S.Store.reads s.store)))
 
 pub returns-in_err-point-clause-undamaged : goal.returns-in_err-point-clause-undamaged
 returns-in_err-point-clause-undamaged g c =

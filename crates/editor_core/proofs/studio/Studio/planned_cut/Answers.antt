@@ -15,15 +15,20 @@ plan_cut-requires-clause-half_full g c =
     let s = core_of c.args.self.now in
     let id = c.args.range.track in
     let project = c.current-project.ensures in
-    let found : track_of id (current_tracks s.history) ≡ Some c.in_ok-track.field-0.now = ap (track_of id) (sym project) ∙ c.in_ok-track.ensures in
-    let run : layouts c.deref.result.now ≡ run_of id (current_tracks s.history) = ap layouts c.deref.ensures.value ∙ c.in_ok-run.ensures ∙ ap (run_of id) project in
+    let found : track_of id (current_tracks s.history) ≡ Some c.in_ok-track.field-0.now =
+    ap (track_of id) (sym project) ∙ c.in_ok-track.ensures in
+    let run : layouts c.deref.result.now ≡ run_of id (current_tracks s.history) =
+    ap layouts c.deref.ensures.value ∙ c.in_ok-run.ensures ∙ ap (run_of id) project in
     subst (λ (m : ℕ). AllTracksHalfFull m (layouts c.deref.result.now)) (sym c.block_size.ensures.value)
-    (subst (AllTracksHalfFull s.block_size) (sym run) (run_half_full g.S.Store s c.requires id c.in_ok-track.field-0.now found))
+    (subst (AllTracksHalfFull s.block_size) (sym run)
+    (run_half_full g.S.Store s c.requires id c.in_ok-track.field-0.now found))
 
 pub planned_run-requires-clause-fits : goal.planned_run-requires-clause-fits
 planned_run-requires-clause-fits g c =
     let s = core_of c.args.self.now in
     let range = c.args.range in
-    let run : layouts c.deref.result.now ≡ run_of range.track c.current-project.result.now = ap layouts c.deref.ensures.value ∙ c.in_ok-run.ensures in
+    let run : layouts c.deref.result.now ≡ run_of range.track c.current-project.result.now =
+    ap layouts c.deref.ensures.value ∙ c.in_ok-run.ensures in
     subst (λ (z : List (List Clip)). length c.in_ok-strips.plans ≤ length z) run
-    (cuts_few (cut_cells c.args.edit range.from range.to) c.block_size.result s.next_block range.count (layouts c.deref.result.now) c.in_ok-strips.plans c.in_ok-strips.ensures.plans)
+    (cuts_few (cut_cells c.args.edit range.from range.to) c.block_size.result s.next_block range.count
+    (layouts c.deref.result.now) c.in_ok-strips.plans c.in_ok-strips.ensures.plans)

@@ -19,19 +19,22 @@ plan_insert-requires-clause-some g c = omega (arith, c.requires.studio.format.bl
 pub plan_insert-requires-clause-half_full : goal.plan_insert-requires-clause-half_full
 plan_insert-requires-clause-half_full g c =
     let s = core_of c.args.self.now in
-    let found : track_of c.args.track (current_tracks s.history) ≡ Some c.in_ok-old.old.now = ap (track_of c.args.track) (sym c.current-project.ensures) ∙ c.in_ok-old.ensures in
+    let found : track_of c.args.track (current_tracks s.history) ≡ Some c.in_ok-old.old.now =
+    ap (track_of c.args.track) (sym c.current-project.ensures) ∙ c.in_ok-old.ensures in
     subst (λ (m : ℕ). AllHalfFull m c.in_ok-old.old.now.layout) (sym c.block_size.ensures.value)
     (current_track g.S.Store s c.requires.studio c.args.track c.in_ok-old.old.now found).half_full
 
 pub plan_insert-requires-clause-apart : goal.plan_insert-requires-clause-apart
 plan_insert-requires-clause-apart g c =
     let s = core_of c.args.self.now in
-    let found : track_of c.args.track (current_tracks s.history) ≡ Some c.in_ok-old.old.now = ap (track_of c.args.track) (sym c.current-project.ensures) ∙ c.in_ok-old.ensures in
+    let found : track_of c.args.track (current_tracks s.history) ≡ Some c.in_ok-old.old.now =
+    ap (track_of c.args.track) (sym c.current-project.ensures) ∙ c.in_ok-old.ensures in
     (current_track g.S.Store s c.requires.studio c.args.track c.in_ok-old.old.now found).layout
 
 pub planned-requires : goal.planned-requires
 planned-requires g c =
-    subst (AreAbove 1) (sym c.current-project.ensures) (current_sound g.S.Store (core_of c.args.self.now) c.requires.studio).rising
+    subst (AreAbove 1) (sym c.current-project.ensures)
+    (current_sound g.S.Store (core_of c.args.self.now) c.requires.studio).rising
 
 pub returns-in_err-old-clause-err : goal.returns-in_err-old-clause-err
 returns-in_err-old-clause-err g c =
@@ -41,7 +44,8 @@ returns-in_err-old-clause-err g c =
     let r = err_from_is_err_and c.from_residual.result c.from_residual.ensures.1 in
     let not = c.in_err-old.ensures in
     let none : track_of c.args.track old ≡ None = ap (track_of c.args.track) (sym c.current-project.ensures) ∙ not.1 in
-    subst (λ x. IfErr x (NoTrackPlan e c.args.track old)) (sym (r.1 ∙ ap Err r.2)) (no_such_track e c.args.track old c.in_err-old.field-0.0 not.0 none)
+    subst (λ x. IfErr x (NoTrackPlan e c.args.track old)) (sym (r.1 ∙ ap Err r.2))
+    (no_such_track e c.args.track old c.in_err-old.field-0.0 not.0 none)
 
 pub returns-in_err-plan-clause-err : goal.returns-in_err-plan-clause-err
 returns-in_err-plan-clause-err g c =
@@ -50,8 +54,10 @@ returns-in_err-plan-clause-err g c =
     let e = place_edit c.args.place c.args.count in
     let t = c.in_ok-old.old.now in
     let r = err_from_is_err_and c.from_residual-in_err-plan.result c.from_residual-in_err-plan.ensures.1 in
-    let found : track_of c.args.track old ≡ Some t = ap (track_of c.args.track) (sym c.current-project.ensures) ∙ c.in_ok-old.ensures in
-    subst (λ x. IfErr x (NoTrackPlan e c.args.track old)) (sym (r.1 ∙ ap Err r.2)) (test_fails e c.args.track old t c.in_err-plan.field-0.0 found c.in_err-plan.ensures.tests)
+    let found : track_of c.args.track old ≡ Some t =
+    ap (track_of c.args.track) (sym c.current-project.ensures) ∙ c.in_ok-old.ensures in
+    subst (λ x. IfErr x (NoTrackPlan e c.args.track old)) (sym (r.1 ∙ ap Err r.2))
+    (test_fails e c.args.track old t c.in_err-plan.field-0.0 found c.in_err-plan.ensures.tests)
 
 pub returns-in_err-planned-clause-err : goal.returns-in_err-planned-clause-err
 returns-in_err-planned-clause-err g c =
@@ -72,10 +78,12 @@ returns-clause-plan g c =
       found = ap (track_of c.args.track) (sym c.current-project.ensures) ∙ c.in_ok-old.ensures;
       tests = c.in_ok-plan.ensures.tests;
       plan = plan;
-      is_plan = subst (λ (m : ℕ). IsPlan m s.next_block (layout_blocks t.layout) c.args.count plan) size c.in_ok-plan.ensures.plan;
+      is_plan = subst
+          (λ (m : ℕ). IsPlan m s.next_block (layout_blocks t.layout) c.args.count plan) size c.in_ok-plan.ensures.plan;
       means = c.in_ok-plan.ensures.cells;
       layout = c.in_ok-planned.ensures.layout;
-      few = λ src. subst (λ (m : ℕ). length plan.makes ≤ blocks_of_samples m c.args.count) size c.in_ok-plan.ensures.few;
+      few =
+          λ src. subst (λ (m : ℕ). length plan.makes ≤ blocks_of_samples m c.args.count) size c.in_ok-plan.ensures.few;
       is = c.in_ok-planned.ensures.point ∙ ap (put_in (with_layout t plan.layout)) c.current-project.ensures;
       makes_is = c.in_ok-planned.ensures.makes;
       after_is = c.in_ok-planned.ensures.next;

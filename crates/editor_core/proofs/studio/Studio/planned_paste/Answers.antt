@@ -17,25 +17,33 @@ plan_paste-requires-clause-half_full g c =
     let s = core_of c.args.self.now in
     let id = c.args.track in
     let project = c.current-project.ensures in
-    let found : track_of id (current_tracks s.history) ≡ Some c.in_ok-track.field-0.now = ap (track_of id) (sym project) ∙ c.in_ok-track.ensures in
-    let run : layouts c.deref.result.now ≡ run_of id (current_tracks s.history) = ap layouts c.deref.ensures.value ∙ c.in_ok-run.ensures ∙ ap (run_of id) project in
+    let found : track_of id (current_tracks s.history) ≡ Some c.in_ok-track.field-0.now =
+    ap (track_of id) (sym project) ∙ c.in_ok-track.ensures in
+    let run : layouts c.deref.result.now ≡ run_of id (current_tracks s.history) =
+    ap layouts c.deref.ensures.value ∙ c.in_ok-run.ensures ∙ ap (run_of id) project in
     subst (λ (m : ℕ). AllTracksHalfFull m (layouts c.deref.result.now)) (sym c.block_size.ensures.value)
-    (subst (AllTracksHalfFull s.block_size) (sym run) (run_half_full g.S.Store s c.requires.studio id c.in_ok-track.field-0.now found))
+    (subst (AllTracksHalfFull s.block_size) (sym run)
+    (run_half_full g.S.Store s c.requires.studio id c.in_ok-track.field-0.now found))
 
 pub plan_paste-requires-clause-sums : goal.plan_paste-requires-clause-sums
 plan_paste-requires-clause-sums g c =
     let s = core_of c.args.self.now in
     let id = c.args.track in
     let project = c.current-project.ensures in
-    let found : track_of id (current_tracks s.history) ≡ Some c.in_ok-track.field-0.now = ap (track_of id) (sym project) ∙ c.in_ok-track.ensures in
-    let run : layouts c.deref.result.now ≡ run_of id (current_tracks s.history) = ap layouts c.deref.ensures.value ∙ c.in_ok-run.ensures ∙ ap (run_of id) project in
+    let found : track_of id (current_tracks s.history) ≡ Some c.in_ok-track.field-0.now =
+    ap (track_of id) (sym project) ∙ c.in_ok-track.ensures in
+    let run : layouts c.deref.result.now ≡ run_of id (current_tracks s.history) =
+    ap layouts c.deref.ensures.value ∙ c.in_ok-run.ensures ∙ ap (run_of id) project in
     subst (SumsFit c.args.at c.in-Some.clip) (sym run)
-    (sums_fit g.S.Store s c.requires.studio id c.args.at c.in_ok-track.field-0.now found c.requires.in_form c.in-Some.clip c.in-Some.is)
+    (sums_fit g.S.Store s c.requires.studio id c.args.at c.in_ok-track.field-0.now found c.requires.in_form
+    c.in-Some.clip c.in-Some.is)
 
 pub planned_run-requires-clause-fits : goal.planned_run-requires-clause-fits
 planned_run-requires-clause-fits g c =
     let s = core_of c.args.self.now in
     let strips = c.in-Some.clip in
-    let run : layouts c.deref.result.now ≡ run_of c.args.track c.current-project.result.now = ap layouts c.deref.ensures.value ∙ c.in_ok-run.ensures in
+    let run : layouts c.deref.result.now ≡ run_of c.args.track c.current-project.result.now =
+    ap layouts c.deref.ensures.value ∙ c.in_ok-run.ensures in
     subst (λ (z : List (List Clip)). length c.in_ok-plans.plans ≤ length z) run
-    (pastes_few (paste_cells c.args.edit c.args.at) c.block_size.result s.next_block (length strips) strips (layouts c.deref.result.now) c.in_ok-plans.plans c.in_ok-plans.ensures.plans)
+    (pastes_few (paste_cells c.args.edit c.args.at) c.block_size.result s.next_block (length strips) strips
+    (layouts c.deref.result.now) c.in_ok-plans.plans c.in_ok-plans.ensures.plans)

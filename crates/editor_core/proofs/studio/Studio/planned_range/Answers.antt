@@ -18,19 +18,22 @@ plan_range-requires-clause-some g c = omega (arith, c.requires.format.block_leas
 pub plan_range-requires-clause-half_full : goal.plan_range-requires-clause-half_full
 plan_range-requires-clause-half_full g c =
     let s = core_of c.args.self.now in
-    let found : track_of c.args.range.track (current_tracks s.history) ≡ Some c.in_ok-old.old.now = ap (track_of c.args.range.track) (sym c.current-project.ensures) ∙ c.in_ok-old.ensures in
+    let found : track_of c.args.range.track (current_tracks s.history) ≡ Some c.in_ok-old.old.now =
+    ap (track_of c.args.range.track) (sym c.current-project.ensures) ∙ c.in_ok-old.ensures in
     subst (λ (m : ℕ). AllHalfFull m c.in_ok-old.old.now.layout) (sym c.block_size.ensures.value)
     (current_track g.S.Store s c.requires c.args.range.track c.in_ok-old.old.now found).half_full
 
 pub plan_range-requires-clause-apart : goal.plan_range-requires-clause-apart
 plan_range-requires-clause-apart g c =
     let s = core_of c.args.self.now in
-    let found : track_of c.args.range.track (current_tracks s.history) ≡ Some c.in_ok-old.old.now = ap (track_of c.args.range.track) (sym c.current-project.ensures) ∙ c.in_ok-old.ensures in
+    let found : track_of c.args.range.track (current_tracks s.history) ≡ Some c.in_ok-old.old.now =
+    ap (track_of c.args.range.track) (sym c.current-project.ensures) ∙ c.in_ok-old.ensures in
     (current_track g.S.Store s c.requires c.args.range.track c.in_ok-old.old.now found).layout
 
 pub planned-requires : goal.planned-requires
 planned-requires g c =
-    subst (AreAbove 1) (sym c.current-project.ensures) (current_sound g.S.Store (core_of c.args.self.now) c.requires).rising
+    subst (AreAbove 1) (sym c.current-project.ensures)
+    (current_sound g.S.Store (core_of c.args.self.now) c.requires).rising
 
 pub returns-in_err-old-clause-err : goal.returns-in_err-old-clause-err
 returns-in_err-old-clause-err g c =
@@ -41,7 +44,8 @@ returns-in_err-old-clause-err g c =
     let r = err_from_is_err_and c.from_residual.result c.from_residual.ensures.1 in
     let not = c.in_err-old.ensures in
     let none : track_of range.track old ≡ None = ap (track_of range.track) (sym c.current-project.ensures) ∙ not.1 in
-    subst (λ x. IfErr x (NoTrackPlan e range.track old)) (sym (r.1 ∙ ap Err r.2)) (no_such_track e range.track old c.in_err-old.field-0.0 not.0 none)
+    subst (λ x. IfErr x (NoTrackPlan e range.track old)) (sym (r.1 ∙ ap Err r.2))
+    (no_such_track e range.track old c.in_err-old.field-0.0 not.0 none)
 
 pub returns-in_err-plan-clause-err : goal.returns-in_err-plan-clause-err
 returns-in_err-plan-clause-err g c =
@@ -51,8 +55,10 @@ returns-in_err-plan-clause-err g c =
     let e = range_edit c.args.edit range.from range.to in
     let t = c.in_ok-old.old.now in
     let r = err_from_is_err_and c.from_residual-in_err-plan.result c.from_residual-in_err-plan.ensures.1 in
-    let found : track_of range.track old ≡ Some t = ap (track_of range.track) (sym c.current-project.ensures) ∙ c.in_ok-old.ensures in
-    subst (λ x. IfErr x (NoTrackPlan e range.track old)) (sym (r.1 ∙ ap Err r.2)) (test_fails e range.track old t c.in_err-plan.field-0.0 found c.in_err-plan.ensures.tests)
+    let found : track_of range.track old ≡ Some t =
+    ap (track_of range.track) (sym c.current-project.ensures) ∙ c.in_ok-old.ensures in
+    subst (λ x. IfErr x (NoTrackPlan e range.track old)) (sym (r.1 ∙ ap Err r.2))
+    (test_fails e range.track old t c.in_err-plan.field-0.0 found c.in_err-plan.ensures.tests)
 
 pub returns-in_err-planned-clause-err : goal.returns-in_err-planned-clause-err
 returns-in_err-planned-clause-err g c =
@@ -78,7 +84,8 @@ returns-clause-plan g c =
       is_plan = subst (λ (m : ℕ). IsPlan m s.next_block (layout_blocks t.layout) 0 plan) size c.in_ok-plan.ensures.plan;
       means = c.in_ok-plan.ensures.cells;
       layout = c.in_ok-planned.ensures.layout;
-      few = λ src. subst (λ (m : ℕ). length plan.makes ≤ range_most c.args.edit range.from range.to m (layout_cells src t.layout)) size (c.in_ok-plan.ensures.few src);
+      few = λ src. subst (λ (m : ℕ). length plan.makes ≤ range_most c.args.edit range.from range.to m
+          (layout_cells src t.layout)) size (c.in_ok-plan.ensures.few src);
       is = c.in_ok-planned.ensures.point ∙ ap (put_in (with_layout t plan.layout)) c.current-project.ensures;
       makes_is = c.in_ok-planned.ensures.makes;
       after_is = c.in_ok-planned.ensures.next;

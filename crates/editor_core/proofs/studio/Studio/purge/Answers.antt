@@ -1,5 +1,6 @@
 -- A purge is a step.
-use Rattle.std.proofs.Common.{◌≡◌, ◌∙◌, refl, sym, ap, subst, ℕ, ◌≤◌, [], ◌∷◌, length, Err, arith, Some, IfErr, IfOk, List, nat_lt, nat_le, ◌&&◌, not, take, drop, flat_map}
+use Rattle.std.proofs.Common.{◌≡◌, ◌∙◌, refl, sym, ap, subst, ℕ, ◌≤◌, [], ◌∷◌, length, Err, arith, Some, IfErr, IfOk}
+use Rattle.std.proofs.Common.{List, nat_lt, nat_le, ◌&&◌, not, take, drop, flat_map}
 use Rattle.std.proofs.lemmas.Result.{err_from_is_err_and}
 use Rattle.byteorder.specs.Endian.{little_bytes}
 use Rattle.pcm_base.specs.declared.answer.Reply.TheVariants.{Done}
@@ -20,7 +21,8 @@ use Rattle.editor_core.specs.Occurrences.{HasAll, Dropped}
 use Rattle.editor_core.specs.Took.{Took, silent, told_by}
 use Rattle.editor_core.proofs.Committing.{fails}
 use Rattle.editor_core.proofs.Moved.{in_range, purged_by}
-use Rattle.editor_core.proofs.Moving.{purge_call, purges, moves, has_oldest, purged_counts, tested_out, no_want, other_reason}
+use Rattle.editor_core.proofs.Moving.{purge_call, purges, moves, has_oldest, purged_counts, tested_out, no_want}
+use Rattle.editor_core.proofs.Moving.{other_reason}
 use Rattle.editor_core.proofs.NoDamage.{TellsNone, range_tells, undamaged_test}
 use Rattle.editor_core.proofs.Staying.{none_made}
 use Rattle.editor_core.proofs.studio.Studio.purge.Goals as goal
@@ -29,8 +31,10 @@ pub returns-in_err-may_commit-clause-took : goal.returns-in_err-may_commit-claus
 returns-in_err-may_commit-clause-took g c =
     let p = err_from_is_err_and c.from_residual.result c.from_residual.ensures.1 in
     let s = core_of c.args.self.now in
-    subst (λ r. Took g.S.Store s (Line (command.Purge c.args.count)) silent (told_by (λ (n : ℕ). Done) r) 0 s) (sym (p.1 ∙ ap Err p.2))
-    (tested_out g.S.Store s (Line (command.Purge c.args.count)) 0 9 c.purge_refusal.result c.in_err-may_commit.field-0.0 c.requires (g.met.S.Store.may_fewer s.store) (purge_call c.args.count)
+    subst (λ r. Took g.S.Store s (Line (command.Purge c.args.count)) silent (told_by (λ (n : ℕ). Done) r) 0 s)
+    (sym (p.1 ∙ ap Err p.2))
+    (tested_out g.S.Store s (Line (command.Purge c.args.count)) 0 9 c.purge_refusal.result c.in_err-may_commit.field-0.0
+    c.requires (g.met.S.Store.may_fewer s.store) (purge_call c.args.count)
     (λ held. (refl, refl)) c.purge_refusal.ensures.value c.in_err-may_commit.ensures)
 
 pub returns-in_err-may_commit-clause-number : goal.returns-in_err-may_commit-clause-number
@@ -43,8 +47,11 @@ returns-in_err-may_commit-clause-memory g c =
     let p = err_from_is_err_and c.from_residual.result c.from_residual.ensures.1 in
     let s = core_of c.args.self.now in
     let why = c.in_err-may_commit.field-0.0 in
-    let reason : (r : Refusal) → c.purge_refusal.result ≡ Some r → IsNoWant r = λ r e. other_reason (not (nat_lt 0 c.args.count && nat_le c.args.count s.history.cursor)) BadRange tt r (sym (c.purge_refusal.ensures.value) ∙ e) in
-    let is : IsNoWant why = no_want s.stopped c.purge_refusal.result s.next_track 0 s.commit_number why reason c.in_err-may_commit.ensures in
+    let reason : (r : Refusal) → c.purge_refusal.result ≡ Some r → IsNoWant r =
+    λ r e. other_reason (not (nat_lt 0 c.args.count && nat_le c.args.count s.history.cursor)) BadRange tt r
+    (sym (c.purge_refusal.ensures.value) ∙ e) in
+    let is : IsNoWant why = no_want s.stopped c.purge_refusal.result s.next_track 0 s.commit_number why reason
+    c.in_err-may_commit.ensures in
     subst (λ r. IfErr r IsNoWant) (sym (p.1 ∙ ap Err p.2)) is
 
 pub returns-in_err-may_commit-clause-undamaged : goal.returns-in_err-may_commit-clause-undamaged
@@ -52,37 +59,47 @@ returns-in_err-may_commit-clause-undamaged g c =
     let p = err_from_is_err_and c.from_residual.result c.from_residual.ensures.1 in
     let s = core_of c.args.self.now in
     let why = c.in_err-may_commit.field-0.0 in
-    let own : TellsNone c.purge_refusal.result = subst TellsNone (sym (c.purge_refusal.ensures.value)) (range_tells 0 c.args.count s.history.cursor) in
-    let is : IsUndamaged why = undamaged_test s.stopped c.purge_refusal.result s.next_track 0 s.commit_number why own c.in_err-may_commit.ensures in
+    let own : TellsNone c.purge_refusal.result =
+    subst TellsNone (sym (c.purge_refusal.ensures.value)) (range_tells 0 c.args.count s.history.cursor) in
+    let is : IsUndamaged why = undamaged_test s.stopped c.purge_refusal.result s.next_track 0 s.commit_number why own
+    c.in_err-may_commit.ensures in
     subst (λ r. IfErr r IsUndamaged) (sym (p.1 ∙ ap Err p.2)) is
 
 pub returns-in_err-commit_small-clause-took : goal.returns-in_err-commit_small-clause-took
 returns-in_err-commit_small-clause-took g c =
-    let p = err_from_is_err_and c.from_residual-in_err-commit_small.result c.from_residual-in_err-commit_small.ensures.1 in
+    let p =
+    err_from_is_err_and c.from_residual-in_err-commit_small.result c.from_residual-in_err-commit_small.ensures.1 in
     let s = core_of c.args.self.now in
     let mid = core_of c.commit_small.new.self in
     let may = c.in_ok-may_commit.ensures in
     let own = sym (c.purge_refusal.ensures.value) ∙ may.1 in
     let some = in_range c.args.count s.history.cursor own in
     let why = c.in_err-commit_small.field-0.0 in
-    let adds = subst (λ b. Adds g.S.Store s b (Err why) mid) c.purge_body.ensures c.in_err-commit_small.ensures.record in
-    subst (λ r. Took g.S.Store s (Line (command.Purge c.args.count)) silent (told_by (λ (n : ℕ). Done) r) 0 mid) (sym (p.1 ∙ ap Err p.2))
-    (fails g.S.Store s [] (Line (command.Purge c.args.count)) silent 0 (Purge c.args.count) (purged s.history c.args.count) s.clipboard s.next_track c.requires (none_made g.S.Store s)
-    (purges g.S.Store s c.requires c.args.count some.0 some.1 c.ranges.count.fits) may.0 own may.2 may.3 why mid (g.met.S.Store.may_fewer s.store) adds)
+    let adds =
+    subst (λ b. Adds g.S.Store s b (Err why) mid) c.purge_body.ensures c.in_err-commit_small.ensures.record in
+    subst (λ r. Took g.S.Store s (Line (command.Purge c.args.count)) silent (told_by (λ (n : ℕ). Done) r) 0 mid)
+    (sym (p.1 ∙ ap Err p.2))
+    (fails g.S.Store s [] (Line (command.Purge c.args.count)) silent 0 (Purge c.args.count)
+    (purged s.history c.args.count) s.clipboard s.next_track c.requires (none_made g.S.Store s)
+    (purges g.S.Store s c.requires c.args.count some.0 some.1 c.ranges.count.fits) may.0 own may.2 may.3 why mid
+    (g.met.S.Store.may_fewer s.store) adds)
 
 pub returns-in_err-commit_small-clause-number : goal.returns-in_err-commit_small-clause-number
 returns-in_err-commit_small-clause-number g c =
-    let p = err_from_is_err_and c.from_residual-in_err-commit_small.result c.from_residual-in_err-commit_small.ensures.1 in
+    let p =
+    err_from_is_err_and c.from_residual-in_err-commit_small.result c.from_residual-in_err-commit_small.ensures.1 in
     subst (λ r. IfOk r (λ (n : ℕ). n ≡ c.commit_small.new.self.commit_number)) (sym (p.1 ∙ ap Err p.2)) tt
 
 pub returns-in_err-commit_small-clause-memory : goal.returns-in_err-commit_small-clause-memory
 returns-in_err-commit_small-clause-memory g c =
-    let p = err_from_is_err_and c.from_residual-in_err-commit_small.result c.from_residual-in_err-commit_small.ensures.1 in
+    let p =
+    err_from_is_err_and c.from_residual-in_err-commit_small.result c.from_residual-in_err-commit_small.ensures.1 in
     subst (λ r. IfErr r IsNoWant) (sym (p.1 ∙ ap Err p.2)) c.in_err-commit_small.ensures.memory
 
 pub returns-in_err-commit_small-clause-undamaged : goal.returns-in_err-commit_small-clause-undamaged
 returns-in_err-commit_small-clause-undamaged g c =
-    let p = err_from_is_err_and c.from_residual-in_err-commit_small.result c.from_residual-in_err-commit_small.ensures.1 in
+    let p =
+    err_from_is_err_and c.from_residual-in_err-commit_small.result c.from_residual-in_err-commit_small.ensures.1 in
     subst (λ r. IfErr r IsUndamaged) (sym (p.1 ∙ ap Err p.2)) c.in_err-commit_small.ensures.undamaged
 
 pub drop_points-requires-clause-within : goal.drop_points-requires-clause-within
@@ -93,9 +110,11 @@ drop_points-requires-clause-within g c =
     let may = c.in_ok-may_commit.ensures in
     let own = sym c.purge_refusal.ensures.value ∙ may.1 in
     let some = in_range n s.history.cursor own in
-    let adds = subst (λ r. Adds g.S.Store s (4 ∷ little_bytes 8 n) r mid) c.in_ok-commit_small.was (subst (λ b. Adds g.S.Store s b c.commit_small.result mid) c.purge_body.ensures c.commit_small.ensures.record) in
+    let adds = subst (λ r. Adds g.S.Store s (4 ∷ little_bytes 8 n) r mid) c.in_ok-commit_small.was (subst
+    (λ b. Adds g.S.Store s b c.commit_small.result mid) c.purge_body.ensures c.commit_small.ensures.record) in
     let same : mid.history ≡ s.history = ap (λ (z : Core g.row.S.Denot). z.history) adds.fields.0 in
-    subst (λ (h : History (List Track)). n ≤ length h.points) (sym same) (omega (arith, some.1, c.purge_refusal.ensures.whole.current))
+    subst (λ (h : History (List Track)). n ≤ length h.points) (sym same)
+    (omega (arith, some.1, c.purge_refusal.ensures.whole.current))
 
 pub drop_points-requires-clause-all : goal.drop_points-requires-clause-all
 drop_points-requires-clause-all g c =
@@ -105,11 +124,14 @@ drop_points-requires-clause-all g c =
     let may = c.in_ok-may_commit.ensures in
     let own = sym c.purge_refusal.ensures.value ∙ may.1 in
     let some = in_range n s.history.cursor own in
-    let adds = subst (λ r. Adds g.S.Store s (4 ∷ little_bytes 8 n) r mid) c.in_ok-commit_small.was (subst (λ b. Adds g.S.Store s b c.commit_small.result mid) c.purge_body.ensures c.commit_small.ensures.record) in
+    let adds = subst (λ r. Adds g.S.Store s (4 ∷ little_bytes 8 n) r mid) c.in_ok-commit_small.was (subst
+    (λ b. Adds g.S.Store s b c.commit_small.result mid) c.purge_body.ensures c.commit_small.ensures.record) in
     let same : mid.history ≡ s.history = ap (λ (z : Core g.row.S.Denot). z.history) adds.fields.0 in
     let counts : mid.counts ≡ s.counts = ap (λ (z : Core g.row.S.Denot). z.counts) adds.fields.0 in
-    subst (λ (h : History (List Track)). HasAll mid.counts (flat_map point_blocks (drop 0 (take n (points_of h))))) (sym same)
-    (subst (λ (z : Counts). HasAll z (flat_map point_blocks (drop 0 (take n (points_of s.history))))) (sym counts) (has_oldest g.S.Store s c.requires n))
+    subst (λ (h : History (List Track)). HasAll mid.counts (flat_map point_blocks (drop 0 (take n (points_of h)))))
+    (sym same)
+    (subst (λ (z : Counts). HasAll z (flat_map point_blocks (drop 0 (take n (points_of s.history))))) (sym counts)
+    (has_oldest g.S.Store s c.requires n))
 
 pub returns-clause-took : goal.returns-clause-took
 returns-clause-took g c =
@@ -119,13 +141,19 @@ returns-clause-took g c =
     let may = c.in_ok-may_commit.ensures in
     let own = sym c.purge_refusal.ensures.value ∙ may.1 in
     let some = in_range n s.history.cursor own in
-    let adds = subst (λ r. Adds g.S.Store s (4 ∷ little_bytes 8 n) r mid) c.in_ok-commit_small.was (subst (λ b. Adds g.S.Store s b c.commit_small.result mid) c.purge_body.ensures c.commit_small.ensures.record) in
+    let adds = subst (λ r. Adds g.S.Store s (4 ∷ little_bytes 8 n) r mid) c.in_ok-commit_small.was (subst
+    (λ b. Adds g.S.Store s b c.commit_small.result mid) c.purge_body.ensures c.commit_small.ensures.record) in
     let same : mid.history ≡ s.history = ap (λ (z : Core g.row.S.Denot). z.history) adds.fields.0 in
     let was : mid.counts ≡ s.counts = ap (λ (z : Core g.row.S.Denot). z.counts) adds.fields.0 in
     let counts = count_of c.drop_points.new.ledger in
-    let went = subst (λ (z : Counts). Dropped z counts (flat_map point_blocks (drop 0 (take n (points_of s.history))))) was
-    (subst (λ (h : History (List Track)). Dropped mid.counts counts (flat_map point_blocks (drop 0 (take n (points_of h))))) same c.drop_points.ensures) in
+    let went =
+    subst (λ (z : Counts). Dropped z counts (flat_map point_blocks (drop 0 (take n (points_of s.history))))) was
+    (subst (λ (h : History (List Track)). Dropped mid.counts counts
+    (flat_map point_blocks (drop 0 (take n (points_of h))))) same c.drop_points.ensures) in
     let few' = subst (λ (h : History (List Track)). n ≤ h.cursor) (sym same) some.1 in
-    let gone = purged_by n c.commit_small.new.self.history c.purge.new.self c.purge.result some.0 few' c.purge.ensures.ok c.purge.ensures.err in
-    moves g.S.Store s c.requires (Line (command.Purge n)) (Purge n) (purged s.history n) mid c.purge.new.self.history counts (purges g.S.Store s c.requires n some.0 some.1 c.ranges.count.fits)
-    may.0 own may.3 adds (gone ∙ ap (λ (h : History (List Track)). purged h n) same) (purged_counts g.S.Store s c.requires n counts went) went.ids
+    let gone = purged_by n c.commit_small.new.self.history c.purge.new.self c.purge.result some.0 few'
+    c.purge.ensures.ok c.purge.ensures.err in
+    moves g.S.Store s c.requires (Line (command.Purge n)) (Purge n) (purged s.history n) mid c.purge.new.self.history
+    counts (purges g.S.Store s c.requires n some.0 some.1 c.ranges.count.fits)
+    may.0 own may.3 adds (gone ∙ ap (λ (h : History (List Track)). purged h n) same)
+    (purged_counts g.S.Store s c.requires n counts went) went.ids

@@ -8,4 +8,6 @@ use Rattle.editor_core.proofs.InsertLaws.{put_call}
 use Rattle.editor_core.proofs.studio.Studio.put.Goals as goal
 
 pub returns-clause-took : goal.returns-clause-took
-returns-clause-took g c = c.insert_given.ensures.took (call.Line (command.Put c.args.track c.args.at c.args.samples.now)) silent (put_call c.args.samples.now (given.Samples c.args.samples) refl refl c.args.track c.args.at)
+returns-clause-took g c =
+    c.insert_given.ensures.took (call.Line (command.Put c.args.track c.args.at c.args.samples.now)) silent
+    (put_call c.args.samples.now (given.Samples c.args.samples) refl refl c.args.track c.args.at)

@@ -9,5 +9,7 @@ use Rattle.editor_core.proofs.studio.Studio.ramp.Goals as goal
 
 pub returns-clause-took : goal.returns-clause-took
 returns-clause-took g c =
-    c.insert_given.ensures.took (call.Line (command.Ramp c.args.track c.args.at c.args.count c.args.start c.args.step)) silent
-    (ramp_again c.args.track c.args.at c.args.count c.args.start c.args.step _ _ (omega (arith, ints)) (omega (arith, ints)))
+    c.insert_given.ensures.took
+    (call.Line (command.Ramp c.args.track c.args.at c.args.count c.args.start c.args.step)) silent
+    (ramp_again c.args.track c.args.at c.args.count c.args.start c.args.step _ _ (omega (arith, ints))
+    (omega (arith, ints)))

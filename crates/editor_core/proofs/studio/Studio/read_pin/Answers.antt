@@ -21,7 +21,8 @@ returns-in-Some-clause-seen g c =
     let s = core_of c.args.self.now in
     let fewer = g.met.S.Store.may_fewer s.store in
     let count = length c.args.out.now in
-    idle_sees g.S.Store s (ReadPin c.args.pin c.args.from count) Frames c.args.out.now fewer (refusal.Stopped c.in-Some.faults) tt tt
+    idle_sees g.S.Store s (ReadPin c.args.pin c.args.from count) Frames c.args.out.now fewer
+    (refusal.Stopped c.in-Some.faults) tt tt
     (read_stopped g.S.Store s c.requires fewer c.args.pin c.args.from count c.in-Some.faults c.in-Some.is)
 
 pub returns-in_err-point-clause-seen : goal.returns-in_err-point-clause-seen
@@ -30,9 +31,12 @@ returns-in_err-point-clause-seen g c =
     let s = core_of c.args.self.now in
     let fewer = g.met.S.Store.may_fewer s.store in
     let count = length c.args.out.now in
-    subst (λ r. Sees g.S.Store s (ReadPin c.args.pin c.args.from count) Frames c.args.out.now r s) (sym (p.1 ∙ ap Err (p.2 ∙ c.in_err-point.ensures.0)))
-    (idle_sees g.S.Store s (ReadPin c.args.pin c.args.from count) Frames c.args.out.now fewer (refusal.NoPin c.args.pin) tt tt
-    (read_lacks g.S.Store s c.requires fewer c.args.pin c.args.from count c.in_default.is (subst (LacksPin c.args.pin) c.deref.ensures.value c.in_err-point.ensures.1)))
+    subst (λ r. Sees g.S.Store s (ReadPin c.args.pin c.args.from count) Frames c.args.out.now r s)
+    (sym (p.1 ∙ ap Err (p.2 ∙ c.in_err-point.ensures.0)))
+    (idle_sees g.S.Store s (ReadPin c.args.pin c.args.from count) Frames c.args.out.now fewer
+    (refusal.NoPin c.args.pin) tt tt
+    (read_lacks g.S.Store s c.requires fewer c.args.pin c.args.from count c.in_default.is
+    (subst (LacksPin c.args.pin) c.deref.ensures.value c.in_err-point.ensures.1)))
 
 pub returns-in_err-point-clause-limit : goal.returns-in_err-point-clause-limit
 returns-in_err-point-clause-limit g c =
@@ -43,7 +47,8 @@ pub read_mix-requires-clause-named : goal.read_mix-requires-clause-named
 read_mix-requires-clause-named g c =
     let s = core_of c.args.self.now in
     let point = c.in_ok-point.point.now in
-    pin_may_read g.S.Store s c.requires c.args.pin point (subst (λ (ps : List Pin). MayFind ps c.args.pin (Some point)) c.deref.ensures.value c.in_ok-point.ensures)
+    pin_may_read g.S.Store s c.requires c.args.pin point
+    (subst (λ (ps : List Pin). MayFind ps c.args.pin (Some point)) c.deref.ensures.value c.in_ok-point.ensures)
 
 pub returns-in-Ok-clause-seen : goal.returns-in-Ok-clause-seen
 returns-in-Ok-clause-seen g c =
@@ -52,11 +57,14 @@ returns-in-Ok-clause-seen g c =
     let count = length c.args.out.now in
     let store = c.read_mix.new.store in
     let point = c.in_ok-point.point.now in
-    let found = subst (λ (ps : List Pin). MayFind ps c.args.pin (Some point)) c.deref.ensures.value c.in_ok-point.ensures in
+    let found =
+    subst (λ (ps : List Pin). MayFind ps c.args.pin (Some point)) c.deref.ensures.value c.in_ok-point.ensures in
     let n = c.in-Ok.count in
     let src = sources_of (g.S.Store.reads s.store) in
-    read_sees g.S.Store s (ReadPin c.args.pin c.args.from count) store c.read_mix.ensures.kept Frames c.read_mix.new.out n c.in-Ok.ensures.fits
-    (read_done g.S.Store s c.requires fewer c.args.pin c.args.from count c.in_default.is point found store c.read_mix.ensures.kept _ c.in-Ok.ensures.faults
+    read_sees g.S.Store s (ReadPin c.args.pin c.args.from count) store c.read_mix.ensures.kept Frames c.read_mix.new.out
+    n c.in-Ok.ensures.fits
+    (read_done g.S.Store s c.requires fewer c.args.pin c.args.from count c.in_default.is point found store
+    c.read_mix.ensures.kept _ c.in-Ok.ensures.faults
     (λ held. c.in-Ok.ensures.read held.tells (pin_whole g.S.Store s c.requires c.args.pin point found held)
     ∙ as_many src point c.args.from count n c.in-Ok.ensures.count (c.read_mix.ensures.len src)))
 
@@ -67,9 +75,13 @@ returns-in-Err-clause-seen g c =
     let count = length c.args.out.now in
     let store = c.read_mix.new.store in
     let point = c.in_ok-point.point.now in
-    let found = subst (λ (ps : List Pin). MayFind ps c.args.pin (Some point)) c.deref.ensures.value c.in_ok-point.ensures in
+    let found =
+    subst (λ (ps : List Pin). MayFind ps c.args.pin (Some point)) c.deref.ensures.value c.in_ok-point.ensures in
     let fault = c.in-Err.fault in
-    subst (λ (z : Refusal). Sees g.S.Store s (ReadPin c.args.pin c.args.from count) Frames c.read_mix.new.out (Err z) (record s { store = store })) (sym c.into.ensures)
-    (unread_sees g.S.Store s (ReadPin c.args.pin c.args.from count) store c.read_mix.ensures.kept Frames c.read_mix.new.out fault
+    subst (λ (z : Refusal). Sees g.S.Store s (ReadPin c.args.pin c.args.from count) Frames c.read_mix.new.out (Err z)
+    (record s { store = store })) (sym c.into.ensures)
+    (unread_sees g.S.Store s
+    (ReadPin c.args.pin c.args.from count) store c.read_mix.ensures.kept Frames c.read_mix.new.out fault
     (λ held. c.in-Err.ensures.sound held.tells (pin_whole g.S.Store s c.requires c.args.pin point found held))
-    (read_failed g.S.Store s c.requires fewer c.args.pin c.args.from count c.in_default.is point found store c.read_mix.ensures.kept fault c.in-Err.ensures.faults c.in-Err.ensures.damaged))
+    (read_failed g.S.Store s c.requires fewer c.args.pin c.args.from count c.in_default.is point found store
+    c.read_mix.ensures.kept fault c.in-Err.ensures.faults c.in-Err.ensures.damaged))

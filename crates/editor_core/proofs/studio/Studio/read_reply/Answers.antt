@@ -19,10 +19,18 @@ returns g c =
     let new = core_of c.read_pin.new.self in
     let seen = c.in_ok-read.ensures.seen in
     let path = sym (c.new.ensures ∙ c.truncate.ensures.items
-    ∙ view_front c.in_ok-read.read c.in_ok-frames.frames.len c.read_pin.new.out _ seen.count (omega (arith, c.read_pin.auto.out, c.as_mut_slice.ensures.len, ap length c.as_mut_slice.ensures.value))) in
-    subst (λ (xs : List Frame). Took g.S.Store s (ReadPin c.args.pin c.args.from c.args.count) silent (Ok (reply.Frames xs)) 0 new) path
+    ∙ view_front c.in_ok-read.read c.in_ok-frames.frames.len c.read_pin.new.out _ seen.count
+    (omega (arith, c.read_pin.auto.out, c.as_mut_slice.ensures.len, ap length c.as_mut_slice.ensures.value))) in
+    subst (λ (xs : List Frame). Took g.S.Store s (ReadPin c.args.pin c.args.from c.args.count) silent
+    (Ok (reply.Frames xs)) 0 new) path
     (read_as_many g.S.Store s c.args.pin c.args.from c.args.count c.in_ok-pin_len.field-0 n
-    (omega (arith, c.frames_left-most.ensures, c.in_ok-frames.ensures.len, c.as_mut_slice.ensures.len, ap length c.as_mut_slice.ensures.value))
+    (omega (
+      arith,
+      c.frames_left-most.ensures,
+      c.in_ok-frames.ensures.len,
+      c.as_mut_slice.ensures.len,
+      ap length c.as_mut_slice.ensures.value,
+    ))
     c.in_ok-pin_len.ensures.took _ new seen.looks.took)
 
 pub returns-in_err-pin_len : goal.returns-in_err-pin_len
@@ -31,7 +39,8 @@ returns-in_err-pin_len g c =
     let call = ReadPin c.args.pin c.args.from c.args.count in
     let p = err_from_is_err_and c.from_residual.result c.from_residual.ensures.1 in
     subst (λ r. Took g.S.Store s call silent r 0 s) (sym (p.1 ∙ ap Err p.2))
-    (len_refused g.S.Store s c.args.pin c.args.from c.args.count c.in_err-pin_len.field-0.0 s c.in_err-pin_len.ensures.took)
+    (len_refused g.S.Store s c.args.pin c.args.from c.args.count c.in_err-pin_len.field-0.0 s
+    c.in_err-pin_len.ensures.took)
 
 pub returns-in_err-frames : goal.returns-in_err-frames
 returns-in_err-frames g c =
@@ -48,4 +57,5 @@ returns-in_err-read g c =
     let new = core_of c.read_pin.new.self in
     let p = err_from_is_err_and c.from_residual-in_err-read.result c.from_residual-in_err-read.ensures.1 in
     subst (λ r. Took g.S.Store s call silent r 0 new) (sym (p.1 ∙ ap Err p.2))
-    (read_refused g.S.Store s c.args.pin c.args.from c.args.count (length c.as_mut_slice.result.now) c.in_err-read.field-0.0 new c.in_err-read.ensures.seen.looks.took)
+    (read_refused g.S.Store s c.args.pin c.args.from c.args.count
+    (length c.as_mut_slice.result.now) c.in_err-read.field-0.0 new c.in_err-read.ensures.seen.looks.took)

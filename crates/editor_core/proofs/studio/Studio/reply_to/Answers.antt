@@ -31,9 +31,11 @@ returns-in-Import-clause-took g c =
     let same = c.import.ensures.same in
     let over : TookOver g.S.Store tells before after s line told new =
     over_sound g.S.Store s tells before after line name told new refl
-    (λ is. subst (λ (z : Sounds). Took g.S.Store s line (moved_from (before name) (z name)) told 0 new) (sym same) (c.import.ensures.took is))
+    (λ is. subst (λ (z : Sounds). Took g.S.Store s line (moved_from (before name) (z name)) told 0 new) (sym same)
+    (c.import.ensures.took is))
     (λ is other ne. ap (λ (z : Sounds). z other) same) c.import.ensures.lasts in
-    let command_is : command.Import name ≡ c.args.command.now = ap command.Import c.as_str.ensures ∙ sym c.in-Import.is in
+    let command_is : command.Import name ≡ c.args.command.now =
+    ap command.Import c.as_str.ensures ∙ sym c.in-Import.is in
     subst (λ (k : Command). TookOver g.S.Store tells before after s (Line k) c.done.result new) command_is
     (subst (λ (r : Result Reply Refusal). TookOver g.S.Store tells before after s line r new) (sym c.done.ensures) over)
 
@@ -41,7 +43,8 @@ pub returns-in-Import-clause-faults : goal.returns-in-Import-clause-faults
 returns-in-Import-clause-faults g c = λ some.
     let old = g.V.Vault.fault_count c.args.vault.now in
     let new = g.V.Vault.fault_count c.import.new.vault in
-    subst (λ (r : Result Reply Refusal). VaultCounted r old new) (sym c.done.ensures) (counted_told (λ _. reply.Done) c.import.result old new c.import.ensures.faults)
+    subst (λ (r : Result Reply Refusal). VaultCounted r old new) (sym c.done.ensures)
+    (counted_told (λ _. reply.Done) c.import.result old new c.import.ensures.faults)
 
 pub returns-in-Import-clause-untouched : goal.returns-in-Import-clause-untouched
 returns-in-Import-clause-untouched g c = λ none. absurd (none-some _ (sym none ∙ ap name_in_line c.in-Import.is))
@@ -57,16 +60,20 @@ returns-in-Export-clause-took g c =
     let told = told_by reply.Wrote c.export.result in
     let line = Line (command.Export name) in
     let over : TookOver g.S.Store tells before after s line told new =
-    over_sound g.S.Store s tells before after line name told new refl c.export.ensures.took c.export.ensures.others c.export.ensures.lasts in
-    let command_is : command.Export name ≡ c.args.command.now = ap command.Export c.as_str-in-Export.ensures ∙ sym c.in-Export.is in
+    over_sound g.S.Store s tells before after line name told new refl c.export.ensures.took c.export.ensures.others
+    c.export.ensures.lasts in
+    let command_is : command.Export name ≡ c.args.command.now =
+    ap command.Export c.as_str-in-Export.ensures ∙ sym c.in-Export.is in
     subst (λ (k : Command). TookOver g.S.Store tells before after s (Line k) c.wrote.result new) command_is
-    (subst (λ (r : Result Reply Refusal). TookOver g.S.Store tells before after s line r new) (sym c.wrote.ensures) over)
+    (subst (λ (r : Result Reply Refusal). TookOver g.S.Store tells before after s line r new)
+    (sym c.wrote.ensures) over)
 
 pub returns-in-Export-clause-faults : goal.returns-in-Export-clause-faults
 returns-in-Export-clause-faults g c = λ some.
     let old = g.V.Vault.fault_count c.args.vault.now in
     let new = g.V.Vault.fault_count c.export.new.vault in
-    subst (λ (r : Result Reply Refusal). VaultCounted r old new) (sym c.wrote.ensures) (counted_told reply.Wrote c.export.result old new c.export.ensures.faults)
+    subst (λ (r : Result Reply Refusal). VaultCounted r old new) (sym c.wrote.ensures)
+    (counted_told reply.Wrote c.export.result old new c.export.ensures.faults)
 
 pub returns-in-Export-clause-untouched : goal.returns-in-Export-clause-untouched
 returns-in-Export-clause-untouched g c = λ none. absurd (none-some _ (sym none ∙ ap name_in_line c.in-Export.is))
@@ -75,7 +82,8 @@ pub returns-in_default : goal.returns-in_default
 returns-in_default g c =
     let s = core_of c.args.self.now in
     let silent_now = names_none c.args.command.now c.in_default.not-Import c.in_default.not-Export in record {
-      took = over_silent g.S.Store s (g.V.Vault.tells c.args.vault.now) (g.V.Vault.holds c.args.vault.now) (Line c.args.command.now) c.silent_reply.result c.silent_reply.ensures.0
+      took = over_silent g.S.Store s (g.V.Vault.tells c.args.vault.now) (g.V.Vault.holds c.args.vault.now)
+          (Line c.args.command.now) c.silent_reply.result c.silent_reply.ensures.0
           (core_of c.silent_reply.new.self) silent_now c.silent_reply.ensures.1;
       tells = refl;
       faults = λ some. absurd (true≢false (sym some ∙ ap is_some silent_now));

@@ -11,8 +11,10 @@ pub returns-in-Line-clause-took : goal.returns-in-Line-clause-took
 returns-in-Line-clause-took g c = (
   c.reply_to.result,
   c.reply_of.ensures,
-  subst (λ (k : Call). TookOver g.S.Store (g.V.Vault.tells c.args.vault.now) (g.V.Vault.holds c.args.vault.now) (g.V.Vault.holds c.reply_to.new.vault)
-      (core_of c.args.self.now) k c.reply_to.result (core_of c.reply_to.new.self)) (sym c.in-Line.is) c.reply_to.ensures.took,
+  subst (λ (k : Call). TookOver g.S.Store (g.V.Vault.tells c.args.vault.now) (g.V.Vault.holds c.args.vault.now)
+      (g.V.Vault.holds c.reply_to.new.vault)
+      (core_of c.args.self.now) k c.reply_to.result (core_of c.reply_to.new.self))
+      (sym c.in-Line.is) c.reply_to.ensures.took,
 )
 
 pub other_reply-requires-clause-other : goal.other_reply-requires-clause-other
@@ -22,6 +24,8 @@ pub returns-in_default-clause-took : goal.returns-in_default-clause-took
 returns-in_default-clause-took g c = (
   c.other_reply.result,
   c.reply_of-in_default.ensures,
-  over_silent g.S.Store (core_of c.args.self.now) (g.V.Vault.tells c.args.vault.now) (g.V.Vault.holds c.args.vault.now) c.args.call.now c.other_reply.result 0
-      (core_of c.other_reply.new.self) (other_none c.args.call.now (other_of c.args.call.now c.in_default.not-Line)) c.other_reply.ensures.took,
+  over_silent g.S.Store (core_of c.args.self.now) (g.V.Vault.tells c.args.vault.now)
+      (g.V.Vault.holds c.args.vault.now) c.args.call.now c.other_reply.result 0
+      (core_of c.other_reply.new.self)
+      (other_none c.args.call.now (other_of c.args.call.now c.in_default.not-Line)) c.other_reply.ensures.took,
 )

@@ -1,5 +1,6 @@
 -- One event more.
-use Rattle.std.proofs.Common.{◌≡◌, ◌∙◌, refl, sym, ap, subst, ◌+◌, ◌-◌, List, [], ◌∷◌, ◌++◌, append_assoc, length, length-append, take, arith}
+use Rattle.std.proofs.Common.{◌≡◌, ◌∙◌, refl, sym, ap, subst, ◌+◌, ◌-◌, List, [], ◌∷◌, ◌++◌, append_assoc, length}
+use Rattle.std.proofs.Common.{length-append, take, arith}
 use Rattle.std.proofs.lemmas.List.{append-nil}
 use Rattle.std.proofs.lemmas.Option.{slice_get_read}
 use Rattle.pcm_base.specs.declared.answer.Reply.{Reply}
@@ -15,7 +16,8 @@ events-init g c = record {
   ran = (
     [],
     c.in_ok-reserve.ensures.items ∙ sym (append-nil c.args.replies.now.items),
-    ran_none g.S.Store (g.V.Vault.tells c.args.vault.now) (g.V.Vault.holds c.args.vault.now) (core_of c.args.self.now) c.requires.studio
+    ran_none g.S.Store (g.V.Vault.tells c.args.vault.now) (g.V.Vault.holds c.args.vault.now)
+        (core_of c.args.self.now) c.requires.studio
         (g.met.S.Store.may_fewer c.args.self.now.store),
   );
   tells = refl;
@@ -38,12 +40,16 @@ events-preserved g c =
     let took = c.reply_to_call-reply.ensures.took in
     let get = slice_get_read events _ i e refl c.events-test.true c.event-item.is in
     let all = take_item i events e get in
-    let over = over_at g.S.Store tells (g.V.Vault.tells c.events.vault) here after mid new e.call took.0 c.events.invariant.tells took.2 in
-    let more = ran_more g.S.Store tells before here after s mid new (take i events) was.0 was.2 e took.0 over in record {
+    let over = over_at g.S.Store tells
+    (g.V.Vault.tells c.events.vault) here after mid new e.call took.0 c.events.invariant.tells took.2 in
+    let more = ran_more g.S.Store tells before here after s mid new (take i events) was.0 was.2 e took.0 over in
+    record {
       ran = (
         was.0 ++ reply_of took.0 ∷ [],
-        c.in_ok-push.ensures.items ∙ (λ k. was.1 k ++ took.1 k ∷ []) ∙ append_assoc c.args.replies.now.items was.0 (reply_of took.0 ∷ []),
-        subst (λ (es : List Event). RanOver g.S.Store tells before after s es (was.0 ++ reply_of took.0 ∷ []) new) (sym all) more,
+        c.in_ok-push.ensures.items ∙ (λ k. was.1 k ++ took.1 k ∷ [])
+            ∙ append_assoc c.args.replies.now.items was.0 (reply_of took.0 ∷ []),
+        subst (λ (es : List Event). RanOver g.S.Store tells before after s es (was.0 ++ reply_of took.0 ∷ []) new)
+            (sym all) more,
       );
       tells = c.reply_to_call-reply.ensures.tells ∙ c.events.invariant.tells;
       room = omega (

@@ -30,7 +30,8 @@ returns-in_err-layout g c =
     let why = refusal.NoTrack c.args.track in
     subst (λ r. Sees g.S.Store s call Cells c.args.out.now r s) (sym (p.1 ∙ ap Err (p.2 ∙ c.in_err-layout.ensures.0)))
     (idle_sees g.S.Store s call Cells c.args.out.now fewer why tt tt
-    (show_lacks g.S.Store s c.requires.studio c.args.track c.args.from c.args.to fewer why c.in_default.is (ap (lacks c.args.track) c.in_err-layout.ensures.1)))
+    (show_lacks g.S.Store s c.requires.studio c.args.track c.args.from c.args.to fewer why c.in_default.is
+    (ap (lacks c.args.track) c.in_err-layout.ensures.1)))
 
 pub returns-in_err-may_view : goal.returns-in_err-may_view
 returns-in_err-may_view g c =
@@ -40,7 +41,8 @@ returns-in_err-may_view g c =
     let call = Line (Show c.args.track c.args.from c.args.to) in
     subst (λ r. Sees g.S.Store s call Cells c.args.out.now r s) (sym (p.1 ∙ ap Err (p.2 ∙ c.in_err-may_view.ensures.0)))
     (idle_sees g.S.Store s call Cells c.args.out.now fewer refusal.BadRange tt tt
-    (show_beyond g.S.Store s c.requires.studio c.args.track c.args.from c.args.to fewer c.in_ok-layout.layout.now c.in_ok-layout.ensures c.in_default.is refusal.BadRange c.in_err-may_view.ensures.1))
+    (show_beyond g.S.Store s c.requires.studio c.args.track c.args.from c.args.to fewer c.in_ok-layout.layout.now
+    c.in_ok-layout.ensures c.in_default.is refusal.BadRange c.in_err-may_view.ensures.1))
 
 pub read_view-requires-clause-named : goal.read_view-requires-clause-named
 read_view-requires-clause-named g c =
@@ -59,8 +61,10 @@ returns-in_err-count g c =
     let fault = c.in_err-count.field-0.0 in
     subst (λ r. Sees g.S.Store s call Cells c.read_view.new.out r (record s { store = store })) (sym (p.1 ∙ ap Err p.2))
     (unread_sees g.S.Store s call store c.read_view.ensures.kept Cells c.read_view.new.out fault
-    (λ held. c.in_err-count.ensures.sound held.tells (layout_whole g.S.Store s c.requires.studio c.args.track layout has held))
-    (show_failed g.S.Store s c.requires.studio c.args.track c.args.from c.args.to fewer layout has c.in_default.is store c.read_view.ensures.kept fault c.in_err-count.ensures.faults c.in_err-count.ensures.damaged))
+    (λ held. c.in_err-count.ensures.sound held.tells
+    (layout_whole g.S.Store s c.requires.studio c.args.track layout has held))
+    (show_failed g.S.Store s c.requires.studio c.args.track c.args.from c.args.to fewer layout has c.in_default.is store
+    c.read_view.ensures.kept fault c.in_err-count.ensures.faults c.in_err-count.ensures.damaged))
 
 pub returns : goal.returns
 returns g c =
@@ -72,5 +76,7 @@ returns g c =
     let has = c.in_ok-layout.ensures in
     let n = c.in_ok-count.count in
     read_sees g.S.Store s call store c.read_view.ensures.kept Cells c.read_view.new.out n c.in_ok-count.ensures.count
-    (show_done g.S.Store s c.requires.studio c.args.track c.args.from c.args.to fewer layout has c.in_default.is store c.read_view.ensures.kept _ c.in_ok-may_view.ensures c.in_ok-count.ensures.faults
-    (λ held. c.in_ok-count.ensures.read held.tells (layout_whole g.S.Store s c.requires.studio c.args.track layout has held)))
+    (show_done g.S.Store s c.requires.studio c.args.track c.args.from c.args.to fewer layout has c.in_default.is store
+    c.read_view.ensures.kept _ c.in_ok-may_view.ensures c.in_ok-count.ensures.faults
+    (λ held. c.in_ok-count.ensures.read held.tells
+    (layout_whole g.S.Store s c.requires.studio c.args.track layout has held)))

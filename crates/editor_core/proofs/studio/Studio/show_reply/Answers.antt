@@ -23,4 +23,11 @@ pub returns : goal.returns
 returns g c =
     let s = core_of c.args.self.now in
     let call = Line (command.Show c.args.track c.args.from c.args.to) in
-    subst (λ (xs : List Cell). Took g.S.Store s call silent (Ok (reply.Cells xs)) 0 (core_of c.show.new.self)) (sym (c.new.ensures ∙ c.truncate.ensures.items ∙ view_front c.in_ok-count.count c.in_ok-cells.cells.len c.show.new.out _ c.in_ok-count.ensures.count (omega (arith, c.show.auto.out, c.as_mut_slice.ensures.len, ap length c.as_mut_slice.ensures.value)))) c.in_ok-count.ensures.looks.took
+    subst (λ (xs : List Cell). Took g.S.Store s call silent (Ok (reply.Cells xs)) 0 (core_of c.show.new.self))
+    (sym (c.new.ensures ∙ c.truncate.ensures.items ∙ view_front c.in_ok-count.count c.in_ok-cells.cells.len
+    c.show.new.out _ c.in_ok-count.ensures.count (omega (
+      arith,
+      c.show.auto.out,
+      c.as_mut_slice.ensures.len,
+      ap length c.as_mut_slice.ensures.value,
+    )))) c.in_ok-count.ensures.looks.took

@@ -19,7 +19,8 @@ rows-preserved g c =
     let new = record mid { store = c.sync_block.new.store } in
     let calls = c.sync_block.ensures in
     let done = c.in_default.ensures in record {
-      synced = synced_more g.S.Store (core_of c.args.self.now) c.args.first c.rows.i mid new c.rows.invariant.synced refl calls.reads
+      synced = synced_more g.S.Store
+          (core_of c.args.self.now) c.args.first c.rows.i mid new c.rows.invariant.synced refl calls.reads
           done.durable calls.changed calls.read_faults done.faults.kept;
       history = c.rows.invariant.history;
       body = c.rows.invariant.body;
@@ -32,11 +33,13 @@ returns-in-Err-clause-synced g c =
     let store = c.sync_block.new.store in
     let new = record mid { store = store; stopped = Some c.faults-faults.result } in
     let cause = c.in-Err.ensures.faults in
-    unsynced_here g.S.Store (core_of c.args.self.now) c.args.first c.rows.i mid new c.rows.invariant.synced c.args.count c.rows-test.true
+    unsynced_here g.S.Store
+    (core_of c.args.self.now) c.args.first c.rows.i mid new c.rows.invariant.synced c.args.count c.rows-test.true
     (λ i. record mid { store = store; stopped = Some (c.faults-faults.ensures i) }) c.sync_block.ensures.changed
     (record { rose = cause.failed; later = cause.later }) c.sync_block.ensures.read_faults
 
 pub returns-clause-synced : goal.returns-clause-synced
 returns-clause-synced g c =
     let all : c.rows.i ≡ c.args.count = omega (arith, c.rows-test.false, c.rows.auto.i-end) in
-    subst (λ (n : ℕ). Synced g.S.Store (core_of c.args.self.now) c.args.first n (core_of c.rows.self)) all c.rows.invariant.synced
+    subst (λ (n : ℕ). Synced g.S.Store (core_of c.args.self.now) c.args.first n (core_of c.rows.self)) all
+    c.rows.invariant.synced

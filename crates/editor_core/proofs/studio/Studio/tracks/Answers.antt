@@ -26,12 +26,14 @@ pub returns-in_err-lines-clause-took : goal.returns-in_err-lines-clause-took
 returns-in_err-lines-clause-took g c =
     let p = err_from_is_err_and c.from_residual.result c.from_residual.ensures.1 in
     let s = core_of c.args.self.now in
-    subst (λ r. Took g.S.Store s (Line command.Tracks) silent (told_by reply.Tracks r) 0 s) (sym (p.1 ∙ ap Err p.2)) (tell_wanting g.S.Store s c.requires (g.met.S.Store.may_fewer s.store))
+    subst (λ r. Took g.S.Store s (Line command.Tracks) silent (told_by reply.Tracks r) 0 s) (sym (p.1 ∙ ap Err p.2))
+    (tell_wanting g.S.Store s c.requires (g.met.S.Store.may_fewer s.store))
 
 pub returns-in_err-lines-clause-why : goal.returns-in_err-lines-clause-why
 returns-in_err-lines-clause-why g c =
     let p = err_from_is_err_and c.from_residual.result c.from_residual.ensures.1 in
-    subst (λ r. IfErr r (λ e. (e ≡ refusal.NoMemory) ⊎ (faults : ℕ) × (e ≡ refusal.Stopped faults))) (sym (p.1 ∙ ap Err p.2)) (inl refl)
+    subst (λ r. IfErr r (λ e. (e ≡ refusal.NoMemory) ⊎ (faults : ℕ) × (e ≡ refusal.Stopped faults)))
+    (sym (p.1 ∙ ap Err p.2)) (inl refl)
 
 pub returns-clause-took : goal.returns-clause-took
 returns-clause-took g c =

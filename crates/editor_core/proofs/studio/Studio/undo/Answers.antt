@@ -24,7 +24,8 @@ returns-in_err-may_commit-clause-took g c =
     let p = err_from_is_err_and c.from_residual.result c.from_residual.ensures.1 in
     let s = core_of c.args.self.now in
     subst (λ r. Took g.S.Store s (Line command.Undo) silent (told_by (λ (n : ℕ). Done) r) 0 s) (sym (p.1 ∙ ap Err p.2))
-    (tested_out g.S.Store s (Line command.Undo) 0 1 c.undo_refusal.result c.in_err-may_commit.field-0.0 c.requires (g.met.S.Store.may_fewer s.store) undo_call (λ held. (refl, refl))
+    (tested_out g.S.Store s (Line command.Undo) 0 1 c.undo_refusal.result c.in_err-may_commit.field-0.0 c.requires
+    (g.met.S.Store.may_fewer s.store) undo_call (λ held. (refl, refl))
     c.undo_refusal.ensures c.in_err-may_commit.ensures)
 
 pub returns-in_err-may_commit-clause-number : goal.returns-in_err-may_commit-clause-number
@@ -37,8 +38,10 @@ returns-in_err-may_commit-clause-memory g c =
     let p = err_from_is_err_and c.from_residual.result c.from_residual.ensures.1 in
     let s = core_of c.args.self.now in
     let why = c.in_err-may_commit.field-0.0 in
-    let reason : (r : Refusal) → c.undo_refusal.result ≡ Some r → IsNoWant r = λ r e. other_reason (s.history.cursor == 0) NothingToUndo tt r (sym (c.undo_refusal.ensures) ∙ e) in
-    let is : IsNoWant why = no_want s.stopped c.undo_refusal.result s.next_track 0 s.commit_number why reason c.in_err-may_commit.ensures in
+    let reason : (r : Refusal) → c.undo_refusal.result ≡ Some r → IsNoWant r =
+    λ r e. other_reason (s.history.cursor == 0) NothingToUndo tt r (sym (c.undo_refusal.ensures) ∙ e) in
+    let is : IsNoWant why =
+    no_want s.stopped c.undo_refusal.result s.next_track 0 s.commit_number why reason c.in_err-may_commit.ensures in
     subst (λ r. IfErr r IsNoWant) (sym (p.1 ∙ ap Err p.2)) is
 
 pub returns-in_err-may_commit-clause-undamaged : goal.returns-in_err-may_commit-clause-undamaged
@@ -46,13 +49,16 @@ returns-in_err-may_commit-clause-undamaged g c =
     let p = err_from_is_err_and c.from_residual.result c.from_residual.ensures.1 in
     let s = core_of c.args.self.now in
     let why = c.in_err-may_commit.field-0.0 in
-    let own : TellsNone c.undo_refusal.result = subst TellsNone (sym (c.undo_refusal.ensures)) (one_tells (s.history.cursor == 0) NothingToUndo tt) in
-    let is : IsUndamaged why = undamaged_test s.stopped c.undo_refusal.result s.next_track 0 s.commit_number why own c.in_err-may_commit.ensures in
+    let own : TellsNone c.undo_refusal.result =
+    subst TellsNone (sym (c.undo_refusal.ensures)) (one_tells (s.history.cursor == 0) NothingToUndo tt) in
+    let is : IsUndamaged why = undamaged_test s.stopped c.undo_refusal.result s.next_track 0 s.commit_number why own
+    c.in_err-may_commit.ensures in
     subst (λ r. IfErr r IsUndamaged) (sym (p.1 ∙ ap Err p.2)) is
 
 pub returns-in_err-commit_small-clause-took : goal.returns-in_err-commit_small-clause-took
 returns-in_err-commit_small-clause-took g c =
-    let p = err_from_is_err_and c.from_residual-in_err-commit_small.result c.from_residual-in_err-commit_small.ensures.1 in
+    let p =
+    err_from_is_err_and c.from_residual-in_err-commit_small.result c.from_residual-in_err-commit_small.ensures.1 in
     let s = core_of c.args.self.now in
     let mid = core_of c.commit_small.new.self in
     let may = c.in_ok-may_commit.ensures in
@@ -60,23 +66,28 @@ returns-in_err-commit_small-clause-took g c =
     let some = positive s.history.cursor NothingToUndo own in
     let why = c.in_err-commit_small.field-0.0 in
     let adds = c.in_err-commit_small.ensures.record in
-    subst (λ r. Took g.S.Store s (Line command.Undo) silent (told_by (λ (n : ℕ). Done) r) 0 mid) (sym (p.1 ∙ ap Err p.2))
-    (fails g.S.Store s [] (Line command.Undo) silent 0 Undo (at_cursor s.history (s.history.cursor - 1)) s.clipboard s.next_track c.requires (none_made g.S.Store s)
+    subst (λ r. Took g.S.Store s (Line command.Undo) silent (told_by (λ (n : ℕ). Done) r) 0 mid)
+    (sym (p.1 ∙ ap Err p.2))
+    (fails g.S.Store s [] (Line command.Undo) silent 0 Undo
+    (at_cursor s.history (s.history.cursor - 1)) s.clipboard s.next_track c.requires (none_made g.S.Store s)
     (undoes g.S.Store s c.requires some) may.0 own may.2 may.3 why mid (g.met.S.Store.may_fewer s.store) adds)
 
 pub returns-in_err-commit_small-clause-number : goal.returns-in_err-commit_small-clause-number
 returns-in_err-commit_small-clause-number g c =
-    let p = err_from_is_err_and c.from_residual-in_err-commit_small.result c.from_residual-in_err-commit_small.ensures.1 in
+    let p =
+    err_from_is_err_and c.from_residual-in_err-commit_small.result c.from_residual-in_err-commit_small.ensures.1 in
     subst (λ r. IfOk r (λ (n : ℕ). n ≡ c.commit_small.new.self.commit_number)) (sym (p.1 ∙ ap Err p.2)) tt
 
 pub returns-in_err-commit_small-clause-memory : goal.returns-in_err-commit_small-clause-memory
 returns-in_err-commit_small-clause-memory g c =
-    let p = err_from_is_err_and c.from_residual-in_err-commit_small.result c.from_residual-in_err-commit_small.ensures.1 in
+    let p =
+    err_from_is_err_and c.from_residual-in_err-commit_small.result c.from_residual-in_err-commit_small.ensures.1 in
     subst (λ r. IfErr r IsNoWant) (sym (p.1 ∙ ap Err p.2)) c.in_err-commit_small.ensures.memory
 
 pub returns-in_err-commit_small-clause-undamaged : goal.returns-in_err-commit_small-clause-undamaged
 returns-in_err-commit_small-clause-undamaged g c =
-    let p = err_from_is_err_and c.from_residual-in_err-commit_small.result c.from_residual-in_err-commit_small.ensures.1 in
+    let p =
+    err_from_is_err_and c.from_residual-in_err-commit_small.result c.from_residual-in_err-commit_small.ensures.1 in
     subst (λ r. IfErr r IsUndamaged) (sym (p.1 ∙ ap Err p.2)) c.in_err-commit_small.ensures.undamaged
 
 pub returns-clause-took : goal.returns-clause-took
@@ -89,6 +100,8 @@ returns-clause-took g c =
     let adds = subst (λ r. Adds g.S.Store s (2 ∷ []) r mid) c.in_ok-commit_small.was c.commit_small.ensures.record in
     let same : mid.history ≡ s.history = ap (λ (z : Core g.row.S.Denot). z.history) adds.fields.0 in
     let some' = subst (λ h. 0 < h.cursor) (sym same) some in
-    let gone = undone c.commit_small.new.self.history c.undo.new.self c.undo.result some' c.undo.ensures.ok c.undo.ensures.err in
-    moved g.S.Store s c.requires (Line command.Undo) Undo (at_cursor s.history (s.history.cursor - 1)) mid c.undo.new.self.history (undoes g.S.Store s c.requires some) refl may.0 own may.3 adds
+    let gone = undone c.commit_small.new.self.history c.undo.new.self c.undo.result some' c.undo.ensures.ok
+    c.undo.ensures.err in
+    moved g.S.Store s c.requires (Line command.Undo) Undo (at_cursor s.history (s.history.cursor - 1)) mid
+    c.undo.new.self.history (undoes g.S.Store s c.requires some) refl may.0 own may.3 adds
     (gone ∙ ap (λ h. at_cursor h (h.cursor - 1)) same)

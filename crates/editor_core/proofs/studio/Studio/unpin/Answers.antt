@@ -12,7 +12,8 @@ use Rattle.editor_core.proofs.studio.Studio.unpin.Goals as goal
 pub returns-in_default-clause-took : goal.returns-in_default-clause-took
 returns-in_default-clause-took g c =
     let s = core_of c.args.self.now in
-    subst (λ (ps : List Pin). Took g.S.Store s (Unpin c.args.pin) silent (Err (NoPin c.args.pin)) 0 (record s { pins = ps })) (sym c.in_default.ensures.0)
+    subst (λ (ps : List Pin). Took g.S.Store s (Unpin c.args.pin) silent (Err (NoPin c.args.pin)) 0
+    (record s { pins = ps })) (sym c.in_default.ensures.0)
     (unpin_lacks g.S.Store s c.requires c.args.pin (g.met.S.Store.may_fewer s.store) c.in_default.ensures.1)
 
 pub returns-in_default-clause-unpinned : goal.returns-in_default-clause-unpinned
@@ -22,12 +23,14 @@ returns-in_default-clause-unpinned g c =
 
 pub drop_point-requires : goal.drop_point-requires
 drop_point-requires g c =
-    pin_counted g.S.Store (core_of c.args.self.now) c.requires c.args.pin c.take_pin.new.pins.items c.in-Some.gone c.in-Some.ensures
+    pin_counted g.S.Store
+    (core_of c.args.self.now) c.requires c.args.pin c.take_pin.new.pins.items c.in-Some.gone c.in-Some.ensures
 
 pub returns-clause-took : goal.returns-clause-took
 returns-clause-took g c =
     let s = core_of c.args.self.now in
-    unpinned g.S.Store s c.requires c.args.pin c.take_pin.new.pins.items c.in-Some.gone c.in-Some.ensures (count_of c.drop_point.new.ledger) c.drop_point.ensures (g.met.S.Store.may_fewer s.store)
+    unpinned g.S.Store s c.requires c.args.pin c.take_pin.new.pins.items c.in-Some.gone c.in-Some.ensures
+    (count_of c.drop_point.new.ledger) c.drop_point.ensures (g.met.S.Store.may_fewer s.store)
 
 pub returns-clause-unpinned : goal.returns-clause-unpinned
 returns-clause-unpinned g c = ((c.in-Some.gone, c.in-Some.ensures), refl)

@@ -30,7 +30,8 @@ returns-clause-stored g c = λ told.
     let f : ℕ → Frame = frame_at p in
     let len = mix_length p in
     let count = c.min-count.result in
-    let size : length (take count a.out.now) ≡ count = omega (arith, length-take count a.out.now, c.min-count.ensures) in
+    let size : length (take count a.out.now) ≡ count =
+    omega (arith, length-take count a.out.now, c.min-count.ensures) in
     let few : count ≡ min count (len - a.self.now.at) =
     omega (arith, c.min-count.ensures, c.saturating_sub-left.ensures, c.mix_len.ensures.frames (stored_of files)) in
     take_front count c.mix_stretches.new.out (drop count a.out.now) (omega (arith, c.mix_stretches.auto.out, size))
@@ -41,7 +42,8 @@ pub returns-clause-read : goal.returns-clause-read
 returns-clause-read g c = λ told whole.
     let files : Files = g.S.Store.reads c.args.store.now in
     returns-clause-stored g c told
-    ∙ ap (λ (p : Project). take c.min-count.result (drop c.args.self.now.at (mix_of p))) (stored_meant files c.args.self.now.point.now whole)
+    ∙ ap (λ (p : Project). take c.min-count.result (drop c.args.self.now.at (mix_of p)))
+    (stored_meant files c.args.self.now.point.now whole)
 
 pub returns-clause-rest : goal.returns-clause-rest
 returns-clause-rest g c =

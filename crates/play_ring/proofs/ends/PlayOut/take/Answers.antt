@@ -12,13 +12,16 @@ loop-count-preserved c =
     let i = c.loop-count.invariant in
     let frame = c.in-Ok-Sound.frame in
     let popped = rw c.in-Ok-Sound.field-0-is at c.in-Ok-Sound.ensures.ok in
-    let more : sounds (take (c.loop-count.count + 1) (slice_set c.loop-count.out c.loop-count.count frame)) ≡ sounds (take c.loop-count.count c.loop-count.out) ++ Sound frame ∷ [] =
-    ap sounds (take_more_set c.loop-count.out c.loop-count.count frame c.loop-count-test.true) ∙ map-append Sound (take c.loop-count.count c.loop-count.out) (frame ∷ []) in
+    let more : sounds (take (c.loop-count.count + 1) (slice_set c.loop-count.out c.loop-count.count frame))
+    ≡ sounds (take c.loop-count.count c.loop-count.out) ++ Sound frame ∷ [] =
+    ap sounds (take_more_set c.loop-count.out c.loop-count.count frame c.loop-count-test.true)
+    ∙ map-append Sound (take c.loop-count.count c.loop-count.out) (frame ∷ []) in
     record {
       bound = grind (arith, common_steps);
       ring = search rules;
       knew = rw more (IsPrefix-pop _ _ _ _ (Sound frame) i.knew popped.1);
-      taken = rw more (popped.0 ∙ ap (λ t. t ++ Sound frame ∷ []) i.taken ∙ append_assoc (received c.args.self.now) (sounds (take c.loop-count.count c.loop-count.out)) (Sound frame ∷ []));
+      taken = rw more (popped.0 ∙ ap (λ t. t ++ Sound frame ∷ []) i.taken ∙ append_assoc (received c.args.self.now)
+          (sounds (take c.loop-count.count c.loop-count.out)) (Sound frame ∷ []));
     }
 
 pub returns-in-Ok-End-clause-known : goal.returns-in-Ok-End-clause-known

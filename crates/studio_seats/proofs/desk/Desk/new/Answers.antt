@@ -5,4 +5,5 @@ use Rattle.editor_core.specs.Core.{core_of}
 use Rattle.studio_seats.proofs.desk.Desk.new.Goals as goal
 
 pub new-requires : goal.new-requires
-new-requires g c = begins g.S.Store (AllTell g.V.Vault) (core_of c.args.studio) c.requires (g.met.S.Store.may_fewer c.args.studio.store)
+new-requires g c = begins g.S.Store (AllTell g.V.Vault) (core_of c.args.studio) c.requires
+    (g.met.S.Store.may_fewer c.args.studio.store)

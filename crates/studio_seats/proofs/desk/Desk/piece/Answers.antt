@@ -9,10 +9,27 @@ use Rattle.studio_seats.proofs.Turns.{fits, is_studio, says, tag_fits}
 use Rattle.studio_seats.proofs.desk.Desk.piece.Goals as goal
 
 pub with-requires-clause-fits : goal.with-requires-clause-fits
-with-requires-clause-fits g c = fits g.S.Store g.V.Vault _ _ _ _ (call.Piece c.args.track c.args.tag c.args.samples.now) (λ s f'. told_by (λ _. reply.Done) s.what) (λ f'. silent)
-    (λ more x others stood y is. (is_studio g.S.Store g.V.Vault (start_of c.args.self.now.turn) x y.now _ stood is, (c.requires.tag.0, tag_fits g.S.Store g.V.Vault (start_of c.args.self.now.turn) x y.now c.args.tag _ more c.requires.tag.1 stood is)))
-    (λ s f' x x' called. does_silent g.S.Store _ _ (call.Piece c.args.track c.args.tag c.args.samples.now) _ 0 _ called.called.met.1.0)
+with-requires-clause-fits g c = fits g.S.Store g.V.Vault _ _ _ _ (call.Piece c.args.track c.args.tag c.args.samples.now)
+    (λ s f'. told_by (λ _. reply.Done) s.what) (λ f'. silent)
+    (λ more x others stood y is. (
+      is_studio g.S.Store g.V.Vault (start_of c.args.self.now.turn) x y.now _ stood is,
+      (
+        c.requires.tag.0,
+        tag_fits g.S.Store g.V.Vault
+            (start_of c.args.self.now.turn) x y.now c.args.tag _ more c.requires.tag.1 stood is,
+      ),
+    ))
+    (λ s f' x x' called.
+    does_silent g.S.Store _ _ (call.Piece c.args.track c.args.tag c.args.samples.now) _ 0 _ called.called.met.1.0)
 
 pub returns-clause-says : goal.returns-clause-says
-returns-clause-says g c = says g.S.Store g.V.Vault _ _ _ _ (call.Piece c.args.track c.args.tag c.args.samples.now) (λ s f'. told_by (λ _. reply.Done) s.what) (λ f'. silent) _ (λ s. told_by (λ _. reply.Done) s.what) silent _ _ _ c.with.ensures.turned c.said_by.ensures
-    (λ s x x' called. record { does = does_silent g.S.Store _ _ (call.Piece c.args.track c.args.tag c.args.samples.now) _ 0 _ called.called.met.1.0; number = called.called.met.1.1.0; what_is = refl; sound_is = refl })
+returns-clause-says g c = says g.S.Store g.V.Vault _ _ _ _ (call.Piece c.args.track c.args.tag c.args.samples.now)
+    (λ s f'. told_by (λ _. reply.Done) s.what) (λ f'. silent) _
+    (λ s. told_by (λ _. reply.Done) s.what) silent _ _ _ c.with.ensures.turned c.said_by.ensures
+    (λ s x x' called. record {
+      does = does_silent g.S.Store _ _ (call.Piece c.args.track c.args.tag c.args.samples.now)
+          _ 0 _ called.called.met.1.0;
+      number = called.called.met.1.1.0;
+      what_is = refl;
+      sound_is = refl;
+    })

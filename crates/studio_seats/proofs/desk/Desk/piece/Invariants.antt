@@ -8,4 +8,7 @@ use Rattle.studio_seats.specs.Deeds.{deed}
 use Rattle.studio_seats.proofs.desk.Desk.piece.Given as goal
 
 abbrev pub ghosts-with : goal.ghosts-with
-ghosts-with g a = record { added = λ r f'. deed (known a.seat.now).number (call.Piece (a.f.now.1.now) (a.f.now.2.now) a.f.now.3.now) (told_by (λ _. reply.Done) r.what) silent ∷ [] }
+ghosts-with g a = record {
+  added = λ r f'. deed (known a.seat.now).number
+      (call.Piece (a.f.now.1.now) (a.f.now.2.now) a.f.now.3.now) (told_by (λ _. reply.Done) r.what) silent ∷ [];
+}

@@ -8,4 +8,5 @@ use Rattle.studio_seats.specs.Deeds.{deed}
 use Rattle.studio_seats.proofs.desk.Desk.pin.Given as goal
 
 abbrev pub ghosts-with : goal.ghosts-with
-ghosts-with g a = record { added = λ r f'. deed (known a.seat.now).number call.Pin (told_by reply.Pinned r.what) silent ∷ [] }
+ghosts-with g a =
+    record { added = λ r f'. deed (known a.seat.now).number call.Pin (told_by reply.Pinned r.what) silent ∷ [] }

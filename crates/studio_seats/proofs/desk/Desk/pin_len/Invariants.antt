@@ -8,4 +8,7 @@ use Rattle.studio_seats.specs.Deeds.{deed}
 use Rattle.studio_seats.proofs.desk.Desk.pin_len.Given as goal
 
 abbrev pub ghosts-with : goal.ghosts-with
-ghosts-with g a = record { added = λ r f'. deed (known a.seat.now).number (call.PinLen (a.f.now.0.now)) (told_by reply.Length r.what) silent ∷ [] }
+ghosts-with g a = record {
+  added = λ r f'. deed (known a.seat.now).number (call.PinLen (a.f.now.0.now))
+      (told_by reply.Length r.what) silent ∷ [];
+}

@@ -8,4 +8,7 @@ use Rattle.studio_seats.specs.Deeds.{deed}
 use Rattle.studio_seats.proofs.desk.Desk.read_pin.Given as goal
 
 abbrev pub ghosts-with : goal.ghosts-with
-ghosts-with g a = record { added = λ r f'. deed (known a.seat.now).number (call.ReadPin (a.f.now.0.now) (a.f.now.1.now) (length a.f.now.2.now)) (told_by (λ n. reply.Frames (take n f'.2.now)) r.what) silent ∷ [] }
+ghosts-with g a = record {
+  added = λ r f'. deed (known a.seat.now).number (call.ReadPin (a.f.now.0.now) (a.f.now.1.now)
+      (length a.f.now.2.now)) (told_by (λ n. reply.Frames (take n f'.2.now)) r.what) silent ∷ [];
+}

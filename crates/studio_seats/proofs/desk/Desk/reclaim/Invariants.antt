@@ -9,4 +9,7 @@ use Rattle.studio_seats.specs.Deeds.{deed}
 use Rattle.studio_seats.proofs.desk.Desk.reclaim.Given as goal
 
 abbrev pub ghosts-with : goal.ghosts-with
-ghosts-with g a = record { added = λ r f'. deed (known a.seat.now).number (call.Line (command.Reclaim (a.f.now.0.now))) (told_by reply.Freed r.what) silent ∷ [] }
+ghosts-with g a = record {
+  added = λ r f'. deed (known a.seat.now).number (call.Line (command.Reclaim (a.f.now.0.now)))
+      (told_by reply.Freed r.what) silent ∷ [];
+}

@@ -9,4 +9,7 @@ use Rattle.studio_seats.specs.Deeds.{deed}
 use Rattle.studio_seats.proofs.desk.Desk.undo.Given as goal
 
 abbrev pub ghosts-with : goal.ghosts-with
-ghosts-with g a = record { added = λ r f'. deed (known a.seat.now).number (call.Line command.Undo) (told_by (λ _. reply.Done) r.what) silent ∷ [] }
+ghosts-with g a = record {
+  added = λ r f'.
+      deed (known a.seat.now).number (call.Line command.Undo) (told_by (λ _. reply.Done) r.what) silent ∷ [];
+}

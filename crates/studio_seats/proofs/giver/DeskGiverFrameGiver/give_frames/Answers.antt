@@ -12,19 +12,25 @@ pub invariant_of-self : goal.invariant_of-self
 invariant_of-self g c =
     let s = c.args.self.now in record {
       at = c.read_pin-said.ensures.same;
-      made = still_made g.S.Store g.V.Vault (start_at s.desk.now) s.pin c.args.from c.args.out.now c.read_pin-said.new.out (known s.seat) (known c.read_pin-said.new.seat) c.read_pin-said.result c.read_pin-said.ensures.says s.made;
+      made =
+          still_made g.S.Store g.V.Vault (start_at s.desk.now) s.pin c.args.from c.args.out.now c.read_pin-said.new.out
+          (known s.seat) (known c.read_pin-said.new.seat) c.read_pin-said.result c.read_pin-said.ensures.says s.made;
     }
 
 pub returns-clause-given : goal.returns-clause-given
 returns-clause-given g c =
     let s = c.args.self.now in
-    gives g.S.Store g.V.Vault (start_at s.desk.now) s.pin c.args.from c.args.out.now c.read_pin-said.new.out (known s.seat) (known c.read_pin-said.new.seat) c.read_pin-said.result c.read_pin-said.ensures.says
+    gives g.S.Store g.V.Vault (start_at s.desk.now) s.pin c.args.from c.args.out.now c.read_pin-said.new.out
+    (known s.seat) (known c.read_pin-said.new.seat) c.read_pin-said.result c.read_pin-said.ensures.says
 
 pub returns-clause-same : goal.returns-clause-same
 returns-clause-same g c = λ all.
     let s = c.args.self.now in (
-      same_frames g.S.Store g.V.Vault (start_at s.desk.now) s.pin c.args.from c.args.out.now c.read_pin-said.new.out (known s.seat) (known c.read_pin-said.new.seat) c.read_pin-said.result c.read_pin-said.ensures.says all,
-      back_frames g.S.Store g.V.Vault (start_at s.desk.now) s.pin c.args.from c.args.out.now c.read_pin-said.new.out (known s.seat) (known c.read_pin-said.new.seat) c.read_pin-said.result c.read_pin-said.ensures.says s.made all,
+      same_frames g.S.Store g.V.Vault (start_at s.desk.now) s.pin c.args.from c.args.out.now c.read_pin-said.new.out
+          (known s.seat) (known c.read_pin-said.new.seat) c.read_pin-said.result c.read_pin-said.ensures.says all,
+      back_frames g.S.Store g.V.Vault
+          (start_at s.desk.now) s.pin c.args.from c.args.out.now c.read_pin-said.new.out (known s.seat)
+          (known c.read_pin-said.new.seat) c.read_pin-said.result c.read_pin-said.ensures.says s.made all,
     )
 
 pub returns-clause-goes : goal.returns-clause-goes
@@ -33,6 +39,10 @@ returns-clause-goes g c = λ first h.
       h.0,
       h.1,
       onward_on (IsReadOf first.pin) (known first.seat) (known s.seat) (known c.read_pin-said.new.seat) h.2
-          (onward_turn (IsReadOf first.pin) g.S.Store g.V.Vault (start_at s.desk.now) (known s.seat) (known c.read_pin-said.new.seat) _ _ _ c.read_pin-said.result
-          (c.args.from, length c.args.out.now, ap (λ (n : ℕ). ReadPin n c.args.from (length c.args.out.now)) h.1) c.read_pin-said.ensures.says),
+          (onward_turn (IsReadOf first.pin) g.S.Store g.V.Vault (start_at s.desk.now) (known s.seat)
+          (known c.read_pin-said.new.seat) _ _ _ c.read_pin-said.result (
+            c.args.from,
+            length c.args.out.now,
+            ap (λ (n : ℕ). ReadPin n c.args.from (length c.args.out.now)) h.1,
+          ) c.read_pin-said.ensures.says),
     )

@@ -13,21 +13,30 @@ invariant_of-self g c =
       at = c.piece-said.ensures.same;
       tagged = (
         s.tagged.0,
-        tagged g.S.Store g.V.Vault (start_at s.desk.now) s.track s.tag c.args.chunk.now.samples (known s.seat) (known c.piece-said.new.seat) c.piece-said.result s.tag
-            (of_samples g.S.Store g.V.Vault (start_at s.desk.now) s.track s.tag c.args.chunk.now.samples c.as_slice.result.now (known s.seat) (known c.piece-said.new.seat) c.piece-said.result c.as_slice.ensures.samples c.piece-said.ensures.says) s.tagged.1,
+        tagged g.S.Store g.V.Vault (start_at s.desk.now) s.track s.tag c.args.chunk.now.samples (known s.seat)
+            (known c.piece-said.new.seat) c.piece-said.result s.tag
+            (of_samples g.S.Store g.V.Vault (start_at s.desk.now) s.track s.tag c.args.chunk.now.samples
+            c.as_slice.result.now (known s.seat) (known c.piece-said.new.seat) c.piece-said.result
+            c.as_slice.ensures.samples c.piece-said.ensures.says) s.tagged.1,
       );
     }
 
 pub returns-clause-taken : goal.returns-clause-taken
 returns-clause-taken g c =
     let s = c.args.self.now in
-    takes_ok g.S.Store g.V.Vault (start_at s.desk.now) s.track s.tag c.args.chunk.now.samples (known s.seat) (known c.piece-said.new.seat) c.piece-said.result (of_samples g.S.Store g.V.Vault (start_at s.desk.now) s.track s.tag c.args.chunk.now.samples c.as_slice.result.now (known s.seat) (known c.piece-said.new.seat) c.piece-said.result c.as_slice.ensures.samples c.piece-said.ensures.says)
+    takes_ok g.S.Store g.V.Vault (start_at s.desk.now) s.track s.tag c.args.chunk.now.samples
+    (known s.seat) (known c.piece-said.new.seat) c.piece-said.result (of_samples g.S.Store g.V.Vault
+    (start_at s.desk.now) s.track s.tag c.args.chunk.now.samples c.as_slice.result.now (known s.seat)
+    (known c.piece-said.new.seat) c.piece-said.result c.as_slice.ensures.samples c.piece-said.ensures.says)
     c.piece-said.ensures.number
 
 pub returns-clause-left : goal.returns-clause-left
 returns-clause-left g c =
     let s = c.args.self.now in
-    takes_err g.S.Store g.V.Vault (start_at s.desk.now) s.track s.tag c.args.chunk.now.samples (known s.seat) (known c.piece-said.new.seat) c.piece-said.result (of_samples g.S.Store g.V.Vault (start_at s.desk.now) s.track s.tag c.args.chunk.now.samples c.as_slice.result.now (known s.seat) (known c.piece-said.new.seat) c.piece-said.result c.as_slice.ensures.samples c.piece-said.ensures.says)
+    takes_err g.S.Store g.V.Vault (start_at s.desk.now) s.track s.tag c.args.chunk.now.samples
+    (known s.seat) (known c.piece-said.new.seat) c.piece-said.result (of_samples g.S.Store g.V.Vault
+    (start_at s.desk.now) s.track s.tag c.args.chunk.now.samples c.as_slice.result.now (known s.seat)
+    (known c.piece-said.new.seat) c.piece-said.result c.as_slice.ensures.samples c.piece-said.ensures.says)
     c.piece-said.ensures.number
 
 pub returns-clause-goes : goal.returns-clause-goes
@@ -37,6 +46,11 @@ returns-clause-goes g c = λ first h.
       h.1,
       h.2,
       onward_on (IsPieceOf first.track first.tag) (known first.seat) (known s.seat) (known c.piece-said.new.seat) h.3
-          (onward_turn (IsPieceOf first.track first.tag) g.S.Store g.V.Vault (start_at s.desk.now) (known s.seat) (known c.piece-said.new.seat) _ _ _ c.piece-said.result
-          (c.args.chunk.now.samples, (λ i. Piece (h.1 i) (h.2 i) c.args.chunk.now.samples)) (of_samples g.S.Store g.V.Vault (start_at s.desk.now) s.track s.tag c.args.chunk.now.samples c.as_slice.result.now (known s.seat) (known c.piece-said.new.seat) c.piece-said.result c.as_slice.ensures.samples c.piece-said.ensures.says)),
+          (onward_turn (IsPieceOf first.track first.tag) g.S.Store g.V.Vault (start_at s.desk.now) (known s.seat)
+          (known c.piece-said.new.seat) _ _ _ c.piece-said.result (
+            c.args.chunk.now.samples,
+            (λ i. Piece (h.1 i) (h.2 i) c.args.chunk.now.samples),
+          ) (of_samples g.S.Store g.V.Vault
+          (start_at s.desk.now) s.track s.tag c.args.chunk.now.samples c.as_slice.result.now (known s.seat)
+          (known c.piece-said.new.seat) c.piece-said.result c.as_slice.ensures.samples c.piece-said.ensures.says)),
     )

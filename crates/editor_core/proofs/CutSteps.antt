@@ -1,0 +1,294 @@
+-- Cuts, as steps of the studio.
+use Rattle.std.proofs.Common.{◌≡◌, ⊎_elim, refl, sym, ap, ◌∙◌, subst, ℕ, ◌+◌, ◌^◌, ◌≤◌, ℤ}
+use Rattle.std.proofs.Common.{Option, Some, None, List, length, map, take}
+use Rattle.std.proofs.Common.{replicate, Contains, Ok, Err, arith}
+use Rattle.std.proofs.lemmas.List.{length-replicate}
+use Rattle.pcm_base.specs.declared.block.BlockRef.{BlockRef}
+use Rattle.pcm_base.specs.declared.command.Call.{Call}
+use Rattle.pcm_base.specs.declared.command.Call.TheVariants.{Line}
+use Rattle.pcm_base.specs.declared.refusal.Refusal.{Refusal}
+use Rattle.pcm_base.specs.declared.refusal.Refusal.TheVariants as refusal
+use Rattle.pcm_base.specs.declared.sound.Cell.{Cell}
+use Rattle.pcm_base.specs.Cells.{Project, longest, run_edited, tracks_from}
+use Rattle.pcm_base.specs.Cells as cells
+use Rattle.pcm_base.specs.Edits.{range_of}
+use Rattle.pcm_base.specs.History.{edited, recorded}
+use Rattle.pcm_base.specs.Outside.{Outside}
+use Rattle.pcm_base.specs.Pieces.{Sources}
+use Rattle.pcm_base.specs.Refusals.{◌otherwise◌, bad_range, call_tests, is_empty, refused_if, too_narrow}
+use Rattle.pcm_base.specs.Run.{outside, stop_of}
+use Rattle.pcm_base.specs.Sizes.{blocks_of_tracks}
+use Rattle.pcm_base.specs.State.{State, current}
+use Rattle.pcm_base.specs.Step.{after, copied}
+use Rattle.pcm_base.specs.Studio as model
+use Rattle.disk_model.specs.declared.store.Store.{Ghosts}
+use Rattle.disk_model.proofs.Frames.{Fewer}
+use Rattle.sample_block.specs.Sources.{samples_on}
+use Rattle.clip_track.specs.declared.clips.Clip.{Clip}
+use Rattle.clip_track.specs.declared.items.Item.{Item}
+use Rattle.edit_ops.specs.declared.types.NewBlock.{NewBlock}
+use Rattle.edit_ops.specs.Plans.{AreWritten}
+use Rattle.edit_ops.specs.Runs.{AreCopies, AreCuts, copy_tests}
+use Rattle.piece_store.specs.declared.given.Given.TheVariants.{Nothing}
+use Rattle.project_state.specs.declared.track.Track.{Track}
+use Rattle.project_state.specs.Kept.{meant, meant_history, point_blocks}
+use Rattle.project_state.specs.KeptSound.{IsSoundPoint}
+use Rattle.project_state.specs.Tracks.{track_of}
+use Rattle.project_state.proofs.MeantHistories.{meant_recorded}
+use Rattle.editor_core.specs.declared.cuts.CutEdit.{CutEdit}
+use Rattle.editor_core.specs.declared.cuts.CutEdit.TheVariants.{Close, Leave}
+use Rattle.editor_core.specs.Copies.{Copies, run_of, strips_blocks}
+use Rattle.editor_core.specs.Core.{Core}
+use Rattle.editor_core.specs.Cuts.{IsCutPlan, NoCutPlan, cut_cells, cut_line, cut_refusal}
+use Rattle.editor_core.specs.Edits.{AreAmong, IsEdit, IsEditCall, IsPlanned, alone, blocks_with}
+use Rattle.editor_core.specs.Points.{current_tracks, lacks}
+use Rattle.editor_core.specs.Reads.{HasLayout}
+use Rattle.editor_core.specs.Studios.{IsClipboard, IsStudio, clip_cells, named_blocks, studio_by, studio_of}
+use Rattle.editor_core.specs.Took.{Took, silent}
+use Rattle.editor_core.proofs.Clipping.{may_paste, strips_named}
+use Rattle.editor_core.proofs.Contained.{among_itself}
+use Rattle.editor_core.proofs.Copying.{copies_mean, from_blocks, from_track, layout_of}
+use Rattle.editor_core.proofs.Copying.{run_is, run_meant}
+use Rattle.editor_core.proofs.Currents.{current_may_read}
+use Rattle.editor_core.proofs.Editing.{current_sound, old_names}
+use Rattle.editor_core.proofs.Lists.{all_left}
+use Rattle.editor_core.proofs.MadeStudios.{refs}
+use Rattle.editor_core.proofs.RunLaws.{run_few, run_planned, run_point}
+use Rattle.editor_core.proofs.RunPlans.{AreLaid, CellEdit}
+use Rattle.editor_core.proofs.Spaces.{early}
+use Rattle.editor_core.proofs.Staying.{refuses, wants}
+use Rattle.editor_core.proofs.Tracks.{current_is}
+use Rattle.editor_core.proofs.CutLaws.{cuts_laid, each_so, run_tests_are, same_edits, strips_short, there_of}
+
+-- ---- the lines
+
+pub cut_call : (e : CutEdit) (id n from to : ℕ)
+    → IsEditCall (Line (cut_line e id n from to)) silent 0 (λ m st. blocks_of_tracks n)
+cut_call Close id n from to = record {
+  commit = record {
+    one = refl;
+    no_pin = refl;
+    tracks_is = λ rate. refl;
+    stops = λ o. refl;
+    changes = refl;
+    leaves = λ t. refl;
+    heard = λ rate s. refl;
+    quiet = refl;
+    done = λ rate s. refl;
+  };
+  needs = λ rate t blocks len h. h;
+  needed = λ rate t blocks len h. h;
+}
+cut_call Leave id n from to = record {
+  commit = record {
+    one = refl;
+    no_pin = refl;
+    tracks_is = λ rate. refl;
+    stops = λ o. refl;
+    changes = refl;
+    leaves = λ t. refl;
+    heard = λ rate s. refl;
+    quiet = refl;
+    done = λ rate s. refl;
+  };
+  needs = λ rate t blocks len h. h;
+  needed = λ rate t blocks len h. h;
+}
+
+-- the own tests of both lines
+abbrev line_tests : (id n from to : ℕ) → Project → Option Refusal
+line_tests id n from to p =
+    (refused_if (is_empty (tracks_from id p)) (refusal.NoTrack id)) otherwise (too_narrow (length (tracks_from id p)) n)
+    otherwise (bad_range from to (longest (take n (tracks_from id p))))
+
+own_by : (e : CutEdit) (id n from to : ℕ) (out : Outside) (st : State)
+    → call_tests out st (Line (cut_line e id n from to)) ≡ line_tests id n from to (current st)
+own_by Close id n from to out st = refl
+own_by Leave id n from to out st = refl
+
+after_by : (e : CutEdit) (id n from to : ℕ) (out : Outside) (st : State) → after out st (Line (cut_line e id n from to))
+    ≡ record st {
+      history = edited st.history (run_edited id (replicate n (cut_cells e from to)) (current st)) 0;
+      commit = st.commit + 1;
+      clipboard = Some (copied id n from to (current st));
+    }
+after_by Close id n from to out st = refl
+after_by Leave id n from to out st = refl
+
+module _ {D : Type 0} (disk : Ghosts D) (s : Core D) (is : IsStudio disk s) (e : CutEdit) (id n from to : ℕ)
+    (fewer : Fewer disk s.store) where
+  abbrev old : List Track
+  old = current_tracks s.history
+
+  abbrev line : Call
+  line = Line (cut_line e id n from to)
+
+  abbrev t : model.Studio
+  t = studio_of disk s
+
+  old_sound : IsSoundPoint s.block_size s.next_block s.next_track old
+  old_sound = current_sound disk s is
+
+  own_is : (block : ℕ → ℕ → ℤ) → call_tests (outside (studio_by (alone block) disk s) silent)
+      (studio_by (alone block) disk s).state line ≡ cut_refusal id n from to old
+  own_is block =
+      let src = alone block in
+      let u = studio_by src disk s in
+      own_by e id n from to (outside u silent) u.state
+      ∙ ap (line_tests id n from to) (current_is src s.history)
+      ∙ run_tests_are src id n from to s.block_size s.next_block s.next_track old old_sound.rising old_sound.sound
+      (track_of id old) refl
+
+  -- ---- a stopped studio, a test of the edit, or memory
+
+  early_refused : (why : Refusal) → ((stop_of s.stopped) otherwise (cut_refusal id n from to old)) ≡ Some why
+      → Took disk s line silent (Err why) 0 s
+  early_refused why h =
+      let call = cut_call e id n from to in
+      let own = own_is (samples_on (disk.reads s.store)) in
+      let first : ((stop_of s.stopped) otherwise (call_tests (outside t silent) t.state line)) ≡ Some why =
+      (λ i. (stop_of s.stopped) otherwise (own i)) ∙ h in
+      refuses disk s line silent why is fewer refl 0 0 (λ held. call.needs t.rate t 0 0 (omega arith, omega arith))
+      (early t line silent 0 call.commit 0 0 why first)
+
+  pub cut_stopped : (faults : ℕ) → s.stopped ≡ Some faults → Took disk s line silent (Err (refusal.Stopped faults)) 0 s
+  cut_stopped faults at =
+      early_refused (refusal.Stopped faults) (λ i. (stop_of (at i)) otherwise (cut_refusal id n from to old))
+
+  pub cut_refused : (why : Refusal) → s.stopped ≡ None → NoCutPlan id n from to old why
+      → Took disk s line silent (Err why) 0 s
+  cut_refused why going not = ⊎_elim
+      (λ own. early_refused why ((λ i. (stop_of (going i)) otherwise (cut_refusal id n from to old)) ∙ own))
+      (λ memory.
+      subst (λ (r : Refusal). Took disk s line silent (Err r) 0 s) (sym memory)
+      (wants disk s line silent is fewer refl 0
+      (λ held. (0, (cut_call e id n from to).needs t.rate t 0 0 (omega arith, omega arith)))))
+      not
+
+  -- ---- the plan
+
+  module _ (going : s.stopped ≡ None) (new : List Track) (makes : List NewBlock) (after_id : ℕ)
+      (clip : Option (List (List Item)))
+      (p : IsCutPlan e id n from to s.block_size s.next_block old new makes after_id clip) where
+    abbrev xs : List BlockRef
+    xs = point_blocks old
+
+    abbrev ran : List Track
+    ran = from_track id old
+
+    abbrev f : List Cell → List Cell
+    f = cut_cells e from to
+
+    abbrev every : List BlockRef
+    every = blocks_with s makes
+
+    abbrev v : List (List Item)
+    v = p.strips
+
+    found : (x : Track) × (track_of id old ≡ Some x)
+    found = there_of id old (copy_tests (run_of id old) n from to) (track_of id old) refl p.tests
+
+    tests : copy_tests (run_of id old) n from to ≡ None
+    tests = (λ i. (lacks id (sym found.1 i)) otherwise (copy_tests (run_of id old) n from to)) ∙ p.tests
+
+    layouts : run_of id old ≡ map layout_of ran
+    layouts = run_is id 1 old found.0 old_sound.rising found.1
+
+    copies : Copies (run_of id old) n from to (Ok v)
+    copies = (tests, p.copies)
+
+    has : HasLayout id old (found.0).layout
+    has = record { track = found.0; found = found.1; is = refl }
+
+    laid : AreLaid (each_so n f) s.block_size s.next_block xs ran p.plans
+    laid =
+        cuts_laid f s.block_size s.next_block n xs ran p.plans (from_blocks (Contains xs) id old (among_itself xs))
+        (subst (λ (z : List (List Clip)). AreCuts f s.block_size s.next_block (take n z) p.plans) layouts p.cuts)
+
+    old_named : AreAmong (named_blocks s) xs
+    old_named = old_names disk s is (Contains (named_blocks s)) (among_itself (named_blocks s))
+
+    clipboard : IsClipboard s.block_size v
+    clipboard = may_paste disk s is id n from to fewer (found.0).layout has going v copies
+
+    v_named : AreAmong every (strips_blocks v)
+    v_named = strips_named disk s is id n from to fewer (found.0).layout has going v copies (Contains every)
+        (all_left (Contains every) (named_blocks s) (refs makes) (among_itself every))
+
+    v_few : length (strips_blocks v) ≤ 2 ^ 71
+    v_few = omega (arith, strips_short v p.items clipboard.short, clipboard.few)
+
+    pub cut_planned : IsPlanned s Nothing makes 0 0 new clip
+    cut_planned =
+        subst (IsPlanned s Nothing makes 0 0 new) (sym p.clip_is)
+        (run_planned disk s is id found.0 found.1 xs old_named (current_may_read disk s is)
+        (each_so n f) p.plans laid new makes after_id p.laid (Some v) v_named v_few clipboard)
+
+    pub cut_next : after_id ≡ s.next_block + length makes
+    cut_next = p.laid.after_is
+
+    -- ---- what the line means
+
+    few_made : length makes ≤ blocks_of_tracks n
+    few_made =
+        omega (
+          arith,
+          run_few disk s is id found.0 found.1 xs old_named (current_may_read disk s is) (each_so n f)
+              p.plans laid new makes after_id p.laid,
+          length-replicate {A = CellEdit} n (λ (src : Sources). f),
+        )
+
+    module _ (block : ℕ → ℕ → ℤ) where
+      abbrev src : Sources
+      src = alone block
+
+      abbrev u : model.Studio
+      u = studio_by src disk s
+
+      clip_means : Some (copied id n from to (current u.state)) ≡ clip_cells src clip
+      clip_means =
+          ap (λ (q : Project). Some (copied id n from to q)) (current_is src s.history)
+          ∙ ap (λ (q : Project). Some (map (λ (x : cells.Track). range_of from to x.cells) (take n q)))
+          (run_meant src id old)
+          ∙ sym (ap Some (copies_mean src from to n ran v
+          (subst (λ (z : List (List Clip)). AreCopies from to (take n z) v) layouts p.copies)))
+          ∙ sym (ap (clip_cells src) p.clip_is)
+
+      point_means : AreWritten src makes → run_edited id (replicate n f) (current u.state) ≡ meant src new
+      point_means written =
+          ap (run_edited id (replicate n f)) (current_is src s.history)
+          ∙ (λ i. run_edited id (sym (same_edits src n f) i) (meant src old))
+          ∙ sym (run_point disk s is id found.0 found.1 xs old_named (current_may_read disk s is)
+          (each_so n f) p.plans laid new makes after_id p.laid block written)
+
+      means : AreWritten src makes → after (outside u silent) u.state line
+          ≡ record u.state {
+            history = meant_history src (recorded s.history new 0);
+            clipboard = clip_cells src clip;
+            next_track = s.next_track + 0;
+            commit = s.commit_number + 1;
+          }
+      means written =
+          let point = point_means written in
+          let none : s.next_track ≡ s.next_track + 0 = omega arith in
+          after_by e id n from to (outside u silent) u.state
+          ∙ (λ i. record u.state {
+            history = edited u.state.history (point i) 0;
+            commit = s.commit_number + 1;
+            clipboard = clip_means i;
+          })
+          ∙ (λ i. record u.state {
+            history = sym (meant_recorded src s.history new 0) i;
+            clipboard = clip_cells src clip;
+            next_track = none i;
+            commit = s.commit_number + 1;
+          })
+
+    pub cut_edit : IsEdit disk s line silent 0 Nothing makes (recorded s.history new 0) clip
+    cut_edit = record {
+      most = λ m st. blocks_of_tracks n;
+      call = cut_call e id n from to;
+      few = λ block. few_made;
+      own = λ block. own_is block ∙ p.tests;
+      means = means;
+    }

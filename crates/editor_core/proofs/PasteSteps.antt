@@ -1,0 +1,288 @@
+-- Pastes, as steps of the studio.
+use Rattle.std.proofs.Common.{◌≡◌, ⊎_elim, refl, sym, ap, ◌∙◌, subst, ℕ, zero, suc, ◌+◌, ◌≤◌, ℤ}
+use Rattle.std.proofs.Common.{Option, Some, None, List, [], ◌∷◌, ◌++◌, length, map, take, Contains, Err}
+use Rattle.std.proofs.Common.{arith}
+use Rattle.std.specs.Prelude.{unwrap_or}
+use Rattle.std.specs.List.{AllByRecursion}
+use Rattle.std.proofs.lemmas.List.{length-map}
+use Rattle.pcm_base.specs.declared.block.BlockRef.{BlockRef}
+use Rattle.pcm_base.specs.declared.command.Call.{Call}
+use Rattle.pcm_base.specs.declared.command.Call.TheVariants.{Line}
+use Rattle.pcm_base.specs.declared.refusal.Refusal.{Refusal}
+use Rattle.pcm_base.specs.declared.refusal.Refusal.TheVariants as refusal
+use Rattle.pcm_base.specs.declared.sound.Cell.{Cell}
+use Rattle.pcm_base.specs.Cells.{run_edited}
+use Rattle.pcm_base.specs.History.{edited, recorded}
+use Rattle.pcm_base.specs.Outside.{Outside}
+use Rattle.pcm_base.specs.Pieces.{Sources}
+use Rattle.pcm_base.specs.Refusals.{◌otherwise◌, call_tests}
+use Rattle.pcm_base.specs.Run.{outside, stop_of}
+use Rattle.pcm_base.specs.Sizes.{blocks_of_tracks}
+use Rattle.pcm_base.specs.State.{State, clip_of, current}
+use Rattle.pcm_base.specs.Step.{after}
+use Rattle.pcm_base.specs.Studio as model
+use Rattle.disk_model.specs.declared.store.Store.{Ghosts}
+use Rattle.disk_model.proofs.Frames.{Fewer}
+use Rattle.sample_block.specs.Sources.{AllNamed, IsNamed, samples_on}
+use Rattle.clip_track.specs.declared.clips.Clip.{Clip}
+use Rattle.clip_track.specs.declared.items.Item.{Item}
+use Rattle.clip_track.specs.Items.{strip_cells}
+use Rattle.edit_ops.specs.declared.types.NewBlock.{NewBlock}
+use Rattle.edit_ops.specs.Plans.{AreWritten}
+use Rattle.edit_ops.specs.Runs.{ArePastes, clipboard_tests}
+use Rattle.piece_store.specs.declared.given.Given.TheVariants.{Nothing}
+use Rattle.project_state.specs.declared.track.Track.{Track}
+use Rattle.project_state.specs.Kept.{history_blocks, meant, meant_history, point_blocks}
+use Rattle.project_state.specs.KeptSound.{IsSoundPoint}
+use Rattle.project_state.specs.Tracks.{track_of}
+use Rattle.project_state.proofs.KeptBounds.{all_append}
+use Rattle.project_state.proofs.MeantHistories.{meant_recorded}
+use Rattle.editor_core.specs.declared.pastes.PasteEdit.{PasteEdit}
+use Rattle.editor_core.specs.declared.pastes.PasteEdit.TheVariants.{Insert, Cover}
+use Rattle.editor_core.specs.Copies.{run_of, strips_blocks}
+use Rattle.editor_core.specs.Core.{Core}
+use Rattle.editor_core.specs.Edits.{AreAmong, IsEdit, IsEditCall, IsPlanned, alone, blocks_with}
+use Rattle.editor_core.specs.Pastes.{IsPastePlan, NoPastePlan, paste_cells, paste_length, paste_line, paste_refusal}
+use Rattle.editor_core.specs.Points.{current_tracks}
+use Rattle.editor_core.specs.Studios.{IsClipboard, IsGiven, IsStudio, MayPaste, clip_blocks, clip_cells, named_blocks}
+use Rattle.editor_core.specs.Studios.{pin_blocks, studio_by, studio_of}
+use Rattle.editor_core.specs.Took.{Took, silent}
+use Rattle.editor_core.proofs.Contained.{among_itself}
+use Rattle.editor_core.proofs.Copying.{from_blocks, from_track, layout_of, run_is}
+use Rattle.editor_core.proofs.CutLaws.{there_of}
+use Rattle.editor_core.proofs.Currents.{current_may_read}
+use Rattle.editor_core.proofs.Editing.{current_sound, old_names}
+use Rattle.editor_core.proofs.Lists.{all_left, all_right}
+use Rattle.editor_core.proofs.MadeStudios.{refs}
+use Rattle.editor_core.proofs.RunLaws.{run_few, run_planned, run_point}
+use Rattle.editor_core.proofs.RunPlans.{AreLaid, CellEdit, edits_at}
+use Rattle.editor_core.proofs.Spaces.{early}
+use Rattle.editor_core.proofs.Staying.{refuses, wants}
+use Rattle.editor_core.proofs.Tracks.{current_is}
+use Rattle.editor_core.proofs.PasteLaws.{each_strip, line_tests, line_tests_are, pastes_laid, same_edits}
+use Rattle.editor_core.proofs.PasteLaws.{strips_may_read}
+
+-- ---- the lines
+
+pub paste_call : (e : PasteEdit) (id at : ℕ)
+    → IsEditCall (Line (paste_line e id at)) silent 0 (λ m st. blocks_of_tracks (length (clip_of st)))
+paste_call Insert id at = record {
+  commit = record {
+    one = refl;
+    no_pin = refl;
+    tracks_is = λ rate. refl;
+    stops = λ o. refl;
+    changes = refl;
+    leaves = λ t. refl;
+    heard = λ rate s. refl;
+    quiet = refl;
+    done = λ rate s. refl;
+  };
+  needs = λ rate t blocks len h. h;
+  needed = λ rate t blocks len h. h;
+}
+paste_call Cover id at = record {
+  commit = record {
+    one = refl;
+    no_pin = refl;
+    tracks_is = λ rate. refl;
+    stops = λ o. refl;
+    changes = refl;
+    leaves = λ t. refl;
+    heard = λ rate s. refl;
+    quiet = refl;
+    done = λ rate s. refl;
+  };
+  needs = λ rate t blocks len h. h;
+  needed = λ rate t blocks len h. h;
+}
+
+own_by : (e : PasteEdit) (id at : ℕ) (out : Outside) (st : State) → call_tests out st (Line (paste_line e id at))
+    ≡ line_tests (paste_length e at) id st.clipboard (clip_of st) (current st)
+own_by Insert id at out st = refl
+own_by Cover id at out st = refl
+
+after_by : (e : PasteEdit) (id at : ℕ) (out : Outside) (st : State) → after out st (Line (paste_line e id at))
+    ≡ record st {
+      history = edited st.history (run_edited id (map (paste_cells e at) (clip_of st)) (current st)) 0;
+      commit = st.commit + 1;
+    }
+after_by Insert id at out st = refl
+after_by Cover id at out st = refl
+
+module _ {D : Type 0} (disk : Ghosts D) (s : Core D) (is : IsStudio disk s) (e : PasteEdit) (id at : ℕ) where
+  abbrev old : List Track
+  old = current_tracks s.history
+
+  abbrev line : Call
+  line = Line (paste_line e id at)
+
+  abbrev t : model.Studio
+  t = studio_of disk s
+
+  abbrev refused_by : Option Refusal
+  refused_by = paste_refusal e id at s.clipboard old
+
+  old_sound : IsSoundPoint s.block_size s.next_block s.next_track old
+  old_sound = current_sound disk s is
+
+  own_is : (block : ℕ → ℕ → ℤ) → call_tests (outside (studio_by (alone block) disk s) silent)
+      (studio_by (alone block) disk s).state line ≡ refused_by
+  own_is block =
+      let src = alone block in
+      let u = studio_by src disk s in
+      own_by e id at (outside u silent) u.state
+      ∙ ap (line_tests (paste_length e at) id u.state.clipboard (clip_of u.state)) (current_is src s.history)
+      ∙ line_tests_are src (paste_length e at) id s.block_size s.next_block s.next_track s.clipboard old
+      old_sound.rising old_sound.sound (track_of id old) refl
+
+  -- ---- a stopped studio, a test of the edit, or memory
+
+  early_refused : (why : Refusal) → Fewer disk s.store → ((stop_of s.stopped) otherwise refused_by) ≡ Some why
+      → Took disk s line silent (Err why) 0 s
+  early_refused why fewer h =
+      let call = paste_call e id at in
+      let own = own_is (samples_on (disk.reads s.store)) in
+      let first : ((stop_of s.stopped) otherwise (call_tests (outside t silent) t.state line)) ≡ Some why =
+      (λ i. (stop_of s.stopped) otherwise (own i)) ∙ h in
+      refuses disk s line silent why is fewer refl 0 0 (λ held. call.needs t.rate t 0 0 (omega arith, omega arith))
+      (early t line silent 0 call.commit 0 0 why first)
+
+  pub paste_stopped : (faults : ℕ) → Fewer disk s.store → s.stopped ≡ Some faults
+      → Took disk s line silent (Err (refusal.Stopped faults)) 0 s
+  paste_stopped faults fewer at_fault =
+      early_refused (refusal.Stopped faults) fewer (λ i. (stop_of (at_fault i)) otherwise refused_by)
+
+  pub paste_refused : (why : Refusal) → Fewer disk s.store → s.stopped ≡ None → NoPastePlan e id at s.clipboard old why
+      → Took disk s line silent (Err why) 0 s
+  paste_refused why fewer going not = ⊎_elim
+      (λ own. early_refused why fewer ((λ i. (stop_of (going i)) otherwise refused_by) ∙ own))
+      (λ memory.
+      subst (λ (r : Refusal). Took disk s line silent (Err r) 0 s) (sym memory)
+      (wants disk s line silent is fewer refl 0
+      (λ held. (0, (paste_call e id at).needs t.rate t 0 0 (omega arith, omega arith)))))
+      not
+
+  -- ---- the plan
+
+  module _ (new : List Track) (makes : List NewBlock) (after_id : ℕ)
+      (p : IsPastePlan e id at s.block_size s.next_block s.clipboard old new makes after_id) where
+    abbrev v : List (List Item)
+    v = p.strips
+
+    abbrev xs : List BlockRef
+    xs = point_blocks old ++ strips_blocks v
+
+    abbrev ran : List Track
+    ran = from_track id old
+
+    abbrev edit : List Cell → List Cell → List Cell
+    edit = paste_cells e at
+
+    abbrev fs : List CellEdit
+    fs = each_strip edit v
+
+    abbrev every : List BlockRef
+    every = blocks_with s makes
+
+    found : (x : Track) × (track_of id old ≡ Some x)
+    found =
+        there_of id old (clipboard_tests (paste_length e at) s.clipboard (run_of id old)) (track_of id old) refl p.tests
+
+    layouts : run_of id old ≡ map layout_of ran
+    layouts = run_is id 1 old found.0 old_sound.rising found.1
+
+    -- what holds of the blocks that the studio names holds of those of the clipboard
+    clip_all : (P : BlockRef → Type 0) → AllByRecursion P (named_blocks s) → AllByRecursion P (clip_blocks s.clipboard)
+    clip_all P all = all_right P (pin_blocks s.pins) (clip_blocks s.clipboard)
+        (all_right P (history_blocks s.history) (pin_blocks s.pins ++ clip_blocks s.clipboard) all)
+
+    strips_all : (P : BlockRef → Type 0) → AllByRecursion P (named_blocks s) → AllByRecursion P (strips_blocks v)
+    strips_all P all =
+        subst (λ (z : Option (List (List Item))). AllByRecursion P (clip_blocks z)) p.clip_is (clip_all P all)
+
+    xs_named : AreAmong (named_blocks s) xs
+    xs_named =
+        let C : BlockRef → Type 0 = Contains (named_blocks s) in
+        let all = among_itself (named_blocks s) in
+        all_append C (point_blocks old) (strips_blocks v) (old_names disk s is C all) (strips_all C all)
+
+    board : IsClipboard s.block_size v
+    board = subst (MayPaste s.block_size) p.clip_is is.clipboard
+
+    xs_readable : AllNamed xs
+    xs_readable =
+        all_append IsNamed (point_blocks old) (strips_blocks v) (current_may_read disk s is)
+        (strips_may_read s.block_size s.next_block is.format.block_most is.counters.block_most v p.items board.fits
+        (strips_all (λ (b : BlockRef). IsGiven s.next_block b.id) is.ids))
+
+    laid : AreLaid fs s.block_size s.next_block xs ran p.plans
+    laid =
+        let C : BlockRef → Type 0 = Contains xs in
+        pastes_laid edit s.block_size s.next_block xs v ran p.plans
+        (from_blocks C id old (all_left C (point_blocks old) (strips_blocks v) (among_itself xs)))
+        (all_right C (point_blocks old) (strips_blocks v) (among_itself xs))
+        (subst (λ (z : List (List Clip)). ArePastes edit s.block_size s.next_block v (take (length v) z) p.plans)
+        layouts p.pastes)
+
+    pub paste_planned : IsPlanned s Nothing makes 0 0 new s.clipboard
+    paste_planned =
+        let C : BlockRef → Type 0 = Contains every in
+        run_planned disk s is id found.0 found.1 xs xs_named xs_readable fs p.plans laid new makes after_id p.laid
+        s.clipboard
+        (clip_all C (all_left C (named_blocks s) (refs makes) (among_itself every))) is.few_clips is.clipboard
+
+    -- ---- what the line means
+
+    module _ (block : ℕ → ℕ → ℤ) where
+      abbrev src : Sources
+      src = alone block
+
+      abbrev u : model.Studio
+      u = studio_by src disk s
+
+      lists : clip_of u.state ≡ map (strip_cells src) v
+      lists = ap (λ (z : Option (List (List Item))). unwrap_or (clip_cells src z) []) p.clip_is
+
+      few_made : length makes ≤ blocks_of_tracks (length (clip_of u.state))
+      few_made =
+          let made =
+          run_few disk s is id found.0 found.1 xs xs_named xs_readable fs p.plans laid new makes after_id p.laid in
+          let each : length fs ≡ length v = length-map v (λ (c : List Item). λ (z : Sources). edit (strip_cells z c)) in
+          let many : length (clip_of u.state) ≡ length v = ap length lists ∙ length-map v (strip_cells src) in
+          omega (arith, made, each, many)
+
+      point_means : AreWritten src makes → run_edited id (map edit (clip_of u.state)) (current u.state) ≡ meant src new
+      point_means written =
+          let edits : map edit (clip_of u.state) ≡ edits_at src fs =
+          ap (map edit) lists ∙ sym (same_edits src edit v) in
+          (λ i. run_edited id (edits i) (current_is src s.history i))
+          ∙ sym (run_point disk s is id found.0 found.1 xs xs_named xs_readable fs p.plans laid new makes after_id
+          p.laid block written)
+
+      means : AreWritten src makes → after (outside u silent) u.state line
+          ≡ record u.state {
+            history = meant_history src (recorded s.history new 0);
+            clipboard = clip_cells src s.clipboard;
+            next_track = s.next_track + 0;
+            commit = s.commit_number + 1;
+          }
+      means written =
+          let point = point_means written in
+          let none : s.next_track ≡ s.next_track + 0 = omega arith in
+          after_by e id at (outside u silent) u.state
+          ∙ (λ i. record u.state { history = edited u.state.history (point i) 0; commit = s.commit_number + 1 })
+          ∙ (λ i. record u.state {
+            history = sym (meant_recorded src s.history new 0) i;
+            next_track = none i;
+            commit = s.commit_number + 1;
+          })
+
+    pub paste_edit : IsEdit disk s line silent 0 Nothing makes (recorded s.history new 0) s.clipboard
+    paste_edit = record {
+      most = λ m st. blocks_of_tracks (length (clip_of st));
+      call = paste_call e id at;
+      few = few_made;
+      own = λ block. own_is block ∙ p.tests;
+      means = means;
+    }

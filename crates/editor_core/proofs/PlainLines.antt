@@ -1,0 +1,91 @@
+-- The lines that make no blocks, as calls, and what each sets.
+use Rattle.std.proofs.Common.{◌≡◌, Bool, refl, ℕ, ◌≤◌}
+use Rattle.pcm_base.specs.declared.command.Call.TheVariants.{Line}
+use Rattle.pcm_base.specs.declared.sound.Side.{Side}
+use Rattle.pcm_base.specs.Cells as cells
+use Rattle.project_state.specs.declared.track.Track.{Track}
+use Rattle.project_state.specs.Kept.{meant_track}
+use Rattle.pcm_base.specs.Pieces.{Sources}
+use Rattle.editor_core.specs.Plain.{line_of, tracks_by, set_by}
+use Rattle.editor_core.specs.Took.{silent}
+use Rattle.editor_core.specs.declared.plain.PlainEdit.{PlainEdit}
+use Rattle.editor_core.specs.declared.plain.PlainEdit.TheVariants as edit
+use Rattle.editor_core.proofs.Editing.{src}
+use Rattle.editor_core.proofs.Spaces.{IsCommitCall}
+
+-- ---- the lines
+pub call_by : (e : PlainEdit) → IsCommitCall (Line (line_of e)) silent (tracks_by e)
+call_by edit.Track = record {
+  one = refl;
+  no_pin = refl;
+  tracks_is = λ rate. refl;
+  stops = λ o. refl;
+  changes = refl;
+  leaves = λ t. refl;
+  heard = λ rate s. refl;
+  quiet = refl;
+  done = λ rate s. refl;
+}
+call_by (edit.Drop id) = record {
+  one = refl;
+  no_pin = refl;
+  tracks_is = λ rate. refl;
+  stops = λ o. refl;
+  changes = refl;
+  leaves = λ t. refl;
+  heard = λ rate s. refl;
+  quiet = refl;
+  done = λ rate s. refl;
+}
+call_by (edit.Level id gain) = record {
+  one = refl;
+  no_pin = refl;
+  tracks_is = λ rate. refl;
+  stops = λ o. refl;
+  changes = refl;
+  leaves = λ t. refl;
+  heard = λ rate s. refl;
+  quiet = refl;
+  done = λ rate s. refl;
+}
+call_by (edit.Side id side) = record {
+  one = refl;
+  no_pin = refl;
+  tracks_is = λ rate. refl;
+  stops = λ o. refl;
+  changes = refl;
+  leaves = λ t. refl;
+  heard = λ rate s. refl;
+  quiet = refl;
+  done = λ rate s. refl;
+}
+call_by (edit.Mute id mute) = record {
+  one = refl;
+  no_pin = refl;
+  tracks_is = λ rate. refl;
+  stops = λ o. refl;
+  changes = refl;
+  leaves = λ t. refl;
+  heard = λ rate s. refl;
+  quiet = refl;
+  done = λ rate s. refl;
+}
+
+-- what sets something of a track, and what that means
+pub record Sets (g : Track → Track) (f : cells.Track → cells.Track) : Type 0 where
+  pub id : (t : Track) → (g t).id ≡ t.id
+  pub layout : (t : Track) → (g t).layout ≡ t.layout
+  pub gain : (t : Track) → t.gain ≤ 1048576 → (g t).gain ≤ 1048576
+  pub changes : (src : Sources) (t : Track) → meant_track src (g t) ≡ f (meant_track src t)
+
+pub sets_gain : (id gain : ℕ) → gain ≤ 1048576
+    → Sets (set_by (edit.Level id gain)) (λ (t : cells.Track). record t { gain = gain })
+sets_gain id gain good = record { id = λ t. refl; layout = λ t. refl; gain = λ t h. good; changes = λ src t. refl }
+
+pub sets_side : (id : ℕ) (side : Side)
+    → Sets (set_by (edit.Side id side)) (λ (t : cells.Track). record t { side = side })
+sets_side id side = record { id = λ t. refl; layout = λ t. refl; gain = λ t h. h; changes = λ src t. refl }
+
+pub sets_mute : (id : ℕ) (mute : Bool)
+    → Sets (set_by (edit.Mute id mute)) (λ (t : cells.Track). record t { mute = mute })
+sets_mute id mute = record { id = λ t. refl; layout = λ t. refl; gain = λ t h. h; changes = λ src t. refl }

@@ -1,0 +1,75 @@
+-- An answer of blocks, as one of a check.
+use Rattle.std.proofs.Common.{◌≡◌, refl, sym, ap, subst, ℕ, zero, suc, ◌<◌, inl, List}
+use Rattle.std.proofs.Common.{[], ◌∷◌, length, take, get_or, Some, Result, Ok, Err, arith}
+use Rattle.std.specs.Prelude.{Contains, IfErr, IsOkUnless}
+use Rattle.std.specs.List.{AllByRecursion}
+use Rattle.pcm_base.specs.declared.block.BlockRef.{BlockRef}
+use Rattle.disk_model.specs.Frames.{Kept}
+use Rattle.disk_model.specs.declared.store.Store.{Ghosts}
+use Rattle.block_store.specs.declared.fault.BlockFault.{BlockFault}
+use Rattle.block_store.specs.declared.fault.BlockFault.TheVariants as block
+use Rattle.block_store.specs.Reads.{Counted}
+use Rattle.editor_core.specs.Studios.{ids_of}
+use Rattle.editor_recovery.specs.declared.fault.OpenFault.{OpenFault}
+use Rattle.editor_recovery.specs.Blocks.{fault_of}
+use Rattle.editor_recovery.specs.Causes.{Causes}
+use Rattle.editor_recovery.specs.Checking.{IsCheckFault, IsSoundFault}
+use Rattle.editor_recovery.proofs.Listed.{contains_there}
+
+-- ---- an answer of blocks as one of a check
+
+-- so many, all whole, or what was found of one of them
+abbrev pub Tells : {T : Type 0} → Result T BlockFault → ℕ → Result ℕ OpenFault → Type 0
+Tells (Ok done) n told = told ≡ Ok n
+Tells (Err why) n told = told ≡ Err (fault_of why)
+
+pub known : {T : Type 0} (r : Result T BlockFault) (told : Result ℕ OpenFault) (n : ℕ) → Tells r n told
+    → IfErr told IsCheckFault
+known (Ok done) told n is = subst (λ x. IfErr x IsCheckFault) (sym is) tt
+known (Err block.DiskFault) told n is = subst (λ x. IfErr x IsCheckFault) (sym is) tt
+known (Err (block.Damaged file found)) told n is = subst (λ x. IfErr x IsCheckFault) (sym is) tt
+
+pub sound_told : {T : Type 0} (r : Result T BlockFault) (told : Result ℕ OpenFault) (n : ℕ) → Tells r n told
+    → IsOkUnless r block.DiskFault
+    → IfErr told IsSoundFault
+sound_told (Ok done) told n is sound = subst (λ x. IfErr x IsSoundFault) (sym is) tt
+sound_told (Err block.DiskFault) told n is sound = subst (λ x. IfErr x IsSoundFault) (sym is) tt
+sound_told (Err (block.Damaged file found)) told n is sound = absurd cc
+
+pub cause_told : {D T : Type 0} (disk : Ghosts D) (old new : D) (r : Result T BlockFault) (told : Result ℕ OpenFault)
+    (n : ℕ) → Tells r n told
+    → Kept disk old new → Counted r (disk.read_fault_count old) (disk.read_fault_count new) → Causes disk old new told
+cause_told disk old new (Ok done) told n is kept counted =
+    subst (Causes disk old new) (sym is) (record { same_read_faults = counted; same_change_faults = kept.same_faults })
+cause_told disk old new (Err block.DiskFault) told n is kept counted =
+    let same = kept.same_faults in
+    subst (Causes disk old new) (sym is) (record {
+      rose = inl counted.0;
+      later_reads = counted.1;
+      later_changes = omega (arith, same);
+    })
+cause_told disk old new (Err (block.Damaged file found)) told n is kept counted =
+    subst (Causes disk old new) (sym is) (record { same_read_faults = counted; same_change_faults = kept.same_faults })
+
+pub some_is : {X : Type 0} {x y : X} → Some x ≡ Some y → x ≡ y
+some_is e = cc
+
+pub of_id : (bs : List BlockRef) (id : ℕ) → Contains (ids_of bs) id → (b : BlockRef) × Contains bs b × (b.id ≡ id)
+of_id [] id (k, lt, e) = absurd (omega (arith, lt))
+of_id (b ∷ bs) id (zero, lt, e) = (b, (0, omega arith, refl), e)
+of_id (b ∷ bs) id (suc k, lt, e) =
+    let found = of_id bs id (k, omega (arith, lt), e) in
+    (found.0, contains_there b bs found.0 found.1, found.2)
+
+pub id_there : (bs : List BlockRef) (b : BlockRef) → Contains bs b → Contains (ids_of bs) b.id
+id_there [] b (k, lt, e) = absurd (omega (arith, lt))
+id_there (x ∷ bs) b (zero, lt, e) = (0, omega arith, ap (λ (r : BlockRef). r.id) e)
+id_there (x ∷ bs) b (suc k, lt, e) = contains_there x.id (ids_of bs) b.id (id_there bs b (k, omega (arith, lt), e))
+
+pub before : (P : BlockRef → Type 0) (bs : List BlockRef) (k j : ℕ) (b : BlockRef) → j < k → j < length bs
+    → get_or bs j b ≡ b
+    → AllByRecursion P (take k bs) → P b
+before P [] k j b low lt at all = absurd (omega (arith, lt))
+before P (x ∷ bs) zero j b low lt at all = absurd (omega (arith, low))
+before P (x ∷ bs) (suc k) zero b low lt at all = subst P at all.0
+before P (x ∷ bs) (suc k) (suc j) b low lt at all = before P bs k j b (omega (arith, low)) (omega (arith, lt)) at all.1

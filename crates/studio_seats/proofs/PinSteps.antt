@@ -1,0 +1,217 @@
+-- What one step leaves of a pin.
+use Rattle.std.proofs.Common.{◌≡◌, ◌⊎◌, inl, inr, ⊎_elim, ℕ, ◌+◌, ◌<◌, ◌≤◌, Bool, true, false}
+use Rattle.std.proofs.Common.{Option, Some, None, if◌then◌else◌, refl, sym, ◌∙◌, ap, subst, arith}
+use Rattle.std.proofs.Common.{eq-eqb, ne_eqb, Result, Ok, Err}
+use Rattle.std.proofs.lemmas.Bool.{true≢false, eqb-true, eqb-false}
+use Rattle.pcm_base.specs.declared.answer.Reply.{Reply}
+use Rattle.pcm_base.specs.declared.answer.Reply.TheVariants as reply
+use Rattle.pcm_base.specs.declared.command.Call.{Call}
+use Rattle.pcm_base.specs.declared.command.Call.TheVariants as call
+use Rattle.pcm_base.specs.declared.command.Command.{Command}
+use Rattle.pcm_base.specs.declared.command.Command.TheVariants as command
+use Rattle.pcm_base.specs.declared.entry.SoundMove.{SoundMove}
+use Rattle.pcm_base.specs.declared.refusal.Refusal.{Refusal}
+use Rattle.pcm_base.specs.Cells.{Project}
+use Rattle.pcm_base.specs.Outside.{Outside}
+use Rattle.pcm_base.specs.Run.{Answers, outside, result_of}
+use Rattle.pcm_base.specs.State.{State, current}
+use Rattle.pcm_base.specs.Step.{MayAnswer, after, after_line}
+use Rattle.pcm_base.specs.Studio as model
+use Rattle.studio_seats.specs.Pins.{after_what, drops_pin, makes_pin}
+use Rattle.studio_seats.specs.Pins.{tells_pin}
+use Rattle.studio_seats.proofs.Refused.{refused_same}
+
+pub either_bool : (b : Bool) → (b ≡ true) ⊎ (b ≡ false)
+either_bool true = inl refl
+either_bool false = inr refl
+
+-- ---- a line leaves the pins
+
+line_pins : (out : Outside) (s : State) (c : Command) → (after_line out s c).pins ≡ s.pins
+line_pins out s command.Track = refl
+line_pins out s (command.Drop id) = refl
+line_pins out s (command.Level id gain) = refl
+line_pins out s (command.Side id side) = refl
+line_pins out s (command.Mute id mute) = refl
+line_pins out s (command.Put id at samples) = refl
+line_pins out s (command.Ramp id at n start step) = refl
+line_pins out s (command.Delete id from to) = refl
+line_pins out s (command.SplitDelete id from to) = refl
+line_pins out s (command.Silence id from to) = refl
+line_pins out s (command.Trim id from to) = refl
+line_pins out s (command.Gain id from to gain) = refl
+line_pins out s (command.Cut id n from to) = refl
+line_pins out s (command.SplitCut id n from to) = refl
+line_pins out s (command.Copy id n from to) = refl
+line_pins out s (command.Paste id at) = refl
+line_pins out s (command.PasteOver id at) = refl
+line_pins out s command.Undo = refl
+line_pins out s command.Redo = refl
+line_pins out s (command.Purge n) = refl
+line_pins out s (command.Show id from to) = refl
+line_pins out s (command.Mix from to) = refl
+line_pins out s (command.Envelope id from to columns) = refl
+line_pins out s command.Tracks = refl
+line_pins out s (command.Reclaim limit) = refl
+line_pins out s (command.Import name) = refl
+line_pins out s (command.Export name) = refl
+
+line_next : (out : Outside) (s : State) (c : Command) → (after_line out s c).next_pin ≡ s.next_pin
+line_next out s command.Track = refl
+line_next out s (command.Drop id) = refl
+line_next out s (command.Level id gain) = refl
+line_next out s (command.Side id side) = refl
+line_next out s (command.Mute id mute) = refl
+line_next out s (command.Put id at samples) = refl
+line_next out s (command.Ramp id at n start step) = refl
+line_next out s (command.Delete id from to) = refl
+line_next out s (command.SplitDelete id from to) = refl
+line_next out s (command.Silence id from to) = refl
+line_next out s (command.Trim id from to) = refl
+line_next out s (command.Gain id from to gain) = refl
+line_next out s (command.Cut id n from to) = refl
+line_next out s (command.SplitCut id n from to) = refl
+line_next out s (command.Copy id n from to) = refl
+line_next out s (command.Paste id at) = refl
+line_next out s (command.PasteOver id at) = refl
+line_next out s command.Undo = refl
+line_next out s command.Redo = refl
+line_next out s (command.Purge n) = refl
+line_next out s (command.Show id from to) = refl
+line_next out s (command.Mix from to) = refl
+line_next out s (command.Envelope id from to columns) = refl
+line_next out s command.Tracks = refl
+line_next out s (command.Reclaim limit) = refl
+line_next out s (command.Import name) = refl
+line_next out s (command.Export name) = refl
+
+-- ---- one call, and the pin of a number that was given out before it
+
+module _ (rate : ℕ) (s : State) (p : ℕ) where
+  abbrev Same : State → Type 0
+  Same u = u.pins p ≡ s.pins p
+
+  -- it stays, unless the call lets it go
+  pub stays : (c : Call) (what : Result Reply Refusal) (sound : SoundMove) → p < s.next_pin → drops_pin c what p ≡ false
+      → Same (after_what rate s c what sound)
+  stays c (Err why) sound low h = refl
+  stays (call.Line c) (Ok r) sound low h =
+      ap (λ (pins : ℕ → Option Project). pins p) (line_pins (record { rate = rate; sound = sound.before }) s c)
+  stays (call.Piece track tag samples) (Ok r) sound low h = refl
+  stays call.Pin (Ok r) sound low h =
+      ap (λ (z : Bool). if z then Some (current s) else s.pins p) (ne_eqb p s.next_pin (λ e. omega arith))
+  stays (call.PinLen q) (Ok r) sound low h = refl
+  stays (call.ReadPin q from count) (Ok r) sound low h = refl
+  stays (call.Unpin q) (Ok r) sound low h =
+      ap (λ (z : Bool). if z then None else s.pins p) (ne_eqb p q (λ e. eqb-false q p h (sym e)))
+
+  -- it is gone after a call that lets it go
+  goes : (c : Call) (what : Result Reply Refusal) (sound : SoundMove) → drops_pin c what p ≡ true
+      → (after_what rate s c what sound).pins p ≡ None
+  goes (call.Line c) what sound h = absurd (true≢false (sym h))
+  goes (call.Piece track tag samples) what sound h = absurd (true≢false (sym h))
+  goes call.Pin what sound h = absurd (true≢false (sym h))
+  goes (call.PinLen q) what sound h = absurd (true≢false (sym h))
+  goes (call.ReadPin q from count) what sound h = absurd (true≢false (sym h))
+  goes (call.Unpin q) (Ok r) sound h =
+      ap (λ (z : Bool). if z then None else s.pins p) (eq-eqb p q (sym (eqb-true q p h)))
+  goes (call.Unpin q) (Err why) sound h = absurd (true≢false (sym h))
+
+  pub stays_or_goes : (c : Call) (what : Result Reply Refusal) (sound : SoundMove) → p < s.next_pin
+      → Same (after_what rate s c what sound) ⊎ ((after_what rate s c what sound).pins p ≡ None)
+  stays_or_goes c what sound low = ⊎_elim
+      (λ (h : drops_pin c what p ≡ true). inr (goes c what sound h))
+      (λ (h : drops_pin c what p ≡ false). inl (stays c what sound low h))
+      (either_bool (drops_pin c what p))
+
+-- the next pin never falls
+pub next_grows : (rate : ℕ) (s : State) (c : Call) (what : Result Reply Refusal) (sound : SoundMove)
+    → s.next_pin ≤ (after_what rate s c what sound).next_pin
+next_grows rate s c (Err why) sound = omega arith
+next_grows rate s (call.Line c) (Ok r) sound =
+    let h = line_next (record { rate = rate; sound = sound.before }) s c in
+    omega (arith, h)
+next_grows rate s (call.Piece track tag samples) (Ok r) sound = omega arith
+next_grows rate s call.Pin (Ok r) sound = omega arith
+next_grows rate s (call.PinLen q) (Ok r) sound = omega arith
+next_grows rate s (call.ReadPin q from count) (Ok r) sound = omega arith
+next_grows rate s (call.Unpin q) (Ok r) sound = omega arith
+
+-- ---- one step
+
+abbrev reply_or : Result Reply Refusal → Reply
+reply_or (Ok r) = r
+reply_or (Err why) = reply.Refused why
+
+err_ok : (why : Refusal) (r : Reply) → Err why ≡ Ok r → ⊥
+err_ok why r e = absurd (cc)
+
+-- what a step leaves of all that a script can see
+pub record Leads (t : model.Studio) (c : Call) (what : Result Reply Refusal) (sound : SoundMove)
+    (u : model.Studio) : Type 0 where
+  pub state : u.state ≡ after_what t.rate t.state c what sound
+  pub rate : u.rate ≡ t.rate
+  pub tells : (r : Reply) → what ≡ Ok r → MayAnswer (outside t sound) t.state c r
+
+pub leads_of : (t u : model.Studio) (c : Call) (sound : SoundMove) (what : Result Reply Refusal)
+    → Answers t c sound what u → Leads t c what sound u
+leads_of t u c sound (Ok r) h = record {
+  state = ap (λ (z : model.Studio). z.state) h.is;
+  rate = ap (λ (z : model.Studio). z.rate) h.is;
+  tells = λ said same. subst (MayAnswer (outside t sound) t.state c) (ap reply_or same) h.answers;
+}
+leads_of t u c sound (Err why) h =
+    let same = refused_same t u c sound why h in
+    record { state = same.state; rate = same.rate; tells = λ said e. absurd (err_ok why said e) }
+
+abbrev number_in : Reply → ℕ
+number_in reply.Done = 0
+number_in reply.Copied = 0
+number_in (reply.Cells cells) = 0
+number_in (reply.Frames frames) = 0
+number_in (reply.Columns columns) = 0
+number_in (reply.Tracks tracks) = 0
+number_in (reply.Freed count) = 0
+number_in (reply.Wrote bytes) = 0
+number_in (reply.Pinned number) = number
+number_in (reply.Length frames) = 0
+number_in (reply.Refused why) = 0
+
+-- a reply that tells of a pin is a pin's number
+told_pin : (r : Reply) (p : ℕ) → tells_pin r p ≡ true → r ≡ reply.Pinned p
+told_pin reply.Done p h = absurd (true≢false (sym h))
+told_pin reply.Copied p h = absurd (true≢false (sym h))
+told_pin (reply.Cells cells) p h = absurd (true≢false (sym h))
+told_pin (reply.Frames frames) p h = absurd (true≢false (sym h))
+told_pin (reply.Columns columns) p h = absurd (true≢false (sym h))
+told_pin (reply.Tracks tracks) p h = absurd (true≢false (sym h))
+told_pin (reply.Freed count) p h = absurd (true≢false (sym h))
+told_pin (reply.Wrote bytes) p h = absurd (true≢false (sym h))
+told_pin (reply.Pinned q) p h = ap reply.Pinned (eqb-true q p h)
+told_pin (reply.Length frames) p h = absurd (true≢false (sym h))
+told_pin (reply.Refused why) p h = absurd (true≢false (sym h))
+
+-- a new pin shows the current project
+made_at : (t u : model.Studio) (r : Reply) (sound : SoundMove) (p : ℕ) → r ≡ reply.Pinned p
+    → Leads t call.Pin (result_of r) sound u
+    → (u.state.pins p ≡ Some (current t.state)) × (p < u.state.next_pin)
+made_at t u r sound p is leads =
+    let ok : result_of r ≡ Ok (reply.Pinned p) = ap result_of is in
+    let same : p ≡ t.state.next_pin = ap number_in (leads.tells (reply.Pinned p) ok) in
+    let after_pin : u.state ≡ after (outside t sound) t.state call.Pin =
+    leads.state ∙ ap (λ (z : Result Reply Refusal). after_what t.rate t.state call.Pin z sound) ok in (
+      ap (λ (z : State). z.pins p) after_pin ∙ ap (λ (z : Bool). if z then Some (current t.state) else t.state.pins p)
+          (eq-eqb p t.state.next_pin same),
+      let next : u.state.next_pin ≡ t.state.next_pin + 1 = ap (λ (z : State). z.next_pin) after_pin in
+          omega (arith, same, next),
+    )
+
+pub made : (t u : model.Studio) (c : Call) (r : Reply) (sound : SoundMove) (p : ℕ) → makes_pin c r p ≡ true
+    → Leads t c (result_of r) sound u
+    → (u.state.pins p ≡ Some (current t.state)) × (p < u.state.next_pin)
+made t u (call.Line c) r sound p h leads = absurd (true≢false (sym h))
+made t u (call.Piece track tag samples) r sound p h leads = absurd (true≢false (sym h))
+made t u call.Pin r sound p h leads = made_at t u r sound p (told_pin r p h) leads
+made t u (call.PinLen q) r sound p h leads = absurd (true≢false (sym h))
+made t u (call.ReadPin q from count) r sound p h leads = absurd (true≢false (sym h))
+made t u (call.Unpin q) r sound p h leads = absurd (true≢false (sym h))
