@@ -11,6 +11,7 @@ pub mod Mix
 pub mod Outside
 pub mod Parts
 pub mod Pieces
+pub mod Reach
 pub mod Recordings
 pub mod Refusals
 pub mod Run

@@ -1,5 +1,5 @@
 -- The step of a studio as a relation, and whole runs.
-use Rattle.std.specs.Prelude.{◌≡◌, ◌⊎◌, ℕ, ◌+◌, ◌^◌, ◌≤◌, Bool, true, false, IsTrue, List, [], ◌∷◌, take, Option, Some}
+use Rattle.std.specs.Prelude.{◌≡◌, ◌⊎◌, ℕ, ◌+◌, ◌^◌, ◌≤◌, IsTrue, List, [], ◌∷◌, take, Option, Some}
 use Rattle.std.specs.Prelude.{None, IsSome, Result, Ok, Err}
 use Rattle.pcm_base.specs.declared.command.Command.{Command}
 use Rattle.pcm_base.specs.declared.command.Command.TheVariants as command
@@ -14,6 +14,7 @@ use Rattle.pcm_base.specs.declared.entry.Entry.{Entry}
 use Rattle.pcm_base.specs.Causes.{Rose}
 use Rattle.pcm_base.specs.Counters.{Needs, counter_tests, record_test, record_bytes}
 use Rattle.pcm_base.specs.Outside.{Outside, Sounds, SameElsewhere}
+pub use Rattle.pcm_base.specs.Reach.{may_change_line, may_change, name_in_line, name_in}
 use Rattle.pcm_base.specs.Refusals.{◌otherwise◌, call_tests}
 use Rattle.pcm_base.specs.Step.{after, sound_after, mix_file, MayAnswer}
 use Rattle.pcm_base.specs.Studio.{Studio, fault_sum}
@@ -127,47 +128,8 @@ Leaves t (call.PinLen pin) sound = sound.after ≡ sound.before
 Leaves t (call.ReadPin pin from count) sound = sound.after ≡ sound.before
 Leaves t (call.Unpin pin) sound = sound.after ≡ sound.before
 
--- whether a line may change the disk; one that may not never raises its count of failed changes
-abbrev pub may_change_line : Command → Bool
-may_change_line command.Track = true
-may_change_line (command.Drop id) = true
-may_change_line (command.Level id gain) = true
-may_change_line (command.Side id side) = true
-may_change_line (command.Mute id mute) = true
-may_change_line (command.Put id at samples) = true
-may_change_line (command.Ramp id at n start step) = true
-may_change_line (command.Delete id from to) = true
-may_change_line (command.SplitDelete id from to) = true
-may_change_line (command.Silence id from to) = true
-may_change_line (command.Trim id from to) = true
-may_change_line (command.Gain id from to gain) = true
-may_change_line (command.Cut id n from to) = true
-may_change_line (command.SplitCut id n from to) = true
-may_change_line (command.Copy id n from to) = false
-may_change_line (command.Paste id at) = true
-may_change_line (command.PasteOver id at) = true
-may_change_line command.Undo = true
-may_change_line command.Redo = true
-may_change_line (command.Purge n) = true
-may_change_line (command.Show id from to) = false
-may_change_line (command.Mix from to) = false
-may_change_line (command.Envelope id from to columns) = false
-may_change_line command.Tracks = false
-may_change_line (command.Reclaim limit) = true
-may_change_line (command.Import name) = true
-may_change_line (command.Export name) = false
-
-abbrev pub may_change : Call → Bool
-may_change (call.Line c) = may_change_line c
-may_change (call.Piece track tag samples) = true
-may_change call.Pin = false
-may_change (call.PinLen pin) = false
-may_change (call.ReadPin pin from count) = false
-may_change (call.Unpin pin) = false
-
 -- A device broke a call off: ids of blocks may have been given, no more than the call may need and there is room for,
--- and
--- all else is as before.
+-- and all else is as before.
 pub record BreaksOff (t : Studio) (c : Call) (sound : SoundMove) (u : Studio) : Type 0 where
   pub going : t.stopped ≡ None
   pub blocks : ℕ
@@ -198,44 +160,6 @@ pub record GoesOn (t : Studio) (c : Call) (sound : SoundMove) (u : Studio) : Typ
 pub record Wants (t : Studio) (sound : SoundMove) (u : Studio) : Type 0 where
   pub same : u ≡ t
   pub quiet : sound.after ≡ sound.before
-
--- the sound that a line names
-abbrev pub name_in_line : Command → Option (List ℕ)
-name_in_line command.Track = None
-name_in_line (command.Drop id) = None
-name_in_line (command.Level id gain) = None
-name_in_line (command.Side id side) = None
-name_in_line (command.Mute id mute) = None
-name_in_line (command.Put id at samples) = None
-name_in_line (command.Ramp id at n start step) = None
-name_in_line (command.Delete id from to) = None
-name_in_line (command.SplitDelete id from to) = None
-name_in_line (command.Silence id from to) = None
-name_in_line (command.Trim id from to) = None
-name_in_line (command.Gain id from to gain) = None
-name_in_line (command.Cut id n from to) = None
-name_in_line (command.SplitCut id n from to) = None
-name_in_line (command.Copy id n from to) = None
-name_in_line (command.Paste id at) = None
-name_in_line (command.PasteOver id at) = None
-name_in_line command.Undo = None
-name_in_line command.Redo = None
-name_in_line (command.Purge n) = None
-name_in_line (command.Show id from to) = None
-name_in_line (command.Mix from to) = None
-name_in_line (command.Envelope id from to columns) = None
-name_in_line command.Tracks = None
-name_in_line (command.Reclaim limit) = None
-name_in_line (command.Import name) = Some name
-name_in_line (command.Export name) = Some name
-
-abbrev pub name_in : Call → Option (List ℕ)
-name_in (call.Line c) = name_in_line c
-name_in (call.Piece track tag samples) = None
-name_in call.Pin = None
-name_in (call.PinLen pin) = None
-name_in (call.ReadPin pin from count) = None
-name_in (call.Unpin pin) = None
 
 -- want of memory, or a device, in the place of what comes later
 abbrev pub Breaks : Studio → Call → SoundMove → Refusal → Studio → Type 0
