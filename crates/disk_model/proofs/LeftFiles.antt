@@ -8,10 +8,11 @@ use Rattle.std.proofs.lemmas.List.{get_or-take, length-replicate, length-take-le
 use Rattle.std.proofs.lemmas.Grind.{same_number_lists}
 use Rattle.disk_model.specs.Disk.{bytes_of, written, Torn, TornFile}
 use Rattle.disk_model.specs.History.{Step, Wrote, Synced, Removed, IsImage, IsFileImage, reads_of}
-use Rattle.disk_model.specs.Histories.{same_eq, torn_file_none, length-written, reads_is_image, reads_written}
+use Rattle.disk_model.specs.Histories.{same_eq, length-written, reads_is_image, reads_written}
 use Rattle.disk_model.specs.Histories.{reads_elsewhere, reads_removed, elsewhere_removed}
 use Rattle.disk_model.specs.Images.{Left, takes, next_state, grown, laid, left_by_write, left_by_removal, after_write}
 use Rattle.disk_model.specs.Images.{after_removal, left_of, state_at, image_of, synced_of, IsLeft}
+use Rattle.disk_model.proofs.Following.{torn_file_none}
 use Rattle.disk_model.proofs.Images.{image_from_files, image_to_file, torn_by_index}
 use Rattle.disk_model.proofs.Windows.{get_or-zeros, written_before, written_inside, written_after}
 

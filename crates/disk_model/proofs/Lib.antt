@@ -4,6 +4,7 @@ pub mod Writes
 pub mod Rooms
 pub mod Frames
 mod CallsLemmas
+mod Following
 mod Windows
 mod Listings
 mod Images

@@ -1,28 +1,25 @@
 // A disk in memory.
 ghost use Rattle.std.specs.Prelude.{◌≡◌, ◌⊎◌, ◌+◌, ◌-◌, ◌^◌, ◌≤◌, ◌↔◌, ◌++◌, min, ℕ, IsTrue, IfSome, IsErr, IsErrOf};
-ghost use Rattle.std.specs.Prelude.{OnErr, OnOk, [], None, Some, length, take, drop, true, refl, IfOk, Contains};
-ghost use Rattle.std.specs.Prelude.{IsSome};
+ghost use Rattle.std.specs.Prelude.{OnErr, OnOk, None, Some, length, take, drop, true, refl, IfOk, Contains, IsSome};
 ghost use Rattle.std.specs.List.Sorted.{IsStrictlyIncreasing};
 ghost use Rattle.std.specs.Option.{option_map};
 ghost use Rattle.pcm_base.specs.Causes.{HasCause};
 ghost use Rattle.disk_model.specs.Disk.{Files, bytes_of, written, TornFile, SameElsewhere, WriteStep, RemoveStep};
 ghost use Rattle.disk_model.specs.Disk.{StaysStep, Follows};
 ghost use Rattle.disk_model.specs.Faults.{HasListCause};
-ghost use Rattle.disk_model.specs.History.{SinceMoment, IsImage, reads_of};
+ghost use Rattle.disk_model.specs.History.{SinceMoment, reads_of};
 ghost use Rattle.disk_model.specs.Histories.{image_since, reads_is_image, fewer_moment};
-ghost use Rattle.disk_model.specs.Images.{image_of, synced_of};
 ghost use Rattle.disk_model.specs.Moment.{At};
-ghost use Rattle.disk_model.specs.Settled.{IsSettled};
-ghost use Rattle.disk_model.specs.Ram.{IsDue, IsFull, fresh_tally, with_sync, with_removal, with_change, after_read};
-ghost use Rattle.disk_model.specs.Ram.{after_failed_read, after_failed_change, after_write, after_failed_write};
-ghost use Rattle.disk_model.specs.Ram.{room_of, room_if};
+ghost use Rattle.disk_model.specs.Ram.{IsDue, IsFull, with_sync, with_removal, with_change, after_read};
+ghost use Rattle.disk_model.specs.Ram.{after_failed_read, after_failed_change, after_write, after_failed_write, room_of};
 ghost use Rattle.disk_model.specs.Room.{raised, met, IsSpent, StaysRoom};
+
+mod making;
 
 use crate::log::CallLog;
 use crate::store::{ListFault, Store};
 use crate::tally::Tally;
-use pcm_base::{Failed, NoMemory, Numbers};
-use std::alloc::Global;
+use pcm_base::Failed;
 use std::marker::Model;
 
 /// A disk in memory. It keeps each call that changed it, so that a stop at any moment may leave all that a disk may.
@@ -38,80 +35,6 @@ impl Model for RamStore {
     ghost Value = { Ram };
 
     ghost view = { λ s. record { log = s.log; tally = s.tally } };
-}
-
-impl RamStore {
-    /// An empty disk with room for so many files that are made, bytes that are written and changing calls that are
-    /// served; room that is used is not given back. Calls are counted from 1, and those of the numbers that it is given
-    /// fail.
-    pub fn new(
-        alloc: Global,
-        files: usize,
-        bytes: usize,
-        calls: usize,
-        fails: Numbers,
-    ) -> Result<RamStore, NoMemory>
-        ensures log { IfOk result (λ s. s.log ≡ record {
-          history = [];
-          files_left = files;
-          bytes_left = bytes;
-          calls_left = calls;
-        }) }
-        ensures tally { IfOk result (λ s. s.tally ≡ fresh_tally fails) }
-        ensures room { IfOk result (λ s. room_of s ≡ room_if fails None (record {
-          files = files;
-          bytes = bytes;
-          calls = calls;
-        })) }
-        // It may be left empty alone.
-        ensures empty { IfOk result (λ s. (c : Files) → SinceMoment s.log.history (At 0) c → c ≡ (λ _. None)) }
-    {
-        let log = CallLog::new(alloc, files, bytes, calls)?;
-        Ok(RamStore {
-            log,
-            tally: Tally::new(fails),
-        })
-    }
-
-    /// The disk that a stop at this moment leaves, by a choice: 0 leaves it as it reads, 1 leaves nothing of what is
-    /// pending, and any other number draws what has reached the disk: for the files rising and in each in order of
-    /// making two draws for a pending write, of its bytes and of its length, and one for a pending removal.
-    /// It has nothing pending, the room that is left here, and a new count of calls, of which none fails.
-    pub fn image(&self, alloc: Global, choice: u64) -> Result<RamStore, NoMemory>
-        ensures reads { IfOk result (λ s. reads_of s.log.history ≡ image_of choice self.now.log.history) }
-        ensures all { choice ≡ 0 → IfOk result (λ s. reads_of s.log.history ≡ reads_of self.now.log.history) }
-        ensures nothing { choice ≡ 1 → IfOk result (λ s. reads_of s.log.history ≡ synced_of self.now.log.history) }
-        ensures left { IfOk result (λ s. IsImage self.now.log.history (reads_of s.log.history)) }
-        // In the words of the trait: a stop now may leave it.
-        ensures may_be_left { IfOk result (λ s. ⟦<RamStore as Store>⟧.may_leave self.now
-            (⟦<RamStore as Store>⟧.clock self.now) (⟦<RamStore as Store>⟧.reads s)) }
-        ensures settled { IfOk result (λ s. IsSettled s.log.history) }
-        ensures room { IfOk result (λ s. s.log ≡ record self.now.log { history = s.log.history }) }
-        ensures tally { IfOk result (λ s. s.tally ≡ fresh_tally []) }
-    {
-        let log = self.log.image(alloc, choice)?;
-        Ok(RamStore {
-            log,
-            tally: Tally::new(Numbers::new(Vec::new(alloc))),
-        })
-    }
-
-    /// How many calls there were of those that are counted, up to the greatest u64: all but `faults` and
-    /// `change_faults`.
-    pub fn call_count(&self) -> u64
-        ensures { result ≡ self.now.tally.made }
-    {
-        self.tally.made()
-    }
-
-    /// Lets the next `n` calls be served, and each call after them fail.
-    pub fn stop_after(&mut self, n: u64)
-        ensures log { self.new.log ≡ self.old.log }
-        ensures tally { self.new.tally
-            ≡ record self.old.tally { last = Some (min (self.old.tally.made + n) (2 ^ 64 - 1)) } }
-    {
-        self.tally.stop_after(n);
-    }
 }
 
 impl Store for RamStore {
@@ -152,7 +75,7 @@ impl Store for RamStore {
         self.tally.change_faults()
     }
 
-    #[tactic(auto, using(crate::specs::Histories::follows_same))]
+    #[tactic(auto, using(crate::proofs::Following::follows_same))]
     fn size(&mut self, file: u64) -> Result<Option<u64>, Failed>
         ensures size { IsTrue true → IfOk result (λ n. n ≡ option_map length (reads_of self.old.log.history file)) }
         ensures bound { IfOk result (λ n. IfSome n (λ n. n ≤ 2 ^ 62)) }
@@ -180,7 +103,7 @@ impl Store for RamStore {
         Ok(self.log.size(file))
     }
 
-    #[tactic(auto, using(crate::specs::Histories::follows_same))]
+    #[tactic(auto, using(crate::proofs::Following::follows_same))]
     fn read_at(&mut self, file: u64, at: u64, buf: &mut [u8]) -> Result<usize, Failed>
         requires { at + length buf.old ≤ 2 ^ 62 }
         ensures read { IsTrue true → IfOk result
@@ -211,7 +134,7 @@ impl Store for RamStore {
         Ok(self.log.read(file, at, buf))
     }
 
-    #[tactic(auto, using(crate::specs::Histories::write_same, crate::specs::Histories::write_more))]
+    #[tactic(auto, using(crate::proofs::Following::write_same, crate::proofs::Following::write_more))]
     fn write_at(&mut self, file: u64, at: u64, bytes: &[u8]) -> Result<(), Failed>
         requires { at + length bytes.now ≤ 2 ^ 62 }
         ensures written { IsTrue true → OnOk result (reads_of self.new.log.history file
@@ -254,7 +177,7 @@ impl Store for RamStore {
         }
     }
 
-    #[tactic(auto, using(crate::specs::Histories::follows_same, crate::specs::Histories::sync_more))]
+    #[tactic(auto, using(crate::proofs::Following::follows_same, crate::proofs::Following::sync_more))]
     fn sync(&mut self, file: u64) -> Result<(), Failed>
         ensures durable { OnOk result ((c : Files) → SinceMoment self.new.log.history
             (At (length self.new.log.history)) c → c file ≡ reads_of self.old.log.history file) }
@@ -291,7 +214,7 @@ impl Store for RamStore {
         }
     }
 
-    #[tactic(auto, using(crate::specs::Histories::remove_same, crate::specs::Histories::remove_more))]
+    #[tactic(auto, using(crate::proofs::Following::remove_same, crate::proofs::Following::remove_more))]
     fn remove(&mut self, file: u64) -> Result<(), Failed>
         ensures removed { IsTrue true → OnOk result (reads_of self.new.log.history file ≡ None) }
         ensures part { IsTrue true → RemoveStep file (reads_of self.old.log.history) (reads_of self.new.log.history) }
@@ -327,7 +250,7 @@ impl Store for RamStore {
         }
     }
 
-    #[tactic(auto, using(crate::specs::Histories::follows_same))]
+    #[tactic(auto, using(crate::proofs::Following::follows_same))]
     fn files(&mut self, out: &mut Vec<u64>) -> Result<(), ListFault>
         ensures listed { IsTrue true
             → OnOk result ((n : ℕ) → Contains out.new.items n ↔ IsSome (reads_of self.old.log.history n)) }

@@ -2,7 +2,7 @@
 use Rattle.std.proofs.Common.{◌∷◌, ap, ◌∙◌}
 use Rattle.disk_model.specs.History.{Removed}
 use Rattle.disk_model.specs.Ram.{Log, Ram}
-use Rattle.disk_model.specs.Histories.{remove_same, remove_more}
+use Rattle.disk_model.proofs.Following.{remove_same, remove_more}
 use Rattle.disk_model.proofs.ram.RamStoreStore.remove.Goals as goal
 
 pub returns-then-count_change-clause-images : goal.returns-then-count_change-clause-images

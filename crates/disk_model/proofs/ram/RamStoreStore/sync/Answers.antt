@@ -2,7 +2,7 @@
 use Rattle.std.proofs.Common.{◌∷◌, ap, ◌∙◌}
 use Rattle.disk_model.specs.History.{Synced}
 use Rattle.disk_model.specs.Ram.{Log, Ram}
-use Rattle.disk_model.specs.Histories.{sync_more}
+use Rattle.disk_model.proofs.Following.{sync_more}
 use Rattle.disk_model.proofs.ram.RamStoreStore.sync.Goals as goal
 
 pub returns-in-Ok-clause-images : goal.returns-in-Ok-clause-images

@@ -2,7 +2,7 @@
 use Rattle.std.proofs.Common.{◌∷◌, ap, ◌∙◌}
 use Rattle.disk_model.specs.History.{Wrote}
 use Rattle.disk_model.specs.Ram.{Log, Ram}
-use Rattle.disk_model.specs.Histories.{write_same, write_more}
+use Rattle.disk_model.proofs.Following.{write_same, write_more}
 use Rattle.disk_model.proofs.ram.RamStoreStore.write_at.Goals as goal
 
 pub returns-then-count_write-clause-images : goal.returns-then-count_write-clause-images
