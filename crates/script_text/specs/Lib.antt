@@ -3,6 +3,7 @@ pub mod Grammar
 pub mod Lines
 pub mod Text
 pub mod Words
+pub mod WordForms
 pub mod Faults
 pub mod CallFault
 pub mod Last

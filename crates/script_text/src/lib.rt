@@ -14,6 +14,7 @@ ghost use Rattle.script_text.specs.Faults.{refusal_of};
 
 mod call_fault;
 mod columns;
+mod edit_forms;
 mod forms;
 mod gathered;
 mod kinds;
