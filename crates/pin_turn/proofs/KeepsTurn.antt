@@ -9,8 +9,7 @@ use mathlib.Core.Option as maybe
 use native.Mathlib.Decide.{ℕ_discrete, dec_le}
 use lib.ListN.{get_elem?}
 use prog.Atomic.{either}
-use Rattle.atomic_table.specs.Table.{State, Me, step, keeps, takes, gives, stepped, Allows}
-use Rattle.atomic_table.specs.Table.{opening}
+use Rattle.atomic_table.specs.Table.{State, Me, step, keeps, takes, gives, stepped, Allows, opening}
 use Rattle.atomic_table.proofs.Lists.{set_here, set_else, set_again}
 use Rattle.pin_turn.specs.declared.view.Stage.{Stage}
 use Rattle.pin_turn.specs.declared.view.Stage.TheVariants.{Gone, Resting, Holding}
@@ -18,8 +17,7 @@ use Rattle.pin_turn.specs.declared.view.View.{View}
 use Rattle.pin_turn.specs.Counts.{Each, times, once_below}
 use Rattle.pin_turn.specs.Views.{numbers, numbers_at, first_view}
 use Rattle.pin_turn.specs.Rule.{ByOthers, has_number, Knows, TurnRule, looked, took, gave}
-use Rattle.pin_turn.proofs.Sums.{total_at, Each-append}
-use Rattle.pin_turn.proofs.Sums.{times-append, times_else, times_one, once_more}
+use Rattle.pin_turn.proofs.Sums.{total_at, Each-append, times-append, times_else, times_one, once_more}
 use Rattle.pin_turn.proofs.RuleSteps.{apart, at_here, has_one, knows_set, not_in, not_true, steps}
 
 module _ {T E : Type 0} (stands : T → T → List E → Type 0) (maker : E → ℕ) (start : T) where
@@ -87,7 +85,8 @@ module _ {T E : Type 0} (stands : T → T → List E → Type 0) (maker : E → 
       let small = r.small in
       let is = r.word_is in
       dite (dec_le (2 ^ 63) n)
-      (λ full. let w : V = record v { used_up = true } in let len : length r.log * 2 + r.busy ≡ 2 ^ 63 = omega arith in (
+      (λ full. let w : V = record v { used_up = true } in
+      let len : length r.log * 2 + r.busy ≡ 2 ^ 63 = omega arith in (
         w,
         keeps,
         tt,
