@@ -47,7 +47,7 @@ pub fn fill<R: Wait, V: FrameGiver, G: Gate>(
 ) -> Filled<V>
     requires fresh { sent input ≡ [] }
     requires unrefused { V.refused giver ≡ None }
-    ensures { Fills V.shows V.refused V.follows giver input result }
+    ensures { Fills V.FrameGiver giver input result }
 {
     let mut frames = [Frame { left: 0, right: 0 }; BATCH_FRAMES];
     let mut from: u64 = 0;

@@ -107,7 +107,7 @@ pub fn drain<R: Wait, T: PieceTaker, G: Gate>(
 ) -> Drained<T>
     requires fresh { received output ≡ [] }
     requires unrefused { T.refused taker ≡ None }
-    ensures { Drains T.pieces T.refused T.follows output taker result }
+    ensures { Drains T.PieceTaker output taker result }
 {
     let mut tally = Tally {
         numbers: Vec::new(alloc),
