@@ -10,8 +10,8 @@ ghost use Rattle.disk_model.specs.Faults.{HasListCause};
 ghost use Rattle.disk_model.specs.History.{SinceMoment, reads_of};
 ghost use Rattle.disk_model.specs.Histories.{image_since, reads_is_image, fewer_moment};
 ghost use Rattle.disk_model.specs.Moment.{At};
-ghost use Rattle.disk_model.specs.Ram.{IsDue, IsFull, with_sync, with_removal, with_change, after_read};
-ghost use Rattle.disk_model.specs.Ram.{after_failed_read, after_failed_change, after_write, after_failed_write, room_of};
+ghost use Rattle.disk_model.specs.Ram.{IsDue, IsFull, with_sync, with_removal, with_change, after_read, room_of};
+ghost use Rattle.disk_model.specs.Ram.{after_failed_read, after_failed_change, after_write, after_failed_write};
 ghost use Rattle.disk_model.specs.Room.{raised, met, IsSpent, StaysRoom};
 
 mod making;
