@@ -106,7 +106,7 @@ fn lay_run(
         let len = block_size(run, m, k);
         let cut = cut_off(alloc, pieces, place, len as u64)?;
         place = cut.rest;
-        let pieces = Pieces::from_vec(cut.pieces);
+        let pieces = Pieces::new(cut.pieces);
         out.push(Laid::Make { pieces, len })?;
     }
     Ok(())

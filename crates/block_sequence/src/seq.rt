@@ -116,6 +116,6 @@ impl Sequence {
         let pieces = whole_pieces(alloc, self.blocks.as_slice())?;
         let place = Place { at: 0, skip: from };
         let cut = cut_off(alloc, pieces.as_slice(), place, to - from)?;
-        Ok(Pieces::from_vec(cut.pieces))
+        Ok(Pieces::new(cut.pieces))
     }
 }

@@ -32,7 +32,7 @@ fn close(out: &mut Vec<StripClip>, held: Vec<Piece>, size: u64, start: u64) -> R
         ++ map cell.Sample (all_samples src held.items)) }
 {
     if size > 0 {
-        let pieces = Pieces::from_vec(held);
+        let pieces = Pieces::new(held);
         out.push(StripClip { start, pieces })?;
     }
     Ok(())

@@ -77,7 +77,7 @@ fn name_clips(alloc: Global, clips: Vec<LaidClip>, m: u32, next: u64) -> Result<
     }
     Ok(Plan {
         layout: Layout::from_clips(out),
-        makes: NewBlocks::from_vec(makes),
+        makes: NewBlocks::new(makes),
         next: id,
     })
 }

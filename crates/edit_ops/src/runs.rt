@@ -34,7 +34,7 @@ fn copy_each(alloc: Global, run: &[&Layout], from: u64, to: u64) -> Result<Strip
     for t in run {
         out.push(copy_one(alloc, t, from, to)?)?;
     }
-    Ok(Strips::from_vec(out))
+    Ok(Strips::new(out))
 }
 
 /// Each track without a range.
@@ -60,7 +60,7 @@ fn cut_each(
         id = plan.next;
         plans.push(plan)?;
     }
-    Ok(Plans::from_vec(plans))
+    Ok(Plans::new(plans))
 }
 
 /// Each strip put into its track.
@@ -89,7 +89,7 @@ fn paste_each(
         id = plan.next;
         plans.push(plan)?;
     }
-    Ok(Plans::from_vec(plans))
+    Ok(Plans::new(plans))
 }
 
 /// The cells of a range of `n` tracks, those of `run` from the first on: a strip for each, of exactly `to - from`

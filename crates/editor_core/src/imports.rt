@@ -84,7 +84,7 @@ fn moved_blocks(alloc: Global, blocks: &[NewBlock], skip: u64) -> Result<Vec<New
         out.push(NewBlock {
             id: block.id,
             len: block.len,
-            pieces: Pieces::from_vec(pieces),
+            pieces: Pieces::new(pieces),
         })?;
     }
     Ok(out)
@@ -113,7 +113,7 @@ fn plan_channel(
     let makes = moved_blocks(alloc, makes.as_slice(), from)?;
     Ok(Plan {
         layout,
-        makes: NewBlocks::from_vec(makes),
+        makes: NewBlocks::new(makes),
         next: after,
     })
 }
@@ -200,7 +200,7 @@ fn planned_of(growing: Growing, tracks: u64) -> Planned
     } = growing;
     Planned {
         point,
-        makes: NewBlocks::from_vec(makes),
+        makes: NewBlocks::new(makes),
         next,
         tracks,
         clip: None,

@@ -87,7 +87,7 @@ pub(crate) fn planned_run(
     let next = next + makes.len() as u64;
     Ok(Planned {
         point,
-        makes: NewBlocks::from_vec(makes),
+        makes: NewBlocks::new(makes),
         next,
         tracks: 0,
         clip,

@@ -110,7 +110,7 @@ fn make(
     let block = NewBlock {
         id: MADE,
         len,
-        pieces: Pieces::from_vec(vec![in alloc; first, second, third]?),
+        pieces: Pieces::new(vec![in alloc; first, second, third]?),
     };
     let mut samples = [0; 12];
     let mut scratch = Vec::with_capacity(alloc, file_size(len as usize))?;
@@ -225,7 +225,7 @@ fn a_written_block_waits_for_its_sync(rt: HostRuntime) -> Result<(), Fail> {
     let block = NewBlock {
         id: MADE,
         len: 2,
-        pieces: Pieces::from_vec(vec![in rt.alloc(); Piece::Zero { len: 2 }]?),
+        pieces: Pieces::new(vec![in rt.alloc(); Piece::Zero { len: 2 }]?),
     };
     let mut scratch = Vec::with_capacity(rt.alloc(), 44)?;
     assert_eq!(rt;

@@ -62,7 +62,7 @@ fn free_ids(
 fn blocks_come_free(rt: HostRuntime) -> Result<(), Fail> {
     let alloc = rt.alloc();
     let mut disk = Disk::new(alloc);
-    let none = Strips::from_vec(Vec::new(alloc));
+    let none = Strips::new(Vec::new(alloc));
     let samples = draws::rising(alloc, 16)?;
     let t = track(alloc, &mut disk, samples.as_slice(), 16)?.layout;
     assert!(rt; ids(alloc, &t)?.as_slice() == [16u64, 17, 18, 19].as_slice());
@@ -119,7 +119,7 @@ fn a_cut_is_put_back(rt: HostRuntime) -> Result<(), Fail> {
     let plans = front_pasted(alloc, &five, &rest, 19)?;
     assert!(rt; mean(alloc, &mut disk, &plans, &[&[1, 2, 3, 4, 5]], &[&[19, 18]])?);
     assert!(rt; disk.samples(19) == [1i16, 2].as_slice());
-    let none = Strips::from_vec(Vec::new(alloc));
+    let none = Strips::new(Vec::new(alloc));
     for plan in plans.as_slice() {
         assert!(rt;
             free_ids(alloc, &disk, &plan.layout, &clipboard)?.as_slice() == [17u64].as_slice()

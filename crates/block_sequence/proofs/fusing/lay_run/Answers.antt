@@ -30,7 +30,7 @@ loop-k-preserved c =
     let cut = c.in_ok-cut.cut.pieces.items in
     let next = added_next sizes k h in
     let l : Laid = Make cut len in
-    rw (c.in_ok-push.ensures.items, c.from_vec-pieces.ensures) (record {
+    rw (c.in_ok-push.ensures.items, c.new-pieces.ensures) (record {
       new_blocks = AllMade-push c.args.m c.loop-k.out.items l c.loop-k.invariant.new_blocks
           (c.in_ok-cut.ensures.valid, c.in_ok-cut.ensures.fit c.args.m c.requires.fit, c.in_ok-cut.ensures.total);
       sizes =

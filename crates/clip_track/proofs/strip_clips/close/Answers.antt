@@ -16,23 +16,23 @@ new_clip c = record { start = c.args.start; pieces = c.args.held.items }
 
 pub returns-in_ok-push-clause-apart : goal.returns-in_ok-push-clause-apart
 returns-in_ok-push-clause-apart c =
-    rw (c.in_ok-push.ensures.items, c.from_vec-pieces.ensures) (
+    rw (c.in_ok-push.ensures.items, c.new-pieces.ensures) (
     AreStripClips-push 0 c.args.out.now.items (new_clip c) c.requires.apart c.requires.later
     (omega (arith, c.requires.size, c.if-size-gt0.true)) c.requires.valid)
 
 pub returns-in_ok-push-clause-later : goal.returns-in_ok-push-clause-later
 returns-in_ok-push-clause-later c =
-    rw (c.in_ok-push.ensures.items, c.from_vec-pieces.ensures)
+    rw (c.in_ok-push.ensures.items, c.new-pieces.ensures)
     (omega (arith, c.requires.size, next_start-push 0 c.args.out.now.items (new_clip c)))
 
 pub returns-in_ok-push-clause-end : goal.returns-in_ok-push-clause-end
 returns-in_ok-push-clause-end c =
-    rw (c.in_ok-push.ensures.items, c.from_vec-pieces.ensures)
+    rw (c.in_ok-push.ensures.items, c.new-pieces.ensures)
     (omega (arith, c.requires.size, clips_end-push 0 c.args.out.now.items (new_clip c)))
 
 pub returns-in_ok-push-clause-cells : goal.returns-in_ok-push-clause-cells
 returns-in_ok-push-clause-cells c src =
-    rw (c.in_ok-push.ensures.items, c.from_vec-pieces.ensures) (closed_cells src c.args.out.now.items
+    rw (c.in_ok-push.ensures.items, c.new-pieces.ensures) (closed_cells src c.args.out.now.items
     (new_clip c) c.args.size (all_samples src c.args.held.items) (sym c.requires.size) refl)
 
 pub returns-else-size-gt0-clause-end : goal.returns-else-size-gt0-clause-end

@@ -28,6 +28,6 @@ returns-clause-plan c =
     subst (λ (cs : List Clip). IsPlan m next (layout_blocks cs) count p) c.new.ensures c.in_ok-plan.ensures.plan in
     let means = subst (λ (cs : List Clip). Means (λ src. inserted 0 (as_cells (stretch src.given 0 count))) cs p)
     c.new.ensures c.in_ok-plan.ensures.cells in
-    channel_plan c.args.from count m next p.next p.layout p.makes c.from_vec.result
+    channel_plan c.args.from count m next p.next p.layout p.makes c.new-2.result
     (subst IsLayout c.layout.view_is c.layout.invariant) plan means c.in_ok-plan.ensures.few_made
-    (c.from_vec.ensures ∙ c.in_ok-makes.ensures ∙ ap (map (block_behind c.args.from)) c.as_slice.ensures)
+    (c.new-2.ensures ∙ c.in_ok-makes.ensures ∙ ap (map (block_behind c.args.from)) c.as_slice.ensures)

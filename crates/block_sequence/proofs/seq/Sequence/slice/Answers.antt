@@ -30,7 +30,7 @@ returns-clause-samples c src =
     let e : c.as_slice-2.result.now ≡ map whole c.args.self.now =
     c.as_slice-2.ensures.value ∙ c.in_ok-pieces.ensures ∙ ap (map whole) (c.as_slice.ensures.value ∙ c.self.view_is) in
     let n = c.args.to - c.args.from in
-    ap (all_samples src) c.from_vec.ensures
+    ap (all_samples src) c.new.ensures
     ∙ sym (take_at (all_samples src cut) _ n (length-all_samples src cut ∙ c.in_ok-cut.ensures.total))
     ∙ ap (take n) (c.in_ok-cut.ensures.samples src ∙ ap (λ (ps : List Piece). drop c.args.from (all_samples src ps)) e)
     ∙ ap (λ (xs : List _). take n (drop c.args.from xs)) (samples_whole src c.args.self.now)
