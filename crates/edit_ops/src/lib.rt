@@ -10,6 +10,7 @@ mod changing;
 mod laying;
 mod one_track;
 mod placing;
+mod planner;
 mod planning;
 mod plans;
 mod refusals;

@@ -8,6 +8,7 @@ ghost use Rattle.pcm_base.specs.Sizes.{sample_count, clip_count};
 ghost use Rattle.edit_ops.specs.Plans.{IsPlan, Means, AnswersTest};
 
 use super::changing::Change;
+use super::planner::Planner;
 use super::plans::{
     plan_only_part, plan_with_change, plan_with_gaps, plan_with_given, plan_without,
 };
@@ -42,7 +43,12 @@ pub fn insert(
     ensures tests { AnswersTest (length_limit (inserted_length at count (end_of 0 t.now) ∷ [])) result }
 {
     length(t.len().max(at) + count)?;
-    let plan = plan_with_given(alloc, t, at, count, m, next)?;
+    let planner = Planner {
+        alloc,
+        block_size: m,
+        next,
+    };
+    let plan = plan_with_given(planner, t, at, count)?;
     Ok(plan)
 }
 
@@ -68,7 +74,12 @@ pub fn delete(
     ensures tests { AnswersTest (bad_range from to (end_of 0 t.now)) result }
 {
     range(from, to, t.len())?;
-    let plan = plan_without(alloc, t, from, to, m, next)?;
+    let planner = Planner {
+        alloc,
+        block_size: m,
+        next,
+    };
+    let plan = plan_without(planner, t, from, to)?;
     Ok(plan)
 }
 
@@ -94,7 +105,12 @@ pub fn split_delete(
     ensures tests { AnswersTest (bad_range from to (end_of 0 t.now)) result }
 {
     range(from, to, t.len())?;
-    let plan = plan_with_gaps(alloc, t, from, to, m, next)?;
+    let planner = Planner {
+        alloc,
+        block_size: m,
+        next,
+    };
+    let plan = plan_with_gaps(planner, t, from, to)?;
     Ok(plan)
 }
 
@@ -120,7 +136,12 @@ pub fn trim(
     ensures tests { AnswersTest (bad_range from to (end_of 0 t.now)) result }
 {
     range(from, to, t.len())?;
-    let plan = plan_only_part(alloc, t, from, to, m, next)?;
+    let planner = Planner {
+        alloc,
+        block_size: m,
+        next,
+    };
+    let plan = plan_only_part(planner, t, from, to)?;
     Ok(plan)
 }
 
@@ -148,7 +169,12 @@ pub fn silence(
     ensures tests { AnswersTest (bad_range from to (end_of 0 t.now)) result }
 {
     range(from, to, t.len())?;
-    let plan = plan_with_change(alloc, t, from, to, Change::Silence, m, next)?;
+    let planner = Planner {
+        alloc,
+        block_size: m,
+        next,
+    };
+    let plan = plan_with_change(planner, t, from, to, Change::Silence)?;
     Ok(plan)
 }
 
@@ -177,6 +203,11 @@ pub fn gain(
     ensures tests { AnswersTest (bad_range from to (end_of 0 t.now)) result }
 {
     range(from, to, t.len())?;
-    let plan = plan_with_change(alloc, t, from, to, Change::Gain { gain }, m, next)?;
+    let planner = Planner {
+        alloc,
+        block_size: m,
+        next,
+    };
+    let plan = plan_with_change(planner, t, from, to, Change::Gain { gain })?;
     Ok(plan)
 }

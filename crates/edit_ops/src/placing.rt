@@ -6,6 +6,7 @@ ghost use Rattle.edit_ops.specs.Placing.{placed, placed_items, placed_length};
 ghost use Rattle.edit_ops.specs.Runs.{IsPaste};
 ghost use Rattle.edit_ops.specs.Strips.{IsClip};
 
+use super::planner::Planner;
 use super::planning::plan_strip;
 use super::strips;
 use super::types::Plan;
@@ -54,22 +55,18 @@ fn strip_of(
 
 /// With a strip put in at a place of one track.
 pub fn plan_placed(
-    alloc: Global,
+    planner: Planner,
     t: &Layout,
     placing: Placing,
     at: u64,
     clip: &Strip,
-    m: u32,
-    next: u64,
 ) -> Result<Plan, NoMemory>
-    requires some { 0 < m }
-    requires half_full { AllHalfFull m t.now }
-    requires clip { IsClip m clip.now }
-    requires room { next < 2 ^ 63 }
+    requires half_full { AllHalfFull planner.block_size t.now }
+    requires clip { IsClip planner.block_size clip.now }
     requires few { placed_length placing at (strip_len clip.now) (end_of 0 t.now) ≤ 2 ^ 32 }
-    ensures { IfOk result (λ p. IsPaste (placed placing at) m next clip.now t.now p) }
+    ensures { IfOk result (λ p. IsPaste (placed placing at) planner.block_size planner.next clip.now t.now p) }
 {
     let whole = t.to_strip()?;
-    let strip = strip_of(alloc, &whole, placing, at, clip)?;
-    Ok(plan_strip(alloc, &strip, m, next)?)
+    let strip = strip_of(planner.alloc, &whole, placing, at, clip)?;
+    Ok(plan_strip(planner, &strip)?)
 }

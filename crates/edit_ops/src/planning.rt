@@ -13,6 +13,7 @@ ghost use Rattle.clip_track.specs.Rough.{rough_items, ItemsShort};
 ghost use Rattle.edit_ops.specs.LaidClips as laid;
 
 use super::laying::lay_strip;
+use super::planner::Planner;
 use super::types::{LaidClip, NewBlock, NewBlocks, Plan};
 use block_sequence::{Laid, Sequence};
 use clip_track::{Clip, Layout, Strip};
@@ -56,21 +57,19 @@ fn name_blocks(
 }
 
 /// Gives the new blocks of all clips their ids, and makes the layout.
-fn name_clips(alloc: Global, clips: Vec<LaidClip>, m: u32, next: u64) -> Result<Plan, AllocError>
-    requires some { 0 < m }
-    requires apart { laid.AreLaidClips m 0 clips.items }
+fn name_clips(planner: Planner, clips: Vec<LaidClip>) -> Result<Plan, AllocError>
+    requires apart { laid.AreLaidClips planner.block_size 0 clips.items }
     requires few { laid.laid_end 0 clips.items ≤ 2 ^ 32 }
-    requires room { next < 2 ^ 63 }
-    ensures layout { IfOk result (λ p. p.layout ≡ laid.named_clips next clips.items) }
-    ensures makes { IfOk result (λ p. p.makes ≡ laid.clips_new_blocks next clips.items) }
-    ensures next { IfOk result (λ p. p.next ≡ laid.clips_next next clips.items) }
+    ensures layout { IfOk result (λ p. p.layout ≡ laid.named_clips planner.next clips.items) }
+    ensures makes { IfOk result (λ p. p.makes ≡ laid.clips_new_blocks planner.next clips.items) }
+    ensures next { IfOk result (λ p. p.next ≡ laid.clips_next planner.next clips.items) }
 {
-    let mut out = Vec::new(alloc);
-    let mut makes = Vec::new(alloc);
-    let mut id = next;
+    let mut out = Vec::new(planner.alloc);
+    let mut makes = Vec::new(planner.alloc);
+    let mut id = planner.next;
     for clip in clips {
         let LaidClip { start, laid } = clip;
-        let named = name_blocks(alloc, laid, id, &mut makes)?;
+        let named = name_blocks(planner.alloc, laid, id, &mut makes)?;
         id = named.next;
         let blocks = Sequence::new(named.blocks);
         out.push(Clip { start, blocks })?;
@@ -82,20 +81,20 @@ fn name_clips(alloc: Global, clips: Vec<LaidClip>, m: u32, next: u64) -> Result<
     })
 }
 
-/// Lays a strip out in blocks of 1 to `m` samples; the new ones get the ids from `next` on, in order.
-pub fn plan_strip(alloc: Global, strip: &Strip, m: u32, next: u64) -> Result<Plan, NoMemory>
-    requires some { 0 < m }
-    requires fit { ItemsFit m strip.now }
+/// Lays a strip out in blocks, none of them empty; the new ones get the ids from the planner's next one on, in order.
+pub fn plan_strip(planner: Planner, strip: &Strip) -> Result<Plan, NoMemory>
+    requires fit { ItemsFit planner.block_size strip.now }
     requires few { strip_len strip.now ≤ 2 ^ 32 }
-    requires room { next < 2 ^ 63 }
     ensures plan { IfOk result
-        (λ p. (old : List BlockRef) (count : ℕ) → ItemsFrom old count strip.now → IsPlan m next old count p) }
+        (λ p. (old : List BlockRef) (count : ℕ) → ItemsFrom old count strip.now
+        → IsPlan planner.block_size planner.next old count p) }
     ensures cells { IfOk result (λ p. (src : Sources) → AreWritten src p.makes
         → layout_cells src p.layout ≡ trimmed (strip_cells src strip.now)) }
-    ensures few_made { IfOk result
-        (λ p. ItemsShort m strip.now → length p.makes ≤ 2 * rough_items m true true strip.now) }
-    ensures few_samples { IfOk result (λ p. m * length p.makes ≤ strip_room m First true strip.now) }
+    ensures few_made { IfOk result (λ p. ItemsShort planner.block_size strip.now
+        → length p.makes ≤ 2 * rough_items planner.block_size true true strip.now) }
+    ensures few_samples { IfOk result
+        (λ p. planner.block_size * length p.makes ≤ strip_room planner.block_size First true strip.now) }
 {
-    let clips = lay_strip(alloc, strip.as_slice(), m)?;
-    Ok(name_clips(alloc, clips, m, next)?)
+    let clips = lay_strip(planner.alloc, strip.as_slice(), planner.block_size)?;
+    Ok(name_clips(planner, clips)?)
 }

@@ -9,125 +9,85 @@ ghost use Rattle.pcm_base.specs.Sizes.{sample_count, clip_count};
 ghost use Rattle.edit_ops.specs.Plans.{IsPlan, Means};
 
 use super::changing::Change;
+use super::planner::Planner;
 use super::planning::plan_strip;
 use super::strips;
 use super::types::Plan;
 use clip_track::Layout;
 use pcm_base::NoMemory;
-use std::alloc::Global;
 
 /// Without a range, which may end, or begin, beyond the track.
-pub fn plan_without(
-    alloc: Global,
-    t: &Layout,
-    from: u64,
-    to: u64,
-    m: u32,
-    next: u64,
-) -> Result<Plan, NoMemory>
-    requires some { 0 < m }
-    requires half_full { AllHalfFull m t.now }
-    requires room { next < 2 ^ 63 }
+pub fn plan_without(planner: Planner, t: &Layout, from: u64, to: u64) -> Result<Plan, NoMemory>
+    requires half_full { AllHalfFull planner.block_size t.now }
     requires rising { from ≤ to }
-    ensures plan { IfOk result (λ p. IsPlan m next (layout_blocks t.now) 0 p) }
+    ensures plan { IfOk result (λ p. IsPlan planner.block_size planner.next (layout_blocks t.now) 0 p) }
     ensures cells { IfOk result (λ p. Means (λ src. edit.deleted from to) t.now p) }
     ensures few_made { IfOk result (λ p. length p.makes ≤ 8) }
 {
     let whole = t.to_strip()?;
-    let strip = strips::without(alloc, &whole, from, to)?;
-    Ok(plan_strip(alloc, &strip, m, next)?)
+    let strip = strips::without(planner.alloc, &whole, from, to)?;
+    Ok(plan_strip(planner, &strip)?)
 }
 
 /// With gaps in the place of a range, which may end, or begin, beyond the track.
-pub fn plan_with_gaps(
-    alloc: Global,
-    t: &Layout,
-    from: u64,
-    to: u64,
-    m: u32,
-    next: u64,
-) -> Result<Plan, NoMemory>
-    requires some { 0 < m }
-    requires half_full { AllHalfFull m t.now }
-    requires room { next < 2 ^ 63 }
+pub fn plan_with_gaps(planner: Planner, t: &Layout, from: u64, to: u64) -> Result<Plan, NoMemory>
+    requires half_full { AllHalfFull planner.block_size t.now }
     requires rising { from ≤ to }
-    ensures plan { IfOk result (λ p. IsPlan m next (layout_blocks t.now) 0 p) }
+    ensures plan { IfOk result (λ p. IsPlan planner.block_size planner.next (layout_blocks t.now) 0 p) }
     ensures cells { IfOk result (λ p. Means (λ src. edit.split_deleted from to) t.now p) }
     ensures few_made { IfOk result (λ p. length p.makes ≤ 8) }
 {
     let whole = t.to_strip()?;
-    let strip = strips::with_gaps(alloc, &whole, from, to)?;
-    Ok(plan_strip(alloc, &strip, m, next)?)
+    let strip = strips::with_gaps(planner.alloc, &whole, from, to)?;
+    Ok(plan_strip(planner, &strip)?)
 }
 
 /// With gaps in the place of all but a range of the track.
-pub fn plan_only_part(
-    alloc: Global,
-    t: &Layout,
-    from: u64,
-    to: u64,
-    m: u32,
-    next: u64,
-) -> Result<Plan, NoMemory>
-    requires some { 0 < m }
-    requires half_full { AllHalfFull m t.now }
-    requires room { next < 2 ^ 63 }
+pub fn plan_only_part(planner: Planner, t: &Layout, from: u64, to: u64) -> Result<Plan, NoMemory>
+    requires half_full { AllHalfFull planner.block_size t.now }
     requires rising { from ≤ to }
     requires within { to ≤ end_of 0 t.now }
-    ensures plan { IfOk result (λ p. IsPlan m next (layout_blocks t.now) 0 p) }
+    ensures plan { IfOk result (λ p. IsPlan planner.block_size planner.next (layout_blocks t.now) 0 p) }
     ensures cells { IfOk result (λ p. Means (λ src. edit.kept_only from to) t.now p) }
     ensures few_made { IfOk result (λ p. length p.makes ≤ 8) }
 {
     let whole = t.to_strip()?;
-    let strip = strips::only_part(alloc, &whole, from, to)?;
-    Ok(plan_strip(alloc, &strip, m, next)?)
+    let strip = strips::only_part(planner.alloc, &whole, from, to)?;
+    Ok(plan_strip(planner, &strip)?)
 }
 
 /// With each sample of a range changed.
 pub fn plan_with_change(
-    alloc: Global,
+    planner: Planner,
     t: &Layout,
     from: u64,
     to: u64,
     change: Change,
-    m: u32,
-    next: u64,
 ) -> Result<Plan, NoMemory>
-    requires some { 0 < m }
-    requires half_full { AllHalfFull m t.now }
-    requires room { next < 2 ^ 63 }
+    requires half_full { AllHalfFull planner.block_size t.now }
     requires rising { from ≤ to }
-    ensures plan { IfOk result (λ p. IsPlan m next (layout_blocks t.now) 0 p) }
+    ensures plan { IfOk result (λ p. IsPlan planner.block_size planner.next (layout_blocks t.now) 0 p) }
     ensures cells { IfOk result (λ p. Means (λ src. edit.changed (cell_change change) from to) t.now p) }
     ensures few_made { IfOk result (λ p. (src : Sources) →
         let cells = edit.part from to (layout_cells src t.now) in
-        length p.makes ≤ 8 + sample_count cells / m + clip_count cells) }
+        length p.makes ≤ 8 + sample_count cells / planner.block_size + clip_count cells) }
 {
     let whole = t.to_strip()?;
-    let strip = strips::with_change(alloc, &whole, from, to, change)?;
-    Ok(plan_strip(alloc, &strip, m, next)?)
+    let strip = strips::with_change(planner.alloc, &whole, from, to, change)?;
+    Ok(plan_strip(planner, &strip)?)
 }
 
 /// With the samples that the command brings put in at a place.
-pub fn plan_with_given(
-    alloc: Global,
-    t: &Layout,
-    at: u64,
-    count: u64,
-    m: u32,
-    next: u64,
-) -> Result<Plan, NoMemory>
-    requires some { 0 < m }
-    requires half_full { AllHalfFull m t.now }
-    requires room { next < 2 ^ 63 }
+pub fn plan_with_given(planner: Planner, t: &Layout, at: u64, count: u64) -> Result<Plan, NoMemory>
+    requires half_full { AllHalfFull planner.block_size t.now }
     requires few { inserted_length at count (end_of 0 t.now) ≤ 2 ^ 32 }
-    ensures plan { IfOk result (λ p. IsPlan m next (layout_blocks t.now) count p) }
+    ensures plan { IfOk result (λ p. IsPlan planner.block_size planner.next (layout_blocks t.now) count p) }
     ensures cells { IfOk result
         (λ p. Means (λ src. edit.inserted at (edit.as_cells (stretch src.given 0 count))) t.now p) }
-    ensures few_made { IfOk result (λ p. length p.makes ≤ 8 + count / m) }
+    ensures few_made { IfOk result (λ p. length p.makes ≤ 8 + count / planner.block_size) }
 {
     let whole = t.to_strip()?;
-    let given = strips::all_given(alloc, count)?;
-    let strip = strips::with_inserted(alloc, &whole, at, &given)?;
-    Ok(plan_strip(alloc, &strip, m, next)?)
+    let given = strips::all_given(planner.alloc, count)?;
+    let strip = strips::with_inserted(planner.alloc, &whole, at, &given)?;
+    Ok(plan_strip(planner, &strip)?)
 }

@@ -4,11 +4,11 @@ ghost use Rattle.clip_track.specs.Clips.{AllHalfFull};
 ghost use Rattle.edit_ops.specs.Removing.{removed};
 ghost use Rattle.edit_ops.specs.Runs.{IsCut};
 
+use super::planner::Planner;
 use super::plans::{plan_with_gaps, plan_without};
 use super::types::Plan;
 use clip_track::Layout;
 use pcm_base::NoMemory;
-use std::alloc::Global;
 
 /// What becomes of the cells of a range that is cut.
 #[derive(Clone, Copy, Debug)]
@@ -21,22 +21,18 @@ pub enum Removing {
 
 /// Without a range of one track, which may end, or begin, beyond it.
 pub fn plan_removal(
-    alloc: Global,
+    planner: Planner,
     t: &Layout,
     removing: Removing,
     from: u64,
     to: u64,
-    m: u32,
-    next: u64,
 ) -> Result<Plan, NoMemory>
-    requires some { 0 < m }
-    requires half_full { AllHalfFull m t.now }
-    requires room { next < 2 ^ 63 }
+    requires half_full { AllHalfFull planner.block_size t.now }
     requires rising { from ≤ to }
-    ensures { IfOk result (λ p. IsCut (removed removing from to) m next t.now p) }
+    ensures { IfOk result (λ p. IsCut (removed removing from to) planner.block_size planner.next t.now p) }
 {
     match removing {
-        Removing::Delete => Ok(plan_without(alloc, t, from, to, m, next)?),
-        Removing::SplitDelete => Ok(plan_with_gaps(alloc, t, from, to, m, next)?),
+        Removing::Delete => Ok(plan_without(planner, t, from, to)?),
+        Removing::SplitDelete => Ok(plan_with_gaps(planner, t, from, to)?),
     }
 }

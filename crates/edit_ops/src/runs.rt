@@ -9,6 +9,7 @@ ghost use Rattle.edit_ops.specs.Removing.{removed};
 ghost use Rattle.edit_ops.specs.Runs as runs;
 
 use super::placing::{Placing, plan_placed};
+use super::planner::{Planner, RunPlanner};
 use super::removing::{Removing, plan_removal};
 use super::run_refusals::{copy_tests, paste_tests};
 use super::strips;
@@ -39,24 +40,26 @@ fn copy_each(alloc: Global, run: &[&Layout], from: u64, to: u64) -> Result<Strip
 
 /// Each track without a range.
 fn cut_each(
-    alloc: Global,
+    planner: RunPlanner,
     run: &[&Layout],
     removing: Removing,
     from: u64,
     to: u64,
-    m: u32,
-    next: u64,
 ) -> Result<Plans, NoMemory>
-    requires some { 0 < m }
-    requires half_full { runs.AllTracksHalfFull m (runs.layouts run.now) }
-    requires room { next ≤ 2 ^ 62 }
+    requires half_full { runs.AllTracksHalfFull planner.block_size (runs.layouts run.now) }
     requires rising { from ≤ to }
-    ensures { IfOk result (λ v. runs.AreCuts (removed removing from to) m next (runs.layouts run.now) v) }
+    ensures { IfOk result
+        (λ v. runs.AreCuts (removed removing from to) planner.block_size planner.next (runs.layouts run.now) v) }
 {
-    let mut plans = Vec::with_capacity(alloc, run.len())?;
-    let mut id = next;
+    let mut plans = Vec::with_capacity(planner.alloc, run.len())?;
+    let mut id = planner.next;
     for t in run {
-        let plan = plan_removal(alloc, t, removing, from, to, m, id)?;
+        let here = Planner {
+            alloc: planner.alloc,
+            block_size: planner.block_size,
+            next: id,
+        };
+        let plan = plan_removal(here, t, removing, from, to)?;
         id = plan.next;
         plans.push(plan)?;
     }
@@ -65,27 +68,29 @@ fn cut_each(
 
 /// Each strip put into its track.
 fn paste_each(
-    alloc: Global,
+    planner: RunPlanner,
     run: &[&Layout],
     clip: &[Strip],
     placing: Placing,
     at: u64,
-    m: u32,
-    next: u64,
 ) -> Result<Plans, NoMemory>
-    requires some { 0 < m }
-    requires half_full { runs.AllTracksHalfFull m (runs.layouts run.now) }
-    requires clips { runs.AreClips m clip.now }
-    requires room { next ≤ 2 ^ 62 }
+    requires half_full { runs.AllTracksHalfFull planner.block_size (runs.layouts run.now) }
+    requires clips { runs.AreClips planner.block_size clip.now }
     requires wide { length clip.now ≤ length run.now }
     requires few { LengthsFit placing at clip.now (runs.layouts run.now) }
     ensures { IfOk result
-        (λ v. runs.ArePastes (placed placing at) m next clip.now (take (length clip.now) (runs.layouts run.now)) v) }
+        (λ v. runs.ArePastes (placed placing at) planner.block_size planner.next clip.now
+        (take (length clip.now) (runs.layouts run.now)) v) }
 {
-    let mut plans = Vec::new(alloc);
-    let mut id = next;
+    let mut plans = Vec::new(planner.alloc);
+    let mut id = planner.next;
     for i in 0..clip.len() {
-        let plan = plan_placed(alloc, run[i], placing, at, &clip[i], m, id)?;
+        let here = Planner {
+            alloc: planner.alloc,
+            block_size: planner.block_size,
+            next: id,
+        };
+        let plan = plan_placed(here, run[i], placing, at, &clip[i])?;
         id = plan.next;
         plans.push(plan)?;
     }
@@ -110,46 +115,40 @@ pub fn copy(alloc: Global, run: &[&Layout], n: u64, from: u64, to: u64) -> Resul
 
 /// What was cut: the strips, and a plan for each track.
 fn cut_tracks(
-    alloc: Global,
+    planner: RunPlanner,
     run: &[&Layout],
     removing: Removing,
     from: u64,
     to: u64,
-    m: u32,
-    next: u64,
 ) -> Result<(Strips, Plans), NoMemory>
-    requires some { 0 < m }
-    requires half_full { runs.AllTracksHalfFull m (runs.layouts run.now) }
-    requires room { next ≤ 2 ^ 62 }
+    requires half_full { runs.AllTracksHalfFull planner.block_size (runs.layouts run.now) }
     requires rising { from ≤ to }
     ensures copies { IfOk result (λ v. runs.AreCopies from to (runs.layouts run.now) v.0) }
-    ensures plans { IfOk result (λ v. runs.AreCuts (removed removing from to) m next (runs.layouts run.now) v.1) }
+    ensures plans { IfOk result
+        (λ v. runs.AreCuts (removed removing from to) planner.block_size planner.next (runs.layouts run.now) v.1) }
 {
-    let strips = copy_each(alloc, run, from, to)?;
-    let plans = cut_each(alloc, run, removing, from, to, m, next)?;
+    let strips = copy_each(planner.alloc, run, from, to)?;
+    let plans = cut_each(planner, run, removing, from, to)?;
     Ok((strips, plans))
 }
 
 fn cut_range(
-    alloc: Global,
+    planner: RunPlanner,
     run: &[&Layout],
     removing: Removing,
     n: u64,
     from: u64,
     to: u64,
-    m: u32,
-    next: u64,
 ) -> Result<(Strips, Plans), Refusal>
-    requires some { 0 < m }
-    requires half_full { runs.AllTracksHalfFull m (runs.layouts run.now) }
-    requires room { next ≤ 2 ^ 62 }
+    requires half_full { runs.AllTracksHalfFull planner.block_size (runs.layouts run.now) }
     ensures copies { IfOk result (λ v. runs.AreCopies from to (take n (runs.layouts run.now)) v.0) }
     ensures plans { IfOk result
-        (λ v. runs.AreCuts (removed removing from to) m next (take n (runs.layouts run.now)) v.1) }
+        (λ v. runs.AreCuts (removed removing from to) planner.block_size planner.next
+        (take n (runs.layouts run.now)) v.1) }
     ensures tests { AnswersTest (runs.copy_tests (runs.layouts run.now) n from to) result }
 {
     copy_tests(run, n, from, to)?;
-    let cut = cut_tracks(alloc, &run[..n as usize], removing, from, to, m, next)?;
+    let cut = cut_tracks(planner, &run[..n as usize], removing, from, to)?;
     Ok(cut)
 }
 
@@ -174,7 +173,12 @@ pub fn cut(
     ensures plans { IfOk result (λ v. runs.AreCuts (edit.deleted from to) m next (take n (runs.layouts run.now)) v.1) }
     ensures tests { AnswersTest (runs.copy_tests (runs.layouts run.now) n from to) result }
 {
-    cut_range(alloc, run, Removing::Delete, n, from, to, m, next)
+    let planner = RunPlanner {
+        alloc,
+        block_size: m,
+        next,
+    };
+    cut_range(planner, run, Removing::Delete, n, from, to)
 }
 
 /// `copy`, and a split-delete of the range on each of the tracks.
@@ -199,30 +203,32 @@ pub fn split_cut(
         (λ v. runs.AreCuts (edit.split_deleted from to) m next (take n (runs.layouts run.now)) v.1) }
     ensures tests { AnswersTest (runs.copy_tests (runs.layouts run.now) n from to) result }
 {
-    cut_range(alloc, run, Removing::SplitDelete, n, from, to, m, next)
+    let planner = RunPlanner {
+        alloc,
+        block_size: m,
+        next,
+    };
+    cut_range(planner, run, Removing::SplitDelete, n, from, to)
 }
 
 /// Each strip put into the track that it goes to: the first into the first track of `run`, and so on.
 fn place(
-    alloc: Global,
+    planner: RunPlanner,
     run: &[&Layout],
     clip: &[Strip],
     placing: Placing,
     at: u64,
-    m: u32,
-    next: u64,
 ) -> Result<Plans, Refusal>
-    requires some { 0 < m }
-    requires half_full { runs.AllTracksHalfFull m (runs.layouts run.now) }
-    requires clips { runs.AreClips m clip.now }
-    requires room { next ≤ 2 ^ 62 }
+    requires half_full { runs.AllTracksHalfFull planner.block_size (runs.layouts run.now) }
+    requires clips { runs.AreClips planner.block_size clip.now }
     requires sums { SumsFit at clip.now (runs.layouts run.now) }
     ensures plans { IfOk result
-        (λ v. runs.ArePastes (placed placing at) m next clip.now (take (length clip.now) (runs.layouts run.now)) v) }
+        (λ v. runs.ArePastes (placed placing at) planner.block_size planner.next clip.now
+        (take (length clip.now) (runs.layouts run.now)) v) }
     ensures tests { AnswersTest (runs.paste_tests (placed_length placing at) clip.now (runs.layouts run.now)) result }
 {
     paste_tests(placing, at, clip, run)?;
-    let plans = paste_each(alloc, run, clip, placing, at, m, next)?;
+    let plans = paste_each(planner, run, clip, placing, at)?;
     Ok(plans)
 }
 
@@ -252,9 +258,14 @@ pub fn paste(
     ensures tests { AnswersTest
         (runs.clipboard_tests (inserted_length at) (option_copied clip.entry) (runs.layouts run.now)) result }
 {
+    let planner = RunPlanner {
+        alloc,
+        block_size: m,
+        next,
+    };
     match clip {
         None => Err(Refusal::EmptyClipboard),
-        Some(strips) => place(alloc, run, strips.as_slice(), Placing::Insert, at, m, next),
+        Some(strips) => place(planner, run, strips.as_slice(), Placing::Insert, at),
     }
 }
 
@@ -282,8 +293,13 @@ pub fn paste_over(
     ensures tests { AnswersTest
         (runs.clipboard_tests (covered_length at) (option_copied clip.entry) (runs.layouts run.now)) result }
 {
+    let planner = RunPlanner {
+        alloc,
+        block_size: m,
+        next,
+    };
     match clip {
         None => Err(Refusal::EmptyClipboard),
-        Some(strips) => place(alloc, run, strips.as_slice(), Placing::Cover, at, m, next),
+        Some(strips) => place(planner, run, strips.as_slice(), Placing::Cover, at),
     }
 }

@@ -12,7 +12,7 @@ use Rattle.edit_ops.proofs.placing.plan_placed.Goals as goal
 pub plan_strip-requires-clause-fit : goal.plan_strip-requires-clause-fit
 plan_strip-requires-clause-fit c =
     let w = c.in_ok-whole.ensures in
-    let m = c.args.m in
+    let m = c.args.planner.block_size in
     let h = c.requires.half_full in
     let t = tame_placed m _ c.args.placing c.args.at c.args.clip.now c.in_ok-whole.whole w.ok
     (tame_layout m c.args.t.now _ w.items (w.fit m h) (w.short m h) (w.smooth m h)) c.requires.clip in
@@ -21,7 +21,7 @@ plan_strip-requires-clause-fit c =
 pub returns : goal.returns
 returns c =
     let w = c.in_ok-whole.ensures in
-    let m = c.args.m in
+    let m = c.args.planner.block_size in
     let h = c.requires.half_full in
     let clip = c.args.clip.now in
     let old = layout_blocks c.args.t.now ++ strip_blocks clip in

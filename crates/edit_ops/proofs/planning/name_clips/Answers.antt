@@ -14,33 +14,33 @@ pub loop-clip-init : goal.loop-clip-init
 loop-clip-init c =
     let items = c.args.clips.items in
     let e = c.into_iter-clip-iterator.ensures.into_iter_gives.0 in
-    let n = count_laid_le c.args.m 0 0 items c.requires.some (omega arith) c.requires.apart in
+    let n = count_laid_le c.args.planner.block_size 0 0 items c.args.planner.some (omega arith) c.requires.apart in
     rw (e, c.new-out.ensures.items, c.new-makes.ensures.items) (record {
       can_next = tt;
       is_finite = tt;
-      each = AllLaid-from c.args.m 0 0 items c.requires.apart c.requires.few;
-      room = omega (arith, n, c.requires.few, c.requires.room);
+      each = AllLaid-from c.args.planner.block_size 0 0 items c.requires.apart c.requires.few;
+      room = omega (arith, n, c.requires.few, c.args.planner.room);
       all_clips = refl;
       all_makes = refl;
       same_next = refl;
     })
 
 -- the clip that was taken is laid out as it should be
-taken : (c : goal.In_ok-named) → AllLaid c.args.m (c.in-Some.clip ∷ into_iter_items c.next.new.self)
+taken : (c : goal.In_ok-named) → AllLaid c.args.planner.block_size (c.in-Some.clip ∷ into_iter_items c.next.new.self)
 taken c =
-    let P : List LaidClip → Type 0 = AllLaid c.args.m in
+    let P : List LaidClip → Type 0 = AllLaid c.args.planner.block_size in
     subst P c.in-Some.ensures.steps.0 c.loop-clip.invariant.each
 
 pub new-blocks-requires-clause-full : goal.new-blocks-requires-clause-full
 new-blocks-requires-clause-full c = rw c.in_ok-named.ensures.blocks (
-  c.args.m,
-  half_full_named c.args.m c.loop-clip.id c.in-Some.clip.laid.items (taken c).0,
+  c.args.planner.block_size,
+  half_full_named c.args.planner.block_size c.loop-clip.id c.in-Some.clip.laid.items (taken c).0,
 )
 
 pub new-blocks-requires-clause-none_empty : goal.new-blocks-requires-clause-none_empty
 new-blocks-requires-clause-none_empty c = rw c.in_ok-named.ensures.blocks (
-    none_empty c.args.m (named c.loop-clip.id c.in-Some.clip.laid.items) c.requires.some
-    (half_full_named c.args.m c.loop-clip.id c.in-Some.clip.laid.items (taken c).0))
+    none_empty c.args.planner.block_size (named c.loop-clip.id c.in-Some.clip.laid.items) c.args.planner.some
+    (half_full_named c.args.planner.block_size c.loop-clip.id c.in-Some.clip.laid.items (taken c).0))
 
 pub new-blocks-requires-clause-few : goal.new-blocks-requires-clause-few
 new-blocks-requires-clause-few c =
@@ -53,7 +53,7 @@ loop-clip-preserved c =
     let inv = c.loop-clip.invariant in
     let id = c.loop-clip.id in
     let ls = c.in-Some.clip.laid.items in
-    let P : List LaidClip → Type 0 = AllLaid c.args.m in
+    let P : List LaidClip → Type 0 = AllLaid c.args.planner.block_size in
     let n = ap laid.count_laid s in
     rw (
       c.in_ok-push.ensures.items,
@@ -80,8 +80,9 @@ loop-clip-preserved c =
 pub from_clips-requires : goal.from_clips-requires
 from_clips-requires c =
     let none : into_iter_items c.loop-clip.clip-iterator ≡ [] = grind (arith, common_steps) in
-    let e : c.loop-clip.out.items ≡ laid.named_clips c.args.next c.args.clips.items =
+    let e : c.loop-clip.out.items ≡ laid.named_clips c.args.planner.next c.args.clips.items =
     sym (append-nil c.loop-clip.out.items)
     ∙ ap (λ (xs : List LaidClip). c.loop-clip.out.items ++ laid.named_clips c.loop-clip.id xs) (sym none)
     ∙ c.loop-clip.invariant.all_clips in
-    rw e (IsLayout-named c.args.m c.args.next c.args.clips.items c.requires.some c.requires.apart c.requires.few)
+    rw e (IsLayout-named c.args.planner.block_size c.args.planner.next c.args.clips.items c.args.planner.some
+    c.requires.apart c.requires.few)

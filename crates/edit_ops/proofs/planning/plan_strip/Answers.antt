@@ -19,14 +19,14 @@ use Rattle.edit_ops.proofs.planning.plan_strip.Goals as goal
 pub returns-clause-plan : goal.returns-clause-plan
 returns-clause-plan c old count h =
     let clips = c.in_ok-clips.clips.items in
-    let next = c.args.next in
-    let m = c.args.m in
+    let next = c.args.planner.next in
+    let m = c.args.planner.block_size in
     let T : List Item → Type 0 = ItemsFrom old count in
     let f = c.in_ok-clips.ensures.origin old count (subst T (sym c.as_slice.ensures.value) h) in
     let named = c.in_ok-name_clips.ensures in
     record {
       half_full = rw named.layout (AllHalfFull-named m 0 next clips c.in_ok-clips.ensures.apart);
-      new = rw named.makes (AreNew-clips m 0 next clips c.requires.some c.in_ok-clips.ensures.apart);
+      new = rw named.makes (AreNew-clips m 0 next clips c.args.planner.some c.in_ok-clips.ensures.apart);
       origin = rw named.makes (AllNewFrom-clips old count next clips f);
       blocks = rw (named.makes, named.layout) (old_or_new_clips old count next clips f);
       next_id =
@@ -38,24 +38,26 @@ returns-clause-cells c src w =
     let clips = c.in_ok-clips.clips.items in
     let P : List NewBlock → Type 0 = AreWritten src in
     ap (layout_cells src) c.in_ok-name_clips.ensures.layout
-    ∙ cells_named src 0 c.args.next clips (subst P c.in_ok-name_clips.ensures.makes w)
+    ∙ cells_named src 0 c.args.planner.next clips (subst P c.in_ok-name_clips.ensures.makes w)
     ∙ c.in_ok-clips.ensures.cells src
     ∙ ap (λ xs. trimmed (strip_cells src xs)) c.as_slice.ensures.value
 
 pub returns-clause-few_made : goal.returns-clause-few_made
 returns-clause-few_made c h =
+    let m = c.args.planner.block_size in
     let clips = c.in_ok-clips.clips.items in
-    let T : List Item → Type 0 = ItemsShort c.args.m in
+    let T : List Item → Type 0 = ItemsShort m in
     let few = c.in_ok-clips.ensures.few_made (subst T (sym c.as_slice.ensures.value) h) in
-    let same = ap (rough_from c.args.m []) c.as_slice.ensures.value in
+    let same = ap (rough_from m []) c.as_slice.ensures.value in
     rw c.in_ok-name_clips.ensures.makes
-    (omega (arith, count_clips_new c.args.next clips, few, same, rough_from_le c.args.m c.args.strip.now))
+    (omega (arith, count_clips_new c.args.planner.next clips, few, same, rough_from_le m c.args.strip.now))
 
 pub returns-clause-few_samples : goal.returns-clause-few_samples
 returns-clause-few_samples c =
-    let m = c.args.m in
+    let m = c.args.planner.block_size in
     let clips = c.in_ok-clips.clips.items in
-    let e : length (clips_new_blocks c.args.next clips) ≡ made_clips clips = count_clips_new c.args.next clips in
+    let next = c.args.planner.next in
+    let e : length (clips_new_blocks next clips) ≡ made_clips clips = count_clips_new next clips in
     rw (c.in_ok-name_clips.ensures.makes, e) (omega (
       arith,
       c.in_ok-clips.ensures.few_samples,

@@ -18,8 +18,10 @@ use Rattle.clip_track.specs.Clips.{layout_blocks}
 use Rattle.edit_ops.proofs.plans.plan_with_change.Goals as goal
 
 pub plan_strip-requires-clause-fit : goal.plan_strip-requires-clause-fit
-plan_strip-requires-clause-fit c = rw c.in_ok-strip.ensures.items (fit_change c.args.m c.args.change c.args.from
-    c.args.to _ (c.in_ok-whole.ensures.fit c.args.m c.requires.half_full))
+plan_strip-requires-clause-fit c =
+    let m = c.args.planner.block_size in
+    rw c.in_ok-strip.ensures.items (fit_change m c.args.change c.args.from
+    c.args.to _ (c.in_ok-whole.ensures.fit m c.requires.half_full))
 
 pub returns-clause-plan : goal.returns-clause-plan
 returns-clause-plan c =
@@ -43,7 +45,7 @@ pub returns-clause-few_made : goal.returns-clause-few_made
 returns-clause-few_made c src =
     let w = c.in_ok-whole.ensures in
     let h = c.requires.half_full in
-    let m = c.args.m in
+    let m = c.args.planner.block_size in
     let from = c.args.from in
     let to = c.args.to in
     let whole = c.in_ok-whole.whole in
@@ -53,4 +55,4 @@ returns-clause-few_made c src =
     omega (arith, c.in_ok-plan_strip.ensures.few_samples, ap (strip_room m First true) c.in_ok-strip.ensures.items) in
     let P : List Cell → Type 0 =
     λ cells. k ≤ 8 + sample_count (part from to cells) / m + clip_count (part from to cells) in
-    subst P (w.cells src) (few_changed m k from to c.args.change src whole c.requires.some smooth few)
+    subst P (w.cells src) (few_changed m k from to c.args.change src whole c.args.planner.some smooth few)

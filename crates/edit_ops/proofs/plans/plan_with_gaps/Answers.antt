@@ -12,19 +12,21 @@ use Rattle.edit_ops.proofs.plans.plan_with_gaps.Goals as goal
 
 pub plan_strip-requires-clause-fit : goal.plan_strip-requires-clause-fit
 plan_strip-requires-clause-fit c =
+    let m = c.args.planner.block_size in
     let w = c.in_ok-whole.ensures in
     let h = c.requires.half_full in
-    let t = tame_with_gaps c.args.m _ c.args.from c.args.to c.in_ok-whole.whole w.ok
-    (tame_layout c.args.m c.args.t.now _ w.items (w.fit c.args.m h) (w.short c.args.m h) (w.smooth c.args.m h)) in
+    let t = tame_with_gaps m _ c.args.from c.args.to c.in_ok-whole.whole w.ok
+    (tame_layout m c.args.t.now _ w.items (w.fit m h) (w.short m h) (w.smooth m h)) in
     rw c.in_ok-strip.ensures.items t.fit
 
 pub returns-clause-plan : goal.returns-clause-plan
 returns-clause-plan c =
+    let m = c.args.planner.block_size in
     let w = c.in_ok-whole.ensures in
     let h = c.requires.half_full in
-    let t = tame_with_gaps c.args.m _ c.args.from c.args.to c.in_ok-whole.whole w.ok
-    (tame_layout c.args.m c.args.t.now _ w.items (w.fit c.args.m h) (w.short c.args.m h) (w.smooth c.args.m h)) in
-    let P : List Item → Type 0 = Tame c.args.m (layout_blocks c.args.t.now) 2 in
+    let t = tame_with_gaps m _ c.args.from c.args.to c.in_ok-whole.whole w.ok
+    (tame_layout m c.args.t.now _ w.items (w.fit m h) (w.short m h) (w.smooth m h)) in
+    let P : List Item → Type 0 = Tame m (layout_blocks c.args.t.now) 2 in
     c.in_ok-plan_strip.ensures.plan (layout_blocks c.args.t.now) 0 (subst P (sym c.in_ok-strip.ensures.items) t).origin
 
 pub returns-clause-cells : goal.returns-clause-cells
@@ -37,10 +39,11 @@ returns-clause-cells c src w =
 
 pub returns-clause-few_made : goal.returns-clause-few_made
 returns-clause-few_made c =
+    let m = c.args.planner.block_size in
     let w = c.in_ok-whole.ensures in
     let h = c.requires.half_full in
-    let t = tame_with_gaps c.args.m _ c.args.from c.args.to c.in_ok-whole.whole w.ok
-    (tame_layout c.args.m c.args.t.now _ w.items (w.fit c.args.m h) (w.short c.args.m h) (w.smooth c.args.m h)) in
-    let P : List Item → Type 0 = Tame c.args.m (layout_blocks c.args.t.now) 2 in
+    let t = tame_with_gaps m _ c.args.from c.args.to c.in_ok-whole.whole w.ok
+    (tame_layout m c.args.t.now _ w.items (w.fit m h) (w.short m h) (w.smooth m h)) in
+    let P : List Item → Type 0 = Tame m (layout_blocks c.args.t.now) 2 in
     let s = subst P (sym c.in_ok-strip.ensures.items) t in
     omega (arith, c.in_ok-plan_strip.ensures.few_made s.short, s.few_rough)

@@ -20,10 +20,11 @@ with_inserted-requires c =
 
 pub plan_strip-requires-clause-fit : goal.plan_strip-requires-clause-fit
 plan_strip-requires-clause-fit c =
-    let P : List Item → Type 0 = ItemsFit c.args.m in
+    let m = c.args.planner.block_size in
+    let P : List Item → Type 0 = ItemsFit m in
     rw c.in_ok-strip.ensures.items
-    (fit_inserted c.args.m c.args.at _ _ (c.in_ok-whole.ensures.fit c.args.m c.requires.half_full)
-    (subst P (sym c.in_ok-given.ensures) (given_fit c.args.m c.args.count)))
+    (fit_inserted m c.args.at _ _ (c.in_ok-whole.ensures.fit m c.requires.half_full)
+    (subst P (sym c.in_ok-given.ensures) (given_fit m c.args.count)))
 
 pub plan_strip-requires-clause-few : goal.plan_strip-requires-clause-few
 plan_strip-requires-clause-few c =
@@ -54,7 +55,7 @@ pub returns-clause-few_made : goal.returns-clause-few_made
 returns-clause-few_made c =
     let w = c.in_ok-whole.ensures in
     let h = c.requires.half_full in
-    let m = c.args.m in
+    let m = c.args.planner.block_size in
     let whole = c.in_ok-whole.whole in
     let k = length c.in_ok-plan_strip.field-0.makes in
     let smooth : Smooth m whole = record { items_ok = w.ok; short = w.short m h; smooth = w.smooth m h } in
@@ -62,4 +63,4 @@ returns-clause-few_made c =
     c.in_ok-strip.ensures.items ∙ ap (λ (ys : List Item). with_inserted c.args.at ys whole) c.in_ok-given.ensures in
     let few : m * k ≤ strip_room m First true (with_inserted c.args.at (given_items c.args.count) whole) =
     omega (arith, c.in_ok-plan_strip.ensures.few_samples, ap (strip_room m First true) same) in
-    few_inserted m k c.args.count c.args.at whole c.requires.some smooth few
+    few_inserted m k c.args.count c.args.at whole c.args.planner.some smooth few

@@ -9,16 +9,16 @@ use Rattle.edit_ops.proofs.runs.cut_each.Goals as goal
 
 pub plan_removal-requires-clause-half_full : goal.plan_removal-requires-clause-half_full
 plan_removal-requires-clause-half_full c =
-    let P : List Clip → Type 0 = AllHalfFull c.args.m in
+    let P : List Clip → Type 0 = AllHalfFull c.args.planner.block_size in
     let run = c.args.run.now in
     let t = c.t-item.result in
     let i = c.loop-t.t-index in
     subst P (sym (layouts_at run i t c.loop-t-test.true c.t-item.is))
-    (half_full_at c.args.m (layouts run) i t.now
+    (half_full_at c.args.planner.block_size (layouts run) i t.now
     (omega (arith, length-layouts run, c.loop-t-test.true)) c.requires.half_full)
 
-pub plan_removal-requires-clause-room : goal.plan_removal-requires-clause-room
-plan_removal-requires-clause-room c =
+pub invariant_of-here-clause-room : goal.invariant_of-here-clause-room
+invariant_of-here-clause-room c =
     omega (arith, c.in_ok-plans.plans.small, c.in_ok-plans.ensures.exact, c.loop-t-test.true, c.loop-t.invariant.few)
 
 pub loop-t-preserved : goal.loop-t-preserved
@@ -29,13 +29,15 @@ loop-t-preserved c =
     let p = c.in_ok-plan.plan in
     let plans = c.loop-t.plans.items in
     let edit = removed c.args.removing c.args.from c.args.to in
+    let m = c.args.planner.block_size in
+    let next = c.args.planner.next in
     let inv = c.loop-t.invariant in
     let e = layouts_more run i c.t-item.result c.loop-t-test.true c.t-item.is in
-    let P : List (List Clip) → Type 0 = λ ts. AreCuts edit c.args.m c.args.next ts (plans ++ p ∷ []) in
-    let Q : ℕ → Type 0 = λ n. IsCut edit c.args.m n t p in
+    let P : List (List Clip) → Type 0 = λ ts. AreCuts edit m next ts (plans ++ p ∷ []) in
+    let Q : ℕ → Type 0 = λ n. IsCut edit m n t p in
     rw c.in_ok-push.ensures.items (record {
-      cuts = subst P (sym e) (AreCuts-push edit c.args.m c.args.next (take i (layouts run)) plans t p inv.cuts
+      cuts = subst P (sym e) (AreCuts-push edit m next (take i (layouts run)) plans t p inv.cuts
           (subst Q inv.same_id c.in_ok-plan.ensures));
-      same_id = sym (next_of-push c.args.next plans p);
+      same_id = sym (next_of-push next plans p);
       few = omega (arith, inv.few, c.in_ok-plan.ensures.plan.next_id, c.in_ok-plan.ensures.few_made);
     })

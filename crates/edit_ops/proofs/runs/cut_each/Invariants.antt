@@ -6,7 +6,8 @@ use Rattle.edit_ops.proofs.runs.cut_each.Given as goal
 
 abbrev pub invariant-loop-t : goal.invariant-loop-t
 invariant-loop-t l = record {
-  cuts : runs.AreCuts (removed l.removing l.from l.to) l.m l.next (take l.t-index (runs.layouts l.run)) l.plans.items;
-  same_id : l.id ≡ runs.next_of l.next l.plans.items;
-  few : l.id ≤ l.next + 8 * l.t-index;
+  cuts : runs.AreCuts (removed l.removing l.from l.to) l.planner.block_size l.planner.next
+      (take l.t-index (runs.layouts l.run)) l.plans.items;
+  same_id : l.id ≡ runs.next_of l.planner.next l.plans.items;
+  few : l.id ≤ l.planner.next + 8 * l.t-index;
 }

@@ -8,9 +8,9 @@ use Rattle.edit_ops.proofs.runs.cut_range.Goals as goal
 
 pub cut_tracks-requires-clause-half_full : goal.cut_tracks-requires-clause-half_full
 cut_tracks-requires-clause-half_full c =
-    let P : List (List Clip) → Type 0 = AllTracksHalfFull c.args.m in
+    let P : List (List Clip) → Type 0 = AllTracksHalfFull c.args.planner.block_size in
     subst P (sym (layouts_take c.args.n c.args.run.now))
-    (half_full_take c.args.m c.args.n (layouts c.args.run.now) c.requires.half_full)
+    (half_full_take c.args.planner.block_size c.args.n (layouts c.args.run.now) c.requires.half_full)
 
 pub returns-clause-copies : goal.returns-clause-copies
 returns-clause-copies c =
@@ -19,5 +19,6 @@ returns-clause-copies c =
 
 pub returns-clause-plans : goal.returns-clause-plans
 returns-clause-plans c =
-    subst (λ (ts : List (List Clip)). AreCuts (removed c.args.removing c.args.from c.args.to) c.args.m c.args.next ts
-    c.in_ok-cut.cut.1) (layouts_take c.args.n c.args.run.now) c.in_ok-cut.ensures.plans
+    subst (λ (ts : List (List Clip)). AreCuts (removed c.args.removing c.args.from c.args.to)
+    c.args.planner.block_size c.args.planner.next ts c.in_ok-cut.cut.1)
+    (layouts_take c.args.n c.args.run.now) c.in_ok-cut.ensures.plans

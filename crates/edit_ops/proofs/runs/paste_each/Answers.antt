@@ -14,17 +14,18 @@ use Rattle.edit_ops.proofs.runs.paste_each.Goals as goal
 
 pub plan_placed-requires-clause-half_full : goal.plan_placed-requires-clause-half_full
 plan_placed-requires-clause-half_full c =
-    let P : List Clip → Type 0 = AllHalfFull c.args.m in
+    let P : List Clip → Type 0 = AllHalfFull c.args.planner.block_size in
     let run = c.args.run.now in
     let t = c.index-run-i.result in
     subst P (sym (layouts_at run c.loop-i.i t (omega arith) c.index-run-i.is))
-    (half_full_at c.args.m (layouts run) c.loop-i.i t.now (omega (arith, length-layouts run)) c.requires.half_full)
+    (half_full_at c.args.planner.block_size (layouts run) c.loop-i.i t.now (omega (arith, length-layouts run))
+    c.requires.half_full)
 
 pub plan_placed-requires-clause-clip : goal.plan_placed-requires-clause-clip
 plan_placed-requires-clause-clip c =
-    let P : List Item → Type 0 = IsClip c.args.m in
+    let P : List Item → Type 0 = IsClip c.args.planner.block_size in
     subst P (sym c.index-clip-i.is)
-    (clip_at c.args.m c.args.clip.now c.loop-i.i c.index-clip-i.result (omega arith) c.requires.clips)
+    (clip_at c.args.planner.block_size c.args.clip.now c.loop-i.i c.index-clip-i.result (omega arith) c.requires.clips)
 
 pub plan_placed-requires-clause-few : goal.plan_placed-requires-clause-few
 plan_placed-requires-clause-few c =
@@ -36,8 +37,8 @@ plan_placed-requires-clause-few c =
     c.index-clip-i.is (layouts_at run c.loop-i.i t (omega arith) c.index-run-i.is) in
     omega (arith, f, e)
 
-pub plan_placed-requires-clause-room : goal.plan_placed-requires-clause-room
-plan_placed-requires-clause-room c = omega arith
+pub invariant_of-here-clause-room : goal.invariant_of-here-clause-room
+invariant_of-here-clause-room c = omega arith
 
 pub loop-i-preserved : goal.loop-i-preserved
 loop-i-preserved c =
@@ -49,16 +50,18 @@ loop-i-preserved c =
     let p = c.in_ok-plan.plan in
     let plans = c.loop-i.plans.items in
     let edit = placed c.args.placing c.args.at in
+    let m = c.args.planner.block_size in
+    let next = c.args.planner.next in
     let inv = c.loop-i.invariant in
     let h : i < length clip = omega arith in
     let k : i < length run = omega arith in
     let e = layouts_more run i c.index-run-i.result k c.index-run-i.is in
     let f : take (i + 1) clip ≡ take i clip ++ s ∷ [] =
     take_more clip i s h ∙ ap (λ (x : List Item). take i clip ++ x ∷ []) (sym c.index-clip-i.is) in
-    let Q : ℕ → Type 0 = λ n. IsPaste edit c.args.m n s t p in
+    let Q : ℕ → Type 0 = λ n. IsPaste edit m n s t p in
     rw (c.in_ok-push.ensures.items, e, f) (record {
-      pastes = ArePastes-push edit c.args.m c.args.next (take i clip) (take i (layouts run)) plans s t p inv.pastes
+      pastes = ArePastes-push edit m next (take i clip) (take i (layouts run)) plans s t p inv.pastes
           (subst Q inv.same_id c.in_ok-plan.ensures);
-      same_id = sym (next_of-push c.args.next plans p);
+      same_id = sym (next_of-push next plans p);
       few = omega (arith, inv.few, c.in_ok-plan.ensures.plan.next_id, c.in_ok-plan.ensures.few_made);
     })

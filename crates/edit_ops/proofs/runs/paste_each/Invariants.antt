@@ -6,8 +6,8 @@ use Rattle.edit_ops.proofs.runs.paste_each.Given as goal
 
 abbrev pub invariant-loop-i : goal.invariant-loop-i
 invariant-loop-i l = record {
-  pastes : runs.ArePastes (placed l.placing l.at) l.m l.next (take l.i l.clip)
+  pastes : runs.ArePastes (placed l.placing l.at) l.planner.block_size l.planner.next (take l.i l.clip)
       (take l.i (runs.layouts l.run)) l.plans.items;
-  same_id : l.id ≡ runs.next_of l.next l.plans.items;
-  few : l.id ≤ l.next + 8 * l.i;
+  same_id : l.id ≡ runs.next_of l.planner.next l.plans.items;
+  few : l.id ≤ l.planner.next + 8 * l.i;
 }
