@@ -13,7 +13,7 @@ use Rattle.pin_turn.specs.Rule.{Took, ByOthers, IsNewNumber, compared}
 use Rattle.pin_turn.specs.Calls.{FitsTurn, Begins}
 use Rattle.pin_turn.specs.Counts.{times, without, longer, shorter, of_shorter}
 use Rattle.pin_turn.proofs.Sums.{sorted_cases, whole_if_long, without_last, times_last}
-use Rattle.pin_turn.specs.Calls.{TookTurn}
+use Rattle.pin_turn.specs.Calls.{TookTurn, addition, called_as, meaning}
 
 -- the value in the slot that was taken last
 abbrev held_or : {S : Type 0} → S → List (ℕ × S) → S
@@ -35,7 +35,7 @@ module _ {T E : Type 0} where
       (room : n < 2 ^ 63) (bare : m0.1 ≡ []) (from_start : m0.0.start ≡ Some start) (took : Took stands maker m0 n m1)
       (out : m1.1 ≡ (0, x) ∷ []) (e2 : m2 ≡ (m1.0, (0, None) ∷ [])) (is : x ≡ Some value)
       (called : CalledAtMut G f value r f' value') (e3 : m3 ≡ (m2.0, (0, Some value') ∷ []))
-      (fits : FitsTurn stands maker start m0.0 G f added) where
+      (fits : FitsTurn (meaning stands maker start) m0.0 G f added) where
     same_value : took.value ≡ value
     same_value = let h : Some took.value ≡ x = ap (held_or x) (sym took.hand ∙ out) in cc
 
@@ -65,7 +65,8 @@ module _ {T E : Type 0} where
 
     pub turned : (w : View T E)
         → w ≡ record m3.0 { seen = m3.0.seen ++ added r f'; mine = m3.0.mine ++ length m3.0.seen ∷ []; stage = Resting }
-        → m0.0.stage ≡ Resting → TookTurn stands maker start m0.0 G f (added r f') r f' w
+        → m0.0.stage ≡ Resting
+        → TookTurn (meaning stands maker start) G (called_as f r f') (addition m0.0 (added r f') w)
     turned w e sits = record {
       between = took.between;
       by_others = took.by_others;

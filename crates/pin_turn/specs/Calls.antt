@@ -11,6 +11,34 @@ use Rattle.pin_turn.specs.Rule.{ByOthers}
 abbrev pub TakesAtMut : {F A R : Type 0} → Mut F (MutBor A × Unit {0}) (R × (MutBor A × Unit {0})) → F → A → Type 0
 TakesAtMut {F} {A} g f x = (y : MutBor A) → y.now ≡ x → Takes g f (y, tt)
 
+-- which lists of entries a value stands for from a start on, which seat made an entry, and the value with which a turn
+-- began
+pub record Meaning (T E : Type 0) : Type 1 where
+  pub stands : T → T → List E → Type 0
+  pub maker : E → ℕ
+  pub start : T
+
+-- a closure before a call and behind it, and what it returned
+pub record Called (F R : Type 0) : Type 0 where
+  pub before : F
+  pub after : F
+  pub result : R
+
+-- what a seat knew before a turn, the entries that the turn added, and what the seat knows behind it
+pub record Addition (T E : Type 0) : Type 0 where
+  pub before : View T E
+  pub added : List E
+  pub after : View T E
+
+abbrev pub meaning : {T E : Type 0} → (T → T → List E → Type 0) → (E → ℕ) → T → Meaning T E
+meaning stands maker start = record { stands = stands; maker = maker; start = start }
+
+abbrev pub called_as : {F R : Type 0} → F → R → F → Called F R
+called_as before result after = record { before = before; after = after; result = result }
+
+abbrev pub addition : {T E : Type 0} → View T E → List E → View T E → Addition T E
+addition before added after = record { before = before; added = added; after = after }
+
 module _ {T E : Type 0} where
   -- what the seat knows
   abbrev pub known : Seat T E → View T E
@@ -32,26 +60,28 @@ module _ {T E : Type 0} where
 
   -- f fits a turn of the seat: it may be called at each value that stands for what the seat has seen and for more
   -- entries of others, and then leaves one that stands for that list and one entry of the seat's
-  pub record FitsTurn {F R : Type 0} (stands : T → T → List E → Type 0) (maker : E → ℕ) (start : T) (v : View T E)
+  pub record FitsTurn {F R : Type 0} (m : Meaning T E) (v : View T E)
       (g : Mut F (MutBor T × Unit {0}) (R × (MutBor T × Unit {0}))) (f : F) (added : R → F → List E) : Type 0 where
-    pub may : (more : List E) (x : T) → ByOthers maker (v.number ∷ []) more → length (v.seen ++ more) < 2 ^ 62
-        → stands start x (v.seen ++ more) → TakesAtMut g f x
-    pub leaves : (more : List E) (x : T) → ByOthers maker (v.number ∷ []) more → length (v.seen ++ more) < 2 ^ 62
-        → stands start x (v.seen ++ more) → (r : R) (f' : F) (x' : T) → CalledAtMut g f x r f' x'
-        → stands start x' ((v.seen ++ more) ++ added r f')
-    pub by_seat : (r : R) (f' : F) → (e : E) × (added r f' ≡ e ∷ []) × (maker e ≡ v.number)
+    pub may : (more : List E) (x : T) → ByOthers m.maker (v.number ∷ []) more → length (v.seen ++ more) < 2 ^ 62
+        → m.stands m.start x (v.seen ++ more) → TakesAtMut g f x
+    pub leaves : (more : List E) (x : T) → ByOthers m.maker (v.number ∷ []) more → length (v.seen ++ more) < 2 ^ 62
+        → m.stands m.start x (v.seen ++ more) → (r : R) (f' : F) (x' : T) → CalledAtMut g f x r f' x'
+        → m.stands m.start x' ((v.seen ++ more) ++ added r f')
+    pub by_seat : (r : R) (f' : F) → (e : E) × (added r f' ≡ e ∷ []) × (m.maker e ≡ v.number)
 
   -- a turn was taken: f was called once, at a value that stood for what the seat had seen and for entries of others,
   -- and then one entry of the seat's was added
-  pub record TookTurn {F R : Type 0} (stands : T → T → List E → Type 0) (maker : E → ℕ) (start : T) (v : View T E)
-      (g : Mut F (MutBor T × Unit {0}) (R × (MutBor T × Unit {0}))) (f : F) (added : List E) (r : R) (f' : F)
-      (w : View T E) : Type 0 where
+  pub record TookTurn {F R : Type 0} (m : Meaning T E) (g : Mut F (MutBor T × Unit {0}) (R × (MutBor T × Unit {0})))
+      (f : Called F R) (seat : Addition T E) : Type 0 where
     pub between : List E
-    pub by_others : ByOthers maker (v.number ∷ []) between
+    pub by_others : ByOthers m.maker (seat.before.number ∷ []) between
     pub value : T
     pub value' : T
-    pub few : length (v.seen ++ between) < 2 ^ 62
-    pub unspent : v.used_up ≡ false
-    pub stood : stands start value (v.seen ++ between)
-    pub called : CalledAtMut g f value r f' value'
-    pub view : w ≡ record v { seen = (v.seen ++ between) ++ added; mine = v.mine ++ length (v.seen ++ between) ∷ [] }
+    pub few : length (seat.before.seen ++ between) < 2 ^ 62
+    pub unspent : seat.before.used_up ≡ false
+    pub stood : m.stands m.start value (seat.before.seen ++ between)
+    pub called : CalledAtMut g f.before value f.result f.after value'
+    pub view : seat.after ≡ record seat.before {
+      seen = (seat.before.seen ++ between) ++ seat.added;
+      mine = seat.before.mine ++ length (seat.before.seen ++ between) ∷ [];
+    }

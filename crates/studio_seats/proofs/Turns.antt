@@ -13,7 +13,7 @@ use Rattle.disk_model.specs.declared.store.Store.{Ghosts}
 use Rattle.edit_ports.specs.declared.vault.Vault as vault
 use Rattle.pin_turn.specs.declared.view.Spent.{Spent}
 use Rattle.pin_turn.specs.declared.view.View.{View}
-use Rattle.pin_turn.specs.Calls.{TakesAtMut, FitsTurn, TookTurn}
+use Rattle.pin_turn.specs.Calls.{TakesAtMut, FitsTurn, TookTurn, addition, called_as, meaning}
 use Rattle.pin_turn.specs.Rule.{ByOthers}
 use Rattle.editor_core.specs.Core.{Core, core_of}
 use Rattle.editor_core.specs.Studios.{IsStudio}
@@ -51,7 +51,8 @@ module _ {D V : Type 0} (disk : Ghosts D) (vaults : vault.Ghosts V) where
         → HeldFor disk vaults start x (v.seen ++ more) → TakesAtMut g f x)
         → ((s : Said A) (f' : F) (x x' : Held D V) (called : CalledAtMut g f x s f' x')
         → Does disk (AllTell vaults) (core called.shown.now) call (what s f') (sound f') (core called.left.now))
-        → FitsTurn (HeldFor disk vaults) actor_of start v g f (λ s f'. deed v.number call (what s f') (sound f') ∷ [])
+        → FitsTurn (meaning (HeldFor disk vaults) actor_of start) v g f
+        (λ s f'. deed v.number call (what s f') (sound f') ∷ [])
     fits may does = record {
       may = λ more x others few stood. may more x others stood;
       leaves = λ more x others few stood s f' x' called.
@@ -72,8 +73,8 @@ module _ {D V : Type 0} (disk : Ghosts D) (vaults : vault.Ghosts V) where
 
     turned : (s : Said A) (f' : F) (w : View (Held D V) Deed) (said_what : Said A → Result Reply Refusal)
         (said_sound : SoundMove)
-        (took : TookTurn (HeldFor disk vaults) actor_of start v g f
-        (deed v.number call (what s f') (sound f') ∷ []) s f' w)
+        (took : TookTurn (meaning (HeldFor disk vaults) actor_of start) g (called_as f s f')
+        (addition v (deed v.number call (what s f') (sound f') ∷ []) w))
         → Called f' s took.called.shown.now took.called.left.now said_what said_sound
         → Turned disk vaults (core start) v call (said_what s) said_sound s.at w
     turned s f' w said_what said_sound took at =
@@ -98,8 +99,9 @@ module _ {D V : Type 0} (disk : Ghosts D) (vaults : vault.Ghosts V) where
     -- what the seat then says
     pub says : (f' : F) (said_what : Said A → Result Reply Refusal) (said_sound : SoundMove) (w : View (Held D V) Deed)
         (result : Result (Said A) Spent) (said : Said A)
-        → MatchResult result (λ s. TookTurn (HeldFor disk vaults) actor_of start v g f
-        (deed v.number call (what s f') (sound f') ∷ []) s f' w) (λ _. (w ≡ record v { used_up = true }) × (f' ≡ f))
+        → MatchResult result (λ s. TookTurn (meaning (HeldFor disk vaults) actor_of start) g (called_as f s f')
+        (addition v (deed v.number call (what s f') (sound f') ∷ []) w))
+        (λ _. (w ≡ record v { used_up = true }) × (f' ≡ f))
         → MatchResult result (λ s. said ≡ s) (λ _. (said.at ≡ 0) × (said.what ≡ Err spent))
         → ((s : Said A) (x x' : Held D V) (called : CalledAtMut g f x s f' x')
         → Called f' s called.shown.now called.left.now said_what said_sound)
@@ -112,8 +114,9 @@ module _ {D V : Type 0} (disk : Ghosts D) (vaults : vault.Ghosts V) where
     -- a fact of the call, where the turn was taken
     pub if_taken : (f' : F) (w : View (Held D V) Deed) (result : Result (Said A) Spent) (said : Said A)
         (P : Said A → Type 0)
-        → MatchResult result (λ s. TookTurn (HeldFor disk vaults) actor_of start v g f
-        (deed v.number call (what s f') (sound f') ∷ []) s f' w) (λ _. (w ≡ record v { used_up = true }) × (f' ≡ f))
+        → MatchResult result (λ s. TookTurn (meaning (HeldFor disk vaults) actor_of start) g (called_as f s f')
+        (addition v (deed v.number call (what s f') (sound f') ∷ []) w))
+        (λ _. (w ≡ record v { used_up = true }) × (f' ≡ f))
         → MatchResult result (λ s. said ≡ s) (λ _. (said.at ≡ 0) × (said.what ≡ Err spent))
         → ((s : Said A) (x x' : Held D V) (called : CalledAtMut g f x s f' x') → P s)
         → w.used_up ≡ false → P said
@@ -123,8 +126,9 @@ module _ {D V : Type 0} (disk : Ghosts D) (vaults : vault.Ghosts V) where
 
     -- and where there was none, the closure is as it was
     pub if_spent : (f' : F) (w : View (Held D V) Deed) (result : Result (Said A) Spent) (said : Said A)
-        → MatchResult result (λ s. TookTurn (HeldFor disk vaults) actor_of start v g f
-        (deed v.number call (what s f') (sound f') ∷ []) s f' w) (λ _. (w ≡ record v { used_up = true }) × (f' ≡ f))
+        → MatchResult result (λ s. TookTurn (meaning (HeldFor disk vaults) actor_of start) g (called_as f s f')
+        (addition v (deed v.number call (what s f') (sound f') ∷ []) w))
+        (λ _. (w ≡ record v { used_up = true }) × (f' ≡ f))
         → MatchResult result (λ s. said ≡ s) (λ _. (said.at ≡ 0) × (said.what ≡ Err spent))
         → w.used_up ≡ true → f' ≡ f
     if_spent f' w (Ok s) said took same used =
@@ -133,8 +137,9 @@ module _ {D V : Type 0} (disk : Ghosts D) (vaults : vault.Ghosts V) where
 
     -- taken or not
     pub either_way : (f' : F) (w : View (Held D V) Deed) (result : Result (Said A) Spent) (P : Type 0)
-        → MatchResult result (λ s. TookTurn (HeldFor disk vaults) actor_of start v g f
-        (deed v.number call (what s f') (sound f') ∷ []) s f' w) (λ _. (w ≡ record v { used_up = true }) × (f' ≡ f))
+        → MatchResult result (λ s. TookTurn (meaning (HeldFor disk vaults) actor_of start) g (called_as f s f')
+        (addition v (deed v.number call (what s f') (sound f') ∷ []) w))
+        (λ _. (w ≡ record v { used_up = true }) × (f' ≡ f))
         → (f' ≡ f → P) → ((s : Said A) (x x' : Held D V) (called : CalledAtMut g f x s f' x') → P) → P
     either_way f' w (Ok s) P took still met = met s took.value took.value' took.called
     either_way f' w (Err y) P h still met = still h.1

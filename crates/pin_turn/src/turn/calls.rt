@@ -3,7 +3,7 @@ ghost use Rattle.std.specs.Prelude.{◌≡◌, ◌⊎◌, ℕ, ◌<◌, ◌^◌,
 ghost use Rattle.pin_turn.specs.Counts.{times, once_below};
 ghost use Rattle.pin_turn.specs.Views.{first_view, joined};
 ghost use Rattle.pin_turn.specs.Rule.{IsNewNumber};
-ghost use Rattle.pin_turn.specs.Calls.{known, start_of, IsOf, Begins, FitsTurn, TookTurn};
+ghost use Rattle.pin_turn.specs.Calls.{known, start_of, IsOf, Begins, FitsTurn, TookTurn, addition, called_as, meaning};
 
 use super::Turn;
 use crate::plays::{Compare, DrawNumber, SplitOff, TakeIn};
@@ -113,12 +113,12 @@ impl<T: Stands> Turn<T> {
         f: &mut F,
     ) -> Result<R, Spent>
         requires seat { IsOf self.now seat.old }
-        requires fits { FitsTurn T.stands T.maker (start_of self.now) (known seat.old)
+        requires fits { FitsTurn (meaning T.stands T.maker (start_of self.now)) (known seat.old)
             F.FnMut f.old J.added }
         ensures same { IsOf self.now seat.new }
         ensures turned { MatchResult result
-            (λ r. TookTurn T.stands T.maker (start_of self.now) (known seat.old)
-            F.FnMut f.old (J.added r f.new) r f.new (known seat.new))
+            (λ r. TookTurn (meaning T.stands T.maker (start_of self.now)) F.FnMut (called_as f.old r f.new)
+            (addition (known seat.old) (J.added r f.new) (known seat.new)))
             (λ _. (known seat.new ≡ record (known seat.old) { used_up = true })
             × (f.new ≡ f.old)) }
     {
