@@ -88,7 +88,8 @@ module _ {D : Type 0} (disk : Ghosts D) where
       let told : first_fault j.block_size (new_project j.depth) j.records ≡ Some d =
       ap (first_fault j.block_size (new_project j.depth)) all.records
       ∙ ap (λ (k : ℕ). first_fault k (new_project j.depth) ((so.records ++ r ∷ []) ++ all.more)) (all.block_size ∙ size)
-      ∙ ap (λ (k : ℕ). first_fault m (new_project k) ((so.records ++ r ∷ []) ++ all.more)) (all.depth ∙ deep) ∙ fault in (
+      ∙ ap (λ (k : ℕ). first_fault m (new_project k) ((so.records ++ r ∷ []) ++ all.more)) (all.depth ∙ deep)
+      ∙ fault in (
         j,
         record {
           bytes = reading.bytes;
