@@ -23,5 +23,6 @@ mod tests;
 mod types;
 
 pub use one_track::{delete, gain, insert, silence, split_delete, trim};
+pub use planner::{Planner, RunPlanner};
 pub use runs::{copy, cut, paste, paste_over, split_cut};
 pub use types::{NewBlock, NewBlocks, Plan, Plans, Strips};

@@ -16,7 +16,6 @@ use super::refusals::{length, range};
 use super::types::Plan;
 use clip_track::Layout;
 use pcm_base::Refusal;
-use std::alloc::Global;
 
 /// Puts the `count` samples that the command brings in at a place; a track that is shorter is first continued by
 /// gaps.
@@ -24,30 +23,16 @@ use std::alloc::Global;
 /// # Errors
 ///
 /// `LengthLimit` where the track would have more than 2^32 cells; else `NoMemory` where there is none for the plan.
-pub fn insert(
-    alloc: Global,
-    t: &Layout,
-    at: u64,
-    count: u64,
-    m: u32,
-    next: u64,
-) -> Result<Plan, Refusal>
-    requires some { 0 < m }
-    requires half_full { AllHalfFull m t.now }
-    requires room { next ≤ 2 ^ 62 }
+pub fn insert(planner: Planner, t: &Layout, at: u64, count: u64) -> Result<Plan, Refusal>
+    requires half_full { AllHalfFull planner.block_size t.now }
     requires sum { at + count + end_of 0 t.now < 2 ^ 64 }
-    ensures plan { IfOk result (λ p. IsPlan m next (layout_blocks t.now) count p) }
+    ensures plan { IfOk result (λ p. IsPlan planner.block_size planner.next (layout_blocks t.now) count p) }
     ensures cells { IfOk result
         (λ p. Means (λ src. edit.inserted at (edit.as_cells (stretch src.given 0 count))) t.now p) }
-    ensures few_made { IfOk result (λ p. length p.makes ≤ 8 + count / m) }
+    ensures few_made { IfOk result (λ p. length p.makes ≤ 8 + count / planner.block_size) }
     ensures tests { AnswersTest (length_limit (inserted_length at count (end_of 0 t.now) ∷ [])) result }
 {
     length(t.len().max(at) + count)?;
-    let planner = Planner {
-        alloc,
-        block_size: m,
-        next,
-    };
     let plan = plan_with_given(planner, t, at, count)?;
     Ok(plan)
 }
@@ -57,28 +42,14 @@ pub fn insert(
 /// # Errors
 ///
 /// `BadRange` where not `from < to <= t.len()`; else `NoMemory` where there is none for the plan.
-pub fn delete(
-    alloc: Global,
-    t: &Layout,
-    from: u64,
-    to: u64,
-    m: u32,
-    next: u64,
-) -> Result<Plan, Refusal>
-    requires some { 0 < m }
-    requires half_full { AllHalfFull m t.now }
-    requires room { next ≤ 2 ^ 62 }
-    ensures plan { IfOk result (λ p. IsPlan m next (layout_blocks t.now) 0 p) }
+pub fn delete(planner: Planner, t: &Layout, from: u64, to: u64) -> Result<Plan, Refusal>
+    requires half_full { AllHalfFull planner.block_size t.now }
+    ensures plan { IfOk result (λ p. IsPlan planner.block_size planner.next (layout_blocks t.now) 0 p) }
     ensures cells { IfOk result (λ p. Means (λ src. edit.deleted from to) t.now p) }
     ensures few_made { IfOk result (λ p. length p.makes ≤ 8) }
     ensures tests { AnswersTest (bad_range from to (end_of 0 t.now)) result }
 {
     range(from, to, t.len())?;
-    let planner = Planner {
-        alloc,
-        block_size: m,
-        next,
-    };
     let plan = plan_without(planner, t, from, to)?;
     Ok(plan)
 }
@@ -88,28 +59,14 @@ pub fn delete(
 /// # Errors
 ///
 /// `BadRange` where not `from < to <= t.len()`; else `NoMemory` where there is none for the plan.
-pub fn split_delete(
-    alloc: Global,
-    t: &Layout,
-    from: u64,
-    to: u64,
-    m: u32,
-    next: u64,
-) -> Result<Plan, Refusal>
-    requires some { 0 < m }
-    requires half_full { AllHalfFull m t.now }
-    requires room { next ≤ 2 ^ 62 }
-    ensures plan { IfOk result (λ p. IsPlan m next (layout_blocks t.now) 0 p) }
+pub fn split_delete(planner: Planner, t: &Layout, from: u64, to: u64) -> Result<Plan, Refusal>
+    requires half_full { AllHalfFull planner.block_size t.now }
+    ensures plan { IfOk result (λ p. IsPlan planner.block_size planner.next (layout_blocks t.now) 0 p) }
     ensures cells { IfOk result (λ p. Means (λ src. edit.split_deleted from to) t.now p) }
     ensures few_made { IfOk result (λ p. length p.makes ≤ 8) }
     ensures tests { AnswersTest (bad_range from to (end_of 0 t.now)) result }
 {
     range(from, to, t.len())?;
-    let planner = Planner {
-        alloc,
-        block_size: m,
-        next,
-    };
     let plan = plan_with_gaps(planner, t, from, to)?;
     Ok(plan)
 }
@@ -119,28 +76,14 @@ pub fn split_delete(
 /// # Errors
 ///
 /// `BadRange` where not `from < to <= t.len()`; else `NoMemory` where there is none for the plan.
-pub fn trim(
-    alloc: Global,
-    t: &Layout,
-    from: u64,
-    to: u64,
-    m: u32,
-    next: u64,
-) -> Result<Plan, Refusal>
-    requires some { 0 < m }
-    requires half_full { AllHalfFull m t.now }
-    requires room { next ≤ 2 ^ 62 }
-    ensures plan { IfOk result (λ p. IsPlan m next (layout_blocks t.now) 0 p) }
+pub fn trim(planner: Planner, t: &Layout, from: u64, to: u64) -> Result<Plan, Refusal>
+    requires half_full { AllHalfFull planner.block_size t.now }
+    ensures plan { IfOk result (λ p. IsPlan planner.block_size planner.next (layout_blocks t.now) 0 p) }
     ensures cells { IfOk result (λ p. Means (λ src. edit.kept_only from to) t.now p) }
     ensures few_made { IfOk result (λ p. length p.makes ≤ 8) }
     ensures tests { AnswersTest (bad_range from to (end_of 0 t.now)) result }
 {
     range(from, to, t.len())?;
-    let planner = Planner {
-        alloc,
-        block_size: m,
-        next,
-    };
     let plan = plan_only_part(planner, t, from, to)?;
     Ok(plan)
 }
@@ -150,30 +93,16 @@ pub fn trim(
 /// # Errors
 ///
 /// `BadRange` where not `from < to <= t.len()`; else `NoMemory` where there is none for the plan.
-pub fn silence(
-    alloc: Global,
-    t: &Layout,
-    from: u64,
-    to: u64,
-    m: u32,
-    next: u64,
-) -> Result<Plan, Refusal>
-    requires some { 0 < m }
-    requires half_full { AllHalfFull m t.now }
-    requires room { next ≤ 2 ^ 62 }
-    ensures plan { IfOk result (λ p. IsPlan m next (layout_blocks t.now) 0 p) }
+pub fn silence(planner: Planner, t: &Layout, from: u64, to: u64) -> Result<Plan, Refusal>
+    requires half_full { AllHalfFull planner.block_size t.now }
+    ensures plan { IfOk result (λ p. IsPlan planner.block_size planner.next (layout_blocks t.now) 0 p) }
     ensures cells { IfOk result (λ p. Means (λ src. edit.silenced from to) t.now p) }
     ensures few_made { IfOk result (λ p. (src : Sources) →
         let cells = edit.part from to (layout_cells src t.now) in
-        length p.makes ≤ 8 + sample_count cells / m + clip_count cells) }
+        length p.makes ≤ 8 + sample_count cells / planner.block_size + clip_count cells) }
     ensures tests { AnswersTest (bad_range from to (end_of 0 t.now)) result }
 {
     range(from, to, t.len())?;
-    let planner = Planner {
-        alloc,
-        block_size: m,
-        next,
-    };
     let plan = plan_with_change(planner, t, from, to, Change::Silence)?;
     Ok(plan)
 }
@@ -183,31 +112,16 @@ pub fn silence(
 /// # Errors
 ///
 /// `BadRange` where not `from < to <= t.len()`; else `NoMemory` where there is none for the plan.
-pub fn gain(
-    alloc: Global,
-    t: &Layout,
-    from: u64,
-    to: u64,
-    gain: u32,
-    m: u32,
-    next: u64,
-) -> Result<Plan, Refusal>
-    requires some { 0 < m }
-    requires half_full { AllHalfFull m t.now }
-    requires room { next ≤ 2 ^ 62 }
-    ensures plan { IfOk result (λ p. IsPlan m next (layout_blocks t.now) 0 p) }
+pub fn gain(planner: Planner, t: &Layout, from: u64, to: u64, gain: u32) -> Result<Plan, Refusal>
+    requires half_full { AllHalfFull planner.block_size t.now }
+    ensures plan { IfOk result (λ p. IsPlan planner.block_size planner.next (layout_blocks t.now) 0 p) }
     ensures cells { IfOk result (λ p. Means (λ src. edit.changed (edit.gained gain) from to) t.now p) }
     ensures few_made { IfOk result (λ p. (src : Sources) →
         let cells = edit.part from to (layout_cells src t.now) in
-        length p.makes ≤ 8 + sample_count cells / m + clip_count cells) }
+        length p.makes ≤ 8 + sample_count cells / planner.block_size + clip_count cells) }
     ensures tests { AnswersTest (bad_range from to (end_of 0 t.now)) result }
 {
     range(from, to, t.len())?;
-    let planner = Planner {
-        alloc,
-        block_size: m,
-        next,
-    };
     let plan = plan_with_change(planner, t, from, to, Change::Gain { gain })?;
     Ok(plan)
 }

@@ -12,8 +12,8 @@ pub struct Planner {
     pub block_size: u32,
     /// The id that the first new block gets.
     pub next: u64,
-    ghost some: { 0 < block_size },
-    ghost room: { next < 2 ^ 63 },
+    pub ghost some: { 0 < block_size },
+    pub ghost room: { next < 2 ^ 63 },
 }
 
 /// What the edit of a run of tracks is planned with: it has ids enough for each track that a run may have.
@@ -25,6 +25,6 @@ pub struct RunPlanner {
     pub block_size: u32,
     /// The id that the first new block of the first track gets.
     pub next: u64,
-    ghost some: { 0 < block_size },
-    ghost room: { next ≤ 2 ^ 62 },
+    pub ghost some: { 0 < block_size },
+    pub ghost room: { next ≤ 2 ^ 62 },
 }

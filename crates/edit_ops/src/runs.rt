@@ -158,26 +158,19 @@ fn cut_range(
 ///
 /// Those of `copy`.
 pub fn cut(
-    alloc: Global,
+    planner: RunPlanner,
     run: &[&Layout],
     n: u64,
     from: u64,
     to: u64,
-    m: u32,
-    next: u64,
 ) -> Result<(Strips, Plans), Refusal>
-    requires some { 0 < m }
-    requires half_full { runs.AllTracksHalfFull m (runs.layouts run.now) }
-    requires room { next ≤ 2 ^ 62 }
+    requires half_full { runs.AllTracksHalfFull planner.block_size (runs.layouts run.now) }
     ensures copies { IfOk result (λ v. runs.AreCopies from to (take n (runs.layouts run.now)) v.0) }
-    ensures plans { IfOk result (λ v. runs.AreCuts (edit.deleted from to) m next (take n (runs.layouts run.now)) v.1) }
+    ensures plans { IfOk result
+        (λ v. runs.AreCuts (edit.deleted from to) planner.block_size planner.next
+        (take n (runs.layouts run.now)) v.1) }
     ensures tests { AnswersTest (runs.copy_tests (runs.layouts run.now) n from to) result }
 {
-    let planner = RunPlanner {
-        alloc,
-        block_size: m,
-        next,
-    };
     cut_range(planner, run, Removing::Delete, n, from, to)
 }
 
@@ -187,27 +180,19 @@ pub fn cut(
 ///
 /// Those of `copy`.
 pub fn split_cut(
-    alloc: Global,
+    planner: RunPlanner,
     run: &[&Layout],
     n: u64,
     from: u64,
     to: u64,
-    m: u32,
-    next: u64,
 ) -> Result<(Strips, Plans), Refusal>
-    requires some { 0 < m }
-    requires half_full { runs.AllTracksHalfFull m (runs.layouts run.now) }
-    requires room { next ≤ 2 ^ 62 }
+    requires half_full { runs.AllTracksHalfFull planner.block_size (runs.layouts run.now) }
     ensures copies { IfOk result (λ v. runs.AreCopies from to (take n (runs.layouts run.now)) v.0) }
     ensures plans { IfOk result
-        (λ v. runs.AreCuts (edit.split_deleted from to) m next (take n (runs.layouts run.now)) v.1) }
+        (λ v. runs.AreCuts (edit.split_deleted from to) planner.block_size planner.next
+        (take n (runs.layouts run.now)) v.1) }
     ensures tests { AnswersTest (runs.copy_tests (runs.layouts run.now) n from to) result }
 {
-    let planner = RunPlanner {
-        alloc,
-        block_size: m,
-        next,
-    };
     cut_range(planner, run, Removing::SplitDelete, n, from, to)
 }
 
@@ -241,28 +226,20 @@ fn place(
 /// `LengthLimit` where a track would have more than 2^32 cells, for the first such track; else `NoMemory` where there
 /// is none for the plans.
 pub fn paste(
-    alloc: Global,
+    planner: RunPlanner,
     run: &[&Layout],
     clip: Option<&Strips>,
     at: u64,
-    m: u32,
-    next: u64,
 ) -> Result<Plans, Refusal>
-    requires some { 0 < m }
-    requires half_full { runs.AllTracksHalfFull m (runs.layouts run.now) }
-    requires clips { ForSome (option_copied clip) (λ c. runs.AreClips m c) }
-    requires room { next ≤ 2 ^ 62 }
+    requires half_full { runs.AllTracksHalfFull planner.block_size (runs.layouts run.now) }
+    requires clips { ForSome (option_copied clip) (λ c. runs.AreClips planner.block_size c) }
     requires sums { ForSome (option_copied clip) (λ c. SumsFit at c (runs.layouts run.now)) }
     ensures plans { IfOk result (λ v. IfSome (option_copied clip.entry)
-        (λ c. runs.ArePastes (edit.inserted at) m next c (take (length c) (runs.layouts run.now)) v)) }
+        (λ c. runs.ArePastes (edit.inserted at) planner.block_size planner.next c
+        (take (length c) (runs.layouts run.now)) v)) }
     ensures tests { AnswersTest
         (runs.clipboard_tests (inserted_length at) (option_copied clip.entry) (runs.layouts run.now)) result }
 {
-    let planner = RunPlanner {
-        alloc,
-        block_size: m,
-        next,
-    };
     match clip {
         None => Err(Refusal::EmptyClipboard),
         Some(strips) => place(planner, run, strips.as_slice(), Placing::Insert, at),
@@ -276,28 +253,20 @@ pub fn paste(
 ///
 /// Those of `paste`.
 pub fn paste_over(
-    alloc: Global,
+    planner: RunPlanner,
     run: &[&Layout],
     clip: Option<&Strips>,
     at: u64,
-    m: u32,
-    next: u64,
 ) -> Result<Plans, Refusal>
-    requires some { 0 < m }
-    requires half_full { runs.AllTracksHalfFull m (runs.layouts run.now) }
-    requires clips { ForSome (option_copied clip) (λ c. runs.AreClips m c) }
-    requires room { next ≤ 2 ^ 62 }
+    requires half_full { runs.AllTracksHalfFull planner.block_size (runs.layouts run.now) }
+    requires clips { ForSome (option_copied clip) (λ c. runs.AreClips planner.block_size c) }
     requires sums { ForSome (option_copied clip) (λ c. SumsFit at c (runs.layouts run.now)) }
     ensures plans { IfOk result (λ v. IfSome (option_copied clip.entry)
-        (λ c. runs.ArePastes (edit.pasted_over at) m next c (take (length c) (runs.layouts run.now)) v)) }
+        (λ c. runs.ArePastes (edit.pasted_over at) planner.block_size planner.next c
+        (take (length c) (runs.layouts run.now)) v)) }
     ensures tests { AnswersTest
         (runs.clipboard_tests (covered_length at) (option_copied clip.entry) (runs.layouts run.now)) result }
 {
-    let planner = RunPlanner {
-        alloc,
-        block_size: m,
-        next,
-    };
     match clip {
         None => Err(Refusal::EmptyClipboard),
         Some(strips) => place(planner, run, strips.as_slice(), Placing::Cover, at),

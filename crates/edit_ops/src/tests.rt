@@ -11,7 +11,8 @@ ghost use Rattle.edit_ops.specs.Runs.{AllTracksHalfFull, layouts};
 
 use super::types::{Plan, Plans, Strips};
 use super::{
-    copy, cut, delete, gain, insert, paste, paste_over, silence, split_cut, split_delete, trim,
+    Planner, RunPlanner, copy, cut, delete, gain, insert, paste, paste_over, silence, split_cut,
+    split_delete, trim,
 };
 use clip_track::{Layout, Strip};
 use disk::{Disk, ids};
@@ -26,19 +27,23 @@ fn plan_of(alloc: Global, t: &Layout, edit: Edit, given: &[i16], next: u64) -> R
     requires { AllHalfFull 4 t.now }
     ensures { IfOk result (λ p. AllHalfFull 4 p.layout) }
 {
-    let next = next.min(1 << 62);
+    let planner = Planner {
+        alloc,
+        block_size: 4,
+        next: next.min(1 << 62),
+    };
     let len = t.len();
     match edit {
         Edit::Insert(at) => {
             let at = at.min(1 << 40);
             let count = (given.len() as u64).min(1 << 40);
-            insert(alloc, t, at, count, 4, next)
+            insert(planner, t, at, count)
         }
-        Edit::Delete(from, to) => delete(alloc, t, from, to, 4, next),
-        Edit::SplitDelete(from, to) => split_delete(alloc, t, from, to, 4, next),
-        Edit::Trim(from, to) => trim(alloc, t, from, to, 4, next),
-        Edit::Silence(from, to) => silence(alloc, t, from, to, 4, next),
-        Edit::Gain(from, to, g) => gain(alloc, t, from, to, g, 4, next),
+        Edit::Delete(from, to) => delete(planner, t, from, to),
+        Edit::SplitDelete(from, to) => split_delete(planner, t, from, to),
+        Edit::Trim(from, to) => trim(planner, t, from, to),
+        Edit::Silence(from, to) => silence(planner, t, from, to),
+        Edit::Gain(from, to, g) => gain(planner, t, from, to, g),
     }
 }
 
@@ -213,12 +218,22 @@ fn cuts(rt: HostRuntime) -> Result<(), Fail> {
     let (first, second) = two_tracks(alloc, &mut disk)?;
     let run = [&first, &second];
     // The second track is shorter than the range: what is copied ends with its gaps.
-    let (clip, plans) = cut(alloc, &run, 2, 1, 4, 4, 19)?;
+    let planner = RunPlanner {
+        alloc,
+        block_size: 4,
+        next: 19,
+    };
+    let (clip, plans) = cut(planner, &run, 2, 1, 4)?;
     let copied: [&[i16]; 2] = [&[2, 3, 4], &[8, 99, 99]];
     assert!(rt; are_copies(alloc, &disk, &clip, &copied)?);
     let cells: [&[i16]; 2] = [&[1, 5], &[7]];
     assert!(rt; mean(alloc, &mut disk, &plans, &cells, &[&[19], &[20]])?);
-    let (_, plans) = split_cut(alloc, &run, 2, 1, 4, 4, 21)?;
+    let planner = RunPlanner {
+        alloc,
+        block_size: 4,
+        next: 21,
+    };
+    let (_, plans) = split_cut(planner, &run, 2, 1, 4)?;
     let cells: [&[i16]; 2] = [&[1, 99, 99, 99, 5], &[7]];
     assert!(rt; mean(alloc, &mut disk, &plans, &cells, &[&[21, 22], &[23]])?);
     Ok(())
@@ -233,10 +248,15 @@ fn pasted(alloc: Global, run: &[&Layout], over: bool, at: u64, next: u64) -> Res
     if !are_small(at, clip.as_slice(), run) {
         return Err(Refusal::NoMemory);
     }
+    let planner = RunPlanner {
+        alloc,
+        block_size: 4,
+        next,
+    };
     if over {
-        paste_over(alloc, run, Some(&clip), at, 4, next)
+        paste_over(planner, run, Some(&clip), at)
     } else {
-        paste(alloc, run, Some(&clip), at, 4, next)
+        paste(planner, run, Some(&clip), at)
     }
 }
 

@@ -18,7 +18,6 @@ use Rattle.envelope_view.specs.Answers.{IsUndamaged}
 use Rattle.project_state.specs.declared.track.Track.{Track}
 use Rattle.project_state.specs.Sound.{AllSoundTracks}
 use Rattle.project_state.specs.Tracks.{AllBelow, AreAbove}
-use Rattle.sound_import.specs.declared.fault.ImportFault.TheVariants.{NoMemory}
 use Rattle.editor_core.specs.Imports.{HasChannels, IsNoVault, NoChannelsPlan, all_of}
 use Rattle.editor_core.specs.Imports.{channels_refusal, parts_from, total_of}
 use Rattle.editor_core.proofs.Leaving.{IsPlain}

@@ -1,6 +1,6 @@
 -- Tracks for channels, as a step of the studio.
 use Rattle.std.proofs.Common.{◌≡◌, refl, sym, ap, ◌∙◌, subst, ℕ, ◌+◌, ◌/◌, ◌≤◌, ℤ}
-use Rattle.std.proofs.Common.{Option, Some, None, List, [], ◌∷◌, ◌++◌, length, length-append, map}
+use Rattle.std.proofs.Common.{Option, Some, None, List, [], ◌++◌, length, length-append, map}
 use Rattle.std.proofs.Common.{Contains, Err, arith}
 use Rattle.std.specs.List.{AllByRecursion}
 use Rattle.std.proofs.lemmas.Grind.{flat_map-append}
@@ -48,7 +48,6 @@ use Rattle.editor_core.proofs.Contained.{among_all, among_itself}
 use Rattle.editor_core.proofs.Editing.{current_below, current_sound, old_names}
 use Rattle.editor_core.proofs.ImportRefused.{import_refused, own_refused}
 use Rattle.editor_core.proofs.ImportTests.{channels_pass}
-use Rattle.editor_core.proofs.PlainTests.{one}
 use Rattle.editor_core.proofs.Lists.{all_left, all_right}
 use Rattle.editor_core.proofs.MadeStudios.{point_more, refs}
 use Rattle.editor_core.proofs.PlanBlocks.{all_readable, new_from_more}

@@ -1,6 +1,6 @@
 -- The plan of a new track of so many of the samples that a command brings, from a place among them on.
 use Rattle.std.proofs.Common.{◌≡◌, ⊎_elim, inl, inr, refl, sym, ap, ◌∙◌, subst, ℕ, zero, suc, ◌+◌, ◌-◌, ◌/◌, ◌^◌, ◌≤◌}
-use Rattle.std.proofs.Common.{◌<◌, ℤ, List, [], ◌∷◌, ◌++◌, length, map, Contains, arith}
+use Rattle.std.proofs.Common.{ℤ, List, [], ◌∷◌, ◌++◌, length, map, arith}
 use Rattle.std.specs.List.{AllByRecursion}
 use Rattle.std.proofs.lemmas.List.{append-nil, length-map}
 use Rattle.pcm_base.specs.declared.block.BlockRef.{BlockRef}
@@ -16,8 +16,8 @@ use Rattle.clip_track.specs.declared.clips.Clip.{Clip}
 use Rattle.clip_track.specs.Clips.{IsLayout, layout_blocks, layout_cells}
 use Rattle.edit_ops.specs.declared.types.NewBlock.{NewBlock}
 use Rattle.edit_ops.specs.declared.types.Plan.{Plan}
-use Rattle.edit_ops.specs.Plans.{AllNewFrom, AreNew, AreOldOrNew, AreWritten, IsPlan, Means, ref_of}
-use Rattle.editor_core.specs.Edits.{alone, beside}
+use Rattle.edit_ops.specs.Plans.{AllNewFrom, AreNew, AreOldOrNew, AreWritten, IsPlan, Means}
+use Rattle.editor_core.specs.Edits.{beside}
 use Rattle.editor_core.specs.Imports.{AllFitBehind, FitsBehind, IsChannelPlan, block_behind, piece_behind, track_with}
 use Rattle.editor_core.proofs.TrackPlans.{layout_given}
 

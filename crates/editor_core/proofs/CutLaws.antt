@@ -10,7 +10,6 @@ use Rattle.pcm_base.specs.declared.refusal.Refusal.{Refusal}
 use Rattle.pcm_base.specs.declared.refusal.Refusal.TheVariants as refusal
 use Rattle.pcm_base.specs.declared.sound.Cell.{Cell}
 use Rattle.pcm_base.specs.Cells.{Project, longest, tracks_from}
-use Rattle.pcm_base.specs.Cells as cells
 use Rattle.pcm_base.specs.Pieces.{Sources}
 use Rattle.pcm_base.specs.Refusals.{◌otherwise◌, bad_range, is_empty, refused_if, too_narrow}
 use Rattle.disk_model.specs.declared.store.Store.{Ghosts}

@@ -1,14 +1,11 @@
 -- An edit that makes blocks: what its plan says of the studio with the blocks made, and its commit.
-use Rattle.std.proofs.Common.{◌≡◌, inr, ⊎_elim, refl, sym, ap, ◌∙◌, subst, ℕ, ◌+◌, ◌^◌, ◌≤◌, ◌<◌, if◌then◌else◌, ℤ}
-use Rattle.std.proofs.Common.{IsSome, Option, Some, None, List, [], ◌∷◌, ◌++◌, length, arith}
+use Rattle.std.proofs.Common.{◌≡◌, inr, refl, sym, ap, ◌∙◌, subst, ℕ, ◌+◌, ◌^◌, ◌≤◌, ◌<◌, ℤ, Option, None, List, ◌++◌}
+use Rattle.std.proofs.Common.{length, arith}
 use Rattle.std.specs.List.{AllByRecursion}
-use Rattle.std.proofs.lemmas.Bool.Decides.{eqb_tells}
 use Rattle.std.proofs.lemmas.List.{take_all}
 use Rattle.pcm_base.specs.declared.block.BlockRef.{BlockRef}
 use Rattle.pcm_base.specs.declared.command.Call.{Call}
 use Rattle.pcm_base.specs.declared.entry.SoundMove.{SoundMove}
-use Rattle.pcm_base.specs.declared.piece.Piece.{Piece}
-use Rattle.pcm_base.specs.declared.piece.Piece.TheVariants.{Old, Scaled, Zero, Given}
 use Rattle.pcm_base.specs.Cells.{Project}
 use Rattle.pcm_base.specs.Counters.{Needs}
 use Rattle.pcm_base.specs.History.{History, recorded}
@@ -18,17 +15,14 @@ use Rattle.pcm_base.specs.Sizes.{project_body_most}
 use Rattle.pcm_base.specs.State.{current}
 use Rattle.pcm_base.specs.Step.{after}
 use Rattle.pcm_base.specs.Studio as model
-use Rattle.disk_model.specs.Disk.{Files}
 use Rattle.disk_model.specs.declared.store.Store.{Ghosts}
-use Rattle.sample_block.specs.Sources.{samples_on, IsWhole, AllWhole}
-use Rattle.block_sequence.specs.Origins.{AllFrom}
-use Rattle.block_ledger.specs.Counts.{Counts, occurrences}
+use Rattle.sample_block.specs.Sources.{samples_on}
+use Rattle.block_ledger.specs.Counts.{Counts}
 use Rattle.clip_track.specs.declared.items.Item.{Item}
 use Rattle.edit_ops.specs.declared.types.NewBlock.{NewBlock}
-use Rattle.edit_ops.specs.Plans.{AllNewFrom, AreWritten}
+use Rattle.edit_ops.specs.Plans.{AreWritten}
 use Rattle.piece_store.specs.declared.given.Given as brings
 use Rattle.piece_store.specs.Bringing.{brought, brought_count}
-use Rattle.piece_store.specs.Reading.{AllThere}
 use Rattle.project_state.specs.declared.body.Body.{Body}
 use Rattle.project_state.specs.declared.body.Body.TheVariants.{Edit}
 use Rattle.project_state.specs.declared.track.Track.{Track}
@@ -41,11 +35,11 @@ use Rattle.editor_core.specs.Core.{Core}
 use Rattle.editor_core.specs.Edits.{IsEdit, IsPlanned, alone, beside, blocks_with}
 use Rattle.editor_core.specs.Made.{PiecesThere}
 use Rattle.editor_core.specs.Makes.{AreSynced, Making}
-use Rattle.editor_core.specs.Occurrences.{HasAll, HasIds, times_named}
+use Rattle.editor_core.specs.Occurrences.{HasAll, HasIds}
 use Rattle.editor_core.specs.Studios.{IsGiven, IsHeld, IsStudio, clip_blocks, named_blocks, pin_blocks, studio_by}
 use Rattle.editor_core.specs.Studios.{studio_of}
 use Rattle.editor_core.proofs.Bounds.{few_more}
-use Rattle.editor_core.proofs.Contained.{among_all, contained}
+use Rattle.editor_core.proofs.Contained.{among_all}
 use Rattle.editor_core.proofs.Editing.{counts_named}
 use Rattle.editor_core.proofs.Flights.{IsCommit, Matches}
 use Rattle.editor_core.proofs.Lengths.{record_most}
@@ -59,47 +53,7 @@ use Rattle.editor_core.proofs.Staying.{HasMade}
 use Rattle.editor_core.proofs.Supposed.{old_same, supposed, supposed_written}
 use Rattle.editor_core.proofs.Times.{Few}
 use Rattle.editor_core.proofs.Tracks.{current_is}
-
--- ---- pieces of blocks that are there, and ids that are counted
-
-pieces_all : (files : Files) (xs : List BlockRef) (n : ℕ) (ps : List Piece) → AllWhole files xs → AllFrom xs n ps
-    → AllThere files ps
-pieces_all files xs n [] whole from = tt
-pieces_all files xs n (Old b lo hi ∷ ps) whole from =
-    (contained (IsWhole files) xs b whole from.0, pieces_all files xs n ps whole from.1)
-pieces_all files xs n (Scaled b lo hi gain ∷ ps) whole from =
-    (contained (IsWhole files) xs b whole from.0, pieces_all files xs n ps whole from.1)
-pieces_all files xs n (Zero len ∷ ps) whole from = (tt, pieces_all files xs n ps whole from.1)
-pieces_all files xs n (Given lo hi ∷ ps) whole from = (tt, pieces_all files xs n ps whole from.1)
-
-makes_all : (files : Files) (xs : List BlockRef) (n : ℕ) (bs : List NewBlock) → AllWhole files xs → AllNewFrom xs n bs
-    → PiecesThere files bs
-makes_all files xs n [] whole from = tt
-makes_all files xs n (b ∷ bs) whole from =
-    (pieces_all files xs n b.pieces whole from.0, makes_all files xs n bs whole from.1)
-
-some_count : (o : Option ℕ) → 0 < occurrences o → IsSome o
-some_count None h = absurd (omega (arith, h))
-some_count (Some n) h = refl
-
-abbrev IsCounted : Counts → BlockRef → Type 0
-IsCounted counts b = IsSome (counts b.id)
-
-counted_there : (counts : Counts) (bs : List BlockRef) → ((id : ℕ) → times_named id bs ≤ occurrences (counts id))
-    → AllByRecursion (IsCounted counts) bs
-counted_there counts [] h = tt
-counted_there counts (b ∷ bs) h = (
-  ⊎_elim (λ (same : _). some_count (counts b.id) (omega (arith, h b.id, ap {B = ℕ} (λ t. if t then 1 else 0) same.0)))
-      (λ other. absurd (other.1 refl)) (eqb_tells b.id b.id),
-  counted_there counts bs (λ id. omega (arith, h id)),
-)
-
-there_of : (counts : Counts) (bs : List BlockRef) → AllByRecursion (IsCounted counts) bs → HasIds counts bs
-there_of counts [] all id some = absurd (omega (arith, some))
-there_of counts (b ∷ bs) all id some = ⊎_elim
-    (λ same. subst (λ (n : ℕ). IsSome (counts n)) same.1 all.0)
-    (λ other. there_of counts bs all.1 id (omega (arith, some, ap {B = ℕ} (λ t. if t then 1 else 0) other.0)))
-    (eqb_tells b.id id)
+use Rattle.editor_core.proofs.NamedThere.{makes_all, IsCounted, counted_there, there_of}
 
 module _ {D : Type 0} (disk : Ghosts D) (s : Core D) (is : IsStudio disk s) (going : s.stopped ≡ None)
     (given : brings.Given) (makes : List NewBlock)

@@ -25,7 +25,7 @@ use Rattle.project_state.specs.Kept.{history_blocks}
 use Rattle.project_state.specs.Spelling.{spelling}
 use Rattle.editor_core.specs.Adding.{Adds, stopped_by}
 use Rattle.editor_core.specs.Core.{Core}
-use Rattle.editor_core.specs.Edits.{Carried, Committed, IsEdit, IsPlanned, IsPrepared, NotPrepared}
+use Rattle.editor_core.specs.Edits.{Carried, Committed, IsEdit, IsPlanned, IsPrepared}
 use Rattle.editor_core.specs.Left.{Left, MayRemove, Stops}
 use Rattle.editor_core.specs.Makes.{AreSynced, Making}
 use Rattle.editor_core.specs.Studios.{IsHeld, IsStudio, clip_blocks, ids_of, pin_blocks, studio_of}
@@ -35,12 +35,14 @@ use Rattle.editor_core.proofs.EditLaws.{edit_needs, edit_own, grown_held, grown_
 use Rattle.editor_core.proofs.EditLaws.{pieces_there}
 use Rattle.editor_core.proofs.Flights.{IsCommit, IsTested}
 use Rattle.editor_core.proofs.Growing.{grown_state, grows}
-use Rattle.editor_core.proofs.MadeCommits.{composed, not_made}
+use Rattle.editor_core.proofs.MadeCommits.{composed}
+use Rattle.editor_core.proofs.MadeFailures.{not_made}
 use Rattle.editor_core.proofs.MadeLeft.{all_failed, all_left}
 use Rattle.editor_core.proofs.MadeStudios.{made_state, refs}
 use Rattle.editor_core.proofs.Premises.{TookWhere}
-use Rattle.editor_core.proofs.Spaces.{counter_spent, exceeded, nothing}
-use Rattle.editor_core.proofs.Staying.{HasMade, refuses, wants}
+use Rattle.editor_core.proofs.Spaces.{nothing}
+use Rattle.editor_core.proofs.Staying.{HasMade}
+use Rattle.editor_core.proofs.UnpreparedEdits.{not_prepared}
 
 module _ {D : Type 0} (disk : Ghosts D) (s : Core D) (is : IsStudio disk s) (going : s.stopped ≡ None)
     (given : brings.Given) (makes : List NewBlock)
@@ -69,28 +71,6 @@ module _ {D : Type 0} (disk : Ghosts D) (s : Core D) (is : IsStudio disk s) (goi
 
   need : (k : ℕ) → k ≤ n → Needs (outside t sound) t c k (length body)
   need = edit_needs disk s is going given makes tag tracks point clip plan c sound edit
-
-  -- ---- before the first block
-
-  not_prepared : (why : Refusal) (new : Core D) → new ≡ s → NotPrepared s n tracks (length body) why
-      → Took disk s c sound (Err why) 0 new
-  not_prepared why new same not =
-      let commit = edit.call.commit in
-      let own = edit_own disk s is going given makes tag tracks point clip plan c sound edit in
-      let test =
-      refuses disk s c sound why is (fewer s.store) commit.quiet (length body) n (λ held. need n (omega arith)) in
-      let memory : Took disk s c sound (Err refusal.NoMemory) 0 s =
-      wants disk s c sound is (fewer s.store) commit.quiet (length body) (λ held. (0, need 0 (omega arith))) in
-      subst (λ (z : Core D). Took disk s c sound (Err why) 0 z) (sym same)
-      (⊎_elim
-      (λ want. subst (λ (e : Refusal). Took disk s c sound (Err e) 0 s) (sym want) memory)
-      (⊎_elim
-      (λ spent. test (counter_spent t c sound tracks commit n (length body) is.counters.pin_most going own why spent))
-      (λ over. test (exceeded t c sound tracks commit n (length body) is.counters.pin_most going own over.0 over.1
-      (omega (arith, over.2)) why over.3)))
-      not)
-
-  -- ---- blocks that were made
 
   module _ (prepared : IsPrepared s n tracks (length body)) (store : D) (counts : Counts)
       (making : Making disk s given n makes (record s {
@@ -214,23 +194,8 @@ module _ {D : Type 0} (disk : Ghosts D) (s : Core D) (is : IsStudio disk s) (goi
             },
           );
         }))
-        (inr (
-          refl,
-          failed_change,
-          refl,
-        ))
-        (all_left
-        disk
-        s
-        given
-        makes
-        prepared.blocks
-        c
-        store
-        counts
-        making
-        new.store
-        adds.fields.2))
+        (inr (refl, failed_change, refl))
+        (all_left disk s given makes prepared.blocks c store counts making new.store adds.fields.2))
 
     -- it was
     module _ {Q : Type 0} (q : Q) (new : Core D) (adds : Adds disk mid body (Ok q) new) (h' : History (List Track))
@@ -285,8 +250,6 @@ module _ {D : Type 0} (disk : Ghosts D) (s : Core D) (is : IsStudio disk s) (goi
             heard = edit.call.commit.heard t.rate t.state;
           }) (inl (refl, adds.fields.2 ∙ making.change_faults)) tt)
 
-  -- ---- all of it
-
   -- a studio with blocks that were made, by its parts
   made_so : (it : Core D) → Making disk s given n makes it
       → Making disk s given n makes (record s { store = it.store; counts = it.counts; next_block = s.next_block + n })
@@ -295,7 +258,8 @@ module _ {D : Type 0} (disk : Ghosts D) (s : Core D) (is : IsStudio disk s) (goi
   pub edit_err : (why : Refusal) (new : Core D) → Carried disk s given makes tracks body (Err why) new
       → Took disk s c sound (Err why) 0 new
   edit_err why new carried = ⊎_elim
-      (λ not. not_prepared why new not.0 not.1)
+      (λ not. not_prepared disk s is going given makes tag tracks point clip plan c sound edit fewer why new not.0
+      not.1)
       (⊎_elim
       (λ some.
       not_made disk s is given makes going plan.new some.0.blocks

@@ -1,5 +1,5 @@
 -- Events that are carried out one after another are a run.
-use Rattle.std.proofs.Common.{◌≡◌, ◌⊎◌, inl, inr, ⊎_elim, refl, sym, ap, ◌∙◌, subst, ℕ, ◌+◌, ◌-◌, ◌≤◌, Bool, IsTrue}
+use Rattle.std.proofs.Common.{◌≡◌, inl, inr, ⊎_elim, refl, sym, ap, ◌∙◌, subst, ℕ, ◌+◌, ◌-◌, ◌≤◌, Bool, IsTrue}
 use Rattle.std.proofs.Common.{IsSome, Option, Some, None, List, [], ◌∷◌, ◌++◌, append_assoc, take, slice_get, zero, suc}
 use Rattle.std.proofs.Common.{Result, Ok, Err, arith}
 use Rattle.std.proofs.lemmas.Option.{none-some, same_Some}
@@ -13,7 +13,6 @@ use Rattle.pcm_base.specs.declared.entry.Entry.{Entry}
 use Rattle.pcm_base.specs.declared.entry.Event.{Event}
 use Rattle.pcm_base.specs.declared.entry.SoundMove.{SoundMove}
 use Rattle.pcm_base.specs.declared.refusal.Refusal.{Refusal}
-use Rattle.pcm_base.specs.Counters.{commits_of}
 use Rattle.pcm_base.specs.Outside.{Outside, Sounds}
 use Rattle.pcm_base.specs.Run.{Answers, Follows, Heard, Run, Step, name_in, outside, result_of}
 use Rattle.pcm_base.specs.State.{State}
@@ -23,16 +22,14 @@ use Rattle.disk_model.specs.Disk.{Files}
 use Rattle.disk_model.specs.declared.store.Store.{Ghosts}
 use Rattle.disk_model.proofs.Frames.{Fewer}
 use Rattle.disk_model.proofs.Moments.{each_on}
-use Rattle.project_journal.specs.Gate.{EachNow, EachSince}
-use Rattle.project_state.specs.Kept.{Keeps}
+use Rattle.project_journal.specs.Gate.{EachSince}
 use Rattle.editor_core.specs.Applied.{TookOver, move_of, reply_of}
 use Rattle.editor_core.specs.Core.{Core}
 use Rattle.editor_core.specs.Events.{AreEntries, IsOther, KeepsPrefix, NextInFlight, RanOver}
-use Rattle.editor_core.specs.Studios.{IsHeld, IsStudio, shown, studio_of}
-use Rattle.editor_core.specs.Took.{KeepsOneOf, asks, number_behind}
+use Rattle.editor_core.specs.Studios.{IsHeld, IsStudio, studio_of}
+use Rattle.editor_core.specs.Took.{asks, number_behind}
 use Rattle.editor_core.proofs.Images.{keeps_now}
 use Rattle.editor_core.proofs.Others.{foreign_more, foreign_none}
-use Rattle.editor_core.proofs.Staying.{some_none}
 
 -- ---- no call is answered by a refusal as its reply
 

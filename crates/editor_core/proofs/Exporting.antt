@@ -1,11 +1,7 @@
 -- An export: the mix of the current project as a sound of a vault, with nothing of the studio changed.
-use Rattle.std.proofs.Common.{◌≡◌, ◌⊎◌, inl, inr, ⊎_elim, refl, sym, ap, ◌∙◌, subst, ℕ, ◌+◌, ◌*◌, ◌^◌, ◌≤◌, ◌<◌, ◌==◌}
-use Rattle.std.proofs.Common.{if◌then◌else◌, IsTrue, Option, Some, None, List, [], ◌∷◌, length, take, max, Result, Ok}
-use Rattle.std.proofs.Common.{Err, OnErr, arith}
+use Rattle.std.proofs.Common.{◌≡◌, ◌⊎◌, inl, inr, ⊎_elim, refl, sym, ap, ◌∙◌, subst, ℕ, ◌+◌, ◌*◌, IsTrue, Option, Some}
+use Rattle.std.proofs.Common.{None, List, length, take, Ok, Err, arith}
 use Rattle.std.proofs.lemmas.Bool.{le-ltb, lt-ltb}
-use Rattle.std.proofs.lemmas.List.Concat.{flat_map-cons}
-use Rattle.std.proofs.lemmas.List.{length-map}
-use Rattle.pcm_base.specs.declared.answer.Reply.{Reply}
 use Rattle.pcm_base.specs.declared.answer.Reply.TheVariants as reply
 use Rattle.pcm_base.specs.declared.command.Call.{Call}
 use Rattle.pcm_base.specs.declared.command.Call.TheVariants.{Line}
@@ -14,13 +10,10 @@ use Rattle.pcm_base.specs.declared.entry.SoundMove.{SoundMove}
 use Rattle.pcm_base.specs.declared.refusal.Refusal.{Refusal}
 use Rattle.pcm_base.specs.declared.refusal.Refusal.TheVariants as refusal
 use Rattle.pcm_base.specs.declared.sound.Frame.{Frame}
-use Rattle.pcm_base.specs.Causes.{Rose}
 use Rattle.pcm_base.specs.Cells.{Project}
 use Rattle.pcm_base.specs.Counters.{no_room}
 use Rattle.pcm_base.specs.Mix.{mix_of, mix_length}
 use Rattle.pcm_base.specs.Outside.{Outside}
-use Rattle.pcm_base.specs.Pieces.{Sources}
-use Rattle.pcm_base.specs.Recordings.{bytes_of_frame, frame_bytes}
 use Rattle.pcm_base.specs.Refusals.{◌otherwise◌, refused_if, too_long}
 use Rattle.pcm_base.specs.Run.{Answers, BreaksOff, CarriesOut, IsPartOfMix, followed, outside, refusal_of, stop_of}
 use Rattle.pcm_base.specs.State.{current}
@@ -34,12 +27,8 @@ use Rattle.disk_model.proofs.Frames.{Fewer, changed_kept}
 use Rattle.sample_block.specs.Sources.{sources_of}
 use Rattle.block_store.specs.declared.fault.BlockFault.{BlockFault}
 use Rattle.block_store.specs.declared.fault.BlockFault.TheVariants as fault
-use Rattle.clip_track.proofs.Layouts.{length-layout}
 use Rattle.project_journal.specs.Gate.{EachSince}
-use Rattle.project_state.specs.declared.track.Track.{Track}
-use Rattle.project_state.specs.Sound.{AllSoundTracks}
 use Rattle.mix_view.specs.Tracks.{mix_length_of}
-use Rattle.mix_view.proofs.TrackLaws.{longest_first}
 use Rattle.project_state.specs.Kept.{Keeps, meant}
 use Rattle.wav_pcm.specs.Wavs.{FitsFile}
 use Rattle.sound_export.specs.declared.fault.ExportFault.{ExportFault}
@@ -60,23 +49,7 @@ use Rattle.editor_core.proofs.Looking.{looked, looked_held, looked_studio}
 use Rattle.editor_core.proofs.Others.{NoneGoes, others_none}
 use Rattle.editor_core.proofs.Spaces.{fits}
 use Rattle.editor_core.proofs.Staying.{refuses, stopped_not}
-
--- ---- how long the file is
-
-length_frames : (frames : List Frame) → length (frame_bytes frames) ≡ 4 * length frames
-length_frames [] = refl
-length_frames (f ∷ fs) = ap length (flat_map-cons bytes_of_frame f fs) ∙ omega (arith, length_frames fs)
-
-length_text : (frames : List Frame) (rate : ℕ) → length (wav_text frames rate) ≡ 44 + 4 * length frames
-length_text frames rate = omega (arith, length_frames frames)
-
--- how long a mix is, by the layouts of its tracks
-mix_len_by : (src : Sources) (m next_block next_track : ℕ) (ts : List Track) → AllSoundTracks m next_block next_track ts
-    → mix_length (meant src ts) ≡ mix_length_of ts
-mix_len_by src m next_block next_track [] all = refl
-mix_len_by src m next_block next_track (t ∷ ts) all =
-    longest_first src t ts ∙ (λ i. max (if t.mute then 0 else (length-layout src t.layout all.0.layout.apart) i)
-    (mix_len_by src m next_block next_track ts all.1 i))
+use Rattle.editor_core.proofs.ExportLengths.{length_text, mix_len_by}
 
 -- a fault where the disk has all blocks shows no damaged file
 abbrev is_disk : BlockFault → Type 0

@@ -1,5 +1,5 @@
 -- An import that reading the sound refuses.
-use Rattle.std.proofs.Common.{◌≡◌, inl, inr, refl, ap, subst, ℕ, ◌+◌, ℤ, Option, Some, None, List, Result, Ok, Err}
+use Rattle.std.proofs.Common.{◌≡◌, inr, refl, ap, subst, ℕ, ◌+◌, Option, Some, None, List, Result, Ok, Err}
 use Rattle.std.proofs.Common.{arith}
 use Rattle.std.specs.Prelude.{IfErr}
 use Rattle.pcm_base.specs.declared.command.Call.{Call}

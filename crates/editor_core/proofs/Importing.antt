@@ -1,5 +1,5 @@
 -- A project that grows by a track for each channel.
-use Rattle.std.proofs.Common.{◌≡◌, refl, sym, ap, ◌∙◌, subst, ℕ, zero, suc, ◌+◌, ◌*◌, ◌/◌, ◌^◌, ◌≤◌, ◌<◌, ℤ, List, []}
+use Rattle.std.proofs.Common.{◌≡◌, refl, sym, ap, ◌∙◌, subst, ℕ, suc, ◌+◌, ◌/◌, ◌≤◌, ◌<◌, ℤ, List, []}
 use Rattle.std.proofs.Common.{◌∷◌, ◌++◌, append_assoc, length, Contains, length-append, arith}
 use Rattle.std.specs.List.{AllByRecursion}
 use Rattle.std.proofs.lemmas.List.{append-nil}
@@ -15,10 +15,8 @@ use Rattle.pcm_base.specs.Edits.{as_cells}
 use Rattle.pcm_base.specs.Pieces.{Sources, stretch}
 use Rattle.pcm_base.specs.Step.{channel_tracks, new_track}
 use Rattle.block_sequence.specs.Origins.{AllFrom}
-use Rattle.clip_track.specs.declared.clips.Clip.{Clip}
 use Rattle.clip_track.specs.Clips.{layout_blocks, layout_cells}
 use Rattle.edit_ops.specs.declared.types.NewBlock.{NewBlock}
-use Rattle.edit_ops.specs.declared.types.Plan.{Plan}
 use Rattle.edit_ops.specs.Plans.{AllNewFrom, AreNew, AreWritten, ref_of}
 use Rattle.project_state.specs.declared.track.Track.{Track}
 use Rattle.project_state.specs.Kept.{meant, meant_track, point_blocks}

@@ -1,16 +1,14 @@
 -- What holds of an edit that makes blocks, whatever its call means and whatever is told; and that no vault refuses it.
-use Rattle.std.proofs.Common.{◌≡◌, ◌↔◌, ◌⊎◌, ◌<◌, inl, inr, ⊎_elim, refl, sym, ap, ◌∙◌, subst, ℕ, nat_lt, ◌+◌, ◌-◌, ◌^◌}
-use Rattle.std.proofs.Common.{◌≤◌, IfErr, Bool, true, false, IsSome, Option, Some, None, List, ◌++◌, length, Result, Ok}
-use Rattle.std.proofs.Common.{Err, arith}
+use Rattle.std.proofs.Common.{◌≡◌, ◌↔◌, ◌⊎◌, ◌<◌, inl, inr, ⊎_elim, refl, sym, ap, ◌∙◌, subst, ℕ, ◌+◌, ◌-◌, ◌^◌, ◌≤◌}
+use Rattle.std.proofs.Common.{IfErr, IsSome, Option, None, List, ◌++◌, length, Result, Ok, Err, arith}
 use Rattle.pcm_base.specs.declared.answer.Reply.{Reply}
 use Rattle.pcm_base.specs.declared.answer.Reply.TheVariants.{Done}
 use Rattle.pcm_base.specs.declared.block.BlockRef.{BlockRef}
 use Rattle.pcm_base.specs.declared.command.Call.{Call}
 use Rattle.pcm_base.specs.declared.refusal.Refusal.{Refusal}
 use Rattle.pcm_base.specs.declared.refusal.Refusal.TheVariants as refusal
-use Rattle.pcm_base.specs.Counters.{commits_of, no_room}
+use Rattle.pcm_base.specs.Counters.{commits_of}
 use Rattle.pcm_base.specs.History.{History}
-use Rattle.pcm_base.specs.Refusals.{◌otherwise◌, refused_if}
 use Rattle.disk_model.specs.Disk.{StaysStep}
 use Rattle.disk_model.specs.Frames.{Changed}
 use Rattle.disk_model.specs.declared.store.Store.{Ghosts}
@@ -23,14 +21,13 @@ use Rattle.project_state.specs.declared.body.Body.TheVariants.{Edit}
 use Rattle.project_state.specs.declared.track.Track.{Track}
 use Rattle.project_state.specs.Kept.{history_blocks}
 use Rattle.project_state.specs.Spelling.{spelling}
-use Rattle.editor_core.specs.Adding.{Adds, Exceeds, stopped_by}
+use Rattle.editor_core.specs.Adding.{Adds, stopped_by}
 use Rattle.editor_core.specs.Applied.{Lasts}
 use Rattle.editor_core.specs.Core.{Core}
-use Rattle.editor_core.specs.Edits.{Carried, Committed, IsPlanned, IsPrepared, NotPrepared}
-use Rattle.editor_core.specs.Imports.{IsNoVault}
+use Rattle.editor_core.specs.Edits.{Carried, Committed, IsPlanned, IsPrepared}
 use Rattle.editor_core.specs.Left.{IsSoOf, Left, LeavesOthers, MayRemove, Stops}
 use Rattle.editor_core.specs.Made.{PiecesThere}
-use Rattle.editor_core.specs.Makes.{Making, NotMade, Stuck, Unput, Unread, one_call}
+use Rattle.editor_core.specs.Makes.{Making, Stuck, Unput, Unread, one_call}
 use Rattle.editor_core.specs.Studios.{IsGiven, IsHeld, IsStudio, clip_blocks, ids_of, pin_blocks}
 use Rattle.editor_core.specs.Took.{asks, number_behind}
 use Rattle.editor_core.proofs.Applying.{lasts_idle}
@@ -46,58 +43,6 @@ use Rattle.editor_core.proofs.Others.{NoneGoes, others_record}
 use Rattle.editor_core.proofs.PlainTests.{unprepared_plain}
 use Rattle.editor_core.proofs.Recorded.{recorded_depth, recorded_few}
 use Rattle.editor_core.proofs.Staying.{record_within, stopped_not}
-
--- ---- no vault refuses it
-
--- a test tells of no vault
-abbrev AsksNone : Option Refusal → Type 0
-AsksNone None = Unit {0}
-AsksNone (Some why) = IsNoVault why
-
-spent_asks : (b : Bool) (have need : ℕ) → AsksNone (refused_if b (refusal.SpaceSpent have need))
-spent_asks true have need = tt
-spent_asks false have need = tt
-
-either_asks : (a b : Option Refusal) → AsksNone a → AsksNone b → AsksNone (a otherwise b)
-either_asks None b x y = y
-either_asks (Some why) b x y = x
-
-exceeding_asks : (end len : ℕ) (why : Refusal) → Exceeds end len why → IsNoVault why
-exceeding_asks end len (refusal.SpaceSpent have need) h = tt
-exceeding_asks end len (refusal.RecordLimit n) h = tt
-exceeding_asks end len why h = absurd h
-
-not_made_asks : {D : Type 0} (disk : Ghosts D) (old new : Core D) (why : Refusal) → NotMade disk old why new
-    → IsNoVault why
-not_made_asks disk old new refusal.DiskFault by = tt
-not_made_asks disk old new (refusal.Damaged file at want have) by = tt
-not_made_asks disk old new why by = absurd by
-
-unprepared_asks : {D : Type 0} (s : Core D) (n tracks len : ℕ) (why : Refusal) → NotPrepared s n tracks len why
-    → IsNoVault why
-unprepared_asks s n tracks len why not = ⊎_elim
-    (λ memory. subst IsNoVault (sym memory) tt)
-    (⊎_elim
-    (λ spent.
-    let block = no_room s.next_block n in
-    let track = no_room s.next_track tracks in
-    let number = no_room s.commit_number 1 in
-    subst AsksNone spent
-    (either_asks block (track otherwise number) (spent_asks (nat_lt (2 ^ 62) (s.next_block + n)) s.next_block n)
-    (either_asks track number (spent_asks (nat_lt (2 ^ 62) (s.next_track + tracks)) s.next_track tracks)
-    (spent_asks (nat_lt (2 ^ 62) (s.commit_number + 1)) s.commit_number 1))))
-    (λ over. exceeding_asks s.journal_end len why over.3))
-    not
-
-pub carried_asks : {D : Type 0} (disk : Ghosts D) (s new : Core D) (given : brings.Given) (makes : List NewBlock)
-    (tracks : ℕ) (body : List ℕ) (why : Refusal)
-    → Carried disk s given makes tracks body (Err why) new → IsNoVault why
-carried_asks disk s new given makes tracks body why carried = ⊎_elim
-    (λ not. unprepared_asks s (length makes) tracks (length body) why not.1)
-    (⊎_elim
-    (λ some. not_made_asks disk some.1.mid new why some.1.by)
-    (λ last. subst IsNoVault (sym last.0) tt))
-    carried
 
 -- ---- the studio behind it
 

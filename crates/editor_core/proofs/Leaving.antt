@@ -1,6 +1,6 @@
 -- What a refusal leaves of a studio, by why it came.
-use Rattle.std.proofs.Common.{◌≡◌, ◌↔◌, ◌⊎◌, inl, inr, ⊎_elim, refl, sym, ◌∙◌, subst, ℕ, ◌+◌, ◌≤◌, ◌<◌, IsSome, IsTrue}
-use Rattle.std.proofs.Common.{Option, Some, None, Err, Result, arith}
+use Rattle.std.proofs.Common.{◌≡◌, ◌↔◌, ◌⊎◌, inl, inr, ⊎_elim, refl, sym, subst, ℕ, ◌+◌, ◌≤◌, ◌<◌, IsSome}
+use Rattle.std.proofs.Common.{Result, arith}
 use Rattle.pcm_base.specs.declared.refusal.Refusal.{Refusal}
 use Rattle.pcm_base.specs.declared.refusal.Refusal.TheVariants as refusal
 use Rattle.disk_model.specs.declared.store.Store.{Ghosts}

@@ -4,6 +4,7 @@ mod Meanings
 mod Gone
 mod Freeing
 mod Reclaiming
+mod ReclaimLimits
 mod Reclaimed
 mod Currents
 mod Looking
@@ -24,10 +25,13 @@ mod NextMade
 mod MadeStudios
 mod MadeRooms
 mod MadeCommits
+mod MadeFailures
 mod Contained
 mod Supposed
 mod Recorded
+mod NamedThere
 mod EditLaws
+mod UnpreparedEdits
 mod EditSteps
 mod CarriedEdits
 mod CarriedOut
@@ -78,6 +82,7 @@ pub mod Fresh
 mod Scanning
 mod Rising
 pub mod Rests
+mod ExportLengths
 mod Exporting
 mod Channels
 mod Importing
@@ -88,6 +93,7 @@ pub mod Applying
 mod PinReads
 mod PinRefused
 mod ImportRefused
+mod AsksNoVault
 mod Lasting
 mod ChannelLaws
 mod ChannelSteps

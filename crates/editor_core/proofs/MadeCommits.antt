@@ -1,6 +1,6 @@
--- A commit behind blocks that were made for it, and a making that failed.
-use Rattle.std.proofs.Common.{◌≡◌, ◌⊎◌, ◌<◌, inl, inr, ⊎_elim, refl, sym, ap, ◌∙◌, subst, ℕ, ◌+◌, ◌-◌, ◌^◌, ◌≤◌, IsTrue}
-use Rattle.std.proofs.Common.{None, List, length, Result, Ok, Err, IfErr, OnErr, arith}
+-- A commit behind blocks that were made for it.
+use Rattle.std.proofs.Common.{◌≡◌, inl, inr, ⊎_elim, ap, ◌∙◌, subst, ℕ, ◌+◌, ◌^◌, ◌≤◌, None, List, length, Result}
+use Rattle.std.proofs.Common.{Ok, Err, IfErr, OnErr, arith}
 use Rattle.std.specs.List.{AllByRecursion}
 use Rattle.std.proofs.lemmas.List.{take_all}
 use Rattle.pcm_base.specs.declared.answer.Reply.{Reply}
@@ -9,40 +9,30 @@ use Rattle.pcm_base.specs.declared.block.BlockRef.{BlockRef}
 use Rattle.pcm_base.specs.declared.command.Call.{Call}
 use Rattle.pcm_base.specs.declared.entry.SoundMove.{SoundMove}
 use Rattle.pcm_base.specs.declared.refusal.Refusal.{Refusal}
-use Rattle.pcm_base.specs.declared.refusal.Refusal.TheVariants as refusal
 use Rattle.pcm_base.specs.Counters.{Needs}
-use Rattle.pcm_base.specs.Run.{Answers, CarriesOut, Leaves, followed, may_change, outside}
+use Rattle.pcm_base.specs.Run.{Answers, CarriesOut, followed, outside}
 use Rattle.pcm_base.specs.Studio as model
-use Rattle.disk_model.specs.Disk.{Files, StaysStep}
-use Rattle.disk_model.specs.Frames.{Changed}
-use Rattle.disk_model.specs.Room.{together}
+use Rattle.disk_model.specs.Disk.{Files}
 use Rattle.disk_model.specs.declared.store.Store.{Ghosts}
 use Rattle.disk_model.proofs.Moments.{each_on}
 use Rattle.sample_block.specs.Sources.{IsWhole}
-use Rattle.sample_block.specs.Spelling.{size_of}
 use Rattle.project_journal.specs.Gate.{EachSince}
 use Rattle.project_state.specs.Kept.{Keeps}
 use Rattle.edit_ops.specs.declared.types.NewBlock.{NewBlock}
-use Rattle.edit_ops.specs.Plans.{AllNewFrom, AreNew, ref_of}
+use Rattle.edit_ops.specs.Plans.{AreNew, ref_of}
 use Rattle.piece_store.specs.declared.given.Given.{Given}
-use Rattle.piece_store.specs.Bringing.{brought_count}
-use Rattle.editor_core.specs.Adding.{stopped_by}
 use Rattle.editor_core.specs.Core.{Core}
-use Rattle.editor_core.specs.Left.{IsSoOf, Left, MayRemove, Stops}
-use Rattle.editor_core.specs.Made.{PiecesThere, SameOutside}
-use Rattle.editor_core.specs.Makes.{AreSynced, HasMissed, Making, Stuck, Unput, Unread, made_room, one_call}
-use Rattle.editor_core.specs.Studios.{IsGiven, IsHeld, IsStudio, named_blocks, shown, studio_of}
+use Rattle.editor_core.specs.Left.{Left, MayRemove, Stops}
+use Rattle.editor_core.specs.Made.{PiecesThere}
+use Rattle.editor_core.specs.Makes.{AreSynced, Making}
+use Rattle.editor_core.specs.Studios.{IsGiven, IsHeld, IsStudio, shown, studio_of}
 use Rattle.editor_core.specs.Took.{KeepsOneOf, Took, number_behind}
-use Rattle.editor_core.proofs.Images.{keeps_now}
 use Rattle.editor_core.proofs.Lists.{all_so}
-use Rattle.editor_core.proofs.Makings.{making_unread, making_next}
-use Rattle.editor_core.proofs.MadeLeft.{all_changed, damaged_so, missed_so, some_changed, some_left, some_stop}
-use Rattle.editor_core.proofs.MadeLeft.{unput_changed, unput_failed, unput_files, unput_here, unput_is, unput_left}
-use Rattle.editor_core.proofs.MadeStudios.{IsNewId, are_made, below_same, keeps_outside, made_held, made_state}
-use Rattle.editor_core.proofs.MadeStudios.{made_studio, refs, refs_all, refs_ids, with_held, with_store}
-use Rattle.editor_core.proofs.Meanings.{same_studio}
+use Rattle.editor_core.proofs.Makings.{making_next}
+use Rattle.editor_core.proofs.MadeLeft.{all_changed}
+use Rattle.editor_core.proofs.MadeStudios.{IsNewId, are_made, keeps_outside, made_state, refs, refs_all, refs_ids}
 use Rattle.editor_core.proofs.Premises.{TookWhere}
-use Rattle.editor_core.proofs.Staying.{HasMade, some_none, stopped_not}
+use Rattle.editor_core.proofs.Staying.{HasMade, stopped_not}
 
 on_err : {R E : Type 0} (result : Result R E) (P Q : Type 0) → (P → Q) → OnErr result P → OnErr result Q
 on_err (Ok r) P Q f h = tt
@@ -57,8 +47,6 @@ module _ {D : Type 0} (disk : Ghosts D) (s : Core D) (is : IsStudio disk s) (giv
 
   abbrev t : model.Studio
   t = studio_of disk s
-
-  -- ---- all are made
 
   module _ (mid : Core D) (making : Making disk s given n makes mid) where
     mid_going : mid.stopped ≡ None
@@ -145,187 +133,3 @@ module _ {D : Type 0} (disk : Ghosts D) (s : Core D) (is : IsStudio disk s) (giv
           stops = stops;
           left = left;
         }
-
-  -- ---- one is not
-
-  module _ (len : ℕ) (changes : IsTrue (may_change c)) (leaves : Leaves t c sound)
-      (need : IsHeld disk s → (k : ℕ) → k ≤ n → Needs (outside t sound) t c k len)
-      (origin : AllNewFrom (named_blocks s) (brought_count given) makes) where
-    going_on : (why : Refusal) (k : ℕ) (new : Core D) → Making disk s given k makes new → k ≤ n → IsSoOf disk s new why
-        → (IsHeld disk s → Answers t c sound (Err why) (studio_of disk new)) → Took disk s c sound (Err why) 0 new
-    going_on why k new making few so step =
-        let studio = made_studio disk s is given makes k new making going few fresh most there in
-        let holds = made_held disk s is given makes k new making going few fresh most there in
-        let images = making.changed.images in record {
-          studio = studio;
-          held = holds;
-          step = step;
-          any_moment = λ _ held x since. inl (keeps_outside disk s is k new.store going held images x since);
-          refused = λ _ held still. keeps_outside disk s is k new.store going held images;
-          now = λ still held. keeps_now disk new still (holds held);
-          number = ap (λ (z : Core D). z.commit_number) making.is;
-          rests = λ some. absurd (stopped_not s.stopped some going);
-          len = len;
-          needs = λ held. (k, need held k few);
-          changed = some_changed disk s given makes most c k len new making few;
-          stops = inl (some_stop disk s given makes most c k new making, making.change_faults);
-          left = some_left disk s given makes most c k new making why so;
-        }
-
-    -- a read failed, or found a file that is not as it has to be
-    module _ (k : ℕ) (mid new : Core D) (was : Making disk s given k makes mid) (few : k ≤ n)
-        (reads : disk.read_fault_count mid.store ≡ disk.read_fault_count s.store) (un : Unread disk mid new) where
-      making : Making disk s given k makes new
-      making = making_unread disk s given makes k mid new was un
-
-      still_going : new.stopped ≡ None
-      still_going = ap (λ (z : Core D). z.stopped) making.is ∙ going
-
-      new_state : IsHeld disk s → studio_of disk new ≡ record t {
-        stopped = new.stopped;
-        next_block = s.next_block + k;
-        read_faults = disk.read_fault_count new.store;
-        change_faults = disk.change_fault_count new.store;
-      }
-      new_state held =
-          let stopped : new.stopped ≡ s.stopped = ap (λ (z : Core D). z.stopped) making.is in
-          made_state disk s is given makes k new making going few fresh most there held
-          ∙ (λ i. record t {
-            stopped = sym stopped i;
-            next_block = s.next_block + k;
-            read_faults = disk.read_fault_count new.store;
-            change_faults = sym making.change_faults i;
-          })
-
-      unread : HasMissed disk mid.store new.store → Took disk s c sound (Err refusal.DiskFault) 0 new
-      unread missed = going_on refusal.DiskFault k new making few
-          (inl (missed_so disk s given makes most c mid.store new.store reads missed)) (λ held. inr (record {
-            breaks = record {
-              going = going;
-              blocks = k;
-              len = len;
-              needs = need held k few;
-              room = omega (arith, most, few);
-              is = new_state held;
-              leaves = leaves;
-            };
-            cause = inl (record {
-              goes_on = still_going;
-              rose = omega (arith, missed.rose, reads);
-              later = omega (arith, missed.later, reads);
-              changes = making.change_faults;
-            });
-          }))
-
-      damaged : (file at want have : ℕ) → disk.read_fault_count new.store ≡ disk.read_fault_count mid.store
-          → IsSoOf disk s new (refusal.Damaged file at want have)
-          → Took disk s c sound (Err (refusal.Damaged file at want have)) 0 new
-      damaged file at want have same so =
-          going_on (refusal.Damaged file at want have) k new making few so (λ held. inr (record {
-            breaks = record {
-              going = going;
-              blocks = k;
-              len = len;
-              needs = need held k few;
-              room = omega (arith, most, few);
-              is = new_state held;
-              leaves = leaves;
-            };
-            stopped = still_going;
-            reads = same ∙ reads;
-            changes = making.change_faults;
-          }))
-
-    -- the disk failed as a block was written or synced
-    module _ (k : ℕ) (mid new : Core D) (was : Making disk s given k makes mid) (few : k ≤ n)
-        (left : (k < n) ⊎ Changed disk StaysStep one_call mid.store new.store)
-        (reads : disk.read_fault_count mid.store ≡ disk.read_fault_count s.store) (un : Unput disk mid new) where
-      abbrev store : D
-      store = new.store
-
-      abbrev here : Core D
-      here = unput_here disk s given makes most c k mid new was few left un
-
-      changed : Changed disk (SameOutside s.next_block (k + 1))
-          (together (made_room (size_of s.block_size) k) (made_room (size_of mid.block_size) 1)) s.store store
-      changed = unput_files disk s given makes most c k mid new was few left un
-
-      here_studio : IsStudio disk here
-      here_studio =
-          with_store disk s is store k mid.counts (stopped_by disk s store).stopped
-          (omega (arith, most, few)) was.ledger
-
-      here_held : IsHeld disk s → IsHeld disk here
-      here_held held =
-          with_held disk s is store k mid.counts (stopped_by disk s store).stopped changed.tells (k + 1)
-          (changed.reads held.tells) (λ none. absurd (some_none _ none)) held
-
-      here_state : IsHeld disk s → studio_of disk here ≡ record t {
-        stopped = (stopped_by disk s store).stopped;
-        next_block = s.next_block + k;
-        read_faults = disk.read_fault_count store;
-        change_faults = disk.change_fault_count store;
-      }
-      here_state held =
-          let old = disk.reads s.store in
-          let now = disk.reads store in
-          let same = same_studio old now disk s
-          (below_same s.next_block (k + 1) (named_blocks s) old now is.ids (changed.reads held.tells)) in
-          λ i. record (same i) {
-            stopped = (stopped_by disk s store).stopped;
-            next_block = s.next_block + k;
-            read_faults = disk.read_fault_count store;
-            change_faults = disk.change_fault_count store;
-          }
-
-      here_took : Took disk s c sound (Err refusal.DiskFault) 0 here
-      here_took = record {
-        studio = here_studio;
-        held = here_held;
-        step = λ held. inr (record {
-          breaks = record {
-            going = going;
-            blocks = k;
-            len = len;
-            needs = need held k few;
-            room = omega (arith, most, few);
-            is = here_state held;
-            leaves = leaves;
-          };
-          cause = inr (
-            changes,
-            record {
-              stopped = refl;
-              rose = omega (arith, un.failed.rose, was.change_faults);
-              later = omega (arith, un.failed.later, was.change_faults);
-              reads = un.read_faults ∙ reads;
-            },
-          );
-        });
-        any_moment = λ _ held x since. inl (keeps_outside disk s is (k + 1) store going held changed.images x since);
-        refused = λ _ held none. absurd (some_none _ none);
-        now = λ none held. absurd (some_none _ none);
-        number = refl;
-        rests = λ some. absurd (stopped_not s.stopped some going);
-        len = len;
-        needs = λ held. (k, need held k few);
-        changed = unput_changed disk s given makes most c k mid new was few left un len;
-        stops = inr (refl, unput_failed disk s given makes most c k mid new was few left un, refl);
-        left = unput_left disk s given makes most c k mid new was few left un;
-      }
-
-      unput : Took disk s c sound (Err refusal.DiskFault) 0 new
-      unput = subst (λ (z : Core D). Took disk s c sound (Err refusal.DiskFault) 0 z)
-          (sym (unput_is disk s given makes most c k mid new was few left un)) here_took
-
-    pub not_made : (why : Refusal) (new : Core D) → Stuck disk s given makes why new
-        → Took disk s c sound (Err why) 0 new
-    not_made refusal.DiskFault new stuck = ⊎_elim
-        (λ un. unread stuck.made stuck.mid new stuck.before stuck.few stuck.read_faults un.0 un.1)
-        (λ un. unput stuck.made stuck.mid new stuck.before stuck.few stuck.left stuck.read_faults un)
-        stuck.by
-    not_made (refusal.Damaged file at want have) new stuck =
-        damaged stuck.made stuck.mid new stuck.before stuck.few stuck.read_faults stuck.by.0 file at want have
-        stuck.by.1
-        (damaged_so disk s given makes most c is origin (refusal.Damaged file at want have) new stuck)
-    not_made why new stuck = absurd stuck.by

@@ -1,5 +1,5 @@
 -- Damage that is told is that of a block that the studio names.
-use Rattle.std.proofs.Common.{◌≡◌, inl, inr, subst, sym, ap, ◌∙◌, ℕ, zero, suc, ◌+◌, ◌<◌, Option, List, [], ◌∷◌, length}
+use Rattle.std.proofs.Common.{◌≡◌, inl, inr, subst, ap, ℕ, zero, suc, ◌<◌, Option, List, [], ◌∷◌, length}
 use Rattle.std.proofs.Common.{get_or, Contains, arith}
 use Rattle.pcm_base.specs.declared.block.BlockRef.{BlockRef}
 use Rattle.pcm_base.specs.declared.piece.Piece.{Piece}

@@ -1,5 +1,5 @@
 -- Reading as many frames of a pin as there are, up to a number, is reading that number.
-use Rattle.std.proofs.Common.{◌≡◌, ⊎_elim, inl, inr, sym, ap, ◌∙◌, subst, ℕ, ◌-◌, ◌≤◌, min, List, length, length-drop}
+use Rattle.std.proofs.Common.{◌≡◌, ⊎_elim, inl, inr, sym, ap, ◌∙◌, ℕ, ◌-◌, min, List, length, length-drop}
 use Rattle.std.proofs.Common.{take, drop, Some, Ok, arith}
 use Rattle.std.proofs.lemmas.Bool.{cases_lt}
 use Rattle.std.proofs.lemmas.List.{take_all}

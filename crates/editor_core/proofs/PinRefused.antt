@@ -1,17 +1,16 @@
 -- A call that only looks, refused as another one that asks as much.
-use Rattle.std.proofs.Common.{◌≡◌, ⊎_elim, inl, inr, sym, ap, ◌∙◌, subst, ℕ, IsTrue, IsSome, Some, Err}
-use Rattle.pcm_base.specs.declared.answer.Reply.{Reply}
+use Rattle.std.proofs.Common.{⊎_elim, inl, inr, ap, subst, ℕ, Err}
 use Rattle.pcm_base.specs.declared.command.Call.{Call}
 use Rattle.pcm_base.specs.declared.command.Call.TheVariants.{PinLen, ReadPin}
 use Rattle.pcm_base.specs.declared.refusal.Refusal.{Refusal}
 use Rattle.pcm_base.specs.declared.refusal.Refusal.TheVariants as refusal
-use Rattle.pcm_base.specs.Run.{Answers, Breaks, BreaksOff, CarriesOut, GoesOn}
+use Rattle.pcm_base.specs.Run.{Answers, Breaks, BreaksOff}
 use Rattle.pcm_base.specs.Studio as model
 use Rattle.disk_model.specs.Disk.{Files}
 use Rattle.disk_model.specs.declared.store.Store.{Ghosts}
 use Rattle.project_state.specs.Kept.{Keeps}
 use Rattle.editor_core.specs.Core.{Core}
-use Rattle.editor_core.specs.Studios.{IsHeld, shown, studio_of}
+use Rattle.editor_core.specs.Studios.{shown, studio_of}
 use Rattle.editor_core.specs.Took.{KeepsOneOf, Took, silent}
 
 module _ {D : Type 0} (disk : Ghosts D) (s : Core D) (pin from count : ℕ) where

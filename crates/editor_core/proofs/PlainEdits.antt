@@ -10,7 +10,6 @@ use Rattle.pcm_base.specs.declared.block.BlockRef.{BlockRef}
 use Rattle.pcm_base.specs.declared.command.Call.TheVariants.{Line}
 use Rattle.pcm_base.specs.declared.refusal.Refusal.{Refusal}
 use Rattle.pcm_base.specs.declared.refusal.Refusal.TheVariants.{TrackLimit}
-use Rattle.pcm_base.specs.declared.sound.Side.{Side}
 use Rattle.pcm_base.specs.Cells.{Project, changed_at, dropped}
 use Rattle.pcm_base.specs.Cells as cells
 use Rattle.pcm_base.specs.Counters.{LineNeeds}

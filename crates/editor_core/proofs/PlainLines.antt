@@ -10,7 +10,6 @@ use Rattle.editor_core.specs.Plain.{line_of, tracks_by, set_by}
 use Rattle.editor_core.specs.Took.{silent}
 use Rattle.editor_core.specs.declared.plain.PlainEdit.{PlainEdit}
 use Rattle.editor_core.specs.declared.plain.PlainEdit.TheVariants as edit
-use Rattle.editor_core.proofs.Editing.{src}
 use Rattle.editor_core.proofs.Spaces.{IsCommitCall}
 
 -- ---- the lines

@@ -15,8 +15,8 @@ use Rattle.pcm_base.specs.Mix.{mix_length}
 use Rattle.pcm_base.specs.Outside.{Outside}
 use Rattle.pcm_base.specs.Refusals.{◌otherwise◌, bad_columns, bad_range, call_tests, channel_tests, covered_length}
 use Rattle.pcm_base.specs.Refusals.{empty_clipboard, file_tests, import_tests, insert_tests, inserted_length, is_empty}
-use Rattle.pcm_base.specs.Refusals.{length_limit, no_pin, no_track, own_tests, paste_tests, pasted_lengths, piece_tests}
-use Rattle.pcm_base.specs.Refusals.{range_tests, refused_if, run_tests, too_long, too_narrow, track_limit}
+use Rattle.pcm_base.specs.Refusals.{length_limit, no_pin, no_track, own_tests, paste_tests, pasted_lengths}
+use Rattle.pcm_base.specs.Refusals.{range_tests, refused_if, run_tests, too_narrow, track_limit}
 use Rattle.pcm_base.specs.Run.{refusal_of, stop_of, stop_test}
 use Rattle.pcm_base.specs.Sizes.{LONGEST_BODY}
 use Rattle.pcm_base.specs.State.{State, clip_of, current}

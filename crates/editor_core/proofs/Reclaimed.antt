@@ -1,7 +1,7 @@
 -- What a reclaim answers.
-use Rattle.std.proofs.Common.{◌≡◌, ◌≢◌, ◌↔◌, ◌⊎◌, inl, inr, ⊎_elim, refl, sym, ap, ◌∙◌, subst, ℕ, ◌+◌, ◌^◌, ◌≤◌, ◌<◌}
-use Rattle.std.proofs.Common.{IsTrue, IsSome, List, [], length, Option, Some, None, Ok, Err, arith}
-use Rattle.std.specs.Prelude.{IfSome, unwrap_or, ◌-◌}
+use Rattle.std.proofs.Common.{◌≡◌, ◌≢◌, ◌↔◌, ◌⊎◌, inl, inr, ⊎_elim, refl, sym, ap, ◌∙◌, subst, ℕ, ◌+◌, ◌≤◌, ◌<◌, IsTrue}
+use Rattle.std.proofs.Common.{IsSome, List, [], length, Option, Some, None, Ok, Err, arith}
+use Rattle.std.specs.Prelude.{IfSome}
 use Rattle.std.proofs.lemmas.Bool.{cases_eq}
 use Rattle.pcm_base.specs.declared.answer.Reply.TheVariants.{Freed}
 use Rattle.pcm_base.specs.declared.command.Call.{Call}
@@ -296,25 +296,3 @@ module _ {D : Type 0} (disk : Ghosts D) (old : Core D) (limit : Option ℕ) wher
       least_limit : (m : Option ℕ) → IfSome m (λ m. 0 ≤ m)
       least_limit None = tt
       least_limit (Some m) = omega arith
-
--- ---- the limit
-
-pub within : (limit : Option ℕ) (freed n most : ℕ) → n ≡ freed → most ≡ unwrap_or limit (2 ^ 64 - 1) → freed ≤ most
-    → IfSome limit (λ m. n ≤ m)
-within None freed n most same is le = tt
-within (Some m) freed n most same is le = omega (arith, same, is, le)
-
--- where so many went as the limit says, it is that of the caller, or none is left
-pub all_of : {D : Type 0} (disk : Ghosts D) (old new : Core D) (limit : Option ℕ) (ids : List ℕ) (most : ℕ)
-    → Freeing disk old ids new → length ids ≡ most → most ≡ unwrap_or limit (2 ^ 64 - 1)
-    → (limit ≡ Some (length ids)) ⊎ ((id : ℕ) → new.counts id ≡ Some 0 → ⊥)
-all_of disk old new None ids most was full is =
-    inr (λ id free. absurd (omega (
-      arith,
-      was.above id free,
-      full,
-      is,
-      (was.studio.given id (subst IsSome (sym free) refl)).1,
-      was.studio.counters.block_most,
-    )))
-all_of disk old new (Some m) ids most was full is = inl (ap Some (sym (full ∙ is)))

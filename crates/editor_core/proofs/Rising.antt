@@ -1,7 +1,7 @@
 -- Blocks that are sorted by their ids, and of which each is kept once.
 use Rattle.std.proofs.Common.{◌≡◌, ◌≢◌, ◌∙◌, refl, sym, ap, subst, ℕ, zero, suc, ◌+◌, ◌≤◌, ◌<◌, ◌==◌, List, [], ◌∷◌}
-use Rattle.std.proofs.Common.{length, Bool, true, false, cond, inl, inr, arith}
-use Rattle.std.specs.Prelude.{◌↔◌, ◌&&◌, Contains, slice_index, slice_index_or}
+use Rattle.std.proofs.Common.{Bool, true, false, cond, inl, inr, arith}
+use Rattle.std.specs.Prelude.{◌&&◌, Contains, slice_index, slice_index_or}
 use Rattle.std.proofs.lemmas.Bool.{cases_Bool, eqb-true, eqb-false}
 use Rattle.std.specs.Cmp.{IsEquivalence}
 use Rattle.std.specs.List.{AllByRecursion, dedup, dedup_from}

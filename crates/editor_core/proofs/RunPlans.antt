@@ -6,7 +6,6 @@ use Rattle.std.proofs.lemmas.Bool.Decides.{leb_tells}
 use Rattle.std.proofs.lemmas.List.{map-append}
 use Rattle.pcm_base.specs.declared.block.BlockRef.{BlockRef}
 use Rattle.pcm_base.specs.declared.sound.Cell.{Cell}
-use Rattle.pcm_base.specs.Cells as cells
 use Rattle.pcm_base.specs.Pieces.{Sources}
 use Rattle.clip_track.specs.Clips.{AllHalfFull, IsLayout, layout_blocks}
 use Rattle.edit_ops.specs.declared.types.NewBlock.{NewBlock}

@@ -1,12 +1,11 @@
 -- A scan of one block: the block at a place, and what is told of its file.
 use Rattle.std.proofs.Common.{◌≡◌, ◌≢◌, ◌∙◌, refl, sym, subst, ℕ, zero, suc, ◌≤◌, ◌<◌, List, [], ◌∷◌, ◌++◌, length}
-use Rattle.std.proofs.Common.{flat_map, get_or, Option, Some, None, Result, Ok, Err, Bool, true, false, IsTrue, arith}
+use Rattle.std.proofs.Common.{flat_map, get_or, Option, Some, None, Result, Ok, Err, true, false, IsTrue, arith}
 use Rattle.std.specs.Prelude.{Contains, IfNone, IfSome, IsOkUnless, OnOk, slice_index}
 use Rattle.std.specs.List.{AllByRecursion}
 use Rattle.std.proofs.lemmas.List.Elements.{All-from_recursion, All-contains, Contains-get_or}
 use Rattle.std.proofs.lemmas.List.Folds.{flat_map-map}
 use Rattle.pcm_base.specs.declared.block.BlockRef.{BlockRef}
-use Rattle.pcm_base.specs.declared.refusal.Refusal.{Refusal}
 use Rattle.pcm_base.specs.declared.refusal.Refusal.TheVariants as refusal
 use Rattle.pcm_base.specs.Blocks.{AllFull, IsHalfFull, block_lens}
 use Rattle.pcm_base.specs.History.{History, point_of, points_of}

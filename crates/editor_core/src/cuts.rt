@@ -20,7 +20,7 @@ use super::laying::planned_run;
 use super::studio::Studio;
 use clip_track::{Layout, Strip};
 use disk_model::Store;
-use edit_ops::{Plans, Strips, cut, split_cut};
+use edit_ops::{Plans, RunPlanner, Strips, cut, split_cut};
 use pcm_base::Refusal;
 use piece_store::Given;
 use std::alloc::Global;
@@ -43,18 +43,14 @@ pub(crate) struct RunRange {
 
 // The strips of what goes, and the plans of the tracks without it.
 fn plan_cut(
-    alloc: Global,
+    planner: RunPlanner,
     run: &[&Layout],
     range: RunRange,
     edit: CutEdit,
-    block_size: u32,
-    next: u64,
 ) -> Result<(Strips, Plans), Refusal>
-    requires some { 0 < block_size }
-    requires half_full { AllTracksHalfFull block_size (layouts run.now) }
-    requires room { next ≤ 2 ^ 62 }
+    requires half_full { AllTracksHalfFull planner.block_size (layouts run.now) }
     ensures copies { IfOk result (λ v. AreCopies range.from range.to (take range.count (layouts run.now)) v.0) }
-    ensures plans { IfOk result (λ v. AreCuts (cut_cells edit range.from range.to) block_size next
+    ensures plans { IfOk result (λ v. AreCuts (cut_cells edit range.from range.to) planner.block_size planner.next
         (take range.count (layouts run.now)) v.1) }
     ensures tests { AnswersTest (copy_tests (layouts run.now) range.count range.from range.to) result }
 {
@@ -65,8 +61,8 @@ fn plan_cut(
         ..
     } = range;
     match edit {
-        CutEdit::Close => cut(alloc, run, count, from, to, block_size, next),
-        CutEdit::Leave => split_cut(alloc, run, count, from, to, block_size, next),
+        CutEdit::Close => cut(planner, run, count, from, to),
+        CutEdit::Leave => split_cut(planner, run, count, from, to),
     }
 }
 
@@ -171,14 +167,12 @@ impl<S: Store> Studio<S> {
         let project = self.current();
         project.track(range.track)?;
         let run = run_from(alloc, project, range.track)?;
-        let (strips, plans) = plan_cut(
+        let planner = RunPlanner {
             alloc,
-            &run,
-            range,
-            edit,
-            self.buffers.block_size(),
-            self.next_block,
-        )?;
+            block_size: self.buffers.block_size(),
+            next: self.next_block,
+        };
+        let (strips, plans) = plan_cut(planner, &run, range, edit)?;
         see_items(strips.as_slice());
         let planned = planned_run(
             alloc,

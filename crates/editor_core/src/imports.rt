@@ -25,7 +25,7 @@ use super::studio::Studio;
 use block_sequence::Pieces;
 use clip_track::Layout;
 use disk_model::Store;
-use edit_ops::{NewBlock, NewBlocks, Plan, insert};
+use edit_ops::{NewBlock, NewBlocks, Plan, Planner, insert};
 use edit_ports::Vault;
 use pcm_base::{NoMemory, Piece, Refusal, Samples, Side};
 use piece_store::Given;
@@ -91,26 +91,18 @@ fn moved_blocks(alloc: Global, blocks: &[NewBlock], skip: u64) -> Result<Vec<New
 }
 
 // The plan of a new track of so many of the samples that are brought, from a place among them on.
-fn plan_channel(
-    alloc: Global,
-    from: u64,
-    count: u64,
-    block_size: u32,
-    next: u64,
-) -> Result<Plan, Refusal>
-    requires some { 0 < block_size }
-    requires room { next ≤ 2 ^ 62 }
+fn plan_channel(planner: Planner, from: u64, count: u64) -> Result<Plan, Refusal>
     requires few { from + count ≤ 2 ^ 62 }
-    ensures plan { IfOk result (IsChannelPlan from count block_size next) }
+    ensures plan { IfOk result (IsChannelPlan from count planner.block_size planner.next) }
     ensures tests { AnswersTest (length_limit (count ∷ [])) result }
 {
-    let plan = insert(alloc, &Layout::new(alloc), 0, count, block_size, next)?;
+    let plan = insert(planner, &Layout::new(planner.alloc), 0, count)?;
     let Plan {
         layout,
         makes,
         next: after,
     } = plan;
-    let makes = moved_blocks(alloc, makes.as_slice(), from)?;
+    let makes = moved_blocks(planner.alloc, makes.as_slice(), from)?;
     Ok(Plan {
         layout,
         makes: NewBlocks::new(makes),
@@ -159,7 +151,12 @@ fn add_channel(
     ensures added { OnOk result (AddsChannel block_size id count growing.old growing.new) }
     ensures memory { IfErr result (λ e. e ≡ refusal.NoMemory) }
 {
-    let plan = plan_channel(alloc, growing.brought, count, block_size, growing.next)?;
+    let planner = Planner {
+        alloc,
+        block_size,
+        next: growing.next,
+    };
+    let plan = plan_channel(planner, growing.brought, count)?;
     let Plan {
         layout,
         makes,

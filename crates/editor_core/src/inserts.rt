@@ -22,7 +22,7 @@ use super::planning::planned;
 use super::studio::Studio;
 use clip_track::Layout;
 use disk_model::Store;
-use edit_ops::{Plan, insert};
+use edit_ops::{Plan, Planner, insert};
 use pcm_base::Refusal;
 use piece_store::Given;
 use std::alloc::Global;
@@ -55,28 +55,19 @@ fn count_of(given: &Given) -> u64
 }
 
 // The plan of so many samples in a track.
-fn plan_insert(
-    alloc: Global,
-    layout: &Layout,
-    place: Place,
-    count: u64,
-    block_size: u32,
-    next: u64,
-) -> Result<Plan, Refusal>
-    requires some { 0 < block_size }
-    requires half_full { AllHalfFull block_size layout.now }
+fn plan_insert(planner: Planner, layout: &Layout, place: Place, count: u64) -> Result<Plan, Refusal>
+    requires half_full { AllHalfFull planner.block_size layout.now }
     requires apart { IsLayout layout.now }
-    requires room { next ≤ 2 ^ 62 }
     requires place { IsPlace place }
     requires count { count ≤ 2 ^ 62 }
-    ensures plan { IfOk result (λ p. IsPlan block_size next (layout_blocks layout.now) count p) }
+    ensures plan { IfOk result (λ p. IsPlan planner.block_size planner.next (layout_blocks layout.now) count p) }
     ensures cells { IfOk result (λ p. Means (λ src. place_cells place count src.given) layout.now p) }
-    ensures few { IfOk result (λ p. length p.makes ≤ blocks_of_samples block_size count) }
+    ensures few { IfOk result (λ p. length p.makes ≤ blocks_of_samples planner.block_size count) }
     ensures tests { AnswersTest (place_test place count (end_of 0 layout.now)) result }
 {
     match place {
-        Place::At { at } => insert(alloc, layout, at, count, block_size, next),
-        Place::End => insert(alloc, layout, layout.len(), count, block_size, next),
+        Place::At { at } => insert(planner, layout, at, count),
+        Place::End => insert(planner, layout, layout.len(), count),
     }
 }
 
@@ -207,14 +198,12 @@ impl<S: Store> Studio<S> {
     {
         let project = self.current();
         let old = project.track(track)?;
-        let plan = plan_insert(
+        let planner = Planner {
             alloc,
-            &old.layout,
-            place,
-            count,
-            self.buffers.block_size(),
-            self.next_block,
-        )?;
+            block_size: self.buffers.block_size(),
+            next: self.next_block,
+        };
+        let plan = plan_insert(planner, &old.layout, place, count)?;
         let planned = planned(alloc, project, old, plan)?;
         Ok(planned)
     }

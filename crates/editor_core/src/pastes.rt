@@ -20,7 +20,7 @@ use super::laying::planned_run;
 use super::studio::Studio;
 use clip_track::Layout;
 use disk_model::Store;
-use edit_ops::{Plans, Strips, paste, paste_over};
+use edit_ops::{Plans, RunPlanner, Strips, paste, paste_over};
 use pcm_base::Refusal;
 use piece_store::Given;
 use std::alloc::Global;
@@ -34,26 +34,22 @@ pub(crate) enum PasteEdit {
 
 // The plans of the tracks with the strips put in.
 fn plan_paste(
-    alloc: Global,
+    planner: RunPlanner,
     run: &[&Layout],
     clip: &Strips,
     at: u64,
     edit: PasteEdit,
-    block_size: u32,
-    next: u64,
 ) -> Result<Plans, Refusal>
-    requires some { 0 < block_size }
-    requires half_full { AllTracksHalfFull block_size (layouts run.now) }
-    requires clips { AreClips block_size clip.now }
-    requires room { next ≤ 2 ^ 62 }
+    requires half_full { AllTracksHalfFull planner.block_size (layouts run.now) }
+    requires clips { AreClips planner.block_size clip.now }
     requires sums { SumsFit at clip.now (layouts run.now) }
-    ensures plans { IfOk result (λ v. ArePastes (paste_cells edit at) block_size next clip.now
+    ensures plans { IfOk result (λ v. ArePastes (paste_cells edit at) planner.block_size planner.next clip.now
         (take (length clip.now) (layouts run.now)) v) }
     ensures tests { AnswersTest (paste_tests (paste_length edit at) clip.now (layouts run.now)) result }
 {
     match edit {
-        PasteEdit::Insert => paste(alloc, run, Some(clip), at, block_size, next),
-        PasteEdit::Cover => paste_over(alloc, run, Some(clip), at, block_size, next),
+        PasteEdit::Insert => paste(planner, run, Some(clip), at),
+        PasteEdit::Cover => paste_over(planner, run, Some(clip), at),
     }
 }
 
@@ -145,15 +141,12 @@ impl<S: Store> Studio<S> {
         };
         see_items(clip.as_slice());
         let run = run_from(alloc, project, track)?;
-        let plans = plan_paste(
+        let planner = RunPlanner {
             alloc,
-            &run,
-            clip,
-            at,
-            edit,
-            self.buffers.block_size(),
-            self.next_block,
-        )?;
+            block_size: self.buffers.block_size(),
+            next: self.next_block,
+        };
+        let plans = plan_paste(planner, &run, clip, at, edit)?;
         let planned = planned_run(alloc, project, track, plans, self.next_block, None)?;
         Ok(planned)
     }

@@ -20,7 +20,7 @@ use super::planning::planned;
 use super::studio::Studio;
 use clip_track::Layout;
 use disk_model::Store;
-use edit_ops::{Plan, delete, gain, silence, split_delete, trim};
+use edit_ops::{Plan, Planner, delete, gain, silence, split_delete, trim};
 use pcm_base::Refusal;
 use piece_store::Given;
 use std::alloc::Global;
@@ -45,30 +45,26 @@ pub(crate) struct TrackRange {
 
 // The plan of it.
 fn plan_range(
-    alloc: Global,
+    planner: Planner,
     layout: &Layout,
     range: TrackRange,
     edit: RangeEdit,
-    block_size: u32,
-    next: u64,
 ) -> Result<Plan, Refusal>
-    requires some { 0 < block_size }
-    requires half_full { AllHalfFull block_size layout.now }
+    requires half_full { AllHalfFull planner.block_size layout.now }
     requires apart { IsLayout layout.now }
-    requires room { next ≤ 2 ^ 62 }
-    ensures plan { IfOk result (λ p. IsPlan block_size next (layout_blocks layout.now) 0 p) }
+    ensures plan { IfOk result (λ p. IsPlan planner.block_size planner.next (layout_blocks layout.now) 0 p) }
     ensures cells { IfOk result (λ p. Means (λ src. range_cells edit range.from range.to) layout.now p) }
     ensures few { IfOk result (λ p. (src : Sources) →
-        length p.makes ≤ range_most edit range.from range.to block_size (layout_cells src layout.now)) }
+        length p.makes ≤ range_most edit range.from range.to planner.block_size (layout_cells src layout.now)) }
     ensures tests { AnswersTest (bad_range range.from range.to (end_of 0 layout.now)) result }
 {
     let TrackRange { from, to, .. } = range;
     match edit {
-        RangeEdit::Delete => delete(alloc, layout, from, to, block_size, next),
-        RangeEdit::SplitDelete => split_delete(alloc, layout, from, to, block_size, next),
-        RangeEdit::Silence => silence(alloc, layout, from, to, block_size, next),
-        RangeEdit::Trim => trim(alloc, layout, from, to, block_size, next),
-        RangeEdit::Gain { gain: factor } => gain(alloc, layout, from, to, factor, block_size, next),
+        RangeEdit::Delete => delete(planner, layout, from, to),
+        RangeEdit::SplitDelete => split_delete(planner, layout, from, to),
+        RangeEdit::Silence => silence(planner, layout, from, to),
+        RangeEdit::Trim => trim(planner, layout, from, to),
+        RangeEdit::Gain { gain: factor } => gain(planner, layout, from, to, factor),
     }
 }
 
@@ -213,14 +209,12 @@ impl<S: Store> Studio<S> {
     {
         let project = self.current();
         let old = project.track(range.track)?;
-        let plan = plan_range(
+        let planner = Planner {
             alloc,
-            &old.layout,
-            range,
-            edit,
-            self.buffers.block_size(),
-            self.next_block,
-        )?;
+            block_size: self.buffers.block_size(),
+            next: self.next_block,
+        };
+        let plan = plan_range(planner, &old.layout, range, edit)?;
         let planned = planned(alloc, project, old, plan)?;
         Ok(planned)
     }

@@ -5,7 +5,7 @@ ghost use Rattle.clip_track.specs.Clips.{AllHalfFull};
 use super::disk::{Disk, ids, strip_ids};
 use super::plain::Edit;
 use super::{are_small, draws, mean, plan_of, track};
-use crate::{Plans, Strips, copy, cut, paste};
+use crate::{Plans, RunPlanner, Strips, copy, cut, paste};
 use clip_track::Layout;
 use pcm_base::{NoMemory, Refusal};
 use std::alloc::Global;
@@ -73,7 +73,12 @@ fn blocks_come_free(rt: HostRuntime) -> Result<(), Fail> {
     assert!(rt; ids(alloc, &plan.layout)?.as_slice() == [16u64, 20, 19].as_slice());
     assert!(rt; free_ids(alloc, &disk, &plan.layout, &none)?.as_slice() == [17u64, 18].as_slice());
     // Two samples of block 16 and two of block 19 are left, in block 21. The clipboard names both, and block 20.
-    let (clipboard, plans) = cut(alloc, &[&plan.layout], 1, 2, 8, 4, 21)?;
+    let planner = RunPlanner {
+        alloc,
+        block_size: 4,
+        next: 21,
+    };
+    let (clipboard, plans) = cut(planner, &[&plan.layout], 1, 2, 8)?;
     for plan in plans.as_slice() {
         let t = &plan.layout;
         assert!(rt; disk.write(alloc, &plan.makes, &[])?);
@@ -98,7 +103,12 @@ fn front_pasted(alloc: Global, t: &Layout, onto: &Layout, next: u64) -> Result<P
     if !are_small(0, clip.as_slice(), &[onto]) {
         return Err(Refusal::NoMemory);
     }
-    paste(alloc, &[onto], Some(&clip), 0, 4, next)
+    let planner = RunPlanner {
+        alloc,
+        block_size: 4,
+        next,
+    };
+    paste(planner, &[onto], Some(&clip), 0)
 }
 
 #[test]
@@ -107,7 +117,12 @@ fn a_cut_is_put_back(rt: HostRuntime) -> Result<(), Fail> {
     let mut disk = Disk::new(alloc);
     let five = track(alloc, &mut disk, &[1, 2, 3, 4, 5], 16)?.layout;
     // The rest of block 16 is too short, and takes in block 17. The clipboard names block 16.
-    let (clipboard, plans) = cut(alloc, &[&five], 1, 0, 2, 4, 18)?;
+    let planner = RunPlanner {
+        alloc,
+        block_size: 4,
+        next: 18,
+    };
+    let (clipboard, plans) = cut(planner, &[&five], 1, 0, 2)?;
     assert!(rt; mean(alloc, &mut disk, &plans, &[&[3, 4, 5]], &[&[18]])?);
     assert!(rt; disk.samples(18) == [3i16, 4, 5].as_slice());
     for plan in plans.into_vec() {

@@ -12,16 +12,17 @@ use Rattle.editor_core.proofs.imports.plan_channel.Goals as goal
 
 pub moved_blocks-requires : goal.moved_blocks-requires
 moved_blocks-requires c =
-    let plan = subst (λ (cs : List Clip). IsPlan c.args.block_size c.args.next
+    let plan = subst (λ (cs : List Clip). IsPlan c.args.planner.block_size c.args.planner.next
     (layout_blocks cs) c.args.count c.in_ok-plan.plan) c.new.ensures c.in_ok-plan.ensures.plan in
     let makes = c.in_ok-plan.plan.makes in
     subst (λ (bs : List NewBlock). AllFitBehind c.args.from bs) (sym c.as_slice.ensures)
-    (fit_blocks c.args.block_size c.args.next c.args.count c.args.from makes plan.origin plan.new c.requires.few)
+    (fit_blocks c.args.planner.block_size c.args.planner.next c.args.count c.args.from makes plan.origin plan.new
+    c.requires.few)
 
 pub returns-clause-plan : goal.returns-clause-plan
 returns-clause-plan c =
-    let m = c.args.block_size in
-    let next = c.args.next in
+    let m = c.args.planner.block_size in
+    let next = c.args.planner.next in
     let count = c.args.count in
     let p = c.in_ok-plan.plan in
     let plan =

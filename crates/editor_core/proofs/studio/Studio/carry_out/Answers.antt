@@ -21,7 +21,8 @@ use Rattle.editor_core.specs.Took.{Took, told_by}
 use Rattle.editor_core.proofs.CarriedOut.{carried_at, told_point}
 use Rattle.editor_core.proofs.EditLaws.{pieces_there, point_few, point_named, point_there}
 use Rattle.editor_core.proofs.EditSteps.{edit_err, edit_ok}
-use Rattle.editor_core.proofs.Lasting.{carried_asks, lasts_err, lasts_ok}
+use Rattle.editor_core.proofs.Lasting.{lasts_err, lasts_ok}
+use Rattle.editor_core.proofs.AsksNoVault.{carried_asks}
 use Rattle.editor_core.proofs.NoDamage.{no_damage}
 use Rattle.editor_core.proofs.TakenOut.{taken_counted, taken_ids, taken_named, taken_room, taken_there}
 use Rattle.editor_core.proofs.Times.{Few}

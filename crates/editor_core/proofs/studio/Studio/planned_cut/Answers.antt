@@ -10,8 +10,8 @@ use Rattle.editor_core.specs.Points.{current_tracks}
 use Rattle.editor_core.proofs.CutLaws.{cuts_few, run_half_full}
 use Rattle.editor_core.proofs.studio.Studio.planned_cut.Goals as goal
 
-pub plan_cut-requires-clause-half_full : goal.plan_cut-requires-clause-half_full
-plan_cut-requires-clause-half_full g c =
+pub plan_cut-requires : goal.plan_cut-requires
+plan_cut-requires g c =
     let s = core_of c.args.self.now in
     let id = c.args.range.track in
     let project = c.current-project.ensures in
@@ -19,9 +19,11 @@ plan_cut-requires-clause-half_full g c =
     ap (track_of id) (sym project) ∙ c.in_ok-track.ensures in
     let run : layouts c.deref.result.now ≡ run_of id (current_tracks s.history) =
     ap layouts c.deref.ensures.value ∙ c.in_ok-run.ensures ∙ ap (run_of id) project in
-    subst (λ (m : ℕ). AllTracksHalfFull m (layouts c.deref.result.now)) (sym c.block_size.ensures.value)
-    (subst (AllTracksHalfFull s.block_size) (sym run)
-    (run_half_full g.S.Store s c.requires id c.in_ok-track.field-0.now found))
+    record {
+      half_full = subst (λ (m : ℕ). AllTracksHalfFull m (layouts c.deref.result.now)) (sym c.block_size.ensures.value)
+          (subst (AllTracksHalfFull s.block_size) (sym run)
+          (run_half_full g.S.Store s c.requires id c.in_ok-track.field-0.now found));
+    }
 
 pub planned_run-requires-clause-fits : goal.planned_run-requires-clause-fits
 planned_run-requires-clause-fits g c =

@@ -13,8 +13,8 @@ use Rattle.editor_core.proofs.Editing.{current_sound}
 use Rattle.editor_core.proofs.TrackPlans.{current_track, no_such_track, test_fails}
 use Rattle.editor_core.proofs.studio.Studio.planned_insert.Goals as goal
 
-pub plan_insert-requires-clause-some : goal.plan_insert-requires-clause-some
-plan_insert-requires-clause-some g c = omega (arith, c.requires.studio.format.block_least, c.block_size.ensures.value)
+pub invariant_of-planner-clause-some : goal.invariant_of-planner-clause-some
+invariant_of-planner-clause-some g c = omega (arith, c.requires.studio.format.block_least, c.block_size.ensures.value)
 
 pub plan_insert-requires-clause-half_full : goal.plan_insert-requires-clause-half_full
 plan_insert-requires-clause-half_full g c =

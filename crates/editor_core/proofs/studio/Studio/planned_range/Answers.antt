@@ -12,8 +12,8 @@ use Rattle.editor_core.proofs.Editing.{current_sound}
 use Rattle.editor_core.proofs.TrackPlans.{current_track, no_such_track, test_fails}
 use Rattle.editor_core.proofs.studio.Studio.planned_range.Goals as goal
 
-pub plan_range-requires-clause-some : goal.plan_range-requires-clause-some
-plan_range-requires-clause-some g c = omega (arith, c.requires.format.block_least, c.block_size.ensures.value)
+pub invariant_of-planner-clause-some : goal.invariant_of-planner-clause-some
+invariant_of-planner-clause-some g c = omega (arith, c.requires.format.block_least, c.block_size.ensures.value)
 
 pub plan_range-requires-clause-half_full : goal.plan_range-requires-clause-half_full
 plan_range-requires-clause-half_full g c =

@@ -5,7 +5,8 @@ use Rattle.editor_core.specs.Core.{core_of}
 use Rattle.editor_core.specs.Frees.{Reclaims}
 use Rattle.editor_core.proofs.Gone.{long}
 use Rattle.editor_core.proofs.Reclaiming.{freeing_none, freeing_more}
-use Rattle.editor_core.proofs.Reclaimed.{reclaimed, reclaim_fails, reclaim_stopped, within, all_of}
+use Rattle.editor_core.proofs.Reclaimed.{reclaimed, reclaim_fails, reclaim_stopped}
+use Rattle.editor_core.proofs.ReclaimLimits.{within, all_of}
 use Rattle.editor_core.proofs.studio.Studio.reclaim.Goals as goal
 
 pub returns-in-Some : goal.returns-in-Some

@@ -1,5 +1,5 @@
 -- The block at the place, and then its file.
-use Rattle.std.proofs.Common.{◌≡◌, ◌∙◌, sym, ap, subst, Err}
+use Rattle.std.proofs.Common.{◌∙◌, sym, ap, subst, Err}
 use Rattle.std.proofs.lemmas.Result.{err_from_is_err_and}
 use Rattle.editor_core.specs.Core.{core_of}
 use Rattle.editor_core.specs.Scans.{MayStand, Scans}
