@@ -1,20 +1,9 @@
 // Each kind of call of the system fails once below each call of a store that makes it.
-use crate::FolderStore;
-use crate::watched::{Call, watch_files};
-use disk_model::{ListFault, Store};
+use crate::asking::{Asked, Step, first_other};
+use crate::watched::Call;
 use std::alloc::AllocError;
 use std::fs;
 use std::io::ErrorKind;
-
-/// The call of a store that a test makes.
-#[derive(Clone, Copy, Debug, PartialEq, Eq)]
-enum Asked {
-    Size,
-    Read,
-    Write,
-    Sync,
-    Remove,
-}
 
 /// Calls on file 16, which is there, and on file 17, which is absent, each with the call of the system that fails below
 /// it, and how many of that kind are served before.
@@ -53,25 +42,6 @@ const FIRST_FAULTS: [(Call, u32); 5] = [
     (Call::Write, 0),
 ];
 
-// Whether the call succeeds.
-fn ask<S: Store>(store: &mut S, asked: Asked, file: u64) -> bool {
-    let mut buf = [0u8; 4];
-    match asked {
-        Asked::Size => store.size(file).is_ok(),
-        Asked::Read => store.read_at(file, 0, &mut buf).is_ok(),
-        Asked::Write => store.write_at(file, 0, b"abcd").is_ok(),
-        Asked::Sync => store.sync(file).is_ok(),
-        Asked::Remove => store.remove(file).is_ok(),
-    }
-}
-
-fn is_change(asked: Asked) -> bool {
-    match asked {
-        Asked::Size | Asked::Read => false,
-        Asked::Write | Asked::Sync | Asked::Remove => true,
-    }
-}
-
 // Whether the call of a new store over the folder fails where the call of the system does, and raises the count of its
 // kind by one.
 fn fails(
@@ -81,155 +51,155 @@ fn fails(
     call: Call,
     served: u32,
 ) -> Result<bool, AllocError> {
-    let (files, watch) = watch_files(rt)?;
-    let mut store = FolderStore::new(files, rt.alloc(), "faults-store")?;
-    watch.fail(call, served);
-    let is_fault = !ask(&mut store, asked, file);
-    let is_counted = store.faults() == 1 && store.change_faults() == u64::from(is_change(asked));
-    Ok(is_fault && is_counted)
+    let steps = [
+        Step::FailAt(call, served),
+        Step::Fails(asked, file),
+        Step::Faults(1, u64::from(asked.is_change())),
+    ];
+    Ok(first_other(rt, "faults-store", &steps)?.is_none())
 }
+
+const WRITTEN: [Step; 1] = [Step::Done(Asked::Write, 16)];
 
 #[test]
 fn each_fault_of_a_store_is_counted_as_its_call(rt: HostRuntime) -> Result<(), AllocError> {
     let home = "faults-store";
     for (asked, file, call, served) in &FAULTS {
         let _ = fs::remove_dir_all(&rt, home);
-        let mut before = FolderStore::new(rt, rt.alloc(), home)?;
-        assert!(rt; ask(&mut before, Asked::Write, 16));
-        assert!(rt;
-            fails(rt, *asked, *file, *call, *served)?,
-            "{asked:?} {file} {call:?} {served}"
-        );
+        assert!(rt; first_other(rt, home, &WRITTEN)?.is_none());
+        let is_fault = fails(rt, *asked, *file, *call, *served)?;
+        assert!(rt; is_fault, "{asked:?} {file} {call:?} {served}");
     }
     for (call, served) in &FIRST_FAULTS {
         let _ = fs::remove_dir_all(&rt, home);
-        assert!(rt;
-            fails(rt, Asked::Write, 16, *call, *served)?,
-            "{call:?} {served}"
-        );
+        let is_fault = fails(rt, Asked::Write, 16, *call, *served)?;
+        assert!(rt; is_fault, "{call:?} {served}");
     }
     let _ = fs::remove_dir_all(&rt, home);
     Ok(())
 }
 
-#[test]
-fn faults_of_open_files_and_of_lists_are_counted(rt: HostRuntime) -> Result<(), AllocError> {
-    let _ = fs::remove_dir_all(&rt, "faults-list");
-    let (files, watch) = watch_files(rt)?;
-    let mut store = FolderStore::new(files, rt.alloc(), "faults-list")?;
-    assert!(rt; ask(&mut store, Asked::Write, 16));
-    watch.fail(Call::Look, 0);
-    assert!(rt; !ask(&mut store, Asked::Size, 16) && store.faults() == 1);
-    assert!(rt; store.write_at(16, 9, b"").is_err() && store.change_faults() == 1);
-    let mut listed = Vec::new(rt.alloc());
-    assert!(rt; store.files(&mut listed) == Err(ListFault::Failed) && store.faults() == 3);
-    watch.fail(Call::List, 0);
-    assert!(rt; store.files(&mut listed) == Err(ListFault::Failed) && store.faults() == 4);
-    watch.fail(Call::Read, 0);
-    assert!(rt; store.files(&mut listed) == Err(ListFault::Failed) && store.faults() == 5);
-    watch.fail(Call::Resize, 0);
-    assert!(rt; store.write_at(16, 9, b"").is_err() && store.change_faults() == 2);
-    assert_eq!(rt; store.faults(), 6);
-    let _ = fs::remove_dir_all(&rt, "faults-list");
-    Ok(())
-}
+const OPEN: [Step; 13] = [
+    Step::Done(Asked::Write, 16),
+    Step::FailAt(Call::Look, 0),
+    Step::Fails(Asked::Size, 16),
+    Step::GrowthFails,
+    Step::ListFails,
+    Step::Faults(3, 1),
+    Step::FailAt(Call::List, 0),
+    Step::ListFails,
+    Step::FailAt(Call::Read, 0),
+    Step::ListFails,
+    Step::FailAt(Call::Resize, 0),
+    Step::GrowthFails,
+    Step::Faults(6, 2),
+];
+
+// No sync is trusted after one that failed.
+const LOST: [Step; 8] = [
+    Step::Done(Asked::Write, 16),
+    Step::FailAt(Call::SyncFile, 0),
+    Step::Fails(Asked::Sync, 16),
+    Step::ServeAll,
+    Step::Fails(Asked::Sync, 16),
+    Step::Fails(Asked::Sync, 0),
+    Step::Faults(3, 3),
+    Step::Done(Asked::Read, 16),
+];
+
+// A sync that comes early, since too many files wait for one, is a fault of the write.
+const EARLY: [Step; 7] = [
+    Step::FailAt(Call::SyncFile, 0),
+    Step::All(Asked::Write, 16, 528),
+    Step::Fails(Asked::Write, 528),
+    Step::Faults(1, 1),
+    Step::ServeAll,
+    Step::Fails(Asked::Sync, 16),
+    Step::Faults(2, 2),
+];
+
+// Calls that move one byte go on. Then the disk is full behind two bytes more, and then a writer takes nothing.
+const SHORT: [Step; 12] = [
+    Step::Most(1),
+    Step::Done(Asked::Write, 16),
+    Step::Read(16, 0, b"abcd"),
+    Step::FailAs(ErrorKind::StorageFull),
+    Step::FailAt(Call::Write, 2),
+    Step::Fails(Asked::Write, 17),
+    Step::Faults(1, 1),
+    Step::Size(17, Some(2)),
+    Step::ServeAll,
+    Step::Most(0),
+    Step::Fails(Asked::Write, 16),
+    Step::Faults(2, 2),
+];
+
+// A file of 2^62 bytes, and one that is longer.
+const LONG: [Step; 6] = [
+    Step::Done(Asked::Write, 16),
+    Step::Length(4611686018427387904),
+    Step::Size(16, Some(4611686018427387904)),
+    Step::Length(4611686018427387905),
+    Step::Fails(Asked::Size, 16),
+    Step::Faults(1, 0),
+];
+
+// Each in a folder of its own.
+const IN_TURN: [(&'static str, &'static [Step]); 5] = [
+    ("faults-open", &OPEN),
+    ("faults-sync", &LOST),
+    ("faults-early", &EARLY),
+    ("faults-short", &SHORT),
+    ("faults-long", &LONG),
+];
 
 #[test]
-fn no_sync_is_trusted_after_one_that_failed(rt: HostRuntime) -> Result<(), AllocError> {
-    let _ = fs::remove_dir_all(&rt, "faults-sync");
-    let (files, watch) = watch_files(rt)?;
-    let mut store = FolderStore::new(files, rt.alloc(), "faults-sync")?;
-    assert!(rt; ask(&mut store, Asked::Write, 16));
-    watch.fail(Call::SyncFile, 0);
-    assert!(rt; !ask(&mut store, Asked::Sync, 16));
-    watch.fails.set(None);
-    assert!(rt; !ask(&mut store, Asked::Sync, 16) && !ask(&mut store, Asked::Sync, 0));
-    assert_eq!(rt; store.change_faults(), 3);
-    assert!(rt; ask(&mut store, Asked::Read, 16));
-    let _ = fs::remove_dir_all(&rt, "faults-sync");
-    Ok(())
-}
-
-#[test]
-fn an_early_sync_that_fails_is_a_fault_of_the_write(rt: HostRuntime) -> Result<(), AllocError> {
-    let _ = fs::remove_dir_all(&rt, "faults-early");
-    let (files, watch) = watch_files(rt)?;
-    let mut store = FolderStore::new(files, rt.alloc(), "faults-early")?;
-    watch.fail(Call::SyncFile, 0);
-    for file in 16..528 {
-        assert!(rt; ask(&mut store, Asked::Write, file));
+fn faults_are_counted_and_go_on_or_not(rt: HostRuntime) -> Result<(), AllocError> {
+    for (home, steps) in &IN_TURN {
+        let _ = fs::remove_dir_all(&rt, home);
+        let other = first_other(rt, home, steps)?;
+        assert!(rt; other.is_none(), "{home} {other:?}");
+        let _ = fs::remove_dir_all(&rt, home);
     }
-    assert!(rt; !ask(&mut store, Asked::Write, 528) && store.change_faults() == 1);
-    watch.fails.set(None);
-    assert!(rt; !ask(&mut store, Asked::Sync, 16) && store.change_faults() == 2);
-    let _ = fs::remove_dir_all(&rt, "faults-early");
     Ok(())
 }
 
-#[test]
-fn short_calls_go_on_and_a_full_disk_fails(rt: HostRuntime) -> Result<(), AllocError> {
-    let _ = fs::remove_dir_all(&rt, "faults-full");
-    let (files, watch) = watch_files(rt)?;
-    let mut store = FolderStore::new(files, rt.alloc(), "faults-full")?;
-    watch.most.set(1);
-    assert!(rt; ask(&mut store, Asked::Write, 16));
-    let mut buf = [0u8; 6];
-    assert_eq!(rt; store.read_at(16, 0, &mut buf), Ok(4));
-    assert!(rt; buf.as_slice() == b"abcd\0\0".as_slice());
-    // The disk is full behind two bytes more.
-    watch.kind.set(ErrorKind::StorageFull);
-    watch.fail(Call::Write, 2);
-    assert!(rt; store.write_at(16, 4, b"efgh").is_err() && store.change_faults() == 1);
-    assert_eq!(rt; store.size(16), Ok(Some(6)));
-    watch.fails.set(None);
-    watch.most.set(0);
-    assert!(rt; store.write_at(16, 4, b"efgh").is_err() && store.change_faults() == 2);
-    let _ = fs::remove_dir_all(&rt, "faults-full");
-    Ok(())
+// The file that is written, and whether it is then synced where the opening behind so many of a folder is not allowed:
+// the project's own is opened first, and then the two above it.
+fn closed_above(served: u32, asked_sync: Step) -> [Step; 4] {
+    [
+        Step::Done(Asked::Write, 16),
+        Step::FailAs(ErrorKind::PermissionDenied),
+        Step::FailAt(Call::Open, served),
+        asked_sync,
+    ]
 }
 
-#[test]
-fn a_file_longer_than_it_may_be_fails(rt: HostRuntime) -> Result<(), AllocError> {
-    let _ = fs::remove_dir_all(&rt, "faults-long");
-    let (files, watch) = watch_files(rt)?;
-    let mut store = FolderStore::new(files, rt.alloc(), "faults-long")?;
-    assert!(rt; ask(&mut store, Asked::Write, 16));
-    watch.told.set(Some(4611686018427387904));
-    assert_eq!(rt; store.size(16), Ok(Some(4611686018427387904)));
-    watch.told.set(Some(4611686018427387905));
-    assert!(rt; store.size(16).is_err() && store.faults() == 1);
-    let _ = fs::remove_dir_all(&rt, "faults-long");
-    Ok(())
-}
+const SYNCED: Step = Step::Done(Asked::Sync, 16);
 
-// Whether a new store over the folder writes file 16, and whether it then syncs it, where the folder above may not be
-// opened.
-fn write_below_a_closed_folder(rt: HostRuntime, served: u32) -> Result<(bool, bool), AllocError> {
-    let (files, watch) = watch_files(rt)?;
-    let mut store = FolderStore::new(files, rt.alloc(), "faults-above")?;
-    let is_written = ask(&mut store, Asked::Write, 16);
-    watch.kind.set(ErrorKind::PermissionDenied);
-    watch.fail(Call::Open, served);
-    let is_synced = ask(&mut store, Asked::Sync, 16);
-    Ok((is_written, is_synced))
-}
+const NOT_SYNCED: Step = Step::Fails(Asked::Sync, 16);
 
-// The project's own folder is opened first, and then the two above it.
+// How many openings are allowed, whether a folder above is made anew before, and what the sync comes to: of both folders
+// that are made, of none, and of the inner one alone.
+const ABOVE: [(u32, &'static str, Step); 5] = [
+    (2, "faults-above", NOT_SYNCED),
+    (1, "", SYNCED),
+    (0, "", NOT_SYNCED),
+    (2, "faults-above/project", SYNCED),
+    (1, "faults-above/project", NOT_SYNCED),
+];
+
 #[test]
 fn a_folder_above_in_which_nothing_was_made_may_be_closed(
     rt: HostRuntime,
 ) -> Result<(), AllocError> {
-    let _ = fs::remove_dir_all(&rt, "faults-above");
-    // Both are made.
-    assert_eq!(rt; write_below_a_closed_folder(rt, 2)?, (true, false));
-    // None is.
-    assert_eq!(rt; write_below_a_closed_folder(rt, 1)?, (true, true));
-    assert_eq!(rt; write_below_a_closed_folder(rt, 0)?, (true, false));
-    // The inner one alone is.
-    let _ = fs::remove_dir_all(&rt, "faults-above/project");
-    assert_eq!(rt; write_below_a_closed_folder(rt, 2)?, (true, true));
-    let _ = fs::remove_dir_all(&rt, "faults-above/project");
-    assert_eq!(rt; write_below_a_closed_folder(rt, 1)?, (true, false));
+    for (served, removed, want) in &ABOVE {
+        if !removed.is_empty() {
+            let _ = fs::remove_dir_all(&rt, removed);
+        }
+        let other = first_other(rt, "faults-above", &closed_above(*served, *want))?;
+        assert!(rt; other.is_none(), "{served} {removed} {other:?}");
+    }
     let _ = fs::remove_dir_all(&rt, "faults-above");
     Ok(())
 }

@@ -8,6 +8,7 @@ use crate::paths::Paths;
 use crate::plain::{
     Made, absent_is_none, length_at, make_new, open_plain, plain_length, read_full, write_full,
 };
+use crate::syncing::SyncFiles;
 use pcm_base::Failed;
 use std::alloc::{AllocError, Global};
 use std::fs::{self, OpenFile, OpenOptions};
@@ -16,8 +17,9 @@ use std::rt::Files;
 
 /// File n is `project/n` of a folder, with n in decimal.
 #[derive(Drop)]
-pub(crate) struct Folder<R: Files> {
+pub(crate) struct Folder<R: Files, W> {
     pub(crate) files: R,
+    how: W,
     pub(crate) paths: Paths,
     open: OpenFiles<R::File>,
     entries: Entries<R::File>,
@@ -27,11 +29,17 @@ pub(crate) struct Folder<R: Files> {
     is_lost: bool,
 }
 
-impl<R: Files + Drop> Folder<R> {
+impl<R: Files + Drop, W: SyncFiles<R::File> + Drop> Folder<R, W> {
     // Nothing is opened yet.
-    pub(crate) fn new(files: R, alloc: Global, home: &str) -> Result<Folder<R>, AllocError> {
+    pub(crate) fn new(
+        files: R,
+        how: W,
+        alloc: Global,
+        home: &str,
+    ) -> Result<Folder<R, W>, AllocError> {
         Ok(Folder {
             files,
+            how,
             paths: Paths::new(alloc, home, "project")?,
             open: OpenFiles::new(alloc)?,
             entries: Entries::new(alloc, home)?,
@@ -103,7 +111,7 @@ impl<R: Files + Drop> Folder<R> {
                 is_writable: true,
             },
         };
-        if self.open.keep_unsynced(handle).is_err() {
+        if self.open.keep_written(handle, &self.how).is_err() {
             self.is_lost = true;
             return Err(Failed);
         }
@@ -173,14 +181,7 @@ impl<R: Files + Drop> Folder<R> {
     // Waits until what the file holds is on the disk. It may be absent.
     fn sync_file(&mut self, file: u64) -> Result<(), Failed> {
         self.open_to_read(file)?;
-        let Some(handle) = self.open.take(file) else {
-            return Ok(());
-        };
-        if handle.inner.sync_data().is_err() {
-            return Err(Failed);
-        }
-        self.open.keep(handle);
-        Ok(())
+        self.open.sync(file, &self.how)
     }
 
     pub(crate) fn remove(&mut self, file: u64) -> Result<(), Failed> {

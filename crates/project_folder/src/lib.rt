@@ -6,6 +6,8 @@
 //! what the system makes of a call is trusted, and `docs/DISK.md` says what is asked of it and which calls are made.
 #![tactic(auto)]
 
+#[cfg(test)]
+mod asking;
 mod counts;
 mod entries;
 #[cfg(test)]
@@ -23,6 +25,9 @@ mod port_fault_tests;
 mod sounds;
 mod store;
 #[cfg(test)]
+mod sync_tests;
+mod syncing;
+#[cfg(test)]
 mod tests;
 mod vault;
 #[cfg(test)]
@@ -30,5 +35,7 @@ mod watched;
 
 pub use file_sink::FileSink;
 pub use file_source::FileSource;
+pub use open_files::Handle;
 pub use store::FolderStore;
+pub use syncing::{OneByOne, SideBySide, SyncFiles};
 pub use vault::FolderVault;

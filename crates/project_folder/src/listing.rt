@@ -5,6 +5,7 @@ ghost use Rattle.std.specs.List.Sorted.{IsStrictlyIncreasing};
 use crate::folder::Folder;
 use crate::paths::Paths;
 use crate::plain::absent_is_none;
+use crate::syncing::SyncFiles;
 use disk_model::ListFault;
 use itoa::Buffer;
 use pcm_base::Failed;
@@ -88,8 +89,8 @@ fn add_all<R: Files>(
 }
 
 // Puts the numbers of the folder's files into `out`, rising, in place of what it has. An absent folder has none.
-pub(crate) fn list_numbers<R: Files + Drop>(
-    folder: &mut Folder<R>,
+pub(crate) fn list_numbers<R: Files + Drop, W: SyncFiles<R::File> + Drop>(
+    folder: &mut Folder<R, W>,
     out: &mut Vec<u64>,
 ) -> Result<(), ListFault>
     ensures rising { OnOk result (IsStrictlyIncreasing out.new.items) }

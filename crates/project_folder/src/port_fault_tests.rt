@@ -99,7 +99,7 @@ fn short_calls_on_sounds_go_on(rt: HostRuntime) -> Result<(), AllocError> {
     let mut buf = [0u8; 4];
     watch.most.set(1);
     assert!(rt; ask(&mut vault, Asked::Append, "a"));
-    assert_eq!(rt; vault.read_at("a", 0, &mut buf), Ok(3));
+    assert!(rt; vault.read_at("a", 0, &mut buf) == Ok(3));
     assert!(rt; buf.as_slice() == b"xyz\0".as_slice());
     // The sound is open, and its size is asked of that.
     watch.told.set(Some(4611686018427387905));
@@ -126,10 +126,10 @@ fn each_fault_of_a_sink_is_counted(rt: HostRuntime) -> Result<(), AllocError> {
     assert!(rt; sink.write(b"ab").is_err() && sink.faults() == 3);
     watch.fails.set(None);
     watch.most.set(1);
-    assert_eq!(rt; sink.write(b"ab"), Ok(1));
+    assert!(rt; sink.write(b"ab") == Ok(1));
     watch.most.set(0);
     assert!(rt; sink.write(b"b").is_err() && sink.faults() == 4);
-    assert_eq!(rt; sink.write(b""), Ok(0));
+    assert!(rt; sink.write(b"") == Ok(0));
     watch.kind.set(ErrorKind::StorageFull);
     watch.fail(Call::Write, 0);
     assert!(rt; sink.write(b"b").is_err() && sink.faults() == 5);
@@ -149,11 +149,11 @@ fn each_fault_of_a_source_is_counted(rt: HostRuntime) -> Result<(), AllocError> 
     watch.fail(Call::Open, 0);
     assert!(rt; source.read(&mut buf).is_err() && source.faults() == 2);
     watch.fails.set(None);
-    assert_eq!(rt; source.read(&mut buf), Ok(1));
+    assert!(rt; source.read(&mut buf) == Ok(1));
     watch.fail(Call::Read, 0);
     assert!(rt; source.read(&mut buf).is_err() && source.faults() == 3);
     watch.fails.set(None);
-    assert_eq!(rt; source.read(&mut buf), Ok(0));
+    assert!(rt; source.read(&mut buf) == Ok(0));
     let _ = fs::remove_file(&rt, name);
     Ok(())
 }

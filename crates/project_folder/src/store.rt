@@ -6,11 +6,14 @@ ghost use Rattle.project_folder.specs.Counts.{no_counts};
 use crate::counts::Counts;
 use crate::folder::Folder;
 use crate::listing::list_numbers;
+use crate::syncing::{OneByOne, SideBySide, SyncFiles};
 use disk_model::{ListFault, Store};
 use pcm_base::Failed;
 use std::alloc::{AllocError, Global};
+use std::fs::File;
 use std::os::unix::fs::FileExt;
 use std::rt::Files;
+use std::thread::Threads;
 
 /// File n is `project/n` of a folder, with n in decimal. It tells nothing of what its files hold.
 ///
@@ -18,27 +21,52 @@ use std::rt::Files;
 /// file, as a link or a folder, makes each call on it fail, and so does a file of more than 2^62 bytes. After a sync
 /// that failed each later one fails.
 #[derive(Drop)]
-pub struct FolderStore<R: Files> {
-    folder: Folder<R>,
+pub struct FolderStore<R: Files, W> {
+    folder: Folder<R, W>,
     counts: Counts,
 }
 
-impl<R: Files + Drop> FolderStore<R> {
+impl<R: Files + Drop> FolderStore<R, OneByOne> {
     /// The files of the project in the folder `home`; an empty name is the current folder. Nothing is opened yet.
     ///
     /// # Errors
     /// There is no memory for the paths.
-    pub fn new(files: R, alloc: Global, home: &str) -> Result<FolderStore<R>, AllocError>
+    pub fn new(files: R, alloc: Global, home: &str) -> Result<FolderStore<R, OneByOne>, AllocError>
+        ensures { IfOk result (λ store. store.counts ≡ no_counts) }
+    {
+        FolderStore::over(files, OneByOne, alloc, home)
+    }
+}
+
+impl<R: Files<File = File> + Drop, T: Threads + Drop> FolderStore<R, SideBySide<T>> {
+    /// The same, with files that are waited for side by side in these threads.
+    ///
+    /// # Errors
+    /// There is no memory for the paths.
+    pub fn side_by_side(
+        files: R,
+        threads: T,
+        alloc: Global,
+        home: &str,
+    ) -> Result<FolderStore<R, SideBySide<T>>, AllocError>
+        ensures { IfOk result (λ store. store.counts ≡ no_counts) }
+    {
+        FolderStore::over(files, SideBySide::new(threads), alloc, home)
+    }
+}
+
+impl<R: Files + Drop, W: SyncFiles<R::File> + Drop> FolderStore<R, W> {
+    fn over(files: R, how: W, alloc: Global, home: &str) -> Result<FolderStore<R, W>, AllocError>
         ensures { IfOk result (λ store. store.counts ≡ no_counts) }
     {
         Ok(FolderStore {
-            folder: Folder::new(files, alloc, home)?,
+            folder: Folder::new(files, how, alloc, home)?,
             counts: Counts::new(),
         })
     }
 }
 
-impl<R: Files + Drop> Store for FolderStore<R>
+impl<R: Files + Drop, W: SyncFiles<R::File> + Drop> Store for FolderStore<R, W>
 where
     R::File: FileExt,
 {

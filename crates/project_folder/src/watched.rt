@@ -1,4 +1,6 @@
 // Files of the system that are counted, and that fail where a test wants it.
+ghost use Rattle.std.specs.Prelude.{◌<◌, IfSome};
+
 use std::alloc::AllocError;
 use std::cell::Cell;
 use std::fs::{self, FileTimes, Metadata, OpenFile, OpenOptions};
@@ -32,26 +34,6 @@ pub(crate) enum Call {
     MakeFolder,
 }
 
-/// How many calls there were of the kinds that change the disk, open a file or look at one.
-#[derive(Clone, Copy, Debug, PartialEq, Eq)]
-pub(crate) struct Counted {
-    pub(crate) opens: u32,
-    pub(crate) looks: u32,
-    pub(crate) writes: u32,
-    pub(crate) file_syncs: u32,
-    pub(crate) folder_syncs: u32,
-    pub(crate) removals: u32,
-}
-
-const NONE: Counted = Counted {
-    opens: 0,
-    looks: 0,
-    writes: 0,
-    file_syncs: 0,
-    folder_syncs: 0,
-    removals: 0,
-};
-
 /// What a test wants of the calls, and what was counted.
 #[derive(Drop)]
 pub(crate) struct Watch {
@@ -65,7 +47,8 @@ pub(crate) struct Watch {
     pub(crate) most: Cell<usize>,
     /// How long each file is told to be, in place of what it is.
     pub(crate) told: Cell<Option<u64>>,
-    counted: Cell<Counted>,
+    /// How many calls there were: openings, looks, writes, syncs of files and of folders, and removals.
+    counted: Cell<[u32; 6]>,
 }
 
 impl Watch {
@@ -76,7 +59,7 @@ impl Watch {
             kind: Cell::new(ErrorKind::Other),
             most: Cell::new(4096),
             told: Cell::new(None),
-            counted: Cell::new(NONE),
+            counted: Cell::new([0; 6]),
         }
     }
 
@@ -87,23 +70,17 @@ impl Watch {
     }
 
     /// What was counted since this was asked last.
-    pub(crate) fn count(&self) -> Counted {
-        self.counted.replace(NONE)
+    pub(crate) fn count(&self) -> [u32; 6] {
+        self.counted.replace([0; 6])
     }
 
     // Counts a call, and fails where that is wanted.
     fn meet(&self, call: Call) -> io::Result<()> {
-        let mut counted = self.counted.get();
-        match call {
-            Call::Open => counted.opens = counted.opens.saturating_add(1),
-            Call::Look => counted.looks = counted.looks.saturating_add(1),
-            Call::Write => counted.writes = counted.writes.saturating_add(1),
-            Call::SyncFile => counted.file_syncs = counted.file_syncs.saturating_add(1),
-            Call::SyncFolder => counted.folder_syncs = counted.folder_syncs.saturating_add(1),
-            Call::Remove => counted.removals = counted.removals.saturating_add(1),
-            _ => {}
+        if let Some(place) = place_of(call) {
+            let mut counted = self.counted.get();
+            counted[place] = counted[place].saturating_add(1);
+            self.counted.set(counted);
         }
-        self.counted.set(counted);
         if self.fails.get() != Some(call) {
             return Ok(());
         }
@@ -119,6 +96,21 @@ impl Watch {
             Some(length) => Metadata::of_file(length),
             None => metadata,
         }
+    }
+}
+
+// Where the calls of a kind are counted.
+fn place_of(call: Call) -> Option<usize>
+    ensures { IfSome result (λ place. place < 6) }
+{
+    match call {
+        Call::Open => Some(0),
+        Call::Look => Some(1),
+        Call::Write => Some(2),
+        Call::SyncFile => Some(3),
+        Call::SyncFolder => Some(4),
+        Call::Remove => Some(5),
+        _ => None,
     }
 }
 

@@ -11,31 +11,33 @@ mod streams;
 mod tests;
 
 use edit_ports::{OpenGate, Sink, write_all};
-use project_folder::{FileSink, FileSource, FolderStore, FolderVault};
+use project_folder::{FileSink, FileSource, FolderStore, FolderVault, SideBySide};
 use session_run::studio_call;
 use std::alloc::{AllocError, Global};
+use std::fs::File;
 use std::io::ErrorKind;
 use std::process::ExitCode;
 use std::rt::Files;
+use std::thread::Threads;
 use std::{env, fs};
 use streams::{StreamSink, StreamSource};
 
 /// The devices of a folder.
 struct Devices<R: Files> {
-    store: FolderStore<R>,
+    store: FolderStore<R, SideBySide<R>>,
     vault: FolderVault<R>,
     mic: FileSource<R>,
     speaker: FileSink<R>,
 }
 
 // Nothing of the folder is touched before the first call on a device.
-fn devices_of<R: Files + Clone + Drop>(
+fn devices_of<R: Files<File = File> + Threads + Clone + Drop>(
     rt: &R,
     alloc: Global,
     folder: &str,
 ) -> Result<Devices<R>, AllocError> {
     Ok(Devices {
-        store: FolderStore::new(rt.clone()?, alloc, folder)?,
+        store: FolderStore::side_by_side(rt.clone()?, rt.clone()?, alloc, folder)?,
         vault: FolderVault::new(rt.clone()?, alloc, folder)?,
         mic: FileSource::new(rt.clone()?, alloc, folder, "mic.raw")?,
         speaker: FileSink::new(rt.clone()?, alloc, folder, "speaker.raw")?,

@@ -44,42 +44,42 @@ impl Write for WriterThatFails {
 fn a_source_gives_what_its_reader_has(rt: HostRuntime) {
     let mut source = StreamSource::new(Cursor::new(b"track\n".as_slice()));
     let mut buf = [0u8; 4];
-    assert_eq!(rt; source.read(&mut buf), Ok(4));
+    assert!(rt; source.read(&mut buf) == Ok(4));
     assert!(rt; buf.as_slice() == b"trac".as_slice());
-    assert_eq!(rt; source.read(&mut buf), Ok(2));
+    assert!(rt; source.read(&mut buf) == Ok(2));
     assert!(rt; buf[..2] == b"k\n"[..]);
-    assert_eq!(rt; source.read(&mut buf), Ok(0));
-    assert_eq!(rt; source.faults(), 0);
+    assert!(rt; source.read(&mut buf) == Ok(0));
+    assert!(rt; source.faults() == 0);
 }
 
 #[test]
 fn a_sink_fails_where_its_writer_takes_nothing(rt: HostRuntime) {
     let mut room = [0u8; 4];
     let mut sink = StreamSink::new(Cursor::new(room.as_mut_slice()));
-    assert_eq!(rt; sink.write(b"ok 12\n"), Ok(4));
-    assert_eq!(rt; sink.write(b""), Ok(0));
-    assert_eq!(rt; sink.faults(), 0);
+    assert!(rt; sink.write(b"ok 12\n") == Ok(4));
+    assert!(rt; sink.write(b"") == Ok(0));
+    assert!(rt; sink.faults() == 0);
     assert!(rt; sink.write(b"2\n").is_err());
-    assert_eq!(rt; sink.faults(), 1);
+    assert!(rt; sink.faults() == 1);
 }
 
 #[test]
 fn a_source_fails_where_its_reader_does(rt: HostRuntime) {
     let mut source = StreamSource::new(ReaderThatFails { is_spent: false });
     let mut buf = [0u8; 4];
-    assert_eq!(rt; source.read(&mut buf), Ok(1));
-    assert_eq!(rt; source.faults(), 0);
+    assert!(rt; source.read(&mut buf) == Ok(1));
+    assert!(rt; source.faults() == 0);
     assert!(rt; source.read(&mut buf).is_err());
     assert!(rt; source.read(&mut buf).is_err());
-    assert_eq!(rt; source.faults(), 2);
+    assert!(rt; source.faults() == 2);
 }
 
 #[test]
 fn a_sink_fails_where_its_writer_does(rt: HostRuntime) {
     let mut sink = StreamSink::new(WriterThatFails { is_spent: false });
-    assert_eq!(rt; sink.write(b"ok 1\n"), Ok(1));
-    assert_eq!(rt; sink.faults(), 0);
+    assert!(rt; sink.write(b"ok 1\n") == Ok(1));
+    assert!(rt; sink.faults() == 0);
     assert!(rt; sink.write(b"k 1\n").is_err());
     assert!(rt; sink.write(b"k 1\n").is_err());
-    assert_eq!(rt; sink.faults(), 2);
+    assert!(rt; sink.faults() == 2);
 }

@@ -1,0 +1,74 @@
+// How several files are waited for.
+use crate::open_files::Handle;
+use pcm_base::Failed;
+use std::fs::{File, OpenFile};
+use std::thread::{Threads, join};
+
+/// How many threads wait at once: behind more than these one sync hardly gets quicker for another.
+const THREADS: usize = 16;
+
+/// Waits until what each of several open files holds is on the disk.
+///
+/// A file system mostly puts files on its disk that are waited for at the same time for the price of a few.
+pub trait SyncFiles<F> {
+    /// Waits for each of the files.
+    ///
+    /// # Errors
+    /// The system failed to put one of them on the disk. What the others came to isn't told.
+    fn sync_files(&self, files: &[Handle<F>]) -> Result<(), Failed>;
+}
+
+/// Waits for one file behind the other.
+#[derive(Drop)]
+pub struct OneByOne;
+
+/// Waits for up to 16 files at once, each in a thread of its own. Where no thread can be made they are waited for in
+/// this one.
+#[derive(Drop)]
+pub struct SideBySide<T> {
+    threads: T,
+}
+
+impl<T: Threads> SideBySide<T> {
+    /// Waits in threads of this handle.
+    pub fn new(threads: T) -> SideBySide<T> {
+        SideBySide { threads }
+    }
+}
+
+impl<F: OpenFile> SyncFiles<F> for OneByOne {
+    fn sync_files(&self, files: &[Handle<F>]) -> Result<(), Failed> {
+        sync_each(files)
+    }
+}
+
+// The files are the system's own: a thread can't be given a file of a type that is known to the caller alone.
+impl<T: Threads> SyncFiles<File> for SideBySide<T> {
+    fn sync_files(&self, files: &[Handle<File>]) -> Result<(), Failed> {
+        sync_parts(&self.threads, files, files.len().div_ceil(THREADS))
+    }
+}
+
+// Waits for parts of so many files at once, the last of them in this thread.
+fn sync_parts<T: Threads>(threads: &T, files: &[Handle<File>], size: usize) -> Result<(), Failed> {
+    if size == 0 || files.len() <= size {
+        return sync_each(files);
+    }
+    let (part, rest) = files.split_at(size);
+    let (here, there) = join(
+        threads,
+        || sync_each(part),
+        || sync_parts(threads, rest, size),
+    );
+    here?;
+    there
+}
+
+fn sync_each<F: OpenFile>(files: &[Handle<F>]) -> Result<(), Failed> {
+    for handle in files {
+        if handle.inner.sync_data().is_err() {
+            return Err(Failed);
+        }
+    }
+    Ok(())
+}
