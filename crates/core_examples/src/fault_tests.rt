@@ -81,7 +81,7 @@ fn plays_on<S: Store>(
         return Ok(End::Stopped { commit });
     }
     let again = play(alloc, studio, &mut vault, rest)?;
-    assert_eq!(rt; again.rows, rest.len());
+    assert!(rt; again.rows == rest.len());
     Ok(End::WentOn)
 }
 
@@ -93,9 +93,9 @@ fn keeps_told(
     call: u64,
     commit: u64,
 ) -> Result<(), Fail> {
-    assert_eq!(rt; store.call_count(), call);
-    assert_eq!(rt; store.faults(), 1);
-    assert_eq!(rt; store.change_faults(), 1);
+    assert!(rt; store.call_count() == call);
+    assert!(rt; store.faults() == 1);
+    assert!(rt; store.change_faults() == 1);
     let number = found(rt, alloc, store)?.number;
     assert!(rt; number == commit || number.checked_sub(1) == Some(commit));
     Ok(())
@@ -103,11 +103,11 @@ fn keeps_told(
 
 // The same where the studio went on.
 fn keeps_all(rt: &impl Abort, alloc: Global, store: RamStore) -> Result<(), Fail> {
-    assert_eq!(rt; store.faults(), 1);
-    assert_eq!(rt; store.change_faults(), 0);
+    assert!(rt; store.faults() == 1);
+    assert!(rt; store.change_faults() == 0);
     let kept = found(rt, alloc, store)?;
-    assert_eq!(rt; kept.number, LAST);
-    assert_eq!(rt; kept.files.len(), FILES.len());
+    assert!(rt; kept.number == LAST);
+    assert!(rt; kept.files.len() == FILES.len());
     Ok(())
 }
 
@@ -119,7 +119,7 @@ fn begins_again(rt: &impl Abort, alloc: Global, store: RamStore) -> Result<(), F
         Err(_) => return Err("not made".into()),
     }
     let kept = found(rt, alloc, store)?;
-    assert_eq!(rt; kept.number, 0);
+    assert!(rt; kept.number == 0);
     assert!(rt; kept.files.as_slice() == [0].as_slice());
     Ok(())
 }
@@ -139,7 +139,7 @@ fn is_met_by_script(
     let store = studio.into_store();
     match end {
         End::Whole => {
-            assert_eq!(rt; store.faults(), 0);
+            assert!(rt; store.faults() == 0);
             return Ok(false);
         }
         End::WentOn => keeps_all(rt, alloc, store)?,
@@ -152,14 +152,14 @@ fn is_met_by_script(
 fn is_met(rt: &impl Abort, alloc: Global, script: &[Row], call: u64) -> Result<bool, Fail> {
     let mut store = disk(alloc, &[call])?;
     if let Err(fault) = create(alloc, &mut store, 8000, 4, DEPTH) {
-        assert_eq!(rt; fault, OpenFault::DiskFault);
+        assert!(rt; fault == OpenFault::DiskFault);
         begins_again(rt, alloc, store)?;
         return Ok(true);
     }
     match open_store(alloc, store) {
         Ok(studio) => is_met_by_script(rt, alloc, studio, script, call),
         Err((fault, store)) => {
-            assert_eq!(rt; fault, OpenFault::DiskFault);
+            assert!(rt; fault == OpenFault::DiskFault);
             begins_again(rt, alloc, store)?;
             Ok(true)
         }

@@ -8,6 +8,7 @@ use editor_core::Studio;
 use pcm_base::{Answer, Numbers, Refusal, Reply};
 use script_text::{parse, write_answer};
 use std::alloc::Global;
+use std::process::Abort;
 use std::test::*;
 
 // What is asked: a line, or a call that is none.
@@ -21,6 +22,7 @@ pub(crate) enum Ask {
         samples: &'static [i16],
     },
     Pin,
+    PinLen(u64),
     Unpin(u64),
 }
 
@@ -87,6 +89,14 @@ fn pin<S: Store>(studio: &mut Studio<S>) -> Result<Reply, Refusal>
     Ok(Reply::Pinned { pin })
 }
 
+fn pin_len<S: Store>(studio: &mut Studio<S>, pin: u64) -> Result<Reply, Refusal>
+    requires { IsStudio S.Store (core_of studio.old) }
+    ensures { IsStudio S.Store (core_of studio.new) }
+{
+    let frames = studio.pin_len(pin)?;
+    Ok(Reply::Length { frames })
+}
+
 fn unpin<S: Store>(studio: &mut Studio<S>, pin: u64) -> Result<Reply, Refusal>
     requires { IsStudio S.Store (core_of studio.old) }
     ensures { IsStudio S.Store (core_of studio.new) }
@@ -113,6 +123,7 @@ pub(crate) fn answer<S: Store>(
             samples,
         } => record(alloc, studio, track, tag, samples),
         Ask::Pin => pin(studio),
+        Ask::PinLen(number) => pin_len(studio, number),
         Ask::Unpin(number) => unpin(studio, number),
     };
     Answer {
@@ -162,4 +173,20 @@ pub(crate) fn play<S: Store>(
         played.commit = studio.commit_number();
     }
     Ok(played)
+}
+
+// Asks for the rows, each of which is answered as it stands beside it.
+pub(crate) fn tells<S: Store>(
+    rt: &impl Abort,
+    alloc: Global,
+    studio: &mut Studio<S>,
+    vault: &mut MemVault,
+    rows: &[Row],
+) -> Result<(), Fail>
+    requires { IsStudio S.Store (core_of studio.old) }
+    ensures { IsStudio S.Store (core_of studio.new) }
+{
+    let played = play(alloc, studio, vault, rows)?;
+    assert!(rt; played.rows == rows.len(), "other than row {}", played.rows);
+    Ok(())
 }

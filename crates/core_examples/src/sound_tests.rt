@@ -4,13 +4,13 @@ ghost use Rattle.pcm_base.specs.Form.{IsCallInForm, IsInForm};
 ghost use Rattle.editor_core.specs.Core.{core_of};
 ghost use Rattle.editor_core.specs.Studios.{IsStudio};
 
+use super::scripts::Ask::Line;
+use super::scripts::{Row, tells};
 use super::tests::{disk, new_studio};
 use disk_model::Store;
 use edit_ports::{MemVault, Vault};
 use editor_core::*;
-use pcm_base::{
-    Answer, Call, Cell, Command, Event, Items, Numbers, Refusal, Reply, Samples, WavFault,
-};
+use pcm_base::{Call, Command, Event, Numbers, Refusal, Reply, Samples};
 use std::alloc::Global;
 use std::process::Abort;
 use std::test::*;
@@ -70,90 +70,57 @@ fn vault(alloc: Global, fails: Vec<u64>) -> Result<MemVault, Fail> {
     Ok(vault)
 }
 
-// The track has the samples of a channel.
-fn has_channel<S: Store>(studio: &mut Studio<S>, track: u64, channel: u8) -> bool
-    requires studio { IsStudio S.Store (core_of studio.old) }
-    requires few { channel ≤ 2 }
-    ensures { IsStudio S.Store (core_of studio.new) }
-{
-    let mut cells = [Cell::Gap; 12];
-    if studio.show(track, 0, 12, &mut cells) != Ok(9) {
-        return false;
-    }
-    for k in 0..9u8 {
-        if cells[k as usize] != Cell::Sample((10 * k + channel) as i16) {
-            return false;
-        }
-    }
-    true
-}
+const IN_AND_OUT: [Row; 3] = [
+    (Line("import a.wav"), "ok 1"),
+    (Line("show 1 0 9"), "cells 1 1 -1"),
+    (Line("export b.wav"), "wrote 1 52"),
+];
 
 #[test]
 fn a_sound_comes_in_and_goes_out(rt: HostRuntime) -> Result<(), Fail> {
     let alloc = rt.alloc();
     let mut vault = vault(alloc, Vec::new(alloc))?;
     let mut studio = new_studio(alloc, disk(alloc, &[])?, 3)?;
-    assert_eq!(rt; studio.import(alloc, &mut vault, "a.wav"), Ok(1));
-    let mut cells = [Cell::Gap; 9];
-    assert_eq!(rt; studio.show(1, 0, 9, &mut cells), Ok(2));
-    assert!(rt; &cells[..2] == [Cell::Sample(1), Cell::Sample(-1)].as_slice());
-    assert_eq!(rt; studio.export(&mut vault, "b.wav"), Ok(52));
+    tells(&rt, alloc, &mut studio, &mut vault, &IN_AND_OUT)?;
     let mut found = [0; 64];
     let count = vault.read_at("b.wav", 0, &mut found)?;
     assert!(rt; found.get(..count) == Some(TWO.as_slice()));
     Ok(())
 }
 
+const CHANNELS: [Row; 7] = [
+    (Line("track"), "ok 1"),
+    (Line("import three.wav"), "ok 2"),
+    (Line("show 2 0 12"), "cells 2 0 10 20 30 40 50 60 70 80"),
+    (Line("show 3 0 12"), "cells 2 1 11 21 31 41 51 61 71 81"),
+    (Line("show 4 0 12"), "cells 2 2 12 22 32 42 52 62 72 82"),
+    (Line("track"), "ok 3"),
+    (Line("drop 5"), "ok 4"),
+];
+
 #[test]
 fn three_channels_are_three_tracks(rt: HostRuntime) -> Result<(), Fail> {
     let alloc = rt.alloc();
-    let mut vault = vault(alloc, Vec::new(alloc))?;
     let mut studio = new_studio(alloc, disk(alloc, &[])?, 3)?;
-    assert_eq!(rt; studio.track(alloc), Ok(1));
-    assert_eq!(rt; studio.import(alloc, &mut vault, "three.wav"), Ok(2));
-    assert!(rt; has_channel(&mut studio, 2, 0));
-    assert!(rt; has_channel(&mut studio, 3, 1));
-    assert!(rt; has_channel(&mut studio, 4, 2));
-    assert_eq!(rt; studio.track(alloc), Ok(3));
-    assert_eq!(rt; studio.drop(alloc, 5), Ok(4));
-    Ok(())
+    let mut vault = vault(alloc, Vec::new(alloc))?;
+    tells(&rt, alloc, &mut studio, &mut vault, &CHANNELS)
 }
 
-// The import of each sound is refused for what stands beside it.
-fn refuses<S: Store, V: Vault>(
-    rt: &impl Abort,
-    alloc: Global,
-    studio: &mut Studio<S>,
-    vault: &mut V,
-    table: &[(&str, Refusal)],
-)
-    requires { IsStudio S.Store (core_of studio.old) }
-    ensures { IsStudio S.Store (core_of studio.new) }
-{
-    'rows: for (name, want) in table {
-        assert_eq!(rt; studio.import(alloc, vault, name), Err(*want), "{name}");
-    }
-}
+// The seventh call of the vault fails.
+const REFUSED: [Row; 5] = [
+    (Line("import none.wav"), "no 0 NoFile"),
+    (Line("import short.wav"), "no 0 BadWav Truncated 4 3"),
+    (Line("import rate.wav"), "no 0 RateDiffers 8001 8000"),
+    (Line("import three.wav"), "no 0 VaultFault"),
+    (Line("import a.wav"), "ok 1"),
+];
 
 #[test]
 fn each_import_is_refused(rt: HostRuntime) -> Result<(), Fail> {
     let alloc = rt.alloc();
-    let truncated = WavFault::Truncated { want: 4, have: 3 };
-    let rates = Refusal::RateDiffers {
-        have: 8001,
-        want: 8000,
-    };
-    let mut vault = vault(alloc, vec![in alloc; 7]?)?;
     let mut studio = new_studio(alloc, disk(alloc, &[])?, 3)?;
-    let table = [
-        ("none.wav", Refusal::NoFile),
-        ("short.wav", Refusal::BadWav { fault: truncated }),
-        ("rate.wav", rates),
-        ("three.wav", Refusal::VaultFault),
-    ];
-    refuses(&rt, alloc, &mut studio, &mut vault, &table);
-    assert_eq!(rt; studio.import(alloc, &mut vault, "a.wav"), Ok(1));
-    Ok(())
+    let mut vault = vault(alloc, vec![in alloc; 7]?)?;
+    tells(&rt, alloc, &mut studio, &mut vault, &REFUSED)
 }
 
 // So many sounds without frames are a commit each.
@@ -168,7 +135,7 @@ fn imports<S: Store, V: Vault>(
     ensures { IsStudio S.Store (core_of studio.new) }
 {
     'sounds: for before in 0..count {
-        assert_eq!(rt; studio.import(alloc, vault, "empty.wav"), Ok(before + 1));
+        assert!(rt; studio.import(alloc, vault, "empty.wav") == Ok(before + 1));
     }
 }
 
@@ -179,65 +146,26 @@ fn no_more_than_64_tracks(rt: HostRuntime) -> Result<(), Fail> {
     let mut studio = new_studio(alloc, disk(alloc, &[])?, 3)?;
     imports(&rt, alloc, &mut studio, &mut vault, 21);
     let told = studio.import(alloc, &mut vault, "empty.wav");
-    assert_eq!(rt; told, Err(Refusal::TrackLimit));
+    assert!(rt; told == Err(Refusal::TrackLimit));
     Ok(())
 }
+
+const EXPORTED: [Row; 4] = [
+    (Line("track"), "ok 1"),
+    (Line("put 1 0 5"), "ok 2"),
+    (Line("export b.wav"), "no 2 VaultFault"),
+    (Line("export b.wav"), "wrote 2 48"),
+];
 
 // Of the calls of the vault the first starts the sound, the second puts its head there, and the third its frames.
 #[test]
 fn an_export_that_fails_changes_nothing(rt: HostRuntime) -> Result<(), Fail> {
     let alloc = rt.alloc();
     for call in 1..4u64 {
-        let mut vault = vault(alloc, vec![in alloc; call]?)?;
         let mut studio = new_studio(alloc, disk(alloc, &[])?, 3)?;
-        assert_eq!(rt; studio.track(alloc), Ok(1));
-        assert_eq!(rt; studio.put(alloc, 1, 0, &[5]), Ok(2));
-        let told = studio.export(&mut vault, "b.wav");
-        assert_eq!(rt; told, Err(Refusal::VaultFault));
-        assert_eq!(rt; studio.export(&mut vault, "b.wav"), Ok(48));
+        let mut vault = vault(alloc, vec![in alloc; call]?)?;
+        tells(&rt, alloc, &mut studio, &mut vault, &EXPORTED)?;
     }
-    Ok(())
-}
-
-// Whether a line is answered by these cells.
-fn shows(answer: &Answer, commit: u64, want: &[Cell]) -> bool {
-    match &answer.reply {
-        Reply::Cells { cells } => answer.commit == commit && cells.as_slice() == want,
-        _ => false,
-    }
-}
-
-#[test]
-fn lines_are_answered(rt: HostRuntime) -> Result<(), Fail> {
-    let alloc = rt.alloc();
-    let mut vault = vault(alloc, Vec::new(alloc))?;
-    let mut studio = new_studio(alloc, disk(alloc, &[])?, 3)?;
-    let mut answer = Answer {
-        commit: 0,
-        reply: Reply::Done,
-    };
-    let track = Command::Track;
-    assert_eq!(rt;
-        studio.apply(alloc, &mut vault, &track, &mut answer),
-        Ok(())
-    );
-    let put = Command::Put {
-        track: 1,
-        at: 1,
-        samples: Samples::new(vec![in alloc; 7i16]?),
-    };
-    assert_eq!(rt; studio.apply(alloc, &mut vault, &put, &mut answer), Ok(()));
-    let show = Command::Show {
-        track: 1,
-        from: 0,
-        to: 9,
-    };
-    assert_eq!(rt; studio.apply(alloc, &mut vault, &show, &mut answer), Ok(()));
-    assert!(rt; shows(&answer, 2, &[Cell::Gap, Cell::Sample(7)]));
-    let undo = Command::Purge { count: 9 };
-    let told = studio.apply(alloc, &mut vault, &undo, &mut answer);
-    assert_eq!(rt; told, Err(Refusal::BadRange));
-    assert_eq!(rt; answer.commit, 2);
     Ok(())
 }
 
@@ -305,6 +233,6 @@ fn events_are_replied(rt: HostRuntime) -> Result<(), Fail> {
         told.push(number_of(reply))?;
     }
     assert!(rt; told.as_slice() == [1, 1, 101, 1, 203, 302, 400, 1, 400].as_slice());
-    assert_eq!(rt; studio.commit_number(), 3);
+    assert!(rt; studio.commit_number() == 3);
     Ok(())
 }

@@ -2,7 +2,7 @@
 use super::every_line::{DEPTH, FILES, LAST, SCRIPT};
 use super::projects::{Kept, found, opened, project, vault};
 use super::scripts::Ask::Line;
-use super::scripts::{Played, Row, play};
+use super::scripts::{Played, Row, play, tells};
 use disk_model::RamStore;
 use editor_recovery::open_store;
 use std::alloc::Global;
@@ -34,8 +34,7 @@ fn stopped(alloc: Global, rows: &[Row], calls: u64) -> Result<(Played, RamStore)
 // What is found where a script was played whole.
 fn played_whole(rt: &impl Abort, alloc: Global, rows: &[Row]) -> Result<Kept, Fail> {
     let mut studio = opened(alloc, project(alloc, 4, DEPTH)?)?;
-    let played = play(alloc, &mut studio, &mut vault(alloc)?, rows)?;
-    assert_eq!(rt; played.rows, rows.len());
+    tells(rt, alloc, &mut studio, &mut vault(alloc)?, rows)?;
     let kept = found(rt, alloc, studio.into_store())?;
     Ok(kept)
 }
@@ -43,7 +42,7 @@ fn played_whole(rt: &impl Abort, alloc: Global, rows: &[Row]) -> Result<Kept, Fa
 #[test]
 fn every_line_is_answered(rt: HostRuntime) -> Result<(), Fail> {
     let kept = played_whole(&rt, rt.alloc(), &SCRIPT)?;
-    assert_eq!(rt; kept.number, LAST);
+    assert!(rt; kept.number == LAST);
     assert!(rt; kept.files.as_slice() == FILES.as_slice());
     Ok(())
 }

@@ -3,10 +3,13 @@ ghost use Rattle.std.specs.Prelude.{◌≡◌, ◌≤◌, ℕ, IsTrue, IfOk, Non
 ghost use Rattle.editor_core.specs.Core.{core_of};
 ghost use Rattle.editor_core.specs.Studios.{IsHeld, IsStudio};
 
+use super::projects::vault;
+use super::scripts::Ask::Line;
+use super::scripts::{Row, tells};
 use block_ledger::Ledger;
 use disk_model::{RamStore, Store};
 use editor_core::*;
-use pcm_base::{Numbers, Refusal, Side};
+use pcm_base::{Numbers, Refusal};
 use project_journal::create;
 use project_state::Point;
 use std::alloc::Global;
@@ -14,36 +17,22 @@ use std::process::Abort;
 use std::test::*;
 use undo_history::History;
 
-// What is asked of a studio.
-#[derive(Clone, Copy)]
-enum Ask {
-    Track,
-    Drop(u64),
-    Halve(u64),
-    Left(u64),
-    Mute(u64),
-    Undo,
-    Redo,
-    Purge(u64),
-}
-
-// What a script asks, and the answers: the commit number, or why there is none.
-const SCRIPT: [(Ask, Result<u64, Refusal>); 15] = [
-    (Ask::Undo, Err(Refusal::NothingToUndo)),
-    (Ask::Redo, Err(Refusal::NothingToRedo)),
-    (Ask::Purge(1), Err(Refusal::BadRange)),
-    (Ask::Halve(1), Err(Refusal::NoTrack { id: 1 })),
-    (Ask::Track, Ok(1)),
-    (Ask::Track, Ok(2)),
-    (Ask::Halve(1), Ok(3)),
-    (Ask::Left(2), Ok(4)),
-    (Ask::Mute(2), Ok(5)),
-    (Ask::Drop(1), Ok(6)),
-    (Ask::Drop(1), Err(Refusal::NoTrack { id: 1 })),
-    (Ask::Undo, Ok(7)),
-    (Ask::Redo, Ok(8)),
-    (Ask::Purge(2), Ok(9)),
-    (Ask::Undo, Err(Refusal::NothingToUndo)),
+const SCRIPT: [Row; 15] = [
+    (Line("undo"), "no 0 NothingToUndo"),
+    (Line("redo"), "no 0 NothingToRedo"),
+    (Line("purge 1"), "no 0 BadRange"),
+    (Line("level 1 32768"), "no 0 NoTrack 1"),
+    (Line("track"), "ok 1"),
+    (Line("track"), "ok 2"),
+    (Line("level 1 32768"), "ok 3"),
+    (Line("side 2 left"), "ok 4"),
+    (Line("mute 2 1"), "ok 5"),
+    (Line("drop 1"), "ok 6"),
+    (Line("drop 1"), "no 6 NoTrack 1"),
+    (Line("undo"), "ok 7"),
+    (Line("redo"), "ok 8"),
+    (Line("purge 2"), "ok 9"),
+    (Line("undo"), "no 9 NothingToUndo"),
 ];
 
 // A disk whose calls of these numbers fail.
@@ -93,51 +82,18 @@ pub(crate) fn new_studio<S: Store + Drop>(
     }
 }
 
-fn answer<S: Store>(alloc: Global, studio: &mut Studio<S>, ask: Ask) -> Result<u64, Refusal>
-    requires { IsStudio S.Store (core_of studio.old) }
-    ensures { IsStudio S.Store (core_of studio.new) }
-{
-    match ask {
-        Ask::Track => studio.track(alloc),
-        Ask::Drop(id) => studio.drop(alloc, id),
-        Ask::Halve(id) => studio.level(alloc, id, 32_768),
-        Ask::Left(id) => studio.side(alloc, id, Side::Left),
-        Ask::Mute(id) => studio.mute(alloc, id, true),
-        Ask::Undo => studio.undo(),
-        Ask::Redo => studio.redo(),
-        Ask::Purge(count) => studio.purge(count),
-    }
-}
-
-// It answers what stands beside each line.
-fn tells<S: Store>(
-    rt: &impl Abort,
-    alloc: Global,
-    studio: &mut Studio<S>,
-    script: &[(Ask, Result<u64, Refusal>)],
-)
-    requires { IsStudio S.Store (core_of studio.old) }
-    ensures { IsStudio S.Store (core_of studio.new) }
-{
-    'rows: for (ask, told) in script {
-        assert_eq!(rt; answer(alloc, studio, *ask), *told);
-    }
-}
-
 #[test]
 fn each_call_is_a_commit(rt: HostRuntime) -> Result<(), Fail> {
     let alloc = rt.alloc();
     let mut studio = new_studio(alloc, disk(alloc, &[])?, 3)?;
-    tells(&rt, alloc, &mut studio, &SCRIPT);
-    assert_eq!(rt; studio.commit_number(), 9);
-    Ok(())
+    tells(&rt, alloc, &mut studio, &mut vault(alloc)?, &SCRIPT)
 }
 
 // What a studio answers whose first change fails.
-const STOPPED: [(Ask, Result<u64, Refusal>); 3] = [
-    (Ask::Track, Err(Refusal::DiskFault)),
-    (Ask::Track, Err(Refusal::Stopped { faults: 1 })),
-    (Ask::Undo, Err(Refusal::Stopped { faults: 1 })),
+const STOPPED: [Row; 3] = [
+    (Line("track"), "no 0 DiskFault"),
+    (Line("track"), "no 0 Stopped 1"),
+    (Line("undo"), "no 0 Stopped 1"),
 ];
 
 // The calls of the first record, behind those of the new journal: its row and then its gate, each written and synced.
@@ -148,8 +104,7 @@ fn a_change_that_fails_stops_the_studio(rt: HostRuntime) -> Result<(), Fail> {
     let alloc = rt.alloc();
     for call in &CHANGES {
         let mut studio = new_studio(alloc, disk(alloc, &[*call])?, 3)?;
-        tells(&rt, alloc, &mut studio, &STOPPED);
-        assert_eq!(rt; studio.commit_number(), 0);
+        tells(&rt, alloc, &mut studio, &mut vault(alloc)?, &STOPPED)?;
     }
     Ok(())
 }
@@ -160,7 +115,7 @@ fn adds_tracks<S: Store>(rt: &impl Abort, alloc: Global, studio: &mut Studio<S>,
     ensures { IsStudio S.Store (core_of studio.new) }
 {
     'tracks: for before in 0..count {
-        assert_eq!(rt; studio.track(alloc), Ok(before + 1));
+        assert!(rt; studio.track(alloc) == Ok(before + 1));
     }
 }
 
@@ -169,6 +124,6 @@ fn a_project_has_at_most_64_tracks(rt: HostRuntime) -> Result<(), Fail> {
     let alloc = rt.alloc();
     let mut studio = new_studio(alloc, disk(alloc, &[])?, 3)?;
     adds_tracks(&rt, alloc, &mut studio, 64);
-    assert_eq!(rt; studio.track(alloc), Err(Refusal::TrackLimit));
+    assert!(rt; studio.track(alloc) == Err(Refusal::TrackLimit));
     Ok(())
 }

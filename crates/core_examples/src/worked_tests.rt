@@ -1,7 +1,7 @@
 // Worked scripts: each line with its answer, by hand from the rules of the lines.
 use super::projects::{opened, project};
 use super::scripts::Ask::Line;
-use super::scripts::{Row, play};
+use super::scripts::{Row, play, tells};
 use super::sound_tests::MONO;
 use super::tests::disk;
 use disk_model::RamStore;
@@ -165,8 +165,7 @@ fn sounds(alloc: Global) -> Result<MemVault, Fail> {
 // Opens a disk and plays a script. All of it is answered as it stands beside the lines.
 fn plays(rt: &impl Abort, alloc: Global, store: RamStore, rows: &[Row]) -> Result<RamStore, Fail> {
     let mut studio = opened(alloc, store)?;
-    let played = play(alloc, &mut studio, &mut sounds(alloc)?, rows)?;
-    assert_eq!(rt; played.rows, rows.len());
+    tells(rt, alloc, &mut studio, &mut sounds(alloc)?, rows)?;
     Ok(studio.into_store())
 }
 
@@ -254,8 +253,7 @@ fn plays_both(rt: &impl Abort, alloc: Global, call: u64, rows: &[Row]) -> Result
         .ok_or("not made")?;
     let mut studio = opened(alloc, store)?;
     let mut vault = sounds(alloc)?;
-    let first = play(alloc, &mut studio, &mut vault, &FIVE)?;
-    assert_eq!(rt; first.rows, 2);
+    tells(rt, alloc, &mut studio, &mut vault, &FIVE)?;
     let second = play(alloc, &mut studio, &mut vault, rows)?;
     Ok(second.rows == rows.len())
 }
@@ -280,12 +278,12 @@ fn made_once_and_checked(rt: HostRuntime) -> Result<(), Fail> {
     let alloc = rt.alloc();
     match open_store(alloc, disk(alloc, &[])?) {
         Ok(_studio) => return Err("opened".into()),
-        Err((fault, _store)) => assert_eq!(rt; fault, OpenFault::Absent),
+        Err((fault, _store)) => assert!(rt; fault == OpenFault::Absent),
     }
     let mut store = project(alloc, 4, 256)?;
     let again = create(alloc, &mut store, 8000, 4, 256);
-    assert_eq!(rt; again, Err(OpenFault::Exists));
+    assert!(rt; again == Err(OpenFault::Exists));
     let mut studio = opened(alloc, plays(&rt, alloc, store, &FIVE)?)?;
-    assert_eq!(rt; check(alloc, &mut studio), Ok(2));
+    assert!(rt; check(alloc, &mut studio) == Ok(2));
     Ok(())
 }
