@@ -1,5 +1,5 @@
 // A disk that fails beside a recording: what is printed, and what is found.
-use super::calls::{Asked, call, call_at, project};
+use super::calls::{Asked, call, call_at, project_of};
 use super::gates::{ANSWER_FIRST, HoldingGate};
 use disk_model::RamStore;
 use std::alloc::Global;
@@ -15,8 +15,12 @@ const SCRIPT: &[u8] = b"track\nput 1 0 1 2\n";
 const RECORDS: Asked<'static> = Asked {
     words: "studio run --record",
     script: b"",
-    mic: &[1; 600],
+    piece: 65_536,
     reads: &[],
+    writes: &[],
+    sounds: &[],
+    mic: &[1; 600],
+    mic_reads: &[],
     room: 0,
 };
 
@@ -98,7 +102,7 @@ fn stops<R: Threads + Wait + Sync>(
 #[test]
 fn a_stop_after_each_call(rt: HostRuntime) -> Result<(), Fail> {
     let alloc = rt.alloc();
-    let base = project(&rt, alloc, &[], NEW, SCRIPT)?;
+    let base = project_of(&rt, alloc, &[], NEW, SCRIPT)?;
     let mut stage = 0usize;
     for calls in 0..200 {
         let next = stops(&rt, alloc, base.image(alloc, 0)?, calls)?;
@@ -134,9 +138,9 @@ fn is_printed<R: Threads + Wait + Sync>(
     asked: Asked,
     text: &str,
 ) -> Result<bool, Fail> {
-    let before = project(rt, alloc, &[], NEW, SCRIPT)?.call_count();
+    let before = project_of(rt, alloc, &[], NEW, SCRIPT)?.call_count();
     for more in 1..60 {
-        let store = project(rt, alloc, &[before.saturating_add(more)], NEW, SCRIPT)?;
+        let store = project_of(rt, alloc, &[before.saturating_add(more)], NEW, SCRIPT)?;
         let gate = HoldingGate::new(ANSWER_FIRST);
         if call_at(rt, alloc, asked, store, &gate)?.is(text, 4, b"") {
             return Ok(true);

@@ -1,5 +1,5 @@
 // Script, recorder and player at once.
-use super::calls::{Asked, call_at, project};
+use super::calls::{Asked, call_at, project_of};
 use super::gates::{HoldingGate, OVERLAP};
 use std::test::*;
 
@@ -30,10 +30,10 @@ fn is_ramp(bytes: &[u8]) -> bool {
 fn script_recorder_and_player_overlap(rt: HostRuntime) -> Result<(), Fail> {
     let alloc = rt.alloc();
     let script = b"track\nramp 1 0 9000 -500 1\n";
-    let store = project(&rt, alloc, &[], "studio new --block 4096", script)?;
+    let store = project_of(&rt, alloc, &[], "studio new --block 4096", script)?;
     let asked = Asked {
         mic: b"\x07\0",
-        reads: &[],
+        mic_reads: &[],
         room: 65_536,
         ..Asked::new("studio run --record --play", SCRIPT)
     };
@@ -41,7 +41,8 @@ fn script_recorder_and_player_overlap(rt: HostRuntime) -> Result<(), Fail> {
     let called = call_at(&rt, alloc, asked, store, &gate)?;
     assert!(rt; gate.has_held(&rt));
     let text = called.text.as_slice();
-    assert!(rt; ANSWERS.iter().any(|answers| answers.as_bytes() == text));
+    let is_told = ANSWERS.iter().any(|answers| answers.as_bytes() == text);
+    assert!(rt; is_told, "{:?}", std::str::from_utf8(text));
     assert!(rt; called.ending.status == 0);
     assert!(rt; is_ramp(called.ending.speaker.bytes()));
     Ok(())

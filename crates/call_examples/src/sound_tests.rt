@@ -1,5 +1,5 @@
 // Worked calls that record and play: what is printed, what is heard and what is kept, by hand from the rules.
-use super::calls::{Asked, Called, call, project};
+use super::calls::{Asked, Called, call, project_of};
 use disk_model::RamStore;
 use std::alloc::Global;
 use std::sync::Wait;
@@ -18,8 +18,12 @@ type Row = (Asked<'static>, Printed, Numbered, &'static str);
 const ALONE: Asked<'static> = Asked {
     words: "studio run --record",
     script: b"",
-    mic: b"\x05\0\x06\0\x07\0",
+    piece: 65_536,
     reads: &[],
+    writes: &[],
+    sounds: &[],
+    mic: b"\x05\0\x06\0\x07\0",
+    mic_reads: &[],
     room: 0,
 };
 
@@ -32,7 +36,7 @@ const BOTH: Asked<'static> = Asked {
 // Of this one the microphone may not be read.
 const PLAYED: Asked<'static> = Asked {
     words: "studio run --play",
-    reads: &[1],
+    mic_reads: &[1],
     ..BOTH
 };
 
@@ -89,7 +93,7 @@ const ROWS: [Row; 11] = [
     // The microphone fails at its first read, and at its second.
     (
         Asked {
-            reads: &[1],
+            mic_reads: &[1],
             ..ALONE
         },
         ("rec 2 0 0 fault\nend 3\n", 4, b""),
@@ -98,7 +102,7 @@ const ROWS: [Row; 11] = [
     ),
     (
         Asked {
-            reads: &[2],
+            mic_reads: &[2],
             ..BOTH
         },
         ("rec 2 1 2 fault\nplay 2\nend 4\n", 4, HEARD),
@@ -165,7 +169,7 @@ fn does<R: Threads + Wait + Sync>(
 fn worked_rows(rt: HostRuntime) -> Result<(), Fail> {
     let alloc = rt.alloc();
     let new = "studio new --rate 8000 --block 4";
-    let base = project(&rt, alloc, &[], new, b"track\nput 1 0 1 2\n")?;
+    let base = project_of(&rt, alloc, &[], new, b"track\nput 1 0 1 2\n")?;
     for row in ROWS {
         does(&rt, alloc, row, base.image(alloc, 0)?)?;
     }
@@ -183,7 +187,7 @@ const EMPTY: [Empty; 5] = [
     (
         64,
         Asked {
-            reads: &[1],
+            mic_reads: &[1],
             ..ALONE
         },
         "rec 0 0 0 no TrackLimit\nend 64\n",
@@ -192,7 +196,7 @@ const EMPTY: [Empty; 5] = [
     (
         64,
         Asked {
-            reads: &[1],
+            mic_reads: &[1],
             ..BOTH
         },
         "rec 0 0 0 no TrackLimit\nplay 0\nend 64\n",
@@ -208,7 +212,7 @@ fn projects_without_samples(rt: HostRuntime) -> Result<(), Fail> {
         for _ in 0..tracks {
             script.extend_from_slice(b"track\n")?;
         }
-        let store = project(&rt, alloc, &[], "studio new", script.as_slice())?;
+        let store = project_of(&rt, alloc, &[], "studio new", script.as_slice())?;
         if !call(&rt, alloc, asked, store)?.is(text, status, b"") {
             return Err(Fail::new(text));
         }
