@@ -1,16 +1,10 @@
 -- One call more.
-use Rattle.std.proofs.Common.{◌≡◌, ◌⊎◌, inl, inr, ⊎_elim, ℕ, Option, Some, None, List, [], ◌∷◌, length, refl, sym}
+use Rattle.std.proofs.Common.{◌≡◌, ◌⊎◌, inl, inr, ⊎_elim, ℕ, Option, Some, None, List, ◌∷◌, length, refl, sym}
 use Rattle.std.proofs.Common.{ap, subst, arith}
 use Rattle.disk_model.specs.Moment.{Moment, At, Both, IsUpTo}
 use Rattle.disk_model.specs.Disk.{Files, Torn, TornFile, WriteStep, RemoveStep, StaysStep, Follows}
-use Rattle.disk_model.specs.History.{Step, Wrote, Synced, Removed, IsImage, SinceImage, SinceMoment}
+use Rattle.disk_model.specs.History.{Step, Wrote, Synced, Removed, IsImage, SinceMoment}
 use Rattle.disk_model.specs.Histories.{image_since, fewer_moment}
-
--- since this moment there is no other
-pub only_now : (h : List Step) (c : Files) → SinceImage h (length h) c → IsImage h c
-only_now [] c image = image
-only_now (s ∷ h) c (inl image) = image
-only_now (s ∷ h) c (inr past) = absurd (omega (arith, past.0))
 
 kept_moment : (s : Step) (h : List Step) (t : Moment) (c : Files) → IsUpTo t (At (length h)) → SinceMoment h t c
     → SinceMoment (s ∷ h) t c

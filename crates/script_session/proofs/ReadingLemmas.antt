@@ -5,7 +5,8 @@ use Rattle.std.proofs.lemmas.List.{append-nil, length-append}
 use Rattle.std.specs.Io.KnownBytes.{IsAtEnd}
 use Rattle.script_session.specs.Place.{Place}
 use Rattle.pcm_base.specs.declared.failed.Failed.{Failed}
-use Rattle.edit_ports.specs.Told.{preceded, preceded-nil, preceded-preceded}
+use Rattle.edit_ports.specs.Told.{preceded}
+use Rattle.edit_ports.proofs.ToldLaws.{preceded-nil, preceded-preceded}
 use Rattle.script_session.specs.declared.stop.Stop.{Stop}
 use Rattle.script_session.specs.declared.stop.Stop.TheVariants as stop
 use Rattle.script_session.specs.Kept.{Kept, Holds}

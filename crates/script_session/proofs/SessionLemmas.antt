@@ -6,7 +6,8 @@ use Rattle.std.proofs.lemmas.List.{flat_map_more}
 use Rattle.pcm_base.specs.declared.answer.Answer.{Answer}
 use Rattle.script_session.specs.Place.{Place}
 use Rattle.pcm_base.specs.declared.failed.Failed.{Failed}
-use Rattle.edit_ports.specs.Told.{grown, grown-grown, grown-nil, Writes}
+use Rattle.edit_ports.specs.Told.{grown, Writes}
+use Rattle.edit_ports.proofs.ToldLaws.{grown-grown, grown-nil}
 use Rattle.script_text.specs.Grammar.{is_silent}
 use Rattle.script_text.specs.Text.{text_of}
 use Rattle.script_session.specs.Session.{Session, Next, Answers}
