@@ -26,13 +26,13 @@ fn held(alloc: Global, rt: &impl Abort, ids: &[u64]) -> Result<Ledger, Fail> {
 fn what_is_named(rt: HostRuntime) -> Result<(), Fail> {
     let alloc = rt.alloc();
     let none = Ledger::new(alloc);
-    assert_eq!(rt; named(&none)?.as_slice(), [].as_slice());
-    assert_eq!(rt; none.first_free(), None);
+    assert!(rt; named(&none)?.as_slice() == [].as_slice());
+    assert!(rt; none.first_free() == None);
     let some = held(alloc, &rt, &[18, 16, 18, 30, 17, 16])?;
-    assert_eq!(rt; named(&some)?.as_slice(), [16, 17, 18, 30].as_slice());
-    assert_eq!(rt; some.named_len(), 4);
-    assert_eq!(rt; some.count(16), Some(2));
-    assert_eq!(rt; some.first_free(), None);
+    assert!(rt; named(&some)?.as_slice() == [16, 17, 18, 30].as_slice());
+    assert!(rt; some.named_len() == 4);
+    assert!(rt; some.count(16) == Some(2));
+    assert!(rt; some.first_free() == None);
     Ok(())
 }
 
@@ -45,18 +45,18 @@ fn the_least_of_count_0(rt: HostRuntime) -> Result<(), Fail> {
     ledger.hold(16);
     ledger.hold(18);
     ledger.drop_one(20);
-    assert_eq!(rt; ledger.first_free(), Some(20));
+    assert!(rt; ledger.first_free() == Some(20));
     ledger.drop_one(18);
     ledger.drop_one(16);
-    assert_eq!(rt; ledger.first_free(), Some(18));
-    assert_eq!(rt; named(&ledger)?.as_slice(), [16].as_slice());
+    assert!(rt; ledger.first_free() == Some(18));
+    assert!(rt; named(&ledger)?.as_slice() == [16].as_slice());
     ledger.forget(18);
-    assert_eq!(rt; ledger.first_free(), Some(20));
+    assert!(rt; ledger.first_free() == Some(20));
     ledger.hold(20);
-    assert_eq!(rt; ledger.first_free(), None);
+    assert!(rt; ledger.first_free() == None);
     ledger.drop_one(16);
-    assert_eq!(rt; ledger.first_free(), Some(16));
-    assert_eq!(rt; named(&ledger)?.as_slice(), [20].as_slice());
+    assert!(rt; ledger.first_free() == Some(16));
+    assert!(rt; named(&ledger)?.as_slice() == [20].as_slice());
     Ok(())
 }
 
@@ -73,8 +73,8 @@ fn room_follows_the_ids_that_are_there(rt: HostRuntime) -> Result<(), Fail> {
             ledger.forget(id);
         }
     }
-    assert_eq!(rt; ledger.named_len(), 3);
-    assert_eq!(rt; ledger.count(18), Some(1));
-    assert_eq!(rt; ledger.count(99_999), None);
+    assert!(rt; ledger.named_len() == 3);
+    assert!(rt; ledger.count(18) == Some(1));
+    assert!(rt; ledger.count(99_999) == None);
     Ok(())
 }

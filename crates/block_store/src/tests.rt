@@ -72,7 +72,7 @@ fn a_stop_after_each_call(rt: HostRuntime) -> Result<(), Fail> {
         let mut store = disk(rt.alloc(), Vec::new(rt.alloc()))?;
         store.stop_after(calls);
         let answer = put_two(rt.alloc(), &mut store)?;
-        assert_eq!(rt; answer.is_ok(), calls == 2);
+        assert!(rt; answer.is_ok() == calls == 2);
         let left = images(rt.alloc(), &store)?;
         assert!(rt; left.as_slice() == want.as_slice());
     }
@@ -90,32 +90,32 @@ fn synced_size(alloc: Global, store: &RamStore, id: u64) -> Result<Option<u64>, 
 fn written_first_and_then_synced(rt: HostRuntime) -> Result<(), Fail> {
     let mut store = disk(rt.alloc(), Vec::new(rt.alloc()))?;
     let mut scratch = Vec::with_capacity(rt.alloc(), 44)?;
-    assert_eq!(rt; write_block(&mut store, 17, &[5], &mut scratch), Ok(()));
-    assert_eq!(rt; write_block(&mut store, 16, &[1, -2], &mut scratch), Ok(()));
+    assert!(rt; write_block(&mut store, 17, &[5], &mut scratch) == Ok(()));
+    assert!(rt; write_block(&mut store, 16, &[1, -2], &mut scratch) == Ok(()));
     let left = images(rt.alloc(), &store)?;
     assert!(rt; left.as_slice() == b"Wy-n-nWy-n0nen0n-nWy".as_slice());
-    assert_eq!(rt; sync_block(&mut store, 16), Ok(()));
+    assert!(rt; sync_block(&mut store, 16) == Ok(()));
     let left = images(rt.alloc(), &store)?;
     assert!(rt; left.as_slice() == b"WyWyWyWyWyWyWyWyWyWy".as_slice());
-    assert_eq!(rt; synced_size(rt.alloc(), &store, 17)?, None);
-    assert_eq!(rt; sync_block(&mut store, 17), Ok(()));
-    assert_eq!(rt; synced_size(rt.alloc(), &store, 17)?, Some(42));
+    assert!(rt; synced_size(rt.alloc(), &store, 17)? == None);
+    assert!(rt; sync_block(&mut store, 17) == Ok(()));
+    assert!(rt; synced_size(rt.alloc(), &store, 17)? == Some(42));
     Ok(())
 }
 
 #[test]
 fn the_file(rt: HostRuntime) -> Result<(), Fail> {
     let mut store = disk(rt.alloc(), Vec::new(rt.alloc()))?;
-    assert_eq!(rt; put_two(rt.alloc(), &mut store)?, Ok(()));
-    assert_eq!(rt; found(&mut store)?, b'W');
+    assert!(rt; put_two(rt.alloc(), &mut store)? == Ok(()));
+    assert!(rt; found(&mut store)? == b'W');
     let mut out = [0; 1];
-    assert_eq!(rt; read_samples(&mut store, BLOCK, 1, &mut out), Ok(()));
+    assert!(rt; read_samples(&mut store, BLOCK, 1, &mut out) == Ok(()));
     assert!(rt; out == [-2]);
-    assert_eq!(rt; drop_block(&mut store, 16), Ok(()));
-    assert_eq!(rt; found(&mut store)?, b'-');
+    assert!(rt; drop_block(&mut store, 16) == Ok(()));
+    assert!(rt; found(&mut store)? == b'-');
     let left = images(rt.alloc(), &store)?;
     assert!(rt; left.as_slice() == b"-n-n-n-n-n-n-n-n-n-n".as_slice());
-    assert_eq!(rt; drop_block(&mut store, 16), Ok(()));
+    assert!(rt; drop_block(&mut store, 16) == Ok(()));
     Ok(())
 }
 
@@ -127,28 +127,22 @@ fn more_than_one_piece(rt: HostRuntime) -> Result<(), Fail> {
     samples[4095] = 7;
     samples[65_999] = -4;
     let mut scratch = Vec::with_capacity(rt.alloc(), 140_000)?;
-    assert_eq!(rt; put(&mut store, 17, &samples, &mut scratch), Ok(()));
+    assert!(rt; put(&mut store, 17, &samples, &mut scratch) == Ok(()));
     let block = BlockRef {
         id: 17,
         len: 66_000,
     };
     let mut out = [0i16; 10_000];
-    assert_eq!(rt; read_samples(&mut store, block, 4095, &mut out), Ok(()));
+    assert!(rt; read_samples(&mut store, block, 4095, &mut out) == Ok(()));
     assert!(rt; out[0] == 7 && out[1] == 3 && out[4095] == 3 && out[9999] == 3);
     let mut short = [NOTHING; 258];
-    assert_eq!(rt;
-        read_frames(&mut store, block, Level::Short, 0, &mut short),
-        Ok(())
-    );
-    assert_eq!(rt; short[15], summary(3, 7, 2344, 256));
-    assert_eq!(rt; short[256], summary(3, 3, 2304, 256));
-    assert_eq!(rt; short[257], summary(-4, 3, 1879, 208));
+    assert!(rt; read_frames(&mut store, block, Level::Short, 0, &mut short) == Ok(()));
+    assert!(rt; short[15] == summary(3, 7, 2344, 256));
+    assert!(rt; short[256] == summary(3, 3, 2304, 256));
+    assert!(rt; short[257] == summary(-4, 3, 1879, 208));
     let mut long = [NOTHING; 1];
-    assert_eq!(rt;
-        read_frames(&mut store, block, Level::Long, 1, &mut long),
-        Ok(())
-    );
-    assert_eq!(rt; long[0], summary(-4, 3, 4183, 464));
+    assert!(rt; read_frames(&mut store, block, Level::Long, 1, &mut long) == Ok(()));
+    assert!(rt; long[0] == summary(-4, 3, 4183, 464));
     Ok(())
 }
 
@@ -187,9 +181,9 @@ fn damaged_headers(rt: HostRuntime) -> Result<(), Fail> {
         (12, 3, 12, 2, 3),
     ] {
         let fault = Damaged { at, want, have };
-        assert_eq!(rt; told(rt.alloc(), place, byte)?, Some(fault));
+        assert!(rt; told(rt.alloc(), place, byte)? == Some(fault));
     }
-    assert_eq!(rt; told(rt.alloc(), 36, 6)?, None);
+    assert!(rt; told(rt.alloc(), 36, 6)? == None);
     Ok(())
 }
 
@@ -201,13 +195,10 @@ fn a_longer_file_is_read(rt: HostRuntime) -> Result<(), Fail> {
     let mut frame = [NOTHING; 1];
     store.write_at(16, 0, &FILE).ok().ok_or("write")?;
     store.write_at(16, 44, b"!").ok().ok_or("write")?;
-    assert_eq!(rt; read_samples(&mut store, BLOCK, 0, &mut out), Ok(()));
+    assert!(rt; read_samples(&mut store, BLOCK, 0, &mut out) == Ok(()));
     assert!(rt; out == [1, -2]);
-    assert_eq!(rt;
-        read_frames(&mut store, BLOCK, Level::Long, 0, &mut frame),
-        Ok(())
-    );
-    assert_eq!(rt; frame[0], summary(-2, 1, 5, 2));
+    assert!(rt; read_frames(&mut store, BLOCK, Level::Long, 0, &mut frame) == Ok(()));
+    assert!(rt; frame[0] == summary(-2, 1, 5, 2));
     Ok(())
 }
 
@@ -222,7 +213,7 @@ fn a_wrong_header_is_told_before_the_size(rt: HostRuntime) -> Result<(), Fail> {
         want: 16,
         have: 17,
     };
-    assert_eq!(rt; damage(&mut store), Some(fault));
+    assert!(rt; damage(&mut store) == Some(fault));
     Ok(())
 }
 
@@ -267,10 +258,10 @@ fn files_that_end_early(rt: HostRuntime) -> Result<(), Fail> {
         want: 44,
         have: 0,
     };
-    assert_eq!(rt; damage(&mut store), Some(fault));
+    assert!(rt; damage(&mut store) == Some(fault));
     store.write_at(16, 0, &FILE[..19]).ok().ok_or("write")?;
     fault.have = 19;
-    assert_eq!(rt; damage(&mut store), Some(fault));
+    assert!(rt; damage(&mut store) == Some(fault));
     Ok(())
 }
 
@@ -278,20 +269,14 @@ fn files_that_end_early(rt: HostRuntime) -> Result<(), Fail> {
 fn a_disk_that_fails(rt: HostRuntime) -> Result<(), Fail> {
     for call in [1, 2] {
         let mut store = disk(rt.alloc(), vec![in rt.alloc(); call]?)?;
-        assert_eq!(rt;
-            put_two(rt.alloc(), &mut store)?,
-            Err(BlockFault::DiskFault)
-        );
-        assert_eq!(rt; store.change_faults(), 1);
+        assert!(rt; put_two(rt.alloc(), &mut store)? == Err(BlockFault::DiskFault));
+        assert!(rt; store.change_faults() == 1);
     }
     let mut store = disk(rt.alloc(), vec![in rt.alloc(); 4]?)?;
-    assert_eq!(rt; put_two(rt.alloc(), &mut store)?, Ok(()));
+    assert!(rt; put_two(rt.alloc(), &mut store)? == Ok(()));
     let mut out = [0; 2];
-    assert_eq!(rt;
-        read_samples(&mut store, BLOCK, 0, &mut out),
-        Err(BlockFault::DiskFault)
-    );
-    assert_eq!(rt; read_samples(&mut store, BLOCK, 0, &mut out), Ok(()));
+    assert!(rt; read_samples(&mut store, BLOCK, 0, &mut out) == Err(BlockFault::DiskFault));
+    assert!(rt; read_samples(&mut store, BLOCK, 0, &mut out) == Ok(()));
     Ok(())
 }
 
@@ -299,35 +284,26 @@ fn a_disk_that_fails(rt: HostRuntime) -> Result<(), Fail> {
 #[test]
 fn one_header_for_several_stretches(rt: HostRuntime) -> Result<(), Fail> {
     let mut store = disk(rt.alloc(), vec![in rt.alloc(); 6]?)?;
-    assert_eq!(rt; put_two(rt.alloc(), &mut store)?, Ok(()));
+    assert!(rt; put_two(rt.alloc(), &mut store)? == Ok(()));
     let mut last = None;
     let Ok(()) = compare_once(&mut store, &mut last, BLOCK) else {
         return Err("header".into());
     };
     let mut out = [0; 1];
-    assert_eq!(rt;
-        read_compared_samples(&mut store, BLOCK, 1, &mut out),
-        Ok(())
-    );
+    assert!(rt; read_compared_samples(&mut store, BLOCK, 1, &mut out) == Ok(()));
     assert!(rt; out == [-2]);
-    assert_eq!(rt;
-        read_compared_samples(&mut store, BLOCK, 0, &mut out),
-        Ok(())
-    );
+    assert!(rt; read_compared_samples(&mut store, BLOCK, 0, &mut out) == Ok(()));
     assert!(rt; out == [1]);
     let Ok(()) = compare_once(&mut store, &mut last, BLOCK) else {
         return Err("header".into());
     };
     let mut frame = [NOTHING; 1];
-    assert_eq!(rt;
-        read_compared_frames(&mut store, BLOCK, Level::Long, 0, &mut frame),
-        Err(BlockFault::DiskFault)
+    assert!(rt;
+        read_compared_frames(&mut store, BLOCK, Level::Long, 0, &mut frame)
+            == Err(BlockFault::DiskFault)
     );
-    assert_eq!(rt;
-        read_compared_frames(&mut store, BLOCK, Level::Long, 0, &mut frame),
-        Ok(())
-    );
-    assert_eq!(rt; frame[0], summary(-2, 1, 5, 2));
+    assert!(rt; read_compared_frames(&mut store, BLOCK, Level::Long, 0, &mut frame) == Ok(()));
+    assert!(rt; frame[0] == summary(-2, 1, 5, 2));
     Ok(())
 }
 

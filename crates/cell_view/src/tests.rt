@@ -79,7 +79,7 @@ fn cells_from_each_place(rt: HostRuntime) -> Result<(), Fail> {
             let mut out = [Cell::Sample(99); 12];
             let count = read_cells(&mut store, &layout, from as u64, &mut out[..room]);
             let want = &CELLS[from.min(10)..(from + room).min(10)];
-            assert_eq!(rt; count, Ok(want.len()), "{room} from {from}");
+            assert!(rt; count == Ok(want.len()), "{room} from {from}");
             assert!(rt; out.get(..want.len()) == Some(want), "{room} from {from}");
         }
     }
@@ -119,7 +119,7 @@ fn cells_ahead(rt: HostRuntime) -> Result<(), Fail> {
             u64::from(next),
             &mut out,
         );
-        assert_eq!(rt; answer, Ok(()), "{next} from {first}");
+        assert!(rt; answer == Ok(()), "{next} from {first}");
         assert!(rt; out == want, "{next} from {first}");
     }
     Ok(())
@@ -135,21 +135,21 @@ fn one_header_for_a_run_of_stretches(rt: HostRuntime) -> Result<(), Fail> {
     let mut out = [GAP; 1];
     let rest = rest_at(&layout, 2);
     let answer = read_ahead(&mut store, &mut last, &layout, &rest, 2, &mut out);
-    assert_eq!(rt; answer, Ok(()));
-    assert_eq!(rt; store.call_count(), 8);
+    assert!(rt; answer == Ok(()));
+    assert!(rt; store.call_count() == 8);
     let rest = rest_at(&layout, 3);
     let answer = read_ahead(&mut store, &mut last, &layout, &rest, 3, &mut out);
-    assert_eq!(rt; answer, Ok(()));
-    assert_eq!(rt; store.call_count(), 9);
+    assert!(rt; answer == Ok(()));
+    assert!(rt; store.call_count() == 9);
     let rest = rest_at(&layout, 5);
     let answer = read_ahead(&mut store, &mut last, &layout, &rest, 5, &mut out);
-    assert_eq!(rt; answer, Ok(()));
-    assert_eq!(rt; store.call_count(), 11);
+    assert!(rt; answer == Ok(()));
+    assert!(rt; store.call_count() == 11);
     let rest = rest_at(&layout, 4);
     let answer = read_ahead(&mut store, &mut last, &layout, &rest, 4, &mut out);
-    assert_eq!(rt; answer, Ok(()));
+    assert!(rt; answer == Ok(()));
     assert!(rt; out == [Cell::Sample(3)]);
-    assert_eq!(rt; store.call_count(), 13);
+    assert!(rt; store.call_count() == 13);
     Ok(())
 }
 
@@ -158,7 +158,7 @@ fn one_header_for_a_run_of_stretches(rt: HostRuntime) -> Result<(), Fail> {
 fn blocks_that_are_not_seen(rt: HostRuntime) -> Result<(), Fail> {
     let layout = track(rt.alloc())?;
     let mut store = disk(rt.alloc(), Vec::new(rt.alloc()))?;
-    assert_eq!(rt; drop_block(&mut store, 17), Ok(()));
+    assert!(rt; drop_block(&mut store, 17) == Ok(()));
     for (from, room, calls) in [
         (0u32, 2usize, 0u64),
         (0, 5, 2),
@@ -175,9 +175,8 @@ fn blocks_that_are_not_seen(rt: HostRuntime) -> Result<(), Fail> {
             &mut out[..room.min(5)],
         );
         assert!(rt; count.is_ok(), "{room} from {from}");
-        assert_eq!(rt;
-            store.call_count().wrapping_sub(before),
-            calls,
+        assert!(rt;
+            store.call_count().wrapping_sub(before) == calls,
             "{room} from {from}"
         );
     }
@@ -204,12 +203,11 @@ fn each_read_fails(rt: HostRuntime) -> Result<(), Fail> {
     for call in 7..13 {
         let mut store = disk(rt.alloc(), vec![in rt.alloc(); call]?)?;
         let mut out = [GAP; 10];
-        assert_eq!(rt;
-            read_cells(&mut store, &layout, 0, &mut out),
-            Err(BlockFault::DiskFault),
+        assert!(rt;
+            read_cells(&mut store, &layout, 0, &mut out) == Err(BlockFault::DiskFault),
             "at {call}"
         );
-        assert_eq!(rt; read_cells(&mut store, &layout, 0, &mut out), Ok(10));
+        assert!(rt; read_cells(&mut store, &layout, 0, &mut out) == Ok(10));
         assert!(rt; out == CELLS);
     }
     Ok(())

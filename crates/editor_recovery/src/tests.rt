@@ -143,7 +143,7 @@ fn has_files(
     want: &[u64],
 ) -> Result<(), Fail> {
     let files = files_of(alloc, store)?;
-    assert_eq!(rt; files.len(), want.len());
+    assert!(rt; files.len() == want.len());
     for (i, file) in want.iter().enumerate() {
         assert!(rt; files.get(i).copied() == Some(*file));
     }
@@ -167,10 +167,10 @@ fn made_and_opened(rt: HostRuntime) -> Result<(), Fail> {
     let alloc = rt.alloc();
     let studio = opened(alloc, fresh(alloc)?)?;
     assert!(rt; studio.facts() == facts(1, 0));
-    assert_eq!(rt; studio.commit_number(), 0);
+    assert!(rt; studio.commit_number() == 0);
     let studio = opened(alloc, sound(alloc)?)?;
     assert!(rt; studio.facts() == facts(2, 3));
-    assert_eq!(rt; studio.commit_number(), 1);
+    assert!(rt; studio.commit_number() == 1);
     Ok(())
 }
 
@@ -184,7 +184,7 @@ fn opened_and_edited(rt: HostRuntime) -> Result<(), Fail> {
     let mut studio = opened(alloc, studio.into_store())?;
     assert!(rt; studio.facts() == facts(3, 4));
     assert!(rt; check(alloc, &mut studio) == Ok(4));
-    assert_eq!(rt; studio.commit_number(), 3);
+    assert!(rt; studio.commit_number() == 3);
     has_files(&rt, alloc, &mut studio.into_store(), &[0, 16, 17, 18, 19])
 }
 
@@ -281,13 +281,13 @@ fn a_stop_after_each_call(rt: HostRuntime) -> Result<(), Fail> {
         let mut store = disk(alloc)?;
         store.stop_after(calls);
         let made = create(alloc, &mut store, 8000, 4, 3);
-        assert_eq!(rt; made.is_ok(), calls == 12);
+        assert!(rt; made.is_ok() == calls == 12);
         let want = match calls {
             12 => 10,
             11 => 4,
             _ => 0,
         };
-        assert_eq!(rt; opened_images(alloc, &store)?, want);
+        assert!(rt; opened_images(alloc, &store)? == want);
     }
     Ok(())
 }
@@ -308,7 +308,7 @@ fn every_named_block_is_listed(rt: HostRuntime) -> Result<(), Fail> {
     let studio = opened(alloc, store)?;
     assert!(rt; studio.facts() == facts(3, 3));
     let named = studio.named_blocks(alloc).ok().ok_or("no memory")?;
-    assert_eq!(rt; named.len(), 3);
+    assert!(rt; named.len() == 3);
     for (i, (id, len)) in [(16, 4), (17, 3), (18, 1)].iter().enumerate() {
         assert!(rt; named.get(i).copied() == Some(BlockRef { id: *id, len: *len }));
     }

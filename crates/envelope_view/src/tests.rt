@@ -229,7 +229,7 @@ fn as_many_columns_as_there_may_be(rt: HostRuntime) -> Result<(), Fail> {
     assert!(rt; put_long(rt.alloc(), &mut store)?);
     let layout = long_clip(rt.alloc())?;
     let found = columns(rt.alloc(), &mut store, &layout, 5, 65_541, 4096)?;
-    assert_eq!(rt; found.len(), 4096);
+    assert!(rt; found.len() == 4096);
     for (i, column) in found.iter().enumerate() {
         let want = match i {
             15 => scan(1, 2, 19, 16),

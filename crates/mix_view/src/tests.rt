@@ -167,7 +167,7 @@ fn frames_from_each_place(rt: HostRuntime) -> Result<(), Fail> {
     let mut store = disk(rt.alloc(), Vec::new(rt.alloc()))?;
     let frames = mix();
     let mut cells = [Cell::Gap; 64];
-    assert_eq!(rt; mix_len(&point), 41);
+    assert!(rt; mix_len(&point) == 41);
     for from in 0..44usize {
         for room in [0usize, 1, 17, 48] {
             let mut out = [Frame { left: 9, right: 9 }; 48];
@@ -180,7 +180,7 @@ fn frames_from_each_place(rt: HostRuntime) -> Result<(), Fail> {
                 &mut out[..room],
             );
             let want = &frames[from.min(41)..(from + room).min(41)];
-            assert_eq!(rt; count, Ok(want.len()), "{room} from {from}");
+            assert!(rt; count == Ok(want.len()), "{room} from {from}");
             assert!(rt; out.get(..want.len()) == Some(want), "{room} from {from}");
         }
     }
@@ -196,11 +196,11 @@ fn each_read_fails(rt: HostRuntime) -> Result<(), Fail> {
         let mut store = disk(rt.alloc(), vec![in rt.alloc(); call]?)?;
         let mut out = [SILENT; 48];
         let count = read_frames(&mut store, &point, 0, &mut cells, &mut out);
-        assert_eq!(rt; count, Err(BlockFault::DiskFault), "at {call}");
-        assert_eq!(rt; store.call_count(), call);
+        assert!(rt; count == Err(BlockFault::DiskFault), "at {call}");
+        assert!(rt; store.call_count() == call);
         let count = read_frames(&mut store, &point, 0, &mut cells, &mut out);
-        assert_eq!(rt; count, Ok(41));
-        assert_eq!(rt; store.call_count(), call.wrapping_add(6));
+        assert!(rt; count == Ok(41));
+        assert!(rt; store.call_count() == call.wrapping_add(6));
     }
     Ok(())
 }
@@ -222,8 +222,8 @@ fn one_header_for_each_track(rt: HostRuntime) -> Result<(), Fail> {
     let mut cells = [Cell::Gap; 64];
     let mut out = [SILENT; 60];
     let count = read_frames(&mut store, &point, 0, &mut cells, &mut out);
-    assert_eq!(rt; count, Ok(60));
-    assert_eq!(rt; store.call_count(), 24);
+    assert!(rt; count == Ok(60));
+    assert!(rt; store.call_count() == 24);
     let ends = [out[7], out[8], out[19], out[20], out[39]];
     assert!(rt; ends == [level(3), level(6), level(6), level(10), level(10)]);
     let ends = [out[40], out[47], out[48], out[59]];
@@ -241,8 +241,8 @@ fn a_header_for_each_read(rt: HostRuntime) -> Result<(), Fail> {
     let mut out = [SILENT; 20];
     for (from, calls) in [(0u32, 17u64), (20, 29), (40, 34)] {
         let count = read_frames(&mut store, &point, u64::from(from), &mut cells, &mut out);
-        assert_eq!(rt; count, Ok(20), "from {from}");
-        assert_eq!(rt; store.call_count(), calls, "from {from}");
+        assert!(rt; count == Ok(20), "from {from}");
+        assert!(rt; store.call_count() == calls, "from {from}");
     }
     Ok(())
 }

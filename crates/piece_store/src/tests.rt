@@ -209,7 +209,7 @@ fn made_blocks(rt: HostRuntime) -> Result<(), Fail> {
     ];
     for (pieces, brings, want) in rows {
         let mut store = disk(rt.alloc(), Vec::new(rt.alloc()))?;
-        assert_eq!(rt; make(rt.alloc(), &mut store, pieces, &brings)?, Ok(()));
+        assert!(rt; make(rt.alloc(), &mut store, pieces, &brings)? == Ok(()));
         assert!(rt; has(&mut store, want));
         // So it is after a stop.
         let mut left = store.image(rt.alloc(), 1).ok().ok_or("no memory")?;
@@ -228,20 +228,19 @@ fn a_written_block_waits_for_its_sync(rt: HostRuntime) -> Result<(), Fail> {
         pieces: Pieces::new(vec![in rt.alloc(); Piece::Zero { len: 2 }]?),
     };
     let mut scratch = Vec::with_capacity(rt.alloc(), 44)?;
-    assert_eq!(rt;
+    assert!(rt;
         write_new_block(
             &mut store,
             &block,
             &Given::Nothing,
             &mut [0; 2],
             &mut scratch
-        ),
-        Ok(())
+        ) == Ok(())
     );
     assert!(rt; has(&mut store, &[0, 0]));
     let mut left = store.image(rt.alloc(), 1).ok().ok_or("no memory")?;
-    assert_eq!(rt; left.size(MADE), Ok(None));
-    assert_eq!(rt; sync_block(&mut store, MADE), Ok(()));
+    assert!(rt; left.size(MADE) == Ok(None));
+    assert!(rt; sync_block(&mut store, MADE) == Ok(()));
     let mut left = store.image(rt.alloc(), 1).ok().ok_or("no memory")?;
     assert!(rt; has(&mut left, &[0, 0]));
     Ok(())
@@ -259,11 +258,10 @@ fn a_damaged_block_is_told(rt: HostRuntime) -> Result<(), Fail> {
     };
     let pieces = [old(16, 0, 1), zeros(1), old(17, 0, 1)];
     let fault = BlockFault::Damaged { file: 17, found };
-    assert_eq!(rt;
-        make(rt.alloc(), &mut store, pieces, &Given::Nothing)?,
-        Err(MakeFault::Read { fault })
+    assert!(rt;
+        make(rt.alloc(), &mut store, pieces, &Given::Nothing)? == Err(MakeFault::Read { fault })
     );
-    assert_eq!(rt; store.size(MADE), Ok(None));
+    assert!(rt; store.size(MADE) == Ok(None));
     Ok(())
 }
 
@@ -282,11 +280,8 @@ fn each_call_fails_in_turn(rt: HostRuntime) -> Result<(), Fail> {
     ] {
         let mut store = disk(rt.alloc(), vec![in rt.alloc(); call]?)?;
         let pieces = [zeros(1), old(16, 0, 4), zeros(1)];
-        assert_eq!(rt;
-            make(rt.alloc(), &mut store, pieces, &Given::Nothing)?,
-            want
-        );
-        assert_eq!(rt; store.change_faults(), changes);
+        assert!(rt; make(rt.alloc(), &mut store, pieces, &Given::Nothing)? == want);
+        assert!(rt; store.change_faults() == changes);
     }
     Ok(())
 }
@@ -301,10 +296,7 @@ fn one_header_for_two_pieces(rt: HostRuntime) -> Result<(), Fail> {
     ] {
         let mut store = disk(rt.alloc(), vec![in rt.alloc(); call]?)?;
         let pieces = [old(16, 0, 1), zeros(1), scaled(16, 2, 4, 131_072)];
-        assert_eq!(rt;
-            make(rt.alloc(), &mut store, pieces, &Given::Nothing)?,
-            want
-        );
+        assert!(rt; make(rt.alloc(), &mut store, pieces, &Given::Nothing)? == want);
     }
     Ok(())
 }

@@ -189,8 +189,8 @@ fn four_threads_write_one_log(rt: HostRuntime) -> Result<(), Fail> {
     };
     let (seat, wrote) = write_by_four(&rt, &turn, seat);
     let log = turn.close(seat);
-    assert_eq!(rt; wrote, true);
-    assert_eq!(rt; log.marks.len(), 40_000);
-    assert_eq!(rt; log.is_whole(), true);
+    assert!(rt; wrote == true);
+    assert!(rt; log.marks.len() == 40_000);
+    assert!(rt; log.is_whole() == true);
     Ok(())
 }

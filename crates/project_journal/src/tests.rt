@@ -103,7 +103,7 @@ fn fault(rt: &impl Abort, alloc: Global, at: usize, byte: u8) -> Result<(u64, u1
                 have,
             },
         ) => {
-            assert_eq!(rt; file, 0);
+            assert!(rt; file == 0);
             Ok((at, want, have))
         }
         _ => Err("the header is damaged".into()),
@@ -121,18 +121,18 @@ fn one_record_byte_by_byte(rt: HostRuntime) -> Result<(), Fail> {
     assert!(rt; matches!(create(&mut store, 8000, 4, 256), Err(JournalFault::Exists)));
     assert!(rt; store.size(0) == Ok(Some(33)));
     assert!(rt; store.read_at(0, 0, &mut head) == Ok(33));
-    assert_eq!(rt; head.as_slice(), NEW.as_slice());
+    assert!(rt; head.as_slice() == NEW.as_slice());
     let mut scratch = Vec::with_capacity(alloc, 52)?;
     assert!(rt; append(&mut store, 32, &JOURNAL[37..84], &mut scratch) == Ok(84));
     assert!(rt; store.size(0) == Ok(Some(85)));
     assert!(rt; store.read_at(0, 0, &mut whole) == Ok(85));
-    assert_eq!(rt; whole.as_slice(), JOURNAL.as_slice());
+    assert!(rt; whole.as_slice() == JOURNAL.as_slice());
     assert!(rt; append_small(&mut store, 84, &[2]) == Ok(90));
     let journal = read_two(alloc, &mut store).ok().ok_or("a journal")?;
-    assert_eq!(rt; journal.numbers, (8000, 4, 256));
-    assert_eq!(rt; (journal.count, journal.end), (2, 90));
-    assert_eq!(rt; journal.early, None);
-    assert_eq!(rt; journal.bodies[1].as_slice(), [2].as_slice());
+    assert!(rt; journal.numbers == (8000, 4, 256));
+    assert!(rt; (journal.count, journal.end) == (2, 90));
+    assert!(rt; journal.early == None);
+    assert!(rt; journal.bodies[1].as_slice() == [2].as_slice());
     Ok(())
 }
 
@@ -143,33 +143,37 @@ fn the_first_gate_decides(rt: HostRuntime) -> Result<(), Fail> {
     let mut odd = hostile(alloc, 85, 32, 7)?;
     let none = read_two(alloc, &mut shut).ok().ok_or("a journal")?;
     let one = read_two(alloc, &mut odd).ok().ok_or("a journal")?;
-    assert_eq!(rt; none.count, 0);
-    assert_eq!(rt; (one.count, one.place), (1, 37));
+    assert!(rt; none.count == 0);
+    assert!(rt; (one.count, one.place) == (1, 37));
     let body = one.bodies[0].as_slice();
-    assert_eq!(rt; body, &JOURNAL[37..84]);
+    assert!(rt; body == &JOURNAL[37..84]);
     // Kind 1, next block 16, one track.
     if body.len() == 47 {
-        assert_eq!(rt;
-            (u8_at(body, 0), u64_at(body, 9), u32_at(body, 25)),
-            (1, 16, 1)
-        );
+        assert!(rt; (u8_at(body, 0), u64_at(body, 9), u32_at(body, 25)) == (1, 16, 1));
     }
     Ok(())
 }
 
+// A byte of the header that is another one, and the place, the wanted and the found value of its field.
+const DAMAGES: [(usize, u8, (u64, u128, u128)); 10] = [
+    (4, 0x32, (1, 827_214_401, 843_991_617)),
+    (5, 0, (5, 1, 0)),
+    (5, 2, (5, 1, 2)),
+    (13, 5, (13, 4, 5)),
+    (13, 3, (13, 4, 3)),
+    (13, 7, (13, 6, 7)),
+    (16, 1, (13, 262_144, 16_777_220)),
+    (18, 0, (17, 1, 0)),
+    (18, 0x20, (17, 4096, 8192)),
+    (31, 3, (31, 0, 3)),
+];
+
 #[test]
 fn what_is_damaged(rt: HostRuntime) -> Result<(), Fail> {
     let alloc = rt.alloc();
-    assert_eq!(rt; fault(&rt, alloc, 4, 0x32)?, (1, 827_214_401, 843_991_617));
-    assert_eq!(rt; fault(&rt, alloc, 5, 0)?, (5, 1, 0));
-    assert_eq!(rt; fault(&rt, alloc, 5, 2)?, (5, 1, 2));
-    assert_eq!(rt; fault(&rt, alloc, 13, 5)?, (13, 4, 5));
-    assert_eq!(rt; fault(&rt, alloc, 13, 3)?, (13, 4, 3));
-    assert_eq!(rt; fault(&rt, alloc, 13, 7)?, (13, 6, 7));
-    assert_eq!(rt; fault(&rt, alloc, 16, 1)?, (13, 262_144, 16_777_220));
-    assert_eq!(rt; fault(&rt, alloc, 18, 0)?, (17, 1, 0));
-    assert_eq!(rt; fault(&rt, alloc, 18, 0x20)?, (17, 4096, 8192));
-    assert_eq!(rt; fault(&rt, alloc, 31, 3)?, (31, 0, 3));
+    for (at, byte, told) in DAMAGES {
+        assert!(rt; fault(&rt, alloc, at, byte)? == told, "{at} {byte}");
+    }
     Ok(())
 }
 
@@ -187,10 +191,7 @@ fn an_early_end(rt: HostRuntime) -> Result<(), Fail> {
         let mut store = hostile(alloc, count, 0, 1)?;
         let journal = read_two(alloc, &mut store).ok().ok_or("a journal")?;
         let early = journal.early.ok_or("an early end")?;
-        assert_eq!(rt;
-            (early.at, early.want, early.have),
-            (at, want, count as u128)
-        );
+        assert!(rt; (early.at, early.want, early.have) == (at, want, count as u128));
     }
     let mut short = hostile(alloc, 32, 0, 1)?;
     assert!(rt; matches!(open_journal(alloc, &mut short), Err(JournalFault::Absent)));
@@ -230,12 +231,12 @@ fn progress(rt: &impl Abort, alloc: Global, store: &RamStore, choice: u64) -> Re
         Err(JournalFault::Absent) => return Ok(0),
         Err(_) => return Err("damaged".into()),
     };
-    assert_eq!(rt; journal.early, None);
+    assert!(rt; journal.early == None);
     if journal.count >= 1 {
-        assert_eq!(rt; journal.bodies[0].as_slice(), &JOURNAL[37..84]);
+        assert!(rt; journal.bodies[0].as_slice() == &JOURNAL[37..84]);
     }
     if journal.count >= 2 {
-        assert_eq!(rt; journal.bodies[1].as_slice(), [2].as_slice());
+        assert!(rt; journal.bodies[1].as_slice() == [2].as_slice());
     }
     Ok(1 + journal.count.min(2))
 }
@@ -268,14 +269,12 @@ fn a_stop_after_each_call(rt: HostRuntime) -> Result<(), Fail> {
     ];
     for (calls, (least, most)) in expected.into_iter().enumerate() {
         let store = stopped(alloc, calls as u64)?;
-        assert_eq!(rt;
-            progress(&rt, alloc, &store, 0)?,
-            most,
+        assert!(rt;
+            progress(&rt, alloc, &store, 0)? == most,
             "as it reads after {calls} calls"
         );
-        assert_eq!(rt;
-            progress(&rt, alloc, &store, 1)?,
-            least,
+        assert!(rt;
+            progress(&rt, alloc, &store, 1)? == least,
             "at the last sync after {calls} calls"
         );
         for choice in 2..10 {
@@ -313,14 +312,14 @@ fn records_of_several_pieces(rt: HostRuntime) -> Result<(), Fail> {
     assert!(rt; append(&mut store, 32, &short, &mut scratch) == Ok(65_527));
     assert!(rt; append(&mut store, 65_527, &long, &mut scratch) == Ok(265_532));
     let two = read_two(alloc, &mut store).ok().ok_or("a journal")?;
-    assert_eq!(rt; (two.count, two.end, two.early), (2, 265_532, None));
-    assert_eq!(rt; two.bodies[0].as_slice(), short.as_slice());
-    assert_eq!(rt; two.bodies[1].as_slice(), long.as_slice());
+    assert!(rt; (two.count, two.end, two.early) == (2, 265_532, None));
+    assert!(rt; two.bodies[0].as_slice() == short.as_slice());
+    assert!(rt; two.bodies[1].as_slice() == long.as_slice());
     // The second length is that of more bytes than the file has: none of them is read.
     assert!(rt; store.write_at(0, 65_531, &[1]).is_ok());
     let one = read_two(alloc, &mut store).ok().ok_or("a journal")?;
     let early = one.early.ok_or("an early end")?;
-    assert_eq!(rt; (one.count, early.at, early.have), (1, 65_532, 265_533));
-    assert_eq!(rt; early.want, 65_532 + 200_000 + (1 << 24));
+    assert!(rt; (one.count, early.at, early.have) == (1, 65_532, 265_533));
+    assert!(rt; early.want == 65_532 + 200_000 + (1 << 24));
     Ok(())
 }

@@ -83,8 +83,8 @@ pub(crate) fn is_written(alloc: Global, body: &Body, bytes: &[u8]) -> Result<boo
 fn the_first_track(rt: HostRuntime) -> Result<(), Fail> {
     let alloc = rt.alloc();
     let mut point = Point::new(alloc);
-    assert_eq!(rt; point.add(empty_track(alloc, 1)), Ok(()));
-    assert_eq!(rt; point.len(), 1);
+    assert!(rt; point.add(empty_track(alloc, 1)) == Ok(()));
+    assert!(rt; point.len() == 1);
     let copy = point.copy()?;
     assert!(rt; matches!(copy.track(1), Ok(track) if track.id == 1 && track.gain == 65536));
     assert!(rt; matches!(copy.track(2), Err(Refusal::NoTrack { id: 2 })));
@@ -109,7 +109,7 @@ fn two_clips_and_the_other_kinds(rt: HostRuntime) -> Result<(), Fail> {
         mute: true,
         layout: two_clips(alloc)?,
     };
-    assert_eq!(rt; point.add(track), Ok(()));
+    assert!(rt; point.add(track) == Ok(()));
     let body = Body::Edit {
         tag: 3,
         next_block: 19,

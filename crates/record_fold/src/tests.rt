@@ -169,8 +169,8 @@ fn tells(rt: &impl Abort, alloc: Global, bytes: &[u8], told: Told) -> Result<(),
                 have,
             },
         ) => {
-            assert_eq!(rt; file, 0);
-            assert_eq!(rt; (at, want, have), told);
+            assert!(rt; file == 0);
+            assert!(rt; (at, want, have) == told);
             Ok(())
         }
         _ => Err("no fault is told".into()),
@@ -193,20 +193,17 @@ fn numbers(alloc: Global, bytes: &[u8]) -> Result<(usize, usize, u64, u64, u64),
 fn a_sound_journal(rt: HostRuntime) -> Result<(), Fail> {
     let alloc = rt.alloc();
     let bytes = sound(alloc)?;
-    assert_eq!(rt; bytes.len(), 293);
+    assert!(rt; bytes.len() == 293);
     let project = folded(alloc, &bytes)?.ok().ok_or("a fault")?;
     // The point of no tracks was dropped; the further piece went into the point of the first.
     let history = &project.history;
-    assert_eq!(rt;
-        (history.len(), history.cursor(), history.depth()),
-        (2, 1, 3)
-    );
+    assert!(rt; (history.len(), history.cursor(), history.depth()) == (2, 1, 3));
     if history.len() == 2 {
-        assert_eq!(rt; (history.tag(0), history.point(0).len()), (0, 2));
-        assert_eq!(rt; (history.tag(1), history.point(1).len()), (1, 1));
+        assert!(rt; (history.tag(0), history.point(0).len()) == (0, 2));
+        assert!(rt; (history.tag(1), history.point(1).len()) == (1, 1));
     }
-    assert_eq!(rt; numbers(alloc, &bytes)?, (2, 1, 19, 3, 6));
-    assert_eq!(rt; numbers(alloc, &journal(alloc, &[])?)?, (1, 0, 16, 1, 0));
+    assert!(rt; numbers(alloc, &bytes)? == (2, 1, 19, 3, 6));
+    assert!(rt; numbers(alloc, &journal(alloc, &[])?)? == (1, 0, 16, 1, 0));
     Ok(())
 }
 
@@ -215,12 +212,12 @@ fn records_stand_behind_open_gates(rt: HostRuntime) -> Result<(), Fail> {
     let alloc = rt.alloc();
     let mut bytes = sound(alloc)?;
     put(&mut bytes, (162, 1, 7));
-    assert_eq!(rt; numbers(alloc, &bytes)?, (2, 1, 19, 3, 6));
+    assert!(rt; numbers(alloc, &bytes)? == (2, 1, 19, 3, 6));
     // What stands behind a gate that is 0 is none.
     put(&mut bytes, (162, 1, 0));
-    assert_eq!(rt; numbers(alloc, &bytes)?, (2, 1, 19, 3, 1));
+    assert!(rt; numbers(alloc, &bytes)? == (2, 1, 19, 3, 1));
     put(&mut bytes, (32, 1, 0));
-    assert_eq!(rt; numbers(alloc, &bytes)?, (1, 0, 16, 1, 0));
+    assert!(rt; numbers(alloc, &bytes)? == (1, 0, 16, 1, 0));
     Ok(())
 }
 
@@ -300,7 +297,7 @@ fn what_no_single_field_shows(rt: HostRuntime) -> Result<(), Fail> {
     tells(&rt, alloc, &journal(alloc, &[&PURGE])?, (37, 1, 0))?;
     // 64 tracks, and one more.
     let most = journal(alloc, &[&tracks(alloc, 64)?])?;
-    assert_eq!(rt; numbers(alloc, &most)?, (2, 1, 19, 100, 1));
+    assert!(rt; numbers(alloc, &most)? == (2, 1, 19, 100, 1));
     tells(
         &rt,
         alloc,

@@ -46,17 +46,17 @@ fn two_samples(rt: HostRuntime) -> Result<(), NoMemory> {
     let Ok(block) = decode(alloc, &FILE, 16, 2) else {
         return Err(NoMemory);
     };
-    assert_eq!(rt; block.id, 16);
+    assert!(rt; block.id == 16);
     assert!(rt; block.samples.as_slice() == [1i16, -2].as_slice());
     let head = Header {
         magic: MAGIC,
         id: 16,
         count: 2,
     };
-    assert_eq!(rt; header(&FILE), head);
-    assert_eq!(rt; check_header(&FILE, 16, 2), Ok(()));
-    assert_eq!(rt; check(&FILE, 16, 2), Ok(()));
-    assert_eq!(rt; sample_at(&FILE[16..], 1), -2);
+    assert!(rt; header(&FILE) == head);
+    assert!(rt; check_header(&FILE, 16, 2) == Ok(()));
+    assert!(rt; check(&FILE, 16, 2) == Ok(()));
+    assert!(rt; sample_at(&FILE[16..], 1) == -2);
     Ok(())
 }
 
@@ -68,8 +68,8 @@ fn three_hundred_samples(rt: HostRuntime) -> Result<(), NoMemory> {
     samples[299] = -4;
     let mut out = Vec::new(alloc);
     encode(16, &samples, &mut out)?;
-    assert_eq!(rt; out.len(), 652);
-    assert_eq!(rt; check(out.as_slice(), 16, 300), Ok(()));
+    assert!(rt; out.len() == 652);
+    assert!(rt; check(out.as_slice(), 16, 300) == Ok(()));
     let frames = [
         (0, 3, 3, 2304, 256),
         (1, -4, 5, 419, 44),
@@ -83,7 +83,7 @@ fn three_hundred_samples(rt: HostRuntime) -> Result<(), NoMemory> {
             count,
         };
         if out.len() == 652 && i < 3 {
-            assert_eq!(rt; frame_at(&out.as_slice()[616..], i, count), want);
+            assert!(rt; frame_at(&out.as_slice()[616..], i, count) == want);
         }
     }
     Ok(())
@@ -103,7 +103,7 @@ fn sizes(rt: HostRuntime) {
         (262_144, 536_640),
     ] {
         if count <= 262_144 {
-            assert_eq!(rt; file_size(count), size);
+            assert!(rt; file_size(count) == size);
         }
     }
 }
@@ -127,8 +127,8 @@ fn each_field_damaged(rt: HostRuntime) {
         if case.place < bytes.len() {
             bytes[case.place] = case.byte;
         }
-        assert_eq!(rt; fault_of(decode(alloc, &bytes, 16, 2)), Some(case.fault));
-        assert_eq!(rt; check(&bytes, 16, 2), Err(case.fault));
+        assert!(rt; fault_of(decode(alloc, &bytes, 16, 2)) == Some(case.fault));
+        assert!(rt; check(&bytes, 16, 2) == Err(case.fault));
     }
     for (file, have) in [(&FILE[..43], 43), (&[0u8; 45][..], 45)] {
         let fault = Damaged {
@@ -136,7 +136,7 @@ fn each_field_damaged(rt: HostRuntime) {
             want: 44,
             have,
         };
-        assert_eq!(rt; fault_of(decode(alloc, file, 16, 2)), Some(fault));
-        assert_eq!(rt; check(file, 16, 2), Err(fault));
+        assert!(rt; fault_of(decode(alloc, file, 16, 2)) == Some(fault));
+        assert!(rt; check(file, 16, 2) == Err(fault));
     }
 }

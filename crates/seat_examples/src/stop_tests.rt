@@ -22,7 +22,7 @@ fn keeps_commits(
     let number = studio.commit_number();
     assert!(rt; number == acknowledged || number.checked_sub(1) == Some(acknowledged));
     let [ramps, pieces] = commits_in(&mut studio)?;
-    assert_eq!(rt; number, ramps.wrapping_add(pieces).wrapping_add(3));
+    assert!(rt; number == ramps.wrapping_add(pieces).wrapping_add(3));
     assert!(rt; studio.stopped().is_none());
     has_named_files(rt, alloc, studio)
 }
@@ -50,7 +50,7 @@ fn stops_after(
     for end in later {
         assert!(rt; is_stopped(end));
     }
-    assert_eq!(rt; unpinned, Ok(()));
+    assert!(rt; unpinned == Ok(()));
     let store = studio.into_store();
     for choice in 0..8 {
         let image = store.image(alloc, choice).ok().ok_or("no memory")?;

@@ -139,10 +139,10 @@ fn one_header_for_two_stretches(rt: HostRuntime) -> Result<(), Fail> {
     let point = project(rt.alloc(), 2)?;
     let mut vault = MemVault::new(rt.alloc(), 4, 4096, Numbers::new(Vec::new(rt.alloc())))?;
     let mut store = disk(rt.alloc(), Vec::new(rt.alloc()))?;
-    assert_eq!(rt; store.call_count(), 4);
+    assert!(rt; store.call_count() == 4);
     let (answer, _) = export(&mut store, &mut vault, &point)?;
-    assert_eq!(rt; answer, Ok(64));
-    assert_eq!(rt; store.call_count(), 9);
+    assert!(rt; answer == Ok(64));
+    assert!(rt; store.call_count() == 9);
     Ok(())
 }
 

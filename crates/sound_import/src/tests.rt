@@ -31,8 +31,8 @@ fn the_sound(rt: HostRuntime) -> Result<(), Fail> {
     let wav = read_sound(rt.alloc(), &mut vault, "a.wav", 8_000)
         .ok()
         .ok_or("refused")?;
-    assert_eq!(rt; wav.rate, 8_000);
-    assert_eq!(rt; wav.channels.as_slice().len(), 1);
+    assert!(rt; wav.rate == 8_000);
+    assert!(rt; wav.channels.as_slice().len() == 1);
     for samples in wav.channels.as_slice() {
         assert!(rt; samples.as_slice() == [1, -1].as_slice());
     }
@@ -52,10 +52,7 @@ fn each_reason(rt: HostRuntime) -> Result<(), Fail> {
         ("a.wav", 8_001, rates),
     ] {
         let mut vault = vault(rt.alloc(), Vec::new(rt.alloc()))?;
-        assert_eq!(rt;
-            read_sound(rt.alloc(), &mut vault, name, rate).err(),
-            Some(want)
-        );
+        assert!(rt; read_sound(rt.alloc(), &mut vault, name, rate).err() == Some(want));
     }
     Ok(())
 }
@@ -69,10 +66,7 @@ fn each_call_fails_in_turn(rt: HostRuntime) -> Result<(), Fail> {
         (3, None),
     ] {
         let mut vault = vault(rt.alloc(), vec![in rt.alloc(); call]?)?;
-        assert_eq!(rt;
-            read_sound(rt.alloc(), &mut vault, "a.wav", 8_000).err(),
-            want
-        );
+        assert!(rt; read_sound(rt.alloc(), &mut vault, "a.wav", 8_000).err() == want);
     }
     Ok(())
 }

@@ -87,16 +87,16 @@ fn script_recorder_and_player_overlap(rt: HostRuntime) -> Result<(), Fail> {
         &gate,
     );
     assert!(rt; !gate.is_in_vain(&rt));
-    assert_eq!(rt; stop, Stop::End);
+    assert!(rt; stop == Stop::End);
     assert!(rt; session.refused);
     assert!(rt; out.bytes() == ANSWERS);
     let recorded = recorded.ok().expect(&rt, "a recording");
-    assert_eq!(rt; recorded.end, MicEnd::End);
-    assert_eq!(rt; recorded.samples, 1);
-    assert_eq!(rt; recorded.taker.taken.len(), 1);
+    assert!(rt; recorded.end == MicEnd::End);
+    assert!(rt; recorded.samples == 1);
+    assert!(rt; recorded.taker.taken.len() == 1);
     let played = played.ok().expect(&rt, "a playback");
-    assert_eq!(rt; played.frames, 9000);
-    assert_eq!(rt; played.speaker.bytes().len(), 36_000);
+    assert!(rt; played.frames == 9000);
+    assert!(rt; played.speaker.bytes().len() == 36_000);
     Ok(())
 }
 
@@ -146,7 +146,7 @@ fn each_may_be_missing(rt: HostRuntime) -> Result<(), Fail> {
     assert!(rt; run_lent(&rt, alloc, lent, None::<MemSink>)? == (true, true, false));
     let lent = Some(LentSink { sink: &mut speaker });
     assert!(rt; run_lent(&rt, alloc, None::<MemSource>, lent)? == (true, false, true));
-    assert_eq!(rt; mic.read(&mut [0u8; 8]), Ok(0));
-    assert_eq!(rt; speaker.bytes().len(), 36_000);
+    assert!(rt; mic.read(&mut [0u8; 8]) == Ok(0));
+    assert!(rt; speaker.bytes().len() == 36_000);
     Ok(())
 }

@@ -7,7 +7,7 @@ fn two_threads_raise_one_counter(rt: HostRuntime) -> Result<(), Fail> {
     let Some((count, made)) = count_up(&rt, rt.alloc(), 5, 1000) else {
         return Err(Fail::new("no memory for the turn"));
     };
-    assert_eq!(rt; made, 2000);
-    assert_eq!(rt; count, 2005);
+    assert!(rt; made == 2000);
+    assert!(rt; count == 2005);
     Ok(())
 }

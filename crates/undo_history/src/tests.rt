@@ -7,11 +7,11 @@ use std::test::*;
 
 // The points of a history, and its cursor.
 fn shows(rt: &impl Abort, history: &History<char>, points: &[(char, u64)], cursor: usize) {
-    assert_eq!(rt; history.len(), points.len());
-    assert_eq!(rt; history.cursor(), cursor);
+    assert!(rt; history.len() == points.len());
+    assert!(rt; history.cursor() == cursor);
     for (i, (point, tag)) in points.iter().enumerate() {
         if i < history.len() {
-            assert_eq!(rt; (*history.point(i), history.tag(i)), (*point, *tag));
+            assert!(rt; (*history.point(i), history.tag(i)) == (*point, *tag));
         }
     }
 }
@@ -44,7 +44,7 @@ fn an_edit_drops_what_could_be_redone(rt: HostRuntime) -> Result<(), Fail> {
 fn beyond_the_depth_the_oldest_goes(rt: HostRuntime) -> Result<(), Fail> {
     let history = pushed(rt.alloc(), "abcd")?;
     shows(&rt, &history, &[('b', 0), ('c', 0), ('d', 0)], 2);
-    assert_eq!(rt; history.depth(), 3);
+    assert!(rt; history.depth() == 3);
     Ok(())
 }
 

@@ -179,25 +179,10 @@ fn other_programs(rt: HostRuntime) -> Result<(), Fail> {
 #[test]
 fn other_formats(rt: HostRuntime) {
     let alloc = rt.alloc();
-    assert_eq!(rt;
-        refusal(alloc, &SOX_8_BITS),
-        Some(WavFault::BadBits { bits: 8 })
-    );
-    assert_eq!(rt;
-        refusal(alloc, &SOX_24_BITS),
-        Some(WavFault::BadBits { bits: 24 })
-    );
-    assert_eq!(rt;
-        refusal(alloc, &SOX_FLOAT),
-        Some(WavFault::BadTag { tag: 3 })
-    );
-    assert_eq!(rt;
-        refusal(alloc, &SOX_A_LAW),
-        Some(WavFault::BadTag { tag: 6 })
-    );
-    assert_eq!(rt;
-        refusal(alloc, &FFMPEG_FLOAT),
-        Some(WavFault::BadTag { tag: 0xFFFE })
-    );
-    assert_eq!(rt; refusal(alloc, &FFMPEG_RF64), Some(WavFault::NotRiff));
+    assert!(rt; refusal(alloc, &SOX_8_BITS) == Some(WavFault::BadBits { bits: 8 }));
+    assert!(rt; refusal(alloc, &SOX_24_BITS) == Some(WavFault::BadBits { bits: 24 }));
+    assert!(rt; refusal(alloc, &SOX_FLOAT) == Some(WavFault::BadTag { tag: 3 }));
+    assert!(rt; refusal(alloc, &SOX_A_LAW) == Some(WavFault::BadTag { tag: 6 }));
+    assert!(rt; refusal(alloc, &FFMPEG_FLOAT) == Some(WavFault::BadTag { tag: 0xFFFE }));
+    assert!(rt; refusal(alloc, &FFMPEG_RF64) == Some(WavFault::NotRiff));
 }

@@ -32,15 +32,15 @@ fn few_blocks_are_made(rt: HostRuntime) -> Result<(), Fail> {
     // and 1: 2 samples from cell 3 on, 9, and 2.
     let plan = plan_of(alloc, &t, Edit::Gain(4, 21, 98_304), &[], 22)?;
     assert!(rt; ids(alloc, &plan.layout)?.as_slice() == [16u64, 22, 23, 24, 25, 26].as_slice());
-    assert_eq!(rt; plan.next, 27);
+    assert!(rt; plan.next == 27);
     let plan = plan_of(alloc, &t, Edit::Silence(4, 21), &[], 22)?;
-    assert_eq!(rt; plan.next, 27);
+    assert!(rt; plan.next == 27);
     // 22 samples within block 17: at most 8 + 22 / 4 = 13 new blocks. There are 6, for 1 + 22 + 1 samples.
     let given = draws::rising(alloc, 22)?;
     let plan = plan_of(alloc, &t, Edit::Insert(4), given.as_slice(), 22)?;
     let want = [16u64, 22, 23, 24, 25, 26, 27, 18, 19, 20, 21];
     assert!(rt; ids(alloc, &plan.layout)?.as_slice() == want.as_slice());
-    assert_eq!(rt; plan.next, 28);
+    assert!(rt; plan.next == 28);
     Ok(())
 }
 
@@ -89,7 +89,7 @@ fn blocks_come_free(rt: HostRuntime) -> Result<(), Fail> {
         let want = [16u64, 17, 18, 19, 20];
         assert!(rt; free_ids(alloc, &disk, t, &clipboard)?.as_slice() == want.as_slice());
     }
-    assert_eq!(rt; plans.as_slice().len(), 1);
+    assert!(rt; plans.as_slice().len() == 1);
     Ok(())
 }
 
