@@ -9,7 +9,7 @@ const ANSWERS: [&str; 2] = [
     "ok 4\nok 5\nok 7\nok 8\nrec 2 1 1\nplay 9000\nend 8\n",
 ];
 
-const SCRIPT: &[u8] = b"put 1 0 7\ndelete 1 0 9001\nundo\ndelete 1 0 1\n";
+const SCRIPT: &[u8] = b"put 1 0 7\ndelete 1 0 9001\nput 1 0 8\ndelete 1 0 1\n";
 
 // Whether these are the bytes of 9,000 frames, which on both sides are the samples from -500 on, each 1 more.
 fn is_ramp(bytes: &[u8]) -> bool {
