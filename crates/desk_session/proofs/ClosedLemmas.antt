@@ -81,7 +81,9 @@ module _ {D V M : Type 0} (mics : source.Ghosts M) (mic mic_now : M) (first trac
 module _ {D V M P : Type 0} (k : Kinds D V M P) (start final : Core D) (mid : V) (lent : Lent V M P) (out : Outcome)
     (u v w : View (Held D V) Deed) (last : ℕ) (first : IsFirst u) (o : Opens start.commit_number out.opened u v)
     (is_last : last ≡ number_after start.commit_number v.seen) (same : mid ≡ lent.vault)
-    (s : Sat k start start.next_track last v w (record lent { vault = mid }) out)
+    (s : Sat k
+    (record { start = start; track = start.next_track; last = last; seat = v; seat_now = w })
+    (record lent { vault = mid }) out)
     (stands : StandsFor k.disk (AllTell k.vaults) start final w.seen)
     (counts : (k : ℕ) → times k w.mine ≡ once_below k (length w.seen)) where
   abbrev disk : Ghosts D
@@ -228,8 +230,8 @@ module _ {D V M P : Type 0} (k : Kinds D V M P) (start final : Core D) (mid : V)
       let script : numbers_of (by_seat v.number) (number_after n v.seen) s.seats.by_script.added ≡ told.commits =
       ap (λ (a : ℕ). numbers_of (by_seat a) (number_after n v.seen) s.seats.by_script.added) is_zero
       ∙ sym script_numbers in
-      let piece = pieces_are k.mics lent.mic lent.mic_now n start.next_track v s.recorder opened.recording out.kept s.seats.by_recorder
-      s.recorded in
+      let piece = pieces_are k.mics lent.mic lent.mic_now n start.next_track v s.recorder opened.recording out.kept
+      s.seats.by_recorder s.recorded in
       subst (λ (z : ℕ × List ℕ × List ℕ × List ℕ). Numbers n z.0 z.1 z.2 z.3)
       (λ i. (sym stands.number i, opening_numbers i, script i, piece i)) all
 

@@ -17,7 +17,7 @@ use Rattle.editor_core.specs.Took.{silent, told_by}
 use Rattle.studio_seats.specs.declared.deed.Deed.{Deed}
 use Rattle.studio_seats.specs.declared.held.Held.{Held}
 use Rattle.studio_seats.specs.Deeds.{commits, deed, number_after, raised}
-use Rattle.studio_seats.specs.Desks.{Says, Spends, Turned, spent}
+use Rattle.studio_seats.specs.Desks.{Says, Spends, Turned, asked, origin, spent, views}
 use Rattle.studio_seats.specs.Merge.{by_seat, deeds_of, number_if, numbers_of}
 use Rattle.studio_seats.specs.Onward.{Onward}
 use Rattle.studio_seats.proofs.Grown.{number_append}
@@ -52,7 +52,7 @@ module _ {D V A : Type 0} (disk : Ghosts D) (vaults : vault.Ghosts V) (start : C
     (call : Call)
     (what : Result Reply Refusal) (said : Said A) (fit : IsOpening call)
     (none : (why : Refusal) → said.what ≡ Err why → what ≡ Err why) where
-  turned : (x : Turned disk vaults start v call what silent said.at w)
+  turned : (x : Turned (origin disk vaults start) (asked call what silent) said.at (views v w))
       → OpensPart start.commit_number (OwnDeed v.number call what) (numbers_told (commits what call) said.at) v w
   turned x =
       let e = deed v.number call what silent in
@@ -91,7 +91,7 @@ module _ {D V A : Type 0} (disk : Ghosts D) (vaults : vault.Ghosts V) (start : C
       }
 
   -- the deed of a call, and its number
-  pub opens_call : Says disk vaults start v call what silent said w
+  pub opens_call : Says (origin disk vaults start) (asked call what silent) said (views v w)
       → OpensPart start.commit_number (OwnDeed v.number call what) (numbers_told (commits what call) said.at) v w
   opens_call h = ⊎_elim turned spends h
 
@@ -159,7 +159,8 @@ tag_on (Some (Err why)) first seen seen' more is h = tt
 module _ {D V A : Type 0} (disk : Ghosts D) (vaults : vault.Ghosts V) (start : Core D) (v w : View (Held D V) Deed)
     (call : Call)
     (what : Result Reply Refusal) (said : Said A) where
-  told_turn : (x : Turned disk vaults start v call what silent said.at w) → TellsNumber start.commit_number v said.at w
+  told_turn : (x : Turned (origin disk vaults start) (asked call what silent) said.at (views v w))
+      → TellsNumber start.commit_number v said.at w
   told_turn x = λ last is.
       let n = start.commit_number in
       let e = deed v.number call what silent in
@@ -178,12 +179,13 @@ module _ {D V A : Type 0} (disk : Ghosts D) (vaults : vault.Ghosts V) (start : C
       stays ∙ (is ∙ sym (ap (λ (z : View (Held D V) Deed). number_after start.commit_number z.seen) x.view))
 
   -- a call tells the commit number behind it
-  pub tells_number : Says disk vaults start v call what silent said w → TellsNumber start.commit_number v said.at w
+  pub tells_number : Says (origin disk vaults start) (asked call what silent) said (views v w)
+      → TellsNumber start.commit_number v said.at w
   tells_number h = ⊎_elim told_turn told_spent h
 
 module _ {D V A : Type 0} (disk : Ghosts D) (vaults : vault.Ghosts V) (start : Core D) (v w : View (Held D V) Deed)
     (f : A → Reply) (said : Said A)
-    (says : Says disk vaults start v (Line Track) (told_by f said.what) silent said w) where
+    (says : Says (origin disk vaults start) (asked (Line Track) (told_by f said.what) silent) said (views v w)) where
   abbrev told : Result Reply Refusal
   told = told_by f said.what
 
@@ -219,7 +221,7 @@ no_numbers (Err why) at = refl
 -- a pin
 pub pinned : {D V : Type 0} (disk : Ghosts D) (vaults : vault.Ghosts V) (start : Core D) (v w : View (Held D V) Deed)
     (said : Said ℕ)
-    → Says disk vaults start v Pin (told_by reply.Pinned said.what) silent said w
+    → Says (origin disk vaults start) (asked Pin (told_by reply.Pinned said.what) silent) said (views v w)
     → OpensPart start.commit_number (PinDeed v.number (Some said.what)) [] v w
 pinned {D} {V} disk vaults start v w said says =
     let told = told_by reply.Pinned said.what in

@@ -7,30 +7,44 @@ use Rattle.studio_seats.specs.declared.held.Held.{Held}
 use Rattle.studio_seats.specs.Pieces.{pieces_by}
 use Rattle.studio_seats.specs.Shows.{IsMixOf}
 use Rattle.script_session.specs.Place.{place_of}
-use Rattle.script_session.specs.Progress.{Ran}
+use Rattle.script_session.specs.Progress.{Ran, reached}
 use Rattle.desk_session.specs.Lent.{Kinds, Lent, Outcome}
 use Rattle.desk_session.specs.Opening.{WhereMade, play_calls, record_calls}
 use Rattle.desk_session.specs.Parts.{Rejoined}
 use Rattle.desk_session.specs.Sounds.{IsPlayed, IsRecorded}
 
+-- The studio with which a desk began, the track of the recording, the commit number that was told last before the
+-- script, and what the seat knew before it and knows behind it.
+pub record Sitting (D V : Type 0) : Type 0 where
+  pub start : Core D
+  pub track : ℕ
+  pub last : ℕ
+  pub seat : View (Held D V) Deed
+  pub seat_now : View (Held D V) Deed
+
 -- What script, recorder and player did, each at its own seat, from what one seat had seen; it took the others in.
-pub record Sat {D V M P : Type 0} (k : Kinds D V M P) (start : Core D) (track last : ℕ) (v w : View (Held D V) Deed)
-    (lent : Lent V M P) (out : Outcome) : Type 0 where
+pub record Sat {D V M P : Type 0} (k : Kinds D V M P) (s : Sitting D V) (lent : Lent V M P) (out : Outcome)
+    : Type 0 where
   pub script : View (Held D V) Deed
   pub recorder : View (Held D V) Deed
   pub player : View (Held D V) Deed
-  pub seats : Rejoined (record_calls track out.opened.recording) (play_calls out.opened.pin) v script recorder player w
+  pub seats : Rejoined (record_calls s.track out.opened.recording) (play_calls out.opened.pin) s.seat script recorder
+      player s.seat_now
   pub told_last : ℕ
   pub ran : Ran out.told.stop
-      (place_of start v last [] (k.vaults.tells lent.vault) (k.vaults.holds lent.vault)
-      (k.vaults.fault_count lent.vault))
-      (place_of start script told_last out.told.commits (k.vaults.tells lent.vault_now)
+      (reached (record {
+        place = place_of s.start s.seat s.last [] (k.vaults.tells lent.vault) (k.vaults.holds lent.vault)
+            (k.vaults.fault_count lent.vault);
+        written = lent.written;
+      })
+      (place_of s.start script told_last out.told.commits (k.vaults.tells lent.vault_now)
       (k.vaults.holds lent.vault_now) (k.vaults.fault_count lent.vault_now))
-      lent.written lent.written_now lent.left lent.left_now out.told.refused
+      lent.written_now out.told.refused)
+      (record { left = lent.left; left_now = lent.left_now })
   pub recorded : WhereMade out.opened.recording (λ tag. IsSomeAnd out.kept
       (IsRecorded k.mics lent.mic lent.mic_now []
-      (pieces_by track tag recorder.number start.commit_number recorder.seen)))
+      (pieces_by s.track tag recorder.number s.start.commit_number recorder.seen)))
       ((out.kept ≡ None) × (lent.mic_now ≡ lent.mic))
   pub played : WhereMade out.opened.pin (λ pin. IsSomeAnd out.heard
-      (IsPlayed k.speakers lent.speaker lent.speaker_now (IsMixOf k.disk k.vaults start v.seen pin)))
+      (IsPlayed k.speakers lent.speaker lent.speaker_now (IsMixOf k.disk k.vaults s.start s.seat.seen pin)))
       ((out.heard ≡ None) × (lent.speaker_now ≡ lent.speaker))

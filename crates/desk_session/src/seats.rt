@@ -99,7 +99,13 @@ pub fn run_seats<
     requires rings { (is_some rings.record ≡ is_some opened.recording) × (is_some rings.play ≡ is_some opened.pin) }
     ensures at { IsAt desk.now result.seat }
     ensures sat { Sat (record { disk = S.Store; vaults = V.Vault; mics = M.Source; speakers = P.Sink })
-        (start_at desk.now) track last (known seat) (known result.seat)
+        (record {
+          start = start_at desk.now;
+          track = track;
+          last = last;
+          seat = known seat;
+          seat_now = known result.seat;
+        })
         (record {
           vault = vault.old;
           vault_now = vault.new;

@@ -9,7 +9,7 @@ ghost use Rattle.studio_seats.specs.Pins.{is_made};
 ghost use Rattle.studio_seats.specs.Shows.{IsMixOf};
 ghost use Rattle.script_session.specs.Kept.{Holds};
 ghost use Rattle.script_session.specs.Place.{place_of};
-ghost use Rattle.script_session.specs.Progress.{IsCauseOf, Ran};
+ghost use Rattle.script_session.specs.Progress.{IsCauseOf, Ran, reached};
 ghost use Rattle.desk_session.specs.Opening.{IfMade, WhereMade};
 ghost use Rattle.desk_session.specs.Sounds.{IsPlayed, IsRecorded};
 
@@ -83,11 +83,15 @@ fn lend_work<
         × IsAt desk.now result.0.seats.player }
     ensures goes { Onward IsLine (known seats.script) (known result.0.seats.script) }
     ensures ran { (told : ℕ) × Ran result.0.told.stop
-        (place_of (start_at desk.now) (known seats.script) last [] (V.tells vault.old) (V.holds vault.old)
-        (V.fault_count vault.old))
+        (reached (record {
+          place = place_of (start_at desk.now) (known seats.script) last [] (V.tells vault.old) (V.holds vault.old)
+              (V.fault_count vault.old);
+          written = O.written out.old;
+        })
         (place_of (start_at desk.now) (known result.0.seats.script) told result.0.told.commits (V.tells result.1.now)
         (V.holds result.1.now) (V.fault_count result.1.now))
-        (O.written out.old) (O.written out.new) (A.left script.old) (A.left script.new) result.0.told.refused }
+        (O.written out.new) result.0.told.refused)
+        (record { left = A.left script.old; left_now = A.left script.new }) }
     ensures cause { IsCauseOf result.0.told.stop (A.fault_count script.old) (A.fault_count script.new)
         (O.fault_count out.old) (O.fault_count out.new) }
     ensures records { WhereMade opened.recording
@@ -193,11 +197,15 @@ pub fn run_work<
         × IsAt desk.now result.seats.player }
     ensures goes { Onward IsLine (known seats.script) (known result.seats.script) }
     ensures ran { (told : ℕ) × Ran result.told.stop
-        (place_of (start_at desk.now) (known seats.script) last [] (V.tells vault.old) (V.holds vault.old)
-        (V.fault_count vault.old))
+        (reached (record {
+          place = place_of (start_at desk.now) (known seats.script) last [] (V.tells vault.old) (V.holds vault.old)
+              (V.fault_count vault.old);
+          written = O.written out.old;
+        })
         (place_of (start_at desk.now) (known result.seats.script) told result.told.commits (V.tells vault.new)
         (V.holds vault.new) (V.fault_count vault.new))
-        (O.written out.old) (O.written out.new) (A.left script.old) (A.left script.new) result.told.refused }
+        (O.written out.new) result.told.refused)
+        (record { left = A.left script.old; left_now = A.left script.new }) }
     ensures cause { IsCauseOf result.told.stop (A.fault_count script.old) (A.fault_count script.new)
         (O.fault_count out.old) (O.fault_count out.new) }
     ensures records { WhereMade opened.recording

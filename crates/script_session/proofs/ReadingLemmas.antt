@@ -1,9 +1,8 @@
 -- The reading of a script, one piece on, and its end.
-use Rattle.std.proofs.Common.{◌≡◌, ℕ, ◌+◌, ◌^◌, ◌<◌, List, [], ◌∷◌, ◌++◌, length, Bool, Option, Ok, Err, refl, sym, ap}
+use Rattle.std.proofs.Common.{◌≡◌, ℕ, ◌+◌, ◌^◌, ◌<◌, List, [], ◌∷◌, ◌++◌, length, Option, Ok, Err, refl, sym, ap}
 use Rattle.std.proofs.Common.{◌∙◌, subst, arith}
 use Rattle.std.proofs.lemmas.List.{append-nil, length-append}
 use Rattle.std.specs.Io.KnownBytes.{IsAtEnd}
-use Rattle.script_session.specs.Place.{Place}
 use Rattle.pcm_base.specs.declared.failed.Failed.{Failed}
 use Rattle.edit_ports.specs.Told.{preceded}
 use Rattle.edit_ports.proofs.ToldLaws.{preceded-nil, preceded-preceded}
@@ -11,79 +10,77 @@ use Rattle.script_session.specs.declared.stop.Stop.{Stop}
 use Rattle.script_session.specs.declared.stop.Stop.TheVariants as stop
 use Rattle.script_session.specs.Kept.{Kept, Holds}
 use Rattle.script_session.specs.Progress.{Cut, Going, Halted, Printed, Reading, Ended, Ran, IsCut, IsEndCut, IsCauseOf}
+use Rattle.script_session.specs.Progress.{Reached, Unread}
 use Rattle.script_session.specs.Progress.{IsSinkCauseOf}
 use Rattle.script_session.proofs.CutLemmas.{Cut-ended, Cut-end, Cut-last}
 
-pub Ended-nothing : (s t : Place) (start now : Option (List ℕ)) (kept : Kept) (refused : Bool) (read : List ℕ) →
-    ((part : List ℕ) → Holds kept part → part ≡ []) → Going s t start now kept refused read
-    → Ended stop.End s t start now refused read
-Ended-nothing s t start now kept refused read none g = record {
+pub Ended-nothing : (r : Reached) (kept : Kept) (read : List ℕ) → ((part : List ℕ) → Holds kept part → part ≡ [])
+    → Going r kept read → Ended stop.End r read
+Ended-nothing r kept read none g = record {
   lines = g.lines;
   cut = Cut-end read g.lines (subst (λ (p : List ℕ). Cut read g.lines p) (none g.part g.holds) g.cut);
   printed = g.printed;
 }
 
-pub Ended-line : (s t u : Place) (start now later : Option (List ℕ)) (kept : Kept) (refused refused' : Bool)
-    (read : List ℕ) →
+pub Ended-line : (r q : Reached) (kept : Kept) (read : List ℕ) →
     ((part : List ℕ) → Holds kept part → 0 < length part) →
-    ((lines : List (List ℕ)) (part : List ℕ) → Holds kept part → Printed s t start now refused (Ok tt) lines
-    → Printed s u start later refused' (Ok tt) (lines ++ part ∷ [])) →
-    Going s t start now kept refused read → Ended stop.End s u start later refused' read
-Ended-line s t u start now later kept refused refused' read some answers g = record {
+    ((lines : List (List ℕ)) (part : List ℕ) → Holds kept part → Printed r (Ok tt) lines
+    → Printed q (Ok tt) (lines ++ part ∷ [])) →
+    Going r kept read → Ended stop.End q read
+Ended-line r q kept read some answers g = record {
   lines = g.lines ++ g.part ∷ [];
   cut = Cut-last read g.lines g.part (some g.part g.holds) g.cut;
   printed = answers g.lines g.part g.holds g.printed;
 }
 
-pub Ended-fault : (s t u : Place) (start now later : Option (List ℕ)) (kept : Kept) (refused refused' : Bool)
-    (failed : Failed) (read : List ℕ) →
+pub Ended-fault : (r q : Reached) (kept : Kept) (failed : Failed) (read : List ℕ) →
     ((part : List ℕ) → Holds kept part → 0 < length part) →
-    ((lines : List (List ℕ)) (part : List ℕ) → Holds kept part → Printed s t start now refused (Ok tt) lines
-    → Printed s u start later refused' (Err failed) (lines ++ part ∷ [])) →
-    Going s t start now kept refused read → Ended stop.OutFault s u start later refused' read
-Ended-fault s t u start now later kept refused refused' failed read some answers g = record {
+    ((lines : List (List ℕ)) (part : List ℕ) → Holds kept part → Printed r (Ok tt) lines
+    → Printed q (Err failed) (lines ++ part ∷ [])) →
+    Going r kept read → Ended stop.OutFault q read
+Ended-fault r q kept failed read some answers g = record {
   lines = g.lines ++ g.part ∷ [];
   cut =
       ([], sym (Cut-last read g.lines g.part (some g.part g.holds) g.cut) ∙ sym (append-nil (g.lines ++ g.part ∷ [])));
   printed = answers g.lines g.part g.holds g.printed;
 }
 
-pub Reading-start : (s t : Place) (start now left : Option (List ℕ)) (kept : Kept) (refused : Bool)
-    → Going s t start now kept refused [] → Reading s t start now left left kept refused 0
-Reading-start s t start now left kept refused g =
-    record { read = []; bytes = sym (preceded-nil left); count = refl; going = g }
+abbrev pub unread : Option (List ℕ) → Option (List ℕ) → Unread
+unread left left_now = record { left = left; left_now = left_now }
 
-pub Reading-more : (s t u : Place) (start now later left mid new : Option (List ℕ)) (kept kept' : Kept)
-    (refused refused' : Bool) (total count : ℕ) (piece : List ℕ) →
-    mid ≡ preceded piece new → length piece ≡ count →
-    ((read : List ℕ) → Going s t start now kept refused read → Going s u start later kept' refused' (read ++ piece)) →
-    Reading s t start now left mid kept refused total → Reading s u start later left new kept' refused' (total + count)
-Reading-more s t u start now later left mid new kept kept' refused refused' total count piece moves long goes r =
-    record {
-      read = r.read ++ piece;
-      bytes = r.bytes ∙ ap (preceded r.read) moves ∙ preceded-preceded new r.read piece;
-      count = omega (arith, length-append r.read piece, r.count);
-      going = goes r.read r.going;
-    }
+pub Reading-start : (r : Reached) (left : Option (List ℕ)) (kept : Kept) → Going r kept []
+    → Reading r (unread left left) kept 0
+Reading-start r left kept g = record { read = []; bytes = sym (preceded-nil left); count = refl; going = g }
 
-pub Ran-source : (s t : Place) (start now left mid new : Option (List ℕ)) (kept : Kept) (refused : Bool) (total : ℕ) →
-    new ≡ mid → Reading s t start now left mid kept refused total → Ran stop.SourceFault s t start now left new refused
-Ran-source s t start now left mid new kept refused total same r = record {
-  read = r.read;
-  lines = r.going.lines;
-  bytes = r.bytes ∙ ap (preceded r.read) (sym same);
-  cut = Cut-ended r.read r.going.lines r.going.part r.going.cut;
-  printed = r.going.printed;
+pub Reading-more : (r q : Reached) (left mid new : Option (List ℕ)) (kept kept' : Kept) (total count : ℕ)
+    (piece : List ℕ) → mid ≡ preceded piece new → length piece ≡ count
+    → ((read : List ℕ) → Going r kept read → Going q kept' (read ++ piece)) → Reading r (unread left mid) kept total
+    → Reading q (unread left new) kept' (total + count)
+Reading-more r q left mid new kept kept' total count piece moves long goes h = record {
+  read = h.read ++ piece;
+  bytes = h.bytes ∙ ap (preceded h.read) moves ∙ preceded-preceded new h.read piece;
+  count = omega (arith, length-append h.read piece, h.count);
+  going = goes h.read h.going;
 }
 
-pub Ran-limit : (s t : Place) (start now left new : Option (List ℕ)) (kept : Kept) (refused : Bool) (total : ℕ) →
-    total ≡ 2 ^ 32 → Reading s t start now left new kept refused total → Ran stop.Limit s t start now left new refused
-Ran-limit s t start now left new kept refused total full r = record {
-  read = r.read;
-  lines = r.going.lines;
-  bytes = r.bytes;
-  cut = (Cut-ended r.read r.going.lines r.going.part r.going.cut, r.count ∙ full);
-  printed = r.going.printed;
+pub Ran-source : (r : Reached) (left mid new : Option (List ℕ)) (kept : Kept) (total : ℕ) → new ≡ mid
+    → Reading r (unread left mid) kept total → Ran stop.SourceFault r (unread left new)
+Ran-source r left mid new kept total same h = record {
+  read = h.read;
+  lines = h.going.lines;
+  bytes = h.bytes ∙ ap (preceded h.read) (sym same);
+  cut = Cut-ended h.read h.going.lines h.going.part h.going.cut;
+  printed = h.going.printed;
+}
+
+pub Ran-limit : (r : Reached) (left new : Option (List ℕ)) (kept : Kept) (total : ℕ) → total ≡ 2 ^ 32
+    → Reading r (unread left new) kept total → Ran stop.Limit r (unread left new)
+Ran-limit r left new kept total full h = record {
+  read = h.read;
+  lines = h.going.lines;
+  bytes = h.bytes;
+  cut = (Cut-ended h.read h.going.lines h.going.part h.going.cut, h.count ∙ full);
+  printed = h.going.printed;
 }
 
 at_end : (stop : Stop) (read : List ℕ) (lines : List (List ℕ)) (left : Option (List ℕ)) → length read < 2 ^ 32
@@ -93,34 +90,32 @@ at_end stop.SourceFault read lines left l h c = absurd c
 at_end stop.Limit read lines left l h c = absurd c
 at_end stop.OutFault read lines left l h c = c
 
-pub Ran-end : (stop : Stop) (s t u : Place) (start now later left mid new : Option (List ℕ)) (kept : Kept)
-    (refused refused' : Bool) (total : ℕ) →
+pub Ran-end : (stop : Stop) (r q : Reached) (left mid new : Option (List ℕ)) (kept : Kept) (total : ℕ) →
     total < 2 ^ 32 → mid ≡ preceded [] new → IsAtEnd new →
-    ((read : List ℕ) → Going s t start now kept refused read → Ended stop s u start later refused' read) →
-    Reading s t start now left mid kept refused total → Ran stop s u start later left new refused'
-Ran-end stop s t u start now later left mid new kept refused refused' total below moves last ends r =
-    let e = ends r.read r.going in
+    ((read : List ℕ) → Going r kept read → Ended stop q read) →
+    Reading r (unread left mid) kept total → Ran stop q (unread left new)
+Ran-end stop r q left mid new kept total below moves last ends h =
+    let e = ends h.read h.going in
     record {
-      read = r.read;
+      read = h.read;
       lines = e.lines;
-      bytes = r.bytes ∙ ap (preceded r.read) (moves ∙ preceded-nil new);
-      cut = at_end stop r.read e.lines new (omega (arith, r.count)) last e.cut;
+      bytes = h.bytes ∙ ap (preceded h.read) (moves ∙ preceded-nil new);
+      cut = at_end stop h.read e.lines new (omega (arith, h.count)) last e.cut;
       printed = e.printed;
     }
 
-pub Ran-out : (s t u : Place) (start now later left mid new : Option (List ℕ)) (kept : Kept) (refused refused' : Bool)
-    (failed : Failed) (total : ℕ) (piece : List ℕ) →
-    mid ≡ preceded piece new →
-    ((read : List ℕ) → Going s t start now kept refused read → Halted s u start later refused' failed (read ++ piece)) →
-    Reading s t start now left mid kept refused total → Ran stop.OutFault s u start later left new refused'
-Ran-out s t u start now later left mid new kept refused refused' failed total piece moves halts r =
-    let h = halts r.read r.going in
+pub Ran-out : (r q : Reached) (left mid new : Option (List ℕ)) (kept : Kept) (failed : Failed) (total : ℕ)
+    (piece : List ℕ) → mid ≡ preceded piece new →
+    ((read : List ℕ) → Going r kept read → Halted q failed (read ++ piece)) →
+    Reading r (unread left mid) kept total → Ran stop.OutFault q (unread left new)
+Ran-out r q left mid new kept failed total piece moves halts h =
+    let s = halts h.read h.going in
     record {
-      read = r.read ++ piece;
-      lines = h.lines;
-      bytes = r.bytes ∙ ap (preceded r.read) moves ∙ preceded-preceded new r.read piece;
-      cut = rw (append-nil (r.read ++ piece)) at (h.cut []);
-      printed = h.printed;
+      read = h.read ++ piece;
+      lines = s.lines;
+      bytes = h.bytes ∙ ap (preceded h.read) moves ∙ preceded-preceded new h.read piece;
+      cut = rw (append-nil (h.read ++ piece)) at (s.cut []);
+      printed = s.printed;
     }
 
 pub end_cause : (stop : Stop) (a a' o o' : ℕ) → a' ≡ a → IsSinkCauseOf stop o o' → IsCauseOf stop a a' o o'

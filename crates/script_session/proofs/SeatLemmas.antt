@@ -22,7 +22,7 @@ use Rattle.editor_core.specs.Took.{told_by}
 use Rattle.studio_seats.specs.declared.deed.Deed.{Deed}
 use Rattle.studio_seats.specs.declared.held.Held.{Held}
 use Rattle.studio_seats.specs.Deeds.{commits, deed, number_after}
-use Rattle.studio_seats.specs.Desks.{Says, Spends, Turned, spent}
+use Rattle.studio_seats.specs.Desks.{Says, Spends, Turned, asked, origin, spent, views}
 use Rattle.studio_seats.proofs.Turns.{number_on, said_number}
 use Rattle.script_session.specs.Place.{CountsFaults, Enters, place_of, with_number}
 use Rattle.script_session.specs.Session.{Turn}
@@ -30,23 +30,24 @@ use Rattle.script_session.specs.Session.{Turn}
 module _ {D V : Type 0} (disk : Ghosts D) (vaults : vault.Ghosts V) (start : Core D) where
   -- the number that a turn tells
   number_at : (v w : View (Held D V) Deed) (c : Call) (what : Result Reply Refusal) (sound : SoundMove) (at : ℕ)
-      (h : Turned disk vaults start v c what sound at w)
+      (h : Turned (origin disk vaults start) (asked c what sound) at (views v w))
       → at ≡ number_after start.commit_number ((v.seen ++ h.between) ++ deed v.number c what sound ∷ [])
   number_at v w c what sound at h = h.number ∙ h.stands.number
 
   -- is no lower than one that was told before
   number_up : (v w : View (Held D V) Deed) (c : Call) (what : Result Reply Refusal) (sound : SoundMove) (at last : ℕ)
-      → Turned disk vaults start v c what sound at w → last ≤ number_after start.commit_number v.seen → last ≤ at
+      → Turned (origin disk vaults start) (asked c what sound) at (views v w)
+      → last ≤ number_after start.commit_number v.seen → last ≤ at
   number_up v w c what sound at last h low =
       let one = number_on start.commit_number v.seen h.between in
       let two = number_on start.commit_number (v.seen ++ h.between) (deed v.number c what sound ∷ []) in
       let is = number_at v w c what sound at h in omega (arith, low, one, two, is)
 
   seen_more : (v w : View (Held D V) Deed) (c : Call) (what : Result Reply Refusal) (sound : SoundMove) {A : Type 0}
-      (said : Said A) → Says disk vaults start v c what sound said w
+      (said : Said A) → Says (origin disk vaults start) (asked c what sound) said (views v w)
       → number_after start.commit_number v.seen ≤ number_after start.commit_number w.seen
   seen_more v w c what sound {A} said h = ⊎_elim
-      (λ (x : Turned disk vaults start v c what sound said.at w).
+      (λ (x : Turned (origin disk vaults start) (asked c what sound) said.at (views v w)).
       let one = number_on start.commit_number v.seen x.between in
       let two = number_on start.commit_number (v.seen ++ x.between) (deed v.number c what sound ∷ []) in
       let seen : number_after start.commit_number w.seen
@@ -60,7 +61,7 @@ module _ {D V : Type 0} (disk : Ghosts D) (vaults : vault.Ghosts V) (start : Cor
       h
 
   pub stays_low : (v w : View (Held D V) Deed) (c : Call) (what : Result Reply Refusal) (sound : SoundMove) {A : Type 0}
-      (said : Said A) (last : ℕ) → Says disk vaults start v c what sound said w
+      (said : Said A) (last : ℕ) → Says (origin disk vaults start) (asked c what sound) said (views v w)
       → last ≤ number_after start.commit_number v.seen → max last said.at ≤ number_after start.commit_number w.seen
   stays_low v w c what sound {A} said last h low =
       let more = seen_more v w c what sound said h in
@@ -74,7 +75,8 @@ module _ {D V : Type 0} (disk : Ghosts D) (vaults : vault.Ghosts V) (start : Cor
 
     -- a turn that told its number
     enters : (what : Result Reply Refusal) (at last : ℕ) (numbers numbers' : List ℕ)
-        → Turned disk vaults start v (Line c) what sound at w → last ≤ number_after start.commit_number v.seen
+        → Turned (origin disk vaults start) (asked (Line c) what sound) at (views v w)
+        → last ≤ number_after start.commit_number v.seen
         → numbers' ≡ with_number (commits what (Line c)) numbers at
         → (IsTold (Line c) tells → Heard (name_in_line c) sound before after)
         → CountsFaults (name_in_line c) what old new
@@ -123,7 +125,7 @@ module _ {D V : Type 0} (disk : Ghosts D) (vaults : vault.Ghosts V) (start : Cor
     counts (Some name) r (Err why) named silent = named refl
 
     told_count : (r : Reply) (said : Said (Unit {0})) (what : Result (Unit {0}) Refusal) → said.what ≡ what
-        → Turned disk vaults start v (Line c) (told_by (λ _. r) said.what) sound said.at w
+        → Turned (origin disk vaults start) (asked (Line c) (told_by (λ _. r) said.what) sound) said.at (views v w)
         → (w.used_up ≡ false → IsSome (name_in_line c) → VaultCounted said.what old new)
         → (name_in_line c ≡ None → new ≡ old) → CountsFaults (name_in_line c) (told_by (λ _. r) what) old new
     told_count r said what is x named silent =
@@ -132,7 +134,7 @@ module _ {D V : Type 0} (disk : Ghosts D) (vaults : vault.Ghosts V) (start : Cor
         (counts (name_in_line c) r said.what (named unspent) silent)
 
     pub ok_turn : (r : Reply) (said : Said (Unit {0})) (last : ℕ) (numbers numbers' : List ℕ) → said.what ≡ Ok tt
-        → Says disk vaults start v (Line c) (told_by (λ _. r) said.what) sound said w
+        → Says (origin disk vaults start) (asked (Line c) (told_by (λ _. r) said.what) sound) said (views v w)
         → last ≤ number_after start.commit_number v.seen
         → numbers' ≡ with_number (commits (Ok r) (Line c)) numbers said.at
         → (IsTold (Line c) tells → Heard (name_in_line c) sound before after)
@@ -141,17 +143,20 @@ module _ {D V : Type 0} (disk : Ghosts D) (vaults : vault.Ghosts V) (start : Cor
         → Turn (place_of start v last numbers tells before old) (Ok c) r
         (place_of start w (max last said.at) numbers' tells after new)
     ok_turn r said last numbers numbers' ok h low listed heard named silent = ⊎_elim
-        (λ (x : Turned disk vaults start v (Line c) (told_by (λ _. r) said.what) sound said.at w).
+        (λ (x : Turned (origin disk vaults start) (asked (Line c) (told_by (λ _. r) said.what) sound) said.at
+        (views v w)).
         inl (enters (Ok r) said.at last numbers numbers' (subst
-        (λ (z : Result (Unit {0}) Refusal). Turned disk vaults start v (Line c) (told_by (λ _. r) z) sound said.at w) ok
-        x)
+        (λ (z : Result (Unit {0}) Refusal).
+        Turned (origin disk vaults start) (asked (Line c) (told_by (λ _. r) z) sound) said.at (views v w))
+        ok x)
         low listed heard (told_count r said (Ok tt) ok x named silent)))
         (λ (x : Spends v said w). not_ok (Turn (place_of start v last numbers tells before old) (Ok c) r
         (place_of start w (max last said.at) numbers' tells after new)) tt said.what ok x.what)
         h
 
     pub err_turn : (r : Reply) (reason : Refusal) (said : Said (Unit {0})) (last : ℕ) (numbers : List ℕ)
-        → said.what ≡ Err reason → Says disk vaults start v (Line c) (told_by (λ _. r) said.what) sound said w
+        → said.what ≡ Err reason
+        → Says (origin disk vaults start) (asked (Line c) (told_by (λ _. r) said.what) sound) said (views v w)
         → last ≤ number_after start.commit_number v.seen
         → (IsTold (Line c) tells → Heard (name_in_line c) sound before after)
         → (w.used_up ≡ true → (after ≡ before) × (new ≡ old))
@@ -160,9 +165,11 @@ module _ {D V : Type 0} (disk : Ghosts D) (vaults : vault.Ghosts V) (start : Cor
         → Turn (place_of start v last numbers tells before old) (Ok c) (Refused reason)
         (place_of start w (max last said.at) numbers tells after new)
     err_turn r reason said last numbers err h low heard still named silent = ⊎_elim
-        (λ (x : Turned disk vaults start v (Line c) (told_by (λ _. r) said.what) sound said.at w).
+        (λ (x : Turned (origin disk vaults start) (asked (Line c) (told_by (λ _. r) said.what) sound) said.at
+        (views v w)).
         inl (enters (Err reason) said.at last numbers numbers (subst
-        (λ (z : Result (Unit {0}) Refusal). Turned disk vaults start v (Line c) (told_by (λ _. r) z) sound said.at w)
+        (λ (z : Result (Unit {0}) Refusal).
+        Turned (origin disk vaults start) (asked (Line c) (told_by (λ _. r) z) sound) said.at (views v w))
         err x)
         low (sym (append-nil numbers)) heard (told_count r said (Err reason) err x named silent)))
         (λ (x : Spends v said w). inr (inl (

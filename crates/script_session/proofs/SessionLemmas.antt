@@ -11,7 +11,7 @@ use Rattle.edit_ports.proofs.ToldLaws.{grown-grown, grown-nil}
 use Rattle.script_text.specs.Grammar.{is_silent}
 use Rattle.script_text.specs.Text.{text_of}
 use Rattle.script_session.specs.Session.{Session, Next, Answers}
-use Rattle.script_session.specs.Progress.{Printed, WritesAnswers, says_no}
+use Rattle.script_session.specs.Progress.{Printed, Reached, Start, WritesAnswers, reached, says_no}
 
 -- what stands behind a line may be weakened
 Next-weaker : (b : Bool) (s : Place) (line : List ℕ) (answers : List Answer) (P Q : Place → List Answer → Type 0)
@@ -58,12 +58,11 @@ list_any-push : (p : Answer → Bool) (xs : List Answer) (x : Answer) → list_a
 list_any-push p [] x = or_false (p x)
 list_any-push p (y ∷ ys) x = ap (λ b. p y || b) (list_any-push p ys x) ∙ or_assoc (p y) (list_any p ys) (p x)
 
-pub Printed-silent : (s t : Place) (start now : Option (List ℕ)) (refused : Bool) (lines : List (List ℕ))
-    (line : List ℕ) → is_silent line ≡ true →
-    Printed s t start now refused (Ok tt) lines → Printed s t start now refused (Ok tt) (lines ++ line ∷ [])
-Printed-silent s t start now refused lines line silent p = record {
+pub Printed-silent : (r : Reached) (lines : List (List ℕ)) (line : List ℕ) → is_silent line ≡ true
+    → Printed r (Ok tt) lines → Printed r (Ok tt) (lines ++ line ∷ [])
+Printed-silent r lines line silent p = record {
   answers = p.answers;
-  session = Session-silent lines s t line p.answers silent p.session;
+  session = Session-silent lines r.start.place r.place line p.answers silent p.session;
   written = p.written;
   no = p.no;
 }
@@ -85,17 +84,17 @@ writes_answer (Err failed) start now later answers a before (n, within, is) = re
       ∙ grown-grown start (flat_map text_of answers) (take n (text_of a));
 }
 
-pub Printed-answer : (s t u : Place) (start now later : Option (List ℕ)) (refused refused' : Bool)
+pub Printed-answer : (r : Reached) (u : Place) (later : Option (List ℕ)) (refused : Bool)
     (result : Result (Unit {0}) Failed) (lines : List (List ℕ)) (line : List ℕ) (a : Answer) → is_silent line ≡ false →
-    Answers t line a u → Writes result now later (text_of a) → refused' ≡ (refused || says_no a) →
-    Printed s t start now refused (Ok tt) lines → Printed s u start later refused' result (lines ++ line ∷ [])
-Printed-answer s t u start now later refused refused' result lines line a spoken is writes rises p = record {
+    Answers r.place line a u → Writes result r.written later (text_of a) → refused ≡ (r.refused || says_no a) →
+    Printed r (Ok tt) lines → Printed (reached r.start u later refused) result (lines ++ line ∷ [])
+Printed-answer r u later refused result lines line a spoken is writes rises p = record {
   answers = p.answers ++ a ∷ [];
-  session = Session-answer lines s t u line a p.answers spoken is p.session;
-  written = writes_answer result start now later p.answers a p.written writes;
+  session = Session-answer lines r.start.place r.place u line a p.answers spoken is p.session;
+  written = writes_answer result r.start.written r.written later p.answers a p.written writes;
   no = rises ∙ ap (λ b. b || says_no a) p.no ∙ sym (list_any-push says_no p.answers a);
 }
 
 -- nothing was answered yet
-pub Printed-start : (s : Place) (start : Option (List ℕ)) → Printed s s start start false (Ok tt) []
-Printed-start s start = record { answers = []; session = (refl, refl); written = sym (grown-nil start); no = refl }
+pub Printed-start : (s : Start) → Printed (reached s s.place s.written false) (Ok tt) []
+Printed-start s = record { answers = []; session = (refl, refl); written = sym (grown-nil s.written); no = refl }

@@ -15,6 +15,27 @@ use Rattle.script_session.specs.declared.stop.Stop.TheVariants as stop
 use Rattle.script_session.specs.Kept.{Kept, Holds}
 use Rattle.script_session.specs.Session.{Session, is_refusal}
 
+-- where a session stood, and what was written, before its first answer
+pub record Start : Type 0 where
+  pub place : Place
+  pub written : Option (List ℕ)
+
+-- how far a session has come from there: where it stands, what is written, and whether an answer was a refusal
+pub record Reached : Type 0 where
+  pub start : Start
+  pub place : Place
+  pub written : Option (List ℕ)
+  pub refused : Bool
+
+abbrev pub reached : Start → Place → Option (List ℕ) → Bool → Reached
+reached start place written refused =
+    record { start = start; place = place; written = written; refused = refused }
+
+-- what a source had left at first, and what it has left now
+pub record Unread : Type 0 where
+  pub left : Option (List ℕ)
+  pub left_now : Option (List ℕ)
+
 -- no LF
 abbrev pub HasNoLf : List ℕ → Type 0
 HasNoLf [] = Unit {0}
@@ -44,30 +65,27 @@ abbrev pub WritesAnswers : Result (Unit {0}) Failed → Option (List ℕ) → Op
 WritesAnswers result start now answers =
     MatchResult result (λ _. now ≡ grown start (flat_map text_of answers)) (λ _. BreaksOff start now answers)
 
--- these lines lead from s to t, and their answers were written behind `start`, or after a fault break off in the last
--- one
-pub record Printed (s t : Place) (start now : Option (List ℕ)) (refused : Bool) (result : Result (Unit {0}) Failed)
-    (lines : List (List ℕ)) : Type 0 where
+-- these lines led from the start there, and their answers were written behind what was written at the start, or after a
+-- fault break off in the last one
+pub record Printed (r : Reached) (result : Result (Unit {0}) Failed) (lines : List (List ℕ)) : Type 0 where
   pub answers : List Answer
-  pub session : Session s lines answers t
-  pub written : WritesAnswers result start now answers
-  pub no : refused ≡ list_any says_no answers
+  pub session : Session r.start.place lines answers r.place
+  pub written : WritesAnswers result r.start.written r.written answers
+  pub no : r.refused ≡ list_any says_no answers
 
 -- after these bytes the answers to all lines that ended are printed, and what has come of the next is kept
-pub record Going (s t : Place) (start now : Option (List ℕ)) (kept : Kept) (refused : Bool)
-    (read : List ℕ) : Type 0 where
+pub record Going (r : Reached) (kept : Kept) (read : List ℕ) : Type 0 where
   pub lines : List (List ℕ)
   pub part : List ℕ
   pub cut : Cut read lines part
   pub holds : Holds kept part
-  pub printed : Printed s t start now refused (Ok tt) lines
+  pub printed : Printed r (Ok tt) lines
 
 -- the output failed at the answer of a line of these bytes, which was the last one that was carried out
-pub record Halted (s t : Place) (start now : Option (List ℕ)) (refused : Bool) (failed : Failed)
-    (read : List ℕ) : Type 0 where
+pub record Halted (r : Reached) (failed : Failed) (read : List ℕ) : Type 0 where
   pub lines : List (List ℕ)
   pub cut : (more : List ℕ) → (later : List (List ℕ)) × (lines_of (read ++ more) ≡ lines ++ later)
-  pub printed : Printed s t start now refused (Err failed) lines
+  pub printed : Printed r (Err failed) lines
 
 -- which lines of the bytes that were read a session has carried out, by what stopped it
 abbrev pub IsCut : Stop → List ℕ → List (List ℕ) → Option (List ℕ) → Type 0
@@ -81,12 +99,12 @@ outcome_of stop.OutFault = Err (record {})
 outcome_of other = Ok tt
 
 -- what a session read, and what it printed
-pub record Ran (stop : Stop) (s t : Place) (start now left left_now : Option (List ℕ)) (refused : Bool) : Type 0 where
+pub record Ran (stop : Stop) (r : Reached) (source : Unread) : Type 0 where
   pub read : List ℕ
   pub lines : List (List ℕ)
-  pub bytes : left ≡ preceded read left_now
-  pub cut : IsCut stop read lines left_now
-  pub printed : Printed s t start now refused (outcome_of stop) lines
+  pub bytes : source.left ≡ preceded read source.left_now
+  pub cut : IsCut stop read lines source.left_now
+  pub printed : Printed r (outcome_of stop) lines
 
 -- the counts of faults of the source and of the sink, before and after
 abbrev pub IsCauseOf : Stop → ℕ → ℕ → ℕ → ℕ → Type 0
@@ -96,12 +114,11 @@ IsCauseOf stop.SourceFault a a' o o' = (a ≤ a') × Rose a a' × (o' ≡ o)
 IsCauseOf stop.OutFault a a' o o' = (a' ≡ a) × (o ≤ o') × Rose o o'
 
 -- the bytes so far of a source, and how far they brought a session
-pub record Reading (s t : Place) (start now left left_now : Option (List ℕ)) (kept : Kept) (refused : Bool)
-    (total : ℕ) : Type 0 where
+pub record Reading (r : Reached) (source : Unread) (kept : Kept) (total : ℕ) : Type 0 where
   pub read : List ℕ
-  pub bytes : left ≡ preceded read left_now
+  pub bytes : source.left ≡ preceded read source.left_now
   pub count : length read ≡ total
-  pub going : Going s t start now kept refused read
+  pub going : Going r kept read
 
 -- what stands at the end of a script that was read to its end
 abbrev pub IsEndCut : Stop → List ℕ → List (List ℕ) → Type 0
@@ -109,11 +126,10 @@ IsEndCut stop.End read lines = lines ≡ lines_of read
 IsEndCut stop.OutFault read lines = (later : List (List ℕ)) × (lines_of read ≡ lines ++ later)
 IsEndCut other read lines = ⊥
 
-pub record Ended (stop : Stop) (s t : Place) (start now : Option (List ℕ)) (refused : Bool)
-    (read : List ℕ) : Type 0 where
+pub record Ended (stop : Stop) (r : Reached) (read : List ℕ) : Type 0 where
   pub lines : List (List ℕ)
   pub cut : IsEndCut stop read lines
-  pub printed : Printed s t start now refused (outcome_of stop) lines
+  pub printed : Printed r (outcome_of stop) lines
 
 abbrev pub IsSinkCauseOf : Stop → ℕ → ℕ → Type 0
 IsSinkCauseOf stop.OutFault o o' = (o ≤ o') × Rose o o'

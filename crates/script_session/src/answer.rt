@@ -1,12 +1,11 @@
 // One line, and its answer.
-ghost use Rattle.std.specs.Prelude.{◌≡◌, ◌∷◌, [], ◌++◌, ◌||◌, Ok, List, ℕ, Option};
+ghost use Rattle.std.specs.Prelude.{◌≡◌, ◌∷◌, [], ◌++◌, ◌||◌, Ok, List, ℕ};
 ghost use Rattle.pcm_base.specs.Causes.{HasCause};
 ghost use Rattle.script_text.specs.Grammar.{line_of, is_silent};
 ghost use Rattle.pcm_base.specs.Form.{IsInForm};
-ghost use Rattle.script_session.specs.Place.{Place};
 ghost use Rattle.script_session.specs.Kept.{Holds};
 ghost use Rattle.script_session.specs.Session.{Turn, Answers, is_refusal};
-ghost use Rattle.script_session.specs.Progress.{Printed, says_no};
+ghost use Rattle.script_session.specs.Progress.{Printed, Start, reached, says_no};
 
 use super::editor::Editor;
 use super::line::LineBuffer;
@@ -104,10 +103,10 @@ pub fn answer_line<R: Wait, E: Editor, O: Sink, G: Gate>(
     out: &mut O,
     gate: &G,
 ) -> Result<(), Failed>
-    ensures printed { (s : Place) (start : Option (List ℕ)) (lines : List (List ℕ)) (part : List ℕ) →
+    ensures printed { (start : Start) (lines : List (List ℕ)) (part : List ℕ) →
         Holds session.old.line part →
-        Printed s (E.place session.old.editor) start (O.written out.old) session.old.refused (Ok tt) lines →
-        Printed s (E.place session.new.editor) start (O.written out.new) session.new.refused result
+        Printed (reached start (E.place session.old.editor) (O.written out.old) session.old.refused) (Ok tt) lines →
+        Printed (reached start (E.place session.new.editor) (O.written out.new) session.new.refused) result
         (lines ++ part ∷ []) }
     ensures cleared { Holds session.new.line [] }
     ensures cause { HasCause (O.fault_count out.old) (O.fault_count out.new) result }

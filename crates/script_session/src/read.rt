@@ -1,9 +1,9 @@
 // The bytes of a script.
-ghost use Rattle.std.specs.Prelude.{◌≡◌, ◌∷◌, [], ◌++◌, Ok, Err, List, ℕ, Option, MatchResult};
+ghost use Rattle.std.specs.Prelude.{◌≡◌, ◌∷◌, [], ◌++◌, Ok, Err, List, ℕ, MatchResult};
 ghost use Rattle.pcm_base.specs.Causes.{HasCause};
-ghost use Rattle.script_session.specs.Place.{Place};
 ghost use Rattle.script_session.specs.Kept.{Holds};
-ghost use Rattle.script_session.specs.Progress.{HasNoLf, Going, Halted, Ran, Ended, IsCauseOf, IsSinkCauseOf};
+ghost use Rattle.script_session.specs.Progress.{HasNoLf, Going, Halted, Ran, Ended, IsCauseOf, IsSinkCauseOf, Start};
+ghost use Rattle.script_session.specs.Progress.{reached};
 
 use super::answer::{self, Session};
 use super::editor::Editor;
@@ -26,13 +26,14 @@ fn end_line<R: Wait, E: Editor, O: Sink, G: Gate>(
     rest: &[u8],
 ) -> Result<(), Failed>
     requires { HasNoLf rest.now }
-    ensures goes { (s : Place) (start : Option (List ℕ)) (read : List ℕ) →
-        Going s (E.place session.old.editor) start (O.written out.old) session.old.line session.old.refused read →
+    ensures goes { (start : Start) (read : List ℕ) →
+        Going (reached start (E.place session.old.editor) (O.written out.old) session.old.refused)
+        session.old.line read →
         MatchResult result
-        (λ _. Going s (E.place session.new.editor) start (O.written out.new) session.new.line session.new.refused
-        ((read ++ rest.now) ++ 10 ∷ []))
-        (λ failed. Halted s (E.place session.new.editor) start (O.written out.new) session.new.refused failed
-        ((read ++ rest.now) ++ 10 ∷ [])) }
+        (λ _. Going (reached start (E.place session.new.editor) (O.written out.new) session.new.refused)
+        session.new.line ((read ++ rest.now) ++ 10 ∷ []))
+        (λ failed. Halted (reached start (E.place session.new.editor) (O.written out.new) session.new.refused)
+        failed ((read ++ rest.now) ++ 10 ∷ [])) }
     ensures cause { HasCause (O.fault_count out.old) (O.fault_count out.new) result }
     ensures follows { (first : E) → E.follows first session.old.editor → E.follows first session.new.editor }
 {
@@ -49,13 +50,14 @@ fn take_piece<R: Wait, E: Editor, O: Sink, G: Gate>(
     gate: &G,
     piece: &[u8],
 ) -> Result<(), Failed>
-    ensures goes { (s : Place) (start : Option (List ℕ)) (read : List ℕ) →
-        Going s (E.place session.old.editor) start (O.written out.old) session.old.line session.old.refused read →
+    ensures goes { (start : Start) (read : List ℕ) →
+        Going (reached start (E.place session.old.editor) (O.written out.old) session.old.refused)
+        session.old.line read →
         MatchResult result
-        (λ _. Going s (E.place session.new.editor) start (O.written out.new) session.new.line session.new.refused
-        (read ++ piece.now))
-        (λ failed. Halted s (E.place session.new.editor) start (O.written out.new) session.new.refused failed
-        (read ++ piece.now)) }
+        (λ _. Going (reached start (E.place session.new.editor) (O.written out.new) session.new.refused)
+        session.new.line (read ++ piece.now))
+        (λ failed. Halted (reached start (E.place session.new.editor) (O.written out.new) session.new.refused)
+        failed (read ++ piece.now)) }
     ensures cause { HasCause (O.fault_count out.old) (O.fault_count out.new) result }
     ensures follows { (first : E) → E.follows first session.old.editor → E.follows first session.new.editor }
 {
@@ -76,9 +78,10 @@ fn end_script<R: Wait, E: Editor, O: Sink, G: Gate>(
     out: &mut O,
     gate: &G,
 ) -> Stop
-    ensures ended { (s : Place) (start : Option (List ℕ)) (read : List ℕ) →
-        Going s (E.place session.old.editor) start (O.written out.old) session.old.line session.old.refused read →
-        Ended result s (E.place session.new.editor) start (O.written out.new) session.new.refused read }
+    ensures ended { (start : Start) (read : List ℕ) →
+        Going (reached start (E.place session.old.editor) (O.written out.old) session.old.refused)
+        session.old.line read →
+        Ended result (reached start (E.place session.new.editor) (O.written out.new) session.new.refused) read }
     ensures cause { IsSinkCauseOf result (O.fault_count out.old) (O.fault_count out.new) }
     ensures follows { (first : E) → E.follows first session.old.editor → E.follows first session.new.editor }
 {
@@ -100,10 +103,10 @@ pub fn read_script<R: Wait, E: Editor, A: Source, O: Sink, G: Gate>(
     out: &mut O,
     gate: &G,
 ) -> Stop
-    ensures ran { (s : Place) (start : Option (List ℕ)) →
-        Going s (E.place session.old.editor) start (O.written out.old) session.old.line session.old.refused [] →
-        Ran result s (E.place session.new.editor) start (O.written out.new)
-        (A.left script.old) (A.left script.new) session.new.refused }
+    ensures ran { (start : Start) →
+        Going (reached start (E.place session.old.editor) (O.written out.old) session.old.refused) session.old.line [] →
+        Ran result (reached start (E.place session.new.editor) (O.written out.new) session.new.refused)
+        (record { left = A.left script.old; left_now = A.left script.new }) }
     ensures cause { IsCauseOf result (A.fault_count script.old) (A.fault_count script.new)
         (O.fault_count out.old) (O.fault_count out.new) }
     ensures follows { (first : E) → E.follows first session.old.editor → E.follows first session.new.editor }

@@ -16,7 +16,7 @@ use Rattle.editor_core.specs.Took.{told_by}
 use Rattle.studio_seats.specs.declared.deed.Deed.{Deed}
 use Rattle.studio_seats.specs.declared.held.Held.{Held}
 use Rattle.studio_seats.specs.Deeds.{deed, entries_of, number_after, raised}
-use Rattle.studio_seats.specs.Desks.{Says, Spends, Turned}
+use Rattle.studio_seats.specs.Desks.{Says, Spends, Turned, asked, origin, views}
 use Rattle.studio_seats.specs.Pins.{is_made}
 use Rattle.studio_seats.proofs.FrameLemmas.{made_on}
 use Rattle.studio_seats.proofs.Grown.{entries_append, number_append}
@@ -47,7 +47,7 @@ ready_on s first seen seen' more is h = record {
 module _ {D V A : Type 0} (disk : Ghosts D) (vaults : vault.Ghosts V) (start : Core D) (v w : View (Held D V) Deed)
     (call : Call) (f : A → Reply) (sound : SoundMove) (commit : commits_of call ≡ 1) where
   abbrev Took : Result A Refusal → ℕ → Type 0
-  Took what at = Turned disk vaults start v call (told_by f what) sound at w
+  Took what at = Turned (origin disk vaults start) (asked call (told_by f what) sound) at (views v w)
 
   taken : (what : Result A Refusal) (at : ℕ) → Took what at → OnOk what (1 ≤ at)
   taken (Ok x) at h =
@@ -61,7 +61,8 @@ module _ {D V A : Type 0} (disk : Ghosts D) (vaults : vault.Ghosts V) (start : C
   taken (Err why) at h = tt
 
   -- a commit that is carried out has a number from 1 on
-  pub counted : (said : Said A) → Says disk vaults start v call (told_by f said.what) sound said w
+  pub counted : (said : Said A)
+      → Says (origin disk vaults start) (asked call (told_by f said.what) sound) said (views v w)
       → OnOk said.what (1 ≤ said.at)
   counted said h = ⊎_elim
       (λ (x : Took said.what said.at). taken said.what said.at x)
@@ -78,9 +79,9 @@ module _ {D V A : Type 0} (disk : Ghosts D) (vaults : vault.Ghosts V) (start : C
   OneMore = length w.mine ≡ length v.mine + 1
 
   -- what is answered in a turn is one turn more of the seat
-  pub one_turn : Says disk vaults start v call what sound said w → OnOk said.what OneMore
+  pub one_turn : Says (origin disk vaults start) (asked call what sound) said (views v w) → OnOk said.what OneMore
   one_turn h = ⊎_elim
-      (λ (x : Turned disk vaults start v call what sound said.at w).
+      (λ (x : Turned (origin disk vaults start) (asked call what sound) said.at (views v w)).
       let place = length (v.seen ++ x.between) in
       let more = ap (λ (z : View (Held D V) Deed). length z.mine) x.view in
       let sum = length-append v.mine (place ∷ []) in

@@ -3,7 +3,7 @@ ghost use Rattle.std.specs.Prelude.{◌≡◌, [], false};
 ghost use Rattle.sound_run.specs.Recorded.{Records};
 ghost use Rattle.sound_run.specs.Played.{Plays};
 ghost use Rattle.script_session.specs.Kept.{Holds};
-ghost use Rattle.script_session.specs.Progress.{Ran, IsCauseOf};
+ghost use Rattle.script_session.specs.Progress.{Ran, IsCauseOf, reached};
 ghost use Rattle.sound_session.specs.IfGiven.{IfGiven};
 
 use super::lent::take_back;
@@ -28,9 +28,9 @@ fn run_script<R: Wait, E: Editor, A: Source, O: Sink, G: Gate>(
 ) -> Stop
     requires line { Holds session.old.line [] }
     requires fresh { session.old.refused ≡ false }
-    ensures ran { Ran result (E.place session.old.editor) (E.place session.new.editor) (O.written out.old)
-        (O.written out.new)
-        (A.left script.old) (A.left script.new) session.new.refused }
+    ensures ran { Ran result (reached (record { place = E.place session.old.editor; written = O.written out.old })
+        (E.place session.new.editor) (O.written out.new) session.new.refused)
+        (record { left = A.left script.old; left_now = A.left script.new }) }
     ensures cause { IsCauseOf result (A.fault_count script.old) (A.fault_count script.new)
         (O.fault_count out.old) (O.fault_count out.new) }
     ensures follows { (first : E) → E.follows first session.old.editor → E.follows first session.new.editor }
@@ -54,8 +54,9 @@ impl<'a, 'b, 'c, E: Editor, A: Source, O: Sink> Task for Lines<'a, 'b, 'c, E, A,
     // All that was lent comes back.
     ghost run_gives = { λ t r. (r.1.ghost_name ≡ t.session.ghost_name) × (r.2.ghost_name ≡ t.script.ghost_name)
         × (r.3.ghost_name ≡ t.out.ghost_name)
-        × Ran r.0 (E.place t.session.now.editor) (E.place r.1.now.editor) (O.written t.out.now) (O.written r.3.now)
-        (A.left t.script.now) (A.left r.2.now) r.1.now.refused
+        × Ran r.0 (reached (record { place = E.place t.session.now.editor; written = O.written t.out.now })
+        (E.place r.1.now.editor) (O.written r.3.now) r.1.now.refused)
+        (record { left = A.left t.script.now; left_now = A.left r.2.now })
         × IsCauseOf r.0 (A.fault_count t.script.now) (A.fault_count r.2.now) (O.fault_count t.out.now)
         (O.fault_count r.3.now)
         × ((first : _) → E.follows first t.session.now.editor → E.follows first r.1.now.editor) };
@@ -101,8 +102,9 @@ fn run_threads<
 ) -> (Stop, Result<Recorded<M, T>, I>, Result<Played<V, P>, J>)
     requires line { Holds session.old.line [] }
     requires fresh { session.old.refused ≡ false }
-    ensures ran { Ran result.0 (E.place session.old.editor) (E.place session.new.editor)
-        (O.written out.old) (O.written out.new) (A.left script.old) (A.left script.new) session.new.refused }
+    ensures ran { Ran result.0 (reached (record { place = E.place session.old.editor; written = O.written out.old })
+        (E.place session.new.editor) (O.written out.new) session.new.refused)
+        (record { left = A.left script.old; left_now = A.left script.new }) }
     ensures cause { IsCauseOf result.0 (A.fault_count script.old) (A.fault_count script.new)
         (O.fault_count out.old) (O.fault_count out.new) }
     ensures follows { (first : E) → E.follows first session.old.editor → E.follows first session.new.editor }
@@ -150,8 +152,9 @@ pub fn run_beside<
 ) -> (Stop, Result<Recorded<M, T>, I>, Result<Played<V, P>, J>)
     requires line { Holds session.old.line [] }
     requires fresh { session.old.refused ≡ false }
-    ensures ran { Ran result.0 (E.place session.old.editor) (E.place session.new.editor)
-        (O.written out.old) (O.written out.new) (A.left script.old) (A.left script.new) session.new.refused }
+    ensures ran { Ran result.0 (reached (record { place = E.place session.old.editor; written = O.written out.old })
+        (E.place session.new.editor) (O.written out.new) session.new.refused)
+        (record { left = A.left script.old; left_now = A.left script.new }) }
     ensures cause { IsCauseOf result.0 (A.fault_count script.old) (A.fault_count script.new)
         (O.fault_count out.old) (O.fault_count out.new) }
     ensures follows { (first : E) → E.follows first session.old.editor → E.follows first session.new.editor }

@@ -22,7 +22,7 @@ use Rattle.editor_core.specs.Took.{silent, told_by}
 use Rattle.studio_seats.specs.declared.deed.Deed.{Deed}
 use Rattle.studio_seats.specs.declared.held.Held.{Held}
 use Rattle.studio_seats.specs.Deeds.{deed, entries_of, entry_of}
-use Rattle.studio_seats.specs.Desks.{Says, Spends, Turned}
+use Rattle.studio_seats.specs.Desks.{Says, Spends, Turned, asked, origin, views}
 use Rattle.studio_seats.specs.Pins.{after_entry, is_made, makes_pin, pin_frames}
 use Rattle.studio_seats.specs.Shows.{IsMixOf}
 use Rattle.studio_seats.proofs.Grown.{entries_append}
@@ -69,15 +69,17 @@ made_last pin (x ∷ xs) e makes =
 -- a seat to which a pin was answered has seen how it was made
 pub pinned_made : {D V : Type 0} (disk : Ghosts D) (vaults : vault.Ghosts V) (start : Core D)
     (v w : View (Held D V) Deed) (said : Said ℕ)
-    → Says disk vaults start v Pin (told_by Pinned said.what) silent said w
+    → Says (origin disk vaults start) (asked Pin (told_by Pinned said.what) silent) said (views v w)
     → IfOk said.what (λ pin. IsTrue (is_made pin (entries_of w.seen)))
 pinned_made {D} {V} disk vaults start v w said h = ⊎_elim
-    (λ (x : Turned disk vaults start v Pin (told_by Pinned said.what) silent said.at w). in_turn said.what said.at x)
+    (λ (x : Turned (origin disk vaults start) (asked Pin (told_by Pinned said.what) silent) said.at (views v w)).
+    in_turn said.what said.at x)
     (λ (x : Spends v said w). subst (λ (r : Result ℕ Refusal). IfOk r (λ pin. IsTrue (is_made pin (entries_of w.seen))))
     (sym x.what) tt)
     h
   where
-    in_turn : (what : Result ℕ Refusal) (at : ℕ) → Turned disk vaults start v Pin (told_by Pinned what) silent at w
+    in_turn : (what : Result ℕ Refusal) (at : ℕ)
+        → Turned (origin disk vaults start) (asked Pin (told_by Pinned what) silent) at (views v w)
         → IfOk what (λ pin. IsTrue (is_made pin (entries_of w.seen)))
     in_turn (Ok pin) at x =
         let d : Deed = deed v.number Pin (Ok (Pinned pin)) silent in
@@ -95,10 +97,13 @@ module _ {D V : Type 0} (disk : Ghosts D) (vaults : vault.Ghosts V) (start : Cor
   what_of what = told_by (λ (n : ℕ). Frames (take n new)) what
 
   abbrev Reads : Result ℕ Refusal → ℕ → Type 0
-  Reads what at = Turned disk vaults start v (ReadPin pin from (length old)) (what_of what) silent at w
+  Reads what at =
+      Turned (origin disk vaults start) (asked (ReadPin pin from (length old)) (what_of what) silent) at (views v w)
 
   abbrev SaysRead : Type 0
-  SaysRead = Says disk vaults start v (ReadPin pin from (length old)) (what_of said.what) silent said w
+  SaysRead =
+      Says (origin disk vaults start) (asked (ReadPin pin from (length old)) (what_of said.what) silent) said
+      (views v w)
 
   seen_on : SaysRead → (more : List Entry) × (entries_of w.seen ≡ entries_of v.seen ++ more)
   seen_on h = ⊎_elim

@@ -17,7 +17,7 @@ use Rattle.studio_seats.specs.declared.held.Held.{Held}
 use Rattle.studio_seats.specs.declared.deed.Deed.{Deed}
 use Rattle.studio_seats.specs.Deeds.{actor_of, deed}
 use Rattle.studio_seats.specs.Merge.{by_seat}
-use Rattle.studio_seats.specs.Desks.{Says, Spends, Turned}
+use Rattle.studio_seats.specs.Desks.{Says, Spends, Turned, asked, origin, views}
 use Rattle.studio_seats.specs.Onward.{Onward, Asks, places_of}
 
 pub each_append : (P : Deed → Type 0) (xs ys : List Deed) → Each P xs → Each P ys → Each P (xs ++ ys)
@@ -91,9 +91,9 @@ module _ {D V : Type 0} (fits : Call → Type 0) where
   -- one turn
   pub onward_turn : {A : Type 0} (disk : Ghosts D) (vaults : vault.Ghosts V) (start : Core D)
       (v w : View (Held D V) Deed) (c : Call) (what : Result Reply Refusal) (sound : SoundMove) (said : Said A)
-      → fits c → Says disk vaults start v c what sound said w → Onward fits v w
+      → fits c → Says (origin disk vaults start) (asked c what sound) said (views v w) → Onward fits v w
   onward_turn {A} disk vaults start v w c what sound said fit h = ⊎_elim
-      (λ (x : Turned disk vaults start v c what sound said.at w).
+      (λ (x : Turned (origin disk vaults start) (asked c what sound) said.at (views v w)).
       let e : Deed = deed v.number c what sound in
       record {
         added = x.between ++ e ∷ [];

@@ -16,7 +16,7 @@ use Rattle.editor_core.specs.Took.{silent, told_by}
 use Rattle.studio_seats.specs.declared.deed.Deed.{Deed}
 use Rattle.studio_seats.specs.declared.held.Held.{Held}
 use Rattle.studio_seats.specs.Deeds.{actor_of, deed, is_commit, number_after, raised}
-use Rattle.studio_seats.specs.Desks.{Says, Spends, Turned}
+use Rattle.studio_seats.specs.Desks.{Says, Spends, Turned, asked, origin, views}
 use Rattle.studio_seats.specs.Pieces.{piece_by, piece_in, pieces_by}
 use Rattle.studio_seats.proofs.Grown.{number_append}
 use Rattle.studio_seats.proofs.Turns.{number_on}
@@ -78,10 +78,14 @@ piece_left seat n track tag samples why =
 -- the samples of a chunk are those that were asked for
 pub of_samples : {D V : Type 0} (disk : Ghosts D) (vaults : vault.Ghosts V) (start : Core D) (track tag : ℕ)
     (samples other : List ℤ) (v w : View (Held D V) Deed) (said : Said ℕ) → other ≡ samples
-    → Says disk vaults start v (Piece track tag other) (told_by (λ _. Done) said.what) silent said w
-    → Says disk vaults start v (Piece track tag samples) (told_by (λ _. Done) said.what) silent said w
+    → Says (origin disk vaults start) (asked (Piece track tag other) (told_by (λ _. Done) said.what) silent) said
+    (views v w)
+    → Says (origin disk vaults start) (asked (Piece track tag samples) (told_by (λ _. Done) said.what) silent) said
+    (views v w)
 of_samples disk vaults start track tag samples other v w said is h = subst
-    (λ (z : List ℤ). Says disk vaults start v (Piece track tag z) (told_by (λ _. Done) said.what) silent said w) is h
+    (λ (z : List ℤ).
+    Says (origin disk vaults start) (asked (Piece track tag z) (told_by (λ _. Done) said.what) silent) said (views v w))
+    is h
 
 module _ {D V : Type 0} (disk : Ghosts D) (vaults : vault.Ghosts V) (start : Core D) (track tag : ℕ) (samples : List ℤ)
     (v w : View (Held D V) Deed) where
@@ -93,10 +97,14 @@ module _ {D V : Type 0} (disk : Ghosts D) (vaults : vault.Ghosts V) (start : Cor
       (λ (why : Refusal). Pieces w ≡ Pieces v)
 
   abbrev Took : Result ℕ Refusal → ℕ → Type 0
-  Took what at = Turned disk vaults start v (Piece track tag samples) (told_by (λ _. Done) what) silent at w
+  Took what at =
+      Turned (origin disk vaults start) (asked (Piece track tag samples) (told_by (λ _. Done) what) silent) at
+      (views v w)
 
   abbrev SaysPiece : Said ℕ → Type 0
-  SaysPiece said = Says disk vaults start v (Piece track tag samples) (told_by (λ _. Done) said.what) silent said w
+  SaysPiece said =
+      Says (origin disk vaults start) (asked (Piece track tag samples) (told_by (λ _. Done) said.what) silent) said
+      (views v w)
 
   taken : (what : Result ℕ Refusal) (at : ℕ) → Took what at → IfOk what (λ (number : ℕ). number ≡ at) → Then what
   taken (Ok number) at h is =

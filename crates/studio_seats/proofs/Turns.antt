@@ -20,7 +20,7 @@ use Rattle.editor_core.specs.Studios.{IsStudio}
 use Rattle.studio_seats.specs.declared.deed.Deed.{Deed}
 use Rattle.studio_seats.specs.declared.held.Held.{Held}
 use Rattle.studio_seats.specs.Deeds.{actor_of, deed, is_commit, number_after, raised}
-use Rattle.studio_seats.specs.Desks.{Says, Spends, Turned, spent}
+use Rattle.studio_seats.specs.Desks.{Says, Spends, Turned, asked, origin, spent, views}
 use Rattle.studio_seats.specs.Holding.{HeldFor}
 use Rattle.studio_seats.specs.Stands.{AllTell, Does}
 use Rattle.studio_seats.proofs.Grown.{extends}
@@ -76,11 +76,12 @@ module _ {D V : Type 0} (disk : Ghosts D) (vaults : vault.Ghosts V) where
         (took : TookTurn (meaning (HeldFor disk vaults) actor_of start) g (called_as f s f')
         (addition v (deed v.number call (what s f') (sound f') ∷ []) w))
         → Called f' s took.called.shown.now took.called.left.now said_what said_sound
-        → Turned disk vaults (core start) v call (said_what s) said_sound s.at w
+        → Turned (origin disk vaults (core start)) (asked call (said_what s) said_sound) s.at (views v w)
     turned s f' w said_what said_sound took at =
         let does = does_at took.value took.value' took.called.shown.now took.called.left.now call (what s f')
         (sound f') at.does took.called.shows took.called.leaves in
-        subst (λ (z : Result Reply Refusal × SoundMove). Turned disk vaults (core start) v call z.0 z.1 s.at w)
+        subst (λ (z : Result Reply Refusal × SoundMove).
+        Turned (origin disk vaults (core start)) (asked call z.0 z.1) s.at (views v w))
         (λ i. (at.what_is i, at.sound_is i)) record {
           between = took.between;
           by_others = took.by_others;
@@ -105,9 +106,10 @@ module _ {D V : Type 0} (disk : Ghosts D) (vaults : vault.Ghosts V) where
         → MatchResult result (λ s. said ≡ s) (λ _. (said.at ≡ 0) × (said.what ≡ Err spent))
         → ((s : Said A) (x x' : Held D V) (called : CalledAtMut g f x s f' x')
         → Called f' s called.shown.now called.left.now said_what said_sound)
-        → Says disk vaults (core start) v call (said_what said) said_sound said w
+        → Says (origin disk vaults (core start)) (asked call (said_what said) said_sound) said (views v w)
     says f' said_what said_sound w (Ok s) said took same at =
-        inl (subst (λ (z : Said A). Turned disk vaults (core start) v call (said_what z) said_sound z.at w) (sym same)
+        inl (subst (λ (z : Said A).
+        Turned (origin disk vaults (core start)) (asked call (said_what z) said_sound) z.at (views v w)) (sym same)
         (turned s f' w said_what said_sound took (at s took.value took.value' took.called)))
     says f' said_what said_sound w (Err y) said h none at = inr record { at = none.0; what = none.1; view = h.0 }
 
@@ -175,9 +177,10 @@ tag_fits {D} {V} disk vaults start x y tag ds more low stands is =
 -- a call leaves the seat's number, and what is away from it
 pub seat_stays : {D V A : Type 0} (disk : Ghosts D) (vaults : vault.Ghosts V) (start : Core D)
     (v w : View (Held D V) Deed) (call : Call) (what : Result Reply Refusal) (sound : SoundMove) (said : Said A)
-    → Says disk vaults start v call what sound said w → (w.number ≡ v.number) × (w.away ≡ v.away)
+    → Says (origin disk vaults start) (asked call what sound) said (views v w)
+    → (w.number ≡ v.number) × (w.away ≡ v.away)
 seat_stays {D} {V} {A} disk vaults start v w call what sound said h = ⊎_elim
-    (λ (x : Turned disk vaults start v call what sound said.at w).
+    (λ (x : Turned (origin disk vaults start) (asked call what sound) said.at (views v w)).
     (ap (λ (z : View (Held D V) Deed). z.number) x.view, ap (λ (z : View (Held D V) Deed). z.away) x.view))
     (λ (x : Spends v said w).
     (ap (λ (z : View (Held D V) Deed). z.number) x.view, ap (λ (z : View (Held D V) Deed). z.away) x.view))
@@ -186,9 +189,10 @@ seat_stays {D} {V} {A} disk vaults start v w call what sound said h = ⊎_elim
 -- the number that is told is none above that to which the deeds lead that the seat has seen
 pub said_number : {D V A : Type 0} (disk : Ghosts D) (vaults : vault.Ghosts V) (start : Core D)
     (v w : View (Held D V) Deed) (call : Call) (what : Result Reply Refusal) (sound : SoundMove) (said : Said A)
-    → Says disk vaults start v call what sound said w → said.at ≤ number_after start.commit_number w.seen
+    → Says (origin disk vaults start) (asked call what sound) said (views v w)
+    → said.at ≤ number_after start.commit_number w.seen
 said_number {D} {V} {A} disk vaults start v w call what sound said h = ⊎_elim
-    (λ (x : Turned disk vaults start v call what sound said.at w).
+    (λ (x : Turned (origin disk vaults start) (asked call what sound) said.at (views v w)).
     let same : said.at ≡ number_after start.commit_number w.seen = x.number ∙ x.stands.number
     ∙ sym (ap (λ (z : View (Held D V) Deed). number_after start.commit_number z.seen) x.view) in
     omega (arith, same))

@@ -23,6 +23,36 @@ use Rattle.studio_seats.specs.Stands.{AllTell, Does, StandsFor}
 abbrev pub spent : Refusal
 spent = Spent (2 ^ 62)
 
+-- what the types of store and vault tell of their objects, and the studio with which a desk began
+pub record Origin (D V : Type 0) : Type 1 where
+  pub disk : Ghosts D
+  pub vaults : vault.Ghosts V
+  pub start : Core D
+
+-- a call, what it was answered, and what became of the sound that it names
+pub record Asked : Type 0 where
+  pub call : Call
+  pub what : Result Reply Refusal
+  pub sound : SoundMove
+
+-- what a seat knew before a call, and what it knows behind it
+pub record Views (D V : Type 0) : Type 0 where
+  pub before : View (Held D V) Deed
+  pub after : View (Held D V) Deed
+
+abbrev pub origin : {D V : Type 0} → Ghosts D → vault.Ghosts V → Core D → Origin D V
+origin disk vaults start = record { disk = disk; vaults = vaults; start = start }
+
+abbrev pub asked : Call → Result Reply Refusal → SoundMove → Asked
+asked call what sound = record { call = call; what = what; sound = sound }
+
+abbrev pub views : {D V : Type 0} → View (Held D V) Deed → View (Held D V) Deed → Views D V
+views before after = record { before = before; after = after }
+
+-- the deed of the call of a seat of this number
+abbrev pub deed_of : ℕ → Asked → Deed
+deed_of seat a = deed seat a.call a.what a.sound
+
 module _ {D V : Type 0} where
   -- the seat is of this desk
   abbrev pub IsAt : Desk D V → Seat (Held D V) Deed → Type 0
@@ -42,22 +72,21 @@ module _ {D V : Type 0} where
 
   -- A turn of a seat: behind all that it had seen it has seen deeds of others, and then its own, by which the studio
   -- went from `before` to `after`. It tells the commit number behind the turn.
-  pub record Turned (disk : Ghosts D) (vaults : vault.Ghosts V) (start : Core D) (v : View (Held D V) Deed)
-      (call : Call)
-      (what : Result Reply Refusal) (sound : SoundMove) (at : ℕ) (w : View (Held D V) Deed) : Type 0 where
+  pub record Turned (o : Origin D V) (a : Asked) (at : ℕ) (seat : Views D V) : Type 0 where
     pub between : List Deed
-    pub by_others : ByOthers actor_of (v.number ∷ []) between
-    pub few : length (v.seen ++ between) < 2 ^ 62
-    pub unspent : v.used_up ≡ false
-    pub view : w ≡ record v {
-      seen = (v.seen ++ between) ++ deed v.number call what sound ∷ [];
-      mine = v.mine ++ length (v.seen ++ between) ∷ [];
+    pub by_others : ByOthers actor_of (seat.before.number ∷ []) between
+    pub few : length (seat.before.seen ++ between) < 2 ^ 62
+    pub unspent : seat.before.used_up ≡ false
+    pub view : seat.after ≡ record seat.before {
+      seen = (seat.before.seen ++ between) ++ deed_of seat.before.number a ∷ [];
+      mine = seat.before.mine ++ length (seat.before.seen ++ between) ∷ [];
     }
     pub before : Core D
     pub after : Core D
-    pub stood : StandsFor disk (AllTell vaults) start before (v.seen ++ between)
-    pub does : Does disk (AllTell vaults) before call what sound after
-    pub stands : StandsFor disk (AllTell vaults) start after ((v.seen ++ between) ++ deed v.number call what sound ∷ [])
+    pub stood : StandsFor o.disk (AllTell o.vaults) o.start before (seat.before.seen ++ between)
+    pub does : Does o.disk (AllTell o.vaults) before a.call a.what a.sound after
+    pub stands : StandsFor o.disk (AllTell o.vaults) o.start after
+        ((seat.before.seen ++ between) ++ deed_of seat.before.number a ∷ [])
     pub number : at ≡ after.commit_number
 
   -- no turn was left, and nothing was asked
@@ -66,8 +95,5 @@ module _ {D V : Type 0} where
     pub what : said.what ≡ Err spent
     pub view : w ≡ record v { used_up = true }
 
-  abbrev pub Says : {A : Type 0} → Ghosts D → vault.Ghosts V → Core D → View (Held D V) Deed → Call
-      → Result Reply Refusal
-      → SoundMove → Said A → View (Held D V) Deed → Type 0
-  Says disk vaults start v call what sound said w =
-      Turned disk vaults start v call what sound said.at w ⊎ Spends v said w
+  abbrev pub Says : {A : Type 0} → Origin D V → Asked → Said A → Views D V → Type 0
+  Says o a said seat = Turned o a said.at seat ⊎ Spends seat.before said seat.after

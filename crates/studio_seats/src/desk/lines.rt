@@ -10,7 +10,7 @@ ghost use Rattle.editor_core.specs.Core.{core_of};
 ghost use Rattle.editor_core.specs.Imports.{VaultCounted};
 ghost use Rattle.editor_core.specs.Studios.{IsStudio};
 ghost use Rattle.editor_core.specs.Took.{told_by};
-ghost use Rattle.studio_seats.specs.Desks.{IsAt, Says, start_at};
+ghost use Rattle.studio_seats.specs.Desks.{IsAt, Says, asked, origin, start_at, views};
 
 use super::Desk;
 use super::said::said_by;
@@ -42,9 +42,10 @@ impl<S: Store, V: Vault> Desk<S, V> {
         requires seat { IsAt self.now seat.old }
         requires in_form { IsInForm command.now }
         ensures same { IsAt self.now seat.new }
-        ensures says { Says S.Store V.Vault (start_at self.now) (known seat.old) (Line command.now)
-            (told_by (λ _. answer.new.reply) result.what)
-            (move_of (name_in_line command.now) (V.holds vault.old) (V.holds vault.new)) result (known seat.new) }
+        ensures says { Says (origin S.Store V.Vault (start_at self.now))
+            (asked (Line command.now) (told_by (λ _. answer.new.reply) result.what)
+            (move_of (name_in_line command.now) (V.holds vault.old) (V.holds vault.new)))
+            result (views (known seat.old) (known seat.new)) }
         ensures commit { (known seat.new).used_up ≡ false → answer.new.commit ≡ result.at }
         ensures refused { (known seat.new).used_up ≡ false
             → IfErr result.what (λ why. answer.new.reply ≡ Refused why) }

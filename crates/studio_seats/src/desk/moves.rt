@@ -7,7 +7,7 @@ ghost use Rattle.pin_turn.specs.Calls.{known};
 ghost use Rattle.editor_core.specs.Core.{core_of};
 ghost use Rattle.editor_core.specs.Studios.{IsStudio};
 ghost use Rattle.editor_core.specs.Took.{Took, silent, told_by};
-ghost use Rattle.studio_seats.specs.Desks.{IsAt, Says, start_at};
+ghost use Rattle.studio_seats.specs.Desks.{IsAt, Says, asked, origin, start_at, views};
 
 use super::Desk;
 use super::said::said_by;
@@ -27,8 +27,9 @@ impl<S: Store, V: Vault> Desk<S, V> {
     pub fn undo<R: Wait>(&self, rt: &R, seat: &mut DeskSeat<S, V>) -> Said<u64>
         requires { IsAt self.now seat.old }
         ensures same { IsAt self.now seat.new }
-        ensures says { Says S.Store V.Vault (start_at self.now) (known seat.old) (Line Undo)
-            (told_by (λ _. Done) result.what) silent result (known seat.new) }
+        ensures says { Says (origin S.Store V.Vault (start_at self.now))
+            (asked (Line Undo) (told_by (λ _. Done) result.what) silent)
+            result (views (known seat.old) (known seat.new)) }
         ensures number { IfOk result.what (λ n. n ≡ result.at) }
     {
         said_by(
@@ -58,8 +59,9 @@ impl<S: Store, V: Vault> Desk<S, V> {
     pub fn redo<R: Wait>(&self, rt: &R, seat: &mut DeskSeat<S, V>) -> Said<u64>
         requires { IsAt self.now seat.old }
         ensures same { IsAt self.now seat.new }
-        ensures says { Says S.Store V.Vault (start_at self.now) (known seat.old) (Line Redo)
-            (told_by (λ _. Done) result.what) silent result (known seat.new) }
+        ensures says { Says (origin S.Store V.Vault (start_at self.now))
+            (asked (Line Redo) (told_by (λ _. Done) result.what) silent)
+            result (views (known seat.old) (known seat.new)) }
         ensures number { IfOk result.what (λ n. n ≡ result.at) }
     {
         said_by(
@@ -89,8 +91,9 @@ impl<S: Store, V: Vault> Desk<S, V> {
     pub fn purge<R: Wait>(&self, rt: &R, seat: &mut DeskSeat<S, V>, count: u64) -> Said<u64>
         requires { IsAt self.now seat.old }
         ensures same { IsAt self.now seat.new }
-        ensures says { Says S.Store V.Vault (start_at self.now) (known seat.old) (Line (Purge count))
-            (told_by (λ _. Done) result.what) silent result (known seat.new) }
+        ensures says { Says (origin S.Store V.Vault (start_at self.now))
+            (asked (Line (Purge count)) (told_by (λ _. Done) result.what) silent)
+            result (views (known seat.old) (known seat.new)) }
         ensures number { IfOk result.what (λ n. n ≡ result.at) }
     {
         said_by(

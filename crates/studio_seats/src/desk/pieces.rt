@@ -7,7 +7,7 @@ ghost use Rattle.editor_core.specs.Core.{core_of};
 ghost use Rattle.editor_core.specs.Studios.{IsStudio};
 ghost use Rattle.editor_core.specs.Took.{Took, silent, told_by};
 ghost use Rattle.studio_seats.specs.Deeds.{number_after};
-ghost use Rattle.studio_seats.specs.Desks.{IsAt, Says, start_at};
+ghost use Rattle.studio_seats.specs.Desks.{IsAt, Says, asked, origin, start_at, views};
 
 use super::Desk;
 use super::said::said_by;
@@ -39,8 +39,9 @@ impl<S: Store, V: Vault> Desk<S, V> {
         requires tag { (1 ≤ tag)
             × (tag ≤ number_after (start_at self.now).commit_number (known seat.old).seen) }
         ensures same { IsAt self.now seat.new }
-        ensures says { Says S.Store V.Vault (start_at self.now) (known seat.old) (Piece track tag samples.now)
-            (told_by (λ _. Done) result.what) silent result (known seat.new) }
+        ensures says { Says (origin S.Store V.Vault (start_at self.now))
+            (asked (Piece track tag samples.now) (told_by (λ _. Done) result.what) silent)
+            result (views (known seat.old) (known seat.new)) }
         ensures number { IfOk result.what (λ n. n ≡ result.at) }
     {
         said_by(

@@ -7,7 +7,7 @@ ghost use Rattle.editor_core.specs.Core.{core_of};
 ghost use Rattle.editor_core.specs.Studios.{IsStudio};
 ghost use Rattle.editor_core.specs.Took.{Took, silent, told_by};
 ghost use Rattle.studio_seats.specs.Deeds.{entries_of};
-ghost use Rattle.studio_seats.specs.Desks.{IsAt, Says, start_at};
+ghost use Rattle.studio_seats.specs.Desks.{IsAt, Says, asked, origin, start_at, views};
 ghost use Rattle.studio_seats.specs.Pins.{is_made};
 
 use super::Desk;
@@ -28,8 +28,9 @@ impl<S: Store, V: Vault> Desk<S, V> {
     pub fn pin<R: Wait>(&self, rt: &R, seat: &mut DeskSeat<S, V>) -> Said<u64>
         requires { IsAt self.now seat.old }
         ensures same { IsAt self.now seat.new }
-        ensures says { Says S.Store V.Vault (start_at self.now) (known seat.old) call.Pin
-            (told_by reply.Pinned result.what) silent result (known seat.new) }
+        ensures says { Says (origin S.Store V.Vault (start_at self.now))
+            (asked call.Pin (told_by reply.Pinned result.what) silent)
+            result (views (known seat.old) (known seat.new)) }
         ensures made { IfOk result.what (λ pin. IsTrue (is_made pin (entries_of (known seat.new).seen))) }
     {
         said_by(
@@ -58,8 +59,9 @@ impl<S: Store, V: Vault> Desk<S, V> {
     pub fn unpin<R: Wait>(&self, rt: &R, seat: &mut DeskSeat<S, V>, pin: u64) -> Said<()>
         requires { IsAt self.now seat.old }
         ensures same { IsAt self.now seat.new }
-        ensures says { Says S.Store V.Vault (start_at self.now) (known seat.old) (call.Unpin pin)
-            (told_by (λ _. reply.Done) result.what) silent result (known seat.new) }
+        ensures says { Says (origin S.Store V.Vault (start_at self.now))
+            (asked (call.Unpin pin) (told_by (λ _. reply.Done) result.what) silent)
+            result (views (known seat.old) (known seat.new)) }
     {
         said_by(
             self.turn.with::<R, Said<()>, _, Brand>(
@@ -87,8 +89,9 @@ impl<S: Store, V: Vault> Desk<S, V> {
     pub fn pin_len<R: Wait>(&self, rt: &R, seat: &mut DeskSeat<S, V>, pin: u64) -> Said<u64>
         requires { IsAt self.now seat.old }
         ensures same { IsAt self.now seat.new }
-        ensures says { Says S.Store V.Vault (start_at self.now) (known seat.old) (call.PinLen pin)
-            (told_by reply.Length result.what) silent result (known seat.new) }
+        ensures says { Says (origin S.Store V.Vault (start_at self.now))
+            (asked (call.PinLen pin) (told_by reply.Length result.what) silent)
+            result (views (known seat.old) (known seat.new)) }
     {
         said_by(
             self.turn.with::<R, Said<u64>, _, Brand>(
@@ -124,9 +127,10 @@ impl<S: Store, V: Vault> Desk<S, V> {
     ) -> Said<usize>
         requires { IsAt self.now seat.old }
         ensures same { IsAt self.now seat.new }
-        ensures says { Says S.Store V.Vault (start_at self.now) (known seat.old)
-            (call.ReadPin pin from (length out.old))
-            (told_by (λ n. reply.Frames (take n out.new)) result.what) silent result (known seat.new) }
+        ensures says { Says (origin S.Store V.Vault (start_at self.now))
+            (asked (call.ReadPin pin from (length out.old))
+            (told_by (λ n. reply.Frames (take n out.new)) result.what) silent)
+            result (views (known seat.old) (known seat.new)) }
         ensures bound { IfOk result.what (λ n. n ≤ length out.new) }
         ensures limit { IfOk result.what (λ n. 0 < n → from + n ≤ 2 ^ 32) }
         ensures spent { (known seat.new).used_up ≡ true → out.new ≡ out.old }

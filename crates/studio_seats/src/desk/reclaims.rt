@@ -8,7 +8,7 @@ ghost use Rattle.editor_core.specs.Core.{core_of};
 ghost use Rattle.editor_core.specs.Frees.{Reclaims};
 ghost use Rattle.editor_core.specs.Studios.{IsStudio};
 ghost use Rattle.editor_core.specs.Took.{silent, told_by};
-ghost use Rattle.studio_seats.specs.Desks.{IsAt, Says, start_at};
+ghost use Rattle.studio_seats.specs.Desks.{IsAt, Says, asked, origin, start_at, views};
 
 use super::Desk;
 use super::said::said_by;
@@ -34,8 +34,9 @@ impl<S: Store, V: Vault> Desk<S, V> {
     ) -> Said<u64>
         requires { IsAt self.now seat.old }
         ensures same { IsAt self.now seat.new }
-        ensures says { Says S.Store V.Vault (start_at self.now) (known seat.old) (Line (Reclaim limit))
-            (told_by Freed result.what) silent result (known seat.new) }
+        ensures says { Says (origin S.Store V.Vault (start_at self.now))
+            (asked (Line (Reclaim limit)) (told_by Freed result.what) silent)
+            result (views (known seat.old) (known seat.new)) }
     {
         said_by(
             self.turn.with::<R, Said<u64>, _, Brand>(

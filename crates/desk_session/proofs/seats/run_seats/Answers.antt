@@ -7,7 +7,7 @@ use Rattle.studio_seats.specs.Desks.{start_at}
 use Rattle.studio_seats.specs.Pieces.{pieces_by}
 use Rattle.studio_seats.specs.Shows.{IsMixOf}
 use Rattle.script_session.specs.Place.{Place, place_of}
-use Rattle.script_session.specs.Progress.{Ran}
+use Rattle.script_session.specs.Progress.{Ran, reached}
 use Rattle.desk_session.specs.Opening.{play_calls, record_calls}
 use Rattle.desk_session.specs.Sounds.{IsPlayed, IsRecorded}
 use Rattle.desk_session.proofs.RejoinLemmas.{first_join, rejoined, second_join}
@@ -80,11 +80,16 @@ returns-clause-sat g c =
           (known c.join.new.seat) (known c.join-2.new.seat) c.join.ensures.kept.1 c.join-2.ensures.kept.1
           c.join.ensures.alike c.join-2.ensures.alike;
       told_last = ran.0;
-      ran = subst (λ (q : Place). Ran w.told.stop q (place_of start (known w.seats.script) ran.0 w.told.commits
+      ran = subst (λ (q : Place). Ran w.told.stop
+          (reached (record { place = q; written = g.O.Sink.written c.args.out.now })
+          (place_of start (known w.seats.script) ran.0 w.told.commits
           (g.V.Vault.tells c.run_work-seats.new.vault) (g.V.Vault.holds c.run_work-seats.new.vault)
-          (g.V.Vault.fault_count c.run_work-seats.new.vault)) (g.O.Sink.written c.args.out.now)
-          (g.O.Sink.written c.run_work-seats.new.out) (g.A.Source.left c.args.script.now)
-          (g.A.Source.left c.run_work-seats.new.script) w.told.refused)
+          (g.V.Vault.fault_count c.run_work-seats.new.vault))
+          (g.O.Sink.written c.run_work-seats.new.out) w.told.refused)
+          (record {
+            left = g.A.Source.left c.args.script.now;
+            left_now = g.A.Source.left c.run_work-seats.new.script;
+          }))
           ((λ i. place_of start (two.kept.1 i) c.args.last [] (g.V.Vault.tells c.args.vault.now)
           (g.V.Vault.holds c.args.vault.now) (g.V.Vault.fault_count c.args.vault.now))
           ∙ (λ i. place_of start (one.kept.1 i) c.args.last [] (g.V.Vault.tells c.args.vault.now)

@@ -7,7 +7,7 @@ use Rattle.studio_seats.specs.Pieces.{pieces_by}
 use Rattle.studio_seats.specs.Shows.{IsMixOf}
 use Rattle.studio_seats.proofs.OnwardLemmas.{onward_self}
 use Rattle.script_session.specs.Place.{Place, place_of}
-use Rattle.script_session.specs.Progress.{Ran}
+use Rattle.script_session.specs.Progress.{Ran, reached}
 use Rattle.desk_session.specs.Sounds.{IsPlayed, IsRecorded}
 use Rattle.desk_session.proofs.SideLemmas.{back, some_as, where_any, where_both}
 use Rattle.desk_session.proofs.SoundLemmas.{played_of, recorded_of}
@@ -20,9 +20,13 @@ returns-clause-ran g c =
     c.run_beside-stop.ensures.follows c.new.result (refl, refl, onward_self IsLine (known c.new.result.seat)) in
     let desk = first.0 ∙ c.new.ensures.of.0 in (
       s.editor.last,
-      subst (λ (z : Place × Place). Ran c.run_beside-stop.result.0 z.0 z.1 (g.O.Sink.written c.args.out.now)
-          (g.O.Sink.written c.run_beside-stop.new.out) (g.A.Source.left c.args.script.now)
-          (g.A.Source.left c.run_beside-stop.new.script) s.refused)
+      subst (λ (z : Place × Place). Ran c.run_beside-stop.result.0
+          (reached (record { place = z.0; written = g.O.Sink.written c.args.out.now }) z.1
+          (g.O.Sink.written c.run_beside-stop.new.out) s.refused)
+          (record {
+            left = g.A.Source.left c.args.script.now;
+            left_now = g.A.Source.left c.run_beside-stop.new.script;
+          }))
           (λ i. (
             place_of (start_at (c.new.ensures.of.0 i)) (c.new.ensures.seat i) (c.new.ensures.fresh.0 i)
                 (c.new.ensures.fresh.1 i) (g.V.Vault.tells (c.new.ensures.of.2 i))
@@ -57,7 +61,8 @@ returns-clause-records g c =
           (pieces_by (track i) (tag_is i) (h.2.3 i).number (start_at (h.2.2 i)).commit_number (h.2.3 i).seen)
           (pieces_by ((goes.1 ∙ track) i) ((goes.2 ∙ tag_is) i) (sym h.4.1 i).number (start_at (at i)).commit_number
           (sym h.4.1 i).seen) k)
-          (recorded_of g.M.Source _ _ (λ l. l.source.now) (λ l. refl) (λ l. refl) w.mic w.taker a k h.3 f.0 f.1 f.2 f.3)),
+          (recorded_of g.M.Source _ _ (λ l. l.source.now) (λ l. refl) (λ l. refl) w.mic w.taker a k h.3 f.0 f.1 f.2
+          f.3)),
     ))
     (λ h. (ap known h.2.0 ∙ h.1.0, h.2.3, h.2.2 ∙ h.1.3))
 

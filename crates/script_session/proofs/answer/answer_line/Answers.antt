@@ -4,12 +4,12 @@ use Rattle.script_session.proofs.SessionLemmas.{Printed-silent, Printed-answer}
 use Rattle.script_session.proofs.answer.answer_line.Goals as goal
 
 pub returns-then-is_silent_line-clause-printed : goal.returns-then-is_silent_line-clause-printed
-returns-then-is_silent_line-clause-printed g c = λ s start lines part holds p.
-    Printed-silent s _ start _ _ lines part (sym (c.if-is_silent_line.ensures part holds)) p
+returns-then-is_silent_line-clause-printed g c = λ start lines part holds p.
+    Printed-silent _ lines part (sym (c.if-is_silent_line.ensures part holds)) p
 
 pub returns-clause-printed : goal.returns-clause-printed
-returns-clause-printed g c = λ s start lines part holds p.
-    Printed-answer s _ _ start _ _ _ _ c.write_answer-written.result lines part c.next_answer-answer.result
+returns-clause-printed g c = λ start lines part holds p.
+    Printed-answer _ _ _ _ c.write_answer-written.result lines part c.next_answer-answer.result
     (sym (c.if-is_silent_line.ensures part holds))
     (c.next_answer-answer.ensures.answers part holds) c.write_answer-written.ensures.bytes
     c.next_answer-answer.ensures.no p

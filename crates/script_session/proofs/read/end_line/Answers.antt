@@ -4,7 +4,7 @@ use Rattle.script_session.proofs.GoingLemmas.{Going-more, Going-lf}
 use Rattle.script_session.proofs.read.end_line.Goals as goal
 
 pub returns-clause-goes : goal.returns-clause-goes
-returns-clause-goes g c = λ s start read going.
-    Going-lf s _ _ start _ _ _ _ _ _ c.answer_line.result (read ++ c.args.rest.now)
-    (c.answer_line.ensures.printed s start) c.answer_line.ensures.cleared
-    (Going-more s _ start _ _ _ _ read c.args.rest.now c.requires c.extend.ensures going)
+returns-clause-goes g c = λ start read going.
+    Going-lf _ _ _ _ c.answer_line.result (read ++ c.args.rest.now)
+    (c.answer_line.ensures.printed start) c.answer_line.ensures.cleared
+    (Going-more _ _ _ read c.args.rest.now c.requires c.extend.ensures going)

@@ -4,12 +4,12 @@ use Rattle.script_session.proofs.read.end_script.Goals as goal
 
 pub returns-then-is_empty-clause-ended : goal.returns-then-is_empty-clause-ended
 returns-then-is_empty-clause-ended g c =
-    λ s start read going. Ended-nothing s _ start _ _ _ read c.if-is_empty.ensures going
+    λ start read going. Ended-nothing _ _ read c.if-is_empty.ensures going
 
 pub returns-in-Ok-clause-ended : goal.returns-in-Ok-clause-ended
-returns-in-Ok-clause-ended g c = λ s start read going.
-    Ended-line s _ _ start _ _ _ _ _ read c.if-is_empty.ensures (c.in-Ok.ensures.printed s start) going
+returns-in-Ok-clause-ended g c = λ start read going.
+    Ended-line _ _ _ read c.if-is_empty.ensures (c.in-Ok.ensures.printed start) going
 
 pub returns-in-Err-clause-ended : goal.returns-in-Err-clause-ended
-returns-in-Err-clause-ended g c = λ s start read going. Ended-fault s _ _ start _ _ _ _ _ c.in-Err.field-0 read
-    c.if-is_empty.ensures (c.in-Err.ensures.printed s start) going
+returns-in-Err-clause-ended g c = λ start read going. Ended-fault _ _ _ c.in-Err.field-0 read
+    c.if-is_empty.ensures (c.in-Err.ensures.printed start) going

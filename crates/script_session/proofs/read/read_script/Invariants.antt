@@ -1,16 +1,15 @@
 -- The bytes so far brought the session here, and nothing failed.
-use Rattle.std.proofs.Common.{◌≡◌, ℕ, ◌-◌, ◌≤◌, [], List, Option}
-use Rattle.script_session.specs.Place.{Place}
-use Rattle.script_session.specs.Progress.{Going, Reading}
+use Rattle.std.proofs.Common.{◌≡◌, ◌-◌, ◌≤◌, []}
+use Rattle.script_session.specs.Progress.{Going, Reading, Start, reached}
 use Rattle.script_session.proofs.read.read_script.Given as goal
 
 abbrev pub invariant-loop-total : goal.invariant-loop-total
 invariant-loop-total g l = record {
-  goes : (s : Place) (start : Option (List ℕ)) →
-      Going s (g.E.Editor.place l.fn.session.editor) start
-      (g.O.Sink.written l.fn.out) l.fn.session.line l.fn.session.refused [] →
-      Reading s (g.E.Editor.place l.session.editor) start (g.O.Sink.written l.out) (g.A.Source.left l.fn.script)
-      (g.A.Source.left l.script) l.session.line l.session.refused l.total;
+  goes : (start : Start) →
+      Going (reached start (g.E.Editor.place l.fn.session.editor) (g.O.Sink.written l.fn.out) l.fn.session.refused)
+      l.fn.session.line [] →
+      Reading (reached start (g.E.Editor.place l.session.editor) (g.O.Sink.written l.out) l.session.refused)
+      (record { left = g.A.Source.left l.fn.script; left_now = g.A.Source.left l.script }) l.session.line l.total;
   follows : (first : g.row.E.Denot) → g.E.Editor.follows first l.fn.session.editor
       → g.E.Editor.follows first l.session.editor;
   bound : l.total ≤ 4294967296;

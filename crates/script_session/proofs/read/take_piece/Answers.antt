@@ -13,7 +13,7 @@ end_line-requires g c =
     rw k (line_front (drop c.loop-len.at c.args.piece.now) c.in-Some.len found.0)
 
 pub returns-in_err-end_line-clause-goes : goal.returns-in_err-end_line-clause-goes
-returns-in_err-end_line-clause-goes g c = λ s start read going.
+returns-in_err-end_line-clause-goes g c = λ start read going.
     let piece = c.args.piece.now in
     let at = c.loop-len.at in
     let len = c.in-Some.len in
@@ -21,10 +21,10 @@ returns-in_err-end_line-clause-goes g c = λ s start read going.
     let found = rw take_rest at c.in-Some.ensures in
     let ends = line_end piece at len c.loop-len.invariant.bound found.0 found.1 in
     let k : at + len - at ≡ len = omega arith in
-    let halted = rw (k, piece_line read piece at len ends.0 ends.1) at (c.in_err-end_line.ensures.goes s start
-    (read ++ take at piece) (c.loop-len.invariant.goes s start read going)) in
+    let halted = rw (k, piece_line read piece at len ends.0 ends.1) at (c.in_err-end_line.ensures.goes start
+    (read ++ take at piece) (c.loop-len.invariant.goes start read going)) in
     rw (p.1, p.2, ← piece_whole read piece (at + (len + 1)))
-    (Halted-more s _ start _ _ _ _ (drop (at + (len + 1)) piece) halted)
+    (Halted-more _ _ _ (drop (at + (len + 1)) piece) halted)
 
 pub loop-len-preserved : goal.loop-len-preserved
 loop-len-preserved g c =
@@ -36,18 +36,18 @@ loop-len-preserved g c =
     let k : at + len - at ≡ len = omega arith in
     record {
       bound = omega (arith, ends.0);
-      goes = λ s start read going.
-          rw (k, piece_line read piece at len ends.0 ends.1) at (c.in_ok-end_line.ensures.goes s start
-          (read ++ take at piece) (c.loop-len.invariant.goes s start read going));
+      goes = λ start read going.
+          rw (k, piece_line read piece at len ends.0 ends.1) at (c.in_ok-end_line.ensures.goes start
+          (read ++ take at piece) (c.loop-len.invariant.goes start read going));
       follows = λ first h. c.in_ok-end_line.ensures.follows first (c.loop-len.invariant.follows first h);
       count = c.in_ok-end_line.ensures.cause.kept ∙ c.loop-len.invariant.count;
     }
 
 pub returns-clause-goes : goal.returns-clause-goes
-returns-clause-goes g c = λ s start read going.
+returns-clause-goes g c = λ start read going.
     let piece = c.args.piece.now in
     let at = c.loop-len.at in
     let none = rw take_rest at c.in_default.ensures in
     let grows = rw take_rest at c.extend.ensures in
-    rw (← piece_whole read piece at) (Going-more s _ start _ _ _ _ (read ++ take at piece) (drop at piece)
-    (no_line (drop at piece) none) grows (c.loop-len.invariant.goes s start read going))
+    rw (← piece_whole read piece at) (Going-more _ _ _ (read ++ take at piece) (drop at piece)
+    (no_line (drop at piece) none) grows (c.loop-len.invariant.goes start read going))

@@ -35,6 +35,13 @@ returns-clause-session g c =
     } in
     closed k (start_at s.desk) (core_of c.close.result) o.new.vault lent out (known s.seat) (known o.new.seat)
     (known r.result.seat) o.result.1 s.at.1 o.ensures.opens o.ensures.last o.ensures.untouched
-    (subst (λ (t : ℕ). Sat k (start_at s.desk) t o.result.1 (known o.new.seat) (known r.result.seat)
+    (subst (λ (t : ℕ). Sat k
+    (record {
+      start = start_at s.desk;
+      track = t;
+      last = o.result.1;
+      seat = known o.new.seat;
+      seat_now = known r.result.seat;
+    })
     (record lent { vault = o.new.vault }) out) s.begins.1 r.ensures.sat)
     c.close.ensures.stands c.close.ensures.mine
