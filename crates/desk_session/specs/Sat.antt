@@ -1,5 +1,5 @@
 -- A session at a desk, from a seat and back to it.
-use Rattle.std.specs.Prelude.{◌≡◌, ℕ, [], List, Option, None, IsSomeAnd}
+use Rattle.std.specs.Prelude.{◌≡◌, ℕ, [], None, IsSomeAnd}
 use Rattle.pin_turn.specs.declared.view.View.{View}
 use Rattle.editor_core.specs.Core.{Core}
 use Rattle.studio_seats.specs.declared.deed.Deed.{Deed}

@@ -1,5 +1,5 @@
 -- A session at a desk: a script, and beside it a recording and a playback, where they were asked for.
-use Rattle.std.specs.Prelude.{◌≡◌, ℕ, Bool, true, IsTrue, List, [], ◌∷◌, ◌++◌, Option, None, IsSomeAnd}
+use Rattle.std.specs.Prelude.{◌≡◌, ℕ, Bool, true, IsTrue, List, [], ◌∷◌, ◌++◌, None, IsSomeAnd}
 use Rattle.std.specs.List.{list_any}
 use Rattle.pcm_base.specs.declared.answer.Answer.{Answer}
 use Rattle.pcm_base.specs.Outside.{Sounds}
