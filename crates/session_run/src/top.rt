@@ -103,7 +103,8 @@ where
     M: Source + Send,
     P: Sink + Send,
     G: Gate + Sync,
-    ensures does { let k : Kinds S V M P = record { disk = S.Store; vaults = V.Vault; mics = M.Source; speakers = P.Sink } in
+    ensures does { let k : Kinds S V M P =
+        record { disk = S.Store; vaults = V.Vault; mics = M.Source; speakers = P.Sink } in
         (done : Done S) × Does ⟦<RamStore as Store>⟧ k (map string_bytes words.now) store
         (record {
           vault = vault.old;

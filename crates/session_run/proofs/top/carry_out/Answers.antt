@@ -8,7 +8,8 @@ pub returns-in-Ok-New : goal.returns-in-Ok-New
 returns-in-Ok-New g c =
     let s : Streams =
     streams g.A.Source g.O.Sink c.args.script.now c.args.script.now c.args.out.now c.make_project.new.out in
-    inl (asked _ _ _ _ c.args.store (idle_ports c.args.vault.now c.args.mic.now c.args.speaker.now s) c.make_project.result
+    inl (asked _ _ _ _ c.args.store (idle_ports c.args.vault.now c.args.mic.now c.args.speaker.now s)
+    c.make_project.result
     (c.in-Ok-New.ensures.read ∙ ap Some c.in-Ok-New.field-0-is)
     (c.make_project.ensures s, ((refl, refl), (refl, refl), refl)))
 
@@ -16,7 +17,8 @@ pub returns-in-Ok-List : goal.returns-in-Ok-List
 returns-in-Ok-List g c =
     let s : Streams =
     streams g.A.Source g.O.Sink c.args.script.now c.args.script.now c.args.out.now c.list_project.new.out in
-    inl (asked _ _ _ _ c.args.store (idle_ports c.args.vault.now c.args.mic.now c.args.speaker.now s) c.list_project.result
+    inl (asked _ _ _ _ c.args.store (idle_ports c.args.vault.now c.args.mic.now c.args.speaker.now s)
+    c.list_project.result
     (c.in-Ok-List.ensures.read ∙ ap Some c.in-Ok-List.field-0-is)
     (c.list_project.ensures s, ((refl, refl), (refl, refl), refl)))
 
@@ -24,7 +26,8 @@ pub returns-in-Ok-Check : goal.returns-in-Ok-Check
 returns-in-Ok-Check g c =
     let s : Streams =
     streams g.A.Source g.O.Sink c.args.script.now c.args.script.now c.args.out.now c.check_project.new.out in
-    inl (asked _ _ _ _ c.args.store (idle_ports c.args.vault.now c.args.mic.now c.args.speaker.now s) c.check_project.result
+    inl (asked _ _ _ _ c.args.store (idle_ports c.args.vault.now c.args.mic.now c.args.speaker.now s)
+    c.check_project.result
     (c.in-Ok-Check.ensures.read ∙ ap Some c.in-Ok-Check.field-0-is)
     (c.check_project.ensures s, ((refl, refl), (refl, refl), refl)))
 
