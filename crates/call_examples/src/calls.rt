@@ -11,7 +11,7 @@ use std::thread::Threads;
 
 // One channel of the samples 1 and -1, at 8,000 frames a second.
 const MONO: &[u8] =
-    b"RIFF\x28\0\0\0WAVEfmt \x10\0\0\0\x01\0\x01\0\x40\x1F\0\0\x80\x3E\0\0\x02\0\x10\0data\x04\0\0\0\x01\0\xFF\xFF";
+    b"RIFF(\0\0\0WAVEfmt \x10\0\0\0\x01\0\x01\0@\x1F\0\0\x80>\0\0\x02\0\x10\0data\x04\0\0\0\x01\0\xFF\xFF";
 
 // What a call is asked: its words, parted by single spaces, and its script. Of its source, its output, its vault and its
 // microphone the calls of these numbers fail. A read of the script gives so many bytes at most, and a write takes as

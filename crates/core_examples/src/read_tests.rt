@@ -172,7 +172,8 @@ fn scan<S: Store>(alloc: Global, studio: &mut Studio<S>, place: u64) -> Result<b
     }
 }
 
-// The first sample of block 17, of 4 and 5, is made a 6, which its summaries do not say: the first of them stands at 20.
+// The first sample of block 17, of 4 and 5, is made a 6, which its summaries do not say. The first of them stands at
+// 20.
 #[test]
 fn a_scan_tells_a_damaged_block(rt: HostRuntime) -> Result<(), Fail> {
     let alloc = rt.alloc();
