@@ -179,8 +179,8 @@ const SYNCED: Step = Step::Done(Asked::Sync, 16);
 
 const NOT_SYNCED: Step = Step::Fails(Asked::Sync, 16);
 
-// How many openings are allowed, whether a folder above is made anew before, and what the sync comes to: of both folders
-// that are made, of none, and of the inner one alone.
+// How many openings are allowed, which folder is removed before, and what the sync comes to: where both folders above
+// are made, where none is, and where the inner one alone is.
 const ABOVE: [(u32, &'static str, Step); 5] = [
     (2, "faults-above", NOT_SYNCED),
     (1, "", SYNCED),

@@ -58,8 +58,8 @@ fn one_file_that_cannot_be_synced_fails_all(rt: HostRuntime) -> Result<(), Alloc
     Ok(())
 }
 
-// Whether each call on the files is answered as it has to be: more files than are kept open are written, all are synced by
-// the sync of one, one is written again, and all are read.
+// Whether each call on the files is answered as it has to be: more files than are kept open are written, all are synced
+// by the sync of one, one is written again, and all are read.
 fn are_kept<S: Store>(store: &mut S) -> bool {
     let mut buf = [0; 12];
     (16..600).all(|file| store.write_at(file, 0, b"some samples").is_ok())

@@ -158,8 +158,8 @@ const CALLS: [Step; 34] = [
     Step::Faults(0, 0),
 ];
 
-// 512 files are kept open up to their sync. One more has all of them synced; the first of them is opened and synced anew
-// then, and the last one synced. The folder is synced by the first sync, with the two above it.
+// 512 files are kept open up to their sync. One more has all of them synced; the first of them is then opened and synced
+// anew, and the last one synced. The folder is synced by the first sync, with the two above it.
 const MANY: [Step; 8] = [
     Step::All(Asked::Write, 16, 528),
     Step::Counts([513, 0, 512, 0, 0, 0]),
