@@ -22,6 +22,8 @@ mod paths;
 mod plain;
 #[cfg(test)]
 mod port_fault_tests;
+#[cfg(test)]
+mod port_tests;
 mod sounds;
 mod store;
 #[cfg(test)]
