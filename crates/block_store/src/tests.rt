@@ -72,7 +72,7 @@ fn a_stop_after_each_call(rt: HostRuntime) -> Result<(), Fail> {
         let mut store = disk(rt.alloc(), Vec::new(rt.alloc()))?;
         store.stop_after(calls);
         let answer = put_two(rt.alloc(), &mut store)?;
-        assert!(rt; answer.is_ok() == calls == 2);
+        assert!(rt; answer.is_ok() == (calls == 2));
         let left = images(rt.alloc(), &store)?;
         assert!(rt; left.as_slice() == want.as_slice());
     }

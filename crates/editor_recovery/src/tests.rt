@@ -281,7 +281,7 @@ fn a_stop_after_each_call(rt: HostRuntime) -> Result<(), Fail> {
         let mut store = disk(alloc)?;
         store.stop_after(calls);
         let made = create(alloc, &mut store, 8000, 4, 3);
-        assert!(rt; made.is_ok() == calls == 12);
+        assert!(rt; made.is_ok() == (calls == 12));
         let want = match calls {
             12 => 10,
             11 => 4,
