@@ -186,9 +186,9 @@ fn a_scan_tells_a_damaged_block(rt: HostRuntime) -> Result<(), Fail> {
     let mut studio = new_studio(alloc, disk(alloc, &[])?, 16)?;
     tells(&rt, alloc, &mut studio, &mut vault(alloc)?, &FIVE)?;
     let mut studio = spoil(alloc, studio, 17, 16, 6)?;
-    for (place, want) in [(0, Ok(true)), (1, Err(damaged)), (2, Ok(false))] {
-        assert!(rt; scan(alloc, &mut studio, place) == want, "{place}");
-    }
+    assert!(rt; scan(alloc, &mut studio, 0) == Ok(true));
+    assert!(rt; scan(alloc, &mut studio, 1) == Err(damaged));
+    assert!(rt; scan(alloc, &mut studio, 2) == Ok(false));
     assert!(rt; studio.track(alloc) == Ok(3));
     Ok(())
 }
