@@ -9,6 +9,3 @@ mod ledger;
 mod tree;
 
 pub use ledger::Ledger;
-
-#[cfg(test)]
-mod tests;

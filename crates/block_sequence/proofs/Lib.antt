@@ -8,5 +8,4 @@ pub mod Room
 pub mod Rule
 pub mod Sizes
 mod Table
-pub mod TestRows
 pub mod Whole

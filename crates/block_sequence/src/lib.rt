@@ -10,8 +10,6 @@ mod cutting;
 mod fusing;
 mod parts;
 mod seq;
-#[cfg(test)]
-mod tests;
 mod types;
 
 pub use fusing::fuse;

@@ -6,14 +6,10 @@
 #![tactic(auto)]
 
 mod asked;
-#[cfg(test)]
-mod cases;
 mod hyphens;
 mod number;
 mod options;
 mod reading;
-#[cfg(test)]
-mod tests;
 
 pub use asked::{NewProject, Words, WordsFault};
 pub use reading::read_words;

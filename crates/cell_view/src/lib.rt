@@ -14,8 +14,6 @@ mod cells;
 mod clips;
 mod places;
 mod rest;
-#[cfg(test)]
-mod tests;
 
 pub use ahead::read_ahead;
 pub use cells::read_cells;

@@ -10,8 +10,6 @@ mod clips;
 mod items;
 mod rest;
 mod strip_clips;
-#[cfg(test)]
-mod tests;
 
 pub use clips::{Clip, Layout};
 pub use items::{Item, Strip, append_gap, append_part, append_piece};

@@ -27,6 +27,3 @@ mod through;
 pub use ram::RamStore;
 pub use store::{ListFault, Store};
 pub use through::{remove_through, sync_file, write_through};
-
-#[cfg(test)]
-mod tests;

@@ -18,8 +18,6 @@ mod removing;
 mod run_refusals;
 mod runs;
 mod strips;
-#[cfg(test)]
-mod tests;
 mod types;
 
 pub use one_track::{delete, gain, insert, silence, split_delete, trim};

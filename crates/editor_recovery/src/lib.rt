@@ -18,10 +18,6 @@ mod measuring;
 mod opening;
 mod reading;
 mod sizes;
-#[cfg(test)]
-mod stop_tests;
-#[cfg(test)]
-mod tests;
 mod walk;
 
 pub use checking::check;

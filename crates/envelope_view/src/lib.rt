@@ -13,7 +13,5 @@ mod known;
 mod parts;
 mod scanning;
 mod sweep;
-#[cfg(test)]
-mod tests;
 
 pub use scanning::columns;

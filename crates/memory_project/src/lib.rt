@@ -11,8 +11,6 @@ mod generated;
 mod lines;
 mod script;
 mod summing;
-#[cfg(test)]
-mod tests;
 
 pub use fresh::{FreshProject, fresh_studio};
 pub use generated::run_generated;

@@ -1,3 +1,2 @@
-mod AddedLaws
 pub mod CountLaws
 pub mod TrackLaws

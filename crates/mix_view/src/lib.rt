@@ -10,8 +10,6 @@ mod frames;
 mod passes;
 mod reader;
 mod stretches;
-#[cfg(test)]
-mod tests;
 mod tracks;
 
 pub use frames::read_frames;

@@ -9,8 +9,6 @@
 
 mod frames;
 mod stretch;
-#[cfg(test)]
-mod tests;
 
 pub use frames::{fill_long, fill_short, frame, frames256, frames65536};
 pub use stretch::{NOTHING, Summary, all_fit, join, of};

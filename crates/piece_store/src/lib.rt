@@ -10,8 +10,6 @@ mod fault;
 mod given;
 mod making;
 mod pieces;
-#[cfg(test)]
-mod tests;
 
 pub use fault::MakeFault;
 pub use given::Given;

@@ -13,8 +13,6 @@ ghost use Rattle.std.specs.Prelude.{ℕ, List, []};
 use std::marker::Brand;
 
 mod plays;
-#[cfg(test)]
-mod tests;
 mod turn;
 mod view;
 

@@ -25,6 +25,3 @@ pub use fields::{u8_at, u32_at, u64_at};
 pub use header::first_failure;
 pub use reader::{Reader, open_journal};
 pub use records::Next;
-
-#[cfg(test)]
-mod tests;

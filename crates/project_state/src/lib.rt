@@ -15,10 +15,6 @@ mod measuring;
 mod point;
 mod reading;
 mod reading_clips;
-#[cfg(test)]
-mod reading_tests;
-#[cfg(test)]
-mod tests;
 mod track;
 mod writing;
 

@@ -10,8 +10,6 @@ mod folding;
 mod laws;
 mod project;
 mod steps;
-#[cfg(test)]
-mod tests;
 
 pub use folding::fold_journal;
 pub use laws::records_that_lead_have_no_fault;

@@ -10,7 +10,5 @@ mod kind;
 mod lines;
 mod place;
 mod script;
-#[cfg(test)]
-mod tests;
 
 pub use script::generate;

@@ -24,8 +24,6 @@ mod parsing;
 mod project;
 mod reasons;
 mod summary;
-#[cfg(test)]
-mod tests;
 mod text;
 mod tracks;
 mod words;

@@ -8,8 +8,6 @@
 mod export;
 mod fault;
 mod stretch;
-#[cfg(test)]
-mod tests;
 
 pub use export::write_mix;
 pub use fault::ExportFault;

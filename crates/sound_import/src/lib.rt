@@ -7,8 +7,6 @@
 mod bytes;
 mod fault;
 mod sound;
-#[cfg(test)]
-mod tests;
 
 pub use fault::ImportFault;
 pub use sound::read_sound;

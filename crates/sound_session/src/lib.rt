@@ -17,10 +17,3 @@ pub use lent::{LentSink, LentSource, take_back};
 pub use playback::{PlayRing, Playback};
 pub use recording::{RecordRing, Recording};
 pub use sounds::run_sounds;
-
-#[cfg(test)]
-mod gates;
-#[cfg(test)]
-mod memory;
-#[cfg(test)]
-mod tests;

@@ -8,4 +8,6 @@ pub use counter::{Counter, Increment, raise, raise_often};
 pub use threads::count_up;
 
 #[cfg(test)]
+mod log_tests;
+#[cfg(test)]
 mod tests;

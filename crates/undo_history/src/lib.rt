@@ -8,6 +8,3 @@
 mod history;
 
 pub use history::History;
-
-#[cfg(test)]
-mod tests;

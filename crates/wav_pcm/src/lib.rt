@@ -9,15 +9,11 @@
 mod bad;
 mod bytes;
 mod chunks;
-#[cfg(test)]
-mod foreign;
 mod format;
 mod interleaved;
 mod reading;
 mod shape;
 mod stereo;
-#[cfg(test)]
-mod tests;
 mod wav;
 mod writing;
 

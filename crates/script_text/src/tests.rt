@@ -1,3 +1,0 @@
-// Each text once, by hand.
-mod lines;
-mod reasons;
