@@ -53,8 +53,18 @@ impl LeastTree {
         self.leaves
     }
 
-    // Writes a leaf.
+    // Writes a leaf. One that stays as it is costs one look.
     pub(crate) fn set(&mut self, leaf: usize, id: Option<u64>)
+        requires { leaf < length self.old }
+        ensures { self.new ≡ slice_set self.old leaf id }
+    {
+        if self.nodes[self.leaves + leaf] != id {
+            self.change(leaf, id);
+        }
+    }
+
+    // Writes a leaf, and the nodes above it.
+    fn change(&mut self, leaf: usize, id: Option<u64>)
         requires { leaf < length self.old }
         ensures { self.new ≡ slice_set self.old leaf id }
     {

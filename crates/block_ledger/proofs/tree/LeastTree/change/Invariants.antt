@@ -1,6 +1,6 @@
 use Rattle.std.proofs.Common.{◌≡◌, ◌≤◌, ◌<◌, ◌*◌, ◌/◌, length, drop}
 use Rattle.block_ledger.proofs.Trees.{AllBut}
-use Rattle.block_ledger.proofs.tree.LeastTree.set.Given as goal
+use Rattle.block_ledger.proofs.tree.LeastTree.change.Given as goal
 
 abbrev pub invariant-loop-node : goal.invariant-loop-node
 invariant-loop-node l = (l.self-inside.leaves ≡ l.initial.self-inside.leaves) × (1 ≤ l.node)

@@ -3,7 +3,7 @@ use Rattle.std.proofs.Common.{◌≡◌, ℕ, ◌+◌, ◌*◌, ◌/◌, ◌≤�
 use Rattle.std.proofs.lemmas.List.{length-set, get_or_read, drop-set-lt, drop-set-add}
 use Rattle.block_ledger.specs.Tree.{lesser, node}
 use Rattle.block_ledger.proofs.Trees.{node_written}
-use Rattle.block_ledger.proofs.tree.LeastTree.set.Goals as goal
+use Rattle.block_ledger.proofs.tree.LeastTree.change.Goals as goal
 
 pub loop-node-preserved : goal.loop-node-preserved
 loop-node-preserved c =
