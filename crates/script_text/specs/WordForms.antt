@@ -19,6 +19,18 @@ infixl 10 ◌>>=◌
 abbrev pub ◌>>=◌ : {A B : Type 0} → Form A → (A → Form B) → Form B
 (form >>= next) words = continued (form words) next
 
+-- no word is needed to say this
+abbrev pub says : {A : Type 0} → A → Form A
+says x words = Ok (x, words)
+
+-- a form says a function, and the words behind it say what that is applied to
+infixl 20 ◌<*>◌
+abbrev pub ◌<*>◌ : {A B : Type 0} → Form (A → B) → Form A → Form B
+form <*> kind = do
+  f ← form
+  x ← kind
+  says (f x)
+
 abbrev pub said_by : {A : Type 0} → Option A → ℕ → Words → Result (A × Words) ℕ
 said_by None column rest = Err column
 said_by (Some x) column rest = Ok (x, rest)

@@ -14,8 +14,6 @@ ghost use Rattle.script_text.specs.Faults.{refusal_of};
 
 mod call_fault;
 mod columns;
-mod edit_forms;
-mod forms;
 mod gathered;
 mod kinds;
 mod last;
@@ -24,6 +22,7 @@ mod parsing;
 mod project;
 mod reasons;
 mod summary;
+mod table;
 mod text;
 mod tracks;
 mod words;
