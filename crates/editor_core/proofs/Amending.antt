@@ -1,7 +1,7 @@
 -- Counts as a point comes in the place of the current one, and blocks of a history whatever the tags are.
 use Rattle.std.proofs.Common.{◌≡◌, sym, ap, ◌∙◌, subst, ℕ, ◌+◌, ◌-◌, Bool, true, false, if◌then◌else◌, List, [], ◌∷◌}
-use Rattle.std.proofs.Common.{◌++◌, map, drop, take, length, flat_map, length-append, arith}
-use Rattle.std.specs.Prelude.{slice_index}
+use Rattle.std.proofs.Common.{◌++◌, map, drop, take, length, flat_map, length-append, Some, arith}
+use Rattle.std.specs.Prelude.{slice_get, slice_index}
 use Rattle.std.proofs.lemmas.List.{append-nil, drop-map, length-map, length-take, map-append, take_all}
 use Rattle.std.proofs.lemmas.List.Folds.{flat_map-map}
 use Rattle.std.proofs.lemmas.Grind.{flat_map-append}
@@ -11,8 +11,9 @@ use Rattle.pcm_base.specs.History.{recorded, tags_of}
 use Rattle.block_ledger.specs.Counts.{Counts}
 use Rattle.project_state.specs.declared.track.Track.{Track}
 use Rattle.project_state.specs.Kept.{point_blocks, history_blocks}
-use Rattle.editor_core.specs.Occurrences.{HasAll, Dropped, Held, Moves, times_named}
-use Rattle.editor_core.proofs.Pushes.{Tagged, all_blocks, times_split, untagged}
+use Rattle.editor_core.specs.Occurrences.{HasAll, Dropped, Moves, times_named}
+use Rattle.editor_core.proofs.Pushes.{Tagged, all_blocks, untagged}
+use Rattle.editor_core.proofs.Replaced.{times_all}
 use Rattle.editor_core.proofs.Times.{named_append}
 
 -- ---- the blocks of a point behind others do not hang on its tag
@@ -36,21 +37,30 @@ same_tagless h p tag =
 
 -- ---- a point in the place of the current one
 
-module _ (h : History (List Track)) (is : IsHistory h) (p : List Track) (o o1 : Counts)
-    (all : HasAll o (history_blocks h)) (held : Held o o1 (point_blocks p)) where
+module _ (h : History (List Track)) (is : IsHistory h) (p current : List Track)
+    (here : slice_get (points_of h) h.cursor ≡ Some current) (o : Counts) (all : HasAll o (history_blocks h)) where
   abbrev n : ℕ
   n = h.cursor
 
-  -- the current one and those behind it
+  -- those behind the current one
   abbrev gone : List BlockRef
-  gone = flat_map point_blocks (drop n (take (length h.points) (points_of h)))
+  gone = flat_map point_blocks (drop (n + 1) (take (length h.points) (points_of h)))
 
-  gone_is : gone ≡ all_blocks (drop n h.points)
-  gone_is = untagged n (length h.points) h
-      ∙ ap (λ (ps : List Tagged). all_blocks (drop n ps)) (take_all (length h.points) h.points (omega arith))
+  times_history : (id : ℕ) → times_named id (history_blocks h) ≡ times_named id (all_blocks (take n h.points))
+      + (times_named id (point_blocks current) + times_named id gone)
+  times_history id =
+      let points : take (length h.points) (points_of h) ≡ points_of h =
+      take_all (length h.points) (points_of h) (omega (arith, length-map h.points point_of)) in
+      ap (times_named id) (sym (flat_map-map point_blocks point_of h.points))
+      ∙ times_all point_blocks (points_of h) n current here id
+      ∙ ap (λ (k : ℕ). k + (times_named id (point_blocks current)
+      + times_named id (flat_map point_blocks (drop (n + 1) (points_of h))))) (ap (times_named id) (untagged 0 n h))
+      ∙ ap (λ (ps : List (List Track)). times_named id (all_blocks (take n h.points))
+      + (times_named id (point_blocks current) + times_named id (flat_map point_blocks (drop (n + 1) ps))))
+      (sym points)
 
-  pub has_gone : HasAll o1 gone
-  has_gone = λ id. omega (arith, all id, held.counts id, times_split id n h.points, ap (times_named id) gone_is)
+  pub has_current : HasAll o (point_blocks current)
+  has_current = λ id. omega (arith, all id, times_history id)
 
   left : (id : ℕ) → times_named id (history_blocks (amended h p))
       ≡ times_named id (all_blocks (take n h.points)) + times_named id (point_blocks p)
@@ -66,18 +76,16 @@ module _ (h : History (List Track)) (is : IsHistory h) (p : List Track) (o o1 : 
       ∙ ap (λ (bs : List BlockRef). times_named id (all_blocks (take n h.points)) + times_named id bs)
       (append-nil (point_blocks p))
 
-  pub moves_amended : (o2 : Counts) → Dropped o1 o2 gone → Moves o o2 (history_blocks h) (history_blocks (amended h p))
-  moves_amended o2 dropped = record {
-    counts = λ id. omega (
-      arith,
-      held.counts id,
-      dropped.counts id,
-      ap (times_named id) gone_is,
-      times_split id n h.points,
-      left id,
-    );
-    ids = λ id. (λ t. (held.ids id).0 ((dropped.ids id).0 t), λ t. (dropped.ids id).1 ((held.ids id).1 t));
-  }
+  module _ (o1 : Counts) (moved : Moves o o1 (point_blocks current) (point_blocks p)) where
+    pub has_gone : HasAll o1 gone
+    has_gone = λ id. omega (arith, all id, moved.counts id, times_history id)
+
+    pub moves_amended : (o2 : Counts) → Dropped o1 o2 gone
+        → Moves o o2 (history_blocks h) (history_blocks (amended h p))
+    moves_amended o2 dropped = record {
+      counts = λ id. omega (arith, moved.counts id, dropped.counts id, times_history id, left id);
+      ids = λ id. (λ t. (moved.ids id).0 ((dropped.ids id).0 t), λ t. (dropped.ids id).1 ((moved.ids id).1 t));
+    }
 
 -- ---- either of both
 

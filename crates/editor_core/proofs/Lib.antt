@@ -81,6 +81,7 @@ mod Assembling
 pub mod Fresh
 mod Scanning
 mod Rising
+mod Replaced
 pub mod Rests
 mod ExportLengths
 mod Exporting

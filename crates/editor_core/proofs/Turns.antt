@@ -24,7 +24,7 @@ module _ {X : Type 0} (f : X → List BlockRef) (xs : List X) (i : ℕ) (x : X) 
   next = ap (flat_map f) (take_some xs i x here) ∙ flat_map-append f (take i xs) (x ∷ [])
       ∙ ap (λ (z : List BlockRef). front ++ z) (append-nil (f x))
 
-  split : flat_map f xs ≡ front ++ (f x ++ rest)
+  pub split : flat_map f xs ≡ front ++ (f x ++ rest)
   split =
       ap (flat_map f) (sym (take-append-drop (i + 1) xs)) ∙ flat_map-append f (take (i + 1) xs) (drop (i + 1) xs)
       ∙ ap (λ (z : List BlockRef). z ++ rest) next ∙ append_assoc front (f x) rest

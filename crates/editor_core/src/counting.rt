@@ -23,7 +23,7 @@ pub(crate) fn drop_blocks(ledger: &mut Ledger, blocks: &[BlockRef])
     }
 }
 
-fn drop_clips(ledger: &mut Ledger, clips: &[Clip])
+pub(crate) fn drop_clips(ledger: &mut Ledger, clips: &[Clip])
     requires { HasAll (count_of ledger.old) (layout_blocks clips.now) }
     ensures { Dropped (count_of ledger.old) (count_of ledger.new) (layout_blocks clips.now) }
 {
@@ -66,7 +66,7 @@ pub(crate) fn hold_blocks(ledger: &mut Ledger, blocks: &[BlockRef])
     }
 }
 
-fn hold_clips(ledger: &mut Ledger, clips: &[Clip])
+pub(crate) fn hold_clips(ledger: &mut Ledger, clips: &[Clip])
     requires there { HasIds (count_of ledger.old) (layout_blocks clips.now) }
     requires few { (id : ℕ) →
         occurrences (count_of ledger.old id) + times_named id (layout_blocks clips.now) < 2 ^ 128 }

@@ -33,6 +33,7 @@ mod points;
 mod ranges;
 mod reclaims;
 mod recording;
+mod replacing;
 mod scans;
 mod shows;
 mod studio;

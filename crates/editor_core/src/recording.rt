@@ -7,7 +7,8 @@ ghost use Rattle.project_state.specs.Kept.{point_blocks, history_blocks};
 ghost use Rattle.editor_core.specs.Core.{core_of};
 ghost use Rattle.editor_core.specs.Occurrences.{HasAll, HasIds, Moves, times_named};
 
-use super::counting::{count_edit, drop_points, hold_point};
+use super::counting::{count_edit, drop_points};
+use super::replacing::replace_point;
 use super::studio::Studio;
 use block_ledger::Ledger;
 use disk_model::Store;
@@ -24,10 +25,10 @@ fn count_amended(ledger: &mut Ledger, history: &History<Point>, point: &Point)
     ensures { Moves (count_of ledger.old) (count_of ledger.new) (history_blocks history.now.history)
         (history_blocks (amended history.now.history point.now)) }
 {
-    hold_point(ledger, point);
     let len = history.len();
-    let from = history.cursor();
-    drop_points(ledger, history, from, len);
+    let current = history.cursor();
+    replace_point(ledger, history.point(current), point);
+    drop_points(ledger, history, current + 1, len);
 }
 
 // Whether the current point is of the recording with this tag; 0 is the tag of all that is no recording.
