@@ -26,6 +26,8 @@ const PLACES_MOST: usize = (1 << 62) - 1;
 pub struct Ledger {
     entries: Vec<Entry>,
     free: LeastTree,
+    // The place behind the entry whose count was written last.
+    next: usize,
 }
 
 impl Model for Ledger {
@@ -49,6 +51,7 @@ impl Ledger {
         Ledger {
             entries: Vec::new(alloc),
             free: LeastTree::new(alloc),
+            next: 0,
         }
     }
 
@@ -173,13 +176,17 @@ impl Ledger {
         named
     }
 
-    // The place of an id among the entries, or the place to which it would go.
+    // The place of an id among the entries, or the place to which it would go. Blocks are mostly counted in the order of
+    // their ids, so the next place is looked at first.
     fn position(&self, id: u64) -> Result<usize, usize>
         ensures rising { IsRising self.now.entries }
         ensures found { IfOk result (IsAt self.now.entries id) }
         ensures absent { IfErr result (IsGap self.now.entries id) }
     {
-        self.entries.binary_search_by_key(&id, |entry| entry.id)
+        match self.entries.get(self.next) {
+            Some(entry) if entry.id == id => Ok(self.next),
+            _ => self.entries.binary_search_by_key(&id, |entry| entry.id),
+        }
     }
 
     fn count_at(&self, i: usize) -> Option<u128>
@@ -197,6 +204,7 @@ impl Ledger {
     {
         self.entries[i].count = count;
         self.free.set(i, self.entries[i].free_id());
+        self.next = i + 1;
     }
 
     // Adds an id that occurs once, in its place.
