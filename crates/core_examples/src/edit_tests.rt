@@ -1,10 +1,11 @@
 // Edits that make blocks, of a studio on a disk in memory, whose blocks have at most 4 samples.
 use super::projects::vault;
 use super::scripts::Ask::{Line, Piece};
-use super::scripts::{Ask, Row, tells};
-use super::tests::{disk, new_studio};
+use super::scripts::{Ask, Row};
+use super::tests::{answers, tells_new};
 use disk_model::{RamStore, Store};
 use std::alloc::Global;
+use std::process::Abort;
 use std::test::*;
 
 const PIECE: Ask = Piece {
@@ -40,9 +41,7 @@ const SCRIPT: [Row; 18] = [
 
 #[test]
 fn each_edit_is_a_commit(rt: HostRuntime) -> Result<(), Fail> {
-    let alloc = rt.alloc();
-    let mut studio = new_studio(alloc, disk(alloc, &[])?, 16)?;
-    tells(&rt, alloc, &mut studio, &mut vault(alloc)?, &SCRIPT)
+    answers(&rt, rt.alloc(), 16, &[], &SCRIPT)
 }
 
 // What is cut and pasted; a cut begins at track 1.
@@ -67,9 +66,7 @@ const PASTES: [Row; 16] = [
 
 #[test]
 fn what_is_cut_is_pasted(rt: HostRuntime) -> Result<(), Fail> {
-    let alloc = rt.alloc();
-    let mut studio = new_studio(alloc, disk(alloc, &[])?, 16)?;
-    tells(&rt, alloc, &mut studio, &mut vault(alloc)?, &PASTES)
+    answers(&rt, rt.alloc(), 16, &[], &PASTES)
 }
 
 // What a studio answers whose first block, or the record behind it, fails.
@@ -85,10 +82,8 @@ const CHANGES: [u64; 6] = [14, 15, 16, 17, 18, 19];
 
 #[test]
 fn a_change_that_fails_stops_the_studio(rt: HostRuntime) -> Result<(), Fail> {
-    let alloc = rt.alloc();
     for call in &CHANGES {
-        let mut studio = new_studio(alloc, disk(alloc, &[*call])?, 3)?;
-        tells(&rt, alloc, &mut studio, &mut vault(alloc)?, &STOPPED)?;
+        answers(&rt, rt.alloc(), 3, &[*call], &STOPPED)?;
     }
     Ok(())
 }
@@ -112,34 +107,45 @@ const BLOCK_CALLS: [(u64, u64, u64); 7] = [
     (20, 3, 3),
 ];
 
-fn block_files(store: &mut RamStore) -> [bool; 3] {
-    [
-        matches!(store.size(16), Ok(Some(_))),
-        matches!(store.size(17), Ok(Some(_))),
-        matches!(store.size(18), Ok(Some(_))),
-    ]
+fn has_block(store: &mut RamStore, file: u64) -> bool {
+    matches!(store.size(file), Ok(Some(_)))
 }
 
-// The first so many of three.
-fn first_of_three(count: u64) -> [bool; 3] {
-    [count > 0, count > 1, count > 2]
+// How many of the blocks are there, if they are the first ones.
+fn blocks_there(store: &mut RamStore) -> Option<u64> {
+    match (
+        has_block(store, 16),
+        has_block(store, 17),
+        has_block(store, 18),
+    ) {
+        (false, false, false) => Some(0),
+        (true, false, false) => Some(1),
+        (true, true, false) => Some(2),
+        (true, true, true) => Some(3),
+        _ => None,
+    }
 }
 
-// Whether so many of the blocks are there, and so many in the image that keeps what was synced alone.
-fn has_blocks(alloc: Global, store: &mut RamStore, there: u64, synced: u64) -> Result<bool, Fail> {
-    let mut left = store.image(alloc, 1).ok().ok_or("no memory")?;
-    let is_there = block_files(store) == first_of_three(there);
-    Ok(is_there && block_files(&mut left) == first_of_three(synced))
+// So many of the blocks are there where this call fails, and so many in the image that keeps what was synced alone.
+fn keeps_blocks(
+    rt: &impl Abort,
+    alloc: Global,
+    call: u64,
+    there: u64,
+    synced: u64,
+) -> Result<(), Fail> {
+    let mut vault = vault(alloc)?;
+    let mut store = tells_new(rt, alloc, 3, &[call], &mut vault, &NINE)?;
+    let mut left = store.image(alloc, 1)?;
+    assert!(rt; blocks_there(&mut store) == Some(there), "call {call}");
+    assert!(rt; blocks_there(&mut left) == Some(synced), "call {call}");
+    Ok(())
 }
 
 #[test]
 fn all_blocks_are_written_before_the_first_sync(rt: HostRuntime) -> Result<(), Fail> {
-    let alloc = rt.alloc();
     for (call, there, synced) in &BLOCK_CALLS {
-        let mut studio = new_studio(alloc, disk(alloc, &[*call])?, 3)?;
-        tells(&rt, alloc, &mut studio, &mut vault(alloc)?, &NINE)?;
-        let is_so = has_blocks(alloc, &mut studio.into_store(), *there, *synced)?;
-        assert!(rt; is_so, "call {call}");
+        keeps_blocks(&rt, rt.alloc(), *call, *there, *synced)?;
     }
     Ok(())
 }

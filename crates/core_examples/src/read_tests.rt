@@ -7,12 +7,13 @@ ghost use Rattle.editor_core.specs.Studios.{IsStudio};
 use super::projects::vault;
 use super::scripts::Ask::{Line, Piece, Pin, PinLen, Unpin};
 use super::scripts::{Row, tells};
-use super::tests::{disk, new_studio};
+use super::tests::{answers, disk, new_studio};
 use disk_model::Store;
 use editor_core::Studio;
 use editor_recovery::open_store;
 use pcm_base::{Frame, Refusal};
 use std::alloc::Global;
+use std::process::Abort;
 use std::test::*;
 
 // A point of a recording is pinned, and two pieces more amend it. The second piece takes the sample of the first into
@@ -64,19 +65,22 @@ fn has_block_18_alone<S: Store>(alloc: Global, store: &mut S) -> bool {
     store.files(&mut files).is_ok() && files.as_slice() == [0, 18].as_slice()
 }
 
-#[test]
-fn a_pin_keeps_its_mix_while_a_recording_goes_on(rt: HostRuntime) -> Result<(), Fail> {
-    let alloc = rt.alloc();
+fn keeps_its_mix(rt: &impl Abort, alloc: Global) -> Result<(), Fail> {
     let mut vault = vault(alloc)?;
     let mut studio = new_studio(alloc, disk(alloc, &[])?, 16)?;
-    tells(&rt, alloc, &mut studio, &mut vault, &PINNED)?;
+    tells(rt, alloc, &mut studio, &mut vault, &PINNED)?;
     let mut out = [Frame { left: 0, right: 0 }; 4];
     assert!(rt; studio.read_pin(1, 0, &mut out) == Ok(1) && out[0] == Frame { left: 5, right: 5 });
     assert!(rt; studio.facts().blocks == 2);
-    tells(&rt, alloc, &mut studio, &mut vault, &UNPINNED)?;
+    tells(rt, alloc, &mut studio, &mut vault, &UNPINNED)?;
     assert!(rt; studio.facts().blocks == 1);
     assert!(rt; has_block_18_alone(alloc, &mut studio.into_store()));
     Ok(())
+}
+
+#[test]
+fn a_pin_keeps_its_mix_while_a_recording_goes_on(rt: HostRuntime) -> Result<(), Fail> {
+    keeps_its_mix(&rt, rt.alloc())
 }
 
 // What was copied keeps its block; the others go once no point names them, those of the least ids first.
@@ -91,14 +95,17 @@ const COPIED: [Row; 8] = [
     (Line("reclaim 2"), "freed 4 1"),
 ];
 
-#[test]
-fn what_was_copied_keeps_its_block(rt: HostRuntime) -> Result<(), Fail> {
-    let alloc = rt.alloc();
+fn keeps_what_was_copied(rt: &impl Abort, alloc: Global) -> Result<(), Fail> {
     let mut studio = new_studio(alloc, disk(alloc, &[])?, 16)?;
-    tells(&rt, alloc, &mut studio, &mut vault(alloc)?, &COPIED)?;
+    tells(rt, alloc, &mut studio, &mut vault(alloc)?, &COPIED)?;
     let facts = studio.facts();
     assert!(rt; (facts.blocks, facts.points, facts.cursor) == (2, 1, 0));
     Ok(())
+}
+
+#[test]
+fn what_was_copied_keeps_its_block(rt: HostRuntime) -> Result<(), Fail> {
+    keeps_what_was_copied(&rt, rt.alloc())
 }
 
 // A sample, gaps, and a sample.
@@ -114,18 +121,16 @@ const APART: [Row; 4] = [
 
 #[test]
 fn columns_tell_what_a_scan_finds(rt: HostRuntime) -> Result<(), Fail> {
-    let alloc = rt.alloc();
-    let mut studio = new_studio(alloc, disk(alloc, &[])?, 16)?;
-    tells(&rt, alloc, &mut studio, &mut vault(alloc)?, &APART)
+    answers(&rt, rt.alloc(), 16, &[], &APART)
 }
-
-const FIVE: [Row; 2] = [(Line("track"), "ok 1"), (Line("put 1 0 1 2 3 4 5"), "ok 2")];
 
 // The first call of the disk behind those of the new journal and of five samples put in.
 const FIRST_READ: u64 = 22;
 
 // A read that fails is told, and the studio goes on.
-const WENT_ON: [Row; 3] = [
+const WENT_ON: [Row; 5] = [
+    (Line("track"), "ok 1"),
+    (Line("put 1 0 1 2 3 4 5"), "ok 2"),
     (Line("show 1 0 1"), "no 2 DiskFault"),
     (Line("put 1 0 9"), "ok 3"),
     (Line("show 1 0 1"), "cells 3 9"),
@@ -133,11 +138,7 @@ const WENT_ON: [Row; 3] = [
 
 #[test]
 fn a_failed_read_does_not_stop_the_studio(rt: HostRuntime) -> Result<(), Fail> {
-    let alloc = rt.alloc();
-    let mut vault = vault(alloc)?;
-    let mut studio = new_studio(alloc, disk(alloc, &[FIRST_READ])?, 16)?;
-    tells(&rt, alloc, &mut studio, &mut vault, &FIVE)?;
-    tells(&rt, alloc, &mut studio, &mut vault, &WENT_ON)
+    answers(&rt, rt.alloc(), 16, &[FIRST_READ], &WENT_ON)
 }
 
 // Writes a byte into a file of a studio's disk, and opens the disk again.
@@ -172,11 +173,11 @@ fn scan<S: Store>(alloc: Global, studio: &mut Studio<S>, place: u64) -> Result<b
     }
 }
 
+const FIVE: [Row; 2] = [(Line("track"), "ok 1"), (Line("put 1 0 1 2 3 4 5"), "ok 2")];
+
 // The first sample of block 17, of 4 and 5, is made a 6, which its summaries do not say. The first of them stands at
 // 20.
-#[test]
-fn a_scan_tells_a_damaged_block(rt: HostRuntime) -> Result<(), Fail> {
-    let alloc = rt.alloc();
+fn tells_a_damaged_block(rt: &impl Abort, alloc: Global) -> Result<(), Fail> {
     let damaged = Refusal::Damaged {
         file: 17,
         at: 20,
@@ -184,11 +185,16 @@ fn a_scan_tells_a_damaged_block(rt: HostRuntime) -> Result<(), Fail> {
         have: 4,
     };
     let mut studio = new_studio(alloc, disk(alloc, &[])?, 16)?;
-    tells(&rt, alloc, &mut studio, &mut vault(alloc)?, &FIVE)?;
+    tells(rt, alloc, &mut studio, &mut vault(alloc)?, &FIVE)?;
     let mut studio = spoil(alloc, studio, 17, 16, 6)?;
     assert!(rt; scan(alloc, &mut studio, 0) == Ok(true));
     assert!(rt; scan(alloc, &mut studio, 1) == Err(damaged));
     assert!(rt; scan(alloc, &mut studio, 2) == Ok(false));
     assert!(rt; studio.track(alloc) == Ok(3));
     Ok(())
+}
+
+#[test]
+fn a_scan_tells_a_damaged_block(rt: HostRuntime) -> Result<(), Fail> {
+    tells_a_damaged_block(&rt, rt.alloc())
 }

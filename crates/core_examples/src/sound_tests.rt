@@ -5,8 +5,8 @@ ghost use Rattle.editor_core.specs.Core.{core_of};
 ghost use Rattle.editor_core.specs.Studios.{IsStudio};
 
 use super::scripts::Ask::Line;
-use super::scripts::{Row, tells};
-use super::tests::{disk, new_studio};
+use super::scripts::Row;
+use super::tests::{disk, new_studio, tells_new};
 use disk_model::Store;
 use edit_ports::{MemVault, Vault};
 use editor_core::*;
@@ -60,13 +60,27 @@ fn three(alloc: Global, frames: u8) -> Result<Vec<u8>, Fail>
 }
 
 // A vault of these sounds, with room for one more, whose calls of these numbers fail.
-fn vault(alloc: Global, fails: Vec<u64>) -> Result<MemVault, Fail> {
+fn vault(alloc: Global, failing: &[u64]) -> Result<MemVault, Fail> {
+    let mut fails = Vec::new(alloc);
+    fails.extend_from_slice(failing)?;
     let mut vault = MemVault::new(alloc, 2, 4096, Numbers::new(fails))?;
     vault.place("a.wav", &MONO)?;
     vault.place("short.wav", &MONO[..47])?;
     vault.place("rate.wav", &other_rate())?;
     vault.place("three.wav", three(alloc, 9)?.as_slice())?;
     vault.place("empty.wav", &THREE)?;
+    Ok(vault)
+}
+
+// Asks for the rows on a new project with such a vault, which it answers.
+fn answers(
+    rt: &impl Abort,
+    alloc: Global,
+    failing: &[u64],
+    rows: &[Row],
+) -> Result<MemVault, Fail> {
+    let mut vault = vault(alloc, failing)?;
+    let _store = tells_new(rt, alloc, 3, &[], &mut vault, rows)?;
     Ok(vault)
 }
 
@@ -78,10 +92,7 @@ const IN_AND_OUT: [Row; 3] = [
 
 #[test]
 fn a_sound_comes_in_and_goes_out(rt: HostRuntime) -> Result<(), Fail> {
-    let alloc = rt.alloc();
-    let mut vault = vault(alloc, Vec::new(alloc))?;
-    let mut studio = new_studio(alloc, disk(alloc, &[])?, 3)?;
-    tells(&rt, alloc, &mut studio, &mut vault, &IN_AND_OUT)?;
+    let mut vault = answers(&rt, rt.alloc(), &[], &IN_AND_OUT)?;
     let mut found = [0; 64];
     let count = vault.read_at("b.wav", 0, &mut found)?;
     assert!(rt; found.get(..count) == Some(TWO.as_slice()));
@@ -100,10 +111,8 @@ const CHANNELS: [Row; 7] = [
 
 #[test]
 fn three_channels_are_three_tracks(rt: HostRuntime) -> Result<(), Fail> {
-    let alloc = rt.alloc();
-    let mut studio = new_studio(alloc, disk(alloc, &[])?, 3)?;
-    let mut vault = vault(alloc, Vec::new(alloc))?;
-    tells(&rt, alloc, &mut studio, &mut vault, &CHANNELS)
+    let _vault = answers(&rt, rt.alloc(), &[], &CHANNELS)?;
+    Ok(())
 }
 
 // The seventh call of the vault fails.
@@ -117,10 +126,8 @@ const REFUSED: [Row; 5] = [
 
 #[test]
 fn each_import_is_refused(rt: HostRuntime) -> Result<(), Fail> {
-    let alloc = rt.alloc();
-    let mut studio = new_studio(alloc, disk(alloc, &[])?, 3)?;
-    let mut vault = vault(alloc, vec![in alloc; 7]?)?;
-    tells(&rt, alloc, &mut studio, &mut vault, &REFUSED)
+    let _vault = answers(&rt, rt.alloc(), &[7], &REFUSED)?;
+    Ok(())
 }
 
 // So many sounds without frames are a commit each.
@@ -139,15 +146,18 @@ fn imports<S: Store, V: Vault>(
     }
 }
 
-#[test]
-fn no_more_than_64_tracks(rt: HostRuntime) -> Result<(), Fail> {
-    let alloc = rt.alloc();
-    let mut vault = vault(alloc, Vec::new(alloc))?;
+fn imports_63_tracks(rt: &impl Abort, alloc: Global) -> Result<(), Fail> {
+    let mut vault = vault(alloc, &[])?;
     let mut studio = new_studio(alloc, disk(alloc, &[])?, 3)?;
-    imports(&rt, alloc, &mut studio, &mut vault, 21);
+    imports(rt, alloc, &mut studio, &mut vault, 21);
     let told = studio.import(alloc, &mut vault, "empty.wav");
     assert!(rt; told == Err(Refusal::TrackLimit));
     Ok(())
+}
+
+#[test]
+fn no_more_than_64_tracks(rt: HostRuntime) -> Result<(), Fail> {
+    imports_63_tracks(&rt, rt.alloc())
 }
 
 const EXPORTED: [Row; 4] = [
@@ -160,11 +170,8 @@ const EXPORTED: [Row; 4] = [
 // Of the calls of the vault the first starts the sound, the second puts its head there, and the third its frames.
 #[test]
 fn an_export_that_fails_changes_nothing(rt: HostRuntime) -> Result<(), Fail> {
-    let alloc = rt.alloc();
     for call in 1..4u64 {
-        let mut studio = new_studio(alloc, disk(alloc, &[])?, 3)?;
-        let mut vault = vault(alloc, vec![in alloc; call]?)?;
-        tells(&rt, alloc, &mut studio, &mut vault, &EXPORTED)?;
+        let _vault = answers(&rt, rt.alloc(), &[call], &EXPORTED)?;
     }
     Ok(())
 }
@@ -202,7 +209,7 @@ fn number_of(reply: &Reply) -> u64 {
 #[test]
 fn events_are_replied(rt: HostRuntime) -> Result<(), Fail> {
     let alloc = rt.alloc();
-    let mut vault = vault(alloc, Vec::new(alloc))?;
+    let mut vault = vault(alloc, &[])?;
     let mut studio = new_studio(alloc, disk(alloc, &[])?, 3)?;
     let mut replies = Vec::new(alloc);
     let samples = Samples::new(vec![in alloc; 3i16, 4, 5]?);

@@ -8,6 +8,7 @@ use super::scripts::Ask::Line;
 use super::scripts::{Row, tells};
 use block_ledger::Ledger;
 use disk_model::{RamStore, Store};
+use edit_ports::MemVault;
 use editor_core::*;
 use pcm_base::{Numbers, Refusal};
 use project_journal::create;
@@ -82,11 +83,41 @@ pub(crate) fn new_studio<S: Store + Drop>(
     }
 }
 
+// Asks for the rows on a new project with at most this many points, on a disk whose calls of these numbers fail. Each is
+// answered as it stands beside it. It answers the disk.
+pub(crate) fn tells_new(
+    rt: &impl Abort,
+    alloc: Global,
+    depth: u32,
+    failing: &[u64],
+    vault: &mut MemVault,
+    rows: &[Row],
+) -> Result<RamStore, Fail>
+    requires { (1 ≤ depth) × (depth ≤ 4096) }
+{
+    let mut studio = new_studio(alloc, disk(alloc, failing)?, depth)?;
+    tells(rt, alloc, &mut studio, vault, rows)?;
+    Ok(studio.into_store())
+}
+
+// The same with a vault of one sound, where nothing else is asked of the disk.
+pub(crate) fn answers(
+    rt: &impl Abort,
+    alloc: Global,
+    depth: u32,
+    failing: &[u64],
+    rows: &[Row],
+) -> Result<(), Fail>
+    requires { (1 ≤ depth) × (depth ≤ 4096) }
+{
+    let mut vault = vault(alloc)?;
+    let _store = tells_new(rt, alloc, depth, failing, &mut vault, rows)?;
+    Ok(())
+}
+
 #[test]
 fn each_call_is_a_commit(rt: HostRuntime) -> Result<(), Fail> {
-    let alloc = rt.alloc();
-    let mut studio = new_studio(alloc, disk(alloc, &[])?, 3)?;
-    tells(&rt, alloc, &mut studio, &mut vault(alloc)?, &SCRIPT)
+    answers(&rt, rt.alloc(), 3, &[], &SCRIPT)
 }
 
 // What a studio answers whose first change fails.
@@ -101,10 +132,8 @@ const CHANGES: [u64; 4] = [10, 11, 12, 13];
 
 #[test]
 fn a_change_that_fails_stops_the_studio(rt: HostRuntime) -> Result<(), Fail> {
-    let alloc = rt.alloc();
     for call in &CHANGES {
-        let mut studio = new_studio(alloc, disk(alloc, &[*call])?, 3)?;
-        tells(&rt, alloc, &mut studio, &mut vault(alloc)?, &STOPPED)?;
+        answers(&rt, rt.alloc(), 3, &[*call], &STOPPED)?;
     }
     Ok(())
 }
@@ -119,11 +148,14 @@ fn adds_tracks<S: Store>(rt: &impl Abort, alloc: Global, studio: &mut Studio<S>,
     }
 }
 
-#[test]
-fn a_project_has_at_most_64_tracks(rt: HostRuntime) -> Result<(), Fail> {
-    let alloc = rt.alloc();
+fn adds_64_tracks(rt: &impl Abort, alloc: Global) -> Result<(), Fail> {
     let mut studio = new_studio(alloc, disk(alloc, &[])?, 3)?;
-    adds_tracks(&rt, alloc, &mut studio, 64);
+    adds_tracks(rt, alloc, &mut studio, 64);
     assert!(rt; studio.track(alloc) == Err(Refusal::TrackLimit));
     Ok(())
+}
+
+#[test]
+fn a_project_has_at_most_64_tracks(rt: HostRuntime) -> Result<(), Fail> {
+    adds_64_tracks(&rt, rt.alloc())
 }
