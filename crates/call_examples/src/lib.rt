@@ -7,6 +7,8 @@ mod calls;
 #[cfg(test)]
 mod gates;
 #[cfg(test)]
+mod memory_tests;
+#[cfg(test)]
 mod overlap_tests;
 #[cfg(test)]
 mod recording_stop_tests;
