@@ -11,7 +11,7 @@ use Rattle.pcm_base.specs.Run.{Heard, name_in, name_in_line}
 use Rattle.disk_model.specs.Frames.{Kept}
 use Rattle.disk_model.specs.declared.store.Store.{Ghosts}
 use Rattle.disk_model.proofs.Frames.{Fewer, changed_kept, changed_none}
-use Rattle.editor_core.specs.Applied.{Lasts, TookOver, move_of}
+use Rattle.editor_core.specs.Applied.{Lasts, TookOver, move_of, Span, sound_moved}
 use Rattle.editor_core.specs.Core.{Core}
 use Rattle.editor_core.specs.Exports.{moved_from}
 use Rattle.editor_core.specs.Imports.{VaultCounted}
@@ -22,6 +22,11 @@ use Rattle.editor_core.proofs.Leaving.{IsPlain, left_plain}
 use Rattle.editor_core.proofs.Looking.{looked_studio}
 use Rattle.editor_core.proofs.Others.{others_none}
 use Rattle.editor_core.proofs.Staying.{stopped_not}
+
+-- a span by its parts
+abbrev pub spanned : {D : Type 0} → Bool → Core D → Core D → Sounds → Sounds → Span D
+spanned tells old new old_sounds new_sounds =
+    record { old = old; new = new; tells = tells; old_sounds = old_sounds; new_sounds = new_sounds }
 
 module _ {D : Type 0} (disk : Ghosts D) (s : Core D) where
   -- a step lasts
@@ -69,7 +74,8 @@ module _ {D : Type 0} (disk : Ghosts D) (s : Core D) where
   -- a call that names no sound
   pub over_silent : (tells : Bool) (sounds : Sounds) (call : Call) (told : Result Reply Refusal) (removed : ℕ)
       (new : Core D) → name_in call ≡ None
-      → Took disk s call silent told removed new → TookOver disk tells sounds sounds s call told new
+      → Took disk s call silent told removed new
+      → TookOver disk (spanned tells s new sounds sounds) call told
   over_silent tells sounds call told removed new none took = record {
     removed = removed;
     took = λ is. subst (λ (o : Option (List ℕ)). Took disk s call (move_of o sounds sounds) told removed new)
@@ -78,23 +84,21 @@ module _ {D : Type 0} (disk : Ghosts D) (s : Core D) where
     lasts = lasts_took call told removed new took;
   }
 
-  -- one that names a sound
-  pub over_sound : (tells : Bool) (before after : Sounds) (call : Call) (name : List ℕ) (told : Result Reply Refusal)
-      (new : Core D) → name_in call ≡ Some name
-      → (IsTrue tells → Took disk s call (moved_from (before name) (after name)) told 0 new)
-      → (IsTrue tells → SameElsewhere name before after) → Lasts disk s call told 0 new
-      → TookOver disk tells before after s call told new
-  over_sound tells before after call name told new named took others lasts = record {
-    removed = 0;
-    took = λ is. subst (λ (o : Option (List ℕ)). Took disk s call (move_of o before after) told 0 new) (sym named)
-        (took (is (ap is_some named)));
-    heard = λ is. subst (λ (o : Option (List ℕ)). Heard o (move_of o before after) before after) (sym named) (
-      refl,
-      refl,
-      others (is (ap is_some named)),
-    );
-    lasts = lasts;
-  }
+-- one that names a sound
+pub over_sound : {D : Type 0} (disk : Ghosts D) (span : Span D) (call : Call) (name : List ℕ)
+    (told : Result Reply Refusal) → name_in call ≡ Some name
+    → (IsTrue span.tells
+    → Took disk span.old call (moved_from (span.old_sounds name) (span.new_sounds name)) told 0 span.new)
+    → (IsTrue span.tells → SameElsewhere name span.old_sounds span.new_sounds)
+    → Lasts disk span.old call told 0 span.new → TookOver disk span call told
+over_sound disk span call name told named took others lasts = record {
+  removed = 0;
+  took = λ is. subst (λ (o : Option (List ℕ)). Took disk span.old call (sound_moved span o) told 0 span.new)
+      (sym named) (took (is (ap is_some named)));
+  heard = λ is. subst (λ (o : Option (List ℕ)). Heard o (sound_moved span o) span.old_sounds span.new_sounds)
+      (sym named) (refl, refl, others (is (ap is_some named)));
+  lasts = lasts;
+}
 
 -- a reply tells of the vault's count what the answer told
 pub counted_told : {A : Type 0} (f : A → Reply) (answer : Result A Refusal) (old new : ℕ) → VaultCounted answer old new

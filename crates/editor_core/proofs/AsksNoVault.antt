@@ -1,16 +1,14 @@
 -- No vault refuses an edit that makes blocks.
-use Rattle.std.proofs.Common.{⊎_elim, sym, subst, ℕ, nat_lt, ◌+◌, ◌^◌, Bool, true, false, Option, Some, None, List}
+use Rattle.std.proofs.Common.{⊎_elim, sym, subst, ℕ, nat_lt, ◌+◌, ◌^◌, Bool, true, false, Option, Some, None}
 use Rattle.std.proofs.Common.{length, Err}
 use Rattle.pcm_base.specs.declared.refusal.Refusal.{Refusal}
 use Rattle.pcm_base.specs.declared.refusal.Refusal.TheVariants as refusal
 use Rattle.pcm_base.specs.Counters.{no_room}
 use Rattle.pcm_base.specs.Refusals.{◌otherwise◌, refused_if}
 use Rattle.disk_model.specs.declared.store.Store.{Ghosts}
-use Rattle.edit_ops.specs.declared.types.NewBlock.{NewBlock}
-use Rattle.piece_store.specs.declared.given.Given as brings
 use Rattle.editor_core.specs.Adding.{Exceeds}
 use Rattle.editor_core.specs.Core.{Core}
-use Rattle.editor_core.specs.Edits.{Carried, NotPrepared}
+use Rattle.editor_core.specs.Edits.{Carried, NotPrepared, BlockCommit}
 use Rattle.editor_core.specs.Imports.{IsNoVault}
 use Rattle.editor_core.specs.Makes.{NotMade}
 
@@ -54,11 +52,10 @@ unprepared_asks s n tracks len why not = ⊎_elim
     (λ over. exceeding_asks s.journal_end len why over.3))
     not
 
-pub carried_asks : {D : Type 0} (disk : Ghosts D) (s new : Core D) (given : brings.Given) (makes : List NewBlock)
-    (tracks : ℕ) (body : List ℕ) (why : Refusal)
-    → Carried disk s given makes tracks body (Err why) new → IsNoVault why
-carried_asks disk s new given makes tracks body why carried = ⊎_elim
-    (λ not. unprepared_asks s (length makes) tracks (length body) why not.1)
+pub carried_asks : {D : Type 0} (disk : Ghosts D) (s new : Core D) (c : BlockCommit) (why : Refusal)
+    → Carried disk s c (Err why) new → IsNoVault why
+carried_asks disk s new c why carried = ⊎_elim
+    (λ not. unprepared_asks s (length c.makes) c.tracks (length c.body) why not.1)
     (⊎_elim
     (λ some. not_made_asks disk some.1.mid new why some.1.by)
     (λ last. subst IsNoVault (sym last.0) tt))

@@ -18,6 +18,7 @@ use Rattle.envelope_view.specs.Answers.{IsUndamaged}
 use Rattle.project_state.specs.declared.track.Track.{Track}
 use Rattle.project_state.specs.Sound.{AllSoundTracks}
 use Rattle.project_state.specs.Tracks.{AllBelow, AreAbove}
+use Rattle.editor_core.specs.Core.{Core}
 use Rattle.editor_core.specs.Imports.{HasChannels, IsNoVault, NoChannelsPlan, all_of}
 use Rattle.editor_core.specs.Imports.{channels_refusal, parts_from, total_of}
 use Rattle.editor_core.proofs.Leaving.{IsPlain}
@@ -103,11 +104,11 @@ channels_tell tracks counts why is =
     subst TellsBoth is
     (both_tell (refused_if many refusal.TrackLimit) (length_limit counts) (many_tell many) (lengths_tell counts))
 
-pub no_plan_tells_both : (m next : ℕ) (counts : List ℕ) (why : Refusal) → NoChannelsPlan m next counts why
+pub no_plan_tells_both : {D : Type 0} (s : Core D) (counts : List ℕ) (why : Refusal) → NoChannelsPlan s counts why
     → IsUndamaged why × IsNoVault why
-no_plan_tells_both m next counts refusal.NoMemory not = (tt, tt)
-no_plan_tells_both m next counts (refusal.SpaceSpent have need) not = (tt, tt)
-no_plan_tells_both m next counts why not = absurd not
+no_plan_tells_both s counts refusal.NoMemory not = (tt, tt)
+no_plan_tells_both s counts (refusal.SpaceSpent have need) not = (tt, tt)
+no_plan_tells_both s counts why not = absurd not
 
 pub channels_plain : (tracks : ℕ) (counts : List ℕ) (why : Refusal) → channels_refusal tracks counts ≡ Some why
     → IsPlain why
@@ -117,10 +118,11 @@ channels_plain tracks counts why is =
     (either (refused_if many refusal.TrackLimit) (length_limit counts) (one many refusal.TrackLimit tt)
     (lengths counts)) is
 
-pub no_plan_plain : (m next : ℕ) (counts : List ℕ) (why : Refusal) → NoChannelsPlan m next counts why → IsPlain why
-no_plan_plain m next counts refusal.NoMemory not = tt
-no_plan_plain m next counts (refusal.SpaceSpent have need) not = tt
-no_plan_plain m next counts why not = absurd not
+pub no_plan_plain : {D : Type 0} (s : Core D) (counts : List ℕ) (why : Refusal) → NoChannelsPlan s counts why
+    → IsPlain why
+no_plan_plain s counts refusal.NoMemory not = tt
+no_plan_plain s counts (refusal.SpaceSpent have need) not = tt
+no_plan_plain s counts why not = absurd not
 
 -- ---- tracks behind others
 

@@ -35,10 +35,10 @@ use Rattle.project_state.proofs.KeptBounds.{all_append}
 use Rattle.project_state.proofs.MeantHistories.{meant_recorded}
 use Rattle.sound_import.specs.declared.fault.ImportFault.TheVariants.{NoMemory}
 use Rattle.editor_core.specs.declared.carrying.Planned.{Planned}
-use Rattle.editor_core.specs.declared.imports.Growing.{Growing}
+use Rattle.editor_core.specs.declared.growth.Growing.{Growing}
 use Rattle.editor_core.specs.Commits.{IsCommitCall}
 use Rattle.editor_core.specs.Core.{Core}
-use Rattle.editor_core.specs.Edits.{AreAmong, IsEdit, IsPlanned, alone, beside, blocks_with}
+use Rattle.editor_core.specs.Edits.{AreAmong, IsEdit, IsPlanned, alone, beside, blocks_with, tagged}
 use Rattle.editor_core.specs.Imports.{AreGrown, HasChannels, IsChannelsPlan, NoChannelsPlan, all_of}
 use Rattle.editor_core.specs.Imports.{channels_refusal, left_as, parts_from, total_of}
 use Rattle.editor_core.specs.Points.{current_tracks}
@@ -105,7 +105,7 @@ module _ {D : Type 0} (disk : Ghosts D) (s : Core D) (is : IsStudio disk s) (cha
           own_refused disk s is fewer name sound going why (own_is (sources_of (disk.reads s.store)) ∙ test)
 
       pub channels_unplanned : channels_refusal (length old) counts ≡ None → (why : Refusal)
-          → NoChannelsPlan m s.next_block counts why
+          → NoChannelsPlan s counts why
           → Took disk s call (left_as sound) (Err why) 0 s
       channels_unplanned pass refusal.NoMemory spent = import_refused disk s is fewer name sound going NoMemory tt
       channels_unplanned pass (refusal.SpaceSpent have need) spent =
@@ -126,7 +126,7 @@ module _ {D : Type 0} (disk : Ghosts D) (s : Core D) (is : IsStudio disk s) (cha
     few_tracks : length old + length counts ≤ 64
     few_tracks = (channels_pass (length old) counts pass).0
 
-    module _ (g : Growing) (are : AreGrown m s.next_block s.next_track counts old g) where
+    module _ (g : Growing) (are : AreGrown s counts g) where
       abbrev makes : List NewBlock
       makes = g.makes.items
 
@@ -138,6 +138,10 @@ module _ {D : Type 0} (disk : Ghosts D) (s : Core D) (is : IsStudio disk s) (cha
 
       abbrev every : List BlockRef
       every = blocks_with s makes
+
+      -- the plan of the tracks that have grown
+      abbrev plan_then : Planned
+      plan_then = record { point = point; makes = makes; next = g.next; tracks = length counts; clip = None }
 
       point_sound : IsSoundPoint m (s.next_block + n) (s.next_track + length counts) point
       point_sound =
@@ -169,7 +173,7 @@ module _ {D : Type 0} (disk : Ghosts D) (s : Core D) (is : IsStudio disk s) (cha
           (pin_blocks s.pins ++ clip_blocks s.clipboard) was_named)
 
       grown_planned : (given : brings.Given) → brought_count given ≡ total_of counts
-          → IsPlanned s given makes 0 (length counts) point s.clipboard
+          → IsPlanned s (tagged plan_then 0 given)
       grown_planned given all =
           let origin : AllNewFrom [] (brought_count given) makes =
           subst (λ (k : ℕ). AllNewFrom [] k makes) (are.brought ∙ sym all) are.origin in
@@ -236,8 +240,7 @@ module _ {D : Type 0} (disk : Ghosts D) (s : Core D) (is : IsStudio disk s) (cha
           ap (λ (k : ℕ). k / m) (are.brought ∙ total_lists channels),
         )
 
-        grown_edit : IsEdit disk s (Line (command.Import name)) (left_as sound) (length counts) given makes
-            (recorded s.history point 0) s.clipboard
+        grown_edit : IsEdit disk s (Line (command.Import name)) (left_as sound) (tagged plan_then 0 given)
         grown_edit = record {
           most = λ size state. blocks_of_channels size (channels_of sound);
           call = record {
@@ -253,28 +256,24 @@ module _ {D : Type 0} (disk : Ghosts D) (s : Core D) (is : IsStudio disk s) (cha
 
     -- ---- by the plan that the code has
 
-    module _ (p : Planned) (plan : IsChannelsPlan m s.next_block s.next_track counts old p) (given : brings.Given) where
-      pub channels_planned : brought_count given ≡ total_of counts
-          → IsPlanned s given p.makes 0 p.tracks p.point s.clipboard
-      channels_planned all =
-          let g = plan.grown in
-          subst (λ (bs : List NewBlock). IsPlanned s given bs 0 p.tracks p.point s.clipboard) (sym plan.makes_is)
-          (subst (λ (k : ℕ). IsPlanned s given g.makes.items 0 k p.point s.clipboard) (sym plan.tracks_is)
-          (subst (λ (q : List Track). IsPlanned s given g.makes.items 0 (length counts) q s.clipboard)
-          (sym (plan.point_is ∙ plan.are.point))
-          (grown_planned g plan.are given all)))
+    module _ (p : Planned) (plan : IsChannelsPlan s counts p) (keeps : p.clip ≡ None)
+        (given : brings.Given) where
+      same : plan_then plan.grown plan.are ≡ p
+      same = λ i. record {
+        point = sym (plan.point_is ∙ plan.are.point) i;
+        makes = sym plan.makes_is i;
+        next = sym plan.next_is i;
+        tracks = sym plan.tracks_is i;
+        clip = sym keeps i;
+      }
+
+      pub channels_planned : brought_count given ≡ total_of counts → IsPlanned s (tagged p 0 given)
+      channels_planned all = subst (λ (q : Planned). IsPlanned s (tagged q 0 given)) same
+          (grown_planned plan.grown plan.are given all)
 
       pub channels_edit : (name : List ℕ) (sound : Option (List ℕ)) → HasChannels sound s.rate channels
           → brought given ≡ placed (all_of channels)
-          → IsEdit disk s (Line (command.Import name)) (left_as sound) p.tracks given p.makes
-          (recorded s.history p.point 0) s.clipboard
+          → IsEdit disk s (Line (command.Import name)) (left_as sound) (tagged p 0 given)
       channels_edit name sound has bring =
-          let g = plan.grown in
-          let line = Line (command.Import name) in
-          subst (λ (bs : List NewBlock). IsEdit disk s line (left_as sound) p.tracks given bs
-          (recorded s.history p.point 0) s.clipboard) (sym plan.makes_is)
-          (subst (λ (k : ℕ). IsEdit disk s line (left_as sound) k given g.makes.items
-          (recorded s.history p.point 0) s.clipboard) (sym plan.tracks_is)
-          (subst (λ (q : List Track). IsEdit disk s line (left_as sound) (length counts) given g.makes.items
-          (recorded s.history q 0) s.clipboard) (sym (plan.point_is ∙ plan.are.point))
-          (grown_edit g plan.are name sound has given bring)))
+          subst (λ (q : Planned). IsEdit disk s (Line (command.Import name)) (left_as sound) (tagged q 0 given)) same
+          (grown_edit plan.grown plan.are name sound has given bring)

@@ -35,6 +35,7 @@ use Rattle.project_state.specs.Kept.{meant_track, history_blocks}
 use Rattle.project_state.specs.Sound.{AllSoundTracks}
 use Rattle.project_state.specs.Tracks.{track_of}
 use Rattle.project_state.proofs.KeptBounds.{all_append}
+use Rattle.editor_core.specs.declared.copies.RunRange.{RunRange}
 use Rattle.editor_core.specs.Copies.{run_of, Copies, strips_blocks}
 use Rattle.editor_core.specs.Core.{Core}
 use Rattle.editor_core.specs.Occurrences.{HasAll, Moves, times_named}
@@ -89,7 +90,7 @@ module _ {D : Type 0} (disk : Ghosts D) (s : Core D) (is : IsStudio disk s) wher
   pub clip_room : (b : ℕ) → occurrences (s.counts b) < 2 ^ 102
   clip_room b = omega (arith, is.counted b, named_most b (named_blocks s), named_few disk s is)
 
-module _ {D : Type 0} (disk : Ghosts D) (s : Core D) (is : IsStudio disk s) (id n from to : ℕ)
+module _ {D : Type 0} (disk : Ghosts D) (s : Core D) (is : IsStudio disk s) (range : RunRange)
     (fewer : Fewer disk s.store) where
   abbrev src : Sources
   src = sources_of (disk.reads s.store)
@@ -99,6 +100,18 @@ module _ {D : Type 0} (disk : Ghosts D) (s : Core D) (is : IsStudio disk s) (id 
 
   abbrev ts : List Track
   ts = current_tracks s.history
+
+  abbrev id : ℕ
+  id = range.track
+
+  abbrev n : ℕ
+  n = range.count
+
+  abbrev from : ℕ
+  from = range.from
+
+  abbrev to : ℕ
+  to = range.to
 
   abbrev line : Call
   line = Line (command.Copy id n from to)
@@ -147,7 +160,7 @@ module _ {D : Type 0} (disk : Ghosts D) (s : Core D) (is : IsStudio disk s) (id 
         (refused_wanting disk s line copy_quiet is fewer)
 
     -- ---- carried out
-    module _ (v : List (List Item)) (copies : Copies (run_of id ts) n from to (Ok v)) where
+    module _ (v : List (List Item)) (copies : Copies (run_of id ts) range (Ok v)) where
       copies_of : AreCopies from to (take n (map layout_of run)) v
       copies_of = subst (λ (z : List (List Clip)). AreCopies from to (take n z) v) layouts copies.1
 

@@ -25,6 +25,7 @@ use Rattle.project_state.specs.Kept.{meant, meant_track, point_blocks}
 use Rattle.project_state.specs.Sound.{AllSoundTracks}
 use Rattle.project_state.specs.Tracks.{AreAbove, track_of}
 use Rattle.editor_core.specs.Copies.{run_of, strips_blocks}
+use Rattle.editor_core.specs.declared.copies.RunRange.{RunRange}
 use Rattle.editor_core.specs.Core.{Core}
 use Rattle.editor_core.specs.Cuts.{NoCutPlan, cut_refusal}
 use Rattle.editor_core.specs.Edits.{AreAmong}
@@ -116,17 +117,19 @@ narrow_tells have need = by (nat_lt have need)
     by true = tt
     by false = tt
 
-pub no_cut_tells : (id n from to : ℕ) (ts : List Track) (why : Refusal) → NoCutPlan id n from to ts why
+pub no_cut_tells : {D : Type 0} (range : RunRange) (s : Core D) (why : Refusal) → NoCutPlan range s why
     → IsUndamaged why
-no_cut_tells id n from to ts why not =
-    let run = run_of id ts in
-    let lack = lacks id (track_of id ts) in
-    let narrow = too_narrow (length run) n in
-    let range = bad_range from to (longest_of (take n run)) in
+no_cut_tells range s why not =
+    let ts = current_tracks s.history in
+    let run = run_of range.track ts in
+    let long = longest_of (take range.count run) in
+    let lack = lacks range.track (track_of range.track ts) in
+    let narrow = too_narrow (length run) range.count in
+    let bad = bad_range range.from range.to long in
     ⊎_elim
-    (λ own. tests_tell (cut_refusal id n from to ts) why
-    (either_tells lack (narrow otherwise range) (lacks_tells id (track_of id ts))
-    (either_tells narrow range (narrow_tells (length run) n) (range_tells from to (longest_of (take n run))))) own)
+    (λ own. tests_tell (cut_refusal range ts) why
+    (either_tells lack (narrow otherwise bad) (lacks_tells range.track (track_of range.track ts))
+    (either_tells narrow bad (narrow_tells (length run) range.count) (range_tells range.from range.to long))) own)
     (λ memory. subst IsUndamaged (sym memory) tt)
     not
 

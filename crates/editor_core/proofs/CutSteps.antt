@@ -35,12 +35,15 @@ use Rattle.project_state.specs.Kept.{meant, meant_history, point_blocks}
 use Rattle.project_state.specs.KeptSound.{IsSoundPoint}
 use Rattle.project_state.specs.Tracks.{track_of}
 use Rattle.project_state.proofs.MeantHistories.{meant_recorded}
+use Rattle.editor_core.specs.declared.carrying.Planned.{Planned}
 use Rattle.editor_core.specs.declared.cuts.CutEdit.{CutEdit}
 use Rattle.editor_core.specs.declared.cuts.CutEdit.TheVariants.{Close, Leave}
+use Rattle.editor_core.specs.declared.copies.RunRange.{RunRange}
 use Rattle.editor_core.specs.Copies.{Copies, run_of, strips_blocks}
 use Rattle.editor_core.specs.Core.{Core}
 use Rattle.editor_core.specs.Cuts.{IsCutPlan, NoCutPlan, cut_cells, cut_line, cut_refusal}
-use Rattle.editor_core.specs.Edits.{AreAmong, IsEdit, IsEditCall, IsPlanned, alone, blocks_with}
+use Rattle.editor_core.specs.Edits.{AreAmong, IsEdit, IsEditCall, IsPlanned, alone, blocks_with, clip_behind, clip_then}
+use Rattle.editor_core.specs.Edits.{tagged}
 use Rattle.editor_core.specs.Points.{current_tracks, lacks}
 use Rattle.editor_core.specs.Reads.{HasLayout}
 use Rattle.editor_core.specs.Studios.{IsClipboard, IsStudio, clip_cells, named_blocks, studio_by, studio_of}
@@ -62,9 +65,9 @@ use Rattle.editor_core.proofs.CutLaws.{cuts_laid, each_so, run_tests_are, same_e
 
 -- ---- the lines
 
-pub cut_call : (e : CutEdit) (id n from to : ℕ)
-    → IsEditCall (Line (cut_line e id n from to)) silent 0 (λ m st. blocks_of_tracks n)
-cut_call Close id n from to = record {
+pub cut_call : (e : CutEdit) (range : RunRange)
+    → IsEditCall (Line (cut_line e range)) silent 0 (λ m st. blocks_of_tracks range.count)
+cut_call Close range = record {
   commit = record {
     one = refl;
     no_pin = refl;
@@ -79,7 +82,7 @@ cut_call Close id n from to = record {
   needs = λ rate t blocks len h. h;
   needed = λ rate t blocks len h. h;
 }
-cut_call Leave id n from to = record {
+cut_call Leave range = record {
   commit = record {
     one = refl;
     no_pin = refl;
@@ -101,27 +104,41 @@ line_tests id n from to p =
     (refused_if (is_empty (tracks_from id p)) (refusal.NoTrack id)) otherwise (too_narrow (length (tracks_from id p)) n)
     otherwise (bad_range from to (longest (take n (tracks_from id p))))
 
-own_by : (e : CutEdit) (id n from to : ℕ) (out : Outside) (st : State)
-    → call_tests out st (Line (cut_line e id n from to)) ≡ line_tests id n from to (current st)
-own_by Close id n from to out st = refl
-own_by Leave id n from to out st = refl
+own_by : (e : CutEdit) (range : RunRange) (out : Outside) (st : State)
+    → call_tests out st (Line (cut_line e range))
+    ≡ line_tests range.track range.count range.from range.to (current st)
+own_by Close range out st = refl
+own_by Leave range out st = refl
 
-after_by : (e : CutEdit) (id n from to : ℕ) (out : Outside) (st : State) → after out st (Line (cut_line e id n from to))
+after_by : (e : CutEdit) (range : RunRange) (out : Outside) (st : State) → after out st (Line (cut_line e range))
     ≡ record st {
-      history = edited st.history (run_edited id (replicate n (cut_cells e from to)) (current st)) 0;
+      history = edited st.history
+          (run_edited range.track (replicate range.count (cut_cells e range.from range.to)) (current st)) 0;
       commit = st.commit + 1;
-      clipboard = Some (copied id n from to (current st));
+      clipboard = Some (copied range.track range.count range.from range.to (current st));
     }
-after_by Close id n from to out st = refl
-after_by Leave id n from to out st = refl
+after_by Close range out st = refl
+after_by Leave range out st = refl
 
-module _ {D : Type 0} (disk : Ghosts D) (s : Core D) (is : IsStudio disk s) (e : CutEdit) (id n from to : ℕ)
+module _ {D : Type 0} (disk : Ghosts D) (s : Core D) (is : IsStudio disk s) (e : CutEdit) (range : RunRange)
     (fewer : Fewer disk s.store) where
+  abbrev id : ℕ
+  id = range.track
+
+  abbrev n : ℕ
+  n = range.count
+
+  abbrev from : ℕ
+  from = range.from
+
+  abbrev to : ℕ
+  to = range.to
+
   abbrev old : List Track
   old = current_tracks s.history
 
   abbrev line : Call
-  line = Line (cut_line e id n from to)
+  line = Line (cut_line e range)
 
   abbrev t : model.Studio
   t = studio_of disk s
@@ -130,21 +147,21 @@ module _ {D : Type 0} (disk : Ghosts D) (s : Core D) (is : IsStudio disk s) (e :
   old_sound = current_sound disk s is
 
   own_is : (block : ℕ → ℕ → ℤ) → call_tests (outside (studio_by (alone block) disk s) silent)
-      (studio_by (alone block) disk s).state line ≡ cut_refusal id n from to old
+      (studio_by (alone block) disk s).state line ≡ cut_refusal range old
   own_is block =
       let src = alone block in
       let u = studio_by src disk s in
-      own_by e id n from to (outside u silent) u.state
+      own_by e range (outside u silent) u.state
       ∙ ap (line_tests id n from to) (current_is src s.history)
       ∙ run_tests_are src id n from to s.block_size s.next_block s.next_track old old_sound.rising old_sound.sound
       (track_of id old) refl
 
   -- ---- a stopped studio, a test of the edit, or memory
 
-  early_refused : (why : Refusal) → ((stop_of s.stopped) otherwise (cut_refusal id n from to old)) ≡ Some why
+  early_refused : (why : Refusal) → ((stop_of s.stopped) otherwise (cut_refusal range old)) ≡ Some why
       → Took disk s line silent (Err why) 0 s
   early_refused why h =
-      let call = cut_call e id n from to in
+      let call = cut_call e range in
       let own = own_is (samples_on (disk.reads s.store)) in
       let first : ((stop_of s.stopped) otherwise (call_tests (outside t silent) t.state line)) ≡ Some why =
       (λ i. (stop_of s.stopped) otherwise (own i)) ∙ h in
@@ -153,23 +170,28 @@ module _ {D : Type 0} (disk : Ghosts D) (s : Core D) (is : IsStudio disk s) (e :
 
   pub cut_stopped : (faults : ℕ) → s.stopped ≡ Some faults → Took disk s line silent (Err (refusal.Stopped faults)) 0 s
   cut_stopped faults at =
-      early_refused (refusal.Stopped faults) (λ i. (stop_of (at i)) otherwise (cut_refusal id n from to old))
+      early_refused (refusal.Stopped faults) (λ i. (stop_of (at i)) otherwise (cut_refusal range old))
 
-  pub cut_refused : (why : Refusal) → s.stopped ≡ None → NoCutPlan id n from to old why
+  pub cut_refused : (why : Refusal) → s.stopped ≡ None → NoCutPlan range s why
       → Took disk s line silent (Err why) 0 s
   cut_refused why going not = ⊎_elim
-      (λ own. early_refused why ((λ i. (stop_of (going i)) otherwise (cut_refusal id n from to old)) ∙ own))
+      (λ own. early_refused why ((λ i. (stop_of (going i)) otherwise (cut_refusal range old)) ∙ own))
       (λ memory.
       subst (λ (r : Refusal). Took disk s line silent (Err r) 0 s) (sym memory)
       (wants disk s line silent is fewer refl 0
-      (λ held. (0, (cut_call e id n from to).needs t.rate t 0 0 (omega arith, omega arith)))))
+      (λ held. (0, (cut_call e range).needs t.rate t 0 0 (omega arith, omega arith)))))
       not
 
   -- ---- the plan
 
-  module _ (going : s.stopped ≡ None) (new : List Track) (makes : List NewBlock) (after_id : ℕ)
-      (clip : Option (List (List Item)))
-      (p : IsCutPlan e id n from to s.block_size s.next_block old new makes after_id clip) where
+  module _ (going : s.stopped ≡ None) (planned : Planned) (p : IsCutPlan e range s planned)
+      (none : planned.tracks ≡ 0) where
+    abbrev new : List Track
+    new = planned.point
+
+    abbrev makes : List NewBlock
+    makes = planned.makes
+
     abbrev xs : List BlockRef
     xs = point_blocks old
 
@@ -194,7 +216,7 @@ module _ {D : Type 0} (disk : Ghosts D) (s : Core D) (is : IsStudio disk s) (e :
     layouts : run_of id old ≡ map layout_of ran
     layouts = run_is id 1 old found.0 old_sound.rising found.1
 
-    copies : Copies (run_of id old) n from to (Ok v)
+    copies : Copies (run_of id old) range (Ok v)
     copies = (tests, p.copies)
 
     has : HasLayout id old (found.0).layout
@@ -209,23 +231,22 @@ module _ {D : Type 0} (disk : Ghosts D) (s : Core D) (is : IsStudio disk s) (e :
     old_named = old_names disk s is (Contains (named_blocks s)) (among_itself (named_blocks s))
 
     clipboard : IsClipboard s.block_size v
-    clipboard = may_paste disk s is id n from to fewer (found.0).layout has going v copies
+    clipboard = may_paste disk s is range fewer (found.0).layout has going v copies
 
     v_named : AreAmong every (strips_blocks v)
-    v_named = strips_named disk s is id n from to fewer (found.0).layout has going v copies (Contains every)
+    v_named = strips_named disk s is range fewer (found.0).layout has going v copies (Contains every)
         (all_left (Contains every) (named_blocks s) (refs makes) (among_itself every))
 
     v_few : length (strips_blocks v) ≤ 2 ^ 71
     v_few = omega (arith, strips_short v p.items clipboard.short, clipboard.few)
 
-    pub cut_planned : IsPlanned s Nothing makes 0 0 new clip
-    cut_planned =
-        subst (IsPlanned s Nothing makes 0 0 new) (sym p.clip_is)
-        (run_planned disk s is id found.0 found.1 xs old_named (current_may_read disk s is)
-        (each_so n f) p.plans laid new makes after_id p.laid (Some v) v_named v_few clipboard)
+    behind : clip_behind s planned ≡ Some v
+    behind = ap (λ (z : Option (List (List Item))). clip_then z s.clipboard) p.clip_is
 
-    pub cut_next : after_id ≡ s.next_block + length makes
-    cut_next = p.laid.after_is
+    pub cut_planned : IsPlanned s (tagged planned 0 Nothing)
+    cut_planned =
+        run_planned disk s is id found.0 found.1 xs old_named (current_may_read disk s is)
+        (each_so n f) p.plans laid planned p.laid none (Some v) behind v_named v_few clipboard
 
     -- ---- what the line means
 
@@ -234,7 +255,7 @@ module _ {D : Type 0} (disk : Ghosts D) (s : Core D) (is : IsStudio disk s) (e :
         omega (
           arith,
           run_few disk s is id found.0 found.1 xs old_named (current_may_read disk s is) (each_so n f)
-              p.plans laid new makes after_id p.laid,
+              p.plans laid planned p.laid,
           length-replicate {A = CellEdit} n (λ (src : Sources). f),
         )
 
@@ -245,33 +266,33 @@ module _ {D : Type 0} (disk : Ghosts D) (s : Core D) (is : IsStudio disk s) (e :
       abbrev u : model.Studio
       u = studio_by src disk s
 
-      clip_means : Some (copied id n from to (current u.state)) ≡ clip_cells src clip
+      clip_means : Some (copied id n from to (current u.state)) ≡ clip_cells src (clip_behind s planned)
       clip_means =
           ap (λ (q : Project). Some (copied id n from to q)) (current_is src s.history)
           ∙ ap (λ (q : Project). Some (map (λ (x : cells.Track). range_of from to x.cells) (take n q)))
           (run_meant src id old)
           ∙ sym (ap Some (copies_mean src from to n ran v
           (subst (λ (z : List (List Clip)). AreCopies from to (take n z) v) layouts p.copies)))
-          ∙ sym (ap (clip_cells src) p.clip_is)
+          ∙ sym (ap (clip_cells src) behind)
 
       point_means : AreWritten src makes → run_edited id (replicate n f) (current u.state) ≡ meant src new
       point_means written =
           ap (run_edited id (replicate n f)) (current_is src s.history)
           ∙ (λ i. run_edited id (sym (same_edits src n f) i) (meant src old))
           ∙ sym (run_point disk s is id found.0 found.1 xs old_named (current_may_read disk s is)
-          (each_so n f) p.plans laid new makes after_id p.laid block written)
+          (each_so n f) p.plans laid planned p.laid block written)
 
       means : AreWritten src makes → after (outside u silent) u.state line
           ≡ record u.state {
             history = meant_history src (recorded s.history new 0);
-            clipboard = clip_cells src clip;
-            next_track = s.next_track + 0;
+            clipboard = clip_cells src (clip_behind s planned);
+            next_track = s.next_track + planned.tracks;
             commit = s.commit_number + 1;
           }
       means written =
           let point = point_means written in
-          let none : s.next_track ≡ s.next_track + 0 = omega arith in
-          after_by e id n from to (outside u silent) u.state
+          let same : s.next_track ≡ s.next_track + planned.tracks = omega (arith, none) in
+          after_by e range (outside u silent) u.state
           ∙ (λ i. record u.state {
             history = edited u.state.history (point i) 0;
             commit = s.commit_number + 1;
@@ -279,15 +300,15 @@ module _ {D : Type 0} (disk : Ghosts D) (s : Core D) (is : IsStudio disk s) (e :
           })
           ∙ (λ i. record u.state {
             history = sym (meant_recorded src s.history new 0) i;
-            clipboard = clip_cells src clip;
-            next_track = none i;
+            clipboard = clip_cells src (clip_behind s planned);
+            next_track = same i;
             commit = s.commit_number + 1;
           })
 
-    pub cut_edit : IsEdit disk s line silent 0 Nothing makes (recorded s.history new 0) clip
+    pub cut_edit : IsEdit disk s line silent (tagged planned 0 Nothing)
     cut_edit = record {
       most = λ m st. blocks_of_tracks n;
-      call = cut_call e id n from to;
+      call = subst (λ (k : ℕ). IsEditCall line silent k (λ m st. blocks_of_tracks n)) (sym none) (cut_call e range);
       few = λ block. few_made;
       own = λ block. own_is block ∙ p.tests;
       means = means;

@@ -32,7 +32,8 @@ use Rattle.project_state.specs.Sound.{AllSoundTracks}
 use Rattle.project_state.specs.Spelling.{spelling}
 use Rattle.project_state.proofs.KeptBounds.{all_append, tagged_more}
 use Rattle.editor_core.specs.Core.{Core}
-use Rattle.editor_core.specs.Edits.{IsEdit, IsPlanned, alone, beside, blocks_with}
+use Rattle.editor_core.specs.Edits.{IsEdit, IsPlanned, alone, beside, blocks_with, TaggedEdit, clip_behind}
+use Rattle.editor_core.specs.Edits.{history_behind}
 use Rattle.editor_core.specs.Made.{PiecesThere}
 use Rattle.editor_core.specs.Makes.{AreSynced, Making}
 use Rattle.editor_core.specs.Occurrences.{HasAll, HasIds}
@@ -56,9 +57,25 @@ use Rattle.editor_core.proofs.Tracks.{current_is}
 use Rattle.editor_core.proofs.NamedThere.{makes_all, IsCounted, counted_there, there_of}
 
 module _ {D : Type 0} (disk : Ghosts D) (s : Core D) (is : IsStudio disk s) (going : s.stopped ≡ None)
-    (given : brings.Given) (makes : List NewBlock)
-    (tag tracks : ℕ) (point : List Track) (clip : Option (List (List Item)))
-    (plan : IsPlanned s given makes tag tracks point clip) where
+    (e : TaggedEdit) (plan : IsPlanned s e) where
+  abbrev given : brings.Given
+  given = e.given
+
+  abbrev makes : List NewBlock
+  makes = e.plan.makes
+
+  abbrev tag : ℕ
+  tag = e.tag
+
+  abbrev tracks : ℕ
+  tracks = e.plan.tracks
+
+  abbrev point : List Track
+  point = e.plan.point
+
+  abbrev clip : Option (List (List Item))
+  clip = clip_behind s e.plan
+
   abbrev n : ℕ
   n = length makes
 
@@ -72,7 +89,7 @@ module _ {D : Type 0} (disk : Ghosts D) (s : Core D) (is : IsStudio disk s) (goi
   edit_body = Edit tag (s.next_block + n) track_then point
 
   abbrev pub edit_history : History (List Track)
-  edit_history = recorded s.history point tag
+  edit_history = history_behind s e
 
   abbrev len : ℕ
   len = length (spelling edit_body)
@@ -142,7 +159,7 @@ module _ {D : Type 0} (disk : Ghosts D) (s : Core D) (is : IsStudio disk s) (goi
 
   -- ---- what it means
 
-  module _ (c : Call) (sound : SoundMove) (edit : IsEdit disk s c sound tracks given makes edit_history clip) where
+  module _ (c : Call) (sound : SoundMove) (edit : IsEdit disk s c sound e) where
     abbrev t : model.Studio
     t = studio_of disk s
 

@@ -8,7 +8,7 @@ use Rattle.pcm_base.specs.declared.entry.SoundMove.{SoundMove}
 use Rattle.pcm_base.specs.declared.refusal.Refusal.{Refusal}
 use Rattle.pcm_base.specs.declared.refusal.Refusal.TheVariants as refusal
 use Rattle.pcm_base.specs.Counters.{EditNeeds, Needs}
-use Rattle.pcm_base.specs.History.{History, recorded}
+use Rattle.pcm_base.specs.History.{History}
 use Rattle.pcm_base.specs.Refusals.{call_tests}
 use Rattle.pcm_base.specs.Run.{Answers, CarriesOut, followed, outside, refusal_of}
 use Rattle.pcm_base.specs.Studio as model
@@ -25,11 +25,13 @@ use Rattle.project_state.specs.Kept.{history_blocks}
 use Rattle.project_state.specs.Spelling.{spelling}
 use Rattle.editor_core.specs.Adding.{Adds, stopped_by}
 use Rattle.editor_core.specs.Core.{Core}
-use Rattle.editor_core.specs.Edits.{Carried, Committed, IsEdit, IsPlanned, IsPrepared}
+use Rattle.editor_core.specs.Edits.{Carried, Committed, IsEdit, IsPlanned, IsPrepared, TaggedEdit, clip_behind}
+use Rattle.editor_core.specs.Edits.{history_behind}
 use Rattle.editor_core.specs.Left.{Left, MayRemove, Stops}
 use Rattle.editor_core.specs.Makes.{AreSynced, Making}
 use Rattle.editor_core.specs.Studios.{IsHeld, IsStudio, clip_blocks, ids_of, pin_blocks, studio_of}
 use Rattle.editor_core.specs.Took.{Took}
+use Rattle.editor_core.proofs.CarriedOut.{commit_of}
 use Rattle.editor_core.proofs.Committing.{failed, failed_state}
 use Rattle.editor_core.proofs.EditLaws.{edit_needs, edit_own, grown_held, grown_is, grown_made, grown_own, move}
 use Rattle.editor_core.proofs.EditLaws.{pieces_there}
@@ -45,17 +47,33 @@ use Rattle.editor_core.proofs.Staying.{HasMade}
 use Rattle.editor_core.proofs.UnpreparedEdits.{not_prepared}
 
 module _ {D : Type 0} (disk : Ghosts D) (s : Core D) (is : IsStudio disk s) (going : s.stopped ≡ None)
-    (given : brings.Given) (makes : List NewBlock)
-    (tag tracks : ℕ) (point : List Track) (clip : Option (List (List Item)))
-    (plan : IsPlanned s given makes tag tracks point clip)
+    (e : TaggedEdit) (plan : IsPlanned s e)
     (c : Call) (sound : SoundMove)
-    (edit : IsEdit disk s c sound tracks given makes (recorded s.history point tag) clip)
+    (edit : IsEdit disk s c sound e)
     (fewer : (store : D) → Fewer disk store) where
+  abbrev given : brings.Given
+  given = e.given
+
+  abbrev makes : List NewBlock
+  makes = e.plan.makes
+
+  abbrev tag : ℕ
+  tag = e.tag
+
+  abbrev tracks : ℕ
+  tracks = e.plan.tracks
+
+  abbrev point : List Track
+  point = e.plan.point
+
+  abbrev clip : Option (List (List Item))
+  clip = clip_behind s e.plan
+
   abbrev n : ℕ
   n = length makes
 
   abbrev h : History (List Track)
-  h = recorded s.history point tag
+  h = history_behind s e
 
   abbrev track_then : ℕ
   track_then = s.next_track + tracks
@@ -70,7 +88,7 @@ module _ {D : Type 0} (disk : Ghosts D) (s : Core D) (is : IsStudio disk s) (goi
   t = studio_of disk s
 
   need : (k : ℕ) → k ≤ n → Needs (outside t sound) t c k (length body)
-  need = edit_needs disk s is going given makes tag tracks point clip plan c sound edit
+  need = edit_needs disk s is going e plan c sound edit
 
   module _ (prepared : IsPrepared s n tracks (length body)) (store : D) (counts : Counts)
       (making : Making disk s given n makes (record s {
@@ -84,26 +102,26 @@ module _ {D : Type 0} (disk : Ghosts D) (s : Core D) (is : IsStudio disk s) (goi
     mid = record s { store = store; counts = counts; next_block = s.next_block + n }
 
     mid_is : IsStudio disk mid
-    mid_is = grown_is disk s is going given makes tag tracks point clip plan c sound edit store counts making
+    mid_is = grown_is disk s is going e plan c sound edit store counts making
         prepared.blocks prepared.ids
 
     mid_made : HasMade (IsHeld disk s) disk mid (refs makes)
-    mid_made = grown_made disk s is going given makes tag tracks point clip plan c sound edit store counts making
+    mid_made = grown_made disk s is going e plan c sound edit store counts making
         prepared.blocks prepared.ids synced
 
     mid_move : IsCommit (IsHeld disk s) disk mid (refs makes) c sound tracks told_body h clip track_then
-    mid_move = move disk s is going given makes tag tracks point clip plan c sound edit store counts making
+    mid_move = move disk s is going e plan c sound edit store counts making
         prepared.blocks prepared.ids
 
     mid_own : call_tests (outside (studio_of disk mid) sound) (studio_of disk mid).state c ≡ None
-    mid_own = grown_own disk s is going given makes tag tracks point clip plan c sound edit store counts making
+    mid_own = grown_own disk s is going e plan c sound edit store counts making
         prepared.blocks prepared.ids
 
     -- the commit that is left, where the disk held the studio before the first block
     mid_tested : IsTested (IsHeld disk s) disk mid (refs makes) c sound tracks told_body h clip track_then
     mid_tested = record {
       is = mid_is;
-      holds = grown_held disk s is going given makes tag tracks point clip plan c sound edit store counts making
+      holds = grown_held disk s is going e plan c sound edit store counts making
           prepared.blocks prepared.ids;
       has_made = mid_made;
       move = mid_move;
@@ -117,7 +135,7 @@ module _ {D : Type 0} (disk : Ghosts D) (s : Core D) (is : IsStudio disk s) (goi
         → studio_of disk mid ≡ record t { next_block = s.next_block + n; read_faults = disk.read_fault_count store }
     mid_state =
         made_state disk s is given makes n mid making going (omega arith) plan.new prepared.blocks
-        (pieces_there disk s is going given makes tag tracks point clip plan)
+        (pieces_there disk s is going e plan)
 
     back : IsHeld disk s → (blocks len : ℕ) → Needs (outside (studio_of disk mid) sound)
         (studio_of disk mid) c blocks len → Needs (outside t sound) t c blocks len
@@ -130,7 +148,7 @@ module _ {D : Type 0} (disk : Ghosts D) (s : Core D) (is : IsStudio disk s) (goi
 
     passes : refusal_of (outside t sound) t c n (length body) ≡ None
     passes =
-        let own = edit_own disk s is going given makes tag tracks point clip plan c sound edit in
+        let own = edit_own disk s is going e plan c sound edit in
         nothing t c sound tracks edit.call.commit n (length body) is.counters.pin_most going own prepared.blocks
         prepared.ids (omega (arith, prepared.number)) prepared.place prepared.short
 
@@ -153,7 +171,7 @@ module _ {D : Type 0} (disk : Ghosts D) (s : Core D) (is : IsStudio disk s) (goi
         → IfErr told_as (Left disk s (MayRemove c s.counts) new) → Took disk s c sound told_as 0 new
     from_start told_as new took next step stops left =
         composed disk s is given makes going plan.new prepared.blocks
-        (pieces_there disk s is going given makes tag tracks point clip plan) c sound mid making
+        (pieces_there disk s is going e plan) c sound mid making
         told_as new took next back (λ held. (length body, carried_out)) step stops left
 
     -- the record was not added
@@ -255,15 +273,15 @@ module _ {D : Type 0} (disk : Ghosts D) (s : Core D) (is : IsStudio disk s) (goi
       → Making disk s given n makes (record s { store = it.store; counts = it.counts; next_block = s.next_block + n })
   made_so it making = subst (λ (z : Core D). Making disk s given n makes z) making.is making
 
-  pub edit_err : (why : Refusal) (new : Core D) → Carried disk s given makes tracks body (Err why) new
+  pub edit_err : (why : Refusal) (new : Core D) → Carried disk s (commit_of s e) (Err why) new
       → Took disk s c sound (Err why) 0 new
   edit_err why new carried = ⊎_elim
-      (λ not. not_prepared disk s is going given makes tag tracks point clip plan c sound edit fewer why new not.0
+      (λ not. not_prepared disk s is going e plan c sound edit fewer why new not.0
       not.1)
       (⊎_elim
       (λ some.
       not_made disk s is given makes going plan.new some.0.blocks
-      (pieces_there disk s is going given makes tag tracks point clip plan) c sound
+      (pieces_there disk s is going e plan) c sound
       (length body) edit.call.commit.changes (edit.call.commit.leaves t) (λ held. need) plan.origin why new some.1)
       (λ last.
       let it = last.1 in
@@ -273,7 +291,7 @@ module _ {D : Type 0} (disk : Ghosts D) (s : Core D) (is : IsStudio disk s) (goi
       (subst (λ (z : Core D). Adds {R = Unit {0}} disk z body (Err refusal.DiskFault) new) it.making.is adds))))
       carried
 
-  pub edit_ok : (done : Unit {0}) (new : Core D) (it : Committed disk s given makes tracks body (Ok done) new)
+  pub edit_ok : (done : Unit {0}) (new : Core D) (it : Committed disk s (commit_of s e) (Ok done) new)
       (h' : History (List Track)) (counts' : Counts) (next_track : ℕ)
       → h' ≡ h → next_track ≡ track_then
       → IsFreshCount (ids_of (history_blocks h ++ (pin_blocks s.pins ++ clip_blocks clip))) counts'

@@ -23,11 +23,12 @@ use Rattle.disk_model.specs.declared.store.Store.{Ghosts}
 use Rattle.disk_model.proofs.Frames.{Fewer}
 use Rattle.disk_model.proofs.Moments.{each_on}
 use Rattle.project_journal.specs.Gate.{EachSince}
-use Rattle.editor_core.specs.Applied.{TookOver, move_of, reply_of}
+use Rattle.editor_core.specs.Applied.{TookOver, move_of, reply_of, Span}
 use Rattle.editor_core.specs.Core.{Core}
 use Rattle.editor_core.specs.Events.{AreEntries, IsOther, KeepsPrefix, NextInFlight, RanOver}
 use Rattle.editor_core.specs.Studios.{IsHeld, IsStudio, studio_of}
 use Rattle.editor_core.specs.Took.{asks, number_behind}
+use Rattle.editor_core.proofs.Applying.{spanned}
 use Rattle.editor_core.proofs.Images.{keeps_now}
 use Rattle.editor_core.proofs.Others.{foreign_more, foreign_none}
 
@@ -137,9 +138,9 @@ prefix_more t es e c h = record {
 
 -- ---- no event
 
-module _ {D : Type 0} (disk : Ghosts D) (tells : Bool) (before : Sounds) (s : Core D) (is : IsStudio disk s)
+module _ {D : Type 0} (disk : Ghosts D) (tells : Bool) (sounds : Sounds) (s : Core D) (is : IsStudio disk s)
     (fewer : Fewer disk s.store) where
-  pub ran_none : RanOver disk tells before before s [] [] s
+  pub ran_none : RanOver disk (spanned tells s s sounds sounds) [] []
   ran_none = record {
     entries = [];
     are = tt;
@@ -165,8 +166,8 @@ module _ {D : Type 0} (disk : Ghosts D) (tells : Bool) (before : Sounds) (s : Co
 
 module _ {D : Type 0} (disk : Ghosts D) (tells : Bool) (before mid after : Sounds) (old s new : Core D)
     (es : List Event) (rs : List Reply)
-    (was : RanOver disk tells before mid old es rs s) (e : Event) (told : Result Reply Refusal)
-    (over : TookOver disk tells mid after s e.call told new) where
+    (was : RanOver disk (spanned tells old s before mid) es rs) (e : Event) (told : Result Reply Refusal)
+    (over : TookOver disk (spanned tells s new mid after) e.call told) where
   abbrev t : model.Studio
   t = studio_of disk old
 
@@ -206,7 +207,7 @@ module _ {D : Type 0} (disk : Ghosts D) (tells : Bool) (before mid after : Sound
   raised (Ok r) = omega arith
   raised (Err why) = omega arith
 
-  pub ran_more : RanOver disk tells before after old (es ++ e ∷ []) (rs ++ reply_of told ∷ []) new
+  pub ran_more : RanOver disk (spanned tells old new before after) (es ++ e ∷ []) (rs ++ reply_of told ∷ [])
   ran_more = record {
     entries = all;
     are = entries_more es rs was.entries e (reply_of told) entry was.are refl refl refl;
@@ -234,11 +235,10 @@ take_item (suc i) (y ∷ ys) x h =
     ap (λ (k : ℕ). take k (y ∷ ys)) next ∙ ap (λ (z : List _). y ∷ z) (take_item i ys x h)
 
 -- the next call's step, where the vault told as at the start
-pub over_at : {D : Type 0} (disk : Ghosts D) (old new : Bool) (before after : Sounds) (s t : Core D) (c : Call)
-    (told : Result Reply Refusal) → new ≡ old
-    → TookOver disk new before after s c told t → TookOver disk old before after s c told t
-over_at disk old new before after s t c told same over =
-    subst (λ (b : Bool). TookOver disk b before after s c told t) same over
+pub over_at : {D : Type 0} (disk : Ghosts D) (tells : Bool) (span : Span D) (c : Call) (told : Result Reply Refusal)
+    → span.tells ≡ tells → TookOver disk span c told → TookOver disk (record span { tells = tells }) c told
+over_at disk tells span c told same over =
+    subst (λ (b : Bool). TookOver disk (record span { tells = b }) c told) same over
 
 -- ---- calls that are no lines
 

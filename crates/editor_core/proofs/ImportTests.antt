@@ -12,8 +12,10 @@ use Rattle.pcm_base.specs.declared.refusal.Refusal.TheVariants as refusal
 use Rattle.pcm_base.specs.Refusals.{◌otherwise◌, length_limit, refused_if}
 use Rattle.project_state.specs.declared.track.Track.{Track}
 use Rattle.project_state.specs.Tracks.{AllBelow}
+use Rattle.editor_core.specs.Points.{current_tracks}
+use Rattle.editor_core.specs.Core.{Core}
 use Rattle.editor_core.specs.declared.carrying.Planned.{Planned}
-use Rattle.editor_core.specs.declared.imports.Growing.{Growing}
+use Rattle.editor_core.specs.declared.growth.Growing.{Growing}
 use Rattle.editor_core.specs.Imports.{AreGrown, IsChannelsPlan, NoChannelsPlan, channels_refusal, total_of}
 use Rattle.editor_core.proofs.Without.{given_below}
 
@@ -84,8 +86,20 @@ below_later id later (x ∷ xs) le a = (omega (arith, a.0, le), below_later id l
 
 -- ---- what grows
 
-module _ (m next id : ℕ) (counts : List ℕ) (old : List Track) (i : ℕ) (g : Growing)
-    (was : AreGrown m next id (take i counts) old g) (pass : length_limit counts ≡ None) where
+module _ {D : Type 0} (s : Core D) (counts : List ℕ) (i : ℕ) (g : Growing) (was : AreGrown s (take i counts) g)
+    (pass : length_limit counts ≡ None) where
+  abbrev m : ℕ
+  m = s.block_size
+
+  abbrev next : ℕ
+  next = s.next_block
+
+  abbrev id : ℕ
+  id = s.next_track
+
+  abbrev old : List Track
+  old = current_tracks s.history
+
   pub brought_few : i < length counts → length counts ≤ 64 → g.brought + slice_index_or counts i 0 ≤ 2 ^ 62
   brought_few less few = omega (
     arith,
@@ -103,7 +117,7 @@ module _ (m next id : ℕ) (counts : List ℕ) (old : List Track) (i : ℕ) (g :
       subst (AllBelow n) (sym was.point)
       (below_append n old was.news (below_later id n old (omega (arith, same)) below) news)
 
-  pub ids_spent : 0 < m → 2 ^ 62 < g.next → NoChannelsPlan m next counts (refusal.SpaceSpent next (g.next - next))
+  pub ids_spent : 0 < m → 2 ^ 62 < g.next → NoChannelsPlan s counts (refusal.SpaceSpent next (g.next - next))
   ids_spent some spent =
       let part : total_of (take i counts) / m ≤ total_of counts / m = le-div (total_of (take i counts) / m)
       (total_of counts) m some (omega (arith, div-mul-le_self (total_of (take i counts)) m, total_part counts i)) in (
@@ -112,13 +126,13 @@ module _ (m next id : ℕ) (counts : List ℕ) (old : List Track) (i : ℕ) (g :
         omega (arith, was.next_is, spent),
       )
 
-pub all_grown : (m next id : ℕ) (counts : List ℕ) (old : List Track) (i : ℕ) (g : Growing) (p : Planned)
-    → AreGrown m next id (take i counts) old g
-    → take i counts ≡ counts → p.point ≡ g.point → p.makes ≡ g.makes.items → p.next ≡ g.next → p.tracks ≡ length counts
-    → IsChannelsPlan m next id counts old p
-all_grown m next id counts old i g p grown all point makes at tracks = record {
+pub all_grown : {D : Type 0} (s : Core D) (counts : List ℕ) (i : ℕ) (g : Growing) (p : Planned)
+    → AreGrown s (take i counts) g → take i counts ≡ counts
+    → p.point ≡ g.point → p.makes ≡ g.makes.items → p.next ≡ g.next → p.tracks ≡ length counts
+    → IsChannelsPlan s counts p
+all_grown s counts i g p grown all point makes at tracks = record {
   grown = g;
-  are = subst (λ (ns : List ℕ). AreGrown m next id ns old g) all grown;
+  are = subst (λ (ns : List ℕ). AreGrown s ns g) all grown;
   point_is = point;
   makes_is = makes;
   next_is = at;

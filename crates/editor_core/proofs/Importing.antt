@@ -22,7 +22,9 @@ use Rattle.project_state.specs.declared.track.Track.{Track}
 use Rattle.project_state.specs.Kept.{meant, meant_track, point_blocks}
 use Rattle.project_state.specs.Sound.{AllSoundTracks, IsSoundTrack}
 use Rattle.project_state.proofs.KeptBounds.{all_append, tagged_more}
-use Rattle.editor_core.specs.declared.imports.Growing.{Growing}
+use Rattle.editor_core.specs.Points.{current_tracks}
+use Rattle.editor_core.specs.Core.{Core}
+use Rattle.editor_core.specs.declared.growth.Growing.{Growing}
 use Rattle.editor_core.specs.Edits.{AreAmong, alone, beside}
 use Rattle.editor_core.specs.Imports.{AddsChannel, AreGrown, all_of, parts_from, total_of, track_with}
 use Rattle.editor_core.specs.Studios.{IsGiven}
@@ -112,15 +114,15 @@ refs_append (x ∷ xs) ys = ap (λ (z : List BlockRef). ref_of x ∷ z) (refs_ap
 
 -- ---- none
 
-pub grown_none : (m next id : ℕ) (old : List Track) (g : Growing) → g.point ≡ old → g.makes.items ≡ [] → g.next ≡ next
-    → g.brought ≡ 0 → AreGrown m next id [] old g
-grown_none m next id old g point makes first brought = record {
+pub grown_none : {D : Type 0} (s : Core D) (g : Growing) → g.point ≡ current_tracks s.history → g.makes.items ≡ []
+    → g.next ≡ s.next_block → g.brought ≡ 0 → AreGrown s [] g
+grown_none s g point makes first brought = record {
   news = [];
-  point = point ∙ sym (append-nil old);
+  point = point ∙ sym (append-nil (current_tracks s.history));
   ids = tt;
   many = refl;
   sound = tt;
-  new = subst (AreNew m next) (sym makes) tt;
+  new = subst (AreNew s.block_size s.next_block) (sym makes) tt;
   origin = subst (λ (bs : List NewBlock). AllNewFrom [] g.brought bs) (sym makes) tt;
   names = tt;
   few = omega (arith, ap length makes);
@@ -135,10 +137,21 @@ div_more : (a b m : ℕ) → 0 < m → a / m + b / m ≤ (a + b) / m
 div_more a b m some = le-div (a / m + b / m) (a + b) m some
     (omega (arith, add-mul (a / m) (b / m) m, div-mul-le_self a m, div-mul-le_self b m))
 
-module _ (m next id : ℕ) (some : 0 < m) (least : 16 ≤ next) (first : 1 ≤ id) (counts : List ℕ) (count : ℕ)
-    (few : length counts < 64)
-    (old : List Track) (g h : Growing) (was : AreGrown m next id counts old g)
-    (a : AddsChannel m (id + length counts) count g h) where
+module _ {D : Type 0} (s : Core D) (some : 0 < s.block_size) (least : 16 ≤ s.next_block) (first : 1 ≤ s.next_track)
+    (counts : List ℕ) (count : ℕ) (few : length counts < 64) (g h : Growing) (was : AreGrown s counts g)
+    (a : AddsChannel s.block_size (s.next_track + length counts) count g h) where
+  abbrev m : ℕ
+  m = s.block_size
+
+  abbrev next : ℕ
+  next = s.next_block
+
+  abbrev id : ℕ
+  id = s.next_track
+
+  abbrev old : List Track
+  old = current_tracks s.history
+
   abbrev t : Track
   t = track_with (id + length counts) a.plan.layout
 
@@ -228,7 +241,7 @@ module _ (m next id : ℕ) (some : 0 < m) (least : 16 ≤ next) (first : 1 ≤ i
       ∙ ap (λ (k : ℕ). channel_tracks id (parts ++ stretch brings k count ∷ [])) (sym same)
       ∙ ap (channel_tracks id) (sym (parts_more brings 0 counts count))
 
-  pub grown_more : AreGrown m next id (counts ++ count ∷ []) old h
+  pub grown_more : AreGrown s (counts ++ count ∷ []) h
   grown_more = record {
     news = was.news ++ t ∷ [];
     point = a.point ∙ ap (λ (z : List Track). z ++ t ∷ []) was.point ∙ append_assoc old was.news (t ∷ []);

@@ -24,12 +24,13 @@ use Rattle.project_state.specs.Spelling.{spelling}
 use Rattle.editor_core.specs.Adding.{Adds, stopped_by}
 use Rattle.editor_core.specs.Applied.{Lasts}
 use Rattle.editor_core.specs.Core.{Core}
-use Rattle.editor_core.specs.Edits.{Carried, Committed, IsPlanned, IsPrepared}
+use Rattle.editor_core.specs.Edits.{Carried, Committed, IsPlanned, IsPrepared, TaggedEdit, clip_behind}
 use Rattle.editor_core.specs.Left.{IsSoOf, Left, LeavesOthers, MayRemove, Stops}
 use Rattle.editor_core.specs.Made.{PiecesThere}
 use Rattle.editor_core.specs.Makes.{Making, Stuck, Unput, Unread, one_call}
 use Rattle.editor_core.specs.Studios.{IsGiven, IsHeld, IsStudio, clip_blocks, ids_of, pin_blocks}
 use Rattle.editor_core.specs.Took.{asks, number_behind}
+use Rattle.editor_core.proofs.CarriedOut.{commit_of}
 use Rattle.editor_core.proofs.Applying.{lasts_idle}
 use Rattle.editor_core.proofs.EditLaws.{clip_covers_then, covers_then, edit_history, pieces_there, points_then}
 use Rattle.editor_core.proofs.Grown.{LeadsOn, led_studio, stopped_studio}
@@ -47,10 +48,26 @@ use Rattle.editor_core.proofs.Staying.{record_within, stopped_not}
 -- ---- the studio behind it
 
 module _ {D : Type 0} (disk : Ghosts D) (s : Core D) (is : IsStudio disk s) (going : s.stopped ≡ None)
-    (given : brings.Given) (makes : List NewBlock)
-    (tag tracks : ℕ) (point : List Track) (clip : Option (List (List Item)))
-    (plan : IsPlanned s given makes tag tracks point clip)
+    (e : TaggedEdit) (plan : IsPlanned s e)
     (c : Call) (one : commits_of c ≡ 1) where
+  abbrev given : brings.Given
+  given = e.given
+
+  abbrev makes : List NewBlock
+  makes = e.plan.makes
+
+  abbrev tag : ℕ
+  tag = e.tag
+
+  abbrev tracks : ℕ
+  tracks = e.plan.tracks
+
+  abbrev point : List Track
+  point = e.plan.point
+
+  abbrev clip : Option (List (List Item))
+  clip = clip_behind s e.plan
+
   abbrev n : ℕ
   n = length makes
 
@@ -61,10 +78,10 @@ module _ {D : Type 0} (disk : Ghosts D) (s : Core D) (is : IsStudio disk s) (goi
   body = spelling (Edit tag (s.next_block + n) track_then point)
 
   abbrev h : History (List Track)
-  h = edit_history disk s is going given makes tag tracks point clip plan
+  h = edit_history disk s is going e plan
 
   there : IsHeld disk s → PiecesThere (disk.reads s.store) makes
-  there = pieces_there disk s is going given makes tag tracks point clip plan
+  there = pieces_there disk s is going e plan
 
   lasts_going : (told : Result Reply Refusal) (new : Core D) → IsStudio disk new
       → new.commit_number ≡ number_behind told c s.commit_number → (len : ℕ)
@@ -146,11 +163,11 @@ module _ {D : Type 0} (disk : Ghosts D) (s : Core D) (is : IsStudio disk s) (goi
       later = omega arith;
       most = prepared.ids;
       number = prepared.number;
-      covers = covers_then disk s is going given makes tag tracks point clip plan;
-      clip_covers = clip_covers_then disk s is going given makes tag tracks point clip plan;
+      covers = covers_then disk s is going e plan;
+      clip_covers = clip_covers_then disk s is going e plan;
       clip_few = plan.clip_few;
       clip_fits = plan.clip_fits;
-      points = points_then disk s is going given makes tag tracks point clip plan;
+      points = points_then disk s is going e plan;
       depth = recorded_depth s.history point tag;
       few = recorded_few s.history point tag;
     }
@@ -220,7 +237,7 @@ module _ {D : Type 0} (disk : Ghosts D) (s : Core D) (is : IsStudio disk s) (goi
   made_so it making = subst (λ (z : Core D). Making disk s given n makes z) making.is making
 
   pub lasts_err : Fewer disk s.store → (why : Refusal) (new : Core D)
-      → Carried disk s given makes tracks body (Err why) new → Lasts disk s c (Err why) 0 new
+      → Carried disk s (commit_of s e) (Err why) new → Lasts disk s c (Err why) 0 new
   lasts_err fewer why new carried = ⊎_elim
       (λ not.
       subst (λ (z : Core D). Lasts disk s c (Err why) 0 z) (sym not.0)
@@ -235,7 +252,7 @@ module _ {D : Type 0} (disk : Ghosts D) (s : Core D) (is : IsStudio disk s) (goi
       (subst (λ (z : Core D). Adds {R = Unit {0}} disk z body (Err refusal.DiskFault) new) it.making.is adds))))
       carried
 
-  pub lasts_ok : (done : Unit {0}) (new : Core D) (it : Committed disk s given makes tracks body (Ok done) new)
+  pub lasts_ok : (done : Unit {0}) (new : Core D) (it : Committed disk s (commit_of s e) (Ok done) new)
       (h' : History (List Track)) (counts' : Counts) (next_track : ℕ)
       → h' ≡ h → next_track ≡ track_then
       → IsFreshCount (ids_of (history_blocks h ++ (pin_blocks s.pins ++ clip_blocks clip))) counts'

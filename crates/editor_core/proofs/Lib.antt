@@ -36,6 +36,7 @@ mod EditSteps
 mod CarriedEdits
 mod CarriedOut
 mod TakenOut
+mod TakenEdits
 mod NoDamage
 mod Undamaged
 mod PlanBlocks

@@ -7,14 +7,12 @@ use Rattle.pcm_base.specs.Counters.{no_room}
 use Rattle.pcm_base.specs.Refusals.{◌otherwise◌, bad_range, refused_if}
 use Rattle.pcm_base.specs.Run.{stop_of}
 use Rattle.disk_model.specs.declared.store.Store.{Ghosts}
-use Rattle.edit_ops.specs.declared.types.NewBlock.{NewBlock}
-use Rattle.piece_store.specs.declared.given.Given.{Given}
 use Rattle.envelope_view.specs.Answers.{IsUndamaged}
 use Rattle.project_state.specs.declared.track.Track.{Track}
 use Rattle.project_state.specs.Tracks.{track_of}
 use Rattle.editor_core.specs.Adding.{Exceeds}
 use Rattle.editor_core.specs.Core.{Core}
-use Rattle.editor_core.specs.Edits.{Carried, NotPrepared}
+use Rattle.editor_core.specs.Edits.{Carried, NotPrepared, BlockCommit}
 use Rattle.editor_core.specs.Made.{PiecesThere}
 use Rattle.editor_core.specs.Points.{lacks}
 use Rattle.editor_core.specs.Studios.{IsHeld, IsStudio}
@@ -88,30 +86,29 @@ no_plan_tells e id old why fine not = ⊎_elim
     (λ memory. subst IsUndamaged (sym memory) tt)
     not
 
-module _ {D : Type 0} (disk : Ghosts D) (s : Core D) (is : IsStudio disk s) (going : s.stopped ≡ None) (given : Given)
-    (makes : List NewBlock)
-    (tracks : ℕ) (body : List ℕ) (why : Refusal) where
+module _ {D : Type 0} (disk : Ghosts D) (s : Core D) (is : IsStudio disk s) (going : s.stopped ≡ None)
+    (c : BlockCommit) (why : Refusal) where
   abbrev n : ℕ
-  n = length makes
+  n = length c.makes
 
-  unprepared : NotPrepared s n tracks (length body) why → IsUndamaged why
+  unprepared : NotPrepared s n c.tracks (length c.body) why → IsUndamaged why
   unprepared not = ⊎_elim
       (λ memory. subst IsUndamaged (sym memory) tt)
       (⊎_elim
       (λ spent.
       let block = no_room s.next_block n in
-      let track = no_room s.next_track tracks in
+      let track = no_room s.next_track c.tracks in
       let number = no_room s.commit_number 1 in
       tests_tell (block otherwise track otherwise number) why
       (either_tells block (track otherwise number) (spent_tells (nat_lt (2 ^ 62) (s.next_block + n)) s.next_block n)
-      (either_tells track number (spent_tells (nat_lt (2 ^ 62) (s.next_track + tracks)) s.next_track tracks)
+      (either_tells track number (spent_tells (nat_lt (2 ^ 62) (s.next_track + c.tracks)) s.next_track c.tracks)
       (spent_tells (nat_lt (2 ^ 62) (s.commit_number + 1)) s.commit_number 1)))
       spent)
-      (λ over. exceeding s.journal_end (length body) why over.3))
+      (λ over. exceeding s.journal_end (length c.body) why over.3))
       not
 
-  pub no_damage : (new : Core D) → IsHeld disk s → PiecesThere (disk.reads s.store) makes
-      → Carried disk s given makes tracks body (Err why) new → IsUndamaged why
+  pub no_damage : (new : Core D) → IsHeld disk s → PiecesThere (disk.reads s.store) c.makes
+      → Carried disk s c (Err why) new → IsUndamaged why
   no_damage new held there carried = ⊎_elim
       (λ not. unprepared not.1)
       (⊎_elim

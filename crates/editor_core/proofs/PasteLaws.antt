@@ -175,9 +175,11 @@ clip_tells f (Some v) run =
     either_tells (too_narrow (length run) (length v)) (length_limit (lengths_of f v run))
     (narrow_tells (length run) (length v)) (limits_tell (lengths_of f v run))
 
-pub no_paste_tells : (e : PasteEdit) (id at : ℕ) (clip : Option (List (List Item))) (ts : List Track) (why : Refusal)
-    → NoPastePlan e id at clip ts why → IsUndamaged why
-no_paste_tells e id at clip ts why not =
+pub no_paste_tells : {D : Type 0} (e : PasteEdit) (id at : ℕ) (s : Core D) (why : Refusal)
+    → NoPastePlan e id at s why → IsUndamaged why
+no_paste_tells e id at s why not =
+    let clip = s.clipboard in
+    let ts = current_tracks s.history in
     let lack = lacks id (track_of id ts) in
     let board = clipboard_tests (paste_length e at) clip (run_of id ts) in
     ⊎_elim

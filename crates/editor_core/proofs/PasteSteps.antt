@@ -37,11 +37,13 @@ use Rattle.project_state.specs.KeptSound.{IsSoundPoint}
 use Rattle.project_state.specs.Tracks.{track_of}
 use Rattle.project_state.proofs.KeptBounds.{all_append}
 use Rattle.project_state.proofs.MeantHistories.{meant_recorded}
+use Rattle.editor_core.specs.declared.carrying.Planned.{Planned}
 use Rattle.editor_core.specs.declared.pastes.PasteEdit.{PasteEdit}
 use Rattle.editor_core.specs.declared.pastes.PasteEdit.TheVariants.{Insert, Cover}
 use Rattle.editor_core.specs.Copies.{run_of, strips_blocks}
 use Rattle.editor_core.specs.Core.{Core}
-use Rattle.editor_core.specs.Edits.{AreAmong, IsEdit, IsEditCall, IsPlanned, alone, blocks_with}
+use Rattle.editor_core.specs.Edits.{AreAmong, IsEdit, IsEditCall, IsPlanned, alone, blocks_with, clip_behind, clip_then}
+use Rattle.editor_core.specs.Edits.{tagged}
 use Rattle.editor_core.specs.Pastes.{IsPastePlan, NoPastePlan, paste_cells, paste_length, paste_line, paste_refusal}
 use Rattle.editor_core.specs.Points.{current_tracks}
 use Rattle.editor_core.specs.Studios.{IsClipboard, IsGiven, IsStudio, MayPaste, clip_blocks, clip_cells, named_blocks}
@@ -153,7 +155,7 @@ module _ {D : Type 0} (disk : Ghosts D) (s : Core D) (is : IsStudio disk s) (e :
   paste_stopped faults fewer at_fault =
       early_refused (refusal.Stopped faults) fewer (λ i. (stop_of (at_fault i)) otherwise refused_by)
 
-  pub paste_refused : (why : Refusal) → Fewer disk s.store → s.stopped ≡ None → NoPastePlan e id at s.clipboard old why
+  pub paste_refused : (why : Refusal) → Fewer disk s.store → s.stopped ≡ None → NoPastePlan e id at s why
       → Took disk s line silent (Err why) 0 s
   paste_refused why fewer going not = ⊎_elim
       (λ own. early_refused why fewer ((λ i. (stop_of (going i)) otherwise refused_by) ∙ own))
@@ -165,8 +167,14 @@ module _ {D : Type 0} (disk : Ghosts D) (s : Core D) (is : IsStudio disk s) (e :
 
   -- ---- the plan
 
-  module _ (new : List Track) (makes : List NewBlock) (after_id : ℕ)
-      (p : IsPastePlan e id at s.block_size s.next_block s.clipboard old new makes after_id) where
+  module _ (planned : Planned) (p : IsPastePlan e id at s planned) (none : planned.tracks ≡ 0)
+      (keeps : planned.clip ≡ None) where
+    abbrev new : List Track
+    new = planned.point
+
+    abbrev makes : List NewBlock
+    makes = planned.makes
+
     abbrev v : List (List Item)
     v = p.strips
 
@@ -225,11 +233,14 @@ module _ {D : Type 0} (disk : Ghosts D) (s : Core D) (is : IsStudio disk s) (e :
         (subst (λ (z : List (List Clip)). ArePastes edit s.block_size s.next_block v (take (length v) z) p.plans)
         layouts p.pastes)
 
-    pub paste_planned : IsPlanned s Nothing makes 0 0 new s.clipboard
+    behind : clip_behind s planned ≡ s.clipboard
+    behind = ap (λ (z : Option (List (List Item))). clip_then z s.clipboard) keeps
+
+    pub paste_planned : IsPlanned s (tagged planned 0 Nothing)
     paste_planned =
         let C : BlockRef → Type 0 = Contains every in
-        run_planned disk s is id found.0 found.1 xs xs_named xs_readable fs p.plans laid new makes after_id p.laid
-        s.clipboard
+        run_planned disk s is id found.0 found.1 xs xs_named xs_readable fs p.plans laid planned p.laid none
+        s.clipboard behind
         (clip_all C (all_left C (named_blocks s) (refs makes) (among_itself every))) is.few_clips is.clipboard
 
     -- ---- what the line means
@@ -247,7 +258,7 @@ module _ {D : Type 0} (disk : Ghosts D) (s : Core D) (is : IsStudio disk s) (e :
       few_made : length makes ≤ blocks_of_tracks (length (clip_of u.state))
       few_made =
           let made =
-          run_few disk s is id found.0 found.1 xs xs_named xs_readable fs p.plans laid new makes after_id p.laid in
+          run_few disk s is id found.0 found.1 xs xs_named xs_readable fs p.plans laid planned p.laid in
           let each : length fs ≡ length v = length-map v (λ (c : List Item). λ (z : Sources). edit (strip_cells z c)) in
           let many : length (clip_of u.state) ≡ length v = ap length lists ∙ length-map v (strip_cells src) in
           omega (arith, made, each, many)
@@ -257,31 +268,33 @@ module _ {D : Type 0} (disk : Ghosts D) (s : Core D) (is : IsStudio disk s) (e :
           let edits : map edit (clip_of u.state) ≡ edits_at src fs =
           ap (map edit) lists ∙ sym (same_edits src edit v) in
           (λ i. run_edited id (edits i) (current_is src s.history i))
-          ∙ sym (run_point disk s is id found.0 found.1 xs xs_named xs_readable fs p.plans laid new makes after_id
-          p.laid block written)
+          ∙ sym (run_point disk s is id found.0 found.1 xs xs_named xs_readable fs p.plans laid planned p.laid block
+          written)
 
       means : AreWritten src makes → after (outside u silent) u.state line
           ≡ record u.state {
             history = meant_history src (recorded s.history new 0);
-            clipboard = clip_cells src s.clipboard;
-            next_track = s.next_track + 0;
+            clipboard = clip_cells src (clip_behind s planned);
+            next_track = s.next_track + planned.tracks;
             commit = s.commit_number + 1;
           }
       means written =
           let point = point_means written in
-          let none : s.next_track ≡ s.next_track + 0 = omega arith in
+          let same : s.next_track ≡ s.next_track + planned.tracks = omega (arith, none) in
           after_by e id at (outside u silent) u.state
           ∙ (λ i. record u.state { history = edited u.state.history (point i) 0; commit = s.commit_number + 1 })
           ∙ (λ i. record u.state {
             history = sym (meant_recorded src s.history new 0) i;
-            next_track = none i;
+            clipboard = clip_cells src (sym behind i);
+            next_track = same i;
             commit = s.commit_number + 1;
           })
 
-    pub paste_edit : IsEdit disk s line silent 0 Nothing makes (recorded s.history new 0) s.clipboard
+    pub paste_edit : IsEdit disk s line silent (tagged planned 0 Nothing)
     paste_edit = record {
       most = λ m st. blocks_of_tracks (length (clip_of st));
-      call = paste_call e id at;
+      call = subst (λ (k : ℕ). IsEditCall line silent k (λ m st. blocks_of_tracks (length (clip_of st)))) (sym none)
+          (paste_call e id at);
       few = few_made;
       own = λ block. own_is block ∙ p.tests;
       means = means;

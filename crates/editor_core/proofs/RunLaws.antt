@@ -16,8 +16,9 @@ use Rattle.project_state.specs.declared.track.Track.{Track}
 use Rattle.project_state.specs.Kept.{meant, point_blocks}
 use Rattle.project_state.specs.KeptSound.{IsSoundPoint}
 use Rattle.project_state.specs.Tracks.{track_of}
+use Rattle.editor_core.specs.declared.carrying.Planned.{Planned}
 use Rattle.editor_core.specs.Core.{Core}
-use Rattle.editor_core.specs.Edits.{AreAmong, IsPlanned, alone, beside, blocks_with}
+use Rattle.editor_core.specs.Edits.{AreAmong, IsPlanned, alone, beside, blocks_with, clip_behind, tagged}
 use Rattle.editor_core.specs.Points.{current_tracks}
 use Rattle.editor_core.specs.RunEdits.{IsRunPlan, laid_from}
 use Rattle.editor_core.specs.Studios.{IsGiven, IsStudio, MayPaste, clip_blocks, named_blocks}
@@ -37,8 +38,7 @@ module _ {D : Type 0} (disk : Ghosts D) (s : Core D) (is : IsStudio disk s) (id 
     (xs : List BlockRef) (named : AreAmong (named_blocks s) xs) (readable : AllNamed xs)
     (fs : List CellEdit) (plans : List Plan)
     (laid : AreLaid fs s.block_size s.next_block xs (from_track id (current_tracks s.history)) plans)
-    (new : List Track) (makes : List NewBlock) (after : ℕ)
-    (run : IsRunPlan id s.next_block (current_tracks s.history) new plans makes after) where
+    (p : Planned) (run : IsRunPlan id s.next_block (current_tracks s.history) plans p) where
   abbrev old : List Track
   old = current_tracks s.history
 
@@ -47,6 +47,9 @@ module _ {D : Type 0} (disk : Ghosts D) (s : Core D) (is : IsStudio disk s) (id 
 
   abbrev m : ℕ
   m = s.block_size
+
+  abbrev makes : List NewBlock
+  makes = p.makes
 
   abbrev n : ℕ
   n = length makes
@@ -97,19 +100,21 @@ module _ {D : Type 0} (disk : Ghosts D) (s : Core D) (is : IsStudio disk s) (id 
       let made = all_right C (named_blocks s) (refs makes) (among_itself every) in
       laid_names C id plans old (all_laid C was made) (old_names disk s is C was)
 
-  pub run_planned : (clip : Option (List (List Item))) → AreAmong every (clip_blocks clip)
-      → length (clip_blocks clip) ≤ 2 ^ 71 → MayPaste m clip
-      → IsPlanned s Nothing makes 0 0 new clip
-  run_planned clip clip_names clip_few clip_fits = record {
+  pub run_planned : p.tracks ≡ 0 → (clip : Option (List (List Item))) → clip_behind s p ≡ clip
+      → AreAmong every (clip_blocks clip) → length (clip_blocks clip) ≤ 2 ^ 71 → MayPaste m clip
+      → IsPlanned s (tagged p 0 Nothing)
+  run_planned none clip behind clip_names clip_few clip_fits = record {
     new = fresh;
     readable = all_readable m s.next_block 0 xs makes readable origin fresh;
     origin = new_from_more xs (named_blocks s) 0 makes named origin;
     tag_given = omega arith;
-    sound = subst (IsSoundPoint m (s.next_block + n) (s.next_track + 0)) (sym run.is) laid_is_sound;
+    sound = subst (λ (k : ℕ). IsSoundPoint m (s.next_block + n) (s.next_track + k) p.point) (sym none)
+        (subst (IsSoundPoint m (s.next_block + n) (s.next_track + 0)) (sym run.is) laid_is_sound);
     names = subst (λ (q : List Track). AreAmong every (point_blocks q)) (sym run.is) laid_are_named;
-    clip_names = clip_names;
-    clip_few = clip_few;
-    clip_fits = clip_fits;
+    clip_names = subst (λ (z : Option (List (List Item))). AreAmong every (clip_blocks z)) (sym behind) clip_names;
+    clip_few =
+        subst (λ (z : Option (List (List Item))). length (clip_blocks z) ≤ 2 ^ 71) (sym behind) clip_few;
+    clip_fits = subst (MayPaste m) (sym behind) clip_fits;
   }
 
   pub run_few : n ≤ 8 * length fs
@@ -117,7 +122,7 @@ module _ {D : Type 0} (disk : Ghosts D) (s : Core D) (is : IsStudio disk s) (id 
       (laid_few fs m s.next_block xs ran plans laid)
 
   pub run_point : (block : ℕ → ℕ → ℤ) → AreWritten (beside block (brought Nothing)) makes
-      → meant (alone block) new ≡ run_edited id (edits_at (alone block) fs) (meant (alone block) old)
+      → meant (alone block) p.point ≡ run_edited id (edits_at (alone block) fs) (meant (alone block) old)
   run_point block written =
       ap (meant (alone block)) run.is
       ∙ laid_means (alone block) fs m s.next_block xs id 1 old track plans old_sound.rising found laid

@@ -1,5 +1,5 @@
 -- What a call that only looks leaves, and why it does not answer.
-use Rattle.std.proofs.Common.{◌≡◌, refl, sym, subst, ℕ, ◌≤◌, List, length, take, Ok, Err}
+use Rattle.std.proofs.Common.{◌≡◌, refl, sym, subst, ℕ, ◌≤◌, List, length, take, Ok, Err, Result}
 use Rattle.pcm_base.specs.declared.answer.Reply.{Reply}
 use Rattle.pcm_base.specs.declared.command.Call.{Call}
 use Rattle.pcm_base.specs.declared.refusal.Refusal.{Refusal}
@@ -12,7 +12,7 @@ use Rattle.block_store.specs.Reasons.{reason_of}
 use Rattle.envelope_view.specs.Answers.{IsUndamaged}
 use Rattle.editor_core.specs.Adding.{IsNoWant}
 use Rattle.editor_core.specs.Core.{Core}
-use Rattle.editor_core.specs.Reads.{Looks, Sees}
+use Rattle.editor_core.specs.Reads.{Looks, Sees, Seen}
 use Rattle.editor_core.specs.Studios.{IsHeld}
 use Rattle.editor_core.specs.Took.{Took, silent}
 
@@ -24,6 +24,10 @@ no_want (fault.Damaged file found) = tt
 pub undamaged : (why : BlockFault) → why ≡ fault.DiskFault → IsUndamaged (reason_of why)
 undamaged why disk = subst (λ (z : BlockFault). IsUndamaged (reason_of z)) (sym disk) tt
 
+-- what a call put into a buffer
+abbrev pub seen : {A : Type 0} → Call → (List A → Reply) → List A → Result ℕ Refusal → Seen A
+seen call reply out count = record { call = call; reply = reply; out = out; count = count }
+
 module _ {D : Type 0} (disk : Ghosts D) (s : Core D) (c : Call) where
   -- nothing was asked of the disk
   pub idle_looks : Fewer disk s.store → (why : Refusal) → IsUndamaged why → Took disk s c silent (Err why) 0 s
@@ -33,7 +37,7 @@ module _ {D : Type 0} (disk : Ghosts D) (s : Core D) (c : Call) where
 
   pub idle_sees : {A : Type 0} (reply : List A → Reply) (out : List A) → Fewer disk s.store → (why : Refusal)
       → IsUndamaged why → IsNoWant why → Took disk s c silent (Err why) 0 s
-      → Sees disk s c reply out (Err why) s
+      → Sees disk s (seen c reply out (Err why)) s
   idle_sees reply out fewer why fine enough took =
       record { looks = idle_looks fewer why fine took; count = tt; memory = enough }
 
@@ -49,13 +53,13 @@ module _ {D : Type 0} (disk : Ghosts D) (s : Core D) (c : Call) where
 
     pub read_sees : {A : Type 0} (reply : List A → Reply) (out : List A) (n : ℕ) → n ≤ length out
         → Took disk s c silent (Ok (reply (take n out))) 0 (record s { store = store })
-        → Sees disk s c reply out (Ok n) (record s { store = store })
+        → Sees disk s (seen c reply out (Ok n)) (record s { store = store })
     read_sees reply out n fits took = record { looks = read_looks (reply (take n out)) took; count = fits; memory = tt }
 
     pub unread_sees : {A : Type 0} (reply : List A → Reply) (out : List A) (why : BlockFault)
         → (IsHeld disk s → why ≡ fault.DiskFault)
         → Took disk s c silent (Err (reason_of why)) 0 (record s { store = store })
-        → Sees disk s c reply out (Err (reason_of why)) (record s { store = store })
+        → Sees disk s (seen c reply out (Err (reason_of why))) (record s { store = store })
     unread_sees reply out why sound took = record {
       looks = unread_looks (reason_of why) (λ held. undamaged why (sound held)) took;
       count = tt;

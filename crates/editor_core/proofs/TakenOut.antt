@@ -2,7 +2,7 @@
 use Rattle.std.proofs.Common.{◌≡◌, ◌↔◌, sym, ap, ◌∙◌, ℕ, ◌+◌, ◌*◌, ◌^◌, ◌≤◌, ◌<◌, IsSome, Option, None, List, [], ◌∷◌}
 use Rattle.std.proofs.Common.{◌++◌, length, length-append, flat_map, arith}
 use Rattle.std.specs.List.{AllByRecursion}
-use Rattle.pcm_base.specs.History.{History, recorded}
+use Rattle.pcm_base.specs.History.{History}
 use Rattle.disk_model.specs.declared.store.Store.{Ghosts}
 use Rattle.block_ledger.specs.Counts.{Counts, IsFreshCount, occurrences}
 use Rattle.clip_track.specs.declared.items.Item.{Item}
@@ -12,7 +12,7 @@ use Rattle.project_state.specs.declared.track.Track.{Track}
 use Rattle.project_state.specs.Kept.{history_blocks, point_blocks}
 use Rattle.project_state.specs.KeptSound.{IsSoundTagged}
 use Rattle.editor_core.specs.Core.{Core}
-use Rattle.editor_core.specs.Edits.{IsPlanned}
+use Rattle.editor_core.specs.Edits.{IsPlanned, TaggedEdit, clip_behind, history_behind}
 use Rattle.editor_core.specs.Makes.{Making}
 use Rattle.editor_core.specs.Occurrences.{HasAll, HasIds, Moves, times_named}
 use Rattle.editor_core.specs.Studios.{IsStudio, clip_blocks, ids_of, named_blocks, pin_blocks}
@@ -44,12 +44,25 @@ points_few (p ∷ ps) h = omega (
   length-append (point_blocks p.0) (flat_map (λ (q : List Track × ℕ). point_blocks q.0) ps),
 )
 
-module _ {D : Type 0} (disk : Ghosts D) (s : Core D) (is : IsStudio disk s) (going : s.stopped ≡ None) (given : Given)
-    (makes : List NewBlock)
-    (tag tracks : ℕ) (point : List Track) (clip : Option (List (List Item)))
-    (plan : IsPlanned s given makes tag tracks point clip) where
+module _ {D : Type 0} (disk : Ghosts D) (s : Core D) (is : IsStudio disk s) (going : s.stopped ≡ None)
+    (e : TaggedEdit) (plan : IsPlanned s e) where
+  abbrev given : Given
+  given = e.given
+
+  abbrev makes : List NewBlock
+  makes = e.plan.makes
+
+  abbrev tracks : ℕ
+  tracks = e.plan.tracks
+
+  abbrev point : List Track
+  point = e.plan.point
+
+  abbrev clip : Option (List (List Item))
+  clip = clip_behind s e.plan
+
   abbrev h : History (List Track)
-  h = recorded s.history point tag
+  h = history_behind s e
 
   history_few : length (history_blocks h) ≤ 2 ^ 50
   history_few =
@@ -59,9 +72,9 @@ module _ {D : Type 0} (disk : Ghosts D) (s : Core D) (is : IsStudio disk s) (goi
       let new = point_few s.block_size (s.next_block + length makes) (s.next_track + tracks) point plan.sound in
       omega (
         arith,
-        points_few h.points (all_recorded s.history point tag Q old new new),
-        recorded_few s.history point tag,
-        recorded_depth s.history point tag,
+        points_few h.points (all_recorded s.history point e.tag Q old new new),
+        recorded_few s.history point e.tag,
+        recorded_depth s.history point e.tag,
         is.format.depth_most,
       )
 
@@ -72,7 +85,7 @@ module _ {D : Type 0} (disk : Ghosts D) (s : Core D) (is : IsStudio disk s) (goi
 
     pub taken_there : s.next_block + length makes ≤ 2 ^ 62 → HasIds then (clip_blocks clip)
     taken_there fits = λ id some.
-        (moves.ids id).1 (clip_there disk s is going given makes tag tracks point clip plan mid making fits id some)
+        (moves.ids id).1 (clip_there disk s is going e plan mid making fits id some)
 
     pub taken_room : (id : ℕ) → occurrences (then id) < 2 ^ 102
     taken_room id =

@@ -28,10 +28,11 @@ use Rattle.project_state.specs.KeptSound.{IsSoundPoint}
 use Rattle.project_state.specs.Sound.{AllSoundTracks}
 use Rattle.project_state.specs.Tracks.{track_of}
 use Rattle.project_state.proofs.MeantHistories.{meant_recorded}
+use Rattle.editor_core.specs.declared.carrying.Planned.{Planned}
 use Rattle.editor_core.specs.Core.{Core}
-use Rattle.editor_core.specs.Edits.{IsEdit, alone}
+use Rattle.editor_core.specs.Edits.{IsEdit, alone, IsEditCall, clip_then, tagged}
 use Rattle.editor_core.specs.Points.{current_tracks, lacks}
-use Rattle.editor_core.specs.Studios.{IsStudio, studio_by, studio_of}
+use Rattle.editor_core.specs.Studios.{IsStudio, studio_by, studio_of, clip_cells}
 use Rattle.editor_core.specs.Took.{Took}
 use Rattle.editor_core.specs.TrackEdits.{IsTrackCall, IsTrackPlan, NoTrackPlan, TrackEdit, track_refusal}
 use Rattle.editor_core.proofs.Currents.{cells_meant}
@@ -117,12 +118,13 @@ module _ {D : Type 0} (disk : Ghosts D) (s : Core D) (is : IsStudio disk s) (c :
 
   -- ---- what the call means
 
-  module _ (new : List Track) (makes : List NewBlock) (after_id : ℕ)
-      (p : IsTrackPlan e (brought_count given) id s.block_size s.next_block old new makes after_id) where
-    pub track_edit : IsEdit disk s c sound 0 given makes (recorded s.history new tag) s.clipboard
+  module _ (planned : Planned) (p : IsTrackPlan e (brought_count given) id s planned) (none : planned.tracks ≡ 0)
+      (keeps : planned.clip ≡ None) where
+    pub track_edit : IsEdit disk s c sound (tagged planned tag given)
     track_edit = record {
       most = λ m st. e.most m (cells_at id (current st));
-      call = line.call;
+      call =
+          subst (λ (k : ℕ). IsEditCall c sound k (λ m st. e.most m (cells_at id (current st)))) (sym none) line.call;
       few = λ block.
           let src = alone block in
           let cells : cells_at id (current (studio_by src disk s).state) ≡ layout_cells src p.track.layout =
@@ -136,15 +138,16 @@ module _ {D : Type 0} (disk : Ghosts D) (s : Core D) (is : IsStudio disk s) (c :
           let u = studio_by src disk s in
           let now_state = u.state in
           let f = e.cells (brought given) in
-          let point : edited_at id f (current now_state) ≡ meant src new =
+          let point : edited_at id f (current now_state) ≡ meant src planned.point =
           ap (edited_at id f) (current_is src s.history) ∙ edited_changed id f (meant src old)
-          ∙ sym (point_means disk s is e given id new makes after_id p block written) in
-          let none : s.next_track ≡ s.next_track + 0 = omega arith in
+          ∙ sym (point_means disk s is e given id planned p block written) in
+          let same : s.next_track ≡ s.next_track + planned.tracks = omega (arith, none) in
           line.after_is (outside u sound) now_state
           ∙ (λ i. record now_state { history = recorded now_state.history (point i) tag; commit = s.commit_number + 1 })
           ∙ (λ i. record now_state {
-            history = sym (meant_recorded src s.history new tag) i;
-            next_track = none i;
+            history = sym (meant_recorded src s.history planned.point tag) i;
+            clipboard = clip_cells src (clip_then (sym keeps i) s.clipboard);
+            next_track = same i;
             commit = s.commit_number + 1;
           });
     }

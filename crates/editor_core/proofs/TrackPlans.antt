@@ -1,6 +1,6 @@
 -- The plan of an edit of one track: what it leaves, and why there is none.
 use Rattle.std.proofs.Common.{◌≡◌, ◌⊎◌, inl, inr, ⊎_elim, refl, sym, ap, ◌∙◌, subst, ℕ, ◌+◌, ◌≤◌, ℤ, Some, None, List}
-use Rattle.std.proofs.Common.{[], ◌∷◌, ◌++◌, length, Contains, arith}
+use Rattle.std.proofs.Common.{[], ◌∷◌, ◌++◌, length, Contains, arith, Option, ◌^◌}
 use Rattle.std.specs.List.{AllByRecursion}
 use Rattle.std.proofs.lemmas.List.{length-map}
 use Rattle.std.proofs.lemmas.List.Elements.{Contains-append_left}
@@ -10,6 +10,7 @@ use Rattle.pcm_base.specs.declared.refusal.Refusal.TheVariants as refusal
 use Rattle.pcm_base.specs.Cells.{cells_of_first, changed_at, with_cells}
 use Rattle.disk_model.specs.declared.store.Store.{Ghosts}
 use Rattle.sample_block.specs.Sources.{IsNamed}
+use Rattle.clip_track.specs.declared.items.Item.{Item}
 use Rattle.clip_track.specs.Clips.{end_of, layout_blocks, layout_cells}
 use Rattle.edit_ops.specs.declared.types.NewBlock.{NewBlock}
 use Rattle.edit_ops.specs.Plans.{AllNewFrom, AreNew, AreOldOrNew, AreWritten}
@@ -20,10 +21,11 @@ use Rattle.project_state.specs.Kept.{history_blocks, meant, meant_track, point_b
 use Rattle.project_state.specs.KeptSound.{IsSoundPoint}
 use Rattle.project_state.specs.Sound.{IsSoundTrack}
 use Rattle.project_state.specs.Tracks.{track_of}
+use Rattle.editor_core.specs.declared.carrying.Planned.{Planned}
 use Rattle.editor_core.specs.Core.{Core}
-use Rattle.editor_core.specs.Edits.{AreAmong, IsPlanned, alone, beside, blocks_with}
+use Rattle.editor_core.specs.Edits.{AreAmong, IsPlanned, alone, beside, blocks_with, clip_then, tagged}
 use Rattle.editor_core.specs.Points.{current_tracks, put_in, put_one}
-use Rattle.editor_core.specs.Studios.{IsGiven, IsStudio, clip_blocks, named_blocks, pin_blocks}
+use Rattle.editor_core.specs.Studios.{IsGiven, IsStudio, clip_blocks, named_blocks, pin_blocks, MayPaste}
 use Rattle.editor_core.specs.TrackEdits.{IsTrackPlan, NoTrackPlan, TrackEdit, track_refusal, with_layout}
 use Rattle.editor_core.proofs.Contained.{among_itself}
 use Rattle.editor_core.proofs.Currents.{current_may_read}
@@ -68,9 +70,10 @@ layout_given block given t =
     all (b ∷ bs) = (refl, all bs)
 
 module _ {D : Type 0} (disk : Ghosts D) (s : Core D) (is : IsStudio disk s) (e : TrackEdit) (given : Given) (id : ℕ)
-    (new : List Track) (makes : List NewBlock)
-    (after_id : ℕ) (p : IsTrackPlan e (brought_count given) id s.block_size s.next_block
-    (current_tracks s.history) new makes after_id) where
+    (planned : Planned) (p : IsTrackPlan e (brought_count given) id s planned) where
+  abbrev makes : List NewBlock
+  makes = planned.makes
+
   abbrev old : List Track
   old = current_tracks s.history
 
@@ -156,27 +159,36 @@ module _ {D : Type 0} (disk : Ghosts D) (s : Core D) (is : IsStudio disk s) (e :
       (point_blocks old) old_named in
       put_all C now old mine rest
 
-  pub track_planned : (tag : ℕ) → tag ≤ s.commit_number → IsPlanned s given makes tag 0 new s.clipboard
-  track_planned tag tag_given = record {
+  clip_named : AreAmong every (clip_blocks s.clipboard)
+  clip_named = all_right (Contains every) (pin_blocks s.pins) (clip_blocks s.clipboard)
+      (all_right (Contains every) (history_blocks s.history) (pin_blocks s.pins ++ clip_blocks s.clipboard)
+      (all_left (Contains every) (named_blocks s) (refs makes) (among_itself every)))
+
+  pub track_planned : planned.tracks ≡ 0 → planned.clip ≡ None → (tag : ℕ) → tag ≤ s.commit_number
+      → IsPlanned s (tagged planned tag given)
+  track_planned none keeps tag tag_given = record {
     new = fresh;
     readable = all_readable s.block_size s.next_block (brought_count given) (layout_blocks was.layout) makes
         (layout_of IsNamed id old was p.found (current_may_read disk s is)) origin fresh;
     origin = new_from_more (layout_blocks was.layout) (named_blocks s) (brought_count given) makes was_named origin;
     tag_given = tag_given;
-    sound = subst (IsSoundPoint s.block_size (s.next_block + n) (s.next_track + 0)) (sym p.is) put_is_sound;
+    sound = subst (λ (k : ℕ). IsSoundPoint s.block_size (s.next_block + n) (s.next_track + k) planned.point) (sym none)
+        (subst (IsSoundPoint s.block_size (s.next_block + n) (s.next_track + 0)) (sym p.is) put_is_sound);
     names = subst (λ (q : List Track). AreAmong every (point_blocks q)) (sym p.is) put_names;
-    clip_names = all_right (Contains every) (pin_blocks s.pins) (clip_blocks s.clipboard)
-        (all_right (Contains every) (history_blocks s.history) (pin_blocks s.pins ++ clip_blocks s.clipboard)
-        (all_left (Contains every) (named_blocks s) (refs makes) (among_itself every)));
-    clip_few = is.few_clips;
-    clip_fits = is.clipboard;
+    clip_names = subst (λ (z : Option (List (List Item))). AreAmong every (clip_blocks (clip_then z s.clipboard)))
+        (sym keeps) clip_named;
+    clip_few = subst (λ (z : Option (List (List Item))). length (clip_blocks (clip_then z s.clipboard)) ≤ 2 ^ 71)
+        (sym keeps) is.few_clips;
+    clip_fits = subst (λ (z : Option (List (List Item))). MayPaste s.block_size (clip_then z s.clipboard))
+        (sym keeps) is.clipboard;
   }
 
-  pub track_next : after_id ≡ s.next_block + n
+  pub track_next : planned.next ≡ s.next_block + n
   track_next = p.after_is ∙ p.is_plan.next_id ∙ ap (λ (bs : List NewBlock). s.next_block + length bs) (sym p.makes_is)
 
   pub point_means : (block : ℕ → ℕ → ℤ) → AreWritten (beside block (brought given)) makes
-      → meant (alone block) new ≡ changed_at id (with_cells (e.cells (brought given))) (meant (alone block) old)
+      → meant (alone block) planned.point
+      ≡ changed_at id (with_cells (e.cells (brought given))) (meant (alone block) old)
   point_means block written =
       let src = alone block in
       let with = beside block (brought given) in

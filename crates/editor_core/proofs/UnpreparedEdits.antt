@@ -1,5 +1,5 @@
 -- An edit that makes blocks, refused before the first of them.
-use Rattle.std.proofs.Common.{◌≡◌, ⊎_elim, sym, subst, ℕ, ◌+◌, ◌≤◌, Option, None, List, length, Err, arith}
+use Rattle.std.proofs.Common.{◌≡◌, ⊎_elim, sym, subst, ℕ, ◌+◌, ◌≤◌, None, List, length, Err, arith}
 use Rattle.pcm_base.specs.declared.command.Call.{Call}
 use Rattle.pcm_base.specs.declared.entry.SoundMove.{SoundMove}
 use Rattle.pcm_base.specs.declared.refusal.Refusal.{Refusal}
@@ -10,15 +10,12 @@ use Rattle.pcm_base.specs.Run.{outside}
 use Rattle.pcm_base.specs.Studio as model
 use Rattle.disk_model.specs.declared.store.Store.{Ghosts}
 use Rattle.disk_model.proofs.Frames.{Fewer}
-use Rattle.clip_track.specs.declared.items.Item.{Item}
-use Rattle.edit_ops.specs.declared.types.NewBlock.{NewBlock}
-use Rattle.piece_store.specs.declared.given.Given as brings
 use Rattle.project_state.specs.declared.body.Body.{Body}
 use Rattle.project_state.specs.declared.body.Body.TheVariants.{Edit}
 use Rattle.project_state.specs.declared.track.Track.{Track}
 use Rattle.project_state.specs.Spelling.{spelling}
 use Rattle.editor_core.specs.Core.{Core}
-use Rattle.editor_core.specs.Edits.{IsEdit, IsPlanned, NotPrepared}
+use Rattle.editor_core.specs.Edits.{IsEdit, IsPlanned, NotPrepared, TaggedEdit}
 use Rattle.editor_core.specs.Studios.{IsStudio, studio_of}
 use Rattle.editor_core.specs.Took.{Took}
 use Rattle.editor_core.proofs.EditLaws.{edit_needs, edit_own}
@@ -26,14 +23,21 @@ use Rattle.editor_core.proofs.Spaces.{counter_spent, exceeded}
 use Rattle.editor_core.proofs.Staying.{refuses, wants}
 
 module _ {D : Type 0} (disk : Ghosts D) (s : Core D) (is : IsStudio disk s) (going : s.stopped ≡ None)
-    (given : brings.Given) (makes : List NewBlock)
-    (tag tracks : ℕ) (point : List Track) (clip : Option (List (List Item)))
-    (plan : IsPlanned s given makes tag tracks point clip)
+    (e : TaggedEdit) (plan : IsPlanned s e)
     (c : Call) (sound : SoundMove)
-    (edit : IsEdit disk s c sound tracks given makes (recorded s.history point tag) clip)
+    (edit : IsEdit disk s c sound e)
     (fewer : (store : D) → Fewer disk store) where
+  abbrev tag : ℕ
+  tag = e.tag
+
+  abbrev tracks : ℕ
+  tracks = e.plan.tracks
+
+  abbrev point : List Track
+  point = e.plan.point
+
   abbrev n : ℕ
-  n = length makes
+  n = length e.plan.makes
 
   abbrev h : History (List Track)
   h = recorded s.history point tag
@@ -51,13 +55,13 @@ module _ {D : Type 0} (disk : Ghosts D) (s : Core D) (is : IsStudio disk s) (goi
   t = studio_of disk s
 
   need : (k : ℕ) → k ≤ n → Needs (outside t sound) t c k (length body)
-  need = edit_needs disk s is going given makes tag tracks point clip plan c sound edit
+  need = edit_needs disk s is going e plan c sound edit
 
   pub not_prepared : (why : Refusal) (new : Core D) → new ≡ s → NotPrepared s n tracks (length body) why
       → Took disk s c sound (Err why) 0 new
   not_prepared why new same not =
       let commit = edit.call.commit in
-      let own = edit_own disk s is going given makes tag tracks point clip plan c sound edit in
+      let own = edit_own disk s is going e plan c sound edit in
       let test =
       refuses disk s c sound why is (fewer s.store) commit.quiet (length body) n (λ held. need n (omega arith)) in
       let memory : Took disk s c sound (Err refusal.NoMemory) 0 s =

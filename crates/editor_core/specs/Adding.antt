@@ -22,11 +22,11 @@ use Rattle.editor_core.specs.Core.{Core}
 
 -- the first that refuses a commit that needs so many track ids: that the studio is stopped, its own tests, or that a
 -- counter has no room
-abbrev pub Tested : Option ℕ → Option Refusal → ℕ → ℕ → ℕ → Result (Unit {0}) Refusal → Type 0
-Tested stopped own next_track tracks number result = MatchResult result
-    (λ _. (stopped ≡ None) × (own ≡ None) × (next_track + tracks ≤ 2 ^ 62) × (number < 2 ^ 62))
-    (λ why. (stop_of stopped) otherwise own otherwise (no_room next_track tracks) otherwise (no_room number 1)
-    ≡ Some why)
+abbrev pub Tested : {D : Type 0} → Core D → Option Refusal → ℕ → Result (Unit {0}) Refusal → Type 0
+Tested s own tracks result = MatchResult result
+    (λ _. (s.stopped ≡ None) × (own ≡ None) × (s.next_track + tracks ≤ 2 ^ 62) × (s.commit_number < 2 ^ 62))
+    (λ why. (stop_of s.stopped) otherwise own otherwise (no_room s.next_track tracks)
+    otherwise (no_room s.commit_number 1) ≡ Some why)
 
 -- a refusal that is not for want of memory
 abbrev pub IsNoWant : Refusal → Type 0

@@ -39,14 +39,28 @@ pub record Lasts {D : Type 0} (disk : Ghosts D) (old : Core D) (call : Call) (to
   pub stops : Stops disk old told new
   pub left : IfErr told (Left disk old (MayRemove call old.counts) new)
 
+-- The span of a call, or of many: the studio before it and after it, whether a vault tells its bytes, and the vault's
+-- sounds before it and after it.
+pub record Span (D : Type 0) : Type 0 where
+  pub old : Core D
+  pub new : Core D
+  pub tells : Bool
+  pub old_sounds : Sounds
+  pub new_sounds : Sounds
+
+-- what becomes of the sound that a call names, in its span
+abbrev pub sound_moved : {D : Type 0} → Span D → Option (List ℕ) → SoundMove
+sound_moved span name = move_of name span.old_sounds span.new_sounds
+
 -- One call, over a vault: where the vault tells its bytes it is a step, of which the vault's move is a part.
-pub record TookOver {D : Type 0} (disk : Ghosts D) (tells : Bool) (before after : Sounds) (old : Core D) (call : Call)
-    (told : Result Reply Refusal) (new : Core D) : Type 0 where
+pub record TookOver {D : Type 0} (disk : Ghosts D) (span : Span D) (call : Call) (told : Result Reply Refusal)
+    : Type 0 where
   -- how many files of blocks went
   pub removed : ℕ
-  pub took : IsTold call tells → Took disk old call (move_of (name_in call) before after) told removed new
-  pub heard : IsTold call tells → Heard (name_in call) (move_of (name_in call) before after) before after
-  pub lasts : Lasts disk old call told removed new
+  pub took : IsTold call span.tells → Took disk span.old call (sound_moved span (name_in call)) told removed span.new
+  pub heard : IsTold call span.tells
+      → Heard (name_in call) (sound_moved span (name_in call)) span.old_sounds span.new_sounds
+  pub lasts : Lasts disk span.old call told removed span.new
 
 -- an answer as what a line is told: the commit number, and the reply or why there is none
 abbrev pub reply_of : Result Reply Refusal → Reply
@@ -62,10 +76,10 @@ EndsAlike (Err why) (Err other) = other ≡ why
 
 -- A line carried out or refused: the answer has the commit number after it and its reply, and the result says whether
 -- it was carried out.
-pub record Applies {D R : Type 0} (disk : Ghosts D) (tells : Bool) (before after : Sounds) (old : Core D) (call : Call)
-    (result : Result R Refusal) (answer : Answer) (new : Core D) : Type 0 where
+pub record Applies {D R : Type 0} (disk : Ghosts D) (span : Span D) (call : Call) (result : Result R Refusal)
+    (answer : Answer) : Type 0 where
   pub told : Result Reply Refusal
-  pub over : TookOver disk tells before after old call told new
-  pub commit : answer.commit ≡ new.commit_number
+  pub over : TookOver disk span call told
+  pub commit : answer.commit ≡ span.new.commit_number
   pub reply : answer.reply ≡ reply_of told
   pub ends : EndsAlike told result

@@ -10,6 +10,7 @@ use Rattle.clip_track.specs.declared.items.Item.{Item}
 use Rattle.clip_track.specs.Items.{strip_blocks}
 use Rattle.edit_ops.specs.Runs.{copy_tests, AreCopies}
 use Rattle.project_state.specs.declared.track.Track.{Track}
+use Rattle.editor_core.specs.declared.copies.RunRange.{RunRange}
 use Rattle.editor_core.specs.Core.{Core}
 use Rattle.editor_core.specs.Points.{current_tracks}
 
@@ -30,14 +31,16 @@ abbrev pub run_of : ℕ → List Track → List (List Clip)
 run_of id ts = flat_map (layouts_at id) ts
 
 -- the strips of a run, or what refuses them
-abbrev pub Copies : List (List Clip) → (n from to : ℕ) → Result (List (List Item)) Refusal → Type 0
-Copies run n from to result = MatchResult result
-    (λ v. (copy_tests run n from to ≡ None) × AreCopies from to (take n run) v)
-    (λ why. (copy_tests run n from to ≡ Some why) ⊎ (why ≡ NoMemory))
+abbrev pub Copies : List (List Clip) → RunRange → Result (List (List Item)) Refusal → Type 0
+Copies run range result = MatchResult result
+    (λ v. (copy_tests run range.count range.from range.to ≡ None)
+    × AreCopies range.from range.to (take range.count run) v)
+    (λ why. (copy_tests run range.count range.from range.to ≡ Some why) ⊎ (why ≡ NoMemory))
 
 -- Whatever the disk tells, the strips of the run are in the clipboard, or nothing has changed.
-abbrev pub AnswersCopy : {D : Type 0} → Core D → (id n from to : ℕ) → Result (Unit {0}) Refusal → Core D → Type 0
-AnswersCopy old id n from to result new = MatchResult result
-    (λ _. (strips : List (List Item)) × AreCopies from to (take n (run_of id (current_tracks old.history))) strips
+abbrev pub AnswersCopy : {D : Type 0} → Core D → RunRange → Result (Unit {0}) Refusal → Core D → Type 0
+AnswersCopy old range result new = MatchResult result
+    (λ _. (strips : List (List Item))
+    × AreCopies range.from range.to (take range.count (run_of range.track (current_tracks old.history))) strips
     × (new ≡ record old { clipboard = Some strips; counts = new.counts }))
     (λ why. new ≡ old)

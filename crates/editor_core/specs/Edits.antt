@@ -9,7 +9,7 @@ use Rattle.pcm_base.specs.declared.entry.SoundMove.{SoundMove}
 use Rattle.pcm_base.specs.declared.refusal.Refusal.{Refusal}
 use Rattle.pcm_base.specs.declared.refusal.Refusal.TheVariants as refusal
 use Rattle.pcm_base.specs.Counters.{EditNeeds, Needs, no_room}
-use Rattle.pcm_base.specs.History.{History}
+use Rattle.pcm_base.specs.History.{History, recorded}
 use Rattle.pcm_base.specs.Outside.{Outside}
 use Rattle.pcm_base.specs.Pieces.{Sources}
 use Rattle.pcm_base.specs.Refusals.{◌otherwise◌, call_tests}
@@ -27,6 +27,7 @@ use Rattle.piece_store.specs.Bringing.{brought, brought_count}
 use Rattle.project_state.specs.declared.track.Track.{Track}
 use Rattle.project_state.specs.Kept.{meant_history, point_blocks}
 use Rattle.project_state.specs.KeptSound.{IsSoundPoint}
+use Rattle.editor_core.specs.declared.carrying.Planned.{Planned}
 use Rattle.editor_core.specs.Adding.{Adds, Exceeds}
 use Rattle.editor_core.specs.Commits.{IsCommitCall}
 use Rattle.editor_core.specs.Core.{Core}
@@ -43,25 +44,38 @@ blocks_with s makes = named_blocks s ++ map ref_of makes
 abbrev pub AreAmong : List BlockRef → List BlockRef → Type 0
 AreAmong every bs = AllByRecursion (Contains every) bs
 
--- A new point for the history, with its tag, what the clipboard becomes, and the blocks that are to be made for both:
--- of blocks that the studio names, and of what the command brings. So many track ids are given.
-pub record IsPlanned {D : Type 0} (s : Core D) (given : Given) (makes : List NewBlock) (tag tracks : ℕ)
-    (point : List Track)
-    (clip : Option (List (List Item))) : Type 0 where
-  pub new : AreNew s.block_size s.next_block makes
-  pub readable : PiecesReadable (brought_count given) makes
-  pub origin : AllNewFrom (named_blocks s) (brought_count given) makes
-  pub tag_given : tag ≤ s.commit_number
-  pub sound : IsSoundPoint s.block_size (s.next_block + length makes) (s.next_track + tracks) point
-  pub names : AreAmong (blocks_with s makes) (point_blocks point)
-  pub clip_names : AreAmong (blocks_with s makes) (clip_blocks clip)
-  pub clip_few : length (clip_blocks clip) ≤ 2 ^ 71
-  pub clip_fits : MayPaste s.block_size clip
+-- an edit: its plan, the tag of its new point, where 0 is none, and what its command brings
+pub record TaggedEdit : Type 0 where
+  pub plan : Planned
+  pub tag : ℕ
+  pub given : Given
+
+abbrev pub tagged : Planned → ℕ → Given → TaggedEdit
+tagged plan tag given = record { plan = plan; tag = tag; given = given }
 
 -- the clipboard behind an edit: what it takes out, or what was there
 abbrev pub clip_then : {A : Type 0} → Option A → Option A → Option A
 clip_then None old = old
 clip_then (Some new) old = Some new
+
+abbrev pub clip_behind : {D : Type 0} → Core D → Planned → Option (List (List Item))
+clip_behind s p = clip_then p.clip s.clipboard
+
+abbrev pub history_behind : {D : Type 0} → Core D → TaggedEdit → History (List Track)
+history_behind s e = recorded s.history e.plan.point e.tag
+
+-- What is planned for a studio: a new point for the history, with its tag, what the clipboard becomes, and the blocks
+-- that are to be made for both, of blocks that the studio names, and of what the command brings.
+pub record IsPlanned {D : Type 0} (s : Core D) (e : TaggedEdit) : Type 0 where
+  pub new : AreNew s.block_size s.next_block e.plan.makes
+  pub readable : PiecesReadable (brought_count e.given) e.plan.makes
+  pub origin : AllNewFrom (named_blocks s) (brought_count e.given) e.plan.makes
+  pub tag_given : e.tag ≤ s.commit_number
+  pub sound : IsSoundPoint s.block_size (s.next_block + length e.plan.makes) (s.next_track + e.plan.tracks) e.plan.point
+  pub names : AreAmong (blocks_with s e.plan.makes) (point_blocks e.plan.point)
+  pub clip_names : AreAmong (blocks_with s e.plan.makes) (clip_blocks (clip_behind s e.plan))
+  pub clip_few : length (clip_blocks (clip_behind s e.plan)) ≤ 2 ^ 71
+  pub clip_fits : MayPaste s.block_size (clip_behind s e.plan)
 
 -- ---- what it means
 
@@ -85,30 +99,31 @@ beside block given = record { block = block; given = given }
 abbrev pub alone : (ℕ → ℕ → ℤ) → Sources
 alone block = beside block (λ _. pos 0)
 
--- The call leads to this history and this clipboard, once its blocks are made, whatever samples the blocks have.
-pub record IsEdit {D : Type 0} (disk : Ghosts D) (s : Core D) (c : Call) (sound : SoundMove) (tracks : ℕ)
-    (given : Given) (makes : List NewBlock)
-    (h : History (List Track)) (clip : Option (List (List Item))) : Type 0 where
+-- The call leads to the history and the clipboard behind the edit, once its blocks are made, whatever samples the
+-- blocks have.
+pub record IsEdit {D : Type 0} (disk : Ghosts D) (s : Core D) (c : Call) (sound : SoundMove) (e : TaggedEdit)
+    : Type 0 where
   pub most : ℕ → State → ℕ
-  pub call : IsEditCall c sound tracks most
-  pub few : (block : ℕ → ℕ → ℤ) → length makes ≤ most s.block_size (studio_by (alone block) disk s).state
+  pub call : IsEditCall c sound e.plan.tracks most
+  pub few : (block : ℕ → ℕ → ℤ) → length e.plan.makes ≤ most s.block_size (studio_by (alone block) disk s).state
   pub own : (block : ℕ → ℕ → ℤ)
       → call_tests (outside (studio_by (alone block) disk s) sound) (studio_by (alone block) disk s).state c ≡ None
-  pub means : (block : ℕ → ℕ → ℤ) → AreWritten (beside block (brought given)) makes
+  pub means : (block : ℕ → ℕ → ℤ) → AreWritten (beside block (brought e.given)) e.plan.makes
       → after (outside (studio_by (alone block) disk s) sound) (studio_by (alone block) disk s).state c
       ≡ record (studio_by (alone block) disk s).state {
-        history = meant_history (alone block) h;
-        clipboard = clip_cells (alone block) clip;
-        next_track = s.next_track + tracks;
+        history = meant_history (alone block) (history_behind s e);
+        clipboard = clip_cells (alone block) (clip_behind s e.plan);
+        next_track = s.next_track + e.plan.tracks;
         commit = s.commit_number + 1;
       }
 
 -- ---- what carrying it out leaves
 
 -- the next block, the next track or the commit number has no room
-abbrev pub Spends : (next count track tracks number : ℕ) → Refusal → Type 0
-Spends next count track tracks number why =
-    (no_room next count) otherwise (no_room track tracks) otherwise (no_room number 1) ≡ Some why
+abbrev pub Spends : {D : Type 0} → Core D → (count tracks : ℕ) → Refusal → Type 0
+Spends s count tracks why =
+    (no_room s.next_block count) otherwise (no_room s.next_track tracks) otherwise (no_room s.commit_number 1)
+    ≡ Some why
 
 -- what is prepared for so many blocks and track ids and a record with a body of this length, so that nothing but the
 -- disk can refuse
@@ -122,7 +137,7 @@ pub record IsPrepared {D : Type 0} (s : Core D) (count tracks len : ℕ) : Type 
 -- a counter has no room, or else the journal has none for the record
 abbrev pub Unprepared : {D : Type 0} → Core D → ℕ → ℕ → ℕ → Refusal → Type 0
 Unprepared s count tracks len why =
-    Spends s.next_block count s.next_track tracks s.commit_number why
+    Spends s count tracks why
     ⊎ ((s.next_block + count ≤ 2 ^ 62) × (s.next_track + tracks ≤ 2 ^ 62) × (s.commit_number < 2 ^ 62)
     × Exceeds s.journal_end len why)
 
@@ -130,22 +145,28 @@ Unprepared s count tracks len why =
 abbrev pub NotPrepared : {D : Type 0} → Core D → ℕ → ℕ → ℕ → Refusal → Type 0
 NotPrepared s count tracks len why = (why ≡ refusal.NoMemory) ⊎ Unprepared s count tracks len why
 
+-- a commit that makes blocks: the blocks, what its command brings for them, how many track ids it gives, and the body
+-- of its record
+pub record BlockCommit : Type 0 where
+  pub makes : List NewBlock
+  pub given : Given
+  pub tracks : ℕ
+  pub body : List ℕ
+
 -- blocks made, in each image from then on, and then a record added
-pub record Committed {D : Type 0} (disk : Ghosts D) (old : Core D) (given : Given) (makes : List NewBlock) (tracks : ℕ)
-    (body : List ℕ)
+pub record Committed {D : Type 0} (disk : Ghosts D) (old : Core D) (c : BlockCommit)
     (result : Result (Unit {0}) Refusal) (new : Core D) : Type 0 where
   pub mid : Core D
-  pub making : Making disk old given (length makes) makes mid
+  pub making : Making disk old c.given (length c.makes) c.makes mid
   pub reads : disk.read_fault_count mid.store ≡ disk.read_fault_count old.store
-  pub synced : AreSynced disk old.next_block (length makes) mid.store
-  pub prepared : IsPrepared old (length makes) tracks (length body)
-  pub adds : Adds disk mid body result new
+  pub synced : AreSynced disk old.next_block (length c.makes) mid.store
+  pub prepared : IsPrepared old (length c.makes) c.tracks (length c.body)
+  pub adds : Adds disk mid c.body result new
 
 -- All of it: want of memory comes before the first block is made, and then the disk alone refuses.
-abbrev pub Carried : {D : Type 0} → Ghosts D → Core D → Given → List NewBlock → ℕ → List ℕ → Result (Unit {0}) Refusal
-    → Core D → Type 0
-Carried disk old given makes tracks body (Ok done) new = Committed disk old given makes tracks body (Ok done) new
-Carried disk old given makes tracks body (Err why) new =
-    ((new ≡ old) × NotPrepared old (length makes) tracks (length body) why)
-    ⊎ ((IsPrepared old (length makes) tracks (length body) × Stuck disk old given makes why new)
-    ⊎ ((why ≡ refusal.DiskFault) × Committed disk old given makes tracks body (Err why) new))
+abbrev pub Carried : {D : Type 0} → Ghosts D → Core D → BlockCommit → Result (Unit {0}) Refusal → Core D → Type 0
+Carried disk old c (Ok done) new = Committed disk old c (Ok done) new
+Carried disk old c (Err why) new =
+    ((new ≡ old) × NotPrepared old (length c.makes) c.tracks (length c.body) why)
+    ⊎ ((IsPrepared old (length c.makes) c.tracks (length c.body) × Stuck disk old c.given c.makes why new)
+    ⊎ ((why ≡ refusal.DiskFault) × Committed disk old c (Err why) new))

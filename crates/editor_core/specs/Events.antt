@@ -1,5 +1,5 @@
 -- A list of events, carried out one after another.
-use Rattle.std.specs.Prelude.{◌≡◌, ◌⊎◌, ℕ, ◌≤◌, Bool, IsTrue, None, List, [], ◌∷◌, ◌++◌}
+use Rattle.std.specs.Prelude.{◌≡◌, ◌⊎◌, ℕ, ◌≤◌, IsTrue, None, List, [], ◌∷◌, ◌++◌}
 use Rattle.std.specs.List.{AllByRecursion}
 use Rattle.pcm_base.specs.declared.answer.Reply.{Reply}
 use Rattle.pcm_base.specs.declared.command.Call.{Call}
@@ -7,14 +7,13 @@ use Rattle.pcm_base.specs.declared.command.Call.TheVariants as call
 use Rattle.pcm_base.specs.declared.entry.Entry.{Entry}
 use Rattle.pcm_base.specs.declared.entry.Event.{Event}
 use Rattle.pcm_base.specs.Form.{IsCallInForm}
-use Rattle.pcm_base.specs.Outside.{Sounds}
 use Rattle.pcm_base.specs.Run.{Follows, Run}
 use Rattle.pcm_base.specs.Studio as model
 use Rattle.disk_model.specs.Disk.{Files}
 use Rattle.disk_model.specs.declared.store.Store.{Ghosts}
 use Rattle.project_journal.specs.Gate.{EachNow, EachSince}
 use Rattle.project_state.specs.Kept.{Keeps}
-use Rattle.editor_core.specs.Core.{Core}
+use Rattle.editor_core.specs.Applied.{Span}
 use Rattle.editor_core.specs.Left.{KeepsForeign}
 use Rattle.editor_core.specs.Studios.{IsHeld, IsStudio, shown, studio_of}
 use Rattle.editor_core.specs.Took.{InFlight}
@@ -58,18 +57,19 @@ pub record KeepsPrefix (t : model.Studio) (entries : List Entry) (files : Files)
 -- Events carried out: with their replies they are a run, whose sounds are the vault's, from entry to entry. At any
 -- moment each image has the project behind some of the first entries, the one in flight counted last; and at the end,
 -- where the studio is not stopped, that behind all of them.
-pub record RanOver {D : Type 0} (disk : Ghosts D) (tells : Bool) (before after : Sounds) (old : Core D)
-    (events : List Event) (replies : List Reply) (new : Core D) : Type 0 where
+pub record RanOver {D : Type 0} (disk : Ghosts D) (span : Span D) (events : List Event) (replies : List Reply)
+    : Type 0 where
   pub entries : List Entry
   pub are : AreEntries events replies entries
-  pub studio : IsStudio disk new
+  pub studio : IsStudio disk span.new
   -- no file changes but the journal and those of blocks
-  pub others : KeepsForeign disk old.store new.store
-  pub number : old.commit_number ≤ new.commit_number
-  pub held : IsTrue tells → IsHeld disk old → IsHeld disk new
-  pub run : IsTrue tells → IsHeld disk old → Run (studio_of disk old) entries (studio_of disk new)
-  pub follows : IsTrue tells → Follows before entries after
-  pub any_moment : IsTrue tells → old.stopped ≡ None → IsHeld disk old
-      → EachSince disk old.store new.store (KeepsPrefix (studio_of disk old) entries)
-  pub now : IsTrue tells → new.stopped ≡ None → IsHeld disk old
-      → EachNow disk new.store (λ c. Keeps c (shown (studio_of disk new)))
+  pub others : KeepsForeign disk span.old.store span.new.store
+  pub number : span.old.commit_number ≤ span.new.commit_number
+  pub held : IsTrue span.tells → IsHeld disk span.old → IsHeld disk span.new
+  pub run : IsTrue span.tells → IsHeld disk span.old
+      → Run (studio_of disk span.old) entries (studio_of disk span.new)
+  pub follows : IsTrue span.tells → Follows span.old_sounds entries span.new_sounds
+  pub any_moment : IsTrue span.tells → span.old.stopped ≡ None → IsHeld disk span.old
+      → EachSince disk span.old.store span.new.store (KeepsPrefix (studio_of disk span.old) entries)
+  pub now : IsTrue span.tells → span.new.stopped ≡ None → IsHeld disk span.old
+      → EachNow disk span.new.store (λ c. Keeps c (shown (studio_of disk span.new)))

@@ -25,8 +25,10 @@ use Rattle.project_state.specs.declared.track.Track.{Track}
 use Rattle.project_state.specs.Kept.{meant, point_blocks}
 use Rattle.project_state.specs.Sound.{AllSoundTracks}
 use Rattle.project_state.specs.Tracks.{AreAbove}
+use Rattle.editor_core.specs.Points.{current_tracks}
+use Rattle.editor_core.specs.Core.{Core}
 use Rattle.editor_core.specs.declared.carrying.Planned.{Planned}
-use Rattle.editor_core.specs.declared.imports.Growing.{Growing}
+use Rattle.editor_core.specs.declared.growth.Growing.{Growing}
 use Rattle.editor_core.specs.Edits.{AreAmong, alone, beside}
 
 -- ---- pieces of one channel, and of all
@@ -81,22 +83,22 @@ abbrev pub parts_from : (ℕ → ℤ) → ℕ → List ℕ → List (List ℤ)
 parts_from given from [] = []
 parts_from given from (n ∷ ns) = stretch given from n ∷ parts_from given (from + n) ns
 
--- Tracks for channels of so many samples each stand behind the old ones, and the blocks that are to be made for them
--- have the ids from one on. The first new track has the id that is given.
-pub record AreGrown (m next id : ℕ) (counts : List ℕ) (old : List Track) (g : Growing) : Type 0 where
+-- Tracks for channels of so many samples each stand behind those of a studio's project, and the blocks that are to be
+-- made for them have the ids from its next one on. The first new track has its next track id.
+pub record AreGrown {D : Type 0} (s : Core D) (counts : List ℕ) (g : Growing) : Type 0 where
   pub news : List Track
-  pub point : g.point ≡ old ++ news
-  pub ids : AreAbove id news
+  pub point : g.point ≡ current_tracks s.history ++ news
+  pub ids : AreAbove s.next_track news
   pub many : length news ≡ length counts
-  pub sound : AllSoundTracks m (next + length g.makes.items) (id + length counts) news
-  pub new : AreNew m next g.makes.items
+  pub sound : AllSoundTracks s.block_size (s.next_block + length g.makes.items) (s.next_track + length counts) news
+  pub new : AreNew s.block_size s.next_block g.makes.items
   pub origin : AllNewFrom [] g.brought g.makes.items
   pub names : AreAmong (map ref_of g.makes.items) (point_blocks news)
-  pub few : length g.makes.items ≤ blocks_of_tracks (length counts) + g.brought / m
-  pub next_is : g.next ≡ next + length g.makes.items
+  pub few : length g.makes.items ≤ blocks_of_tracks (length counts) + g.brought / s.block_size
+  pub next_is : g.next ≡ s.next_block + length g.makes.items
   pub brought : g.brought ≡ total_of counts
   pub means : (block : ℕ → ℕ → ℤ) (given : ℕ → ℤ) → AreWritten (beside block given) g.makes.items
-      → meant (alone block) news ≡ channel_tracks id (parts_from given 0 counts)
+      → meant (alone block) news ≡ channel_tracks s.next_track (parts_from given 0 counts)
 
 -- a track for a channel of so many samples comes behind the others
 pub record AddsChannel (m id count : ℕ) (old new : Growing) : Type 0 where
@@ -107,21 +109,21 @@ pub record AddsChannel (m id count : ℕ) (old new : Growing) : Type 0 where
   pub next : new.next ≡ plan.next
   pub brought : new.brought ≡ old.brought + count
 
--- the plan of a project that has grown by a track for each channel
-pub record IsChannelsPlan (m next id : ℕ) (counts : List ℕ) (old : List Track) (p : Planned) : Type 0 where
+-- the plan of a studio's project that has grown by a track for each channel
+pub record IsChannelsPlan {D : Type 0} (s : Core D) (counts : List ℕ) (p : Planned) : Type 0 where
   pub grown : Growing
-  pub are : AreGrown m next id counts old grown
+  pub are : AreGrown s counts grown
   pub point_is : p.point ≡ grown.point
   pub makes_is : p.makes ≡ grown.makes.items
   pub next_is : p.next ≡ grown.next
   pub tracks_is : p.tracks ≡ length counts
 
 -- why there is none: memory, or that the ids of blocks are spent, of which so many are needed at least
-abbrev pub NoChannelsPlan : (m next : ℕ) → List ℕ → Refusal → Type 0
-NoChannelsPlan m next counts refusal.NoMemory = Unit {0}
-NoChannelsPlan m next counts (refusal.SpaceSpent have need) =
-    (have ≡ next) × (need ≤ blocks_of_tracks (length counts) + total_of counts / m) × (2 ^ 62 < next + need)
-NoChannelsPlan m next counts why = ⊥
+abbrev pub NoChannelsPlan : {D : Type 0} → Core D → List ℕ → Refusal → Type 0
+NoChannelsPlan s counts refusal.NoMemory = Unit {0}
+NoChannelsPlan s counts (refusal.SpaceSpent have need) = (have ≡ s.next_block)
+    × (need ≤ blocks_of_tracks (length counts) + total_of counts / s.block_size) × (2 ^ 62 < s.next_block + need)
+NoChannelsPlan s counts why = ⊥
 
 -- what refuses new tracks of so many samples each in a project of so many tracks
 abbrev pub channels_refusal : ℕ → List ℕ → Option Refusal

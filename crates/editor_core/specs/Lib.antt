@@ -28,3 +28,4 @@ pub mod Exports
 pub mod Applied
 pub mod Events
 pub mod Left
+pub mod Lines

@@ -10,15 +10,16 @@ use Rattle.pcm_base.specs.Edits.{inserted, pasted_over}
 use Rattle.pcm_base.specs.Refusals.{◌otherwise◌, covered_length, inserted_length}
 use Rattle.clip_track.specs.declared.items.Item.{Item}
 use Rattle.clip_track.specs.Items.{AreItems}
-use Rattle.edit_ops.specs.declared.types.NewBlock.{NewBlock}
 use Rattle.edit_ops.specs.declared.types.Plan.{Plan}
 use Rattle.edit_ops.specs.Runs.{ArePastes, clipboard_tests}
 use Rattle.project_state.specs.declared.track.Track.{Track}
 use Rattle.project_state.specs.Tracks.{track_of}
+use Rattle.editor_core.specs.declared.carrying.Planned.{Planned}
 use Rattle.editor_core.specs.declared.pastes.PasteEdit.{PasteEdit}
 use Rattle.editor_core.specs.declared.pastes.PasteEdit.TheVariants.{Insert, Cover}
 use Rattle.editor_core.specs.Copies.{run_of}
-use Rattle.editor_core.specs.Points.{lacks}
+use Rattle.editor_core.specs.Core.{Core}
+use Rattle.editor_core.specs.Points.{current_tracks, lacks}
 use Rattle.editor_core.specs.RunEdits.{IsRunPlan}
 
 -- the line that asks for it
@@ -41,18 +42,18 @@ abbrev pub paste_refusal : PasteEdit → (id at : ℕ) → Option (List (List It
 paste_refusal e id at clip ts =
     (lacks id (track_of id ts)) otherwise (clipboard_tests (paste_length e at) clip (run_of id ts))
 
--- the tracks with the strips put in, the blocks that are to be made for them, and the id after them
-pub record IsPastePlan (e : PasteEdit) (id at m next : ℕ) (clip : Option (List (List Item))) (old new : List Track)
-    (makes : List NewBlock)
-    (after : ℕ) : Type 0 where
-  pub tests : paste_refusal e id at clip old ≡ None
+-- of a studio's project the tracks with the strips of its clipboard put in, and the blocks that are to be made for them
+pub record IsPastePlan {D : Type 0} (e : PasteEdit) (id at : ℕ) (s : Core D) (p : Planned) : Type 0 where
+  pub tests : paste_refusal e id at s.clipboard (current_tracks s.history) ≡ None
   pub strips : List (List Item)
-  pub clip_is : clip ≡ Some strips
+  pub clip_is : s.clipboard ≡ Some strips
   pub items : AllByRecursion AreItems strips
   pub plans : List Plan
-  pub pastes : ArePastes (paste_cells e at) m next strips (take (length strips) (run_of id old)) plans
-  pub laid : IsRunPlan id next old new plans makes after
+  pub pastes : ArePastes (paste_cells e at) s.block_size s.next_block strips
+      (take (length strips) (run_of id (current_tracks s.history))) plans
+  pub laid : IsRunPlan id s.next_block (current_tracks s.history) plans p
 
 -- there are none: an own test refuses it, or there is no memory
-abbrev pub NoPastePlan : PasteEdit → (id at : ℕ) → Option (List (List Item)) → List Track → Refusal → Type 0
-NoPastePlan e id at clip old why = (paste_refusal e id at clip old ≡ Some why) ⊎ (why ≡ refusal.NoMemory)
+abbrev pub NoPastePlan : {D : Type 0} → PasteEdit → (id at : ℕ) → Core D → Refusal → Type 0
+NoPastePlan e id at s why =
+    (paste_refusal e id at s.clipboard (current_tracks s.history) ≡ Some why) ⊎ (why ≡ refusal.NoMemory)

@@ -23,12 +23,19 @@ pub record Looks {D : Type 0} (disk : Ghosts D) (old : Core D) (call : Call) (to
   pub kept : Kept disk old.store new.store
   pub sound : IsHeld disk old → IfErr told IsUndamaged
 
--- The same of a call that takes no memory, and replies by what it put at the front of a buffer.
-pub record Sees {D A : Type 0} (disk : Ghosts D) (old : Core D) (call : Call) (reply : List A → Reply) (out : List A)
-    (result : Result ℕ Refusal) (new : Core D) : Type 0 where
-  pub looks : Looks disk old call (told_by (λ n. reply (take n out)) result) new
-  pub count : IfOk result (λ n. n ≤ length out)
-  pub memory : IfErr result IsNoWant
+-- a call that replies by what it put at the front of a buffer: the reply, the buffer behind the call, and how much of
+-- it is put there
+pub record Seen (A : Type 0) : Type 0 where
+  pub call : Call
+  pub reply : List A → Reply
+  pub out : List A
+  pub count : Result ℕ Refusal
+
+-- The same of such a call, which takes no memory.
+pub record Sees {D A : Type 0} (disk : Ghosts D) (old : Core D) (seen : Seen A) (new : Core D) : Type 0 where
+  pub looks : Looks disk old seen.call (told_by (λ n. seen.reply (take n seen.out)) seen.count) new
+  pub count : IfOk seen.count (λ n. n ≤ length seen.out)
+  pub memory : IfErr seen.count IsNoWant
 
 -- the layout of the track with this id
 pub record HasLayout (id : ℕ) (ts : List Track) (layout : List Clip) : Type 0 where

@@ -5,6 +5,7 @@ use Rattle.clip_track.specs.Clips.{IsLayout}
 use Rattle.edit_ops.specs.declared.types.NewBlock.{NewBlock}
 use Rattle.edit_ops.specs.declared.types.Plan.{Plan}
 use Rattle.project_state.specs.declared.track.Track.{Track}
+use Rattle.editor_core.specs.declared.carrying.Planned.{Planned}
 use Rattle.editor_core.specs.Copies.{run_of}
 use Rattle.editor_core.specs.TrackEdits.{with_layout}
 
@@ -26,18 +27,23 @@ made_by ps = flat_map (λ (p : Plan). p.makes) ps
 abbrev pub AreLayouts : List Plan → Type 0
 AreLayouts ps = AllByRecursion (λ (p : Plan). IsLayout p.layout) ps
 
--- One track is laid out, by the next plan where it is in the run: some plans are left, and their blocks come to others.
-pub record Lays (id : ℕ) (old new : List Plan) (made more : List NewBlock) (t laid : Track) : Type 0 where
-  pub id_is : laid.id ≡ t.id
-  pub track : (ts : List Track) → laid_from id old (t ∷ ts) ≡ laid ∷ laid_from id new ts
-  pub makes : more ++ made_by new ≡ made ++ made_by old
-  pub layouts : AreLayouts new → AreLayouts old
-  pub fits : (ts : List Track) → length old ≤ length (run_of id (t ∷ ts)) → length new ≤ length (run_of id ts)
+-- a run that is being laid out: the plans that are left, and the blocks that are to be made for those before
+pub record Laying : Type 0 where
+  pub plans : List Plan
+  pub makes : List NewBlock
 
--- the tracks with a run laid out by plans, the blocks that are to be made for them, and the id after them
-pub record IsRunPlan (id next : ℕ) (old new : List Track) (plans : List Plan) (makes : List NewBlock)
-    (after : ℕ) : Type 0 where
-  pub is : new ≡ laid_from id plans old
-  pub makes_is : makes ≡ made_by plans
-  pub after_is : after ≡ next + length makes
+-- One track is laid out, by the next plan where it is in the run: some plans are left, and their blocks come to others.
+pub record Lays (id : ℕ) (old new : Laying) (t laid : Track) : Type 0 where
+  pub id_is : laid.id ≡ t.id
+  pub track : (ts : List Track) → laid_from id old.plans (t ∷ ts) ≡ laid ∷ laid_from id new.plans ts
+  pub makes : new.makes ++ made_by new.plans ≡ old.makes ++ made_by old.plans
+  pub layouts : AreLayouts new.plans → AreLayouts old.plans
+  pub fits : (ts : List Track) → length old.plans ≤ length (run_of id (t ∷ ts))
+      → length new.plans ≤ length (run_of id ts)
+
+-- tracks with a run laid out by plans, and the blocks that are to be made for them, whose ids begin with the next one
+pub record IsRunPlan (id next : ℕ) (old : List Track) (plans : List Plan) (p : Planned) : Type 0 where
+  pub is : p.point ≡ laid_from id plans old
+  pub makes_is : p.makes ≡ made_by plans
+  pub after_is : p.next ≡ next + length p.makes
   pub layouts : AreLayouts plans

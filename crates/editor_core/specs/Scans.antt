@@ -11,6 +11,7 @@ use Rattle.disk_model.specs.declared.store.Store.{Ghosts}
 use Rattle.block_store.specs.declared.fault.BlockFault.{BlockFault}
 use Rattle.block_store.specs.declared.fault.BlockFault.TheVariants as fault
 use Rattle.block_store.specs.Reads.{Counted}
+use Rattle.sample_block.specs.declared.damage.Damaged.{Damaged}
 use Rattle.sample_block.specs.Faults.{damage_of}
 use Rattle.sample_block.specs.Sources.{IsWhole}
 use Rattle.block_ledger.specs.Counts.{AreAll}
@@ -44,16 +45,15 @@ MayStand bs place (Some b) = StandsAt bs place b
 MayStand bs place None = EndsBefore bs place
 
 -- the file of the block differs so from the one that it has to be: its size, or the first field
-abbrev pub Differs : Files → BlockRef → (file at want have : ℕ) → Type 0
-Differs files b file at want have =
-    (file ≡ b.id) × (damage_of b.id b.len (bytes_of (files b.id)) ≡ Some (record { at = at; want = want; have = have }))
+abbrev pub Differs : Files → BlockRef → ℕ → Damaged → Type 0
+Differs files b file found = (file ≡ b.id) × (damage_of b.id b.len (bytes_of (files b.id)) ≡ Some found)
 
 -- what the files have of the block that stands at the place, by the answer
 abbrev pub Scanned : Files → List BlockRef → ℕ → Result Bool Refusal → Type 0
 Scanned files bs place (Ok true) = (b : BlockRef) × StandsAt bs place b × IsWhole files b
 Scanned files bs place (Ok false) = EndsBefore bs place
 Scanned files bs place (Err (refusal.Damaged file at want have)) =
-    (b : BlockRef) × StandsAt bs place b × Differs files b file at want have
+    (b : BlockRef) × StandsAt bs place b × Differs files b file (record { at = at; want = want; have = have })
 Scanned files bs place (Err why) = Unit {0}
 
 -- the same on a disk that tells nothing
@@ -98,8 +98,7 @@ pub record AreListed (bs listed : List BlockRef) : Type 0 where
 abbrev pub BlockScanned : {T : Type 0} → Files → BlockRef → Result T BlockFault → Type 0
 BlockScanned files b (Ok done) = IsWhole files b
 BlockScanned files b (Err fault.DiskFault) = Unit {0}
-BlockScanned files b (Err (fault.Damaged file found)) =
-    (file ≡ b.id) × (damage_of b.id b.len (bytes_of (files b.id)) ≡ Some found)
+BlockScanned files b (Err (fault.Damaged file found)) = Differs files b file found
 
 -- The file of this block is read whole and compared with what it has to be. Nothing of the studio or of its disk
 -- changes, whatever the disk tells, but for the count of failed reads.

@@ -14,15 +14,16 @@ use Rattle.pcm_base.specs.State.{State, current}
 use Rattle.pcm_base.specs.Step.{after}
 use Rattle.clip_track.specs.declared.clips.Clip.{Clip}
 use Rattle.clip_track.specs.Clips.{end_of, IsLayout, layout_blocks, layout_cells}
-use Rattle.edit_ops.specs.declared.types.NewBlock.{NewBlock}
 use Rattle.edit_ops.specs.declared.types.Plan.{Plan}
 use Rattle.edit_ops.specs.Plans.{IsPlan, Means}
 use Rattle.piece_store.specs.declared.given.Given.{Given}
 use Rattle.piece_store.specs.Bringing.{brought}
 use Rattle.project_state.specs.declared.track.Track.{Track}
 use Rattle.project_state.specs.Tracks.{track_of}
+use Rattle.editor_core.specs.declared.carrying.Planned.{Planned}
+use Rattle.editor_core.specs.Core.{Core}
 use Rattle.editor_core.specs.Edits.{IsEditCall}
-use Rattle.editor_core.specs.Points.{put_in, lacks}
+use Rattle.editor_core.specs.Points.{current_tracks, put_in, lacks}
 
 abbrev pub with_layout : Track → List Clip → Track
 with_layout t layout = record t { layout = layout }
@@ -42,20 +43,20 @@ pub record TrackEdit : Type 0 where
   pub test : ℕ → Option Refusal
   pub most : ℕ → List Cell → ℕ
 
--- the tracks with one edited, the blocks that are to be made for it, and the id after them
-pub record IsTrackPlan (e : TrackEdit) (count id m next : ℕ) (old new : List Track) (makes : List NewBlock)
-    (after : ℕ) : Type 0 where
+-- of a studio's project the tracks with the one of an id edited, which takes up so many samples, and the blocks that
+-- are to be made for it
+pub record IsTrackPlan {D : Type 0} (e : TrackEdit) (count id : ℕ) (s : Core D) (p : Planned) : Type 0 where
   pub track : Track
-  pub found : track_of id old ≡ Some track
+  pub found : track_of id (current_tracks s.history) ≡ Some track
   pub tests : e.test (end_of 0 track.layout) ≡ None
   pub plan : Plan
-  pub is_plan : IsPlan m next (layout_blocks track.layout) count plan
+  pub is_plan : IsPlan s.block_size s.next_block (layout_blocks track.layout) count plan
   pub means : Means (λ src. e.cells src.given) track.layout plan
   pub layout : IsLayout plan.layout
-  pub few : (src : Sources) → length plan.makes ≤ e.most m (layout_cells src track.layout)
-  pub is : new ≡ put_in (with_layout track plan.layout) old
-  pub makes_is : makes ≡ plan.makes
-  pub after_is : after ≡ plan.next
+  pub few : (src : Sources) → length plan.makes ≤ e.most s.block_size (layout_cells src track.layout)
+  pub is : p.point ≡ put_in (with_layout track plan.layout) (current_tracks s.history)
+  pub makes_is : p.makes ≡ plan.makes
+  pub after_is : p.next ≡ plan.next
 
 -- there is none: an own test refuses it, or there is no memory
 abbrev pub NoTrackPlan : TrackEdit → ℕ → List Track → Refusal → Type 0

@@ -1,5 +1,5 @@
 // A line of the script, carried out by the call that is its own.
-ghost use Rattle.std.specs.Prelude.{◌≡◌, ◌-◌, ℕ, min, IsSome, None};
+ghost use Rattle.std.specs.Prelude.{◌≡◌, ℕ, IsSome, None};
 ghost use Rattle.pcm_base.specs.declared.answer.Reply.TheVariants as reply;
 ghost use Rattle.pcm_base.specs.declared.command.Call.TheVariants.{Line};
 ghost use Rattle.pcm_base.specs.declared.command.Command.TheVariants as command;
@@ -8,14 +8,14 @@ ghost use Rattle.pcm_base.specs.Run.{name_in_line};
 ghost use Rattle.editor_core.specs.Applied.{Applies, TookOver};
 ghost use Rattle.editor_core.specs.Core.{core_of};
 ghost use Rattle.editor_core.specs.Imports.{VaultCounted};
+ghost use Rattle.editor_core.specs.Lines.{ChangesCells, UsesClipboard};
 ghost use Rattle.editor_core.specs.Studios.{IsStudio};
 ghost use Rattle.editor_core.specs.Took.{Took, silent, told_by};
 
-use super::shows::MAX_VIEW;
 use super::studio::Studio;
 use disk_model::Store;
 use edit_ports::Vault;
-use pcm_base::{Answer, Cell, CellList, Command, Frame, Frames, Refusal, Reply};
+use pcm_base::{Answer, Command, Refusal, Reply};
 use std::alloc::Global;
 
 // The reply to a commit.
@@ -58,13 +58,6 @@ fn wrote(answer: Result<u64, Refusal>) -> Result<Reply, Refusal>
     }
 }
 
-// How many cells or frames a range may show.
-fn view_len(from: u64, to: u64) -> usize
-    ensures value { result ≡ min 4096 (to - from) }
-{
-    to.saturating_sub(from).min(MAX_VIEW) as usize
-}
-
 impl<S: Store> Studio<S> {
     /// Carries a line out by the call that is its own, and fills the answer: the commit number after it, and its reply,
     /// or the reason that refuses it, which is told besides. A sound that the line names is looked for in the vault.
@@ -85,8 +78,13 @@ impl<S: Store> Studio<S> {
     ) -> Result<(), Refusal>
         requires studio { IsStudio S.Store (core_of self.old) }
         requires in_form { IsInForm command.now }
-        ensures applied { Applies S.Store (V.tells vault.old) (V.holds vault.old) (V.holds vault.new) (core_of self.old)
-            (Line command.now) result answer.new (core_of self.new) }
+        ensures applied { Applies S.Store (record {
+          old = core_of self.old;
+          new = core_of self.new;
+          tells = V.tells vault.old;
+          old_sounds = V.holds vault.old;
+          new_sounds = V.holds vault.new;
+        }) (Line command.now) result answer.new }
         ensures tells { V.tells vault.new ≡ V.tells vault.old }
         ensures faults { IsSome (name_in_line command.now)
             → VaultCounted result (V.fault_count vault.old) (V.fault_count vault.new) }
@@ -115,8 +113,13 @@ impl<S: Store> Studio<S> {
     ) -> Result<Reply, Refusal>
         requires studio { IsStudio S.Store (core_of self.old) }
         requires in_form { IsInForm command.now }
-        ensures took { TookOver S.Store (V.tells vault.old) (V.holds vault.old) (V.holds vault.new) (core_of self.old)
-            (Line command.now) result (core_of self.new) }
+        ensures took { TookOver S.Store (record {
+          old = core_of self.old;
+          new = core_of self.new;
+          tells = V.tells vault.old;
+          old_sounds = V.holds vault.old;
+          new_sounds = V.holds vault.new;
+        }) (Line command.now) result }
         ensures tells { V.tells vault.new ≡ V.tells vault.old }
         ensures faults { IsSome (name_in_line command.now)
             → VaultCounted result (V.fault_count vault.old) (V.fault_count vault.new) }
@@ -143,6 +146,43 @@ impl<S: Store> Studio<S> {
             Command::Level { track, gain } => done(self.level(alloc, *track, *gain)),
             Command::Side { track, side } => done(self.side(alloc, *track, *side)),
             Command::Mute { track, mute } => done(self.mute(alloc, *track, *mute)),
+            Command::Put { .. }
+            | Command::Ramp { .. }
+            | Command::Delete { .. }
+            | Command::SplitDelete { .. }
+            | Command::Silence { .. }
+            | Command::Trim { .. }
+            | Command::Gain { .. } => self.cells_reply(alloc, command),
+            Command::Cut { .. }
+            | Command::SplitCut { .. }
+            | Command::Copy { .. }
+            | Command::Paste { .. }
+            | Command::PasteOver { .. } => self.clipboard_reply(alloc, command),
+            Command::Undo => done(self.undo()),
+            Command::Redo => done(self.redo()),
+            Command::Purge { count } => done(self.purge(*count)),
+            Command::Show { track, from, to } => self.show_reply(alloc, *track, *from, *to),
+            Command::Mix { from, to } => self.mix_reply(alloc, *from, *to),
+            Command::Envelope {
+                track,
+                from,
+                to,
+                columns,
+            } => self.envelope_reply(alloc, *track, *from, *to, *columns),
+            Command::Tracks => self.tracks_reply(alloc),
+            Command::Reclaim { limit } => freed(self.reclaim(*limit)),
+            Command::Import { .. } | Command::Export { .. } => unreachable!(),
+        }
+    }
+
+    // The reply to a line that changes cells of one track, or what refuses it.
+    fn cells_reply(&mut self, alloc: Global, command: &Command) -> Result<Reply, Refusal>
+        requires studio { IsStudio S.Store (core_of self.old) }
+        requires in_form { IsInForm command.now }
+        requires kind { ChangesCells command.now }
+        ensures { Took S.Store (core_of self.old) (Line command.now) silent result 0 (core_of self.new) }
+    {
+        match command {
             Command::Put { track, at, samples } => {
                 done(self.put(alloc, *track, *at, samples.as_slice()))
             }
@@ -165,6 +205,18 @@ impl<S: Store> Studio<S> {
                 to,
                 gain,
             } => done(self.gain(alloc, *track, *from, *to, *gain)),
+            _ => unreachable!(),
+        }
+    }
+
+    // The reply to a line that puts cells into the clipboard or takes them from it, or what refuses it.
+    fn clipboard_reply(&mut self, alloc: Global, command: &Command) -> Result<Reply, Refusal>
+        requires studio { IsStudio S.Store (core_of self.old) }
+        requires in_form { IsInForm command.now }
+        requires kind { UsesClipboard command.now }
+        ensures { Took S.Store (core_of self.old) (Line command.now) silent result 0 (core_of self.new) }
+    {
+        match command {
             Command::Cut {
                 track,
                 count,
@@ -185,79 +237,7 @@ impl<S: Store> Studio<S> {
             } => copied(self.copy(alloc, *track, *count, *from, *to)),
             Command::Paste { track, at } => done(self.paste(alloc, *track, *at)),
             Command::PasteOver { track, at } => done(self.paste_over(alloc, *track, *at)),
-            Command::Undo => done(self.undo()),
-            Command::Redo => done(self.redo()),
-            Command::Purge { count } => done(self.purge(*count)),
-            Command::Show { track, from, to } => self.show_reply(alloc, *track, *from, *to),
-            Command::Mix { from, to } => self.mix_reply(alloc, *from, *to),
-            Command::Envelope {
-                track,
-                from,
-                to,
-                columns,
-            } => self.envelope_reply(alloc, *track, *from, *to, *columns),
-            Command::Tracks => self.tracks_reply(alloc),
-            Command::Reclaim { limit } => freed(self.reclaim(*limit)),
-            Command::Import { .. } | Command::Export { .. } => unreachable!(),
+            _ => unreachable!(),
         }
-    }
-
-    // The cells of a range of a track.
-    fn show_reply(
-        &mut self,
-        alloc: Global,
-        track: u64,
-        from: u64,
-        to: u64,
-    ) -> Result<Reply, Refusal>
-        requires { IsStudio S.Store (core_of self.old) }
-        ensures { Took S.Store (core_of self.old) (Line (command.Show track from to)) silent result 0
-            (core_of self.new) }
-    {
-        let mut cells = vec![in alloc; Cell::Gap; view_len(from, to)]?;
-        let count = self.show(track, from, to, cells.as_mut_slice())?;
-        cells.truncate(count);
-        Ok(Reply::Cells {
-            cells: CellList::new(cells),
-        })
-    }
-
-    // The frames of a range of the mix.
-    fn mix_reply(&mut self, alloc: Global, from: u64, to: u64) -> Result<Reply, Refusal>
-        requires { IsStudio S.Store (core_of self.old) }
-        ensures { Took S.Store (core_of self.old) (Line (command.Mix from to)) silent result 0 (core_of self.new) }
-    {
-        let mut frames = vec![in alloc; Frame { left: 0, right: 0 }; view_len(from, to)]?;
-        let count = self.mix(from, to, frames.as_mut_slice())?;
-        frames.truncate(count);
-        Ok(Reply::Frames {
-            frames: Frames::new(frames),
-        })
-    }
-
-    // What a scan of each column of a range finds.
-    fn envelope_reply(
-        &mut self,
-        alloc: Global,
-        track: u64,
-        from: u64,
-        to: u64,
-        columns: u64,
-    ) -> Result<Reply, Refusal>
-        requires { IsStudio S.Store (core_of self.old) }
-        ensures { Took S.Store (core_of self.old) (Line (command.Envelope track from to columns)) silent result 0
-            (core_of self.new) }
-    {
-        let columns = self.envelope(alloc, track, from, to, columns)?;
-        Ok(Reply::Columns { columns })
-    }
-
-    // What is told of the tracks.
-    fn tracks_reply(&self, alloc: Global) -> Result<Reply, Refusal>
-        requires { IsStudio S.Store (core_of self.now) }
-        ensures { Took S.Store (core_of self.now) (Line command.Tracks) silent result 0 (core_of self.now) }
-    {
-        let tracks = self.tracks(alloc)?;
-        Ok(Reply::Tracks { tracks })
     }
 }

@@ -5,7 +5,6 @@ ghost use Rattle.pcm_base.specs.declared.answer.Reply.TheVariants as reply;
 ghost use Rattle.pcm_base.specs.declared.command.Call.{Call};
 ghost use Rattle.pcm_base.specs.declared.entry.SoundMove.{SoundMove};
 ghost use Rattle.pcm_base.specs.Counters.{commits_of, no_room};
-ghost use Rattle.pcm_base.specs.History.{recorded};
 ghost use Rattle.block_ledger.specs.Counts.{occurrences};
 ghost use Rattle.block_ledger.specs.Entries.{count_of};
 ghost use Rattle.edit_ops.specs.Plans.{AreNew};
@@ -15,6 +14,7 @@ ghost use Rattle.project_state.specs.Spelling.{spelling};
 ghost use Rattle.editor_core.specs.Applied.{Lasts};
 ghost use Rattle.editor_core.specs.Core.{core_of};
 ghost use Rattle.editor_core.specs.Edits.{Spends, IsPlanned, IsEdit, IsPrepared, NotPrepared, Carried, clip_then};
+ghost use Rattle.editor_core.specs.Edits.{tagged};
 ghost use Rattle.editor_core.specs.Imports.{IsNoVault};
 ghost use Rattle.editor_core.specs.Made.{PiecesReadable};
 ghost use Rattle.editor_core.specs.Occurrences.{HasAll, HasIds, Moves};
@@ -59,8 +59,7 @@ impl<S: Store> Studio<S> {
         ensures blocks { OnOk result (self.now.next_block + blocks ≤ 2 ^ 62) }
         ensures ids { OnOk result (self.now.next_track + tracks ≤ 2 ^ 62) }
         ensures number { OnOk result (self.now.commit_number < 2 ^ 62) }
-        ensures err { IfErr result
-            (Spends self.now.next_block blocks self.now.next_track tracks self.now.commit_number) }
+        ensures err { IfErr result (Spends (core_of self.now) blocks tracks) }
     {
         has_room(self.next_block, blocks)?;
         has_room(self.next_track, tracks)?;
@@ -125,8 +124,9 @@ impl<S: Store> Studio<S> {
         requires studio { IsStudio S.Store (core_of self.old) }
         requires new { AreNew self.old.buffers self.old.next_block makes.now }
         requires pieces { PiecesReadable (brought_count given.now) makes.now }
-        ensures carried { Carried S.Store (core_of self.old) given.now makes.now tracks (spelling body.now) result
-            (core_of self.new) }
+        ensures carried { Carried S.Store (core_of self.old)
+            (record { makes = makes.now; given = given.now; tracks = tracks; body = spelling body.now })
+            result (core_of self.new) }
         ensures history { self.new.history.history ≡ self.old.history.history }
         ensures point { OnOk result (length self.new.history.history.points < self.new.history.capacity) }
     {
@@ -164,13 +164,11 @@ impl<S: Store> Studio<S> {
     ) -> Result<u64, Refusal>
         requires studio { IsStudio S.Store (core_of self.old) }
         requires going { self.old.stopped ≡ None }
-        requires planned { IsPlanned (core_of self.old) given.now edit.makes tag edit.tracks edit.point
-            (clip_then edit.clip self.old.clipboard) }
+        requires planned { IsPlanned (core_of self.old) (tagged edit tag given.now) }
         requires next { edit.next ≡ self.old.next_block + length edit.makes }
         requires few { edit.tracks ≤ 64 }
         ensures took { (c : Call) → (sound : SoundMove)
-            → IsEdit S.Store (core_of self.old) c sound edit.tracks given.now
-            edit.makes (recorded self.old.history.history edit.point tag) (clip_then edit.clip self.old.clipboard)
+            → IsEdit S.Store (core_of self.old) c sound (tagged edit tag given.now)
             → Took S.Store (core_of self.old) c sound (told_by (λ _. reply.Done) result) 0 (core_of self.new) }
         // Whatever the call means, and whatever is told.
         ensures lasts { (c : Call) → commits_of c ≡ 1 → Lasts S.Store (core_of self.old) c

@@ -21,7 +21,7 @@ impl<S: Store> Studio<S> {
     pub(crate) fn may_commit(&self, own: Option<Refusal>, tracks: u64) -> Result<(), Refusal>
         requires number { self.now.commit_number ≤ 2 ^ 62 }
         requires ids { self.now.next_track ≤ 2 ^ 62 }
-        ensures { Tested self.now.stopped own self.now.next_track tracks self.now.commit_number result }
+        ensures { Tested (core_of self.now) own tracks result }
     {
         if let Some(faults) = self.stopped {
             return Err(Refusal::Stopped { faults });

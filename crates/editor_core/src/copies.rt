@@ -19,6 +19,15 @@ use pcm_base::{NoMemory, Refusal};
 use project_state::{Point, Track};
 use std::alloc::Global;
 
+/// The cells of as many tracks as `count`, from a track on, from one place to another.
+#[derive(Clone, Copy)]
+pub(crate) struct RunRange {
+    pub(crate) track: u64,
+    pub(crate) count: u64,
+    pub(crate) from: u64,
+    pub(crate) to: u64,
+}
+
 // Adds a track's layout where its id is this one or greater.
 fn add_layout<'a>(run: &mut Vec<&'a Layout>, track: &'a Track, id: u64) -> Result<(), NoMemory>
     ensures { OnOk result (layouts run.new.items ≡ layouts run.old.items ++ layouts_at id track.now) }
@@ -41,18 +50,11 @@ pub(crate) fn run_from(alloc: Global, point: &Point, id: u64) -> Result<Vec<&Lay
 }
 
 // The strips of a run, or what refuses them.
-fn copied(
-    alloc: Global,
-    point: &Point,
-    id: u64,
-    n: u64,
-    from: u64,
-    to: u64,
-) -> Result<Strips, Refusal>
-    ensures { Copies (run_of id point.now) n from to result }
+fn copied(alloc: Global, point: &Point, range: RunRange) -> Result<Strips, Refusal>
+    ensures { Copies (run_of range.track point.now) range result }
 {
-    let run = run_from(alloc, point, id)?;
-    copy(alloc, &run, n, from, to)
+    let run = run_from(alloc, point, range.track)?;
+    copy(alloc, &run, range.count, range.from, range.to)
 }
 
 impl<S: Store> Studio<S> {
@@ -75,14 +77,21 @@ impl<S: Store> Studio<S> {
         requires { IsStudio S.Store (core_of self.old) }
         ensures took { Took S.Store (core_of self.old) (Line (command.Copy track count from to)) silent
             (told_by (λ _. Copied) result) 0 (core_of self.new) }
-        ensures copied { AnswersCopy (core_of self.old) track count from to result (core_of self.new) }
+        ensures copied { AnswersCopy (core_of self.old)
+            (record { track = track; count = count; from = from; to = to }) result (core_of self.new) }
         ensures undamaged { IfErr result IsUndamaged }
     {
         if let Some(faults) = self.stopped {
             return Err(Refusal::Stopped { faults });
         }
         layout_of(&self.history, track)?;
-        let strips = copied(alloc, current_of(&self.history), track, count, from, to)?;
+        let range = RunRange {
+            track,
+            count,
+            from,
+            to,
+        };
+        let strips = copied(alloc, current_of(&self.history), range)?;
         self.take_clip(strips);
         Ok(())
     }

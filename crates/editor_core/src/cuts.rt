@@ -10,12 +10,11 @@ ghost use Rattle.edit_ops.specs.Runs.{AllTracksHalfFull, AreCopies, AreCuts, cop
 ghost use Rattle.envelope_view.specs.Answers.{IsUndamaged};
 ghost use Rattle.editor_core.specs.Core.{core_of};
 ghost use Rattle.editor_core.specs.Cuts.{IsCutPlan, NoCutPlan, cut_cells, cut_line};
-ghost use Rattle.editor_core.specs.Points.{current_tracks};
 ghost use Rattle.editor_core.specs.Studios.{IsHeld, IsStudio};
 ghost use Rattle.editor_core.specs.Took.{Took, silent, told_by};
 
 use super::carrying::Planned;
-use super::copies::run_from;
+use super::copies::{RunRange, run_from};
 use super::laying::planned_run;
 use super::studio::Studio;
 use clip_track::{Layout, Strip};
@@ -30,15 +29,6 @@ use std::alloc::Global;
 pub(crate) enum CutEdit {
     Close,
     Leave,
-}
-
-/// The cells of as many tracks as `count`, from a track on, from one place to another.
-#[derive(Clone, Copy)]
-pub(crate) struct RunRange {
-    pub(crate) track: u64,
-    pub(crate) count: u64,
-    pub(crate) from: u64,
-    pub(crate) to: u64,
 }
 
 // The strips of what goes, and the plans of the tracks without it.
@@ -142,8 +132,7 @@ impl<S: Store> Studio<S> {
     // Takes a range of a run out.
     fn cut_range(&mut self, alloc: Global, range: RunRange, edit: CutEdit) -> Result<u64, Refusal>
         requires { IsStudio S.Store (core_of self.old) }
-        ensures took { Took S.Store (core_of self.old)
-            (Line (cut_line edit range.track range.count range.from range.to)) silent
+        ensures took { Took S.Store (core_of self.old) (Line (cut_line edit range)) silent
             (told_by (λ _. reply.Done) result) 0 (core_of self.new) }
         ensures number { IfOk result (λ n. n ≡ self.new.commit_number) }
         ensures sound { IsHeld S.Store (core_of self.old) → IfErr result IsUndamaged }
@@ -158,11 +147,9 @@ impl<S: Store> Studio<S> {
     // The project without the range, and the clipboard with it.
     fn planned_cut(&self, alloc: Global, range: RunRange, edit: CutEdit) -> Result<Planned, Refusal>
         requires { IsStudio S.Store (core_of self.now) }
-        ensures plan { IfOk result (λ p. IsCutPlan edit range.track range.count range.from range.to self.now.buffers
-            self.now.next_block (current_tracks self.now.history.history) p.point p.makes p.next p.clip) }
+        ensures plan { IfOk result (λ p. IsCutPlan edit range (core_of self.now) p) }
         ensures tracks { IfOk result (λ p. p.tracks ≡ 0) }
-        ensures err { IfErr result (NoCutPlan range.track range.count range.from range.to
-            (current_tracks self.now.history.history)) }
+        ensures err { IfErr result (NoCutPlan range (core_of self.now)) }
     {
         let project = self.current();
         project.track(range.track)?;

@@ -85,9 +85,13 @@ impl<S: Store> Studio<S> {
         requires studio { IsStudio S.Store (core_of self.old) }
         requires in_form { AreInForm self.old.commit_number events.now }
         ensures ran { OnOk result ((told : List Reply) × (replies.new.items ≡ replies.old.items ++ told)
-            × RanOver S.Store (V.tells vault.old) (V.holds vault.old) (V.holds vault.new)
-            (core_of self.old) events.now told
-            (core_of self.new)) }
+            × RanOver S.Store (record {
+              old = core_of self.old;
+              new = core_of self.new;
+              tells = V.tells vault.old;
+              old_sounds = V.holds vault.old;
+              new_sounds = V.holds vault.new;
+            }) events.now told) }
         ensures err { OnErr result ((core_of self.new ≡ core_of self.old) × (vault.new ≡ vault.old)
             × (replies.new.items ≡ replies.old.items)) }
         ensures tells { V.tells vault.new ≡ V.tells vault.old }
@@ -105,9 +109,13 @@ impl<S: Store> Studio<S> {
         requires studio { IsStudio S.Store (core_of self.old) }
         requires in_form { IsCallInForm self.old.commit_number call.now }
         ensures took { (told : Result Reply Refusal) × (result ≡ told_reply told)
-            × TookOver S.Store (V.tells vault.old) (V.holds vault.old) (V.holds vault.new)
-            (core_of self.old) call.now told
-            (core_of self.new) }
+            × TookOver S.Store (record {
+              old = core_of self.old;
+              new = core_of self.new;
+              tells = V.tells vault.old;
+              old_sounds = V.holds vault.old;
+              new_sounds = V.holds vault.new;
+            }) call.now told }
         ensures tells { V.tells vault.new ≡ V.tells vault.old }
     {
         match call {

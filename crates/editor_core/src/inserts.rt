@@ -189,8 +189,7 @@ impl<S: Store> Studio<S> {
         requires studio { IsStudio S.Store (core_of self.now) }
         requires place { IsPlace place }
         requires count { count ≤ 2 ^ 62 }
-        ensures plan { IfOk result (λ p. IsTrackPlan (place_edit place count) count track self.now.buffers
-            self.now.next_block (current_tracks self.now.history.history) p.point p.makes p.next) }
+        ensures plan { IfOk result (λ p. IsTrackPlan (place_edit place count) count track (core_of self.now) p) }
         ensures tracks { IfOk result (λ p. p.tracks ≡ 0) }
         ensures clip { IfOk result (λ p. p.clip ≡ None) }
         ensures err { IfErr result (NoTrackPlan (place_edit place count) track

@@ -45,8 +45,9 @@ fn next_track(
 ) -> Result<Track, NoMemory>
     requires { into_iter_len plans.old ≡ length (into_iter_items plans.old) }
     ensures len { OnOk result (into_iter_len plans.new ≡ length (into_iter_items plans.new)) }
-    ensures lays { IfOk result (λ t. Lays id (into_iter_items plans.old) (into_iter_items plans.new)
-        makes.old.items makes.new.items track.now t) }
+    ensures lays { IfOk result (λ t. Lays id
+        (record { plans = into_iter_items plans.old; makes = makes.old.items })
+        (record { plans = into_iter_items plans.new; makes = makes.new.items }) track.now t) }
 {
     if track.id < id {
         return track.copy();
@@ -70,7 +71,7 @@ pub(crate) fn planned_run(
     requires rising { AreAbove 1 project.now }
     requires fits { length plans ≤ length (run_of id project.now) }
     requires room { next ≤ 2 ^ 62 }
-    ensures plan { IfOk result (λ p. IsRunPlan id next project.now p.point plans p.makes p.next) }
+    ensures plan { IfOk result (λ p. IsRunPlan id next project.now plans p) }
     ensures tracks { IfOk result (λ p. p.tracks ≡ 0) }
     ensures clip { IfOk result (λ p. p.clip ≡ clip) }
 {

@@ -17,8 +17,10 @@ mod envelopes;
 mod events;
 mod exports;
 mod facts;
+mod growth;
 mod imports;
 mod inserts;
+mod joining;
 mod laying;
 mod listing;
 mod makes;
@@ -38,6 +40,7 @@ mod scans;
 mod shows;
 mod studio;
 mod taking;
+mod views;
 
 pub use assembly::Parts;
 pub use facts::Facts;

@@ -74,7 +74,9 @@ impl<S: Store> Studio<S> {
         requires studio { IsStudio S.Store (core_of self.old) }
         // There is room for what may be shown.
         requires room { min 4096 (to - from) ≤ length out.old }
-        ensures { Sees S.Store (core_of self.old) (Line (Mix from to)) Frames out.new result (core_of self.new) }
+        ensures { Sees S.Store (core_of self.old)
+            (record { call = Line (Mix from to); reply = Frames; out = out.new; count = result })
+            (core_of self.new) }
     {
         if let Some(faults) = self.stopped {
             return Err(Refusal::Stopped { faults });
@@ -96,7 +98,8 @@ impl<S: Store> Studio<S> {
     /// damaged file.
     pub fn read_pin(&mut self, pin: u64, from: u64, out: &mut [Frame]) -> Result<usize, Refusal>
         requires { IsStudio S.Store (core_of self.old) }
-        ensures seen { Sees S.Store (core_of self.old) (ReadPin pin from (length out.old)) Frames out.new result
+        ensures seen { Sees S.Store (core_of self.old)
+            (record { call = ReadPin pin from (length out.old); reply = Frames; out = out.new; count = result })
             (core_of self.new) }
         // No mix is longer.
         ensures limit { IfOk result (λ n. 0 < n → from + n ≤ 2 ^ 32) }

@@ -9,7 +9,6 @@ ghost use Rattle.edit_ops.specs.Runs.{AllTracksHalfFull, AreClips, ArePastes, la
 ghost use Rattle.envelope_view.specs.Answers.{IsUndamaged};
 ghost use Rattle.editor_core.specs.Core.{core_of};
 ghost use Rattle.editor_core.specs.Pastes.{IsPastePlan, NoPastePlan, paste_cells, paste_length, paste_line};
-ghost use Rattle.editor_core.specs.Points.{current_tracks};
 ghost use Rattle.editor_core.specs.Studios.{IsHeld, IsStudio};
 ghost use Rattle.editor_core.specs.Took.{Took, silent, told_by};
 
@@ -127,12 +126,10 @@ impl<S: Store> Studio<S> {
     ) -> Result<Planned, Refusal>
         requires studio { IsStudio S.Store (core_of self.now) }
         requires in_form { at < 2 ^ 63 }
-        ensures plan { IfOk result (λ p. IsPastePlan edit track at self.now.buffers self.now.next_block
-            self.now.clipboard (current_tracks self.now.history.history) p.point p.makes p.next) }
+        ensures plan { IfOk result (λ p. IsPastePlan edit track at (core_of self.now) p) }
         ensures tracks { IfOk result (λ p. p.tracks ≡ 0) }
         ensures clip { IfOk result (λ p. p.clip ≡ None) }
-        ensures err { IfErr result (NoPastePlan edit track at self.now.clipboard
-            (current_tracks self.now.history.history)) }
+        ensures err { IfErr result (NoPastePlan edit track at (core_of self.now)) }
     {
         let project = self.current();
         project.track(track)?;

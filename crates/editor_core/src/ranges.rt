@@ -200,8 +200,7 @@ impl<S: Store> Studio<S> {
     ) -> Result<Planned, Refusal>
         requires { IsStudio S.Store (core_of self.now) }
         ensures plan { IfOk result
-            (λ p. IsTrackPlan (range_edit edit range.from range.to) 0 range.track self.now.buffers
-            self.now.next_block (current_tracks self.now.history.history) p.point p.makes p.next) }
+            (λ p. IsTrackPlan (range_edit edit range.from range.to) 0 range.track (core_of self.now) p) }
         ensures tracks { IfOk result (λ p. p.tracks ≡ 0) }
         ensures clip { IfOk result (λ p. p.clip ≡ None) }
         ensures err { IfErr result (NoTrackPlan (range_edit edit range.from range.to) range.track

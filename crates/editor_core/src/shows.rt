@@ -85,7 +85,9 @@ impl<S: Store> Studio<S> {
         requires studio { IsStudio S.Store (core_of self.old) }
         // There is room for what may be shown.
         requires room { min 4096 (to - from) ≤ length out.old }
-        ensures { Sees S.Store (core_of self.old) (Line (Show track from to)) Cells out.new result (core_of self.new) }
+        ensures { Sees S.Store (core_of self.old)
+            (record { call = Line (Show track from to); reply = Cells; out = out.new; count = result })
+            (core_of self.new) }
     {
         if let Some(faults) = self.stopped {
             return Err(Refusal::Stopped { faults });

@@ -5,6 +5,7 @@ use Rattle.pcm_base.specs.declared.block.BlockRef.{BlockRef}
 use Rattle.disk_model.specs.Disk.{Files}
 use Rattle.disk_model.specs.Frames.{Kept}
 use Rattle.disk_model.specs.declared.store.Store.{Ghosts}
+use Rattle.sample_block.specs.declared.damage.Damaged.{Damaged}
 use Rattle.sample_block.specs.Sources.{IsWhole, AllWhole}
 use Rattle.block_store.specs.declared.fault.BlockFault.{BlockFault}
 use Rattle.block_store.specs.declared.fault.BlockFault.TheVariants as block
@@ -26,7 +27,7 @@ IsCountOf bs n = (ids : List ℕ) × AreIdsOf bs ids × (n ≡ length ids)
 pub record FirstDamaged (files : Files) (bs : List BlockRef) (file at want have : ℕ) : Type 0 where
   pub block : BlockRef
   pub named : Contains bs block
-  pub differs : Differs files block file at want have
+  pub differs : Differs files block file (record { at = at; want = want; have = have })
   pub lower : (other : BlockRef) → Contains bs other → other.id < block.id → IsWhole files other
 
 -- all of these blocks are whole, and so many ids they have, or what is wrong with the first that is not

@@ -1,5 +1,5 @@
 -- What a line did, over a vault.
-use Rattle.std.proofs.Common.{◌≡◌, ◌∙◌, refl, sym, ap, subst, ℕ, Bool, IsTrue, List, Option, Some, None, Result, Ok}
+use Rattle.std.proofs.Common.{◌≡◌, ◌∙◌, refl, sym, ap, subst, ℕ, IsTrue, List, Option, Some, None, Result, Ok}
 use Rattle.std.proofs.Common.{Err}
 use Rattle.std.specs.Prelude.{IfErr}
 use Rattle.pcm_base.specs.declared.answer.Answer.{Answer}
@@ -11,8 +11,7 @@ use Rattle.pcm_base.specs.declared.refusal.Refusal.{Refusal}
 use Rattle.pcm_base.specs.Outside.{Sounds}
 use Rattle.pcm_base.specs.Run.{Heard, name_in_line}
 use Rattle.disk_model.specs.declared.store.Store.{Ghosts}
-use Rattle.editor_core.specs.Applied.{Applies, EndsAlike, move_of, reply_of}
-use Rattle.editor_core.specs.Core.{Core}
+use Rattle.editor_core.specs.Applied.{Applies, EndsAlike, move_of, reply_of, Span, sound_moved}
 use Rattle.editor_core.specs.Took.{told_by}
 use Rattle.studio_seats.specs.Stands.{Does}
 
@@ -25,12 +24,14 @@ module _ {R : Type 0} where
   told_is (Err why) (Ok x) reply is ends = absurd ends
   told_is (Err why) (Err other) reply is ends = ap Err (sym ends)
 
-  pub does_line : {D : Type 0} (disk : Ghosts D) (tells : Bool) (told : Type 0) (before after : Sounds) (old : Core D)
-      (c : Command) (result : Result R Refusal) (answer : Answer)
-      (new : Core D) → (told → IsTrue tells) → Applies disk tells before after old (Line c) result answer new
-      → Does disk told old (Line c) (told_by (λ _. answer.reply) result) (move_of (name_in_line c) before after) new
-  does_line disk tells told before after old c result answer new tell a =
-      subst (λ (z : Result Reply Refusal). Does disk told old (Line c) z (move_of (name_in_line c) before after) new)
+  pub does_line : {D : Type 0} (disk : Ghosts D) (told : Type 0) (span : Span D) (c : Command)
+      (result : Result R Refusal) (answer : Answer) → (told → IsTrue span.tells)
+      → Applies disk span (Line c) result answer
+      → Does disk told span.old (Line c) (told_by (λ _. answer.reply) result) (sound_moved span (name_in_line c))
+      span.new
+  does_line disk told span c result answer tell a =
+      subst (λ (z : Result Reply Refusal).
+      Does disk told span.old (Line c) z (sound_moved span (name_in_line c)) span.new)
       (told_is a.told result answer.reply a.reply a.ends)
       (record { removed = a.over.removed; took = λ may. a.over.took (λ some. tell (may some)); lasts = a.over.lasts })
 

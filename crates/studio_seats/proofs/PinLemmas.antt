@@ -16,7 +16,6 @@ use Rattle.pcm_base.specs.Cells.{Project}
 use Rattle.pcm_base.specs.Mix.{frame_at, mix_length, mix_of}
 use Rattle.pcm_base.specs.Run.{Answers, Run, Step, result_of}
 use Rattle.pcm_base.specs.State.{State, current}
-use Rattle.pcm_base.specs.Step.{after}
 use Rattle.pcm_base.specs.Studio as model
 use Rattle.studio_seats.specs.PinLaws.{PinsStay}
 use Rattle.studio_seats.specs.Pins.{IsKept, ShowsPin, after_entry, after_what, makes_pin, pin_frames}

@@ -65,9 +65,13 @@ impl<S: Store, V: Vault> Desk<S, V> {
                 &mut |held: &mut Held<S, V>| -> Said<()>
                     requires studio { IsStudio S.Store (core_of held.old.studio) }
                     requires in_form { IsInForm command.now }
-                    ensures applied { Applies S.Store (V.tells vault.entry.now) (V.holds vault.entry.now)
-                        (V.holds vault.exit.now) (core_of held.old.studio) (Line command.entry.now) result.what
-                        answer.exit.now (core_of held.new.studio) }
+                    ensures applied { Applies S.Store (record {
+                      old = core_of held.old.studio;
+                      new = core_of held.new.studio;
+                      tells = V.tells vault.entry.now;
+                      old_sounds = V.holds vault.entry.now;
+                      new_sounds = V.holds vault.exit.now;
+                    }) (Line command.entry.now) result.what answer.exit.now }
                     ensures at { result.at ≡ (core_of held.new.studio).commit_number }
                     ensures tells { V.tells vault.exit.now ≡ V.tells vault.entry.now }
                     ensures faults { IsSome (name_in_line command.entry.now) → VaultCounted result.what

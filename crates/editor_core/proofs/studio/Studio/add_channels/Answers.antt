@@ -1,20 +1,17 @@
 -- A track for each channel is a step.
-use Rattle.std.proofs.Common.{◌≡◌, ◌∙◌, refl, sym, ap, subst, ℕ, ◌+◌, IfErr, Option, Some, None, List, length, map, Err}
+use Rattle.std.proofs.Common.{◌≡◌, ◌∙◌, refl, sym, ap, subst, ℕ, ◌+◌, IfErr, Some, None, List, length, map, Err}
 use Rattle.std.proofs.Common.{arith}
 use Rattle.std.proofs.lemmas.Result.{err_from_is_err_and}
 use Rattle.pcm_base.specs.declared.answer.Reply.TheVariants as reply
 use Rattle.pcm_base.specs.declared.command.Call.TheVariants.{Line}
 use Rattle.pcm_base.specs.declared.command.Command.TheVariants as command
 use Rattle.pcm_base.specs.declared.refusal.Refusal.TheVariants as refusal
-use Rattle.pcm_base.specs.History.{recorded}
-use Rattle.clip_track.specs.declared.items.Item.{Item}
 use Rattle.piece_store.specs.declared.given.Given.TheVariants.{Samples}
 use Rattle.piece_store.specs.Bringing.{brought, brought_count}
 use Rattle.envelope_view.specs.Answers.{IsUndamaged}
 use Rattle.sound_import.specs.declared.fault.ImportFault.TheVariants.{NoMemory}
 use Rattle.editor_core.specs.Applied.{Lasts}
 use Rattle.editor_core.specs.Core.{core_of}
-use Rattle.editor_core.specs.Edits.{IsEdit, IsPlanned, clip_then}
 use Rattle.editor_core.specs.Imports.{IsChannelsPlan, IsNoVault, NoChannelsPlan, all_of, channels_refusal, left_as}
 use Rattle.editor_core.specs.Imports.{total_of}
 use Rattle.editor_core.specs.Points.{current_tracks}
@@ -111,7 +108,7 @@ returns-in_err-planned-clause-took g c = λ name sound has.
     let counts_are = c.in_ok-counts.ensures ∙ ap (map length) c.as_slice.ensures in
     let pass = subst (λ (ns : List ℕ). channels_refusal tracks ns ≡ None) (c.as_slice-2.ensures.value ∙ counts_are)
     (sym c.channels_refusal.ensures ∙ c.in_default.is) in
-    let unplanned = subst (λ (ns : List ℕ). NoChannelsPlan s.block_size s.next_block ns why)
+    let unplanned = subst (λ (ns : List ℕ). NoChannelsPlan s ns why)
     (c.as_slice-3.ensures.value ∙ counts_are) c.in_err-planned.ensures.err in
     let r = err_from_is_err_and c.from_residual-in_err-planned.result c.from_residual-in_err-planned.ensures.1 in
     subst (λ x. Took g.S.Store s (Line (command.Import name)) (left_as sound) (told_by (λ (n : ℕ). reply.Done) x) 0 s)
@@ -127,7 +124,7 @@ returns-in_err-planned-clause-lasts g c = λ name.
     (sym (r.1 ∙ ap Err r.2))
     (lasts_idle g.S.Store s c.requires.studio (g.met.S.Store.may_fewer s.store)
     (Line (command.Import name)) c.in_err-planned.field-0.0
-    (no_plan_plain s.block_size s.next_block c.as_slice-3.result.now c.in_err-planned.field-0.0
+    (no_plan_plain s c.as_slice-3.result.now c.in_err-planned.field-0.0
     c.in_err-planned.ensures.err))
 
 pub returns-in_err-planned-clause-sound : goal.returns-in_err-planned-clause-sound
@@ -135,7 +132,7 @@ returns-in_err-planned-clause-sound g c = λ held.
     let s = core_of c.args.self.now in
     let r = err_from_is_err_and c.from_residual-in_err-planned.result c.from_residual-in_err-planned.ensures.1 in
     subst (λ x. IfErr x IsUndamaged) (sym (r.1 ∙ ap Err r.2))
-    (no_plan_tells_both s.block_size s.next_block c.as_slice-3.result.now c.in_err-planned.field-0.0
+    (no_plan_tells_both s c.as_slice-3.result.now c.in_err-planned.field-0.0
     c.in_err-planned.ensures.err).0
 
 pub returns-in_err-planned-clause-device : goal.returns-in_err-planned-clause-device
@@ -143,7 +140,7 @@ returns-in_err-planned-clause-device g c =
     let s = core_of c.args.self.now in
     let r = err_from_is_err_and c.from_residual-in_err-planned.result c.from_residual-in_err-planned.ensures.1 in
     subst (λ x. IfErr x IsNoVault) (sym (r.1 ∙ ap Err r.2))
-    (no_plan_tells_both s.block_size s.next_block c.as_slice-3.result.now c.in_err-planned.field-0.0
+    (no_plan_tells_both s c.as_slice-3.result.now c.in_err-planned.field-0.0
     c.in_err-planned.ensures.err).1
 
 -- ---- they are added
@@ -157,13 +154,11 @@ carry_out-requires-clause-planned g c =
     let counts_are = c.in_ok-counts.ensures ∙ ap (map length) c.as_slice.ensures in
     let pass = subst (λ (ns : List ℕ). channels_refusal (length old) ns ≡ None)
     (c.as_slice-2.ensures.value ∙ counts_are) (sym c.channels_refusal.ensures ∙ c.in_default.is) in
-    let plan = subst (λ (ns : List ℕ). IsChannelsPlan s.block_size s.next_block s.next_track ns old p)
-    (c.as_slice-3.ensures.value ∙ counts_are) c.in_ok-planned.ensures.plan in
+    let plan = subst (λ (ns : List ℕ). IsChannelsPlan s ns p) (c.as_slice-3.ensures.value ∙ counts_are)
+    c.in_ok-planned.ensures.plan in
     let all : brought_count given ≡ total_of (map length c.args.channels) =
     ap length (c.as_slice-4.ensures.value ∙ c.in_ok-samples.ensures) ∙ all_length c.args.channels in
-    subst (λ (z : Option (List (List Item))). IsPlanned s given p.makes 0 p.tracks p.point (clip_then z s.clipboard))
-    (sym c.in_ok-planned.ensures.clip)
-    (channels_planned g.S.Store s c.requires.studio c.args.channels pass p plan given all)
+    channels_planned g.S.Store s c.requires.studio c.args.channels pass p plan c.in_ok-planned.ensures.clip given all
 
 pub carry_out-requires-clause-next : goal.carry_out-requires-clause-next
 carry_out-requires-clause-next g c =
@@ -195,14 +190,13 @@ returns-clause-took g c = λ name sound has.
     let counts_are = c.in_ok-counts.ensures ∙ ap (map length) c.as_slice.ensures in
     let pass = subst (λ (ns : List ℕ). channels_refusal (length old) ns ≡ None)
     (c.as_slice-2.ensures.value ∙ counts_are) (sym c.channels_refusal.ensures ∙ c.in_default.is) in
-    let plan = subst (λ (ns : List ℕ). IsChannelsPlan s.block_size s.next_block s.next_track ns old p)
-    (c.as_slice-3.ensures.value ∙ counts_are) c.in_ok-planned.ensures.plan in
+    let plan = subst (λ (ns : List ℕ). IsChannelsPlan s ns p) (c.as_slice-3.ensures.value ∙ counts_are)
+    c.in_ok-planned.ensures.plan in
     let bring : brought given ≡ placed (all_of c.args.channels) =
     ap placed (c.as_slice-4.ensures.value ∙ c.in_ok-samples.ensures) in
     c.carry_out.ensures.took line (left_as sound)
-    (subst (λ (z : Option (List (List Item))). IsEdit g.S.Store s line (left_as sound) p.tracks given p.makes
-    (recorded s.history p.point 0) (clip_then z s.clipboard)) (sym c.in_ok-planned.ensures.clip)
-    (channels_edit g.S.Store s c.requires.studio c.args.channels pass p plan given name sound has bring))
+    (channels_edit g.S.Store s c.requires.studio c.args.channels pass p plan c.in_ok-planned.ensures.clip given name
+    sound has bring)
 
 pub returns-clause-lasts : goal.returns-clause-lasts
 returns-clause-lasts g c = λ name. c.carry_out.ensures.lasts (Line (command.Import name)) refl

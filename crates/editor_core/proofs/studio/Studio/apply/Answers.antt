@@ -6,14 +6,15 @@ use Rattle.pcm_base.specs.declared.refusal.Refusal.{Refusal}
 use Rattle.editor_core.specs.Applied.{TookOver}
 use Rattle.editor_core.specs.Core.{core_of}
 use Rattle.editor_core.specs.Imports.{VaultCounted}
+use Rattle.editor_core.proofs.Applying.{spanned}
 use Rattle.editor_core.proofs.studio.Studio.apply.Goals as goal
 
 pub returns-in-Ok-clause-applied : goal.returns-in-Ok-clause-applied
 returns-in-Ok-clause-applied g c =
     let Over : Result Reply Refusal → Type 0 =
-    λ r. TookOver g.S.Store (g.V.Vault.tells c.args.vault.now) (g.V.Vault.holds c.args.vault.now)
-    (g.V.Vault.holds c.reply_to-told.new.vault) (core_of c.args.self.now) (Line c.args.command.now) r
-    (core_of c.reply_to-told.new.self) in record {
+    λ r. TookOver g.S.Store (spanned (g.V.Vault.tells c.args.vault.now) (core_of c.args.self.now)
+    (core_of c.reply_to-told.new.self) (g.V.Vault.holds c.args.vault.now)
+    (g.V.Vault.holds c.reply_to-told.new.vault)) (Line c.args.command.now) r in record {
       told = Ok c.in-Ok.reply;
       over = subst Over c.in-Ok.is c.reply_to-told.ensures.took;
       commit = refl;
@@ -30,9 +31,9 @@ returns-in-Ok-clause-faults g c = λ some.
 pub returns-in-Err-clause-applied : goal.returns-in-Err-clause-applied
 returns-in-Err-clause-applied g c =
     let Over : Result Reply Refusal → Type 0 =
-    λ r. TookOver g.S.Store (g.V.Vault.tells c.args.vault.now) (g.V.Vault.holds c.args.vault.now)
-    (g.V.Vault.holds c.reply_to-told.new.vault) (core_of c.args.self.now) (Line c.args.command.now) r
-    (core_of c.reply_to-told.new.self) in record {
+    λ r. TookOver g.S.Store (spanned (g.V.Vault.tells c.args.vault.now) (core_of c.args.self.now)
+    (core_of c.reply_to-told.new.self) (g.V.Vault.holds c.args.vault.now)
+    (g.V.Vault.holds c.reply_to-told.new.vault)) (Line c.args.command.now) r in record {
       told = Err c.in-Err.reason;
       over = subst Over c.in-Err.is c.reply_to-told.ensures.took;
       commit = refl;

@@ -1,6 +1,7 @@
 -- Blocks, and then a record.
 use Rattle.std.proofs.Common.{◌≡◌, ◌∙◌, sym, ap, subst, ℕ, ◌+◌, ◌≤◌, ◌<◌, IsSome, List, length, vec_capacity, arith}
 use Rattle.project_state.specs.Spelling.{spelling}
+use Rattle.editor_core.specs.Edits.{BlockCommit}
 use Rattle.editor_core.specs.Adding.{Adds}
 use Rattle.editor_core.specs.Core.{Core, core_of}
 use Rattle.editor_core.specs.Makes.{AreSynced, Making}
@@ -36,6 +37,11 @@ returns-clause-carried g c =
     let row = ap vec_capacity c.in_ok-make_blocks.ensures.row in
     let room : 5 + length c.make_blocks.new.self.body.items ≤ vec_capacity c.make_blocks.new.self.row =
     omega (arith, ap (λ (b : List ℕ). length b) body, row, c.in_ok-prepare.ensures.row) in
-    carried_by g.S.Store s mid (core_of c.commit_written.new.self) c.args.given.now bs c.args.tracks
-    (spelling c.args.body.now) c.commit_written.result making reads synced
+    let commit : BlockCommit = record {
+      makes = bs;
+      given = c.args.given.now;
+      tracks = c.args.tracks;
+      body = spelling c.args.body.now;
+    } in
+    carried_by g.S.Store s mid (core_of c.commit_written.new.self) commit c.commit_written.result making reads synced
     c.in_ok-prepare.ensures.prepared adds (c.commit_written.ensures.memory room)

@@ -1,16 +1,11 @@
 -- A cut is a step.
-use Rattle.std.proofs.Common.{◌≡◌, ◌∙◌, sym, ap, subst, ℕ, IfErr, List, Option, Err}
+use Rattle.std.proofs.Common.{◌∙◌, sym, ap, subst, ℕ, IfErr, Err}
 use Rattle.std.proofs.lemmas.Result.{err_from_is_err_and}
 use Rattle.pcm_base.specs.declared.answer.Reply.TheVariants.{Done}
 use Rattle.pcm_base.specs.declared.command.Call.TheVariants.{Line}
-use Rattle.pcm_base.specs.History.{recorded}
-use Rattle.clip_track.specs.declared.items.Item.{Item}
-use Rattle.piece_store.specs.declared.given.Given.TheVariants.{Nothing}
 use Rattle.envelope_view.specs.Answers.{IsUndamaged}
 use Rattle.editor_core.specs.Core.{core_of}
 use Rattle.editor_core.specs.Cuts.{cut_line}
-use Rattle.editor_core.specs.Edits.{IsEdit, IsPlanned, clip_then}
-use Rattle.editor_core.specs.Points.{current_tracks}
 use Rattle.editor_core.specs.Took.{Took, silent, told_by}
 use Rattle.editor_core.proofs.CutLaws.{no_cut_tells}
 use Rattle.editor_core.proofs.CutSteps.{cut_edit, cut_planned}
@@ -20,42 +15,32 @@ use Rattle.editor_core.proofs.studio.Studio.cut_range.Goals as goal
 pub returns-in-Some-clause-took : goal.returns-in-Some-clause-took
 returns-in-Some-clause-took g c =
     let s = core_of c.args.self.now in
-    let range = c.args.range in
-    cut_stopped g.S.Store s c.requires c.args.edit range.track range.count range.from range.to
+    cut_stopped g.S.Store s c.requires c.args.edit c.args.range
     (g.met.S.Store.may_fewer s.store) c.in-Some.faults c.in-Some.is
 
 pub returns-in_err-planned-clause-took : goal.returns-in_err-planned-clause-took
 returns-in_err-planned-clause-took g c =
     let s = core_of c.args.self.now in
-    let range = c.args.range in
-    let call = Line (cut_line c.args.edit range.track range.count range.from range.to) in
+    let call = Line (cut_line c.args.edit c.args.range) in
     let r = err_from_is_err_and c.from_residual.result c.from_residual.ensures.1 in
     let why = c.in_err-planned.field-0.0 in
     subst (λ x. Took g.S.Store s call silent (told_by (λ (n : ℕ). Done) x) 0 s) (sym (r.1 ∙ ap Err r.2))
-    (cut_refused g.S.Store s c.requires c.args.edit range.track range.count range.from range.to
+    (cut_refused g.S.Store s c.requires c.args.edit c.args.range
     (g.met.S.Store.may_fewer s.store) why c.in_default.is c.in_err-planned.ensures.err)
 
 pub returns-in_err-planned-clause-sound : goal.returns-in_err-planned-clause-sound
 returns-in_err-planned-clause-sound g c = λ held.
     let s = core_of c.args.self.now in
-    let range = c.args.range in
     let r = err_from_is_err_and c.from_residual.result c.from_residual.ensures.1 in
     subst (λ x. IfErr x IsUndamaged) (sym (r.1 ∙ ap Err r.2))
-    (no_cut_tells range.track range.count range.from range.to
-    (current_tracks s.history) c.in_err-planned.field-0.0 c.in_err-planned.ensures.err)
+    (no_cut_tells c.args.range s c.in_err-planned.field-0.0 c.in_err-planned.ensures.err)
 
 pub carry_out-requires-clause-planned : goal.carry_out-requires-clause-planned
 carry_out-requires-clause-planned g c =
     let s = core_of c.args.self.now in
-    let range = c.args.range in
-    let p = c.in_ok-planned.planned in
-    let plan = c.in_ok-planned.ensures.plan in
-    let clip : clip_then p.clip s.clipboard ≡ p.clip =
-    ap (λ (z : Option (List (List Item))). clip_then z s.clipboard) plan.clip_is ∙ sym plan.clip_is in
-    subst (λ (z : Option (List (List Item))). IsPlanned s Nothing p.makes 0 p.tracks p.point z) (sym clip)
-    (subst (λ (k : ℕ). IsPlanned s Nothing p.makes 0 k p.point p.clip) (sym c.in_ok-planned.ensures.tracks)
-    (cut_planned g.S.Store s c.requires c.args.edit range.track range.count range.from range.to
-    (g.met.S.Store.may_fewer s.store) c.in_default.is p.point p.makes p.next p.clip plan))
+    let planned = c.in_ok-planned.ensures in
+    cut_planned g.S.Store s c.requires c.args.edit c.args.range (g.met.S.Store.may_fewer s.store) c.in_default.is
+    c.in_ok-planned.planned planned.plan planned.tracks
 
 pub carry_out-requires-clause-next : goal.carry_out-requires-clause-next
 carry_out-requires-clause-next g c = c.in_ok-planned.ensures.plan.laid.after_is
@@ -63,16 +48,8 @@ carry_out-requires-clause-next g c = c.in_ok-planned.ensures.plan.laid.after_is
 pub returns-clause-took : goal.returns-clause-took
 returns-clause-took g c =
     let s = core_of c.args.self.now in
-    let range = c.args.range in
-    let call = Line (cut_line c.args.edit range.track range.count range.from range.to) in
-    let p = c.in_ok-planned.planned in
-    let plan = c.in_ok-planned.ensures.plan in
-    let clip : clip_then p.clip s.clipboard ≡ p.clip =
-    ap (λ (z : Option (List (List Item))). clip_then z s.clipboard) plan.clip_is ∙ sym plan.clip_is in
+    let call = Line (cut_line c.args.edit c.args.range) in
+    let planned = c.in_ok-planned.ensures in
     c.carry_out.ensures.took call silent
-    (subst (λ (z : Option (List (List Item))).
-    IsEdit g.S.Store s call silent p.tracks Nothing p.makes (recorded s.history p.point 0) z) (sym clip)
-    (subst (λ (k : ℕ). IsEdit g.S.Store s call silent k Nothing p.makes (recorded s.history p.point 0) p.clip)
-    (sym c.in_ok-planned.ensures.tracks)
-    (cut_edit g.S.Store s c.requires c.args.edit range.track range.count range.from range.to
-    (g.met.S.Store.may_fewer s.store) c.in_default.is p.point p.makes p.next p.clip plan)))
+    (cut_edit g.S.Store s c.requires c.args.edit c.args.range (g.met.S.Store.may_fewer s.store) c.in_default.is
+    c.in_ok-planned.planned planned.plan planned.tracks)

@@ -42,7 +42,7 @@ returns-in_err-may_commit-clause-took g c =
     (tested_out g.S.Store s (Line (line_of e)) (tracks_by e) 0 c.edit_refusal.result why is
     (g.met.S.Store.may_fewer s.store) (call_by e) (λ held. needs_none g.S.Store s is e)
     (c.edit_refusal.ensures ∙ own_is g.S.Store s is e)
-    (subst (λ (n : ℕ). Tested s.stopped c.edit_refusal.result s.next_track n s.commit_number (Err why))
+    (subst (λ (n : ℕ). Tested s c.edit_refusal.result n (Err why))
     c.tracks_for-tracks.ensures c.in_err-may_commit.ensures))
 
 pub returns-in_err-make_room-clause-took : goal.returns-in_err-make_room-clause-took

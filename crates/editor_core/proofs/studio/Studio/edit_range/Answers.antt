@@ -1,14 +1,11 @@
 -- An edit of a range is a step.
-use Rattle.std.proofs.Common.{◌∙◌, sym, ap, subst, ℕ, IfErr, List, Option, Err, arith}
+use Rattle.std.proofs.Common.{◌∙◌, sym, ap, subst, ℕ, IfErr, Err, arith}
 use Rattle.std.proofs.lemmas.Result.{err_from_is_err_and}
 use Rattle.pcm_base.specs.declared.answer.Reply.TheVariants.{Done}
 use Rattle.pcm_base.specs.declared.command.Call.TheVariants.{Line}
-use Rattle.pcm_base.specs.History.{recorded}
 use Rattle.piece_store.specs.declared.given.Given.TheVariants.{Nothing}
-use Rattle.clip_track.specs.declared.items.Item.{Item}
 use Rattle.envelope_view.specs.Answers.{IsUndamaged}
 use Rattle.editor_core.specs.Core.{core_of}
-use Rattle.editor_core.specs.Edits.{IsEdit, IsPlanned, clip_then}
 use Rattle.editor_core.specs.Points.{current_tracks}
 use Rattle.editor_core.specs.Ranges.{range_edit, range_line}
 use Rattle.editor_core.specs.Took.{Took, silent, told_by}
@@ -55,20 +52,16 @@ carry_out-requires-clause-planned g c =
     let s = core_of c.args.self.now in
     let range = c.args.range in
     let e = range_edit c.args.edit range.from range.to in
-    let p = c.in_ok-planned.planned in
-    subst (λ (z : Option (List (List Item))). IsPlanned s Nothing p.makes 0 p.tracks p.point (clip_then z s.clipboard))
-    (sym c.in_ok-planned.ensures.clip)
-    (subst (λ (k : ℕ). IsPlanned s Nothing p.makes 0 k p.point s.clipboard) (sym c.in_ok-planned.ensures.tracks)
-    (track_planned g.S.Store s c.requires e Nothing range.track p.point p.makes p.next c.in_ok-planned.ensures.plan 0
-    (omega arith)))
+    let planned = c.in_ok-planned.ensures in
+    track_planned g.S.Store s c.requires e Nothing range.track c.in_ok-planned.planned planned.plan planned.tracks
+    planned.clip 0 (omega arith)
 
 pub carry_out-requires-clause-next : goal.carry_out-requires-clause-next
 carry_out-requires-clause-next g c =
     let s = core_of c.args.self.now in
     let range = c.args.range in
-    let p = c.in_ok-planned.planned in
-    track_next g.S.Store s c.requires (range_edit c.args.edit range.from range.to) Nothing range.track p.point p.makes
-    p.next c.in_ok-planned.ensures.plan
+    track_next g.S.Store s c.requires (range_edit c.args.edit range.from range.to) Nothing range.track
+    c.in_ok-planned.planned c.in_ok-planned.ensures.plan
 
 pub returns-clause-took : goal.returns-clause-took
 returns-clause-took g c =
@@ -77,11 +70,7 @@ returns-clause-took g c =
     let e = range_edit c.args.edit range.from range.to in
     let call = Line (range_line c.args.edit range.track range.from range.to) in
     let line = range_call c.args.edit range.track range.from range.to in
-    let p = c.in_ok-planned.planned in
+    let planned = c.in_ok-planned.ensures in
     c.carry_out.ensures.took call silent
-    (subst (λ (z : Option (List (List Item))). IsEdit g.S.Store s call silent p.tracks Nothing p.makes
-    (recorded s.history p.point 0) (clip_then z s.clipboard)) (sym c.in_ok-planned.ensures.clip)
-    (subst (λ (k : ℕ). IsEdit g.S.Store s call silent k Nothing p.makes (recorded s.history p.point 0) s.clipboard)
-    (sym c.in_ok-planned.ensures.tracks)
-    (track_edit g.S.Store s c.requires call silent e Nothing range.track 0 line p.point p.makes p.next
-    c.in_ok-planned.ensures.plan)))
+    (track_edit g.S.Store s c.requires call silent e Nothing range.track 0 line c.in_ok-planned.planned planned.plan
+    planned.tracks planned.clip)

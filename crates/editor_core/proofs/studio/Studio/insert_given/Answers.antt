@@ -1,13 +1,10 @@
 -- Samples that a command brings, put in, are a step.
-use Rattle.std.proofs.Common.{◌∙◌, sym, ap, subst, ℕ, IfErr, List, Option, Err}
+use Rattle.std.proofs.Common.{◌∙◌, sym, ap, subst, ℕ, IfErr, Err}
 use Rattle.std.proofs.lemmas.Result.{err_from_is_err_and}
 use Rattle.pcm_base.specs.declared.answer.Reply.TheVariants.{Done}
-use Rattle.pcm_base.specs.History.{recorded}
 use Rattle.piece_store.specs.Bringing.{brought_count}
-use Rattle.clip_track.specs.declared.items.Item.{Item}
 use Rattle.envelope_view.specs.Answers.{IsUndamaged}
 use Rattle.editor_core.specs.Core.{core_of}
-use Rattle.editor_core.specs.Edits.{IsEdit, IsPlanned, clip_then}
 use Rattle.editor_core.specs.Inserts.{place_edit}
 use Rattle.editor_core.specs.Points.{current_tracks}
 use Rattle.editor_core.specs.Took.{Took, told_by}
@@ -53,23 +50,20 @@ carry_out-requires-clause-planned g c =
     let s = core_of c.args.self.now in
     let given = c.args.given.now in
     let p = c.in_ok-planned.planned in
-    let plan = subst (λ (k : ℕ). IsTrackPlan (place_edit c.args.place k) k c.args.track s.block_size s.next_block
-    (current_tracks s.history) p.point p.makes p.next) c.count_of.ensures.value c.in_ok-planned.ensures.plan in
-    subst (λ (z : Option (List (List Item))). IsPlanned s given p.makes c.args.tag p.tracks p.point
-    (clip_then z s.clipboard)) (sym c.in_ok-planned.ensures.clip)
-    (subst (λ (k : ℕ). IsPlanned s given p.makes c.args.tag k p.point s.clipboard) (sym c.in_ok-planned.ensures.tracks)
-    (track_planned g.S.Store s c.requires.studio (place_edit c.args.place (brought_count given)) given c.args.track
-    p.point p.makes p.next plan c.args.tag c.requires.tag))
+    let plan = subst (λ (k : ℕ). IsTrackPlan (place_edit c.args.place k) k c.args.track s p) c.count_of.ensures.value
+    c.in_ok-planned.ensures.plan in
+    track_planned g.S.Store s c.requires.studio (place_edit c.args.place (brought_count given)) given c.args.track p
+    plan c.in_ok-planned.ensures.tracks c.in_ok-planned.ensures.clip c.args.tag c.requires.tag
 
 pub carry_out-requires-clause-next : goal.carry_out-requires-clause-next
 carry_out-requires-clause-next g c =
     let s = core_of c.args.self.now in
     let given = c.args.given.now in
     let p = c.in_ok-planned.planned in
-    let plan = subst (λ (k : ℕ). IsTrackPlan (place_edit c.args.place k) k c.args.track s.block_size s.next_block
-    (current_tracks s.history) p.point p.makes p.next) c.count_of.ensures.value c.in_ok-planned.ensures.plan in
+    let plan = subst (λ (k : ℕ). IsTrackPlan (place_edit c.args.place k) k c.args.track s p) c.count_of.ensures.value
+    c.in_ok-planned.ensures.plan in
     track_next g.S.Store s c.requires.studio
-    (place_edit c.args.place (brought_count given)) given c.args.track p.point p.makes p.next plan
+    (place_edit c.args.place (brought_count given)) given c.args.track p plan
 
 pub returns-clause-took : goal.returns-clause-took
 returns-clause-took g c = λ call sound line.
@@ -77,12 +71,8 @@ returns-clause-took g c = λ call sound line.
     let given = c.args.given.now in
     let e = place_edit c.args.place (brought_count given) in
     let p = c.in_ok-planned.planned in
-    let plan = subst (λ (k : ℕ). IsTrackPlan (place_edit c.args.place k) k c.args.track s.block_size s.next_block
-    (current_tracks s.history) p.point p.makes p.next) c.count_of.ensures.value c.in_ok-planned.ensures.plan in
+    let plan = subst (λ (k : ℕ). IsTrackPlan (place_edit c.args.place k) k c.args.track s p) c.count_of.ensures.value
+    c.in_ok-planned.ensures.plan in
     c.carry_out.ensures.took call sound
-    (subst (λ (z : Option (List (List Item))). IsEdit g.S.Store s call sound p.tracks given p.makes
-    (recorded s.history p.point c.args.tag) (clip_then z s.clipboard)) (sym c.in_ok-planned.ensures.clip)
-    (subst (λ (k : ℕ). IsEdit g.S.Store s call sound k given p.makes
-    (recorded s.history p.point c.args.tag) s.clipboard) (sym c.in_ok-planned.ensures.tracks)
-    (track_edit g.S.Store s c.requires.studio call sound e given c.args.track c.args.tag line p.point p.makes p.next
-    plan)))
+    (track_edit g.S.Store s c.requires.studio call sound e given c.args.track c.args.tag line p plan
+    c.in_ok-planned.ensures.tracks c.in_ok-planned.ensures.clip)

@@ -16,7 +16,7 @@ use Rattle.editor_core.specs.Reads.{Sees}
 use Rattle.editor_core.specs.Studios.{IsHeld}
 use Rattle.editor_core.proofs.Currents.{current_may_read, current_whole}
 use Rattle.editor_core.proofs.Hearing.{as_many, mix_stopped, mix_beyond, mix_done, mix_failed}
-use Rattle.editor_core.proofs.Seeing.{idle_sees, read_sees, unread_sees}
+use Rattle.editor_core.proofs.Seeing.{idle_sees, read_sees, unread_sees, seen}
 use Rattle.editor_core.proofs.studio.Studio.mix.Goals as goal
 
 pub returns-in-Some : goal.returns-in-Some
@@ -33,7 +33,7 @@ returns-in_err-may_view g c =
     let s = core_of c.args.self.now in
     let fewer = g.met.S.Store.may_fewer s.store in
     let call = Line (Mix c.args.from c.args.to) in
-    subst (λ r. Sees g.S.Store s call Frames c.args.out.now r s)
+    subst (λ r. Sees g.S.Store s (seen call Frames c.args.out.now r) s)
     (sym (p.1 ∙ ap Err (p.2 ∙ c.in_err-may_view.ensures.0)))
     (idle_sees g.S.Store s call Frames c.args.out.now fewer refusal.BadRange tt tt
     (mix_beyond g.S.Store s c.requires.studio fewer c.args.from c.args.to refusal.BadRange c.in_default.is
@@ -53,7 +53,8 @@ returns-in_err-count g c =
     let call = Line (Mix c.args.from c.args.to) in
     let store = c.read_mix.new.store in
     let fault = c.in_err-count.field-0.0 in
-    subst (λ r. Sees g.S.Store s call Frames c.read_mix.new.out r (record s { store = store })) (sym (p.1 ∙ ap Err p.2))
+    subst (λ r. Sees g.S.Store s (seen call Frames c.read_mix.new.out r) (record s { store = store }))
+    (sym (p.1 ∙ ap Err p.2))
     (unread_sees g.S.Store s call store c.read_mix.ensures.kept Frames c.read_mix.new.out fault
     (λ held. c.in_err-count.ensures.sound held.tells
     (subst (λ (z : List Track). AllWhole (g.S.Store.reads s.store) (point_blocks z)) (sym c.current_of-point.ensures)

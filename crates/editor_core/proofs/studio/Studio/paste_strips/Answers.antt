@@ -1,16 +1,11 @@
 -- A paste is a step.
-use Rattle.std.proofs.Common.{◌∙◌, sym, ap, subst, ℕ, IfErr, List, Option, Err}
+use Rattle.std.proofs.Common.{◌∙◌, sym, ap, subst, ℕ, IfErr, Err}
 use Rattle.std.proofs.lemmas.Result.{err_from_is_err_and}
 use Rattle.pcm_base.specs.declared.answer.Reply.TheVariants.{Done}
 use Rattle.pcm_base.specs.declared.command.Call.TheVariants.{Line}
-use Rattle.pcm_base.specs.History.{recorded}
-use Rattle.clip_track.specs.declared.items.Item.{Item}
-use Rattle.piece_store.specs.declared.given.Given.TheVariants.{Nothing}
 use Rattle.envelope_view.specs.Answers.{IsUndamaged}
 use Rattle.editor_core.specs.Core.{core_of}
-use Rattle.editor_core.specs.Edits.{IsEdit, IsPlanned, clip_then}
 use Rattle.editor_core.specs.Pastes.{paste_line}
-use Rattle.editor_core.specs.Points.{current_tracks}
 use Rattle.editor_core.specs.Took.{Took, silent, told_by}
 use Rattle.editor_core.proofs.PasteLaws.{no_paste_tells}
 use Rattle.editor_core.proofs.PasteSteps.{paste_edit, paste_planned}
@@ -38,18 +33,14 @@ returns-in_err-planned-clause-sound g c = λ held.
     let s = core_of c.args.self.now in
     let r = err_from_is_err_and c.from_residual.result c.from_residual.ensures.1 in
     subst (λ x. IfErr x IsUndamaged) (sym (r.1 ∙ ap Err r.2))
-    (no_paste_tells c.args.edit c.args.track c.args.at s.clipboard
-    (current_tracks s.history) c.in_err-planned.field-0.0 c.in_err-planned.ensures.err)
+    (no_paste_tells c.args.edit c.args.track c.args.at s c.in_err-planned.field-0.0 c.in_err-planned.ensures.err)
 
 pub carry_out-requires-clause-planned : goal.carry_out-requires-clause-planned
 carry_out-requires-clause-planned g c =
     let s = core_of c.args.self.now in
-    let p = c.in_ok-planned.planned in
-    subst (λ (z : Option (List (List Item))). IsPlanned s Nothing p.makes 0 p.tracks p.point (clip_then z s.clipboard))
-    (sym c.in_ok-planned.ensures.clip)
-    (subst (λ (k : ℕ). IsPlanned s Nothing p.makes 0 k p.point s.clipboard) (sym c.in_ok-planned.ensures.tracks)
-    (paste_planned g.S.Store s c.requires.studio c.args.edit c.args.track c.args.at p.point p.makes p.next
-    c.in_ok-planned.ensures.plan))
+    let planned = c.in_ok-planned.ensures in
+    paste_planned g.S.Store s c.requires.studio c.args.edit c.args.track c.args.at c.in_ok-planned.planned planned.plan
+    planned.tracks planned.clip
 
 pub carry_out-requires-clause-next : goal.carry_out-requires-clause-next
 carry_out-requires-clause-next g c = c.in_ok-planned.ensures.plan.laid.after_is
@@ -58,11 +49,7 @@ pub returns-clause-took : goal.returns-clause-took
 returns-clause-took g c =
     let s = core_of c.args.self.now in
     let call = Line (paste_line c.args.edit c.args.track c.args.at) in
-    let p = c.in_ok-planned.planned in
+    let planned = c.in_ok-planned.ensures in
     c.carry_out.ensures.took call silent
-    (subst (λ (z : Option (List (List Item))). IsEdit g.S.Store s call silent p.tracks Nothing p.makes
-    (recorded s.history p.point 0) (clip_then z s.clipboard)) (sym c.in_ok-planned.ensures.clip)
-    (subst (λ (k : ℕ). IsEdit g.S.Store s call silent k Nothing p.makes (recorded s.history p.point 0) s.clipboard)
-    (sym c.in_ok-planned.ensures.tracks)
-    (paste_edit g.S.Store s c.requires.studio c.args.edit c.args.track c.args.at p.point p.makes p.next
-    c.in_ok-planned.ensures.plan)))
+    (paste_edit g.S.Store s c.requires.studio c.args.edit c.args.track c.args.at c.in_ok-planned.planned planned.plan
+    planned.tracks planned.clip)

@@ -15,7 +15,7 @@ use Rattle.editor_core.proofs.studio.Studio.planned_channels.Goals as goal
 pub channels-init : goal.channels-init
 channels-init g c =
     let s = core_of c.args.self.now in record {
-      grown = grown_none s.block_size s.next_block s.next_track (current_tracks s.history)
+      grown = grown_none s
           (record { point = c.in_ok-copy.field-0; makes = c.new.result; next = s.next_block; brought = 0 })
           (c.in_ok-copy.ensures ∙ c.current.ensures) c.new.ensures.items refl refl;
       next_id = omega arith;
@@ -26,26 +26,23 @@ returns-in_err-ids_left-clause-err g c =
     let s = core_of c.args.self.now in
     let p = err_from_is_err_and c.from_residual-in_err-ids_left.result c.from_residual-in_err-ids_left.ensures.1 in
     let pass = channels_pass (length (current_tracks s.history)) c.args.counts.now c.requires.tests in
-    subst (λ r. IfErr r (NoChannelsPlan s.block_size s.next_block c.args.counts.now))
+    subst (λ r. IfErr r (NoChannelsPlan s c.args.counts.now))
     (sym (p.1 ∙ ap Err (p.2 ∙ c.in_err-ids_left.ensures.0)))
-    (ids_spent s.block_size s.next_block s.next_track c.args.counts.now
-    (current_tracks s.history) c.channels.count-index c.channels.growing c.channels.invariant.grown pass.1
+    (ids_spent s c.args.counts.now c.channels.count-index c.channels.growing c.channels.invariant.grown pass.1
     (omega (arith, c.requires.studio.format.block_least)) c.in_err-ids_left.ensures.1)
 
 pub add_channel-requires-clause-few : goal.add_channel-requires-clause-few
 add_channel-requires-clause-few g c =
     let s = core_of c.args.self.now in
     let pass = channels_pass (length (current_tracks s.history)) c.args.counts.now c.requires.tests in
-    brought_few s.block_size s.next_block s.next_track c.args.counts.now
-    (current_tracks s.history) c.channels.count-index c.channels.growing c.channels.invariant.grown pass.1
+    brought_few s c.args.counts.now c.channels.count-index c.channels.growing c.channels.invariant.grown pass.1
     c.channels-test.true (omega (arith, pass.0))
 
 pub add_channel-requires-clause-below : goal.add_channel-requires-clause-below
 add_channel-requires-clause-below g c =
     let s = core_of c.args.self.now in
     let pass = channels_pass (length (current_tracks s.history)) c.args.counts.now c.requires.tests in
-    grown_below s.block_size s.next_block s.next_track c.args.counts.now
-    (current_tracks s.history) c.channels.count-index c.channels.growing c.channels.invariant.grown pass.1
+    grown_below s c.args.counts.now c.channels.count-index c.channels.growing c.channels.invariant.grown pass.1
     c.channels.id c.channels.invariant.next_id (omega (arith, c.channels-test.true))
     (current_below g.S.Store s c.requires.studio)
 
@@ -73,10 +70,10 @@ channels-preserved g c =
     c.block_size.ensures.value c.in_ok-add_channel.ensures.added in
     let adds = subst (λ (k : ℕ). AddsChannel m k count c.channels.growing c.add_channel.new.growing) at added in
     record {
-      grown = subst (λ (ns : List ℕ). AreGrown m s.next_block id ns old c.add_channel.new.growing) (sym here)
-          (grown_more m s.next_block id (omega (arith, c.requires.studio.format.block_least))
+      grown = subst (λ (ns : List ℕ). AreGrown s ns c.add_channel.new.growing) (sym here)
+          (grown_more s (omega (arith, c.requires.studio.format.block_least))
           (c.requires.studio.counters.block_least) (c.requires.studio.counters.track_least)
-          (take i counts) count (omega (arith, len, pass.0, c.channels-test.true)) old c.channels.growing
+          (take i counts) count (omega (arith, len, pass.0, c.channels-test.true)) c.channels.growing
           c.add_channel.new.growing c.channels.invariant.grown adds);
       next_id = omega (arith, c.channels.invariant.next_id);
     }
@@ -87,8 +84,7 @@ returns-clause-plan g c =
     let i = c.channels.count-index in
     let all = take_all i c.args.counts.now (omega (arith, c.channels-test.false)) in
     let is = c.planned_of.ensures in
-    all_grown s.block_size s.next_block s.next_track c.args.counts.now
-    (current_tracks s.history) i c.channels.growing c.planned_of.result c.channels.invariant.grown all
+    all_grown s c.args.counts.now i c.channels.growing c.planned_of.result c.channels.invariant.grown all
     is.0 is.1 is.2 is.3
 
 pub returns-clause-clip : goal.returns-clause-clip

@@ -12,7 +12,7 @@ use Rattle.editor_core.specs.declared.studio.Pin.{Pin}
 use Rattle.editor_core.specs.Pins.{LacksPin, MayFind}
 use Rattle.editor_core.specs.Reads.{Sees}
 use Rattle.editor_core.proofs.Hearing.{as_many, read_stopped, read_lacks, read_done, read_failed}
-use Rattle.editor_core.proofs.Seeing.{idle_sees, read_sees, unread_sees}
+use Rattle.editor_core.proofs.Seeing.{idle_sees, read_sees, unread_sees, seen}
 use Rattle.editor_core.proofs.Unpinning.{pin_may_read, pin_whole}
 use Rattle.editor_core.proofs.studio.Studio.read_pin.Goals as goal
 
@@ -31,7 +31,7 @@ returns-in_err-point-clause-seen g c =
     let s = core_of c.args.self.now in
     let fewer = g.met.S.Store.may_fewer s.store in
     let count = length c.args.out.now in
-    subst (λ r. Sees g.S.Store s (ReadPin c.args.pin c.args.from count) Frames c.args.out.now r s)
+    subst (λ r. Sees g.S.Store s (seen (ReadPin c.args.pin c.args.from count) Frames c.args.out.now r) s)
     (sym (p.1 ∙ ap Err (p.2 ∙ c.in_err-point.ensures.0)))
     (idle_sees g.S.Store s (ReadPin c.args.pin c.args.from count) Frames c.args.out.now fewer
     (refusal.NoPin c.args.pin) tt tt
@@ -78,7 +78,8 @@ returns-in-Err-clause-seen g c =
     let found =
     subst (λ (ps : List Pin). MayFind ps c.args.pin (Some point)) c.deref.ensures.value c.in_ok-point.ensures in
     let fault = c.in-Err.fault in
-    subst (λ (z : Refusal). Sees g.S.Store s (ReadPin c.args.pin c.args.from count) Frames c.read_mix.new.out (Err z)
+    subst (λ (z : Refusal). Sees g.S.Store s
+    (seen (ReadPin c.args.pin c.args.from count) Frames c.read_mix.new.out (Err z))
     (record s { store = store })) (sym c.into.ensures)
     (unread_sees g.S.Store s
     (ReadPin c.args.pin c.args.from count) store c.read_mix.ensures.kept Frames c.read_mix.new.out fault

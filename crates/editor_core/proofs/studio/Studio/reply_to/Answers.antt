@@ -15,29 +15,28 @@ use Rattle.editor_core.specs.Core.{core_of}
 use Rattle.editor_core.specs.Exports.{moved_from}
 use Rattle.editor_core.specs.Imports.{VaultCounted}
 use Rattle.editor_core.specs.Took.{Took, told_by}
-use Rattle.editor_core.proofs.Applying.{counted_told, names_none, over_silent, over_sound}
+use Rattle.editor_core.proofs.Applying.{counted_told, names_none, over_silent, over_sound, spanned}
 use Rattle.editor_core.proofs.studio.Studio.reply_to.Goals as goal
 
 pub returns-in-Import-clause-took : goal.returns-in-Import-clause-took
 returns-in-Import-clause-took g c =
     let s = core_of c.args.self.now in
     let new = core_of c.import.new.self in
-    let tells = g.V.Vault.tells c.args.vault.now in
     let before = g.V.Vault.holds c.args.vault.now in
-    let after = g.V.Vault.holds c.import.new.vault in
+    let span = spanned (g.V.Vault.tells c.args.vault.now) s new before (g.V.Vault.holds c.import.new.vault) in
     let name = c.as_str.result.now in
     let told = told_by (λ _. reply.Done) c.import.result in
     let line = Line (command.Import name) in
     let same = c.import.ensures.same in
-    let over : TookOver g.S.Store tells before after s line told new =
-    over_sound g.S.Store s tells before after line name told new refl
+    let over : TookOver g.S.Store span line told =
+    over_sound g.S.Store span line name told refl
     (λ is. subst (λ (z : Sounds). Took g.S.Store s line (moved_from (before name) (z name)) told 0 new) (sym same)
     (c.import.ensures.took is))
     (λ is other ne. ap (λ (z : Sounds). z other) same) c.import.ensures.lasts in
     let command_is : command.Import name ≡ c.args.command.now =
     ap command.Import c.as_str.ensures ∙ sym c.in-Import.is in
-    subst (λ (k : Command). TookOver g.S.Store tells before after s (Line k) c.done.result new) command_is
-    (subst (λ (r : Result Reply Refusal). TookOver g.S.Store tells before after s line r new) (sym c.done.ensures) over)
+    subst (λ (k : Command). TookOver g.S.Store span (Line k) c.done.result) command_is
+    (subst (λ (r : Result Reply Refusal). TookOver g.S.Store span line r) (sym c.done.ensures) over)
 
 pub returns-in-Import-clause-faults : goal.returns-in-Import-clause-faults
 returns-in-Import-clause-faults g c = λ some.
@@ -52,21 +51,18 @@ returns-in-Import-clause-untouched g c = λ none. absurd (none-some _ (sym none 
 pub returns-in-Export-clause-took : goal.returns-in-Export-clause-took
 returns-in-Export-clause-took g c =
     let s = core_of c.args.self.now in
-    let new = core_of c.export.new.self in
-    let tells = g.V.Vault.tells c.args.vault.now in
-    let before = g.V.Vault.holds c.args.vault.now in
-    let after = g.V.Vault.holds c.export.new.vault in
+    let span = spanned (g.V.Vault.tells c.args.vault.now) s (core_of c.export.new.self)
+    (g.V.Vault.holds c.args.vault.now) (g.V.Vault.holds c.export.new.vault) in
     let name = c.as_str-in-Export.result.now in
     let told = told_by reply.Wrote c.export.result in
     let line = Line (command.Export name) in
-    let over : TookOver g.S.Store tells before after s line told new =
-    over_sound g.S.Store s tells before after line name told new refl c.export.ensures.took c.export.ensures.others
+    let over : TookOver g.S.Store span line told =
+    over_sound g.S.Store span line name told refl c.export.ensures.took c.export.ensures.others
     c.export.ensures.lasts in
     let command_is : command.Export name ≡ c.args.command.now =
     ap command.Export c.as_str-in-Export.ensures ∙ sym c.in-Export.is in
-    subst (λ (k : Command). TookOver g.S.Store tells before after s (Line k) c.wrote.result new) command_is
-    (subst (λ (r : Result Reply Refusal). TookOver g.S.Store tells before after s line r new)
-    (sym c.wrote.ensures) over)
+    subst (λ (k : Command). TookOver g.S.Store span (Line k) c.wrote.result) command_is
+    (subst (λ (r : Result Reply Refusal). TookOver g.S.Store span line r) (sym c.wrote.ensures) over)
 
 pub returns-in-Export-clause-faults : goal.returns-in-Export-clause-faults
 returns-in-Export-clause-faults g c = λ some.

@@ -3,7 +3,7 @@ use Rattle.std.proofs.Common.{sym, subst}
 use Rattle.pcm_base.specs.declared.command.Call.{Call}
 use Rattle.editor_core.specs.Applied.{TookOver}
 use Rattle.editor_core.specs.Core.{core_of}
-use Rattle.editor_core.proofs.Applying.{over_silent}
+use Rattle.editor_core.proofs.Applying.{over_silent, spanned}
 use Rattle.editor_core.proofs.EventRuns.{other_none, other_of}
 use Rattle.editor_core.proofs.studio.Studio.reply_to_call.Goals as goal
 
@@ -11,10 +11,9 @@ pub returns-in-Line-clause-took : goal.returns-in-Line-clause-took
 returns-in-Line-clause-took g c = (
   c.reply_to.result,
   c.reply_of.ensures,
-  subst (λ (k : Call). TookOver g.S.Store (g.V.Vault.tells c.args.vault.now) (g.V.Vault.holds c.args.vault.now)
-      (g.V.Vault.holds c.reply_to.new.vault)
-      (core_of c.args.self.now) k c.reply_to.result (core_of c.reply_to.new.self))
-      (sym c.in-Line.is) c.reply_to.ensures.took,
+  subst (λ (k : Call). TookOver g.S.Store (spanned (g.V.Vault.tells c.args.vault.now) (core_of c.args.self.now)
+      (core_of c.reply_to.new.self) (g.V.Vault.holds c.args.vault.now) (g.V.Vault.holds c.reply_to.new.vault)) k
+      c.reply_to.result) (sym c.in-Line.is) c.reply_to.ensures.took,
 )
 
 pub other_reply-requires-clause-other : goal.other_reply-requires-clause-other

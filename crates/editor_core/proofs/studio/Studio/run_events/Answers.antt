@@ -7,6 +7,7 @@ use Rattle.pcm_base.specs.declared.entry.Event.{Event}
 use Rattle.editor_core.specs.Applied.{reply_of}
 use Rattle.editor_core.specs.Core.{core_of}
 use Rattle.editor_core.specs.Events.{RanOver}
+use Rattle.editor_core.proofs.Applying.{spanned}
 use Rattle.editor_core.proofs.EventRuns.{over_at, ran_more, ran_none, take_item}
 use Rattle.editor_core.proofs.studio.Studio.run_events.Goals as goal
 
@@ -39,16 +40,16 @@ events-preserved g c =
     let took = c.reply_to_call-reply.ensures.took in
     let get = slice_get_read events _ i e refl c.events-test.true c.event-item.is in
     let all = take_item i events e get in
-    let over = over_at g.S.Store tells
-    (g.V.Vault.tells c.events.vault) here after mid new e.call took.0 c.events.invariant.tells took.2 in
+    let over = over_at g.S.Store tells (spanned (g.V.Vault.tells c.events.vault) mid new here after) e.call took.0
+    c.events.invariant.tells took.2 in
     let more = ran_more g.S.Store tells before here after s mid new (take i events) was.0 was.2 e took.0 over in
     record {
       ran = (
         was.0 ++ reply_of took.0 ∷ [],
         c.in_ok-push.ensures.items ∙ (λ k. was.1 k ++ took.1 k ∷ [])
             ∙ append_assoc c.args.replies.now.items was.0 (reply_of took.0 ∷ []),
-        subst (λ (es : List Event). RanOver g.S.Store tells before after s es (was.0 ++ reply_of took.0 ∷ []) new)
-            (sym all) more,
+        subst (λ (es : List Event).
+            RanOver g.S.Store (spanned tells s new before after) es (was.0 ++ reply_of took.0 ∷ [])) (sym all) more,
       );
       tells = c.reply_to_call-reply.ensures.tells ∙ c.events.invariant.tells;
       room = omega (

@@ -8,8 +8,13 @@ use Rattle.editor_core.proofs.studio.Studio.run_events.Given as goal
 abbrev pub invariant-events : goal.invariant-events
 invariant-events g l = record {
   ran : (told : List Reply) × (l.replies.items ≡ l.fn.replies.items ++ told)
-      × RanOver g.S.Store (g.V.Vault.tells l.fn.vault) (g.V.Vault.holds l.fn.vault) (g.V.Vault.holds l.vault)
-      (core_of l.fn.self) (take l.event-index l.events) told (core_of l.self);
+      × RanOver g.S.Store (record {
+        old = core_of l.fn.self;
+        new = core_of l.self;
+        tells = g.V.Vault.tells l.fn.vault;
+        old_sounds = g.V.Vault.holds l.fn.vault;
+        new_sounds = g.V.Vault.holds l.vault;
+      }) (take l.event-index l.events) told;
   tells : g.V.Vault.tells l.vault ≡ g.V.Vault.tells l.fn.vault;
   room : length l.replies.items + (length l.events - l.event-index) ≤ vec_capacity l.replies;
 }

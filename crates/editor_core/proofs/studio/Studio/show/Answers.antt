@@ -9,7 +9,7 @@ use Rattle.editor_core.specs.Core.{core_of}
 use Rattle.editor_core.specs.Points.{lacks}
 use Rattle.editor_core.specs.Reads.{Sees}
 use Rattle.editor_core.proofs.Currents.{layout_may_read, layout_whole}
-use Rattle.editor_core.proofs.Seeing.{idle_sees, read_sees, unread_sees}
+use Rattle.editor_core.proofs.Seeing.{idle_sees, read_sees, unread_sees, seen}
 use Rattle.editor_core.proofs.Showing.{show_stopped, show_lacks, show_beyond, show_done, show_failed}
 use Rattle.editor_core.proofs.studio.Studio.show.Goals as goal
 
@@ -28,7 +28,8 @@ returns-in_err-layout g c =
     let fewer = g.met.S.Store.may_fewer s.store in
     let call = Line (Show c.args.track c.args.from c.args.to) in
     let why = refusal.NoTrack c.args.track in
-    subst (λ r. Sees g.S.Store s call Cells c.args.out.now r s) (sym (p.1 ∙ ap Err (p.2 ∙ c.in_err-layout.ensures.0)))
+    subst (λ r. Sees g.S.Store s (seen call Cells c.args.out.now r) s)
+    (sym (p.1 ∙ ap Err (p.2 ∙ c.in_err-layout.ensures.0)))
     (idle_sees g.S.Store s call Cells c.args.out.now fewer why tt tt
     (show_lacks g.S.Store s c.requires.studio c.args.track c.args.from c.args.to fewer why c.in_default.is
     (ap (lacks c.args.track) c.in_err-layout.ensures.1)))
@@ -39,7 +40,8 @@ returns-in_err-may_view g c =
     let s = core_of c.args.self.now in
     let fewer = g.met.S.Store.may_fewer s.store in
     let call = Line (Show c.args.track c.args.from c.args.to) in
-    subst (λ r. Sees g.S.Store s call Cells c.args.out.now r s) (sym (p.1 ∙ ap Err (p.2 ∙ c.in_err-may_view.ensures.0)))
+    subst (λ r. Sees g.S.Store s (seen call Cells c.args.out.now r) s)
+    (sym (p.1 ∙ ap Err (p.2 ∙ c.in_err-may_view.ensures.0)))
     (idle_sees g.S.Store s call Cells c.args.out.now fewer refusal.BadRange tt tt
     (show_beyond g.S.Store s c.requires.studio c.args.track c.args.from c.args.to fewer c.in_ok-layout.layout.now
     c.in_ok-layout.ensures c.in_default.is refusal.BadRange c.in_err-may_view.ensures.1))
@@ -59,7 +61,8 @@ returns-in_err-count g c =
     let layout = c.in_ok-layout.layout.now in
     let has = c.in_ok-layout.ensures in
     let fault = c.in_err-count.field-0.0 in
-    subst (λ r. Sees g.S.Store s call Cells c.read_view.new.out r (record s { store = store })) (sym (p.1 ∙ ap Err p.2))
+    subst (λ r. Sees g.S.Store s (seen call Cells c.read_view.new.out r) (record s { store = store }))
+    (sym (p.1 ∙ ap Err p.2))
     (unread_sees g.S.Store s call store c.read_view.ensures.kept Cells c.read_view.new.out fault
     (λ held. c.in_err-count.ensures.sound held.tells
     (layout_whole g.S.Store s c.requires.studio c.args.track layout has held))

@@ -1,11 +1,10 @@
 -- Each line is a step by the call that is its own.
-use Rattle.std.proofs.Common.{sym, ap, ◌∙◌, subst, length, Result}
+use Rattle.std.proofs.Common.{sym, subst, length, Result}
 use Rattle.pcm_base.specs.declared.answer.Reply.{Reply}
 use Rattle.pcm_base.specs.declared.command.Command.{Command}
 use Rattle.pcm_base.specs.declared.command.Command.TheVariants as command
 use Rattle.pcm_base.specs.declared.command.Call.TheVariants.{Line}
 use Rattle.pcm_base.specs.declared.refusal.Refusal.{Refusal}
-use Rattle.pcm_base.specs.Form.{IsInForm}
 use Rattle.editor_core.specs.Core.{core_of}
 use Rattle.editor_core.specs.Took.{Took, silent}
 use Rattle.editor_core.proofs.studio.Studio.silent_reply.Goals as goal
@@ -58,115 +57,6 @@ returns-in-Mute g c =
           (sym c.in-Mute.is)
           (subst (λ (r : Result Reply Refusal). Took g.S.Store s (Line (command.Mute c.in-Mute.track c.in-Mute.mute))
           silent r 0 (core_of c.mute.new.self)) (sym c.done-in-Mute.ensures) c.mute.ensures.took),
-    )
-
-pub returns-in-Delete : goal.returns-in-Delete
-returns-in-Delete g c =
-    let s = core_of c.args.self.now in (
-      0,
-      subst (λ (k : Command). Took g.S.Store s (Line k) silent c.done-in-Delete.result 0 (core_of c.delete.new.self))
-          (sym c.in-Delete.is)
-          (subst (λ (r : Result Reply Refusal).
-          Took g.S.Store s (Line (command.Delete c.in-Delete.track c.in-Delete.from c.in-Delete.to)) silent r 0
-          (core_of c.delete.new.self)) (sym c.done-in-Delete.ensures) c.delete.ensures.took),
-    )
-
-pub returns-in-SplitDelete : goal.returns-in-SplitDelete
-returns-in-SplitDelete g c =
-    let s = core_of c.args.self.now in (
-      0,
-      subst (λ (k : Command). Took g.S.Store s (Line k) silent c.done-in-SplitDelete.result 0
-          (core_of c.split_delete.new.self)) (sym c.in-SplitDelete.is)
-          (subst (λ (r : Result Reply Refusal). Took g.S.Store s
-          (Line (command.SplitDelete c.in-SplitDelete.track c.in-SplitDelete.from c.in-SplitDelete.to)) silent r 0
-          (core_of c.split_delete.new.self)) (sym c.done-in-SplitDelete.ensures) c.split_delete.ensures.took),
-    )
-
-pub returns-in-Silence : goal.returns-in-Silence
-returns-in-Silence g c =
-    let s = core_of c.args.self.now in (
-      0,
-      subst (λ (k : Command). Took g.S.Store s (Line k) silent c.done-in-Silence.result 0 (core_of c.silence.new.self))
-          (sym c.in-Silence.is)
-          (subst (λ (r : Result Reply Refusal).
-          Took g.S.Store s (Line (command.Silence c.in-Silence.track c.in-Silence.from c.in-Silence.to)) silent r 0
-          (core_of c.silence.new.self)) (sym c.done-in-Silence.ensures) c.silence.ensures.took),
-    )
-
-pub returns-in-Trim : goal.returns-in-Trim
-returns-in-Trim g c =
-    let s = core_of c.args.self.now in (
-      0,
-      subst (λ (k : Command). Took g.S.Store s (Line k) silent c.done-in-Trim.result 0 (core_of c.trim.new.self))
-          (sym c.in-Trim.is)
-          (subst (λ (r : Result Reply Refusal). Took g.S.Store s
-          (Line (command.Trim c.in-Trim.track c.in-Trim.from c.in-Trim.to)) silent r 0 (core_of c.trim.new.self))
-          (sym c.done-in-Trim.ensures) c.trim.ensures.took),
-    )
-
-pub returns-in-Gain : goal.returns-in-Gain
-returns-in-Gain g c =
-    let s = core_of c.args.self.now in (
-      0,
-      subst (λ (k : Command). Took g.S.Store s (Line k) silent c.done-in-Gain.result 0 (core_of c.gain.new.self))
-          (sym c.in-Gain.is)
-          (subst (λ (r : Result Reply Refusal). Took g.S.Store s
-          (Line (command.Gain c.in-Gain.track c.in-Gain.from c.in-Gain.to c.in-Gain.gain)) silent r 0
-          (core_of c.gain.new.self)) (sym c.done-in-Gain.ensures) c.gain.ensures.took),
-    )
-
-pub returns-in-Cut : goal.returns-in-Cut
-returns-in-Cut g c =
-    let s = core_of c.args.self.now in (
-      0,
-      subst (λ (k : Command). Took g.S.Store s (Line k) silent c.done-in-Cut.result 0 (core_of c.cut.new.self))
-          (sym c.in-Cut.is)
-          (subst (λ (r : Result Reply Refusal).
-          Took g.S.Store s (Line (command.Cut c.in-Cut.track c.in-Cut.count c.in-Cut.from c.in-Cut.to)) silent r 0
-          (core_of c.cut.new.self)) (sym c.done-in-Cut.ensures) c.cut.ensures.took),
-    )
-
-pub returns-in-SplitCut : goal.returns-in-SplitCut
-returns-in-SplitCut g c =
-    let s = core_of c.args.self.now in (
-      0,
-      subst (λ (k : Command). Took g.S.Store s (Line k) silent c.done-in-SplitCut.result 0
-          (core_of c.split_cut.new.self)) (sym c.in-SplitCut.is)
-          (subst (λ (r : Result Reply Refusal). Took g.S.Store s
-          (Line (command.SplitCut c.in-SplitCut.track c.in-SplitCut.count c.in-SplitCut.from c.in-SplitCut.to))
-          silent r 0 (core_of c.split_cut.new.self)) (sym c.done-in-SplitCut.ensures) c.split_cut.ensures.took),
-    )
-
-pub returns-in-Copy : goal.returns-in-Copy
-returns-in-Copy g c =
-    let s = core_of c.args.self.now in (
-      0,
-      subst (λ (k : Command). Took g.S.Store s (Line k) silent c.copied.result 0 (core_of c.copy.new.self))
-          (sym c.in-Copy.is)
-          (subst (λ (r : Result Reply Refusal). Took g.S.Store s
-          (Line (command.Copy c.in-Copy.track c.in-Copy.count c.in-Copy.from c.in-Copy.to)) silent r 0
-          (core_of c.copy.new.self)) (sym c.copied.ensures) c.copy.ensures.took),
-    )
-
-pub returns-in-Paste : goal.returns-in-Paste
-returns-in-Paste g c =
-    let s = core_of c.args.self.now in (
-      0,
-      subst (λ (k : Command). Took g.S.Store s (Line k) silent c.done-in-Paste.result 0 (core_of c.paste.new.self))
-          (sym c.in-Paste.is)
-          (subst (λ (r : Result Reply Refusal). Took g.S.Store s (Line (command.Paste c.in-Paste.track c.in-Paste.at))
-          silent r 0 (core_of c.paste.new.self)) (sym c.done-in-Paste.ensures) c.paste.ensures.took),
-    )
-
-pub returns-in-PasteOver : goal.returns-in-PasteOver
-returns-in-PasteOver g c =
-    let s = core_of c.args.self.now in (
-      0,
-      subst (λ (k : Command). Took g.S.Store s (Line k) silent c.done-in-PasteOver.result 0
-          (core_of c.paste_over.new.self)) (sym c.in-PasteOver.is)
-          (subst (λ (r : Result Reply Refusal).
-          Took g.S.Store s (Line (command.PasteOver c.in-PasteOver.track c.in-PasteOver.at)) silent r 0
-          (core_of c.paste_over.new.self)) (sym c.done-in-PasteOver.ensures) c.paste_over.ensures.took),
     )
 
 pub returns-in-Undo : goal.returns-in-Undo
@@ -244,20 +134,3 @@ returns-in-Reclaim g c =
           (length c.reclaim.ensures.ids) (core_of c.reclaim.new.self))
           (sym c.freed.ensures) c.reclaim.ensures.took),
     )
-
-pub returns-in-Put : goal.returns-in-Put
-returns-in-Put g c =
-    let s = core_of c.args.self.now in (
-      0,
-      subst (λ (k : Command). Took g.S.Store s (Line k) silent c.done-in-Put.result 0 (core_of c.put.new.self))
-          (ap (command.Put c.in-Put.track c.in-Put.at) c.as_slice.ensures ∙ sym c.in-Put.is)
-          (subst (λ (r : Result Reply Refusal). Took g.S.Store s
-          (Line (command.Put c.in-Put.track c.in-Put.at c.as_slice.result.now)) silent r 0 (core_of c.put.new.self))
-          (sym c.done-in-Put.ensures) c.put.ensures.took),
-    )
-
-pub paste-requires-clause-in_form : goal.paste-requires-clause-in_form
-paste-requires-clause-in_form g c = (subst IsInForm c.in-Paste.is c.requires.in_form).1
-
-pub paste_over-requires-clause-in_form : goal.paste_over-requires-clause-in_form
-paste_over-requires-clause-in_form g c = (subst IsInForm c.in-PasteOver.is c.requires.in_form).1

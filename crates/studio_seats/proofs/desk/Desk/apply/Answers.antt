@@ -21,7 +21,7 @@ with-requires-clause-fits g c =
       is_studio g.S.Store g.V.Vault (start_of c.args.self.now.turn) x y.now _ stood is,
       c.requires.in_form,
     ))
-    (λ s f' x x' called. does_line g.S.Store (g.V.Vault.tells c.args.vault.now) _ _ _ _ _ _ _ _
+    (λ s f' x x' called. does_line g.S.Store _ _ _ _ _
     (λ all. all c.args.vault.now) called.called.met.1.0)
 
 pub returns-clause-says : goal.returns-clause-says
@@ -32,7 +32,7 @@ returns-clause-says g c =
     (move_of (name_in_line c.args.command.now) (g.V.Vault.holds c.args.vault.now) (g.V.Vault.holds c.vault-1.given.0)) _
     _ _ c.with.ensures.turned c.said_by.ensures
     (λ s x x' called. record {
-      does = does_line g.S.Store (g.V.Vault.tells c.args.vault.now) _ _ _ _ _ _ _ _
+      does = does_line g.S.Store _ _ _ _ _
           (λ all. all c.args.vault.now) called.called.met.1.0;
       number = called.called.met.1.1.0;
       what_is =

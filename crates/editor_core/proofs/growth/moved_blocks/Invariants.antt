@@ -1,7 +1,7 @@
 -- The blocks so far.
 use Rattle.std.proofs.Common.{◌≡◌, map, take}
 use Rattle.editor_core.specs.Imports.{block_behind}
-use Rattle.editor_core.proofs.imports.moved_blocks.Given as goal
+use Rattle.editor_core.proofs.growth.moved_blocks.Given as goal
 
 abbrev pub invariant-loop-block : goal.invariant-loop-block
 invariant-loop-block l = l.out.items ≡ map (block_behind l.skip) (take l.block-index l.blocks)

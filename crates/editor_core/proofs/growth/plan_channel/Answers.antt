@@ -8,7 +8,7 @@ use Rattle.edit_ops.specs.declared.types.NewBlock.{NewBlock}
 use Rattle.edit_ops.specs.Plans.{IsPlan, Means}
 use Rattle.editor_core.specs.Imports.{AllFitBehind, block_behind}
 use Rattle.editor_core.proofs.Channels.{channel_plan, fit_blocks}
-use Rattle.editor_core.proofs.imports.plan_channel.Goals as goal
+use Rattle.editor_core.proofs.growth.plan_channel.Goals as goal
 
 pub moved_blocks-requires : goal.moved_blocks-requires
 moved_blocks-requires c =

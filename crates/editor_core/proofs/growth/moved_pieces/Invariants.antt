@@ -1,7 +1,7 @@
 -- The pieces so far.
 use Rattle.std.proofs.Common.{◌≡◌, map, take}
 use Rattle.editor_core.specs.Imports.{piece_behind}
-use Rattle.editor_core.proofs.imports.moved_pieces.Given as goal
+use Rattle.editor_core.proofs.growth.moved_pieces.Given as goal
 
 abbrev pub invariant-loop-piece : goal.invariant-loop-piece
 invariant-loop-piece l = l.out.items ≡ map (piece_behind l.skip) (take l.piece-index l.pieces)

@@ -1,7 +1,7 @@
 -- One channel more.
 use Rattle.std.proofs.Common.{◌∙◌, sym, ap, ℤ, List, ◌++◌}
 use Rattle.editor_core.proofs.Importing.{all_of_more}
-use Rattle.editor_core.proofs.imports.joined.Goals as goal
+use Rattle.editor_core.proofs.joining.joined.Goals as goal
 
 pub loop-samples-preserved : goal.loop-samples-preserved
 loop-samples-preserved c =

@@ -1,0 +1,149 @@
+-- An edit whose commit was carried out, as the code takes its point, and then its clipboard.
+use Rattle.std.proofs.Common.{◌≡◌, ◌∙◌, sym, ap, subst, ℕ, ◌+◌, List, Option, Ok, ◌<◌, ◌^◌, None}
+use Rattle.pcm_base.specs.declared.answer.Reply.TheVariants.{Done}
+use Rattle.pcm_base.specs.declared.command.Call.{Call}
+use Rattle.pcm_base.specs.declared.entry.SoundMove.{SoundMove}
+use Rattle.pcm_base.specs.Counters.{commits_of}
+use Rattle.pcm_base.specs.History.{History, recorded}
+use Rattle.disk_model.specs.declared.store.Store.{Ghosts}
+use Rattle.disk_model.proofs.Frames.{Fewer}
+use Rattle.block_ledger.specs.Counts.{Counts, occurrences}
+use Rattle.clip_track.specs.declared.items.Item.{Item}
+use Rattle.project_state.specs.declared.track.Track.{Track}
+use Rattle.project_state.specs.Kept.{history_blocks, point_blocks}
+use Rattle.editor_core.specs.Applied.{Lasts}
+use Rattle.editor_core.specs.Core.{Core}
+use Rattle.editor_core.specs.Edits.{Committed, IsEdit, IsPlanned, TaggedEdit, clip_behind, clip_then, history_behind}
+use Rattle.editor_core.specs.Occurrences.{HasAll, HasIds, Moves}
+use Rattle.editor_core.specs.Studios.{IsStudio, MayPaste, clip_blocks}
+use Rattle.editor_core.specs.Took.{Took}
+use Rattle.editor_core.proofs.CarriedOut.{commit_of}
+use Rattle.editor_core.proofs.EditLaws.{point_few, point_named, point_there}
+use Rattle.editor_core.proofs.EditSteps.{edit_ok}
+use Rattle.editor_core.proofs.Lasting.{lasts_ok}
+use Rattle.editor_core.proofs.TakenOut.{taken_counted, taken_ids, taken_named, taken_room, taken_there}
+use Rattle.editor_core.proofs.Times.{Few}
+
+-- the commit of an edit carried out, and the point that came back from its body recorded
+pub record IsPointed {D : Type 0} (disk : Ghosts D) (s : Core D) (e : TaggedEdit) (now : Core D) : Type 0 where
+  pub new : Core D
+  pub committed : Committed disk s (commit_of s e) (Ok (tt {0})) new
+  pub history : new.history ≡ s.history
+  pub point : List Track
+  pub point_is : e.plan.point ≡ point
+  pub fields : now ≡ record new {
+    history = recorded new.history point e.tag;
+    counts = now.counts;
+    next_track = new.next_track + e.plan.tracks;
+  }
+  pub counted : Moves new.counts now.counts (history_blocks new.history)
+      (history_blocks (recorded new.history point e.tag))
+
+module _ {D : Type 0} (disk : Ghosts D) (s : Core D) (is : IsStudio disk s) (going : s.stopped ≡ None)
+    (e : TaggedEdit) (plan : IsPlanned s e) where
+  -- ---- before the point is recorded
+
+  module _ (new : Core D) (k : Committed disk s (commit_of s e) (Ok (tt {0})) new) where
+    counts_are : k.mid.counts ≡ new.counts
+    counts_are = sym (ap (λ (z : Core D). z.counts) k.adds.fields.0)
+
+    pub recorded_there : HasIds new.counts (point_blocks e.plan.point)
+    recorded_there = subst (λ (z : Counts). HasIds z (point_blocks e.plan.point)) counts_are
+        (point_there disk s is going e plan k.mid k.making k.prepared.blocks)
+
+    pub recorded_few : Few new.counts (point_blocks e.plan.point)
+    recorded_few = subst (λ (z : Counts). Few z (point_blocks e.plan.point)) counts_are
+        (point_few disk s is going e plan k.mid k.making k.prepared.blocks)
+
+    pub recorded_named : new.history ≡ s.history → HasAll new.counts (history_blocks new.history)
+    recorded_named same = subst (λ (h : History (List Track)). HasAll new.counts (history_blocks h)) (sym same)
+        (subst (λ (z : Counts). HasAll z (history_blocks s.history)) counts_are
+        (point_named disk s is going e plan k.mid k.making k.prepared.blocks))
+
+  -- ---- behind it, before the clipboard is taken
+
+  module _ (now : Core D) (at : IsPointed disk s e now) where
+    abbrev new : Core D
+    new = at.new
+
+    abbrev k : Committed disk s (commit_of s e) (Ok (tt {0})) at.new
+    k = at.committed
+
+    moves : Moves k.mid.counts now.counts (history_blocks s.history) (history_blocks (history_behind s e))
+    moves = subst (λ (z : Counts). Moves z now.counts (history_blocks s.history) (history_blocks (history_behind s e)))
+        (ap (λ (z : Core D). z.counts) k.adds.fields.0)
+        (subst (λ (q : List Track).
+        Moves new.counts now.counts (history_blocks s.history) (history_blocks (recorded s.history q e.tag)))
+        (sym at.point_is)
+        (subst (λ (h : History (List Track)).
+        Moves new.counts now.counts (history_blocks h) (history_blocks (recorded h at.point e.tag)))
+        at.history at.counted))
+
+    clip_was : now.clipboard ≡ s.clipboard
+    clip_was = ap (λ (z : Core D). z.clipboard) at.fields ∙ ap (λ (z : Core D). z.clipboard) k.adds.fields.0
+        ∙ ap (λ (z : Core D). z.clipboard) k.making.is
+
+    size_was : now.block_size ≡ s.block_size
+    size_was = ap (λ (z : Core D). z.block_size) at.fields ∙ ap (λ (z : Core D). z.block_size) k.adds.fields.0
+        ∙ ap (λ (z : Core D). z.block_size) k.making.is
+
+    pub out_there : HasIds now.counts (clip_blocks (clip_behind now e.plan))
+    out_there = subst (λ (z : Option (List (List Item))). HasIds now.counts (clip_blocks (clip_then e.plan.clip z)))
+        (sym clip_was) (taken_there disk s is going e plan k.mid k.making now.counts moves k.prepared.blocks)
+
+    pub out_room : (id : ℕ) → occurrences (now.counts id) < 2 ^ 102
+    out_room = taken_room disk s is going e plan k.mid k.making now.counts moves
+
+    pub out_fits : MayPaste now.block_size (clip_behind now e.plan)
+    out_fits = subst (λ (m : ℕ). MayPaste m (clip_behind now e.plan)) (sym size_was)
+        (subst (λ (z : Option (List (List Item))). MayPaste s.block_size (clip_then e.plan.clip z)) (sym clip_was)
+        plan.clip_fits)
+
+    pub out_named : HasAll now.counts (clip_blocks now.clipboard)
+    out_named = subst (λ (z : Option (List (List Item))). HasAll now.counts (clip_blocks z)) (sym clip_was)
+        (taken_named disk s is going e plan k.mid k.making now.counts moves)
+
+    -- ---- behind it all
+
+    module _ (last : Core D)
+        (fields : last ≡ record now { clipboard = clip_behind now e.plan; counts = last.counts })
+        (taken : Moves now.counts last.counts (clip_blocks now.clipboard) (clip_blocks (clip_behind now e.plan))) where
+      takes : Moves now.counts last.counts (clip_blocks s.clipboard) (clip_blocks (clip_behind s e.plan))
+      takes = subst (λ (z : Option (List (List Item))).
+          Moves now.counts last.counts (clip_blocks z) (clip_blocks (clip_then e.plan.clip z))) clip_was taken
+
+      abbrev history_now : History (List Track)
+      history_now = recorded new.history at.point e.tag
+
+      moved : history_now ≡ history_behind s e
+      moved = λ i. recorded (at.history i) (sym at.point_is i) e.tag
+
+      tracked : new.next_track + e.plan.tracks ≡ s.next_track + e.plan.tracks
+      tracked = ap (λ (n : ℕ). n + e.plan.tracks) (ap (λ (z : Core D). z.next_track) k.adds.fields.0
+          ∙ ap (λ (z : Core D). z.next_track) k.making.is)
+
+      all : last ≡ record new {
+        history = history_now;
+        clipboard = clip_behind s e.plan;
+        counts = last.counts;
+        next_track = new.next_track + e.plan.tracks;
+      }
+      all = fields ∙ (λ i. record (at.fields i) {
+        clipboard = clip_then e.plan.clip (clip_was i);
+        counts = last.counts;
+      })
+
+      pub took_so : ((store : D) → Fewer disk store) → (c : Call) (sound : SoundMove) → IsEdit disk s c sound e
+          → Took disk s c sound (Ok Done) 0 last
+      took_so fewer c sound edit = subst (λ (z : Core D). Took disk s c sound (Ok Done) 0 z) (sym all)
+          (edit_ok disk s is going e plan c sound edit fewer (tt {0}) new k history_now last.counts
+          (new.next_track + e.plan.tracks) moved tracked
+          (taken_counted disk s is going e plan k.mid k.making now.counts moves last.counts takes)
+          (taken_ids disk s is going e plan k.mid k.making now.counts moves last.counts takes))
+
+      pub lasts_so : (c : Call) → commits_of c ≡ 1 → Lasts disk s c (Ok Done) 0 last
+      lasts_so c one = subst (λ (z : Core D). Lasts disk s c (Ok Done) 0 z) (sym all)
+          (lasts_ok disk s is going e plan c one (tt {0}) new k history_now last.counts
+          (new.next_track + e.plan.tracks) moved tracked
+          (taken_counted disk s is going e plan k.mid k.making now.counts moves last.counts takes)
+          (taken_ids disk s is going e plan k.mid k.making now.counts moves last.counts takes))

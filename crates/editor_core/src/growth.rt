@@ -1,0 +1,186 @@
+// The project as it grows by a track for each channel of a sound.
+ghost use Rattle.std.specs.Prelude.{◌≡◌, ◌+◌, ◌-◌, ◌≤◌, ◌<◌, ◌^◌, IfErr, IfOk, MatchResult, OnOk};
+ghost use Rattle.std.specs.Prelude.{None, [], ◌∷◌, ◌++◌, length, map};
+ghost use Rattle.std.specs.List.{AllByRecursion};
+ghost use Rattle.pcm_base.specs.declared.refusal.Refusal.TheVariants as refusal;
+ghost use Rattle.pcm_base.specs.Refusals.{length_limit};
+ghost use Rattle.edit_ops.specs.Plans.{AnswersTest};
+ghost use Rattle.project_state.specs.Tracks.{Adds, AllBelow};
+ghost use Rattle.editor_core.specs.Imports.{AddsChannel, AllFitBehind, FitsBehind, IsChannelPlan};
+ghost use Rattle.editor_core.specs.Imports.{block_behind, piece_behind, track_with};
+
+use super::carrying::Planned;
+use super::commits::MOST;
+use block_sequence::Pieces;
+use clip_track::Layout;
+use edit_ops::{NewBlock, NewBlocks, Plan, Planner, insert};
+use pcm_base::{NoMemory, Piece, Refusal, Side};
+use project_state::{Point, Track};
+use std::alloc::Global;
+
+/// The project that grows track by track, the blocks that are to be made for it, the id of the next block after them,
+/// and how many samples the tracks so far have: so many of those that are brought are spoken for.
+#[derive(Drop)]
+pub(crate) struct Growing {
+    pub(crate) point: Point,
+    pub(crate) makes: Vec<NewBlock>,
+    pub(crate) next: u64,
+    pub(crate) brought: u64,
+}
+
+// A piece of a channel's samples, as a piece of all samples, where so many stand before the channel's.
+fn moved_piece(piece: Piece, skip: u64) -> Piece
+    requires { FitsBehind skip piece }
+    ensures { result ≡ piece_behind skip piece }
+{
+    match piece {
+        Piece::Given { from, to } => Piece::Given {
+            from: from + skip,
+            to: to + skip,
+        },
+        Piece::Old { .. } | Piece::Scaled { .. } | Piece::Zero { .. } => piece,
+    }
+}
+
+// The same of all pieces of a block.
+fn moved_pieces(alloc: Global, pieces: &[Piece], skip: u64) -> Result<Vec<Piece>, NoMemory>
+    requires { AllByRecursion (FitsBehind skip) pieces.now }
+    ensures { IfOk result (λ v. v.items ≡ map (piece_behind skip) pieces.now) }
+{
+    let mut out = Vec::with_capacity(alloc, pieces.len())?;
+    for piece in pieces {
+        out.push(moved_piece(*piece, skip))?;
+    }
+    Ok(out)
+}
+
+// The same of blocks.
+fn moved_blocks(alloc: Global, blocks: &[NewBlock], skip: u64) -> Result<Vec<NewBlock>, NoMemory>
+    requires { AllFitBehind skip blocks.now }
+    ensures { IfOk result (λ v. v.items ≡ map (block_behind skip) blocks.now) }
+{
+    let mut out = Vec::with_capacity(alloc, blocks.len())?;
+    for block in blocks {
+        let pieces = moved_pieces(alloc, block.pieces.as_slice(), skip)?;
+        out.push(NewBlock {
+            id: block.id,
+            len: block.len,
+            pieces: Pieces::new(pieces),
+        })?;
+    }
+    Ok(out)
+}
+
+// The plan of a new track of so many of the samples that are brought, from a place among them on.
+fn plan_channel(planner: Planner, from: u64, count: u64) -> Result<Plan, Refusal>
+    requires few { from + count ≤ 2 ^ 62 }
+    ensures plan { IfOk result (IsChannelPlan from count planner.block_size planner.next) }
+    ensures tests { AnswersTest (length_limit (count ∷ [])) result }
+{
+    let plan = insert(planner, &Layout::new(planner.alloc), 0, count)?;
+    let Plan {
+        layout,
+        makes,
+        next: after,
+    } = plan;
+    let makes = moved_blocks(planner.alloc, makes.as_slice(), from)?;
+    Ok(Plan {
+        layout,
+        makes: NewBlocks::new(makes),
+        next: after,
+    })
+}
+
+// Adds a new track with these clips behind the others.
+fn add_track(point: &mut Point, id: u64, layout: Layout) -> Result<(), Refusal>
+    requires { AllBelow id point.old }
+    ensures { Adds point.old point.new (track_with id layout) result }
+{
+    point.add(Track {
+        id,
+        gain: 65_536,
+        side: Side::Both,
+        mute: false,
+        layout,
+    })
+}
+
+// Puts blocks behind others, each of them moved and none copied.
+fn add_blocks(all: &mut Vec<NewBlock>, more: NewBlocks) -> Result<(), NoMemory>
+    ensures { OnOk result (all.new.items ≡ all.old.items ++ more) }
+{
+    for block in more.into_vec() {
+        all.push(block)?;
+    }
+    Ok(())
+}
+
+// Adds a track with the next of the samples that are brought, so many.
+pub(crate) fn add_channel(
+    alloc: Global,
+    growing: &mut Growing,
+    id: u64,
+    count: u64,
+    block_size: u32,
+) -> Result<(), Refusal>
+    requires some { 0 < block_size }
+    requires room { growing.old.next ≤ 2 ^ 62 }
+    requires few { growing.old.brought + count ≤ 2 ^ 62 }
+    requires below { AllBelow id growing.old.point }
+    requires place { length growing.old.point < 64 }
+    requires short { length_limit (count ∷ []) ≡ None }
+    ensures added { OnOk result (AddsChannel block_size id count growing.old growing.new) }
+    ensures memory { IfErr result (λ e. e ≡ refusal.NoMemory) }
+{
+    let planner = Planner {
+        alloc,
+        block_size,
+        next: growing.next,
+    };
+    let plan = plan_channel(planner, growing.brought, count)?;
+    let Plan {
+        layout,
+        makes,
+        next,
+    } = plan;
+    add_track(&mut growing.point, id, layout)?;
+    add_blocks(&mut growing.makes, makes)?;
+    growing.next = next;
+    growing.brought += count;
+    Ok(())
+}
+
+// Whether there may be a block of the next id.
+pub(crate) fn ids_left(first: u64, next: u64) -> Result<(), Refusal>
+    requires { first ≤ next }
+    ensures { MatchResult result (λ _. next ≤ 2 ^ 62)
+        (λ e. (e ≡ refusal.SpaceSpent first (next - first)) × (2 ^ 62 < next)) }
+{
+    if next > MOST {
+        return Err(Refusal::SpaceSpent {
+            have: first,
+            need: next - first,
+        });
+    }
+    Ok(())
+}
+
+// The plan of the project that has grown by so many tracks.
+pub(crate) fn planned_of(growing: Growing, tracks: u64) -> Planned
+    ensures { (result.point ≡ growing.point) × (result.makes ≡ growing.makes.items) × (result.next ≡ growing.next)
+        × (result.tracks ≡ tracks) × (result.clip ≡ None) }
+{
+    let Growing {
+        point,
+        makes,
+        next,
+        ..
+    } = growing;
+    Planned {
+        point,
+        makes: NewBlocks::new(makes),
+        next,
+        tracks,
+        clip: None,
+    }
+}
