@@ -176,8 +176,8 @@ impl Ledger {
         named
     }
 
-    // The place of an id among the entries, or the place to which it would go. Blocks are mostly counted in the order of
-    // their ids, so the next place is looked at first.
+    // The place of an id among the entries, or the place to which it would go. Blocks are mostly counted in the order
+    // of their ids, so the next place is looked at first.
     fn position(&self, id: u64) -> Result<usize, usize>
         ensures rising { IsRising self.now.entries }
         ensures found { IfOk result (IsAt self.now.entries id) }
