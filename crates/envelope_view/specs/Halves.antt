@@ -18,10 +18,17 @@ pub record IsRest (whole side rest : Summary) : Type 0 where
   pub squares : side.squares + rest.squares < 2 ^ 64
   pub count : side.count + rest.count < 2 ^ 64
 
--- of a block of the disk the summaries of its samples from one place up to an edge, and from the edge up to another
-abbrev pub AreHalves : Files → BlockRef → ℕ → ℕ → ℕ → Result Halves BlockFault → Type 0
-AreHalves files b from edge to result = (xs : List ℤ) → blocks files b.id ≡ Some xs → length xs ≡ b.len
-    → IfOk result (λ h. (h.before ≡ summary_of (part from edge xs)) × (h.after ≡ summary_of (part edge to xs)))
+-- the samples of a block from one place up to another, with an edge among them
+pub record Sides : Type 0 where
+  pub from : ℕ
+  pub edge : ℕ
+  pub to : ℕ
+
+-- of a block of the disk the summaries of its samples up to the edge, and from the edge on
+abbrev pub AreHalves : Files → BlockRef → Sides → Result Halves BlockFault → Type 0
+AreHalves files b sides result = (xs : List ℤ) → blocks files b.id ≡ Some xs → length xs ≡ b.len
+    → IfOk result (λ h. (h.before ≡ summary_of (part sides.from sides.edge xs))
+    × (h.after ≡ summary_of (part sides.edge sides.to xs)))
 
 -- what is known, if anything is, is the summary of those samples of the block of the disk
 abbrev pub IsKnown : Files → Option Known → Type 0

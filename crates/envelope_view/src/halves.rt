@@ -90,7 +90,8 @@ fn sides<S: Store>(
     requires few { to ≤ from + 65536 }
     requires whole { IsTrue (S.tells store.old) → (xs : List ℤ) → blocks (S.reads store.old) block.id ≡ Some xs
         → length xs ≡ block.len → whole ≡ summary_of (part_of from to xs) }
-    ensures read { IsTrue (S.tells store.old) → AreHalves (S.reads store.old) block from edge to result }
+    ensures read { IsTrue (S.tells store.old)
+        → AreHalves (S.reads store.old) block (record { from = from; edge = edge; to = to }) result }
     ensures damaged { IsTrue (S.tells store.old)
         → IfErr result (λ e. IsFault block.id block.len (bytes_of (S.reads store.old block.id)) e) }
     ensures kept { Kept S.Store store.old store.new }
@@ -119,7 +120,8 @@ fn long_frames<S: Store>(
     requires rising { first ≤ last }
     requires within { last < frame_count 65536 block.len }
     ensures read { IsTrue (S.tells store.old)
-        → AreHalves (S.reads store.old) block (65536 * first) (65536 * last) (65536 * last + 65536) result }
+        → AreHalves (S.reads store.old) block
+        (record { from = 65536 * first; edge = 65536 * last; to = 65536 * last + 65536 }) result }
     ensures damaged { IsTrue (S.tells store.old)
         → IfErr result (λ e. IsFault block.id block.len (bytes_of (S.reads store.old block.id)) e) }
     ensures kept { Kept S.Store store.old store.new }
@@ -153,7 +155,8 @@ pub(crate) fn up_to_edge<S: Store>(
     requires within { to ≤ block.len }
     requires few { to ≤ 65536 * frame + 65536 }
     requires last { to < 65536 * frame + 65536 → to ≡ block.len }
-    ensures read { IsTrue (S.tells store.old) → AreHalves (S.reads store.old) block from edge to result }
+    ensures read { IsTrue (S.tells store.old)
+        → AreHalves (S.reads store.old) block (record { from = from; edge = edge; to = to }) result }
     ensures damaged { IsTrue (S.tells store.old)
         → IfErr result (λ e. IsFault block.id block.len (bytes_of (S.reads store.old block.id)) e) }
     ensures kept { Kept S.Store store.old store.new }
