@@ -23,6 +23,7 @@ use Rattle.pcm_base.specs.Edits.{part}
 use Rattle.block_store.specs.Reads.{IsFaultIn}
 use Rattle.sample_block.specs.Sources.{AllNamed}
 use Rattle.cell_view.specs.Seen.{place_in, Puts}
+use Rattle.cell_view.specs.declared.places.View.{View}
 use Rattle.cell_view.specs.declared.rest.TrackRest.{TrackRest}
 use Rattle.cell_view.specs.Rests.{rest_cells, rest_blocks, IsRest, IsRestOf, AreSeen}
 use Rattle.cell_view.proofs.PartLists.{take_front}
@@ -215,19 +216,19 @@ length_rest src r is =
     )
 
 -- cells that are put, and gaps behind them, are those that are seen
-pub seen : (src : Sources) (from to : ℕ) (cs : List Clip) (r : TrackRest) (count m : ℕ) (old mid new : List Cell)
-    → IsRestOf from cs r → from + length mid ≡ to → count ≡ place_in from to (end_of 0 cs)
-    → Puts from to r.at (rest_cells src r) old mid → m ≡ length mid - count
-    → new ≡ take count mid ++ replicate m cell.Gap → AreSeen src from cs new
-seen src from to cs r count m old mid new is size place puts many whole k lt =
+pub seen : (src : Sources) (view : View) (cs : List Clip) (r : TrackRest) (count m : ℕ) (old mid new : List Cell)
+    → IsRestOf view.from cs r → view.from + length mid ≡ view.to → count ≡ place_in view (end_of 0 cs)
+    → Puts view r.at (rest_cells src r) old mid → m ≡ length mid - count
+    → new ≡ take count mid ++ replicate m cell.Gap → AreSeen src view.from cs new
+seen src view cs r count m old mid new is size place puts many whole k lt =
     let cells : List Cell = rest_cells src r in
     let long = length_rest src r is.rest in
-    let front : place_in from to r.at ≡ 0 = omega (arith, is.passed) in
-    let end : place_in from to (r.at + length cells) ≡ count = omega (arith, long, is.same_end, place) in
-    let there : take count mid ≡ part (from - r.at) (to - r.at) cells =
+    let front : place_in view r.at ≡ 0 = omega (arith, is.passed) in
+    let end : place_in view (r.at + length cells) ≡ count = omega (arith, long, is.same_end, place) in
+    let there : take count mid ≡ part (view.from - r.at) (view.to - r.at) cells =
     ap (λ (n : ℕ). take n mid) (sym end) ∙ puts
-    ∙ ap (λ (n : ℕ). take n old ++ part (from - r.at) (to - r.at) cells) front in
-    let offset : from - r.at + k ≡ from + k - r.at = omega (arith, is.passed) in
+    ∙ ap (λ (n : ℕ). take n old ++ part (view.from - r.at) (view.to - r.at) cells) front in
+    let offset : view.from - r.at + k ≡ view.from + k - r.at = omega (arith, is.passed) in
     let total : length new ≡ count + m =
     omega (
       arith,
@@ -244,16 +245,16 @@ seen src from to cs r count m old mid new is size place puts many whole k lt =
     (λ (below : k < count).
     get_or_append_left (take count mid) (replicate m cell.Gap) cell.Gap k (omega (arith, fits, below))
     ∙ ap (λ (ys : List Cell). get_or ys k cell.Gap) there
-    ∙ get_or-take (to - r.at - (from - r.at)) (drop (from - r.at) cells) k cell.Gap
-    (omega (arith, place, below, is.passed)) ∙ get_or-drop (from - r.at) cells k cell.Gap
+    ∙ get_or-take (view.to - r.at - (view.from - r.at)) (drop (view.from - r.at) cells) k cell.Gap
+    (omega (arith, place, below, is.passed)) ∙ get_or-drop (view.from - r.at) cells k cell.Gap
     ∙ ap (λ (n : ℕ). get_or cells n cell.Gap) offset)
     (λ (above : count ≤ k).
     get_or-append_right (take count mid) (replicate m cell.Gap) count k cell.Gap fits above
     ∙ get_or-replicate m (k - count) cell.Gap cell.Gap (omega (arith, total, lt, above))
-    ∙ sym (get_or_past cells (from + k - r.at) cell.Gap
+    ∙ sym (get_or_past cells (view.from + k - r.at) cell.Gap
     (omega (arith, long, is.same_end, place, size, above, lt, total, many))))
     (cases_lt k count)
-    ∙ is.cells src (from + k) (omega arith)
+    ∙ is.cells src (view.from + k) (omega arith)
 
 -- the end of a list is written anew
 pub put_tail : {A : Type 0} (a k : ℕ) (xs ys : List A) → length xs ≤ a + k → put_mid a k xs ys ≡ take a xs ++ ys

@@ -22,47 +22,50 @@ use Rattle.block_store.proofs.FaultLaws.{block_sound}
 use Rattle.block_store.proofs.StretchLaws.{length-part}
 use Rattle.sample_block.specs.Sources.{samples_on, IsWhole, AllNamed, AllWhole}
 use Rattle.pcm_base.proofs.Pieces.{stretch_list}
+use Rattle.cell_view.specs.declared.places.View.{View}
 use Rattle.cell_view.specs.Seen.{place_in, Puts}
 use Rattle.cell_view.proofs.PartLists.{part-append, part-empty, part-replicate}
 
 -- cells one after the other
-pub puts_turn : (from to at : ℕ) (xs ys : List Cell) (old mid new : List Cell) → Puts from to at xs old mid
-    → Puts from to (at + length xs) ys mid new → Puts from to at (xs ++ ys) old new
-puts_turn from to at xs ys old mid new one two =
+pub puts_turn : (view : View) (at : ℕ) (xs ys : List Cell) (old mid new : List Cell) → Puts view at xs old mid
+    → Puts view (at + length xs) ys mid new → Puts view at (xs ++ ys) old new
+puts_turn view at xs ys old mid new one two =
     let end : at + length (xs ++ ys) ≡ at + length xs + length ys = omega (arith, length-append xs ys) in
-    let low : from - (at + length xs) ≡ from - at - length xs = omega arith in
-    let high : to - (at + length xs) ≡ to - at - length xs = omega arith in
-    ap (λ n. take (place_in from to n) new) end ∙ two
-    ∙ ap (λ zs. zs ++ part (from - (at + length xs)) (to - (at + length xs)) ys) one
-    ∙ append_assoc (take (place_in from to at) old) (part (from - at) (to - at) xs)
-    (part (from - (at + length xs)) (to - (at + length xs)) ys)
-    ∙ ap (λ zs. take (place_in from to at) old ++ zs) (ap₂
-    (λ a b. part (from - at) (to - at) xs ++ part a b ys) low high ∙ sym (part-append (from - at) (to - at) xs ys))
+    let low : view.from - (at + length xs) ≡ view.from - at - length xs = omega arith in
+    let high : view.to - (at + length xs) ≡ view.to - at - length xs = omega arith in
+    ap (λ n. take (place_in view n) new) end ∙ two
+    ∙ ap (λ zs. zs ++ part (view.from - (at + length xs)) (view.to - (at + length xs)) ys) one
+    ∙ append_assoc (take (place_in view at) old) (part (view.from - at) (view.to - at) xs)
+    (part (view.from - (at + length xs)) (view.to - (at + length xs)) ys)
+    ∙ ap (λ zs. take (place_in view at) old ++ zs) (ap₂
+    (λ a b. part (view.from - at) (view.to - at) xs ++ part a b ys) low high
+    ∙ sym (part-append (view.from - at) (view.to - at) xs ys))
 
 -- no cell of these is seen
-pub puts_none : (from to at n : ℕ) (xs old : List Cell) → from ≤ to → length xs ≡ n
-    → place_in from to at ≡ place_in from to (at + n) → Puts from to at xs old old
-puts_none from to at n xs old order size same =
-    let gone : part (from - at) (to - at) xs ≡ [] = part-empty (from - at) (to - at) xs (omega (arith, size, same)) in
-    let end : place_in from to (at + length xs) ≡ place_in from to at = omega (arith, size, same) in
-    ap (λ n. take n old) end ∙ sym (append-nil (take (place_in from to at) old))
-    ∙ ap (λ zs. take (place_in from to at) old ++ zs) (sym gone)
+pub puts_none : (view : View) (at n : ℕ) (xs old : List Cell) → view.from ≤ view.to → length xs ≡ n
+    → place_in view at ≡ place_in view (at + n) → Puts view at xs old old
+puts_none view at n xs old order size same =
+    let gone : part (view.from - at) (view.to - at) xs ≡ [] =
+    part-empty (view.from - at) (view.to - at) xs (omega (arith, size, same)) in
+    let end : place_in view (at + length xs) ≡ place_in view at = omega (arith, size, same) in
+    ap (λ n. take n old) end ∙ sym (append-nil (take (place_in view at) old))
+    ∙ ap (λ zs. take (place_in view at) old ++ zs) (sym gone)
 
 -- cells that were put in their place
-pub puts_mid : (from to at n k start : ℕ) (xs ys old : List Cell) → from ≤ to → length xs ≡ n
-    → start ≡ place_in from to at → start ≤ length old
-    → ys ≡ part (from - at) (to - at) xs → Puts from to at xs old (put_mid start k old ys)
-puts_mid from to at n k start xs ys old order size place fits is =
-    let long = ap length is ∙ length-part (from - at) (to - at) xs in
-    let end : place_in from to (at + length xs) ≡ start + length ys = omega (arith, long, place) in
-    take-put_mid start k old ys (place_in from to (at + length xs)) end fits ∙ ap₂ (λ a zs. take a old ++ zs) place is
+pub puts_mid : (view : View) (at n k start : ℕ) (xs ys old : List Cell) → view.from ≤ view.to → length xs ≡ n
+    → start ≡ place_in view at → start ≤ length old
+    → ys ≡ part (view.from - at) (view.to - at) xs → Puts view at xs old (put_mid start k old ys)
+puts_mid view at n k start xs ys old order size place fits is =
+    let long = ap length is ∙ length-part (view.from - at) (view.to - at) xs in
+    let end : place_in view (at + length xs) ≡ start + length ys = omega (arith, long, place) in
+    take-put_mid start k old ys (place_in view (at + length xs)) end fits ∙ ap₂ (λ a zs. take a old ++ zs) place is
 
 -- gaps
-pub gap_part : (from to at n k : ℕ) → from ≤ to → k ≡ place_in from to (at + n) - place_in from to at
-    → replicate k Gap ≡ part (from - at) (to - at) (replicate n Gap)
-gap_part from to at n k order size =
-    let e : k ≡ min n (to - at) - (from - at) = omega (arith, size) in
-    ap (λ m. replicate m Gap) e ∙ sym (part-replicate (from - at) (to - at) n Gap)
+pub gap_part : (view : View) (at n k : ℕ) → view.from ≤ view.to → k ≡ place_in view (at + n) - place_in view at
+    → replicate k Gap ≡ part (view.from - at) (view.to - at) (replicate n Gap)
+gap_part view at n k order size =
+    let e : k ≡ min n (view.to - at) - (view.from - at) = omega (arith, size) in
+    ap (λ m. replicate m Gap) e ∙ sym (part-replicate (view.from - at) (view.to - at) n Gap)
 
 -- the samples of a block of the disk
 pub block_whole : (files : Files) (b : BlockRef) (xs : List ℤ) → blocks files b.id ≡ Some xs → length xs ≡ b.len

@@ -16,6 +16,7 @@ use Rattle.sample_block.specs.Faults.{samples_in}
 use Rattle.sample_block.specs.Sources.{samples_on, sources_of, IsWhole, AllWhole}
 use Rattle.sample_block.proofs.Laws.{length_samples, samples_stretch}
 use Rattle.block_store.proofs.FaultLaws as store_laws
+use Rattle.cell_view.specs.declared.places.View.{View}
 use Rattle.cell_view.specs.Seen.{place_in}
 use Rattle.cell_view.specs.Stored.{stored_on, stored_of}
 use Rattle.cell_view.proofs.PartLists.{part-map}
@@ -52,20 +53,20 @@ stored_cells files at (c ∷ cs) whole =
     (stored_cells files (clip_end c) cs (whole_back files c.blocks (layout_blocks cs) whole))
 
 -- those of a block that are seen
-pub stored_part : (files : Files) (b : BlockRef) (from to at k skip : ℕ) (out : List Cell) → from ≤ to
-    → k ≡ place_in from to (at + b.len) - place_in from to at → skip ≡ from - at → skip + k ≤ b.len
+pub stored_part : (files : Files) (b : BlockRef) (view : View) (at k skip : ℕ) (out : List Cell) → view.from ≤ view.to
+    → k ≡ place_in view (at + b.len) - place_in view at → skip ≡ view.from - at → skip + k ≤ b.len
     → out ≡ map cell.Sample (samples_in (bytes_of (files b.id)) (16 + 2 * skip) k)
-    → out ≡ part (from - at) (to - at) (map cell.Sample (stretch (stored_on files b.id) 0 b.len))
-stored_part files b from to at k skip out order size place fits is =
+    → out ≡ part (view.from - at) (view.to - at) (map cell.Sample (stretch (stored_on files b.id) 0 b.len))
+stored_part files b view at k skip out order size place fits is =
     let bytes : List ℕ = bytes_of (files b.id) in
     let xs : List ℤ = samples_in bytes 16 b.len in
     let long : length (drop skip xs) ≡ b.len - skip =
     omega (arith, length-drop skip xs, length_samples bytes 16 b.len) in
-    let e : k ≡ min (to - at - (from - at)) (length (drop skip xs)) = omega (arith, long, size, place) in
+    let e : k ≡ min (view.to - at - (view.from - at)) (length (drop skip xs)) = omega (arith, long, size, place) in
     is
     ∙ ap (map cell.Sample)
     (samples_stretch bytes b.len skip k fits
-    ∙ ap (λ n. take n (drop skip xs)) e ∙ take_min (to - at - (from - at)) (drop skip xs)
-    ∙ ap (λ n. take (to - at - (from - at)) (drop n xs)) place)
-    ∙ sym (part-map cell.Sample (from - at) (to - at) xs)
-    ∙ ap (λ zs. part (from - at) (to - at) (map cell.Sample zs)) (sym (stored_stretch files b.id 0 b.len))
+    ∙ ap (λ n. take n (drop skip xs)) e ∙ take_min (view.to - at - (view.from - at)) (drop skip xs)
+    ∙ ap (λ n. take (view.to - at - (view.from - at)) (drop n xs)) place)
+    ∙ sym (part-map cell.Sample (view.from - at) (view.to - at) xs)
+    ∙ ap (λ zs. part (view.from - at) (view.to - at) (map cell.Sample zs)) (sym (stored_stretch files b.id 0 b.len))

@@ -11,7 +11,7 @@ ghost use Rattle.cell_view.specs.Stored.{stored_of};
 
 use super::blocks::put_blocks;
 use super::clips::put_clips;
-use super::places::{fill_gaps, place_in, put_gap};
+use super::places::{View, fill_gaps, place_in, put_gap};
 use super::rest::TrackRest;
 use block_store::BlockFault;
 use clip_track::Layout;
@@ -23,24 +23,23 @@ fn put_rest<S: Store>(
     store: &mut S,
     last: &mut Option<BlockRef>,
     rest: &TrackRest,
-    from: u64,
-    to: u64,
+    view: View,
     out: &mut [Cell],
 ) -> Result<(), BlockFault>
     requires rest { IsRest rest.now }
-    requires size { from + length out.old ≡ to }
+    requires size { view.from + length out.old ≡ view.to }
     requires compared { IsTrue (S.tells store.old) → IsCompared (S.reads store.old) last.old }
     ensures compared { IsTrue (S.tells store.old) → IsCompared (S.reads store.old) last.new }
     ensures stored { IsTrue (S.tells store.old) → OnOk result
-        (Puts from to rest.now.at (rest_cells (stored_of (S.reads store.old)) rest.now) out.old out.new) }
+        (Puts view rest.now.at (rest_cells (stored_of (S.reads store.old)) rest.now) out.old out.new) }
     ensures damaged { IsTrue (S.tells store.old)
         → IfErr result (λ e. IsFaultIn (S.reads store.old) (rest_blocks rest.now) e) }
     ensures kept { Kept S.Store store.old store.new }
     ensures faults { Counted result (S.read_fault_count store.old) (S.read_fault_count store.new) }
 {
-    put_gap(from, to, rest.at, rest.start - rest.at, out);
-    put_blocks(store, last, rest.blocks, from, to, rest.start, out)?;
-    put_clips(store, last, rest.clips, from, to, rest.end, out)
+    put_gap(view, rest.at, rest.start - rest.at, out);
+    put_blocks(store, last, rest.blocks, view, rest.start, out)?;
+    put_clips(store, last, rest.clips, view, rest.end, out)
 }
 
 /// Reads the cells of a track from a place on, and gaps past its end, until `out` is full. What is left of the track is
@@ -73,9 +72,12 @@ pub fn read_ahead<S: Store>(
     ensures kept { Kept S.Store store.old store.new }
     ensures faults { Counted result (S.read_fault_count store.old) (S.read_fault_count store.new) }
 {
-    let to = from + out.len() as u64;
-    let count = place_in(from, to, layout.len());
-    put_rest(store, last, rest, from, to, out)?;
+    let view = View {
+        from,
+        to: from + out.len() as u64,
+    };
+    let count = place_in(view, layout.len());
+    put_rest(store, last, rest, view, out)?;
     fill_gaps(&mut out[count..]);
     Ok(())
 }

@@ -12,7 +12,7 @@ ghost use Rattle.sample_block.specs.Sources.{IsNamed, AllNamed};
 ghost use Rattle.cell_view.specs.Seen.{Puts};
 ghost use Rattle.cell_view.specs.Stored.{stored_on, stored_of};
 
-use super::places::place_in;
+use super::places::{View, place_in};
 use block_store::{BlockFault, compare_once, read_compared_samples};
 use disk_model::Store;
 use pcm_base::{BlockRef, Cell};
@@ -92,29 +92,28 @@ pub(crate) fn put_block<S: Store>(
     store: &mut S,
     last: &mut Option<BlockRef>,
     block: BlockRef,
-    from: u64,
-    to: u64,
+    view: View,
     at: u64,
     out: &mut [Cell],
 ) -> Result<(), BlockFault>
     requires block { IsNamed block }
-    requires size { from + length out.old ≡ to }
+    requires size { view.from + length out.old ≡ view.to }
     requires few { at + block.len < 2 ^ 64 }
     requires compared { IsTrue (S.tells store.old) → IsCompared (S.reads store.old) last.old }
     ensures compared { IsTrue (S.tells store.old) → IsCompared (S.reads store.old) last.new }
     ensures stored { IsTrue (S.tells store.old) → OnOk result
-        (Puts from to at (map Sample (stretch (stored_on (S.reads store.old) block.id) 0 block.len)) out.old out.new) }
+        (Puts view at (map Sample (stretch (stored_on (S.reads store.old) block.id) 0 block.len)) out.old out.new) }
     ensures damaged { IsTrue (S.tells store.old)
         → IfErr result (λ e. IsFault block.id block.len (bytes_of (S.reads store.old block.id)) e) }
     ensures kept { Kept S.Store store.old store.new }
     ensures faults { Counted result (S.read_fault_count store.old) (S.read_fault_count store.new) }
 {
-    let start = place_in(from, to, at);
-    let end = place_in(from, to, at + block.len as u64);
+    let start = place_in(view, at);
+    let end = place_in(view, at + block.len as u64);
     if start == end {
         return Ok(());
     }
-    let skip = from.saturating_sub(at) as u32;
+    let skip = view.from.saturating_sub(at) as u32;
     compare_once(store, last, block)?;
     read_pieces(store, block, skip, &mut out[start..end])
 }
@@ -124,28 +123,27 @@ pub(crate) fn put_blocks<S: Store>(
     store: &mut S,
     last: &mut Option<BlockRef>,
     blocks: &[BlockRef],
-    from: u64,
-    to: u64,
+    view: View,
     at: u64,
     out: &mut [Cell],
 ) -> Result<(), BlockFault>
     requires named { AllNamed blocks.now }
-    requires size { from + length out.old ≡ to }
+    requires size { view.from + length out.old ≡ view.to }
     requires few { at + blocks_len blocks.now < 2 ^ 64 }
     requires compared { IsTrue (S.tells store.old) → IsCompared (S.reads store.old) last.old }
     ensures compared { IsTrue (S.tells store.old) → IsCompared (S.reads store.old) last.new }
     ensures stored { IsTrue (S.tells store.old) → OnOk result
-        (Puts from to at (map Sample (block_samples (stored_of (S.reads store.old)) blocks.now)) out.old out.new) }
+        (Puts view at (map Sample (block_samples (stored_of (S.reads store.old)) blocks.now)) out.old out.new) }
     ensures damaged { IsTrue (S.tells store.old) → IfErr result (λ e. IsFaultIn (S.reads store.old) blocks.now e) }
     ensures kept { Kept S.Store store.old store.new }
     ensures faults { Counted result (S.read_fault_count store.old) (S.read_fault_count store.new) }
 {
     let mut place = at;
     'rows: for block in blocks {
-        if place >= to {
+        if place >= view.to {
             return Ok(());
         }
-        if let Err(fault) = put_block(store, last, *block, from, to, place, out) {
+        if let Err(fault) = put_block(store, last, *block, view, place, out) {
             return Err(fault);
         }
         place += block.len as u64;

@@ -8,7 +8,7 @@ ghost use Rattle.clip_track.specs.Clips.{end_of, layout_blocks, layout_cells};
 ghost use Rattle.cell_view.specs.Stored.{stored_of};
 
 use super::ahead::read_ahead;
-use super::places::place_in;
+use super::places::{View, place_in};
 use super::rest::rest_at;
 use block_store::BlockFault;
 use clip_track::Layout;
@@ -43,7 +43,11 @@ pub fn read_cells<S: Store>(
     ensures kept { Kept S.Store store.old store.new }
     ensures faults { Counted result (S.read_fault_count store.old) (S.read_fault_count store.new) }
 {
-    let count = place_in(from, from + out.len() as u64, layout.len());
+    let view = View {
+        from,
+        to: from + out.len() as u64,
+    };
+    let count = place_in(view, layout.len());
     let rest = rest_at(layout, from);
     let mut last = None;
     read_ahead(store, &mut last, layout, &rest, from, &mut out[..count])?;

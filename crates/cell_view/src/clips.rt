@@ -10,7 +10,7 @@ ghost use Rattle.cell_view.specs.Seen.{Puts};
 ghost use Rattle.cell_view.specs.Stored.{stored_of};
 
 use super::blocks::put_blocks;
-use super::places::put_gap;
+use super::places::{View, put_gap};
 use block_store::BlockFault;
 use clip_track::Clip;
 use disk_model::Store;
@@ -21,34 +21,25 @@ fn put_clip<S: Store>(
     store: &mut S,
     last: &mut Option<BlockRef>,
     clip: &Clip,
-    from: u64,
-    to: u64,
+    view: View,
     at: u64,
     out: &mut [Cell],
 ) -> Result<(), BlockFault>
     requires named { AllNamed clip.now.blocks }
-    requires size { from + length out.old ≡ to }
+    requires size { view.from + length out.old ≡ view.to }
     requires later { at ≤ clip.now.start }
     requires few { clip_end clip.now ≤ 2 ^ 32 }
     requires compared { IsTrue (S.tells store.old) → IsCompared (S.reads store.old) last.old }
     ensures compared { IsTrue (S.tells store.old) → IsCompared (S.reads store.old) last.new }
     ensures stored { IsTrue (S.tells store.old)
-        → OnOk result (Puts from to at (replicate (clip.now.start - at) cell.Gap
+        → OnOk result (Puts view at (replicate (clip.now.start - at) cell.Gap
         ++ map cell.Sample (block_samples (stored_of (S.reads store.old)) clip.now.blocks)) out.old out.new) }
     ensures damaged { IsTrue (S.tells store.old) → IfErr result (λ e. IsFaultIn (S.reads store.old) clip.now.blocks e) }
     ensures kept { Kept S.Store store.old store.new }
     ensures faults { Counted result (S.read_fault_count store.old) (S.read_fault_count store.new) }
 {
-    put_gap(from, to, at, clip.start - at, out);
-    put_blocks(
-        store,
-        last,
-        clip.blocks.as_slice(),
-        from,
-        to,
-        clip.start,
-        out,
-    )
+    put_gap(view, at, clip.start - at, out);
+    put_blocks(store, last, clip.blocks.as_slice(), view, clip.start, out)
 }
 
 /// Puts clips, and the gaps before them from a place on, where the view has them. None behind the view is looked at.
@@ -56,19 +47,18 @@ pub(crate) fn put_clips<S: Store>(
     store: &mut S,
     last: &mut Option<BlockRef>,
     clips: &[Clip],
-    from: u64,
-    to: u64,
+    view: View,
     start: u64,
     out: &mut [Cell],
 ) -> Result<(), BlockFault>
     requires apart { AreClips start clips.now }
     requires few { end_of start clips.now ≤ 2 ^ 32 }
     requires named { AllNamed (layout_blocks clips.now) }
-    requires size { from + length out.old ≡ to }
+    requires size { view.from + length out.old ≡ view.to }
     requires compared { IsTrue (S.tells store.old) → IsCompared (S.reads store.old) last.old }
     ensures compared { IsTrue (S.tells store.old) → IsCompared (S.reads store.old) last.new }
     ensures stored { IsTrue (S.tells store.old) → OnOk result
-        (Puts from to start (cells_from (stored_of (S.reads store.old)) start clips.now) out.old out.new) }
+        (Puts view start (cells_from (stored_of (S.reads store.old)) start clips.now) out.old out.new) }
     ensures damaged { IsTrue (S.tells store.old)
         → IfErr result (λ e. IsFaultIn (S.reads store.old) (layout_blocks clips.now) e) }
     ensures kept { Kept S.Store store.old store.new }
@@ -76,10 +66,10 @@ pub(crate) fn put_clips<S: Store>(
 {
     let mut at = start;
     'rows: for clip in clips {
-        if at >= to {
+        if at >= view.to {
             return Ok(());
         }
-        if let Err(fault) = put_clip(store, last, clip, from, to, at, out) {
+        if let Err(fault) = put_clip(store, last, clip, view, at, out) {
             return Err(fault);
         }
         at = clip.start + clip.blocks.len();

@@ -5,11 +5,18 @@ ghost use Rattle.cell_view.specs.Seen.{place_in as place, Puts};
 
 use pcm_base::Cell;
 
-/// How many cells of the view from `from` to `to` lie before a place.
-pub(crate) fn place_in(from: u64, to: u64, at: u64) -> usize
-    ensures { result ≡ place from to at }
+/// The cells of a track from one place up to another.
+#[derive(Clone, Copy)]
+pub(crate) struct View {
+    pub(crate) from: u64,
+    pub(crate) to: u64,
+}
+
+/// How many cells of a view lie before a place.
+pub(crate) fn place_in(view: View, at: u64) -> usize
+    ensures { result ≡ place view at }
 {
-    at.min(to).saturating_sub(from) as usize
+    at.min(view.to).saturating_sub(view.from) as usize
 }
 
 /// Makes gaps of all cells.
@@ -20,12 +27,12 @@ pub fn fill_gaps(out: &mut [Cell])
 }
 
 /// Puts the gaps from one place to another where the view has them.
-pub(crate) fn put_gap(from: u64, to: u64, at: u64, len: u64, out: &mut [Cell])
-    requires size { from + length out.old ≡ to }
+pub(crate) fn put_gap(view: View, at: u64, len: u64, out: &mut [Cell])
+    requires size { view.from + length out.old ≡ view.to }
     requires few { at + len < 2 ^ 64 }
-    ensures { Puts from to at (replicate len Gap) out.old out.new }
+    ensures { Puts view at (replicate len Gap) out.old out.new }
 {
-    let start = place_in(from, to, at);
-    let end = place_in(from, to, at + len);
+    let start = place_in(view, at);
+    let end = place_in(view, at + len);
     fill_gaps(&mut out[start..end]);
 }

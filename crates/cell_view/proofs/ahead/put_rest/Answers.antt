@@ -52,7 +52,7 @@ returns-clause-stored g c = λ told.
     subst (λ (t : Bool). IsTrue t) (sym kept.same_tells) told in
     let two = c.in_ok-put_blocks.ensures.stored told in
     let U : Files → Type 0 = λ f. OnOk c.put_clips.result
-    (Puts a.from a.to r.end (cells_from (stored_of f) r.end r.clips.now) c.put_blocks.new.out c.put_clips.new.out) in
+    (Puts a.view r.end (cells_from (stored_of f) r.end r.clips.now) c.put_blocks.new.out c.put_clips.new.out) in
     let three = subst U kept.same_reads (c.put_clips.ensures.stored still) in
     let size = length-replicate (r.start - r.at) cell.Gap in
     let place : r.start ≡ r.at + length gap = omega (arith, size, c.requires.rest.later) in
@@ -64,11 +64,11 @@ returns-clause-stored g c = λ told.
     ) in
     let end : r.end ≡ r.at + length (gap ++ sound) =
     omega (arith, length-append gap sound, size, long, c.requires.rest.later, c.requires.rest.whole) in
-    let Q : ℕ → Type 0 = λ n. Puts a.from a.to n sound c.put_gap.new.out c.put_blocks.new.out in
-    let T : ℕ → Type 0 = λ n. Puts a.from a.to n rest c.put_blocks.new.out c.put_clips.new.out in
+    let Q : ℕ → Type 0 = λ n. Puts a.view n sound c.put_gap.new.out c.put_blocks.new.out in
+    let T : ℕ → Type 0 = λ n. Puts a.view n rest c.put_blocks.new.out c.put_clips.new.out in
     on_ok_weaker c.put_clips.result
-    (λ last. puts_turn a.from a.to r.at (gap ++ sound) rest a.out.now c.put_blocks.new.out c.put_clips.new.out
-    (puts_turn a.from a.to r.at gap sound a.out.now c.put_gap.new.out c.put_blocks.new.out c.put_gap.ensures
+    (λ last. puts_turn a.view r.at (gap ++ sound) rest a.out.now c.put_blocks.new.out c.put_clips.new.out
+    (puts_turn a.view r.at gap sound a.out.now c.put_gap.new.out c.put_blocks.new.out c.put_gap.ensures
     (subst Q place two))
     (subst T end last))
     three

@@ -7,6 +7,7 @@ use Rattle.pcm_base.specs.declared.sound.Cell.{Cell}
 use Rattle.pcm_base.specs.declared.sound.Cell.TheVariants.{Gap}
 use Rattle.clip_track.specs.Clips.{layout_blocks}
 use Rattle.clip_track.specs.Clips.{end_of}
+use Rattle.cell_view.specs.declared.places.View.{View}
 use Rattle.cell_view.specs.Seen.{place_in}
 use Rattle.cell_view.specs.Stored.{stored_of}
 use Rattle.cell_view.proofs.SeenLaws.{sound_in}
@@ -37,10 +38,10 @@ returns-clause-stored g c = λ told.
     let k = length mid - count in
     let m = length (take k (drop count mid)) in
     let many : m ≡ length mid - count = omega (arith, length-take k (drop count mid), length-drop count mid) in
-    let place : count ≡ place_in a.from (a.from + length a.out.now) (end_of 0 a.layout.now) =
-    c.place_in-count.ensures ∙ ap (λ n. place_in a.from (a.from + length a.out.now) n) c.len.ensures.value in
-    seen (stored_of files) a.from
-    (a.from + length a.out.now) a.layout.now a.rest.now count m a.out.now mid _ c.requires.rest (omega arith) place
+    let view : View = record { from = a.from; to = a.from + length a.out.now } in
+    let place : count ≡ place_in view (end_of 0 a.layout.now) =
+    c.place_in-count.ensures ∙ ap (place_in view) c.len.ensures.value in
+    seen (stored_of files) view a.layout.now a.rest.now count m a.out.now mid _ c.requires.rest (omega arith) place
     (c.in_ok-put_rest.ensures.stored told) many
     (put_tail count k mid c.fill_gaps.new.out (omega arith) ∙ ap (λ ys. take count mid ++ ys) c.fill_gaps.ensures)
 

@@ -22,7 +22,7 @@ returns-then-start-end-clause-stored g c = λ told.
     let samples = stretch f 0 c.args.block.len in
     let size : length (map Sample samples) ≡ c.args.block.len =
     length-map samples Sample ∙ length-stretch f 0 c.args.block.len in
-    puts_none c.args.from c.args.to c.args.at c.args.block.len (map Sample samples) c.args.out.now
+    puts_none c.args.view c.args.at c.args.block.len (map Sample samples) c.args.out.now
     (omega (arith, c.requires.size)) size
     (omega (arith, c.place_in-start.ensures, c.if-start-end.true, c.place_in-end.ensures))
 
@@ -44,9 +44,9 @@ returns-clause-stored g c = λ told.
     let samples : List ℤ = stretch (stored_on files b.id) 0 b.len in
     let size : length (map Sample samples) ≡ b.len =
     length-map samples Sample ∙ length-stretch (stored_on files b.id) 0 b.len in
-    let order : a.from ≤ a.to = omega (arith, c.requires.size) in
+    let order : a.view.from ≤ a.view.to = omega (arith, c.requires.size) in
     let fits : start ≤ length a.out.now = omega (arith, c.place_in-start.ensures, c.requires.size) in
-    let seen : m ≡ place_in a.from a.to (a.at + b.len) - place_in a.from a.to a.at =
+    let seen : m ≡ place_in a.view (a.at + b.len) - place_in a.view a.at =
     omega (
       arith,
       length-take k (drop start a.out.now),
@@ -67,8 +67,8 @@ returns-clause-stored g c = λ told.
     let S : Files → Type 0 = λ f.
     c.read_pieces.new.out ≡ map Sample (samples_in (bytes_of (f b.id)) (16 + 2 * skip) m) in
     on_ok_weaker c.read_pieces.result
-    (λ got. puts_mid a.from a.to a.at b.len k start (map Sample samples) c.read_pieces.new.out a.out.now order size
+    (λ got. puts_mid a.view a.at b.len k start (map Sample samples) c.read_pieces.new.out a.out.now order size
     c.place_in-start.ensures fits
-    (stored_part files b a.from a.to a.at m skip c.read_pieces.new.out order seen c.saturating_sub-skip.ensures within
+    (stored_part files b a.view a.at m skip c.read_pieces.new.out order seen c.saturating_sub-skip.ensures within
     (subst S kept.same_reads got)))
     (c.read_pieces.ensures.stored still)

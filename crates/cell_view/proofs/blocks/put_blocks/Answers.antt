@@ -102,18 +102,18 @@ rows-preserved g c =
       stored = λ told new puts.
           let still : IsTrue (g.S.Store.tells c.rows.store) =
           subst (λ (t : Bool). IsTrue t) (sym inv.kept.same_tells) told in
-          let P : Files → Type 0 = λ f. Puts c.args.from c.args.to c.rows.place
+          let P : Files → Type 0 = λ f. Puts c.args.view c.rows.place
           (map Sample (stretch (stored_on f b.id) 0 b.len)) c.rows.out c.put_block.new.out in
           let one = subst P inv.kept.same_reads (c.in_default.ensures.stored still) in
           let xs : List ℤ = stretch (stored_on files b.id) 0 b.len in
           let ys : List ℤ = block_samples (stored_of files) rest in
           let size : length (map Sample xs) ≡ b.len =
           length-map xs Sample ∙ length-stretch (stored_on files b.id) 0 b.len in
-          let Q : ℕ → Type 0 = λ n. Puts c.args.from c.args.to n (map Sample ys) c.put_block.new.out new in
+          let Q : ℕ → Type 0 = λ n. Puts c.args.view n (map Sample ys) c.put_block.new.out new in
           let place : c.rows.place + b.len ≡ c.rows.place + length (map Sample xs) = omega (arith, size) in
-          let both = puts_turn c.args.from c.args.to c.rows.place (map Sample xs)
+          let both = puts_turn c.args.view c.rows.place (map Sample xs)
           (map Sample ys) c.rows.out c.put_block.new.out new one (subst Q place puts) in
-          let R : List Cell → Type 0 = λ cs. Puts c.args.from c.args.to c.rows.place cs c.rows.out new in
+          let R : List Cell → Type 0 = λ cs. Puts c.args.view c.rows.place cs c.rows.out new in
           let all : map Sample xs ++ map Sample ys ≡ map Sample (block_samples (stored_of files) (drop i bs)) =
           sym (map-append Sample xs ys) ∙ ap (λ qs. map Sample (block_samples (stored_of files) qs)) (sym e) in
           inv.stored told new (subst R all both);
@@ -126,16 +126,16 @@ returns-clause-stored g c = λ told.
     let none : drop i bs ≡ [] = drop_all i bs (omega arith) in
     let inv = c.rows.invariant in
     let files : Files = g.S.Store.reads c.args.store.now in
-    let R : List BlockRef → Type 0 = λ qs. Puts c.args.from c.args.to c.rows.place
+    let R : List BlockRef → Type 0 = λ qs. Puts c.args.view c.rows.place
     (map Sample (block_samples (stored_of files) qs)) c.rows.out c.rows.out in
     let stop : c.rows.place ≡ c.rows.place + 0 = omega arith in
-    inv.stored told c.rows.out (subst R (sym none) (puts_none c.args.from c.args.to c.rows.place 0 [] c.rows.out
-    (omega (arith, c.requires.size)) refl (ap (place_in c.args.from c.args.to) stop)))
+    inv.stored told c.rows.out (subst R (sym none) (puts_none c.args.view c.rows.place 0 [] c.rows.out
+    (omega (arith, c.requires.size)) refl (ap (place_in c.args.view) stop)))
 
 -- the blocks that are left stand behind the view
-pub returns-then-place-to-clause-stored : goal.returns-then-place-to-clause-stored
-returns-then-place-to-clause-stored g c = λ told.
+pub returns-then-place-view-clause-stored : goal.returns-then-place-view-clause-stored
+returns-then-place-view-clause-stored g c = λ told.
     let files : Files = g.S.Store.reads c.args.store.now in
     let left : List Cell = map Sample (block_samples (stored_of files) (drop c.rows.block-index c.args.blocks.now)) in
-    c.rows.invariant.stored told c.rows.out (puts_none c.args.from c.args.to c.rows.place (length left) left c.rows.out
+    c.rows.invariant.stored told c.rows.out (puts_none c.args.view c.rows.place (length left) left c.rows.out
     (omega (arith, c.requires.size)) refl (omega arith))

@@ -22,8 +22,8 @@ invariant-rows g l = record {
   rest_fault : (why : BlockFault) → IsFaultIn (g.S.Store.reads l.fn.store) (drop l.block-index l.blocks) why
       → IsFaultIn (g.S.Store.reads l.fn.store) l.blocks why;
   stored : IsTrue (g.S.Store.tells l.fn.store) → (new : List Cell)
-      → Puts l.from l.to l.place
+      → Puts l.view l.place
       (map Sample (block_samples (stored_of (g.S.Store.reads l.fn.store)) (drop l.block-index l.blocks))) l.out new
-      → Puts l.from l.to l.at
+      → Puts l.view l.at
       (map Sample (block_samples (stored_of (g.S.Store.reads l.fn.store)) l.blocks)) l.fn.out new;
 }

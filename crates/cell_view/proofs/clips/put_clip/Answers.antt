@@ -19,13 +19,13 @@ returns-clause-stored g c = λ told.
     let src = stored_of (g.S.Store.reads c.args.store.now) in
     let gap : List Cell = replicate (clip.start - a.at) cell.Gap in
     let P : List BlockRef → Type 0 = λ bs.
-    Puts a.from a.to clip.start (map cell.Sample (block_samples src bs)) c.put_gap.new.out c.put_blocks.new.out in
+    Puts a.view clip.start (map cell.Sample (block_samples src bs)) c.put_gap.new.out c.put_blocks.new.out in
     let place : clip.start ≡ a.at + length gap =
     omega (arith, length-replicate (clip.start - a.at) cell.Gap, c.requires.later) in
     let Q : ℕ → Type 0 = λ n.
-    Puts a.from a.to n (map cell.Sample (block_samples src clip.blocks)) c.put_gap.new.out c.put_blocks.new.out in
+    Puts a.view n (map cell.Sample (block_samples src clip.blocks)) c.put_gap.new.out c.put_blocks.new.out in
     on_ok_weaker c.put_blocks.result
-    (λ two. puts_turn a.from a.to a.at gap
+    (λ two. puts_turn a.view a.at gap
     (map cell.Sample (block_samples src clip.blocks)) a.out.now c.put_gap.new.out c.put_blocks.new.out
     c.put_gap.ensures (subst Q place (subst P c.as_slice.ensures.value two)))
     (c.put_blocks.ensures.stored told)

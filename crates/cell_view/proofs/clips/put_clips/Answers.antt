@@ -141,7 +141,7 @@ rows-preserved g c =
       stored = λ told new puts.
           let still : IsTrue (g.S.Store.tells c.rows.store) =
           subst (λ (t : Bool). IsTrue t) (sym inv.kept.same_tells) told in
-          let U : Files → Type 0 = λ f. Puts c.args.from c.args.to at (replicate (x.start - at) cell.Gap
+          let U : Files → Type 0 = λ f. Puts c.args.view at (replicate (x.start - at) cell.Gap
           ++ map cell.Sample (block_samples (stored_of f) x.blocks)) c.rows.out c.put_clip.new.out in
           let one = subst U inv.kept.same_reads (c.in_default.ensures.stored still) in
           let gap : List Cell = replicate (x.start - at) cell.Gap in
@@ -152,11 +152,11 @@ rows-preserved g c =
           let place : clip_end x ≡ at + length (gap ++ sound) =
           omega (arith, length-append gap sound, length-replicate (x.start - at) cell.Gap, size, later) in
           let Q : ℕ → Type 0 = λ n.
-          Puts c.args.from c.args.to n (cells_from (stored_of files) (clip_end x) rest) c.put_clip.new.out new in
-          let both = puts_turn c.args.from c.args.to at (gap ++ sound) (cells_from (stored_of files) (clip_end x) rest)
+          Puts c.args.view n (cells_from (stored_of files) (clip_end x) rest) c.put_clip.new.out new in
+          let both = puts_turn c.args.view at (gap ++ sound) (cells_from (stored_of files) (clip_end x) rest)
           c.rows.out c.put_clip.new.out new one (subst Q place puts) in
           let R : List Clip → Type 0 =
-          λ ds. Puts c.args.from c.args.to at (cells_from (stored_of files) at ds) c.rows.out new in
+          λ ds. Puts c.args.view at (cells_from (stored_of files) at ds) c.rows.out new in
           inv.stored told new (subst R (sym e) both);
     })
 
@@ -168,15 +168,15 @@ returns-clause-stored g c = λ told.
     let inv = c.rows.invariant in
     let files : Files = g.S.Store.reads c.args.store.now in
     let R : List Clip → Type 0 =
-    λ ds. Puts c.args.from c.args.to c.rows.at (cells_from (stored_of files) c.rows.at ds) c.rows.out c.rows.out in
+    λ ds. Puts c.args.view c.rows.at (cells_from (stored_of files) c.rows.at ds) c.rows.out c.rows.out in
     let stop : c.rows.at ≡ c.rows.at + 0 = omega arith in
-    inv.stored told c.rows.out (subst R (sym none) (puts_none c.args.from c.args.to c.rows.at 0 [] c.rows.out
-    (omega (arith, c.requires.size)) refl (ap (place_in c.args.from c.args.to) stop)))
+    inv.stored told c.rows.out (subst R (sym none) (puts_none c.args.view c.rows.at 0 [] c.rows.out
+    (omega (arith, c.requires.size)) refl (ap (place_in c.args.view) stop)))
 
 -- the clips that are left stand behind the view
-pub returns-then-at-to-clause-stored : goal.returns-then-at-to-clause-stored
-returns-then-at-to-clause-stored g c = λ told.
+pub returns-then-at-view-clause-stored : goal.returns-then-at-view-clause-stored
+returns-then-at-view-clause-stored g c = λ told.
     let files : Files = g.S.Store.reads c.args.store.now in
     let left : List Cell = cells_from (stored_of files) c.rows.at (drop c.rows.clip-index c.args.clips.now) in
-    c.rows.invariant.stored told c.rows.out (puts_none c.args.from c.args.to c.rows.at (length left) left c.rows.out
+    c.rows.invariant.stored told c.rows.out (puts_none c.args.view c.rows.at (length left) left c.rows.out
     (omega (arith, c.requires.size)) refl (omega arith))

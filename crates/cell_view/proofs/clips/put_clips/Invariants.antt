@@ -24,7 +24,7 @@ invariant-rows g l = record {
       → IsFaultIn (g.S.Store.reads l.fn.store) (layout_blocks (drop l.clip-index l.clips)) why
       → IsFaultIn (g.S.Store.reads l.fn.store) (layout_blocks l.clips) why;
   stored : IsTrue (g.S.Store.tells l.fn.store) → (new : List Cell)
-      → Puts l.from l.to l.at
+      → Puts l.view l.at
       (cells_from (stored_of (g.S.Store.reads l.fn.store)) l.at (drop l.clip-index l.clips)) l.out new
-      → Puts l.from l.to l.start (cells_from (stored_of (g.S.Store.reads l.fn.store)) l.start l.clips) l.fn.out new;
+      → Puts l.view l.start (cells_from (stored_of (g.S.Store.reads l.fn.store)) l.start l.clips) l.fn.out new;
 }

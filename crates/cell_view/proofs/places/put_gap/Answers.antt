@@ -12,10 +12,10 @@ returns c =
     let a = c.args in
     let start = c.place_in-start.result in
     let k = c.place_in-end.result - start in
-    let order : a.from ≤ a.to = omega (arith, c.requires.size) in
+    let order : a.view.from ≤ a.view.to = omega (arith, c.requires.size) in
     let fits : start ≤ length a.out.now = omega (arith, c.place_in-start.ensures, c.requires.size) in
     let size : length (take k (drop start a.out.now))
-    ≡ place_in a.from a.to (a.at + a.len) - place_in a.from a.to a.at =
+    ≡ place_in a.view (a.at + a.len) - place_in a.view a.at =
     omega (
       arith,
       length-take k (drop start a.out.now),
@@ -24,6 +24,6 @@ returns c =
       c.place_in-end.ensures,
       c.requires.size,
     ) in
-    puts_mid a.from a.to a.at a.len k start (replicate a.len Gap) c.fill_gaps.new.out a.out.now order
+    puts_mid a.view a.at a.len k start (replicate a.len Gap) c.fill_gaps.new.out a.out.now order
     (length-replicate a.len Gap) c.place_in-start.ensures fits
-    (c.fill_gaps.ensures ∙ gap_part a.from a.to a.at a.len (length (take k (drop start a.out.now))) order size)
+    (c.fill_gaps.ensures ∙ gap_part a.view a.at a.len (length (take k (drop start a.out.now))) order size)
