@@ -16,7 +16,9 @@ use Rattle.edit_ops.specs.declared.types.Plan.{Plan}
 use Rattle.edit_ops.specs.Strips.{IsClip}
 use Rattle.edit_ops.specs.Placing.{SumsFit, LengthsFit, placed_length}
 use Rattle.edit_ops.specs.declared.placing.Placing.{Placing}
+use Rattle.edit_ops.specs.Plans.{Start}
 use Rattle.edit_ops.specs.Runs.{AllTracksHalfFull, AreClips, IsCopy, AreCopies, IsCut, AreCuts, IsPaste, ArePastes}
+use Rattle.edit_ops.specs.Runs.{start_behind}
 use Rattle.edit_ops.specs.Runs.{layouts, next_of, lengths_of}
 
 -- the layouts behind references
@@ -91,25 +93,26 @@ AreCopies-push from to [] (x ∷ ss) t s a b = absurd a
 AreCopies-push from to (x ∷ ts) [] t s a b = absurd a
 AreCopies-push from to (x ∷ ts) (y ∷ ss) t s a b = (a.0, AreCopies-push from to ts ss t s a.1 b)
 
-pub AreCuts-push : (edit : List Cell → List Cell) (m next : ℕ) (ts : List (List Clip)) (ps : List Plan) (t : List Clip)
-    (p : Plan)
-    → AreCuts edit m next ts ps → IsCut edit m (next_of next ps) t p → AreCuts edit m next (ts ++ t ∷ []) (ps ++ p ∷ [])
-AreCuts-push edit m next [] [] t p a b = (b, tt)
-AreCuts-push edit m next [] (x ∷ ps) t p a b = absurd a
-AreCuts-push edit m next (x ∷ ts) [] t p a b = absurd a
-AreCuts-push edit m next (x ∷ ts) (y ∷ ps) t p a b = (a.0, AreCuts-push edit m y.next ts ps t p a.1 b)
+pub AreCuts-push : (edit : List Cell → List Cell) (start : Start) (ts : List (List Clip)) (ps : List Plan)
+    (t : List Clip) (p : Plan) → AreCuts edit start ts ps
+    → IsCut edit (record start { next = next_of start.next ps }) t p
+    → AreCuts edit start (ts ++ t ∷ []) (ps ++ p ∷ [])
+AreCuts-push edit start [] [] t p a b = (b, tt)
+AreCuts-push edit start [] (x ∷ ps) t p a b = absurd a
+AreCuts-push edit start (x ∷ ts) [] t p a b = absurd a
+AreCuts-push edit start (x ∷ ts) (y ∷ ps) t p a b = (a.0, AreCuts-push edit (start_behind start y) ts ps t p a.1 b)
 
-pub ArePastes-push : (edit : List Cell → List Cell → List Cell) (m next : ℕ) (cs : List (List Item))
+pub ArePastes-push : (edit : List Cell → List Cell → List Cell) (start : Start) (cs : List (List Item))
     (ts : List (List Clip)) (ps : List Plan) (c : List Item) (t : List Clip) (p : Plan)
-    → ArePastes edit m next cs ts ps → IsPaste edit m (next_of next ps) c t p
-    → ArePastes edit m next (cs ++ c ∷ []) (ts ++ t ∷ []) (ps ++ p ∷ [])
-ArePastes-push edit m next [] [] [] c t p a b = (b, tt)
-ArePastes-push edit m next [] [] (x ∷ ps) c t p a b = absurd a
-ArePastes-push edit m next [] (x ∷ ts) ps c t p a b = absurd a
-ArePastes-push edit m next (x ∷ cs) [] ps c t p a b = absurd a
-ArePastes-push edit m next (x ∷ cs) (y ∷ ts) [] c t p a b = absurd a
-ArePastes-push edit m next (x ∷ cs) (y ∷ ts) (z ∷ ps) c t p a b =
-    (a.0, ArePastes-push edit m z.next cs ts ps c t p a.1 b)
+    → ArePastes edit start cs ts ps → IsPaste edit (record start { next = next_of start.next ps }) c t p
+    → ArePastes edit start (cs ++ c ∷ []) (ts ++ t ∷ []) (ps ++ p ∷ [])
+ArePastes-push edit start [] [] [] c t p a b = (b, tt)
+ArePastes-push edit start [] [] (x ∷ ps) c t p a b = absurd a
+ArePastes-push edit start [] (x ∷ ts) ps c t p a b = absurd a
+ArePastes-push edit start (x ∷ cs) [] ps c t p a b = absurd a
+ArePastes-push edit start (x ∷ cs) (y ∷ ts) [] c t p a b = absurd a
+ArePastes-push edit start (x ∷ cs) (y ∷ ts) (z ∷ ps) c t p a b =
+    (a.0, ArePastes-push edit (start_behind start z) cs ts ps c t p a.1 b)
 
 pub next_of-push : (next : ℕ) (ps : List Plan) (p : Plan) → next_of next (ps ++ p ∷ []) ≡ p.next
 next_of-push next [] p = refl

@@ -11,6 +11,8 @@ use Rattle.clip_track.specs.declared.clips.Clip.{Clip}
 use Rattle.clip_track.specs.Clips.{layout_cells, AllHalfFull, layout_blocks}
 use Rattle.edit_ops.specs.declared.types.NewBlock.{NewBlock}
 use Rattle.edit_ops.specs.declared.types.Plan.{Plan}
+use Rattle.edit_ops.specs.declared.planner.Planner.{Planner}
+use Rattle.edit_ops.specs.declared.planner.RunPlanner.{RunPlanner}
 
 -- what is written to the new blocks is what their pieces say
 abbrev pub AreWritten : Sources → List NewBlock → Type 0
@@ -40,13 +42,24 @@ AreOldOrNew old (b ∷ bs) [] = Contains old b × AreOldOrNew old bs []
 AreOldOrNew old (b ∷ bs) (n ∷ ns) =
     (Contains old b × AreOldOrNew old bs (n ∷ ns)) ⊎ ((b ≡ ref_of n) × AreOldOrNew old bs ns)
 
--- the plan of an edit at block size m, of old blocks and so many samples that the command brings
-pub record IsPlan (m next : ℕ) (old : List BlockRef) (count : ℕ) (p : Plan) : Type 0 where
-  pub half_full : AllHalfFull m p.layout
-  pub new : AreNew m next p.makes
+-- where a plan begins: how many samples a block has at most, and the id that the first new block gets
+pub record Start : Type 0 where
+  pub block_size : ℕ
+  pub next : ℕ
+
+abbrev pub start_of : Planner → Start
+start_of planner = record { block_size = planner.block_size; next = planner.next }
+
+abbrev pub run_start_of : RunPlanner → Start
+run_start_of planner = record { block_size = planner.block_size; next = planner.next }
+
+-- the plan of an edit, of old blocks and so many samples that the command brings
+pub record IsPlan (start : Start) (old : List BlockRef) (count : ℕ) (p : Plan) : Type 0 where
+  pub half_full : AllHalfFull start.block_size p.layout
+  pub new : AreNew start.block_size start.next p.makes
   pub origin : AllNewFrom old count p.makes
   pub blocks : AreOldOrNew old (layout_blocks p.layout) p.makes
-  pub next_id : p.next ≡ next + length p.makes
+  pub next_id : p.next ≡ start.next + length p.makes
 
 -- once its new blocks hold what their pieces say, the new layout means the edit of what the old one meant
 abbrev pub Means : (Sources → List Cell → List Cell) → List Clip → Plan → Type 0

@@ -12,7 +12,7 @@ use Rattle.pcm_base.specs.declared.refusal.Refusal.{Refusal}
 use Rattle.pcm_base.specs.declared.refusal.Refusal.TheVariants.{EmptyClipboard}
 use Rattle.pcm_base.specs.Refusals.{◌otherwise◌, too_narrow, bad_range, length_limit}
 use Rattle.edit_ops.specs.declared.types.Plan.{Plan}
-use Rattle.edit_ops.specs.Plans.{IsPlan, Means}
+use Rattle.edit_ops.specs.Plans.{Start, IsPlan, Means}
 use Rattle.edit_ops.specs.Strips.{IsClip, ItemsFrom}
 
 -- the layout behind each reference
@@ -65,35 +65,40 @@ AreCopies from to [] (s ∷ ss) = ⊥
 AreCopies from to (t ∷ ts) [] = ⊥
 AreCopies from to (t ∷ ts) (s ∷ ss) = IsCopy from to t s × AreCopies from to ts ss
 
+-- where the next plan begins
+abbrev pub start_behind : Start → Plan → Start
+start_behind start p = record start { next = p.next }
+
 -- the plan of one edit of a track
-pub record IsCut (edit : List Cell → List Cell) (m next : ℕ) (t : List Clip) (p : Plan) : Type 0 where
-  pub plan : IsPlan m next (layout_blocks t) 0 p
+pub record IsCut (edit : List Cell → List Cell) (start : Start) (t : List Clip) (p : Plan) : Type 0 where
+  pub plan : IsPlan start (layout_blocks t) 0 p
   pub cells : Means (λ src. edit) t p
   pub few_made : length p.makes ≤ 8
 
 -- one plan for each track, each begun at the next id of the one before
-abbrev pub AreCuts : (List Cell → List Cell) → ℕ → ℕ → List (List Clip) → List Plan → Type 0
-AreCuts edit m next [] [] = Unit {0}
-AreCuts edit m next [] (p ∷ ps) = ⊥
-AreCuts edit m next (t ∷ ts) [] = ⊥
-AreCuts edit m next (t ∷ ts) (p ∷ ps) = IsCut edit m next t p × AreCuts edit m p.next ts ps
+abbrev pub AreCuts : (List Cell → List Cell) → Start → List (List Clip) → List Plan → Type 0
+AreCuts edit start [] [] = Unit {0}
+AreCuts edit start [] (p ∷ ps) = ⊥
+AreCuts edit start (t ∷ ts) [] = ⊥
+AreCuts edit start (t ∷ ts) (p ∷ ps) = IsCut edit start t p × AreCuts edit (start_behind start p) ts ps
 
 -- the plan of one strip pasted into a track
-pub record IsPaste (edit : List Cell → List Cell → List Cell) (m next : ℕ) (c : List Item) (t : List Clip)
+pub record IsPaste (edit : List Cell → List Cell → List Cell) (start : Start) (c : List Item) (t : List Clip)
     (p : Plan) : Type 0 where
-  pub plan : IsPlan m next (layout_blocks t ++ strip_blocks c) 0 p
+  pub plan : IsPlan start (layout_blocks t ++ strip_blocks c) 0 p
   pub cells : Means (λ src. edit (strip_cells src c)) t p
   pub few_made : length p.makes ≤ 8
 
 -- one plan for each strip, which goes to the next track, each begun at the next id of the one before
-abbrev pub ArePastes : (List Cell → List Cell → List Cell) → ℕ → ℕ → List (List Item) → List (List Clip) → List Plan
+abbrev pub ArePastes : (List Cell → List Cell → List Cell) → Start → List (List Item) → List (List Clip) → List Plan
     → Type 0
-ArePastes edit m next [] [] [] = Unit {0}
-ArePastes edit m next [] [] (p ∷ ps) = ⊥
-ArePastes edit m next [] (t ∷ ts) ps = ⊥
-ArePastes edit m next (c ∷ cs) [] ps = ⊥
-ArePastes edit m next (c ∷ cs) (t ∷ ts) [] = ⊥
-ArePastes edit m next (c ∷ cs) (t ∷ ts) (p ∷ ps) = IsPaste edit m next c t p × ArePastes edit m p.next cs ts ps
+ArePastes edit start [] [] [] = Unit {0}
+ArePastes edit start [] [] (p ∷ ps) = ⊥
+ArePastes edit start [] (t ∷ ts) ps = ⊥
+ArePastes edit start (c ∷ cs) [] ps = ⊥
+ArePastes edit start (c ∷ cs) (t ∷ ts) [] = ⊥
+ArePastes edit start (c ∷ cs) (t ∷ ts) (p ∷ ps) =
+    IsPaste edit start c t p × ArePastes edit (start_behind start p) cs ts ps
 
 -- the next id after some plans
 abbrev pub next_of : ℕ → List Plan → ℕ

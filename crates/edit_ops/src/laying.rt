@@ -13,29 +13,28 @@ ghost use Rattle.block_sequence.specs.Origins.{AllFrom};
 ghost use Rattle.edit_ops.specs.Strips.{ItemsFrom};
 ghost use Rattle.edit_ops.specs.LaidClips as clips;
 
+use super::planner::Planner;
 use super::types::LaidClip;
 use block_sequence::{fuse, piece_len};
 use clip_track::Item;
 use pcm_base::{NoMemory, Piece};
-use std::alloc::{AllocError, Global};
+use std::alloc::AllocError;
 
 /// Lays out a clip of some pieces, if there are any.
 fn close(
-    alloc: Global,
+    planner: Planner,
     out: &mut Vec<LaidClip>,
     held: &[Piece],
     size: u64,
     start: u64,
-    m: u32,
 ) -> Result<(), NoMemory>
-    requires some { 0 < m }
     requires valid { AllValid held.now }
-    requires fit { AllFit m held.now }
+    requires fit { AllFit planner.block_size held.now }
     requires size { size ≡ total held.now }
     requires few { size ≤ 2 ^ 32 }
-    requires apart { clips.AreLaidClips m 0 out.old.items }
+    requires apart { clips.AreLaidClips planner.block_size 0 out.old.items }
     requires later { clips.laid_next 0 out.old.items ≤ start }
-    ensures apart { OnOk result (clips.AreLaidClips m 0 out.new.items) }
+    ensures apart { OnOk result (clips.AreLaidClips planner.block_size 0 out.new.items) }
     ensures later { OnOk result (clips.laid_next 0 out.new.items ≤ start + size + 1) }
     ensures end { OnOk result (clips.laid_end 0 out.new.items ≤ start + size) }
     ensures cells { OnOk result ((src : Sources) →
@@ -45,44 +44,46 @@ fn close(
     ensures origin { OnOk result ((old : List BlockRef) (count : ℕ) → AllFrom old count held.now
         → clips.ClipsFrom old count out.old.items → clips.ClipsFrom old count out.new.items) }
     ensures few_made { OnOk result
-        (AllShort m held.now → clips.made_clips out.new.items ≤ clips.made_clips out.old.items + 2 * rough m held.now) }
+        (AllShort planner.block_size held.now
+        → clips.made_clips out.new.items ≤ clips.made_clips out.old.items + 2 * rough planner.block_size held.now) }
     ensures few_samples { OnOk result
-        (m * clips.made_clips out.new.items ≤ m * clips.made_clips out.old.items + clip_room m held.now) }
+        (planner.block_size * clips.made_clips out.new.items
+        ≤ planner.block_size * clips.made_clips out.old.items + clip_room planner.block_size held.now) }
 {
     if size > 0 {
-        let laid = fuse(alloc, held, m)?;
+        let laid = fuse(planner.alloc, held, planner.block_size)?;
         out.push(LaidClip { start, laid })?;
     }
     Ok(())
 }
 
 /// Lays out a strip clip by clip: what lies between two gaps is one clip.
-pub fn lay_strip(alloc: Global, items: &[Item], m: u32) -> Result<Vec<LaidClip>, NoMemory>
-    requires some { 0 < m }
+pub fn lay_strip(planner: Planner, items: &[Item]) -> Result<Vec<LaidClip>, NoMemory>
     requires ok { AreItems items.now }
-    requires fit { ItemsFit m items.now }
+    requires fit { ItemsFit planner.block_size items.now }
     requires few { strip_len items.now ≤ 2 ^ 32 }
-    ensures apart { IfOk result (λ v. clips.AreLaidClips m 0 v.items) }
+    ensures apart { IfOk result (λ v. clips.AreLaidClips planner.block_size 0 v.items) }
     ensures end { IfOk result (λ v. clips.laid_end 0 v.items ≤ strip_len items.now) }
     ensures cells { IfOk result
         (λ v. (src : Sources) → clips.laid_cells src 0 v.items ≡ trimmed (strip_cells src items.now)) }
     ensures origin { IfOk result
         (λ v. (old : List BlockRef) (count : ℕ) → ItemsFrom old count items.now → clips.ClipsFrom old count v.items) }
-    ensures few_made { IfOk result
-        (λ v. ItemsShort m items.now → clips.made_clips v.items ≤ 2 * rough_from m [] items.now) }
-    ensures few_samples { IfOk result (λ v. m * clips.made_clips v.items ≤ room_from m [] items.now) }
+    ensures few_made { IfOk result (λ v. ItemsShort planner.block_size items.now
+        → clips.made_clips v.items ≤ 2 * rough_from planner.block_size [] items.now) }
+    ensures few_samples { IfOk result
+        (λ v. planner.block_size * clips.made_clips v.items ≤ room_from planner.block_size [] items.now) }
 {
-    let mut out = Vec::new(alloc);
-    let mut held = Vec::new(alloc);
+    let mut out = Vec::new(planner.alloc);
+    let mut held = Vec::new(planner.alloc);
     let mut size = 0;
     let mut start = 0;
     for item in items {
         match item {
             Item::Gap { len } => {
-                close(alloc, &mut out, held.as_slice(), size, start, m)?;
+                close(planner, &mut out, held.as_slice(), size, start)?;
                 start += size + *len;
                 size = 0;
-                held = Vec::new(alloc);
+                held = Vec::new(planner.alloc);
             }
             Item::Sound { piece } => {
                 size += piece_len(*piece);
@@ -90,6 +91,6 @@ pub fn lay_strip(alloc: Global, items: &[Item], m: u32) -> Result<Vec<LaidClip>,
             }
         }
     }
-    close(alloc, &mut out, held.as_slice(), size, start, m)?;
+    close(planner, &mut out, held.as_slice(), size, start)?;
     Ok(out)
 }

@@ -5,7 +5,7 @@ ghost use Rattle.pcm_base.specs.Pieces.{Sources, stretch};
 ghost use Rattle.pcm_base.specs.Refusals.{bad_range, inserted_length, length_limit};
 ghost use Rattle.clip_track.specs.Clips.{end_of, layout_cells, AllHalfFull, layout_blocks};
 ghost use Rattle.pcm_base.specs.Sizes.{sample_count, clip_count};
-ghost use Rattle.edit_ops.specs.Plans.{IsPlan, Means, AnswersTest};
+ghost use Rattle.edit_ops.specs.Plans.{IsPlan, Means, AnswersTest, start_of};
 
 use super::changing::Change;
 use super::planner::Planner;
@@ -26,7 +26,7 @@ use pcm_base::Refusal;
 pub fn insert(planner: Planner, t: &Layout, at: u64, count: u64) -> Result<Plan, Refusal>
     requires half_full { AllHalfFull planner.block_size t.now }
     requires sum { at + count + end_of 0 t.now < 2 ^ 64 }
-    ensures plan { IfOk result (λ p. IsPlan planner.block_size planner.next (layout_blocks t.now) count p) }
+    ensures plan { IfOk result (λ p. IsPlan (start_of planner) (layout_blocks t.now) count p) }
     ensures cells { IfOk result
         (λ p. Means (λ src. edit.inserted at (edit.as_cells (stretch src.given 0 count))) t.now p) }
     ensures few_made { IfOk result (λ p. length p.makes ≤ 8 + count / planner.block_size) }
@@ -44,7 +44,7 @@ pub fn insert(planner: Planner, t: &Layout, at: u64, count: u64) -> Result<Plan,
 /// `BadRange` where not `from < to <= t.len()`; else `NoMemory` where there is none for the plan.
 pub fn delete(planner: Planner, t: &Layout, from: u64, to: u64) -> Result<Plan, Refusal>
     requires half_full { AllHalfFull planner.block_size t.now }
-    ensures plan { IfOk result (λ p. IsPlan planner.block_size planner.next (layout_blocks t.now) 0 p) }
+    ensures plan { IfOk result (λ p. IsPlan (start_of planner) (layout_blocks t.now) 0 p) }
     ensures cells { IfOk result (λ p. Means (λ src. edit.deleted from to) t.now p) }
     ensures few_made { IfOk result (λ p. length p.makes ≤ 8) }
     ensures tests { AnswersTest (bad_range from to (end_of 0 t.now)) result }
@@ -61,7 +61,7 @@ pub fn delete(planner: Planner, t: &Layout, from: u64, to: u64) -> Result<Plan, 
 /// `BadRange` where not `from < to <= t.len()`; else `NoMemory` where there is none for the plan.
 pub fn split_delete(planner: Planner, t: &Layout, from: u64, to: u64) -> Result<Plan, Refusal>
     requires half_full { AllHalfFull planner.block_size t.now }
-    ensures plan { IfOk result (λ p. IsPlan planner.block_size planner.next (layout_blocks t.now) 0 p) }
+    ensures plan { IfOk result (λ p. IsPlan (start_of planner) (layout_blocks t.now) 0 p) }
     ensures cells { IfOk result (λ p. Means (λ src. edit.split_deleted from to) t.now p) }
     ensures few_made { IfOk result (λ p. length p.makes ≤ 8) }
     ensures tests { AnswersTest (bad_range from to (end_of 0 t.now)) result }
@@ -78,7 +78,7 @@ pub fn split_delete(planner: Planner, t: &Layout, from: u64, to: u64) -> Result<
 /// `BadRange` where not `from < to <= t.len()`; else `NoMemory` where there is none for the plan.
 pub fn trim(planner: Planner, t: &Layout, from: u64, to: u64) -> Result<Plan, Refusal>
     requires half_full { AllHalfFull planner.block_size t.now }
-    ensures plan { IfOk result (λ p. IsPlan planner.block_size planner.next (layout_blocks t.now) 0 p) }
+    ensures plan { IfOk result (λ p. IsPlan (start_of planner) (layout_blocks t.now) 0 p) }
     ensures cells { IfOk result (λ p. Means (λ src. edit.kept_only from to) t.now p) }
     ensures few_made { IfOk result (λ p. length p.makes ≤ 8) }
     ensures tests { AnswersTest (bad_range from to (end_of 0 t.now)) result }
@@ -95,7 +95,7 @@ pub fn trim(planner: Planner, t: &Layout, from: u64, to: u64) -> Result<Plan, Re
 /// `BadRange` where not `from < to <= t.len()`; else `NoMemory` where there is none for the plan.
 pub fn silence(planner: Planner, t: &Layout, from: u64, to: u64) -> Result<Plan, Refusal>
     requires half_full { AllHalfFull planner.block_size t.now }
-    ensures plan { IfOk result (λ p. IsPlan planner.block_size planner.next (layout_blocks t.now) 0 p) }
+    ensures plan { IfOk result (λ p. IsPlan (start_of planner) (layout_blocks t.now) 0 p) }
     ensures cells { IfOk result (λ p. Means (λ src. edit.silenced from to) t.now p) }
     ensures few_made { IfOk result (λ p. (src : Sources) →
         let cells = edit.part from to (layout_cells src t.now) in
@@ -114,7 +114,7 @@ pub fn silence(planner: Planner, t: &Layout, from: u64, to: u64) -> Result<Plan,
 /// `BadRange` where not `from < to <= t.len()`; else `NoMemory` where there is none for the plan.
 pub fn gain(planner: Planner, t: &Layout, from: u64, to: u64, gain: u32) -> Result<Plan, Refusal>
     requires half_full { AllHalfFull planner.block_size t.now }
-    ensures plan { IfOk result (λ p. IsPlan planner.block_size planner.next (layout_blocks t.now) 0 p) }
+    ensures plan { IfOk result (λ p. IsPlan (start_of planner) (layout_blocks t.now) 0 p) }
     ensures cells { IfOk result (λ p. Means (λ src. edit.changed (edit.gained gain) from to) t.now p) }
     ensures few_made { IfOk result (λ p. (src : Sources) →
         let cells = edit.part from to (layout_cells src t.now) in

@@ -3,6 +3,7 @@ ghost use Rattle.std.specs.Prelude.{◌≡◌, ◌+◌, ◌≤◌, ◌<◌, ◌^
 ghost use Rattle.clip_track.specs.Clips.{end_of, AllHalfFull};
 ghost use Rattle.clip_track.specs.Items.{strip_cells, strip_len};
 ghost use Rattle.edit_ops.specs.Placing.{placed, placed_items, placed_length};
+ghost use Rattle.edit_ops.specs.Plans.{start_of};
 ghost use Rattle.edit_ops.specs.Runs.{IsPaste};
 ghost use Rattle.edit_ops.specs.Strips.{IsClip};
 
@@ -64,7 +65,7 @@ pub fn plan_placed(
     requires half_full { AllHalfFull planner.block_size t.now }
     requires clip { IsClip planner.block_size clip.now }
     requires few { placed_length placing at (strip_len clip.now) (end_of 0 t.now) ≤ 2 ^ 32 }
-    ensures { IfOk result (λ p. IsPaste (placed placing at) planner.block_size planner.next clip.now t.now p) }
+    ensures { IfOk result (λ p. IsPaste (placed placing at) (start_of planner) clip.now t.now p) }
 {
     let whole = t.to_strip()?;
     let strip = strip_of(planner.alloc, &whole, placing, at, clip)?;

@@ -5,7 +5,7 @@ ghost use Rattle.pcm_base.specs.Cells.{trimmed};
 ghost use Rattle.clip_track.specs.Items.{ItemsFit, strip_len, strip_cells};
 ghost use Rattle.clip_track.specs.Clips.{layout_cells};
 ghost use Rattle.pcm_base.specs.declared.block.BlockRef.{BlockRef};
-ghost use Rattle.edit_ops.specs.Plans.{AreWritten, IsPlan};
+ghost use Rattle.edit_ops.specs.Plans.{AreWritten, IsPlan, start_of};
 ghost use Rattle.edit_ops.specs.Strips.{ItemsFrom};
 ghost use Rattle.block_sequence.specs.Room.{First};
 ghost use Rattle.clip_track.specs.Room.{strip_room};
@@ -87,7 +87,7 @@ pub fn plan_strip(planner: Planner, strip: &Strip) -> Result<Plan, NoMemory>
     requires few { strip_len strip.now ≤ 2 ^ 32 }
     ensures plan { IfOk result
         (λ p. (old : List BlockRef) (count : ℕ) → ItemsFrom old count strip.now
-        → IsPlan planner.block_size planner.next old count p) }
+        → IsPlan (start_of planner) old count p) }
     ensures cells { IfOk result (λ p. (src : Sources) → AreWritten src p.makes
         → layout_cells src p.layout ≡ trimmed (strip_cells src strip.now)) }
     ensures few_made { IfOk result (λ p. ItemsShort planner.block_size strip.now
@@ -95,6 +95,6 @@ pub fn plan_strip(planner: Planner, strip: &Strip) -> Result<Plan, NoMemory>
     ensures few_samples { IfOk result
         (λ p. planner.block_size * length p.makes ≤ strip_room planner.block_size First true strip.now) }
 {
-    let clips = lay_strip(planner.alloc, strip.as_slice(), planner.block_size)?;
+    let clips = lay_strip(planner, strip.as_slice())?;
     Ok(name_clips(planner, clips)?)
 }

@@ -6,7 +6,7 @@ ghost use Rattle.pcm_base.specs.Refusals.{inserted_length};
 ghost use Rattle.clip_track.specs.Clips.{end_of, layout_cells, AllHalfFull, layout_blocks};
 ghost use Rattle.edit_ops.specs.Changes.{cell_change};
 ghost use Rattle.pcm_base.specs.Sizes.{sample_count, clip_count};
-ghost use Rattle.edit_ops.specs.Plans.{IsPlan, Means};
+ghost use Rattle.edit_ops.specs.Plans.{IsPlan, Means, start_of};
 
 use super::changing::Change;
 use super::planner::Planner;
@@ -20,7 +20,7 @@ use pcm_base::NoMemory;
 pub fn plan_without(planner: Planner, t: &Layout, from: u64, to: u64) -> Result<Plan, NoMemory>
     requires half_full { AllHalfFull planner.block_size t.now }
     requires rising { from ≤ to }
-    ensures plan { IfOk result (λ p. IsPlan planner.block_size planner.next (layout_blocks t.now) 0 p) }
+    ensures plan { IfOk result (λ p. IsPlan (start_of planner) (layout_blocks t.now) 0 p) }
     ensures cells { IfOk result (λ p. Means (λ src. edit.deleted from to) t.now p) }
     ensures few_made { IfOk result (λ p. length p.makes ≤ 8) }
 {
@@ -33,7 +33,7 @@ pub fn plan_without(planner: Planner, t: &Layout, from: u64, to: u64) -> Result<
 pub fn plan_with_gaps(planner: Planner, t: &Layout, from: u64, to: u64) -> Result<Plan, NoMemory>
     requires half_full { AllHalfFull planner.block_size t.now }
     requires rising { from ≤ to }
-    ensures plan { IfOk result (λ p. IsPlan planner.block_size planner.next (layout_blocks t.now) 0 p) }
+    ensures plan { IfOk result (λ p. IsPlan (start_of planner) (layout_blocks t.now) 0 p) }
     ensures cells { IfOk result (λ p. Means (λ src. edit.split_deleted from to) t.now p) }
     ensures few_made { IfOk result (λ p. length p.makes ≤ 8) }
 {
@@ -47,7 +47,7 @@ pub fn plan_only_part(planner: Planner, t: &Layout, from: u64, to: u64) -> Resul
     requires half_full { AllHalfFull planner.block_size t.now }
     requires rising { from ≤ to }
     requires within { to ≤ end_of 0 t.now }
-    ensures plan { IfOk result (λ p. IsPlan planner.block_size planner.next (layout_blocks t.now) 0 p) }
+    ensures plan { IfOk result (λ p. IsPlan (start_of planner) (layout_blocks t.now) 0 p) }
     ensures cells { IfOk result (λ p. Means (λ src. edit.kept_only from to) t.now p) }
     ensures few_made { IfOk result (λ p. length p.makes ≤ 8) }
 {
@@ -66,7 +66,7 @@ pub fn plan_with_change(
 ) -> Result<Plan, NoMemory>
     requires half_full { AllHalfFull planner.block_size t.now }
     requires rising { from ≤ to }
-    ensures plan { IfOk result (λ p. IsPlan planner.block_size planner.next (layout_blocks t.now) 0 p) }
+    ensures plan { IfOk result (λ p. IsPlan (start_of planner) (layout_blocks t.now) 0 p) }
     ensures cells { IfOk result (λ p. Means (λ src. edit.changed (cell_change change) from to) t.now p) }
     ensures few_made { IfOk result (λ p. (src : Sources) →
         let cells = edit.part from to (layout_cells src t.now) in
@@ -81,7 +81,7 @@ pub fn plan_with_change(
 pub fn plan_with_given(planner: Planner, t: &Layout, at: u64, count: u64) -> Result<Plan, NoMemory>
     requires half_full { AllHalfFull planner.block_size t.now }
     requires few { inserted_length at count (end_of 0 t.now) ≤ 2 ^ 32 }
-    ensures plan { IfOk result (λ p. IsPlan planner.block_size planner.next (layout_blocks t.now) count p) }
+    ensures plan { IfOk result (λ p. IsPlan (start_of planner) (layout_blocks t.now) count p) }
     ensures cells { IfOk result
         (λ p. Means (λ src. edit.inserted at (edit.as_cells (stretch src.given 0 count))) t.now p) }
     ensures few_made { IfOk result (λ p. length p.makes ≤ 8 + count / planner.block_size) }

@@ -1,6 +1,7 @@
 // The two ways in which a range is taken from a track.
 ghost use Rattle.std.specs.Prelude.{◌≡◌, ◌≤◌, ◌<◌, ◌^◌, length, IfOk};
 ghost use Rattle.clip_track.specs.Clips.{AllHalfFull};
+ghost use Rattle.edit_ops.specs.Plans.{start_of};
 ghost use Rattle.edit_ops.specs.Removing.{removed};
 ghost use Rattle.edit_ops.specs.Runs.{IsCut};
 
@@ -29,7 +30,7 @@ pub fn plan_removal(
 ) -> Result<Plan, NoMemory>
     requires half_full { AllHalfFull planner.block_size t.now }
     requires rising { from ≤ to }
-    ensures { IfOk result (λ p. IsCut (removed removing from to) planner.block_size planner.next t.now p) }
+    ensures { IfOk result (λ p. IsCut (removed removing from to) (start_of planner) t.now p) }
 {
     match removing {
         Removing::Delete => Ok(plan_without(planner, t, from, to)?),

@@ -4,7 +4,7 @@ ghost use Rattle.std.specs.Option.{ForSome};
 ghost use Rattle.pcm_base.specs.Edits as edit;
 ghost use Rattle.pcm_base.specs.Refusals.{inserted_length, covered_length};
 ghost use Rattle.edit_ops.specs.Placing.{placed, placed_length, SumsFit, LengthsFit};
-ghost use Rattle.edit_ops.specs.Plans.{AnswersTest};
+ghost use Rattle.edit_ops.specs.Plans.{AnswersTest, run_start_of};
 ghost use Rattle.edit_ops.specs.Removing.{removed};
 ghost use Rattle.edit_ops.specs.Runs as runs;
 
@@ -49,7 +49,7 @@ fn cut_each(
     requires half_full { runs.AllTracksHalfFull planner.block_size (runs.layouts run.now) }
     requires rising { from ≤ to }
     ensures { IfOk result
-        (λ v. runs.AreCuts (removed removing from to) planner.block_size planner.next (runs.layouts run.now) v) }
+        (λ v. runs.AreCuts (removed removing from to) (run_start_of planner) (runs.layouts run.now) v) }
 {
     let mut plans = Vec::with_capacity(planner.alloc, run.len())?;
     let mut id = planner.next;
@@ -79,7 +79,7 @@ fn paste_each(
     requires wide { length clip.now ≤ length run.now }
     requires few { LengthsFit placing at clip.now (runs.layouts run.now) }
     ensures { IfOk result
-        (λ v. runs.ArePastes (placed placing at) planner.block_size planner.next clip.now
+        (λ v. runs.ArePastes (placed placing at) (run_start_of planner) clip.now
         (take (length clip.now) (runs.layouts run.now)) v) }
 {
     let mut plans = Vec::new(planner.alloc);
@@ -125,7 +125,7 @@ fn cut_tracks(
     requires rising { from ≤ to }
     ensures copies { IfOk result (λ v. runs.AreCopies from to (runs.layouts run.now) v.0) }
     ensures plans { IfOk result
-        (λ v. runs.AreCuts (removed removing from to) planner.block_size planner.next (runs.layouts run.now) v.1) }
+        (λ v. runs.AreCuts (removed removing from to) (run_start_of planner) (runs.layouts run.now) v.1) }
 {
     let strips = copy_each(planner.alloc, run, from, to)?;
     let plans = cut_each(planner, run, removing, from, to)?;
@@ -143,8 +143,7 @@ fn cut_range(
     requires half_full { runs.AllTracksHalfFull planner.block_size (runs.layouts run.now) }
     ensures copies { IfOk result (λ v. runs.AreCopies from to (take n (runs.layouts run.now)) v.0) }
     ensures plans { IfOk result
-        (λ v. runs.AreCuts (removed removing from to) planner.block_size planner.next
-        (take n (runs.layouts run.now)) v.1) }
+        (λ v. runs.AreCuts (removed removing from to) (run_start_of planner) (take n (runs.layouts run.now)) v.1) }
     ensures tests { AnswersTest (runs.copy_tests (runs.layouts run.now) n from to) result }
 {
     copy_tests(run, n, from, to)?;
@@ -167,8 +166,7 @@ pub fn cut(
     requires half_full { runs.AllTracksHalfFull planner.block_size (runs.layouts run.now) }
     ensures copies { IfOk result (λ v. runs.AreCopies from to (take n (runs.layouts run.now)) v.0) }
     ensures plans { IfOk result
-        (λ v. runs.AreCuts (edit.deleted from to) planner.block_size planner.next
-        (take n (runs.layouts run.now)) v.1) }
+        (λ v. runs.AreCuts (edit.deleted from to) (run_start_of planner) (take n (runs.layouts run.now)) v.1) }
     ensures tests { AnswersTest (runs.copy_tests (runs.layouts run.now) n from to) result }
 {
     cut_range(planner, run, Removing::Delete, n, from, to)
@@ -189,8 +187,7 @@ pub fn split_cut(
     requires half_full { runs.AllTracksHalfFull planner.block_size (runs.layouts run.now) }
     ensures copies { IfOk result (λ v. runs.AreCopies from to (take n (runs.layouts run.now)) v.0) }
     ensures plans { IfOk result
-        (λ v. runs.AreCuts (edit.split_deleted from to) planner.block_size planner.next
-        (take n (runs.layouts run.now)) v.1) }
+        (λ v. runs.AreCuts (edit.split_deleted from to) (run_start_of planner) (take n (runs.layouts run.now)) v.1) }
     ensures tests { AnswersTest (runs.copy_tests (runs.layouts run.now) n from to) result }
 {
     cut_range(planner, run, Removing::SplitDelete, n, from, to)
@@ -208,7 +205,7 @@ fn place(
     requires clips { runs.AreClips planner.block_size clip.now }
     requires sums { SumsFit at clip.now (runs.layouts run.now) }
     ensures plans { IfOk result
-        (λ v. runs.ArePastes (placed placing at) planner.block_size planner.next clip.now
+        (λ v. runs.ArePastes (placed placing at) (run_start_of planner) clip.now
         (take (length clip.now) (runs.layouts run.now)) v) }
     ensures tests { AnswersTest (runs.paste_tests (placed_length placing at) clip.now (runs.layouts run.now)) result }
 {
@@ -235,8 +232,7 @@ pub fn paste(
     requires clips { ForSome (option_copied clip) (λ c. runs.AreClips planner.block_size c) }
     requires sums { ForSome (option_copied clip) (λ c. SumsFit at c (runs.layouts run.now)) }
     ensures plans { IfOk result (λ v. IfSome (option_copied clip.entry)
-        (λ c. runs.ArePastes (edit.inserted at) planner.block_size planner.next c
-        (take (length c) (runs.layouts run.now)) v)) }
+        (λ c. runs.ArePastes (edit.inserted at) (run_start_of planner) c (take (length c) (runs.layouts run.now)) v)) }
     ensures tests { AnswersTest
         (runs.clipboard_tests (inserted_length at) (option_copied clip.entry) (runs.layouts run.now)) result }
 {
@@ -262,7 +258,7 @@ pub fn paste_over(
     requires clips { ForSome (option_copied clip) (λ c. runs.AreClips planner.block_size c) }
     requires sums { ForSome (option_copied clip) (λ c. SumsFit at c (runs.layouts run.now)) }
     ensures plans { IfOk result (λ v. IfSome (option_copied clip.entry)
-        (λ c. runs.ArePastes (edit.pasted_over at) planner.block_size planner.next c
+        (λ c. runs.ArePastes (edit.pasted_over at) (run_start_of planner) c
         (take (length c) (runs.layouts run.now)) v)) }
     ensures tests { AnswersTest
         (runs.clipboard_tests (covered_length at) (option_copied clip.entry) (runs.layouts run.now)) result }

@@ -161,7 +161,7 @@ channel_means from count p means src written =
     ∙ ap as_cells (sym (stretch_behind given from 0 count) ∙ ap (λ (k : ℕ). stretch given k count) at)
 
 pub channel_plan : (from count m next after : ℕ) (layout : List Clip) (makes moved : List NewBlock) → IsLayout layout
-    → IsPlan m next [] count (record { layout = layout; makes = makes; next = after })
+    → IsPlan (record { block_size = m; next = next }) [] count (record { layout = layout; makes = makes; next = after })
     → MeansInserted count (record { layout = layout; makes = makes; next = after })
     → length makes ≤ 8 + count / m → moved ≡ map (block_behind from) makes
     → IsChannelPlan from count m next (record { layout = layout; makes = moved; next = after })

@@ -18,7 +18,8 @@ use Rattle.clip_track.specs.declared.items.Item.{Item}
 use Rattle.clip_track.specs.Clips.{layout_blocks}
 use Rattle.clip_track.specs.Items.{AreItems, strip_blocks, strip_len}
 use Rattle.edit_ops.specs.declared.types.Plan.{Plan}
-use Rattle.edit_ops.specs.Runs.{AllTracksHalfFull, AreCuts, copy_tests, longest_of}
+use Rattle.edit_ops.specs.Plans.{Start}
+use Rattle.edit_ops.specs.Runs.{AllTracksHalfFull, AreCuts, copy_tests, longest_of, start_behind}
 use Rattle.envelope_view.specs.Answers.{IsUndamaged}
 use Rattle.project_state.specs.declared.track.Track.{Track}
 use Rattle.project_state.specs.Kept.{meant, meant_track, point_blocks}
@@ -57,36 +58,37 @@ run_half_full disk s is id t found =
     (from_sound s.block_size s.next_block s.next_track id ts sound.sound))
 
 -- a run has a plan for each of the tracks that are cut
-pub cuts_few : (edit : List Cell → List Cell) (m next n : ℕ) (run : List (List Clip)) (ps : List Plan)
-    → AreCuts edit m next (take n run) ps → length ps ≤ length run
-cuts_few edit m next zero run [] cuts = omega arith
-cuts_few edit m next zero run (p ∷ ps) cuts = absurd cuts
-cuts_few edit m next (suc n) [] [] cuts = omega arith
-cuts_few edit m next (suc n) [] (p ∷ ps) cuts = absurd cuts
-cuts_few edit m next (suc n) (t ∷ ts) [] cuts = absurd cuts
-cuts_few edit m next (suc n) (t ∷ ts) (p ∷ ps) cuts = omega (arith, cuts_few edit m p.next n ts ps cuts.1)
+pub cuts_few : (edit : List Cell → List Cell) (start : Start) (n : ℕ) (run : List (List Clip)) (ps : List Plan)
+    → AreCuts edit start (take n run) ps → length ps ≤ length run
+cuts_few edit start zero run [] cuts = omega arith
+cuts_few edit start zero run (p ∷ ps) cuts = absurd cuts
+cuts_few edit start (suc n) [] [] cuts = omega arith
+cuts_few edit start (suc n) [] (p ∷ ps) cuts = absurd cuts
+cuts_few edit start (suc n) (t ∷ ts) [] cuts = absurd cuts
+cuts_few edit start (suc n) (t ∷ ts) (p ∷ ps) cuts =
+    omega (arith, cuts_few edit (start_behind start p) n ts ps cuts.1)
 
 -- the same edit of each of so many tracks
 abbrev pub each_so : ℕ → (List Cell → List Cell) → List CellEdit
 each_so n edit = replicate n (λ (src : Sources). edit)
 
-pub cuts_laid : (edit : List Cell → List Cell) (m next n : ℕ) (xs : List BlockRef) (ts : List Track) (ps : List Plan)
-    → AreAmong xs (point_blocks ts)
-    → AreCuts edit m next (take n (map layout_of ts)) ps → AreLaid (each_so n edit) m next xs ts ps
-cuts_laid edit m next zero xs ts [] among cuts = tt
-cuts_laid edit m next zero xs ts (p ∷ ps) among cuts = absurd cuts
-cuts_laid edit m next (suc n) xs [] [] among cuts = tt
-cuts_laid edit m next (suc n) xs [] (p ∷ ps) among cuts = absurd cuts
-cuts_laid edit m next (suc n) xs (t ∷ ts) [] among cuts = absurd cuts
-cuts_laid edit m next (suc n) xs (t ∷ ts) (p ∷ ps) among cuts =
+pub cuts_laid : (edit : List Cell → List Cell) (start : Start) (n : ℕ) (xs : List BlockRef) (ts : List Track)
+    (ps : List Plan) → AreAmong xs (point_blocks ts) → AreCuts edit start (take n (map layout_of ts)) ps
+    → AreLaid (each_so n edit) start.block_size start.next xs ts ps
+cuts_laid edit start zero xs ts [] among cuts = tt
+cuts_laid edit start zero xs ts (p ∷ ps) among cuts = absurd cuts
+cuts_laid edit start (suc n) xs [] [] among cuts = tt
+cuts_laid edit start (suc n) xs [] (p ∷ ps) among cuts = absurd cuts
+cuts_laid edit start (suc n) xs (t ∷ ts) [] among cuts = absurd cuts
+cuts_laid edit start (suc n) xs (t ∷ ts) (p ∷ ps) among cuts =
     let here = all_left (Contains xs) (layout_blocks t.layout) (point_blocks ts) among in
     let later = all_right (Contains xs) (layout_blocks t.layout) (point_blocks ts) among in (
       record {
-        plan = plan_more m next (layout_blocks t.layout) xs p here cuts.0.plan;
+        plan = plan_more start (layout_blocks t.layout) xs p here cuts.0.plan;
         cells = cuts.0.cells;
         few = cuts.0.few_made;
       },
-      cuts_laid edit m p.next n xs ts ps later cuts.1,
+      cuts_laid edit (start_behind start p) n xs ts ps later cuts.1,
     )
 
 pub same_edits : (src : Sources) (n : ℕ) (edit : List Cell → List Cell)

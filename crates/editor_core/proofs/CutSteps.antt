@@ -48,6 +48,7 @@ use Rattle.editor_core.specs.Points.{current_tracks, lacks}
 use Rattle.editor_core.specs.Reads.{HasLayout}
 use Rattle.editor_core.specs.Studios.{IsClipboard, IsStudio, clip_cells, named_blocks, studio_by, studio_of}
 use Rattle.editor_core.specs.Took.{Took, silent}
+use Rattle.editor_core.specs.TrackEdits.{plan_start}
 use Rattle.editor_core.proofs.Clipping.{may_paste, strips_named}
 use Rattle.editor_core.proofs.Contained.{among_itself}
 use Rattle.editor_core.proofs.Copying.{copies_mean, from_blocks, from_track, layout_of}
@@ -224,8 +225,8 @@ module _ {D : Type 0} (disk : Ghosts D) (s : Core D) (is : IsStudio disk s) (e :
 
     laid : AreLaid (each_so n f) s.block_size s.next_block xs ran p.plans
     laid =
-        cuts_laid f s.block_size s.next_block n xs ran p.plans (from_blocks (Contains xs) id old (among_itself xs))
-        (subst (λ (z : List (List Clip)). AreCuts f s.block_size s.next_block (take n z) p.plans) layouts p.cuts)
+        cuts_laid f (plan_start s) n xs ran p.plans (from_blocks (Contains xs) id old (among_itself xs))
+        (subst (λ (z : List (List Clip)). AreCuts f (plan_start s) (take n z) p.plans) layouts p.cuts)
 
     old_named : AreAmong (named_blocks s) xs
     old_named = old_names disk s is (Contains (named_blocks s)) (among_itself (named_blocks s))

@@ -25,7 +25,8 @@ use Rattle.clip_track.proofs.Layouts.{length-layout}
 use Rattle.clip_track.proofs.Strips.{length-strip_cells}
 use Rattle.edit_ops.specs.declared.types.Plan.{Plan}
 use Rattle.edit_ops.specs.Placing.{SumsFit}
-use Rattle.edit_ops.specs.Runs.{AreClips, ArePastes, clipboard_tests, lengths_of}
+use Rattle.edit_ops.specs.Plans.{Start}
+use Rattle.edit_ops.specs.Runs.{AreClips, ArePastes, clipboard_tests, lengths_of, start_behind}
 use Rattle.envelope_view.specs.Answers.{IsUndamaged}
 use Rattle.project_state.specs.declared.track.Track.{Track}
 use Rattle.project_state.specs.Kept.{meant, meant_track, point_blocks}
@@ -69,48 +70,49 @@ sums_fit disk s is id at t found low v clip =
     (from_sound s.block_size s.next_block s.next_track id ts sound.sound))
 
 -- a run has a plan for each strip
-pastes_many : (edit : List Cell → List Cell → List Cell) (m next : ℕ) (cs : List (List Item)) (run : List (List Clip))
-    (ps : List Plan) → ArePastes edit m next cs run ps → length ps ≡ length run
-pastes_many edit m next [] [] [] pastes = refl
-pastes_many edit m next [] [] (p ∷ ps) pastes = absurd pastes
-pastes_many edit m next [] (t ∷ ts) ps pastes = absurd pastes
-pastes_many edit m next (c ∷ cs) [] ps pastes = absurd pastes
-pastes_many edit m next (c ∷ cs) (t ∷ ts) [] pastes = absurd pastes
-pastes_many edit m next (c ∷ cs) (t ∷ ts) (p ∷ ps) pastes = omega (arith, pastes_many edit m p.next cs ts ps pastes.1)
+pastes_many : (edit : List Cell → List Cell → List Cell) (start : Start) (cs : List (List Item))
+    (run : List (List Clip)) (ps : List Plan) → ArePastes edit start cs run ps → length ps ≡ length run
+pastes_many edit start [] [] [] pastes = refl
+pastes_many edit start [] [] (p ∷ ps) pastes = absurd pastes
+pastes_many edit start [] (t ∷ ts) ps pastes = absurd pastes
+pastes_many edit start (c ∷ cs) [] ps pastes = absurd pastes
+pastes_many edit start (c ∷ cs) (t ∷ ts) [] pastes = absurd pastes
+pastes_many edit start (c ∷ cs) (t ∷ ts) (p ∷ ps) pastes =
+    omega (arith, pastes_many edit (start_behind start p) cs ts ps pastes.1)
 
 take_few : (n : ℕ) (run : List (List Clip)) → length (take n run) ≤ length run
 take_few zero run = omega arith
 take_few (suc n) [] = omega arith
 take_few (suc n) (t ∷ ts) = omega (arith, take_few n ts)
 
-pub pastes_few : (edit : List Cell → List Cell → List Cell) (m next n : ℕ) (cs : List (List Item))
-    (run : List (List Clip)) (ps : List Plan) → ArePastes edit m next cs (take n run) ps
+pub pastes_few : (edit : List Cell → List Cell → List Cell) (start : Start) (n : ℕ) (cs : List (List Item))
+    (run : List (List Clip)) (ps : List Plan) → ArePastes edit start cs (take n run) ps
     → length ps ≤ length run
-pastes_few edit m next n cs run ps pastes =
-    omega (arith, pastes_many edit m next cs (take n run) ps pastes, take_few n run)
+pastes_few edit start n cs run ps pastes =
+    omega (arith, pastes_many edit start cs (take n run) ps pastes, take_few n run)
 
 -- one strip for each track
 abbrev pub each_strip : (List Cell → List Cell → List Cell) → List (List Item) → List CellEdit
 each_strip edit cs = map (λ (c : List Item). λ (src : Sources). edit (strip_cells src c)) cs
 
-pub pastes_laid : (edit : List Cell → List Cell → List Cell) (m next : ℕ) (xs : List BlockRef) (cs : List (List Item))
-    (ts : List Track) (ps : List Plan) → AreAmong xs (point_blocks ts)
-    → AreAmong xs (strips_blocks cs) → ArePastes edit m next cs (take (length cs) (map layout_of ts)) ps
-    → AreLaid (each_strip edit cs) m next xs ts ps
-pastes_laid edit m next xs [] ts [] old clip pastes = tt
-pastes_laid edit m next xs [] ts (p ∷ ps) old clip pastes = absurd pastes
-pastes_laid edit m next xs (c ∷ cs) [] ps old clip pastes = absurd pastes
-pastes_laid edit m next xs (c ∷ cs) (t ∷ ts) [] old clip pastes = absurd pastes
-pastes_laid edit m next xs (c ∷ cs) (t ∷ ts) (p ∷ ps) old clip pastes =
+pub pastes_laid : (edit : List Cell → List Cell → List Cell) (start : Start) (xs : List BlockRef)
+    (cs : List (List Item)) (ts : List Track) (ps : List Plan) → AreAmong xs (point_blocks ts)
+    → AreAmong xs (strips_blocks cs) → ArePastes edit start cs (take (length cs) (map layout_of ts)) ps
+    → AreLaid (each_strip edit cs) start.block_size start.next xs ts ps
+pastes_laid edit start xs [] ts [] old clip pastes = tt
+pastes_laid edit start xs [] ts (p ∷ ps) old clip pastes = absurd pastes
+pastes_laid edit start xs (c ∷ cs) [] ps old clip pastes = absurd pastes
+pastes_laid edit start xs (c ∷ cs) (t ∷ ts) [] old clip pastes = absurd pastes
+pastes_laid edit start xs (c ∷ cs) (t ∷ ts) (p ∷ ps) old clip pastes =
     let C : BlockRef → Type 0 = Contains xs in
     let mine = all_append C (layout_blocks t.layout) (strip_blocks c) (all_left C (layout_blocks t.layout)
     (point_blocks ts) old) (all_left C (strip_blocks c) (strips_blocks cs) clip) in (
       record {
-        plan = plan_more m next (layout_blocks t.layout ++ strip_blocks c) xs p mine pastes.0.plan;
+        plan = plan_more start (layout_blocks t.layout ++ strip_blocks c) xs p mine pastes.0.plan;
         cells = pastes.0.cells;
         few = pastes.0.few_made;
       },
-      pastes_laid edit m p.next xs cs ts ps (all_right C (layout_blocks t.layout) (point_blocks ts) old)
+      pastes_laid edit (start_behind start p) xs cs ts ps (all_right C (layout_blocks t.layout) (point_blocks ts) old)
           (all_right C (strip_blocks c) (strips_blocks cs) clip) pastes.1,
     )
 

@@ -49,6 +49,7 @@ use Rattle.editor_core.specs.Points.{current_tracks}
 use Rattle.editor_core.specs.Studios.{IsClipboard, IsGiven, IsStudio, MayPaste, clip_blocks, clip_cells, named_blocks}
 use Rattle.editor_core.specs.Studios.{pin_blocks, studio_by, studio_of}
 use Rattle.editor_core.specs.Took.{Took, silent}
+use Rattle.editor_core.specs.TrackEdits.{plan_start}
 use Rattle.editor_core.proofs.Contained.{among_itself}
 use Rattle.editor_core.proofs.Copying.{from_blocks, from_track, layout_of, run_is}
 use Rattle.editor_core.proofs.CutLaws.{there_of}
@@ -227,10 +228,10 @@ module _ {D : Type 0} (disk : Ghosts D) (s : Core D) (is : IsStudio disk s) (e :
     laid : AreLaid fs s.block_size s.next_block xs ran p.plans
     laid =
         let C : BlockRef → Type 0 = Contains xs in
-        pastes_laid edit s.block_size s.next_block xs v ran p.plans
+        pastes_laid edit (plan_start s) xs v ran p.plans
         (from_blocks C id old (all_left C (point_blocks old) (strips_blocks v) (among_itself xs)))
         (all_right C (point_blocks old) (strips_blocks v) (among_itself xs))
-        (subst (λ (z : List (List Clip)). ArePastes edit s.block_size s.next_block v (take (length v) z) p.plans)
+        (subst (λ (z : List (List Clip)). ArePastes edit (plan_start s) v (take (length v) z) p.plans)
         layouts p.pastes)
 
     behind : clip_behind s planned ≡ s.clipboard

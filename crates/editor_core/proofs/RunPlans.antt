@@ -10,7 +10,7 @@ use Rattle.pcm_base.specs.Pieces.{Sources}
 use Rattle.clip_track.specs.Clips.{AllHalfFull, IsLayout, layout_blocks}
 use Rattle.edit_ops.specs.declared.types.NewBlock.{NewBlock}
 use Rattle.edit_ops.specs.declared.types.Plan.{Plan}
-use Rattle.edit_ops.specs.Plans.{AllNewFrom, AreNew, AreOldOrNew, AreWritten, IsPlan, Means, ref_of}
+use Rattle.edit_ops.specs.Plans.{AllNewFrom, AreNew, AreOldOrNew, AreWritten, IsPlan, Means, Start, ref_of}
 use Rattle.project_state.specs.declared.track.Track.{Track}
 use Rattle.project_state.specs.Kept.{point_blocks}
 use Rattle.project_state.specs.Sound.{AllClipsGiven, AllSoundTracks, IsSoundTrack}
@@ -31,7 +31,7 @@ abbrev pub CellEdit : Type 0
 CellEdit = Sources → List Cell → List Cell
 
 pub record IsLaid (f : CellEdit) (m next : ℕ) (xs : List BlockRef) (t : Track) (p : Plan) : Type 0 where
-  pub plan : IsPlan m next xs 0 p
+  pub plan : IsPlan (record { block_size = m; next = next }) xs 0 p
   pub cells : Means f t.layout p
   pub few : length p.makes ≤ 8
 
@@ -59,9 +59,9 @@ old_or_new_more a xs (b ∷ bs) (n ∷ ns) among h = ⊎_elim
     (λ new. inr (new.0, old_or_new_more a xs bs ns among new.1))
     h
 
-pub plan_more : (m next : ℕ) (a xs : List BlockRef) (p : Plan) → AreAmong xs a → IsPlan m next a 0 p
-    → IsPlan m next xs 0 p
-plan_more m next a xs p among plan = record {
+pub plan_more : (start : Start) (a xs : List BlockRef) (p : Plan) → AreAmong xs a → IsPlan start a 0 p
+    → IsPlan start xs 0 p
+plan_more start a xs p among plan = record {
   half_full = plan.half_full;
   new = plan.new;
   origin = new_from_more a xs 0 p.makes among plan.origin;

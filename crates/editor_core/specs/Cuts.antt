@@ -22,6 +22,7 @@ use Rattle.editor_core.specs.Copies.{run_of}
 use Rattle.editor_core.specs.Core.{Core}
 use Rattle.editor_core.specs.Points.{current_tracks, lacks}
 use Rattle.editor_core.specs.RunEdits.{IsRunPlan}
+use Rattle.editor_core.specs.TrackEdits.{plan_start}
 
 -- the line that asks for it
 abbrev pub cut_line : CutEdit → RunRange → Command
@@ -43,7 +44,7 @@ cut_refusal range ts = (lacks range.track (track_of range.track ts))
 pub record IsCutPlan {D : Type 0} (e : CutEdit) (range : RunRange) (s : Core D) (p : Planned) : Type 0 where
   pub tests : cut_refusal range (current_tracks s.history) ≡ None
   pub plans : List Plan
-  pub cuts : AreCuts (cut_cells e range.from range.to) s.block_size s.next_block
+  pub cuts : AreCuts (cut_cells e range.from range.to) (plan_start s)
       (take range.count (run_of range.track (current_tracks s.history))) plans
   pub strips : List (List Item)
   pub copies : AreCopies range.from range.to (take range.count (run_of range.track (current_tracks s.history))) strips

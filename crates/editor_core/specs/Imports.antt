@@ -57,7 +57,7 @@ AllFitBehind skip bs = AllByRecursion (λ (b : NewBlock). AllByRecursion (FitsBe
 
 -- The plan of a new track of so many of the samples that are brought, from a place among them on.
 pub record IsChannelPlan (from count m next : ℕ) (p : Plan) : Type 0 where
-  pub plan : IsPlan m next [] (from + count) p
+  pub plan : IsPlan (record { block_size = m; next = next }) [] (from + count) p
   pub means : (src : Sources) → AreWritten src p.makes
       → layout_cells src p.layout ≡ as_cells (stretch src.given from count)
   pub few : length p.makes ≤ blocks_of_samples m count

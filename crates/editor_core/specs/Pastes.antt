@@ -21,6 +21,7 @@ use Rattle.editor_core.specs.Copies.{run_of}
 use Rattle.editor_core.specs.Core.{Core}
 use Rattle.editor_core.specs.Points.{current_tracks, lacks}
 use Rattle.editor_core.specs.RunEdits.{IsRunPlan}
+use Rattle.editor_core.specs.TrackEdits.{plan_start}
 
 -- the line that asks for it
 abbrev pub paste_line : PasteEdit → (id at : ℕ) → Command
@@ -49,7 +50,7 @@ pub record IsPastePlan {D : Type 0} (e : PasteEdit) (id at : ℕ) (s : Core D) (
   pub clip_is : s.clipboard ≡ Some strips
   pub items : AllByRecursion AreItems strips
   pub plans : List Plan
-  pub pastes : ArePastes (paste_cells e at) s.block_size s.next_block strips
+  pub pastes : ArePastes (paste_cells e at) (plan_start s) strips
       (take (length strips) (run_of id (current_tracks s.history))) plans
   pub laid : IsRunPlan id s.next_block (current_tracks s.history) plans p
 

@@ -15,7 +15,7 @@ use Rattle.pcm_base.specs.Step.{after}
 use Rattle.clip_track.specs.declared.clips.Clip.{Clip}
 use Rattle.clip_track.specs.Clips.{end_of, IsLayout, layout_blocks, layout_cells}
 use Rattle.edit_ops.specs.declared.types.Plan.{Plan}
-use Rattle.edit_ops.specs.Plans.{IsPlan, Means}
+use Rattle.edit_ops.specs.Plans.{Start, IsPlan, Means}
 use Rattle.piece_store.specs.declared.given.Given.{Given}
 use Rattle.piece_store.specs.Bringing.{brought}
 use Rattle.project_state.specs.declared.track.Track.{Track}
@@ -43,6 +43,10 @@ pub record TrackEdit : Type 0 where
   pub test : ℕ → Option Refusal
   pub most : ℕ → List Cell → ℕ
 
+-- where a plan of an edit of a studio begins
+abbrev pub plan_start : {D : Type 0} → Core D → Start
+plan_start s = record { block_size = s.block_size; next = s.next_block }
+
 -- of a studio's project the tracks with the one of an id edited, which takes up so many samples, and the blocks that
 -- are to be made for it
 pub record IsTrackPlan {D : Type 0} (e : TrackEdit) (count id : ℕ) (s : Core D) (p : Planned) : Type 0 where
@@ -50,7 +54,7 @@ pub record IsTrackPlan {D : Type 0} (e : TrackEdit) (count id : ℕ) (s : Core D
   pub found : track_of id (current_tracks s.history) ≡ Some track
   pub tests : e.test (end_of 0 track.layout) ≡ None
   pub plan : Plan
-  pub is_plan : IsPlan s.block_size s.next_block (layout_blocks track.layout) count plan
+  pub is_plan : IsPlan (plan_start s) (layout_blocks track.layout) count plan
   pub means : Means (λ src. e.cells src.given) track.layout plan
   pub layout : IsLayout plan.layout
   pub few : (src : Sources) → length plan.makes ≤ e.most s.block_size (layout_cells src track.layout)

@@ -5,7 +5,7 @@ ghost use Rattle.pcm_base.specs.declared.answer.Reply.TheVariants as reply;
 ghost use Rattle.pcm_base.specs.declared.command.Call.TheVariants.{Line};
 ghost use Rattle.pcm_base.specs.declared.command.Command.TheVariants as command;
 ghost use Rattle.clip_track.specs.Items.{AreItems};
-ghost use Rattle.edit_ops.specs.Plans.{AnswersTest};
+ghost use Rattle.edit_ops.specs.Plans.{AnswersTest, run_start_of};
 ghost use Rattle.edit_ops.specs.Runs.{AllTracksHalfFull, AreCopies, AreCuts, copy_tests, layouts};
 ghost use Rattle.envelope_view.specs.Answers.{IsUndamaged};
 ghost use Rattle.editor_core.specs.Core.{core_of};
@@ -40,7 +40,7 @@ fn plan_cut(
 ) -> Result<(Strips, Plans), Refusal>
     requires half_full { AllTracksHalfFull planner.block_size (layouts run.now) }
     ensures copies { IfOk result (λ v. AreCopies range.from range.to (take range.count (layouts run.now)) v.0) }
-    ensures plans { IfOk result (λ v. AreCuts (cut_cells edit range.from range.to) planner.block_size planner.next
+    ensures plans { IfOk result (λ v. AreCuts (cut_cells edit range.from range.to) (run_start_of planner)
         (take range.count (layouts run.now)) v.1) }
     ensures tests { AnswersTest (copy_tests (layouts run.now) range.count range.from range.to) result }
 {

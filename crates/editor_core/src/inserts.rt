@@ -7,7 +7,7 @@ ghost use Rattle.pcm_base.specs.declared.command.Command.TheVariants as command;
 ghost use Rattle.pcm_base.specs.declared.entry.SoundMove.{SoundMove};
 ghost use Rattle.pcm_base.specs.Sizes.{blocks_of_samples};
 ghost use Rattle.clip_track.specs.Clips.{AllHalfFull, IsLayout, end_of, layout_blocks};
-ghost use Rattle.edit_ops.specs.Plans.{AnswersTest, IsPlan, Means};
+ghost use Rattle.edit_ops.specs.Plans.{AnswersTest, IsPlan, Means, start_of};
 ghost use Rattle.piece_store.specs.Bringing.{brought_count};
 ghost use Rattle.envelope_view.specs.Answers.{IsUndamaged};
 ghost use Rattle.editor_core.specs.Core.{core_of};
@@ -60,7 +60,7 @@ fn plan_insert(planner: Planner, layout: &Layout, place: Place, count: u64) -> R
     requires apart { IsLayout layout.now }
     requires place { IsPlace place }
     requires count { count ≤ 2 ^ 62 }
-    ensures plan { IfOk result (λ p. IsPlan planner.block_size planner.next (layout_blocks layout.now) count p) }
+    ensures plan { IfOk result (λ p. IsPlan (start_of planner) (layout_blocks layout.now) count p) }
     ensures cells { IfOk result (λ p. Means (λ src. place_cells place count src.given) layout.now p) }
     ensures few { IfOk result (λ p. length p.makes ≤ blocks_of_samples planner.block_size count) }
     ensures tests { AnswersTest (place_test place count (end_of 0 layout.now)) result }

@@ -4,7 +4,7 @@ ghost use Rattle.pcm_base.specs.declared.answer.Reply.TheVariants as reply;
 ghost use Rattle.pcm_base.specs.declared.command.Call.TheVariants.{Line};
 ghost use Rattle.pcm_base.specs.declared.command.Command.TheVariants as command;
 ghost use Rattle.edit_ops.specs.Placing.{SumsFit};
-ghost use Rattle.edit_ops.specs.Plans.{AnswersTest};
+ghost use Rattle.edit_ops.specs.Plans.{AnswersTest, run_start_of};
 ghost use Rattle.edit_ops.specs.Runs.{AllTracksHalfFull, AreClips, ArePastes, layouts, paste_tests};
 ghost use Rattle.envelope_view.specs.Answers.{IsUndamaged};
 ghost use Rattle.editor_core.specs.Core.{core_of};
@@ -42,7 +42,7 @@ fn plan_paste(
     requires half_full { AllTracksHalfFull planner.block_size (layouts run.now) }
     requires clips { AreClips planner.block_size clip.now }
     requires sums { SumsFit at clip.now (layouts run.now) }
-    ensures plans { IfOk result (λ v. ArePastes (paste_cells edit at) planner.block_size planner.next clip.now
+    ensures plans { IfOk result (λ v. ArePastes (paste_cells edit at) (run_start_of planner) clip.now
         (take (length clip.now) (layouts run.now)) v) }
     ensures tests { AnswersTest (paste_tests (paste_length edit at) clip.now (layouts run.now)) result }
 {

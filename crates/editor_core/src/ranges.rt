@@ -6,7 +6,7 @@ ghost use Rattle.pcm_base.specs.declared.command.Command.TheVariants as command;
 ghost use Rattle.pcm_base.specs.Pieces.{Sources};
 ghost use Rattle.pcm_base.specs.Refusals.{bad_range};
 ghost use Rattle.clip_track.specs.Clips.{AllHalfFull, IsLayout, end_of, layout_blocks, layout_cells};
-ghost use Rattle.edit_ops.specs.Plans.{AnswersTest, IsPlan, Means};
+ghost use Rattle.edit_ops.specs.Plans.{AnswersTest, IsPlan, Means, start_of};
 ghost use Rattle.envelope_view.specs.Answers.{IsUndamaged};
 ghost use Rattle.editor_core.specs.Core.{core_of};
 ghost use Rattle.editor_core.specs.Points.{current_tracks};
@@ -52,7 +52,7 @@ fn plan_range(
 ) -> Result<Plan, Refusal>
     requires half_full { AllHalfFull planner.block_size layout.now }
     requires apart { IsLayout layout.now }
-    ensures plan { IfOk result (λ p. IsPlan planner.block_size planner.next (layout_blocks layout.now) 0 p) }
+    ensures plan { IfOk result (λ p. IsPlan (start_of planner) (layout_blocks layout.now) 0 p) }
     ensures cells { IfOk result (λ p. Means (λ src. range_cells edit range.from range.to) layout.now p) }
     ensures few { IfOk result (λ p. (src : Sources) →
         length p.makes ≤ range_most edit range.from range.to planner.block_size (layout_cells src layout.now)) }

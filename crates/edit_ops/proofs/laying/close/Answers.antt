@@ -16,7 +16,7 @@ use Rattle.edit_ops.proofs.laying.close.Goals as goal
 -- as many samples as there are pieces of
 same_len : (c : goal.In_ok-push) → added (sizes c.in_ok-laid.laid.items) ≡ c.args.size
 same_len c =
-    sym (length-all_laid c.args.m silent c.in_ok-laid.laid.items c.in_ok-laid.ensures.made)
+    sym (length-all_laid c.args.planner.block_size silent c.in_ok-laid.laid.items c.in_ok-laid.ensures.made)
     ∙ ap length (c.in_ok-laid.ensures.samples silent)
     ∙ length-all_samples silent c.args.held.now
     ∙ sym c.requires.size
@@ -28,7 +28,7 @@ pub returns-in_ok-push-clause-apart : goal.returns-in_ok-push-clause-apart
 returns-in_ok-push-clause-apart c =
     let e = same_len c in
     rw c.in_ok-push.ensures.items (
-    AreLaidClips-push c.args.m 0 c.args.out.now.items (new_clip c) c.requires.apart c.requires.later
+    AreLaidClips-push c.args.planner.block_size 0 c.args.out.now.items (new_clip c) c.requires.apart c.requires.later
     (omega (arith, e, c.if-size-gt0.true)) c.in_ok-laid.ensures.made c.in_ok-laid.ensures.half_full)
 
 pub returns-in_ok-push-clause-later : goal.returns-in_ok-push-clause-later

@@ -32,7 +32,7 @@ loop-item-preserved c =
           let d : drop i items ≡ Gap w.in-Gap.len ∷ rest =
           drop_more items i (Gap 0) c.loop-item-test.true ∙ ap (λ (x : Item). x ∷ rest) w.in-Gap.is in
           let ok = subst AreItems d inv.rest_ok in
-          let F : List Item → Type 0 = λ xs. ItemsFit c.args.m xs in
+          let F : List Item → Type 0 = λ xs. ItemsFit c.args.planner.block_size xs in
           let len = ap strip_len d in
           let some : 0 < w.in-Gap.len = ok.0 in
           rw (w.out-is, w.held-is, w.size-is, w.start-is, w.new-held-in-Gap.ensures.items) (record {
@@ -54,17 +54,17 @@ loop-item-preserved c =
                 );
             few_made = λ h.
                 let f = inv.few_made h in
-                let e = ap (rough_from c.args.m c.loop-item.held.items) d in
-                let S : List Piece → Type 0 = AllShort c.args.m in
+                let e = ap (rough_from c.args.planner.block_size c.loop-item.held.items) d in
+                let S : List Piece → Type 0 = AllShort c.args.planner.block_size in
                 let k = w.in_ok-close-in-Gap.ensures.few_made (subst S (sym w.as_slice.ensures.value) f.0) in
-                let o = ap (rough c.args.m) w.as_slice.ensures.value in
-                let T : List Item → Type 0 = ItemsShort c.args.m in
+                let o = ap (rough c.args.planner.block_size) w.as_slice.ensures.value in
+                let T : List Item → Type 0 = ItemsShort c.args.planner.block_size in
                 (tt, (subst T d f.1).1, omega (arith, f.2, e, k, o));
             few_samples = omega (
               arith,
               inv.few_samples,
-              ap (room_from c.args.m c.loop-item.held.items) d,
-              ap (clip_room c.args.m) w.as_slice.ensures.value,
+              ap (room_from c.args.planner.block_size c.loop-item.held.items) d,
+              ap (clip_room c.args.planner.block_size) w.as_slice.ensures.value,
               w.in_ok-close-in-Gap.ensures.few_samples,
             );
             cells = λ src. gap_cells (clips.laid_cells src 0 w.close.new.out.items) _ _ w.in-Gap.len _
@@ -83,14 +83,14 @@ loop-item-preserved c =
           let d : drop i items ≡ Sound w.in-Sound.piece ∷ rest =
           drop_more items i (Gap 0) c.loop-item-test.true ∙ ap (λ (x : Item). x ∷ rest) w.in-Sound.is in
           let ok = subst AreItems d inv.rest_ok in
-          let F : List Item → Type 0 = λ xs. ItemsFit c.args.m xs in
+          let F : List Item → Type 0 = λ xs. ItemsFit c.args.planner.block_size xs in
           let fit = subst F d inv.rest_fit in
           let len = ap strip_len d in
           let p = w.in-Sound.piece in
           let t = total-append c.loop-item.held.items (p ∷ []) in
           rw (w.out-is, w.held-is, w.size-is, w.start-is, w.in_ok-push-in-Sound.ensures.items) (record {
             valid = AllValid-append _ _ inv.valid (ok.0.1, tt);
-            fit = AllFit-append c.args.m _ _ inv.fit (fit.0, tt);
+            fit = AllFit-append c.args.planner.block_size _ _ inv.fit (fit.0, tt);
             same_size = omega (arith, t, inv.same_size, w.piece_len-size.ensures);
             sum = omega (arith, len, inv.sum, w.piece_len-size.ensures);
             apart = inv.apart;
@@ -104,14 +104,15 @@ loop-item-preserved c =
                 (AllFrom-append old count c.loop-item.held.items (p ∷ []) f.0 (g.0, tt), g.1, f.2);
             few_made = λ h.
                 let f = inv.few_made h in
-                let e = ap (rough_from c.args.m c.loop-item.held.items) d in
-                let T : List Item → Type 0 = ItemsShort c.args.m in
+                let e = ap (rough_from c.args.planner.block_size c.loop-item.held.items) d in
+                let T : List Item → Type 0 = ItemsShort c.args.planner.block_size in
                 let g = subst T d f.1 in (
-                  AllShort-append c.args.m c.loop-item.held.items (p ∷ []) f.0 ((ok.0.0, g.0), tt),
+                  AllShort-append c.args.planner.block_size c.loop-item.held.items (p ∷ []) f.0 ((ok.0.0, g.0), tt),
                   g.1,
                   omega (arith, f.2, e),
                 );
-            few_samples = omega (arith, inv.few_samples, ap (room_from c.args.m c.loop-item.held.items) d);
+            few_samples =
+                omega (arith, inv.few_samples, ap (room_from c.args.planner.block_size c.loop-item.held.items) d);
             cells = λ src. sound_cells src _ c.loop-item.held.items p (strip_cells src rest) _ (
                 ap (λ (xs : List Item). clips.laid_cells src 0 c.loop-item.out.items
                 ++ replicate (c.loop-item.start - clips.laid_end 0 c.loop-item.out.items) cell.Gap
@@ -126,7 +127,7 @@ returns-clause-cells c src =
     let d = drop_all c.loop-item.item-index items c.loop-item-test.false in
     let before = clips.laid_cells src 0 c.loop-item.out.items
     ++ replicate (c.loop-item.start - clips.laid_end 0 c.loop-item.out.items) cell.Gap in
-    ended_cells c.args.m src c.close-2.new.out.items _ _ c.in_ok-close.ensures.apart (
+    ended_cells c.args.planner.block_size src c.close-2.new.out.items _ _ c.in_ok-close.ensures.apart (
     c.in_ok-close.ensures.cells src
     ∙ ap (λ (ps : List Piece). before ++ map cell.Sample (all_samples src ps)) c.as_slice-2.ensures.value
     ∙ sym (append-nil (before ++ map cell.Sample (all_samples src c.loop-item.held.items)))

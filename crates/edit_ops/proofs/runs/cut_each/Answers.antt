@@ -2,6 +2,7 @@
 use Rattle.std.proofs.Common.{ℕ, List, [], ◌∷◌, ◌++◌, take, sym, subst, arith}
 use Rattle.clip_track.specs.declared.clips.Clip.{Clip}
 use Rattle.clip_track.specs.Clips.{AllHalfFull}
+use Rattle.edit_ops.specs.Plans.{run_start_of}
 use Rattle.edit_ops.specs.Removing.{removed}
 use Rattle.edit_ops.specs.Runs.{AreCuts, IsCut, layouts}
 use Rattle.edit_ops.proofs.RunLists.{half_full_at, AreCuts-push, next_of-push, layouts_at, layouts_more, length-layouts}
@@ -29,15 +30,14 @@ loop-t-preserved c =
     let p = c.in_ok-plan.plan in
     let plans = c.loop-t.plans.items in
     let edit = removed c.args.removing c.args.from c.args.to in
-    let m = c.args.planner.block_size in
-    let next = c.args.planner.next in
+    let start = run_start_of c.args.planner in
     let inv = c.loop-t.invariant in
     let e = layouts_more run i c.t-item.result c.loop-t-test.true c.t-item.is in
-    let P : List (List Clip) → Type 0 = λ ts. AreCuts edit m next ts (plans ++ p ∷ []) in
-    let Q : ℕ → Type 0 = λ n. IsCut edit m n t p in
+    let P : List (List Clip) → Type 0 = λ ts. AreCuts edit start ts (plans ++ p ∷ []) in
+    let Q : ℕ → Type 0 = λ n. IsCut edit (record start { next = n }) t p in
     rw c.in_ok-push.ensures.items (record {
-      cuts = subst P (sym e) (AreCuts-push edit m next (take i (layouts run)) plans t p inv.cuts
+      cuts = subst P (sym e) (AreCuts-push edit start (take i (layouts run)) plans t p inv.cuts
           (subst Q inv.same_id c.in_ok-plan.ensures));
-      same_id = sym (next_of-push next plans p);
+      same_id = sym (next_of-push start.next plans p);
       few = omega (arith, inv.few, c.in_ok-plan.ensures.plan.next_id, c.in_ok-plan.ensures.few_made);
     })

@@ -1,6 +1,7 @@
 -- The layouts behind the first references.
 use Rattle.std.proofs.Common.{List, sym, subst}
 use Rattle.clip_track.specs.declared.clips.Clip.{Clip}
+use Rattle.edit_ops.specs.Plans.{run_start_of}
 use Rattle.edit_ops.specs.Removing.{removed}
 use Rattle.edit_ops.specs.Runs.{AllTracksHalfFull, AreCopies, AreCuts, layouts}
 use Rattle.edit_ops.proofs.RunLists.{half_full_take, layouts_take}
@@ -20,5 +21,5 @@ returns-clause-copies c =
 pub returns-clause-plans : goal.returns-clause-plans
 returns-clause-plans c =
     subst (λ (ts : List (List Clip)). AreCuts (removed c.args.removing c.args.from c.args.to)
-    c.args.planner.block_size c.args.planner.next ts c.in_ok-cut.cut.1)
+    (run_start_of c.args.planner) ts c.in_ok-cut.cut.1)
     (layouts_take c.args.n c.args.run.now) c.in_ok-cut.ensures.plans

@@ -6,6 +6,7 @@ use Rattle.clip_track.specs.declared.clips.Clip.{Clip}
 use Rattle.clip_track.specs.Clips.{AllHalfFull, end_of}
 use Rattle.clip_track.specs.Items.{strip_len}
 use Rattle.edit_ops.specs.Placing.{placed, placed_length}
+use Rattle.edit_ops.specs.Plans.{run_start_of}
 use Rattle.edit_ops.specs.Strips.{IsClip}
 use Rattle.edit_ops.specs.Runs.{IsPaste, layouts}
 use Rattle.edit_ops.proofs.RunLists.{half_full_at, clip_at, length_at, ArePastes-push, next_of-push, layouts_at}
@@ -50,18 +51,17 @@ loop-i-preserved c =
     let p = c.in_ok-plan.plan in
     let plans = c.loop-i.plans.items in
     let edit = placed c.args.placing c.args.at in
-    let m = c.args.planner.block_size in
-    let next = c.args.planner.next in
+    let start = run_start_of c.args.planner in
     let inv = c.loop-i.invariant in
     let h : i < length clip = omega arith in
     let k : i < length run = omega arith in
     let e = layouts_more run i c.index-run-i.result k c.index-run-i.is in
     let f : take (i + 1) clip ≡ take i clip ++ s ∷ [] =
     take_more clip i s h ∙ ap (λ (x : List Item). take i clip ++ x ∷ []) (sym c.index-clip-i.is) in
-    let Q : ℕ → Type 0 = λ n. IsPaste edit m n s t p in
+    let Q : ℕ → Type 0 = λ n. IsPaste edit (record start { next = n }) s t p in
     rw (c.in_ok-push.ensures.items, e, f) (record {
-      pastes = ArePastes-push edit m next (take i clip) (take i (layouts run)) plans s t p inv.pastes
+      pastes = ArePastes-push edit start (take i clip) (take i (layouts run)) plans s t p inv.pastes
           (subst Q inv.same_id c.in_ok-plan.ensures);
-      same_id = sym (next_of-push next plans p);
+      same_id = sym (next_of-push start.next plans p);
       few = omega (arith, inv.few, c.in_ok-plan.ensures.plan.next_id, c.in_ok-plan.ensures.few_made);
     })

@@ -5,15 +5,15 @@ use Rattle.pcm_base.specs.Pieces.{stretch}
 use Rattle.clip_track.specs.declared.clips.Clip.{Clip}
 use Rattle.clip_track.specs.Clips.{IsLayout, layout_blocks}
 use Rattle.edit_ops.specs.declared.types.NewBlock.{NewBlock}
-use Rattle.edit_ops.specs.Plans.{IsPlan, Means}
+use Rattle.edit_ops.specs.Plans.{IsPlan, Means, start_of}
 use Rattle.editor_core.specs.Imports.{AllFitBehind, block_behind}
 use Rattle.editor_core.proofs.Channels.{channel_plan, fit_blocks}
 use Rattle.editor_core.proofs.growth.plan_channel.Goals as goal
 
 pub moved_blocks-requires : goal.moved_blocks-requires
 moved_blocks-requires c =
-    let plan = subst (λ (cs : List Clip). IsPlan c.args.planner.block_size c.args.planner.next
-    (layout_blocks cs) c.args.count c.in_ok-plan.plan) c.new.ensures c.in_ok-plan.ensures.plan in
+    let plan = subst (λ (cs : List Clip). IsPlan (start_of c.args.planner) (layout_blocks cs) c.args.count
+    c.in_ok-plan.plan) c.new.ensures c.in_ok-plan.ensures.plan in
     let makes = c.in_ok-plan.plan.makes in
     subst (λ (bs : List NewBlock). AllFitBehind c.args.from bs) (sym c.as_slice.ensures)
     (fit_blocks c.args.planner.block_size c.args.planner.next c.args.count c.args.from makes plan.origin plan.new
@@ -25,8 +25,8 @@ returns-clause-plan c =
     let next = c.args.planner.next in
     let count = c.args.count in
     let p = c.in_ok-plan.plan in
-    let plan =
-    subst (λ (cs : List Clip). IsPlan m next (layout_blocks cs) count p) c.new.ensures c.in_ok-plan.ensures.plan in
+    let plan = subst (λ (cs : List Clip). IsPlan (start_of c.args.planner) (layout_blocks cs) count p)
+    c.new.ensures c.in_ok-plan.ensures.plan in
     let means = subst (λ (cs : List Clip). Means (λ src. inserted 0 (as_cells (stretch src.given 0 count))) cs p)
     c.new.ensures c.in_ok-plan.ensures.cells in
     channel_plan c.args.from count m next p.next p.layout p.makes c.new-2.result

@@ -32,5 +32,6 @@ planned_run-requires-clause-fits g c =
     let run : layouts c.deref.result.now ≡ run_of range.track c.current-project.result.now =
     ap layouts c.deref.ensures.value ∙ c.in_ok-run.ensures in
     subst (λ (z : List (List Clip)). length c.in_ok-strips.plans ≤ length z) run
-    (cuts_few (cut_cells c.args.edit range.from range.to) c.block_size.result s.next_block range.count
-    (layouts c.deref.result.now) c.in_ok-strips.plans c.in_ok-strips.ensures.plans)
+    (cuts_few (cut_cells c.args.edit range.from range.to)
+    (record { block_size = c.block_size.result; next = s.next_block }) range.count (layouts c.deref.result.now)
+    c.in_ok-strips.plans c.in_ok-strips.ensures.plans)

@@ -79,7 +79,8 @@ returns-clause-plan g c =
       tests = c.in_ok-plan.ensures.tests;
       plan = plan;
       is_plan = subst
-          (λ (m : ℕ). IsPlan m s.next_block (layout_blocks t.layout) c.args.count plan) size c.in_ok-plan.ensures.plan;
+          (λ (m : ℕ). IsPlan (record { block_size = m; next = s.next_block }) (layout_blocks t.layout)
+          c.args.count plan) size c.in_ok-plan.ensures.plan;
       means = c.in_ok-plan.ensures.cells;
       layout = c.in_ok-planned.ensures.layout;
       few =

@@ -45,5 +45,5 @@ planned_run-requires-clause-fits g c =
     let run : layouts c.deref.result.now ≡ run_of c.args.track c.current-project.result.now =
     ap layouts c.deref.ensures.value ∙ c.in_ok-run.ensures in
     subst (λ (z : List (List Clip)). length c.in_ok-plans.plans ≤ length z) run
-    (pastes_few (paste_cells c.args.edit c.args.at) c.block_size.result s.next_block (length strips) strips
-    (layouts c.deref.result.now) c.in_ok-plans.plans c.in_ok-plans.ensures.plans)
+    (pastes_few (paste_cells c.args.edit c.args.at) (record { block_size = c.block_size.result; next = s.next_block })
+    (length strips) strips (layouts c.deref.result.now) c.in_ok-plans.plans c.in_ok-plans.ensures.plans)

@@ -81,7 +81,8 @@ returns-clause-plan g c =
       found = ap (track_of range.track) (sym c.current-project.ensures) ∙ c.in_ok-old.ensures;
       tests = c.in_ok-plan.ensures.tests;
       plan = plan;
-      is_plan = subst (λ (m : ℕ). IsPlan m s.next_block (layout_blocks t.layout) 0 plan) size c.in_ok-plan.ensures.plan;
+      is_plan = subst (λ (m : ℕ). IsPlan (record { block_size = m; next = s.next_block }) (layout_blocks t.layout)
+          0 plan) size c.in_ok-plan.ensures.plan;
       means = c.in_ok-plan.ensures.cells;
       layout = c.in_ok-planned.ensures.layout;
       few = λ src. subst (λ (m : ℕ). length plan.makes ≤ range_most c.args.edit range.from range.to m
