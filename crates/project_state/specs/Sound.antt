@@ -30,23 +30,31 @@ AllSoundTracks m next_block next_track [] = Unit {0}
 AllSoundTracks m next_block next_track (t ∷ ts) =
     IsSoundTrack m next_block next_track t × AllSoundTracks m next_block next_track ts
 
+-- what the record of an edit says
+pub record EditBody : Type 0 where
+  pub tag : ℕ
+  pub next_block : ℕ
+  pub next_track : ℕ
+  pub tracks : List Track
+
 -- an edit, or a piece of a recording that begins with an earlier record
-pub record IsSoundEdit (m : ℕ) (before : Before) (tag next_block next_track : ℕ) (tracks : List Track) : Type 0 where
-  pub tag_number : tag < 2 ^ 64
-  pub tag_given : tag ≤ before.commits
-  pub block_least : 16 ≤ next_block
-  pub block_most : next_block ≤ 2 ^ 62
-  pub block_later : before.next_block ≤ next_block
-  pub track_least : 1 ≤ next_track
-  pub track_most : next_track ≤ 2 ^ 62
-  pub track_later : before.next_track ≤ next_track
-  pub few : length tracks ≤ 64
-  pub rising : AreAbove 1 tracks
-  pub sound : AllSoundTracks m next_block next_track tracks
+pub record IsSoundEdit (m : ℕ) (before : Before) (edit : EditBody) : Type 0 where
+  pub tag_number : edit.tag < 2 ^ 64
+  pub tag_given : edit.tag ≤ before.commits
+  pub block_least : 16 ≤ edit.next_block
+  pub block_most : edit.next_block ≤ 2 ^ 62
+  pub block_later : before.next_block ≤ edit.next_block
+  pub track_least : 1 ≤ edit.next_track
+  pub track_most : edit.next_track ≤ 2 ^ 62
+  pub track_later : before.next_track ≤ edit.next_track
+  pub few : length edit.tracks ≤ 64
+  pub rising : AreAbove 1 edit.tracks
+  pub sound : AllSoundTracks m edit.next_block edit.next_track edit.tracks
 
 -- What the history says of an undo, a redo and a purge is not asked here.
 abbrev pub IsSound : ℕ → Before → Body → Type 0
-IsSound m before (Edit tag next_block next_track tracks) = IsSoundEdit m before tag next_block next_track tracks
+IsSound m before (Edit tag next_block next_track tracks) =
+    IsSoundEdit m before (record { tag = tag; next_block = next_block; next_track = next_track; tracks = tracks })
 IsSound m before Undo = Unit {0}
 IsSound m before Redo = Unit {0}
 IsSound m before (Purge n) = n < 2 ^ 64
