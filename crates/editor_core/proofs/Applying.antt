@@ -17,7 +17,7 @@ use Rattle.editor_core.specs.Exports.{moved_from}
 use Rattle.editor_core.specs.Imports.{VaultCounted}
 use Rattle.editor_core.specs.Left.{Left, MayRemove}
 use Rattle.editor_core.specs.Studios.{IsStudio}
-use Rattle.editor_core.specs.Took.{Took, number_behind, silent, told_by}
+use Rattle.editor_core.specs.Took.{Took, exchange_of, freeing, number_behind, told_by, with_sound}
 use Rattle.editor_core.proofs.Leaving.{IsPlain, left_plain}
 use Rattle.editor_core.proofs.Looking.{looked_studio}
 use Rattle.editor_core.proofs.Others.{others_none}
@@ -31,7 +31,7 @@ spanned tells old new old_sounds new_sounds =
 module _ {D : Type 0} (disk : Ghosts D) (s : Core D) where
   -- a step lasts
   pub lasts_took : (call : Call) (told : Result Reply Refusal) (removed : ℕ) (new : Core D)
-      → Took disk s call silent told removed new → Lasts disk s call told removed new
+      → Took disk s (freeing call told removed) new → Lasts disk s call told removed new
   lasts_took call told removed new took = record {
     studio = took.studio;
     number = took.number;
@@ -74,11 +74,12 @@ module _ {D : Type 0} (disk : Ghosts D) (s : Core D) where
   -- a call that names no sound
   pub over_silent : (tells : Bool) (sounds : Sounds) (call : Call) (told : Result Reply Refusal) (removed : ℕ)
       (new : Core D) → name_in call ≡ None
-      → Took disk s call silent told removed new
+      → Took disk s (freeing call told removed) new
       → TookOver disk (spanned tells s new sounds sounds) call told
   over_silent tells sounds call told removed new none took = record {
     removed = removed;
-    took = λ is. subst (λ (o : Option (List ℕ)). Took disk s call (move_of o sounds sounds) told removed new)
+    took = λ is. subst
+        (λ (o : Option (List ℕ)). Took disk s (exchange_of call (move_of o sounds sounds) told removed) new)
         (sym none) took;
     heard = λ is. subst (λ (o : Option (List ℕ)). Heard o (move_of o sounds sounds) sounds sounds) (sym none) refl;
     lasts = lasts_took call told removed new took;
@@ -88,12 +89,12 @@ module _ {D : Type 0} (disk : Ghosts D) (s : Core D) where
 pub over_sound : {D : Type 0} (disk : Ghosts D) (span : Span D) (call : Call) (name : List ℕ)
     (told : Result Reply Refusal) → name_in call ≡ Some name
     → (IsTrue span.tells
-    → Took disk span.old call (moved_from (span.old_sounds name) (span.new_sounds name)) told 0 span.new)
+    → Took disk span.old (with_sound call (moved_from (span.old_sounds name) (span.new_sounds name)) told) span.new)
     → (IsTrue span.tells → SameElsewhere name span.old_sounds span.new_sounds)
     → Lasts disk span.old call told 0 span.new → TookOver disk span call told
 over_sound disk span call name told named took others lasts = record {
   removed = 0;
-  took = λ is. subst (λ (o : Option (List ℕ)). Took disk span.old call (sound_moved span o) told 0 span.new)
+  took = λ is. subst (λ (o : Option (List ℕ)). Took disk span.old (with_sound call (sound_moved span o) told) span.new)
       (sym named) (took (is (ap is_some named)));
   heard = λ is. subst (λ (o : Option (List ℕ)). Heard o (sound_moved span o) span.old_sounds span.new_sounds)
       (sym named) (refl, refl, others (is (ap is_some named)));

@@ -43,7 +43,7 @@ use Rattle.editor_core.specs.Imports.{AreGrown, HasChannels, IsChannelsPlan, NoC
 use Rattle.editor_core.specs.Imports.{channels_refusal, left_as, parts_from, total_of}
 use Rattle.editor_core.specs.Points.{current_tracks}
 use Rattle.editor_core.specs.Studios.{IsStudio, clip_blocks, named_blocks, pin_blocks, studio_by, studio_of}
-use Rattle.editor_core.specs.Took.{Took}
+use Rattle.editor_core.specs.Took.{Took, with_sound}
 use Rattle.editor_core.proofs.Contained.{among_all, among_itself}
 use Rattle.editor_core.proofs.Editing.{current_below, current_sound, old_names}
 use Rattle.editor_core.proofs.ImportRefused.{import_refused, own_refused}
@@ -100,13 +100,13 @@ module _ {D : Type 0} (disk : Ghosts D) (s : Core D) (is : IsStudio disk s) (cha
 
     module _ (fewer : Fewer disk s.store) (going : s.stopped ≡ None) where
       pub channels_refused : (why : Refusal) → channels_refusal (length old) counts ≡ Some why
-          → Took disk s call (left_as sound) (Err why) 0 s
+          → Took disk s (with_sound call (left_as sound) (Err why)) s
       channels_refused why test =
           own_refused disk s is fewer name sound going why (own_is (sources_of (disk.reads s.store)) ∙ test)
 
       pub channels_unplanned : channels_refusal (length old) counts ≡ None → (why : Refusal)
           → NoChannelsPlan s counts why
-          → Took disk s call (left_as sound) (Err why) 0 s
+          → Took disk s (with_sound call (left_as sound) (Err why)) s
       channels_unplanned pass refusal.NoMemory spent = import_refused disk s is fewer name sound going NoMemory tt
       channels_unplanned pass (refusal.SpaceSpent have need) spent =
           let why : Refusal = refusal.SpaceSpent s.next_block need in
@@ -114,7 +114,8 @@ module _ {D : Type 0} (disk : Ghosts D) (s : Core D) (is : IsStudio disk s) (cha
           (omega (arith, spent.1, length-map channels length, ap (λ (k : ℕ). k / m) (total_lists channels))) in
           let first = ap (λ (o : Option Refusal). o otherwise (no_room s.next_track (length counts)) otherwise
           (no_room s.commit_number 1)) (spends s.next_block need spent.2) in
-          subst (λ (k : ℕ). Took disk s call (left_as sound) (Err (refusal.SpaceSpent k need)) 0 s) (sym spent.0)
+          subst (λ (k : ℕ). Took disk s (with_sound call (left_as sound) (Err (refusal.SpaceSpent k need)))
+          s) (sym spent.0)
           (refuses disk s call (left_as sound) why is fewer refl 0 need (λ held. (few, omega arith))
           (counter_spent (studio_of disk s) call (left_as sound) (length counts) commit need 0 is.counters.pin_most
           going (own_is (sources_of (disk.reads s.store)) ∙ pass) why first))

@@ -42,7 +42,7 @@ use Rattle.editor_core.specs.Occurrences.{HasAll, Moves, times_named}
 use Rattle.editor_core.specs.Points.{current_tracks, lacks}
 use Rattle.editor_core.specs.Reads.{HasLayout}
 use Rattle.editor_core.specs.Studios.{IsClipboard, IsStudio, clip_blocks, pin_blocks, named_blocks, studio_of}
-use Rattle.editor_core.specs.Took.{Took, silent}
+use Rattle.editor_core.specs.Took.{Took, quietly, silent}
 use Rattle.editor_core.proofs.Bounds.{named_few, named_most}
 use Rattle.editor_core.proofs.Copying.{from_track, layout_of, run_meant, run_is, from_sound, from_few, from_blocks}
 use Rattle.editor_core.proofs.Copying.{longest_is, longest_most, copies_mean, copies_few, copies_fit, copies_short}
@@ -123,11 +123,12 @@ module _ {D : Type 0} (disk : Ghosts D) (s : Core D) (is : IsStudio disk s) (ran
   rest_tests p =
       (too_narrow (length (tracks_from id p)) n) otherwise (bad_range from to (longest (take n (tracks_from id p))))
 
-  pub copy_stopped : (faults : ℕ) → s.stopped ≡ Some faults → Took disk s line silent (Err (refusal.Stopped faults)) 0 s
+  pub copy_stopped : (faults : ℕ) → s.stopped ≡ Some faults → Took disk s (quietly line (Err (refusal.Stopped faults)))
+      s
   copy_stopped faults stopped = refused_stopped disk s line copy_quiet is fewer faults refl stopped
 
   pub copy_lacks : (why : Refusal) → s.stopped ≡ None → lacks id (track_of id ts) ≡ Some why
-      → Took disk s line silent (Err why) 0 s
+      → Took disk s (quietly line (Err why)) s
   copy_lacks why going lack =
       refused_own disk s line copy_quiet is fewer why (ap stop_of going)
       ((λ i. (sym (track_is disk s is id) i) otherwise (rest_tests (current t.state)))
@@ -154,9 +155,9 @@ module _ {D : Type 0} (disk : Ghosts D) (s : Core D) (is : IsStudio disk s) (ran
         λ i. (no i) otherwise (too_narrow (few i) n) otherwise (bad_range from to (long i))
 
     pub copy_refused : (why : Refusal) → (copy_tests (run_of id ts) n from to ≡ Some why) ⊎ (why ≡ refusal.NoMemory)
-        → Took disk s line silent (Err why) 0 s
+        → Took disk s (quietly line (Err why)) s
     copy_refused why (inl test) = refused_own disk s line copy_quiet is fewer why (ap stop_of going) (tests_are ∙ test)
-    copy_refused why (inr want) = subst (λ (z : Refusal). Took disk s line silent (Err z) 0 s) (sym want)
+    copy_refused why (inr want) = subst (λ (z : Refusal). Took disk s (quietly line (Err z)) s) (sym want)
         (refused_wanting disk s line copy_quiet is fewer)
 
     -- ---- carried out
@@ -229,7 +230,7 @@ module _ {D : Type 0} (disk : Ghosts D) (s : Core D) (is : IsStudio disk s) (ran
         copy_state : studio_of disk new ≡ record t { state = after (outside t silent) t.state line }
         copy_state = let mean = meaning in λ i. record t { state = record t.state { clipboard = Some (mean i) } }
 
-        pub copy_done : Took disk s line silent (Ok Copied) 0 new
+        pub copy_done : Took disk s (quietly line (Ok Copied)) new
         copy_done =
             let room = room_of disk s line is in
             let passed = quiet_passes t line copy_quiet room (ap stop_of going) (tests_are ∙ copies.0)

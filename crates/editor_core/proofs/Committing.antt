@@ -20,7 +20,7 @@ use Rattle.editor_core.specs.Adding.{Adds, Exceeds, stopped_by}
 use Rattle.editor_core.specs.Core.{Core}
 use Rattle.editor_core.specs.Left.{MayRemove}
 use Rattle.editor_core.specs.Studios.{IsHeld, IsStudio, named_blocks, studio_by, studio_of}
-use Rattle.editor_core.specs.Took.{Took}
+use Rattle.editor_core.specs.Took.{Took, with_sound}
 use Rattle.editor_core.proofs.Flights.{IsCommit, IsTested, flight, number_left, whole_still}
 use Rattle.editor_core.proofs.Grown.{stopped_studio}
 use Rattle.editor_core.proofs.Lists.{all_left}
@@ -122,7 +122,8 @@ module _ {D : Type 0} (disk : Ghosts D) (s : Core D) (made : List BlockRef) (c :
   size = length (spelling body)
 
   -- ---- the journal is full, or the record too long
-  unfit : (why : Refusal) → Fewer disk s.store → Exceeds s.journal_end size why → Took disk s c sound (Err why) 0 s
+  unfit : (why : Refusal) → Fewer disk s.store → Exceeds s.journal_end size why
+      → Took disk s (with_sound c sound (Err why)) s
   unfit why fewer over =
       refuses disk s c sound why is fewer move.call.quiet size 0 move.needs
       (exceeded (studio_of disk s) c sound tracks move.call 0 size is.counters.pin_most going own
@@ -130,20 +131,20 @@ module _ {D : Type 0} (disk : Ghosts D) (s : Core D) (made : List BlockRef) (c :
 
   -- ---- what a record that was not added leaves
   pub fails : {Q : Type 0} (why : Refusal) (mid : Core D) → Fewer disk s.store
-      → Adds {R = Q} disk s (spelling body) (Err why) mid → Took disk s c sound (Err why) 0 mid
+      → Adds {R = Q} disk s (spelling body) (Err why) mid → Took disk s (with_sound c sound (Err why)) mid
   fails (refusal.SpaceSpent have need) mid fewer adds =
       let why = refusal.SpaceSpent have need in
-      subst (λ (z : Core D). Took disk s c sound (Err why) 0 z) (sym adds.fields.0)
+      subst (λ (z : Core D). Took disk s (with_sound c sound (Err why)) z) (sym adds.fields.0)
       (unfit why fewer (adds.fields.1, adds.fields.2, adds.fields.3))
   fails refusal.NoMemory mid fewer adds =
-      subst (λ (z : Core D). Took disk s c sound (Err refusal.NoMemory) 0 z) (sym adds.fields)
+      subst (λ (z : Core D). Took disk s (with_sound c sound (Err refusal.NoMemory)) z) (sym adds.fields)
       (wants disk s c sound is fewer move.call.quiet size (λ held. (0, move.needs held)))
   fails (refusal.RecordLimit n) mid fewer adds =
       let why = refusal.RecordLimit n in
-      subst (λ (z : Core D). Took disk s c sound (Err why) 0 z) (sym adds.fields.0)
+      subst (λ (z : Core D). Took disk s (with_sound c sound (Err why)) z) (sym adds.fields.0)
       (unfit why fewer (adds.fields.1, adds.fields.2, adds.fields.3))
   fails refusal.DiskFault mid fewer adds =
-      subst (λ (z : Core D). Took disk s c sound (Err refusal.DiskFault) 0 z) (sym adds.fields.0)
+      subst (λ (z : Core D). Took disk s (with_sound c sound (Err refusal.DiskFault)) z) (sym adds.fields.0)
       (took_so disk s c sound (Err refusal.DiskFault) (after tested mid adds) (failed tested mid adds)
       (inr (refl, adds.fields.2, refl)) (left_stopped disk s (MayRemove c s.counts) mid.store adds.fields.2))
   fails why mid fewer adds = absurd adds.fields

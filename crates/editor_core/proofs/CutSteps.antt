@@ -47,7 +47,7 @@ use Rattle.editor_core.specs.Edits.{tagged}
 use Rattle.editor_core.specs.Points.{current_tracks, lacks}
 use Rattle.editor_core.specs.Reads.{HasLayout}
 use Rattle.editor_core.specs.Studios.{IsClipboard, IsStudio, clip_cells, named_blocks, studio_by, studio_of}
-use Rattle.editor_core.specs.Took.{Took, silent}
+use Rattle.editor_core.specs.Took.{Took, quietly, silent}
 use Rattle.editor_core.specs.TrackEdits.{plan_start}
 use Rattle.editor_core.proofs.Clipping.{may_paste, strips_named}
 use Rattle.editor_core.proofs.Contained.{among_itself}
@@ -160,7 +160,7 @@ module _ {D : Type 0} (disk : Ghosts D) (s : Core D) (is : IsStudio disk s) (e :
   -- ---- a stopped studio, a test of the edit, or memory
 
   early_refused : (why : Refusal) → ((stop_of s.stopped) otherwise (cut_refusal range old)) ≡ Some why
-      → Took disk s line silent (Err why) 0 s
+      → Took disk s (quietly line (Err why)) s
   early_refused why h =
       let call = cut_call e range in
       let own = own_is (samples_on (disk.reads s.store)) in
@@ -169,16 +169,16 @@ module _ {D : Type 0} (disk : Ghosts D) (s : Core D) (is : IsStudio disk s) (e :
       refuses disk s line silent why is fewer refl 0 0 (λ held. call.needs t.rate t 0 0 (omega arith, omega arith))
       (early t line silent 0 call.commit 0 0 why first)
 
-  pub cut_stopped : (faults : ℕ) → s.stopped ≡ Some faults → Took disk s line silent (Err (refusal.Stopped faults)) 0 s
+  pub cut_stopped : (faults : ℕ) → s.stopped ≡ Some faults → Took disk s (quietly line (Err (refusal.Stopped faults))) s
   cut_stopped faults at =
       early_refused (refusal.Stopped faults) (λ i. (stop_of (at i)) otherwise (cut_refusal range old))
 
   pub cut_refused : (why : Refusal) → s.stopped ≡ None → NoCutPlan range s why
-      → Took disk s line silent (Err why) 0 s
+      → Took disk s (quietly line (Err why)) s
   cut_refused why going not = ⊎_elim
       (λ own. early_refused why ((λ i. (stop_of (going i)) otherwise (cut_refusal range old)) ∙ own))
       (λ memory.
-      subst (λ (r : Refusal). Took disk s line silent (Err r) 0 s) (sym memory)
+      subst (λ (r : Refusal). Took disk s (quietly line (Err r)) s) (sym memory)
       (wants disk s line silent is fewer refl 0
       (λ held. (0, (cut_call e range).needs t.rate t 0 0 (omega arith, omega arith)))))
       not

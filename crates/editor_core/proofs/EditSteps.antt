@@ -30,7 +30,7 @@ use Rattle.editor_core.specs.Edits.{history_behind}
 use Rattle.editor_core.specs.Left.{Left, MayRemove, Stops}
 use Rattle.editor_core.specs.Makes.{AreSynced, Making}
 use Rattle.editor_core.specs.Studios.{IsHeld, IsStudio, clip_blocks, ids_of, pin_blocks, studio_of}
-use Rattle.editor_core.specs.Took.{Took}
+use Rattle.editor_core.specs.Took.{Took, with_sound}
 use Rattle.editor_core.proofs.CarriedOut.{commit_of}
 use Rattle.editor_core.proofs.Committing.{failed, failed_state}
 use Rattle.editor_core.proofs.EditLaws.{edit_needs, edit_own, grown_held, grown_is, grown_made, grown_own, move}
@@ -168,7 +168,7 @@ module _ {D : Type 0} (disk : Ghosts D) (s : Core D) (is : IsStudio disk s) (goi
         → TookWhere (IsHeld disk s) disk mid c sound told_as new
         → new.next_block ≡ mid.next_block → (IsHeld disk s → Answers t c sound told_as (studio_of disk new))
         → Stops disk s told_as new
-        → IfErr told_as (Left disk s (MayRemove c s.counts) new) → Took disk s c sound told_as 0 new
+        → IfErr told_as (Left disk s (MayRemove c s.counts) new) → Took disk s (with_sound c sound told_as) new
     from_start told_as new took next step stops left =
         composed disk s is given makes going plan.new prepared.blocks
         (pieces_there disk s is going e plan) c sound mid making
@@ -176,7 +176,7 @@ module _ {D : Type 0} (disk : Ghosts D) (s : Core D) (is : IsStudio disk s) (goi
 
     -- the record was not added
     edit_failed : (new : Core D) → Adds {R = Unit {0}} disk mid body (Err refusal.DiskFault) new
-        → Took disk s c sound (Err refusal.DiskFault) 0 new
+        → Took disk s (with_sound c sound (Err refusal.DiskFault)) new
     edit_failed new adds =
         let commit = edit.call.commit in
         let failed_change =
@@ -191,7 +191,7 @@ module _ {D : Type 0} (disk : Ghosts D) (s : Core D) (is : IsStudio disk s) (goi
           read_faults = disk.read_fault_count new.store;
           change_faults = disk.change_fault_count new.store;
         }) in
-        subst (λ (z : Core D). Took disk s c sound (Err refusal.DiskFault) 0 z) (sym adds.fields.0)
+        subst (λ (z : Core D). Took disk s (with_sound c sound (Err refusal.DiskFault)) z) (sym adds.fields.0)
         (from_start (Err refusal.DiskFault) here (failed mid_tested new adds) refl (λ held. inr (record {
           breaks = record {
             going = going;
@@ -245,19 +245,11 @@ module _ {D : Type 0} (disk : Ghosts D) (s : Core D) (is : IsStudio disk s) (goi
           ∙ (λ i. followed (outside (mid_state held i) sound) (mid_state held i) c 0 len)
           ∙ (λ i. record (followed (outside t sound) t c n len) { next_block = none i; read_faults = reads i })
 
-      edit_done : Took disk s c sound (Ok Done) 0 (record new {
-        history = h';
-        clipboard = clip;
-        counts = counts';
-        next_track = next_track;
-      })
+      edit_done : Took disk s (with_sound c sound (Ok Done))
+          (record new { history = h'; clipboard = clip; counts = counts'; next_track = next_track })
       edit_done =
-          subst (λ (z : Core D). Took disk s c sound (Ok Done) 0 (record z {
-            history = h';
-            clipboard = clip;
-            counts = counts';
-            next_track = next_track;
-          })) (sym adds.fields.0)
+          subst (λ (z : Core D). Took disk s (with_sound c sound (Ok Done))
+          (record z { history = h'; clipboard = clip; counts = counts'; next_track = next_track })) (sym adds.fields.0)
           (from_start (Ok Done) done done_took refl (λ held. record {
             blocks = n;
             len = length body;
@@ -274,7 +266,7 @@ module _ {D : Type 0} (disk : Ghosts D) (s : Core D) (is : IsStudio disk s) (goi
   made_so it making = subst (λ (z : Core D). Making disk s given n makes z) making.is making
 
   pub edit_err : (why : Refusal) (new : Core D) → Carried disk s (commit_of s e) (Err why) new
-      → Took disk s c sound (Err why) 0 new
+      → Took disk s (with_sound c sound (Err why)) new
   edit_err why new carried = ⊎_elim
       (λ not. not_prepared disk s is going e plan c sound edit fewer why new not.0
       not.1)
@@ -286,7 +278,7 @@ module _ {D : Type 0} (disk : Ghosts D) (s : Core D) (is : IsStudio disk s) (goi
       (λ last.
       let it = last.1 in
       let adds = subst (λ (e : Refusal). Adds {R = Unit {0}} disk it.mid body (Err e) new) last.0 it.adds in
-      subst (λ (e : Refusal). Took disk s c sound (Err e) 0 new) (sym last.0)
+      subst (λ (e : Refusal). Took disk s (with_sound c sound (Err e)) new) (sym last.0)
       (edit_failed it.prepared it.mid.store it.mid.counts (made_so it.mid it.making) it.reads it.synced new
       (subst (λ (z : Core D). Adds {R = Unit {0}} disk z body (Err refusal.DiskFault) new) it.making.is adds))))
       carried
@@ -296,12 +288,8 @@ module _ {D : Type 0} (disk : Ghosts D) (s : Core D) (is : IsStudio disk s) (goi
       → h' ≡ h → next_track ≡ track_then
       → IsFreshCount (ids_of (history_blocks h ++ (pin_blocks s.pins ++ clip_blocks clip))) counts'
       → ((id : ℕ) → IsSome (counts' id) ↔ IsSome (it.mid.counts id))
-      → Took disk s c sound (Ok Done) 0 (record new {
-        history = h';
-        clipboard = clip;
-        counts = counts';
-        next_track = next_track;
-      })
+      → Took disk s (with_sound c sound (Ok Done))
+      (record new { history = h'; clipboard = clip; counts = counts'; next_track = next_track })
   edit_ok done new it h' counts' next_track moved tracked counted files =
       edit_done it.prepared it.mid.store it.mid.counts (made_so it.mid it.making) it.reads it.synced done new
       (subst (λ (z : Core D). Adds disk z body (Ok done) new) it.making.is it.adds) h' counts' next_track moved tracked

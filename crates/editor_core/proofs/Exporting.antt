@@ -41,7 +41,7 @@ use Rattle.editor_core.specs.Core.{Core}
 use Rattle.editor_core.specs.Left.{IsSoOf, Left}
 use Rattle.editor_core.specs.Points.{current_tracks}
 use Rattle.editor_core.specs.Studios.{IsHeld, IsStudio, named_blocks, shown, studio_by, studio_of}
-use Rattle.editor_core.specs.Took.{Took}
+use Rattle.editor_core.specs.Took.{Took, with_sound}
 use Rattle.editor_core.proofs.Editing.{current_meant, current_sound}
 use Rattle.editor_core.proofs.Images.{keeps_now}
 use Rattle.editor_core.proofs.Leaving.{left_read}
@@ -94,7 +94,7 @@ module _ {D : Type 0} (disk : Ghosts D) (s : Core D) (is : IsStudio disk s) (nam
   -- ---- it had stopped before
 
   pub export_stopped : Fewer disk s.store → sound.after ≡ sound.before → (faults : ℕ) → s.stopped ≡ Some faults
-      → Took disk s call sound (Err (refusal.Stopped faults)) 0 s
+      → Took disk s (with_sound call sound (Err (refusal.Stopped faults))) s
   export_stopped fewer quiet faults stopped =
       refuses disk s call sound (refusal.Stopped faults) is fewer quiet 0 0 (λ held. (refl, refl))
       (ap (λ (z : Option Refusal). z otherwise rest) (ap stop_of stopped))
@@ -124,7 +124,7 @@ module _ {D : Type 0} (disk : Ghosts D) (s : Core D) (is : IsStudio disk s) (nam
         subst (λ (f : Files). Keeps f (shown t)) (sym from.2) (keeps_now disk s going held from.0 from.1)
 
     done : (bytes : ℕ) → (IsHeld disk s → CarriesOut t call sound (reply.Wrote bytes) (studio_of disk here))
-        → Took disk s call sound (Ok (reply.Wrote bytes)) 0 here
+        → Took disk s (with_sound call sound (Ok (reply.Wrote bytes))) here
     done bytes step = record {
       studio = looked_studio disk s is store kept;
       held = looked_held disk s is store kept;
@@ -143,7 +143,7 @@ module _ {D : Type 0} (disk : Ghosts D) (s : Core D) (is : IsStudio disk s) (nam
 
     failed : (why : Refusal)
         → IsSoOf disk s here why → (IsHeld disk s → Answers t call sound (Err why) (studio_of disk here))
-        → Took disk s call sound (Err why) 0 here
+        → Took disk s (with_sound call sound (Err why)) here
     failed why so step = record {
       studio = looked_studio disk s is store kept;
       held = looked_held disk s is store kept;
@@ -182,7 +182,7 @@ module _ {D : Type 0} (disk : Ghosts D) (s : Core D) (is : IsStudio disk s) (nam
     pub exported : (bytes len : ℕ) → len ≡ length point_mix → FitsFile len → bytes ≡ 44 + 4 * len
         → disk.read_fault_count store ≡ disk.read_fault_count s.store
         → (IsHeld disk s → sound.after ≡ Some (wav_text point_mix s.rate))
-        → Took disk s call sound (Ok (reply.Wrote bytes)) 0 here
+        → Took disk s (with_sound call sound (Ok (reply.Wrote bytes))) here
     exported bytes len long few size faults written = done bytes (λ held. record {
       blocks = 0;
       len = 0;
@@ -236,7 +236,7 @@ module _ {D : Type 0} (disk : Ghosts D) (s : Core D) (is : IsStudio disk s) (nam
         → (IsOfDevice why ⊎ (sound.after ≡ sound.before))
         → (IsHeld disk s → MayBegin (wav_text point_mix s.rate) sound.before sound.after)
         → (IsTrue (disk.tells s.store) → IsBlockFault (disk.reads s.store) (named_blocks s) why)
-        → Took disk s call sound (Err (reason_of_export why)) 0 here
+        → Took disk s (with_sound call sound (Err (reason_of_export why))) here
     export_failed (TooLong frames) len faults faults' long fault counted untouched begun named =
         failed (refusal.TooLong frames) tt (λ held. inl (record {
           blocks = 0;

@@ -28,7 +28,7 @@ use Rattle.editor_core.specs.Adding.{Adds}
 use Rattle.editor_core.specs.Core.{Core}
 use Rattle.editor_core.specs.Studios.{IsDurable, IsHeld, IsStudio, clip_blocks, clip_cells, ids_of, named_blocks}
 use Rattle.editor_core.specs.Studios.{pin_blocks, studio_by, studio_of}
-use Rattle.editor_core.specs.Took.{Took}
+use Rattle.editor_core.specs.Took.{Took, with_sound}
 use Rattle.editor_core.proofs.Flights.{IsCommit, IsTested, flight, images_still, matches, passes, whole_still}
 use Rattle.editor_core.proofs.Grown.{LeadsOn, led_studio, named_led}
 use Rattle.editor_core.proofs.Images.{keeps_now}
@@ -224,7 +224,7 @@ module _ {D : Type 0} (disk : Ghosts D) (s : Core D) (made : List BlockRef) (c :
       (files : (id : ℕ) → IsSome (counts id) ↔ IsSome (s.counts id)) where
     abbrev Leaves : Core D → Type 0
     Leaves z =
-        Took disk s c sound (Ok Done) 0
+        Took disk s (with_sound c sound (Ok Done))
         (record z { history = h'; clipboard = clip; counts = counts; next_track = next_track })
 
     -- the studio that the code leaves

@@ -33,7 +33,7 @@ use Rattle.editor_core.specs.Core.{Core}
 use Rattle.editor_core.specs.Pins.{LacksPin, MayFind}
 use Rattle.editor_core.specs.Points.{current_tracks}
 use Rattle.editor_core.specs.Studios.{IsHeld, IsStudio, named_blocks, studio_of}
-use Rattle.editor_core.specs.Took.{Took, silent}
+use Rattle.editor_core.specs.Took.{Took, quietly}
 use Rattle.editor_core.proofs.Currents.{current_named}
 use Rattle.editor_core.proofs.Editing.{current_meant}
 use Rattle.editor_core.proofs.Looking.{looked_ok, looked_failed}
@@ -80,18 +80,19 @@ module _ {D : Type 0} (disk : Ghosts D) (s : Core D) (is : IsStudio disk s) (few
     mix_quiet : IsQuiet mix
     mix_quiet = record { needs = λ t. (refl, refl); no_commit = refl; no_track = λ t. refl; quiet = λ t. refl }
 
-    pub mix_stopped : (faults : ℕ) → s.stopped ≡ Some faults → Took disk s mix silent (Err (refusal.Stopped faults)) 0 s
+    pub mix_stopped : (faults : ℕ) → s.stopped ≡ Some faults → Took disk s (quietly mix (Err (refusal.Stopped faults)))
+        s
     mix_stopped faults stopped = refused_stopped disk s mix mix_quiet is fewer faults refl stopped
 
     pub mix_beyond : (why : Refusal) → s.stopped ≡ None → bad_view from to ≡ Some why
-        → Took disk s mix silent (Err why) 0 s
+        → Took disk s (quietly mix (Err why)) s
     mix_beyond why going bad = refused_own disk s mix mix_quiet is fewer why (ap stop_of going) bad
 
     module _ (going : s.stopped ≡ None) (store : D) (kept : Kept disk s.store store) where
       pub mix_done : (frames : List Frame) → bad_view from to ≡ None
           → disk.read_fault_count store ≡ disk.read_fault_count s.store
           → (IsHeld disk s → frames ≡ part from to (mix_of (meant src (current_tracks s.history))))
-          → Took disk s mix silent (Ok (reply.Frames frames)) 0 (record s { store = store })
+          → Took disk s (quietly mix (Ok (reply.Frames frames))) (record s { store = store })
       mix_done frames good faults heard =
           let room = room_of disk s mix is in
           let passed = quiet_passes t mix mix_quiet room (ap stop_of going) good
@@ -103,7 +104,7 @@ module _ {D : Type 0} (disk : Ghosts D) (s : Core D) (is : IsStudio disk s) (few
 
       pub mix_failed : (why : BlockFault) → CountedBy why (disk.read_fault_count s.store) (disk.read_fault_count store)
           → (IsTrue (disk.tells s.store) → IsFaultIn (disk.reads s.store) (point_blocks (current_tracks s.history)) why)
-          → Took disk s mix silent (Err (reason_of why)) 0 (record s { store = store })
+          → Took disk s (quietly mix (Err (reason_of why))) (record s { store = store })
       mix_failed why counted damaged =
           looked_failed disk s is store kept mix mix_quiet going refl why counted
           (λ told. reason_damaged (disk.reads s.store) (named_blocks s) why (fault_among (disk.reads s.store)
@@ -116,17 +117,17 @@ module _ {D : Type 0} (disk : Ghosts D) (s : Core D) (is : IsStudio disk s) (few
     len_quiet = record { needs = λ t. (refl, refl); no_commit = refl; no_track = λ t. refl; quiet = λ t. refl }
 
     pub len_stopped : (faults : ℕ) → s.stopped ≡ Some faults
-        → Took disk s (PinLen pin) silent (Err (refusal.Stopped faults)) 0 s
+        → Took disk s (quietly (PinLen pin) (Err (refusal.Stopped faults))) s
     len_stopped faults stopped = refused_stopped disk s (PinLen pin) len_quiet is fewer faults refl stopped
 
     pub len_lacks : s.stopped ≡ None → LacksPin pin s.pins
-        → Took disk s (PinLen pin) silent (Err (refusal.NoPin pin)) 0 s
+        → Took disk s (quietly (PinLen pin) (Err (refusal.NoPin pin))) s
     len_lacks going lacks = refused_own disk s (PinLen pin) len_quiet is fewer (refusal.NoPin pin) (ap stop_of going)
         (lacks_own disk s is pin lacks)
 
     pub measured : s.stopped ≡ None → (point : List Track) (n : ℕ) → MayFind s.pins pin (Some point)
         → mix_length (meant src point) ≡ n
-        → Took disk s (PinLen pin) silent (Ok (reply.Length n)) 0 s
+        → Took disk s (quietly (PinLen pin) (Ok (reply.Length n))) s
     measured going point n found len =
         let room = room_of disk s (PinLen pin) is in
         let passed = quiet_passes t (PinLen pin) len_quiet room (ap stop_of going) (has_own disk s is pin point found)
@@ -146,10 +147,10 @@ module _ {D : Type 0} (disk : Ghosts D) (s : Core D) (is : IsStudio disk s) (few
       read_quiet = record { needs = λ t. (refl, refl); no_commit = refl; no_track = λ t. refl; quiet = λ t. refl }
 
       pub read_stopped : (faults : ℕ) → s.stopped ≡ Some faults
-          → Took disk s read silent (Err (refusal.Stopped faults)) 0 s
+          → Took disk s (quietly read (Err (refusal.Stopped faults))) s
       read_stopped faults stopped = refused_stopped disk s read read_quiet is fewer faults refl stopped
 
-      pub read_lacks : s.stopped ≡ None → LacksPin pin s.pins → Took disk s read silent (Err (refusal.NoPin pin)) 0 s
+      pub read_lacks : s.stopped ≡ None → LacksPin pin s.pins → Took disk s (quietly read (Err (refusal.NoPin pin))) s
       read_lacks going lacks = refused_own disk s read read_quiet is fewer (refusal.NoPin pin) (ap stop_of going)
           (lacks_own disk s is pin lacks)
 
@@ -157,7 +158,7 @@ module _ {D : Type 0} (disk : Ghosts D) (s : Core D) (is : IsStudio disk s) (few
           (kept : Kept disk s.store store) where
         pub read_done : (frames : List Frame) → disk.read_fault_count store ≡ disk.read_fault_count s.store
             → (IsHeld disk s → frames ≡ take count (drop from (mix_of (meant src point))))
-            → Took disk s read silent (Ok (reply.Frames frames)) 0 (record s { store = store })
+            → Took disk s (quietly read (Ok (reply.Frames frames))) (record s { store = store })
         read_done frames faults heard =
             let room = room_of disk s read is in
             let passed = quiet_passes t read read_quiet room (ap stop_of going) (has_own disk s is pin point found)
@@ -172,7 +173,7 @@ module _ {D : Type 0} (disk : Ghosts D) (s : Core D) (is : IsStudio disk s) (few
         pub read_failed : (why : BlockFault)
             → CountedBy why (disk.read_fault_count s.store) (disk.read_fault_count store)
             → (IsTrue (disk.tells s.store) → IsFaultIn (disk.reads s.store) (point_blocks point) why)
-            → Took disk s read silent (Err (reason_of why)) 0 (record s { store = store })
+            → Took disk s (quietly read (Err (reason_of why))) (record s { store = store })
         read_failed why counted damaged =
             looked_failed disk s is store kept read read_quiet going refl why counted
             (λ told. reason_damaged (disk.reads s.store) (named_blocks s) why (fault_among (disk.reads s.store)

@@ -21,7 +21,7 @@ use Rattle.sound_import.specs.Imported.{IsRefused, IsTaken, import_refusal}
 use Rattle.editor_core.specs.Core.{Core}
 use Rattle.editor_core.specs.Imports.{HasChannels, IsNoVault, VaultCounted, VaultCountedBy, left_as}
 use Rattle.editor_core.specs.Studios.{IsStudio, studio_of}
-use Rattle.editor_core.specs.Took.{Took}
+use Rattle.editor_core.specs.Took.{Took, with_sound}
 use Rattle.editor_core.proofs.Leaving.{IsPlain}
 use Rattle.editor_core.proofs.Staying.{refuses, stays, wants}
 
@@ -64,7 +64,7 @@ module _ {D : Type 0} (disk : Ghosts D) (s : Core D) (is : IsStudio disk s) (few
   rest = (counter_tests out t call 0 0) otherwise (record_test 0)
 
   pub import_stopped : (faults : ℕ) → s.stopped ≡ Some faults
-      → Took disk s call (left_as sound) (Err (refusal.Stopped faults)) 0 s
+      → Took disk s (with_sound call (left_as sound) (Err (refusal.Stopped faults))) s
   import_stopped faults at =
       refuses disk s call (left_as sound) (refusal.Stopped faults) is fewer refl 0 0
       (λ held. (omega arith, omega arith))
@@ -72,13 +72,13 @@ module _ {D : Type 0} (disk : Ghosts D) (s : Core D) (is : IsStudio disk s) (few
 
   module _ (going : s.stopped ≡ None) where
     pub own_refused : (why : Refusal) → call_tests out t.state call ≡ Some why
-        → Took disk s call (left_as sound) (Err why) 0 s
+        → Took disk s (with_sound call (left_as sound) (Err why)) s
     own_refused why test =
         refuses disk s call (left_as sound) why is fewer refl 0 0 (λ held. (omega arith, omega arith))
         (λ i. (stop_of (going i)) otherwise (test i) otherwise rest)
 
     pub import_refused : (why : ImportFault) → IsRefused sound s.rate why
-        → Took disk s call (left_as sound) (Err (import_refusal why)) 0 s
+        → Took disk s (with_sound call (left_as sound) (Err (import_refusal why))) s
     import_refused NoFile h = own_refused refusal.NoFile (h t.state)
     import_refused (BadWav fault) h = own_refused (refusal.BadWav fault) (h t.state)
     import_refused (RateDiffers have want) h = own_refused (refusal.RateDiffers have want) (h t.state)

@@ -25,7 +25,7 @@ use Rattle.editor_core.specs.Core.{Core}
 use Rattle.editor_core.specs.Left.{IsSoOf, MayRemove}
 use Rattle.editor_core.specs.Studios.{SameBlocks, IsDurable, IsHeld, IsStudio, shown, studio_by, studio_of}
 use Rattle.editor_core.specs.Studios.{named_blocks}
-use Rattle.editor_core.specs.Took.{Took, silent}
+use Rattle.editor_core.specs.Took.{Took, quietly, silent}
 use Rattle.editor_core.proofs.Images.{keeps_now}
 use Rattle.editor_core.proofs.Leaving.{IsPlain, left_read, plain_so}
 use Rattle.editor_core.proofs.Others.{others_none}
@@ -104,7 +104,7 @@ module _ {D : Type 0} (disk : Ghosts D) (s : Core D) (is : IsStudio disk s) (sto
 
     -- it read what it wanted
     pub looked_ok : (r : Reply) → disk.read_fault_count store ≡ disk.read_fault_count s.store
-        → (IsHeld disk s → CarriesOut t c silent r t) → Took disk s c silent (Ok r) 0 looked
+        → (IsHeld disk s → CarriesOut t c silent r t) → Took disk s (quietly c (Ok r)) looked
     looked_ok r faults step = record {
       studio = looked_studio;
       held = looked_held;
@@ -124,7 +124,7 @@ module _ {D : Type 0} (disk : Ghosts D) (s : Core D) (is : IsStudio disk s) (sto
 
     looked_refused : (why : Refusal) → IsSoOf disk s looked why
         → (IsHeld disk s → Answers t c silent (Err why) (studio_of disk looked))
-        → Took disk s c silent (Err why) 0 looked
+        → Took disk s (quietly c (Err why)) looked
     looked_refused why so step = record {
       studio = looked_studio;
       held = looked_held;
@@ -145,7 +145,7 @@ module _ {D : Type 0} (disk : Ghosts D) (s : Core D) (is : IsStudio disk s) (sto
     pub looked_failed : (Leaves t c silent) → (why : BlockFault)
         → CountedBy why (disk.read_fault_count s.store) (disk.read_fault_count store)
         → (IsTrue (disk.tells s.store) → IsDamagedIn (disk.reads s.store) (named_blocks s) (reason_of why))
-        → Took disk s c silent (Err (reason_of why)) 0 looked
+        → Took disk s (quietly c (Err (reason_of why))) looked
     looked_failed leaves fault.DiskFault counted named =
         let same : s.next_block ≡ s.next_block + 0 = omega arith in
         looked_refused refusal.DiskFault (inl (record { rose = counted.0; later = counted.1 })) (λ held. inr (record {
@@ -187,7 +187,7 @@ module _ {D : Type 0} (disk : Ghosts D) (s : Core D) (is : IsStudio disk s) (sto
 
     -- one of its tests refused it, though the disk was asked
     pub looked_own : (why : Refusal) → IsPlain why → disk.read_fault_count store ≡ disk.read_fault_count s.store
-        → (IsHeld disk s → refusal_of (outside t silent) t c 0 0 ≡ Some why) → Took disk s c silent (Err why) 0 looked
+        → (IsHeld disk s → refusal_of (outside t silent) t c 0 0 ≡ Some why) → Took disk s (quietly c (Err why)) looked
     looked_own why plain faults first = looked_refused why (plain_so disk s looked why plain) (λ held. inl (record {
       blocks = 0;
       len = 0;
@@ -199,6 +199,6 @@ module _ {D : Type 0} (disk : Ghosts D) (s : Core D) (is : IsStudio disk s) (sto
 
     -- there was no memory, before or after a read
     pub looked_wanting : disk.read_fault_count store ≡ disk.read_fault_count s.store
-        → Took disk s c silent (Err refusal.NoMemory) 0 looked
+        → Took disk s (quietly c (Err refusal.NoMemory)) looked
     looked_wanting faults = looked_refused refusal.NoMemory tt
         (λ held. inr (record { same = looked_state ∙ (λ i. record t { read_faults = faults i }); quiet = refl }))

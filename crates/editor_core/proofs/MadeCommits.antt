@@ -26,7 +26,7 @@ use Rattle.editor_core.specs.Left.{Left, MayRemove, Stops}
 use Rattle.editor_core.specs.Made.{PiecesThere}
 use Rattle.editor_core.specs.Makes.{AreSynced, Making}
 use Rattle.editor_core.specs.Studios.{IsGiven, IsHeld, IsStudio, shown, studio_of}
-use Rattle.editor_core.specs.Took.{KeepsOneOf, Took, number_behind}
+use Rattle.editor_core.specs.Took.{KeepsOneOf, Took, number_behind, with_sound}
 use Rattle.editor_core.proofs.Lists.{all_so}
 use Rattle.editor_core.proofs.Makings.{making_next}
 use Rattle.editor_core.proofs.MadeLeft.{all_changed}
@@ -103,7 +103,7 @@ module _ {D : Type 0} (disk : Ghosts D) (s : Core D) (is : IsStudio disk s) (giv
         → Needs (outside t sound) t c blocks len)
         → (IsHeld disk s → (len : ℕ) × CarriesOut t c sound Done (followed (outside t sound) t c n len))
         → (IsHeld disk s → Answers t c sound told_as (studio_of disk new)) → Stops disk s told_as new
-        → IfErr told_as (Left disk s (MayRemove c s.counts) new) → Took disk s c sound told_as 0 new
+        → IfErr told_as (Left disk s (MayRemove c s.counts) new) → Took disk s (with_sound c sound told_as) new
     composed told_as new took next back carried step stops left =
         let images = making.changed.images in
         let at_next = making_next disk s given makes n mid making in

@@ -23,7 +23,7 @@ use Rattle.editor_core.specs.Left.{IsSoOf}
 use Rattle.editor_core.specs.Made.{PiecesThere, SameOutside}
 use Rattle.editor_core.specs.Makes.{HasMissed, Making, Stuck, Unput, Unread, made_room, one_call}
 use Rattle.editor_core.specs.Studios.{IsHeld, IsStudio, named_blocks, studio_of}
-use Rattle.editor_core.specs.Took.{Took}
+use Rattle.editor_core.specs.Took.{Took, with_sound}
 use Rattle.editor_core.proofs.Images.{keeps_now}
 use Rattle.editor_core.proofs.Makings.{making_unread}
 use Rattle.editor_core.proofs.MadeLeft.{damaged_so, missed_so, some_changed, some_left, some_stop, unput_changed}
@@ -47,7 +47,8 @@ module _ {D : Type 0} (disk : Ghosts D) (s : Core D) (is : IsStudio disk s) (giv
       (need : IsHeld disk s → (k : ℕ) → k ≤ n → Needs (outside t sound) t c k len)
       (origin : AllNewFrom (named_blocks s) (brought_count given) makes) where
     going_on : (why : Refusal) (k : ℕ) (new : Core D) → Making disk s given k makes new → k ≤ n → IsSoOf disk s new why
-        → (IsHeld disk s → Answers t c sound (Err why) (studio_of disk new)) → Took disk s c sound (Err why) 0 new
+        → (IsHeld disk s → Answers t c sound (Err why) (studio_of disk new))
+        → Took disk s (with_sound c sound (Err why)) new
     going_on why k new making few so step =
         let studio = made_studio disk s is given makes k new making going few fresh most there in
         let holds = made_held disk s is given makes k new making going few fresh most there in
@@ -92,7 +93,7 @@ module _ {D : Type 0} (disk : Ghosts D) (s : Core D) (is : IsStudio disk s) (giv
             change_faults = sym making.change_faults i;
           })
 
-      unread : HasMissed disk mid.store new.store → Took disk s c sound (Err refusal.DiskFault) 0 new
+      unread : HasMissed disk mid.store new.store → Took disk s (with_sound c sound (Err refusal.DiskFault)) new
       unread missed = going_on refusal.DiskFault k new making few
           (inl (missed_so disk s given makes most c mid.store new.store reads missed)) (λ held. inr (record {
             breaks = record {
@@ -114,7 +115,7 @@ module _ {D : Type 0} (disk : Ghosts D) (s : Core D) (is : IsStudio disk s) (giv
 
       damaged : (file at want have : ℕ) → disk.read_fault_count new.store ≡ disk.read_fault_count mid.store
           → IsSoOf disk s new (refusal.Damaged file at want have)
-          → Took disk s c sound (Err (refusal.Damaged file at want have)) 0 new
+          → Took disk s (with_sound c sound (Err (refusal.Damaged file at want have))) new
       damaged file at want have same so =
           going_on (refusal.Damaged file at want have) k new making few so (λ held. inr (record {
             breaks = record {
@@ -173,7 +174,7 @@ module _ {D : Type 0} (disk : Ghosts D) (s : Core D) (is : IsStudio disk s) (giv
             change_faults = disk.change_fault_count store;
           }
 
-      here_took : Took disk s c sound (Err refusal.DiskFault) 0 here
+      here_took : Took disk s (with_sound c sound (Err refusal.DiskFault)) here
       here_took = record {
         studio = here_studio;
         held = here_held;
@@ -209,12 +210,12 @@ module _ {D : Type 0} (disk : Ghosts D) (s : Core D) (is : IsStudio disk s) (giv
         left = unput_left disk s given makes most c k mid new was few left un;
       }
 
-      unput : Took disk s c sound (Err refusal.DiskFault) 0 new
-      unput = subst (λ (z : Core D). Took disk s c sound (Err refusal.DiskFault) 0 z)
+      unput : Took disk s (with_sound c sound (Err refusal.DiskFault)) new
+      unput = subst (λ (z : Core D). Took disk s (with_sound c sound (Err refusal.DiskFault)) z)
           (sym (unput_is disk s given makes most c k mid new was few left un)) here_took
 
     pub not_made : (why : Refusal) (new : Core D) → Stuck disk s given makes why new
-        → Took disk s c sound (Err why) 0 new
+        → Took disk s (with_sound c sound (Err why)) new
     not_made refusal.DiskFault new stuck = ⊎_elim
         (λ un. unread stuck.made stuck.mid new stuck.before stuck.few stuck.read_faults un.0 un.1)
         (λ un. unput stuck.made stuck.mid new stuck.before stuck.few stuck.left stuck.read_faults un)

@@ -31,7 +31,7 @@ use Rattle.editor_core.specs.Adding.{Adds, IsNoWant}
 use Rattle.editor_core.specs.Core.{Core}
 use Rattle.editor_core.specs.Occurrences.{HasAll, Dropped, times_named}
 use Rattle.editor_core.specs.Studios.{IsHeld, IsStudio, clip_blocks, ids_of, named_blocks, pin_blocks, studio_of}
-use Rattle.editor_core.specs.Took.{Took, silent}
+use Rattle.editor_core.specs.Took.{Took, quietly, silent}
 use Rattle.editor_core.proofs.Flights.{IsCommit, clip_stays}
 use Rattle.editor_core.proofs.Growing.{grows_so}
 use Rattle.editor_core.proofs.Images.{Covers}
@@ -198,13 +198,13 @@ module _ {D : Type 0} (disk : Ghosts D) (s : Core D) (is : IsStudio disk s) wher
       → Adds disk s (spelling body) (Ok (tt {0})) mid → h' ≡ h
       → IsFreshCount (ids_of (history_blocks h ++ (pin_blocks s.pins ++ clip_blocks s.clipboard))) counts
       → ((id : ℕ) → IsSome (counts id) ↔ IsSome (s.counts id))
-      → Took disk s c silent (Ok Done) 0 (record mid { history = h'; counts = counts })
+      → Took disk s (quietly c (Ok Done)) (record mid { history = h'; counts = counts })
   moves c body h mid h' counts move going own number adds is-h counted files =
       let clip = ap (λ (z : Core D). z.clipboard) adds.fields.0 in
       let took = grows_so disk s [] c silent 0 body h s.clipboard s.next_track is (none_made disk s) move going own
       (omega (arith, is.counters.track_most)) number (tt {0}) mid adds
       h' counts mid.next_track is-h (ap (λ (z : Core D). z.next_track) adds.fields.0) counted files in
-      subst (λ z. Took disk s c silent (Ok Done) 0 (record mid { history = h'; clipboard = z; counts = counts }))
+      subst (λ z. Took disk s (quietly c (Ok Done)) (record mid { history = h'; clipboard = z; counts = counts }))
       (sym clip) took
 
   -- where the points stay
@@ -213,7 +213,7 @@ module _ {D : Type 0} (disk : Ghosts D) (s : Core D) (is : IsStudio disk s) wher
       → s.stopped ≡ None → call_tests (outside (studio_of disk s) silent) (studio_of disk s).state c ≡ None
       → s.commit_number < 2 ^ 62
       → Adds disk s (spelling body) (Ok (tt {0})) mid → h' ≡ h
-      → Took disk s c silent (Ok Done) 0 (record mid { history = h' })
+      → Took disk s (quietly c (Ok Done)) (record mid { history = h' })
   moved c body h mid h' move points going own number adds is-h =
       let counts : mid.counts ≡ s.counts = ap (λ (z : Core D). z.counts) adds.fields.0 in
       let rest : List BlockRef = pin_blocks s.pins ++ clip_blocks s.clipboard in
@@ -263,7 +263,7 @@ pub tested_out : {D : Type 0} (disk : Ghosts D) (s : Core D) (c : Call) (tracks 
     → (IsHeld disk s → Needs (outside (studio_of disk s) silent) (studio_of disk s) c 0 len)
     → own ≡ call_tests (outside (studio_of disk s) silent) (studio_of disk s).state c
     → (stop_of s.stopped) otherwise own otherwise (no_room s.next_track tracks) otherwise (no_room s.commit_number 1)
-    ≡ Some why → Took disk s c silent (Err why) 0 s
+    ≡ Some why → Took disk s (quietly c (Err why)) s
 tested_out disk s c tracks len own why is fewer call needs is_own h =
     let by = ap (λ (o : Option Refusal). (stop_of s.stopped) otherwise o otherwise
     (no_room s.next_track tracks) otherwise (no_room s.commit_number 1)) (sym is_own) ∙ h in

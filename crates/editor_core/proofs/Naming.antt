@@ -17,7 +17,7 @@ use Rattle.editor_core.specs.Left.{MayRemove}
 use Rattle.editor_core.specs.Occurrences.{times_named}
 use Rattle.editor_core.specs.Studios.{IsGiven, PinsRise, MayPaste, IsHeld, IsStudio, studio_of, named_blocks}
 use Rattle.editor_core.specs.Studios.{clip_blocks}
-use Rattle.editor_core.specs.Took.{Took, silent}
+use Rattle.editor_core.specs.Took.{Took, quietly, silent}
 use Rattle.editor_core.proofs.Images.{keeps_now}
 use Rattle.editor_core.proofs.Others.{others_none}
 use Rattle.editor_core.proofs.Quiet.{IsQuiet}
@@ -97,7 +97,7 @@ module _ {D : Type 0} (disk : Ghosts D) (s : Core D) (is : IsStudio disk s) (cli
   pub renamed_took : (c : Call) → IsQuiet c → (r : Reply) → Fewer disk s.store
       → (IsSome s.stopped → new ≡ record s { pins = pins; counts = counts })
       → (IsHeld disk s → CarriesOut (studio_of disk s) c silent r (studio_of disk new))
-      → Took disk s c silent (Ok r) 0 new
+      → Took disk s (quietly c (Ok r)) new
   renamed_took c quiet r fewer rests step = record {
     studio = renamed_studio;
     held = renamed_held;

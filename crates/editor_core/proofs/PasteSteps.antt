@@ -48,7 +48,7 @@ use Rattle.editor_core.specs.Pastes.{IsPastePlan, NoPastePlan, paste_cells, past
 use Rattle.editor_core.specs.Points.{current_tracks}
 use Rattle.editor_core.specs.Studios.{IsClipboard, IsGiven, IsStudio, MayPaste, clip_blocks, clip_cells, named_blocks}
 use Rattle.editor_core.specs.Studios.{pin_blocks, studio_by, studio_of}
-use Rattle.editor_core.specs.Took.{Took, silent}
+use Rattle.editor_core.specs.Took.{Took, quietly, silent}
 use Rattle.editor_core.specs.TrackEdits.{plan_start}
 use Rattle.editor_core.proofs.Contained.{among_itself}
 use Rattle.editor_core.proofs.Copying.{from_blocks, from_track, layout_of, run_is}
@@ -142,7 +142,7 @@ module _ {D : Type 0} (disk : Ghosts D) (s : Core D) (is : IsStudio disk s) (e :
   -- ---- a stopped studio, a test of the edit, or memory
 
   early_refused : (why : Refusal) → Fewer disk s.store → ((stop_of s.stopped) otherwise refused_by) ≡ Some why
-      → Took disk s line silent (Err why) 0 s
+      → Took disk s (quietly line (Err why)) s
   early_refused why fewer h =
       let call = paste_call e id at in
       let own = own_is (samples_on (disk.reads s.store)) in
@@ -152,16 +152,16 @@ module _ {D : Type 0} (disk : Ghosts D) (s : Core D) (is : IsStudio disk s) (e :
       (early t line silent 0 call.commit 0 0 why first)
 
   pub paste_stopped : (faults : ℕ) → Fewer disk s.store → s.stopped ≡ Some faults
-      → Took disk s line silent (Err (refusal.Stopped faults)) 0 s
+      → Took disk s (quietly line (Err (refusal.Stopped faults))) s
   paste_stopped faults fewer at_fault =
       early_refused (refusal.Stopped faults) fewer (λ i. (stop_of (at_fault i)) otherwise refused_by)
 
   pub paste_refused : (why : Refusal) → Fewer disk s.store → s.stopped ≡ None → NoPastePlan e id at s why
-      → Took disk s line silent (Err why) 0 s
+      → Took disk s (quietly line (Err why)) s
   paste_refused why fewer going not = ⊎_elim
       (λ own. early_refused why fewer ((λ i. (stop_of (going i)) otherwise refused_by) ∙ own))
       (λ memory.
-      subst (λ (r : Refusal). Took disk s line silent (Err r) 0 s) (sym memory)
+      subst (λ (r : Refusal). Took disk s (quietly line (Err r)) s) (sym memory)
       (wants disk s line silent is fewer refl 0
       (λ held. (0, (paste_call e id at).needs t.rate t 0 0 (omega arith, omega arith)))))
       not

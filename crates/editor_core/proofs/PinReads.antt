@@ -15,7 +15,7 @@ use Rattle.disk_model.specs.declared.store.Store.{Ghosts}
 use Rattle.sound_export.proofs.GrowLaws.{length_mix}
 use Rattle.editor_core.specs.Core.{Core}
 use Rattle.editor_core.specs.Studios.{IsHeld, studio_of}
-use Rattle.editor_core.specs.Took.{Took, silent}
+use Rattle.editor_core.specs.Took.{Took, quietly, silent}
 
 take_few : {A : Type 0} (n most : ℕ) (xs : List A) → n ≡ min most (length xs) → take n xs ≡ take most xs
 take_few n most xs few = ⊎_elim
@@ -28,7 +28,7 @@ frames_in (reply.Length n) = n
 frames_in r = 0
 
 module _ {D : Type 0} (disk : Ghosts D) (s : Core D) (pin from count len n : ℕ) (few : n ≡ min count (len - from))
-    (measured : Took disk s (PinLen pin) silent (Ok (reply.Length len)) 0 s) where
+    (measured : Took disk s (quietly (PinLen pin) (Ok (reply.Length len))) s) where
   abbrev t : model.Studio
   t = studio_of disk s
 
@@ -54,8 +54,8 @@ module _ {D : Type 0} (disk : Ghosts D) (s : Core D) (pin from count len n : ℕ
     heard = c.heard;
   }
 
-  pub read_as_many : (r : Reply) (new : Core D) → Took disk s (ReadPin pin from n) silent (Ok r) 0 new
-      → Took disk s (ReadPin pin from count) silent (Ok r) 0 new
+  pub read_as_many : (r : Reply) (new : Core D) → Took disk s (quietly (ReadPin pin from n) (Ok r)) new
+      → Took disk s (quietly (ReadPin pin from count) (Ok r)) new
   read_as_many r new took = record {
     studio = took.studio;
     held = took.held;

@@ -11,7 +11,7 @@ use Rattle.disk_model.specs.declared.store.Store.{Ghosts}
 use Rattle.project_state.specs.Kept.{Keeps}
 use Rattle.editor_core.specs.Core.{Core}
 use Rattle.editor_core.specs.Studios.{shown, studio_of}
-use Rattle.editor_core.specs.Took.{KeepsOneOf, Took, silent}
+use Rattle.editor_core.specs.Took.{KeepsOneOf, Took, quietly, silent}
 
 module _ {D : Type 0} (disk : Ghosts D) (s : Core D) (pin from count : ℕ) where
   abbrev t : model.Studio
@@ -22,7 +22,7 @@ module _ {D : Type 0} (disk : Ghosts D) (s : Core D) (pin from count : ℕ) wher
 
   -- ---- of the call that asks how long a pin is
 
-  module _ (why : Refusal) (new : Core D) (took : Took disk s (PinLen pin) silent (Err why) 0 new) where
+  module _ (why : Refusal) (new : Core D) (took : Took disk s (quietly (PinLen pin) (Err why)) new) where
     off : (u : model.Studio) → BreaksOff t (PinLen pin) silent u → BreaksOff t read silent u
     off u b = record {
       going = b.going;
@@ -59,7 +59,7 @@ module _ {D : Type 0} (disk : Ghosts D) (s : Core D) (pin from count : ℕ) wher
     still : (c : Files) → KeepsOneOf t (PinLen pin) silent c → KeepsOneOf t read silent c
     still c k = ⊎_elim (λ old. inl old) (λ flight. inl (subst (Keeps c) (ap shown flight.carried.is) flight.keeps)) k
 
-    pub len_refused : Took disk s read silent (Err why) 0 new
+    pub len_refused : Took disk s (quietly read (Err why)) new
     len_refused = record {
       studio = took.studio;
       held = took.held;
@@ -78,7 +78,8 @@ module _ {D : Type 0} (disk : Ghosts D) (s : Core D) (pin from count : ℕ) wher
 
   -- ---- of the same call for fewer frames
 
-  module _ (n : ℕ) (why : Refusal) (new : Core D) (took : Took disk s (ReadPin pin from n) silent (Err why) 0 new) where
+  module _ (n : ℕ) (why : Refusal) (new : Core D) (took : Took disk s (quietly (ReadPin pin from n) (Err why))
+      new) where
     off_fewer : (u : model.Studio) → BreaksOff t (ReadPin pin from n) silent u → BreaksOff t read silent u
     off_fewer u b = record {
       going = b.going;
@@ -125,7 +126,7 @@ module _ {D : Type 0} (disk : Ghosts D) (s : Core D) (pin from count : ℕ) wher
     still_fewer c k =
         ⊎_elim (λ old. inl old) (λ flight. inl (subst (Keeps c) (ap shown flight.carried.is) flight.keeps)) k
 
-    pub read_refused : Took disk s read silent (Err why) 0 new
+    pub read_refused : Took disk s (quietly read (Err why)) new
     read_refused = record {
       studio = took.studio;
       held = took.held;

@@ -24,7 +24,7 @@ use Rattle.editor_core.specs.declared.studio.Pin.{Pin}
 use Rattle.editor_core.specs.Occurrences.{Held, times_named}
 use Rattle.editor_core.specs.Points.{current_tracks}
 use Rattle.editor_core.specs.Studios.{IsStudio, pin_at, pin_blocks, clip_blocks, named_blocks, studio_of}
-use Rattle.editor_core.specs.Took.{Took, silent}
+use Rattle.editor_core.specs.Took.{Took, quietly, silent}
 use Rattle.editor_core.proofs.Editing.{current_sound, current_meant, old_names}
 use Rattle.editor_core.proofs.Lists.{all_left, all_right}
 use Rattle.editor_core.proofs.Naming.{renamed, Renames, renamed_took}
@@ -112,7 +112,7 @@ module _ {D : Type 0} (disk : Ghosts D) (s : Core D) (is : IsStudio disk s) (few
         ∙ ap (λ (p : Project). with_pin s.next_pin p (pin_at src s.pins) n) (sym (current_meant disk s is)) in
         λ i. record t { state = record t.state { pins = λ n. mean n i; next_pin = s.next_pin + 1 } }
 
-    pub pinned : Took disk s Keep silent (Ok (Pinned s.next_pin)) 0 new
+    pub pinned : Took disk s (quietly Keep (Ok (Pinned s.next_pin))) new
     pinned =
         let passed = quiet_passes t Keep pin_quiet (room_of disk s Keep is) (ap stop_of going) refl
         (fits s.next_pin 1 (omega (arith, room))) in
@@ -123,16 +123,16 @@ module _ {D : Type 0} (disk : Ghosts D) (s : Core D) (is : IsStudio disk s) (few
 
   -- all numbers are given
   pub pin_spent : s.stopped ≡ None → s.next_pin ≡ 2 ^ 62
-      → Took disk s Keep silent (Err (refusal.SpaceSpent (2 ^ 62) 1)) 0 s
+      → Took disk s (quietly Keep (Err (refusal.SpaceSpent (2 ^ 62) 1))) s
   pin_spent going most =
       let pin = spends s.next_pin 1 (omega (arith, most)) ∙ (λ i. Some (refusal.SpaceSpent (most i) 1)) in
       refused_by disk s Keep pin_quiet is fewer (refusal.SpaceSpent (2 ^ 62) 1)
       (pins_spent t Keep pin_quiet (room_of disk s Keep is) (refusal.SpaceSpent (2 ^ 62) 1) (ap stop_of going) refl pin)
 
-  pub pin_stopped : (faults : ℕ) → s.stopped ≡ Some faults → Took disk s Keep silent (Err (refusal.Stopped faults)) 0 s
+  pub pin_stopped : (faults : ℕ) → s.stopped ≡ Some faults → Took disk s (quietly Keep (Err (refusal.Stopped faults))) s
   pin_stopped faults stopped = refused_stopped disk s Keep pin_quiet is fewer faults refl stopped
 
   -- there was no memory, and the studio is as it was
-  pub pin_wanting : (same : Core D) → same ≡ s → Took disk s Keep silent (Err refusal.NoMemory) 0 same
-  pin_wanting same e = subst (λ (z : Core D). Took disk s Keep silent (Err refusal.NoMemory) 0 z) (sym e)
+  pub pin_wanting : (same : Core D) → same ≡ s → Took disk s (quietly Keep (Err refusal.NoMemory)) same
+  pin_wanting same e = subst (λ (z : Core D). Took disk s (quietly Keep (Err refusal.NoMemory)) z) (sym e)
       (refused_wanting disk s Keep pin_quiet is fewer)

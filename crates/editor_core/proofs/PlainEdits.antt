@@ -39,7 +39,7 @@ use Rattle.editor_core.specs.Plain.{line_of, IsGood, tracks_by, refusal_by, set_
 use Rattle.editor_core.specs.Plain.{empty_track}
 use Rattle.editor_core.specs.Points.{put_in, put_one}
 use Rattle.editor_core.specs.Studios.{IsHeld, IsStudio, named_blocks, studio_of}
-use Rattle.editor_core.specs.Took.{Took, silent}
+use Rattle.editor_core.specs.Took.{Took, quietly, silent}
 use Rattle.editor_core.specs.declared.plain.PlainEdit.{PlainEdit}
 use Rattle.editor_core.specs.declared.plain.PlainEdit.TheVariants as edit
 use Rattle.editor_core.proofs.Flights.{IsCommit, clip_stays}
@@ -255,7 +255,7 @@ module _ {D : Type 0} (disk : Ghosts D) (s : Core D) (is : IsStudio disk s) wher
 
         pub edit_fails : {Q : Type 0} (why : Refusal) (mid : Core D) → Fewer disk s.store
             → Adds {R = Q} disk s (spelling record_of) (Err why) mid
-            → Took disk s (Line (line_of e)) silent (Err why) 0 mid
+            → Took disk s (quietly (Line (line_of e)) (Err why)) mid
         edit_fails why mid fewer adds =
             fails disk s [] (Line (line_of e)) silent (tracks_by e) record_of (edited s.history p 0) s.clipboard
             track_then is (none_made disk s) edits going own ids number why mid fewer adds
@@ -264,19 +264,12 @@ module _ {D : Type 0} (disk : Ghosts D) (s : Core D) (is : IsStudio disk s) wher
             (next_track : ℕ)
             → Adds disk s (spelling record_of) (Ok q) mid → h' ≡ edited s.history p 0
             → Moves s.counts counts (history_blocks s.history) (history_blocks (edited s.history p 0))
-            → next_track ≡ track_then → Took disk s (Line (line_of e)) silent (Ok Done) 0 (record mid {
-              history = h';
-              counts = counts;
-              next_track = next_track;
-            })
+            → next_track ≡ track_then → Took disk s (quietly (Line (line_of e)) (Ok Done))
+            (record mid { history = h'; counts = counts; next_track = next_track })
         edit_done q mid h' counts next_track adds moved moves tracked =
             let clip = ap (λ (z : Core D). z.clipboard) adds.fields.0 in
             let took = grows_so disk s [] (Line (line_of e)) silent (tracks_by e) record_of (edited s.history p 0)
             s.clipboard track_then is (none_made disk s) edits going own ids number q mid adds
             h' counts next_track moved tracked (counts_then disk s is (edited s.history p 0) counts moves) moves.ids in
-            subst (λ z. Took disk s (Line (line_of e)) silent (Ok Done) 0 (record mid {
-              history = h';
-              clipboard = z;
-              counts = counts;
-              next_track = next_track;
-            })) (sym clip) took
+            subst (λ z. Took disk s (quietly (Line (line_of e)) (Ok Done))
+            (record mid { history = h'; clipboard = z; counts = counts; next_track = next_track })) (sym clip) took

@@ -15,7 +15,7 @@ use Rattle.project_state.specs.Kept.{Keeps}
 use Rattle.editor_core.specs.Core.{Core}
 use Rattle.editor_core.specs.Left.{Left, MayRemove, Stops}
 use Rattle.editor_core.specs.Studios.{IsHeld, IsStudio, shown, studio_of}
-use Rattle.editor_core.specs.Took.{KeepsOneOf, Took, asks, number_behind}
+use Rattle.editor_core.specs.Took.{KeepsOneOf, Took, asks, number_behind, with_sound}
 use Rattle.editor_core.proofs.Others.{Leaving, others_more}
 
 -- as `Took` of a call that removes no file, where `Has` stands for that the disk holds the studio; but for what is left
@@ -40,7 +40,7 @@ pub record TookWhere {D : Type 0} (Has : Type 0) (disk : Ghosts D) (old : Core D
 pub took_so : {D : Type 0} (disk : Ghosts D) (old : Core D) (call : Call) (sound : SoundMove)
     (told : Result Reply Refusal) (new : Core D) → TookWhere (IsHeld disk old) disk old call sound told new
     → Stops disk old told new → IfErr told (Left disk old (MayRemove call old.counts) new)
-    → Took disk old call sound told 0 new
+    → Took disk old (with_sound call sound told) new
 took_so disk old call sound told new took stops left = record {
   studio = took.studio;
   held = took.held;

@@ -17,7 +17,7 @@ use Rattle.disk_model.proofs.Frames.{Fewer, changed_none}
 use Rattle.editor_core.specs.Core.{Core}
 use Rattle.editor_core.specs.Left.{MayRemove}
 use Rattle.editor_core.specs.Studios.{IsHeld, IsStudio, studio_of}
-use Rattle.editor_core.specs.Took.{Took, silent}
+use Rattle.editor_core.specs.Took.{Took, quietly, silent}
 use Rattle.editor_core.proofs.Images.{keeps_now}
 use Rattle.editor_core.proofs.Others.{others_none}
 use Rattle.editor_core.proofs.Spaces.{fits}
@@ -135,25 +135,25 @@ module _ {D : Type 0} (disk : Ghosts D) (s : Core D) (c : Call) (quiet : IsQuiet
 
   -- refused
   pub refused_by : (why : Refusal) → refusal_of (outside t silent) t c 0 0 ≡ Some why
-      → Took disk s c silent (Err why) 0 s
+      → Took disk s (quietly c (Err why)) s
   refused_by why first = refuses disk s c silent why is fewer refl 0 0 (λ held. quiet.needs t) first
 
   -- it had stopped before
   pub refused_stopped : (faults : ℕ) → stop_test s.stopped c ≡ stop_of s.stopped → s.stopped ≡ Some faults
-      → Took disk s c silent (Err (refusal.Stopped faults)) 0 s
+      → Took disk s (quietly c (Err (refusal.Stopped faults))) s
   refused_stopped faults test at = refused_by (refusal.Stopped faults) (stopped_first t c 0 0 faults test at)
 
   -- by its own test
   pub refused_own : (why : Refusal) → stop_test s.stopped c ≡ None → call_tests (outside t silent) t.state c ≡ Some why
-      → Took disk s c silent (Err why) 0 s
+      → Took disk s (quietly c (Err why)) s
   refused_own why going own = refused_by why (own_first t c 0 0 why going own)
 
   -- for want of memory
-  pub refused_wanting : Took disk s c silent (Err refusal.NoMemory) 0 s
+  pub refused_wanting : Took disk s (quietly c (Err refusal.NoMemory)) s
   refused_wanting = wants disk s c silent is fewer refl 0 (λ held. (0, quiet.needs t))
 
   -- carried out, with nothing changed
-  pub stays_answered : (r : Reply) → (IsHeld disk s → CarriesOut t c silent r t) → Took disk s c silent (Ok r) 0 s
+  pub stays_answered : (r : Reply) → (IsHeld disk s → CarriesOut t c silent r t) → Took disk s (quietly c (Ok r)) s
   stays_answered r step = record {
     studio = is;
     held = λ held. held;

@@ -14,7 +14,7 @@ use Rattle.editor_core.specs.Adding.{IsNoWant}
 use Rattle.editor_core.specs.Core.{Core}
 use Rattle.editor_core.specs.Reads.{Looks, Sees, Seen}
 use Rattle.editor_core.specs.Studios.{IsHeld}
-use Rattle.editor_core.specs.Took.{Took, silent}
+use Rattle.editor_core.specs.Took.{Took, quietly}
 
 -- a fault of a block is no want of memory
 no_want : (why : BlockFault) → IsNoWant (reason_of why)
@@ -30,35 +30,35 @@ seen call reply out count = record { call = call; reply = reply; out = out; coun
 
 module _ {D : Type 0} (disk : Ghosts D) (s : Core D) (c : Call) where
   -- nothing was asked of the disk
-  pub idle_looks : Fewer disk s.store → (why : Refusal) → IsUndamaged why → Took disk s c silent (Err why) 0 s
+  pub idle_looks : Fewer disk s.store → (why : Refusal) → IsUndamaged why → Took disk s (quietly c (Err why)) s
       → Looks disk s c (Err why) s
   idle_looks fewer why fine took =
       record { took = took; same = refl; kept = kept_none s.store fewer; sound = λ held. fine }
 
   pub idle_sees : {A : Type 0} (reply : List A → Reply) (out : List A) → Fewer disk s.store → (why : Refusal)
-      → IsUndamaged why → IsNoWant why → Took disk s c silent (Err why) 0 s
+      → IsUndamaged why → IsNoWant why → Took disk s (quietly c (Err why)) s
       → Sees disk s (seen c reply out (Err why)) s
   idle_sees reply out fewer why fine enough took =
       record { looks = idle_looks fewer why fine took; count = tt; memory = enough }
 
   module _ (store : D) (kept : Kept disk s.store store) where
-    pub read_looks : (r : Reply) → Took disk s c silent (Ok r) 0 (record s { store = store })
+    pub read_looks : (r : Reply) → Took disk s (quietly c (Ok r)) (record s { store = store })
         → Looks disk s c (Ok r) (record s { store = store })
     read_looks r took = record { took = took; same = refl; kept = kept; sound = λ held. tt }
 
     pub unread_looks : (why : Refusal) → (IsHeld disk s → IsUndamaged why)
-        → Took disk s c silent (Err why) 0 (record s { store = store })
+        → Took disk s (quietly c (Err why)) (record s { store = store })
         → Looks disk s c (Err why) (record s { store = store })
     unread_looks why sound took = record { took = took; same = refl; kept = kept; sound = sound }
 
     pub read_sees : {A : Type 0} (reply : List A → Reply) (out : List A) (n : ℕ) → n ≤ length out
-        → Took disk s c silent (Ok (reply (take n out))) 0 (record s { store = store })
+        → Took disk s (quietly c (Ok (reply (take n out)))) (record s { store = store })
         → Sees disk s (seen c reply out (Ok n)) (record s { store = store })
     read_sees reply out n fits took = record { looks = read_looks (reply (take n out)) took; count = fits; memory = tt }
 
     pub unread_sees : {A : Type 0} (reply : List A → Reply) (out : List A) (why : BlockFault)
         → (IsHeld disk s → why ≡ fault.DiskFault)
-        → Took disk s c silent (Err (reason_of why)) 0 (record s { store = store })
+        → Took disk s (quietly c (Err (reason_of why))) (record s { store = store })
         → Sees disk s (seen c reply out (Err (reason_of why))) (record s { store = store })
     unread_sees reply out why sound took = record {
       looks = unread_looks (reason_of why) (λ held. undamaged why (sound held)) took;

@@ -37,7 +37,7 @@ use Rattle.editor_core.specs.Core.{Core}
 use Rattle.editor_core.specs.Points.{current_tracks, lacks}
 use Rattle.editor_core.specs.Reads.{HasLayout}
 use Rattle.editor_core.specs.Studios.{IsHeld, IsStudio, named_blocks, studio_of}
-use Rattle.editor_core.specs.Took.{Took, silent}
+use Rattle.editor_core.specs.Took.{Took, quietly, silent}
 use Rattle.editor_core.proofs.Currents.{layout_named, track_there, layout_sound, layout_meant}
 use Rattle.editor_core.proofs.Editing.{current_meant, track_is}
 use Rattle.editor_core.proofs.Looking.{looked_ok, looked_failed, looked_own, looked_wanting}
@@ -82,17 +82,18 @@ module _ {D : Type 0} (disk : Ghosts D) (s : Core D) (is : IsStudio disk s) (id 
   show_tests : call_tests (outside t silent) t.state show ≡ (lacks id (track_of id ts)) otherwise (bad_view from to)
   show_tests = λ i. (sym (track_is disk s is id) i) otherwise (bad_view from to)
 
-  pub show_stopped : (faults : ℕ) → s.stopped ≡ Some faults → Took disk s show silent (Err (refusal.Stopped faults)) 0 s
+  pub show_stopped : (faults : ℕ) → s.stopped ≡ Some faults → Took disk s (quietly show (Err (refusal.Stopped faults)))
+      s
   show_stopped faults stopped = refused_stopped disk s show show_quiet is fewer faults refl stopped
 
   pub show_lacks : (why : Refusal) → s.stopped ≡ None → lacks id (track_of id ts) ≡ Some why
-      → Took disk s show silent (Err why) 0 s
+      → Took disk s (quietly show (Err why)) s
   show_lacks why going lack =
       refused_own disk s show show_quiet is fewer why (ap stop_of going)
       (show_tests ∙ (λ i. (lack i) otherwise (bad_view from to)))
 
   module _ (layout : List Clip) (has : HasLayout id ts layout) (going : s.stopped ≡ None) where
-    pub show_beyond : (why : Refusal) → bad_view from to ≡ Some why → Took disk s show silent (Err why) 0 s
+    pub show_beyond : (why : Refusal) → bad_view from to ≡ Some why → Took disk s (quietly show (Err why)) s
     show_beyond why bad =
         refused_own disk s show show_quiet is fewer why (ap stop_of going)
         (show_tests ∙ (λ i. (track_there disk s is id layout has i) otherwise (bad i)))
@@ -101,7 +102,7 @@ module _ {D : Type 0} (disk : Ghosts D) (s : Core D) (is : IsStudio disk s) (id 
       pub show_done : (cells : List Cell) → bad_view from to ≡ None
           → disk.read_fault_count store ≡ disk.read_fault_count s.store
           → (IsHeld disk s → cells ≡ part from to (layout_cells src layout))
-          → Took disk s show silent (Ok (reply.Cells cells)) 0 (record s { store = store })
+          → Took disk s (quietly show (Ok (reply.Cells cells))) (record s { store = store })
       show_done cells good faults seen =
           let room = room_of disk s show is in
           let own : call_tests (outside t silent) t.state show ≡ None =
@@ -114,7 +115,7 @@ module _ {D : Type 0} (disk : Ghosts D) (s : Core D) (is : IsStudio disk s) (id 
 
       pub show_failed : (why : BlockFault) → CountedBy why (disk.read_fault_count s.store) (disk.read_fault_count store)
           → (IsTrue (disk.tells s.store) → IsFaultIn (disk.reads s.store) (layout_blocks layout) why)
-          → Took disk s show silent (Err (reason_of why)) 0 (record s { store = store })
+          → Took disk s (quietly show (Err (reason_of why))) (record s { store = store })
       show_failed why counted damaged =
           looked_failed disk s is store kept show show_quiet going refl why counted
           (λ told. reason_damaged (disk.reads s.store) (named_blocks s) why (fault_among (disk.reads s.store)
@@ -130,7 +131,7 @@ module _ {D : Type 0} (disk : Ghosts D) (s : Core D) (is : IsStudio disk s) (id 
     scan_quiet = record { needs = λ t. (refl, refl); no_commit = refl; no_track = λ t. refl; quiet = λ t. refl }
 
     pub scan_stopped : (faults : ℕ) → s.stopped ≡ Some faults
-        → Took disk s scan silent (Err (refusal.Stopped faults)) 0 s
+        → Took disk s (quietly scan (Err (refusal.Stopped faults))) s
     scan_stopped faults stopped = refused_stopped disk s scan scan_quiet is fewer faults refl stopped
 
     abbrev beyond : ℕ → Option Refusal
@@ -145,7 +146,7 @@ module _ {D : Type 0} (disk : Ghosts D) (s : Core D) (is : IsStudio disk s) (id 
         ((sym (track_is disk s is id) i) otherwise (beyond (length (cells_at id (current t.state))))) otherwise uneven
 
     pub scan_lacks : (why : Refusal) → s.stopped ≡ None → lacks id (track_of id ts) ≡ Some why
-        → Took disk s scan silent (Err why) 0 s
+        → Took disk s (quietly scan (Err why)) s
     scan_lacks why going lack =
         refused_own disk s scan scan_quiet is fewer why (ap stop_of going)
         (scan_tests ∙ (λ i. ((lack i) otherwise (beyond (length (cells_at id (current t.state))))) otherwise uneven))
@@ -161,7 +162,7 @@ module _ {D : Type 0} (disk : Ghosts D) (s : Core D) (is : IsStudio disk s) (id 
       pub scan_done : (found : List (Option Scan)) → column_tests from to columns (end_of 0 layout) ≡ None
           → disk.read_fault_count store ≡ disk.read_fault_count s.store
           → (IsHeld disk s → found ≡ columns_of from to columns (layout_cells src layout))
-          → Took disk s scan silent (Ok (reply.Columns found)) 0 (record s { store = store })
+          → Took disk s (quietly scan (Ok (reply.Columns found))) (record s { store = store })
       scan_done found good faults seen =
           let room = room_of disk s scan is in
           let passed = quiet_passes t scan scan_quiet room (ap stop_of going) (tests_are ∙ good)
@@ -173,7 +174,7 @@ module _ {D : Type 0} (disk : Ghosts D) (s : Core D) (is : IsStudio disk s) (id 
       of_reads : (why : Refusal) → IsOfReads why
           → IsCountedBy why (disk.read_fault_count s.store) (disk.read_fault_count store)
           → (IsTrue (disk.tells s.store) → IsDamagedIn (disk.reads s.store) (named_blocks s) why)
-          → Took disk s scan silent (Err why) 0 (record s { store = store })
+          → Took disk s (quietly scan (Err why)) (record s { store = store })
       of_reads refusal.NoMemory reads counted damaged =
           looked_wanting disk s is store kept scan scan_quiet going counted
       of_reads refusal.DiskFault reads counted damaged =
@@ -187,7 +188,7 @@ module _ {D : Type 0} (disk : Ghosts D) (s : Core D) (is : IsStudio disk s) (id 
           ⊎ ((column_tests from to columns (end_of 0 layout) ≡ None) × IsOfReads why)
           → IsCountedBy why (disk.read_fault_count s.store) (disk.read_fault_count store)
           → (IsTrue (disk.tells s.store) → IsDamagedIn (disk.reads s.store) (layout_blocks layout) why)
-          → Took disk s scan silent (Err why) 0 (record s { store = store })
+          → Took disk s (quietly scan (Err why)) (record s { store = store })
       scan_failed why (inl test) counted damaged =
           let len = end_of 0 layout in
           let faults = by_test (not (nat_lt from to && nat_le to len)) (columns == 0 || nat_lt 4096 columns || nat_lt

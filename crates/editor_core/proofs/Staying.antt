@@ -18,7 +18,7 @@ use Rattle.editor_core.specs.Adding.{record_room}
 use Rattle.editor_core.specs.Core.{Core}
 use Rattle.editor_core.specs.Left.{MayRemove}
 use Rattle.editor_core.specs.Studios.{IsGiven, IsHeld, IsStudio, SameBlocks, studio_of}
-use Rattle.editor_core.specs.Took.{Took, asks}
+use Rattle.editor_core.specs.Took.{Took, asks, with_sound}
 use Rattle.editor_core.proofs.Images.{keeps_now}
 use Rattle.editor_core.proofs.Leaving.{IsPlain, left_plain}
 use Rattle.editor_core.proofs.Others.{others_none}
@@ -54,7 +54,7 @@ module _ {D : Type 0} (disk : Ghosts D) (s : Core D) (call : Call) (sound : Soun
   -- a refusal that asked nothing of the disk
   pub stays : IsPlain why → MayNeed disk s call sound len
       → (IsHeld disk s → Answers (studio_of disk s) call sound (Err why) (studio_of disk s))
-      → Took disk s call sound (Err why) 0 s
+      → Took disk s (with_sound call sound (Err why)) s
   stays plain needs step = record {
     studio = is;
     held = λ held. held;
@@ -75,7 +75,7 @@ module _ {D : Type 0} (disk : Ghosts D) (s : Core D) (call : Call) (sound : Soun
   pub refuses : (blocks : ℕ)
       → (IsHeld disk s → Needs (outside (studio_of disk s) sound) (studio_of disk s) call blocks len)
       → refusal_of (outside (studio_of disk s) sound) (studio_of disk s) call blocks len ≡ Some why
-      → Took disk s call sound (Err why) 0 s
+      → Took disk s (with_sound call sound (Err why)) s
   refuses blocks needs first =
       stays (plain_refusal (outside (studio_of disk s) sound) (studio_of disk s) call blocks len why first)
       (λ held. (blocks, needs held))
@@ -91,7 +91,7 @@ module _ {D : Type 0} (disk : Ghosts D) (s : Core D) (call : Call) (sound : Soun
 -- for want of memory
 pub wants : {D : Type 0} (disk : Ghosts D) (s : Core D) (call : Call) (sound : SoundMove) → IsStudio disk s
     → Fewer disk s.store → sound.after ≡ sound.before → (len : ℕ) → MayNeed disk s call sound len
-    → Took disk s call sound (Err refusal.NoMemory) 0 s
+    → Took disk s (with_sound call sound (Err refusal.NoMemory)) s
 wants disk s call sound is fewer quiet len needs =
     stays disk s call sound refusal.NoMemory is fewer quiet len tt needs
     (λ held. inr (record { same = refl; quiet = quiet }))

@@ -16,7 +16,7 @@ use Rattle.editor_core.specs.Core.{Core}
 use Rattle.editor_core.specs.Edits.{Committed, IsEdit, IsPlanned, TaggedEdit, clip_behind, clip_then, history_behind}
 use Rattle.editor_core.specs.Occurrences.{HasAll, HasIds, Moves}
 use Rattle.editor_core.specs.Studios.{IsStudio, MayPaste, clip_blocks}
-use Rattle.editor_core.specs.Took.{Took}
+use Rattle.editor_core.specs.Took.{Took, with_sound}
 use Rattle.editor_core.proofs.CarriedOut.{commit_of}
 use Rattle.editor_core.proofs.EditLaws.{point_few, point_named, point_there}
 use Rattle.editor_core.proofs.EditSteps.{edit_ok}
@@ -134,8 +134,8 @@ module _ {D : Type 0} (disk : Ghosts D) (s : Core D) (is : IsStudio disk s) (goi
       })
 
       pub took_so : ((store : D) → Fewer disk store) → (c : Call) (sound : SoundMove) → IsEdit disk s c sound e
-          → Took disk s c sound (Ok Done) 0 last
-      took_so fewer c sound edit = subst (λ (z : Core D). Took disk s c sound (Ok Done) 0 z) (sym all)
+          → Took disk s (with_sound c sound (Ok Done)) last
+      took_so fewer c sound edit = subst (λ (z : Core D). Took disk s (with_sound c sound (Ok Done)) z) (sym all)
           (edit_ok disk s is going e plan c sound edit fewer (tt {0}) new k history_now last.counts
           (new.next_track + e.plan.tracks) moved tracked
           (taken_counted disk s is going e plan k.mid k.making now.counts moves last.counts takes)

@@ -19,7 +19,7 @@ use Rattle.project_state.specs.Kept.{meant, meant_track}
 use Rattle.editor_core.specs.Core.{Core}
 use Rattle.editor_core.specs.Points.{current_tracks}
 use Rattle.editor_core.specs.Studios.{IsStudio, studio_of}
-use Rattle.editor_core.specs.Took.{Took, silent}
+use Rattle.editor_core.specs.Took.{Took, quietly}
 use Rattle.editor_core.proofs.Editing.{current_meant}
 use Rattle.editor_core.proofs.Quiet.{IsQuiet, quiet_passes, carried, room_of, refused_stopped, refused_wanting}
 use Rattle.editor_core.proofs.Quiet.{stays_answered}
@@ -41,15 +41,16 @@ module _ {D : Type 0} (disk : Ghosts D) (s : Core D) (is : IsStudio disk s) (few
   tell_quiet : IsQuiet tell
   tell_quiet = record { needs = λ t. (refl, refl); no_commit = refl; no_track = λ t. refl; quiet = λ t. refl }
 
-  pub tell_stopped : (faults : ℕ) → s.stopped ≡ Some faults → Took disk s tell silent (Err (refusal.Stopped faults)) 0 s
+  pub tell_stopped : (faults : ℕ) → s.stopped ≡ Some faults → Took disk s (quietly tell (Err (refusal.Stopped faults)))
+      s
   tell_stopped faults stopped = refused_stopped disk s tell tell_quiet is fewer faults refl stopped
 
-  pub tell_wanting : Took disk s tell silent (Err refusal.NoMemory) 0 s
+  pub tell_wanting : Took disk s (quietly tell (Err refusal.NoMemory)) s
   tell_wanting = refused_wanting disk s tell tell_quiet is fewer
 
   pub told_of : (lines : List TrackLine)
       → s.stopped ≡ None → ((src : Sources) → lines ≡ map line_of_track (meant src (current_tracks s.history)))
-      → Took disk s tell silent (Ok (reply.Tracks lines)) 0 s
+      → Took disk s (quietly tell (Ok (reply.Tracks lines))) s
   told_of lines going all =
       let src = sources_of (disk.reads s.store) in
       let room = room_of disk s tell is in

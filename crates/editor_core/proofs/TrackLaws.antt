@@ -33,7 +33,7 @@ use Rattle.editor_core.specs.Core.{Core}
 use Rattle.editor_core.specs.Edits.{IsEdit, alone, IsEditCall, clip_then, tagged}
 use Rattle.editor_core.specs.Points.{current_tracks, lacks}
 use Rattle.editor_core.specs.Studios.{IsStudio, studio_by, studio_of, clip_cells}
-use Rattle.editor_core.specs.Took.{Took}
+use Rattle.editor_core.specs.Took.{Took, with_sound}
 use Rattle.editor_core.specs.TrackEdits.{IsTrackCall, IsTrackPlan, NoTrackPlan, TrackEdit, track_refusal}
 use Rattle.editor_core.proofs.Currents.{cells_meant}
 use Rattle.editor_core.proofs.Editing.{current_sound}
@@ -92,7 +92,8 @@ module _ {D : Type 0} (disk : Ghosts D) (s : Core D) (is : IsStudio disk s) (c :
   -- ---- a stopped studio, a test of the edit, or memory
 
   early_refused : (why : Refusal) → Fewer disk s.store
-      → ((stop_of s.stopped) otherwise (track_refusal id e.test found)) ≡ Some why → Took disk s c sound (Err why) 0 s
+      → ((stop_of s.stopped) otherwise (track_refusal id e.test found)) ≡ Some why
+      → Took disk s (with_sound c sound (Err why)) s
   early_refused why fewer h =
       let own = own_is (samples_on (disk.reads s.store)) in
       let first : ((stop_of s.stopped) otherwise (call_tests (outside t sound) t.state c)) ≡ Some why =
@@ -102,16 +103,16 @@ module _ {D : Type 0} (disk : Ghosts D) (s : Core D) (is : IsStudio disk s) (c :
       (early t c sound 0 line.call.commit 0 0 why first)
 
   pub track_stopped : (faults : ℕ) → Fewer disk s.store → s.stopped ≡ Some faults
-      → Took disk s c sound (Err (refusal.Stopped faults)) 0 s
+      → Took disk s (with_sound c sound (Err (refusal.Stopped faults))) s
   track_stopped faults fewer at =
       early_refused (refusal.Stopped faults) fewer (λ i. (stop_of (at i)) otherwise (track_refusal id e.test found))
 
   pub track_refused : (why : Refusal) → Fewer disk s.store → s.stopped ≡ None → NoTrackPlan e id old why
-      → Took disk s c sound (Err why) 0 s
+      → Took disk s (with_sound c sound (Err why)) s
   track_refused why fewer going not = ⊎_elim
       (λ own. early_refused why fewer ((λ i. (stop_of (going i)) otherwise (track_refusal id e.test found)) ∙ own))
       (λ memory.
-      subst (λ (r : Refusal). Took disk s c sound (Err r) 0 s) (sym memory)
+      subst (λ (r : Refusal). Took disk s (with_sound c sound (Err r)) s) (sym memory)
       (wants disk s c sound is fewer line.call.commit.quiet 0
       (λ held. (0, line.call.needs t.rate t 0 0 (omega arith, omega arith)))))
       not

@@ -28,7 +28,7 @@ use Rattle.editor_core.specs.Occurrences.{HasAll, Dropped, times_named}
 use Rattle.editor_core.specs.Pins.{TakesPin, LacksPin, MayFind}
 use Rattle.editor_core.specs.Studios.{PinsRise, IsHeld, IsStudio, pin_at, pin_blocks, clip_blocks, named_blocks}
 use Rattle.editor_core.specs.Studios.{studio_of}
-use Rattle.editor_core.specs.Took.{Took, silent}
+use Rattle.editor_core.specs.Took.{Took, quietly, silent}
 use Rattle.editor_core.proofs.Contained.{among_itself}
 use Rattle.editor_core.proofs.Currents.{may_read}
 use Rattle.editor_core.proofs.Lists.{all_left, all_right}
@@ -176,7 +176,7 @@ module _ {D : Type 0} (disk : Ghosts D) (s : Core D) (is : IsStudio disk s) (num
           back pin n rise ∙ (λ i. without_pin (takes.is i) (pin_at src (sym takes.before i)) n) in
           λ i. record t { state = record t.state { pins = λ n. mean n i } }
 
-      pub unpinned : Fewer disk s.store → Took disk s (Unpin number) silent (Ok Done) 0 new
+      pub unpinned : Fewer disk s.store → Took disk s (quietly (Unpin number) (Ok Done)) new
       unpinned fewer =
           let pin_room = fits s.next_pin 0 (omega (arith, is.counters.pin_most)) in
           let passed = quiet_passes t (Unpin number) unpin_quiet (room_of disk s (Unpin number) is) refl
@@ -187,6 +187,6 @@ module _ {D : Type 0} (disk : Ghosts D) (s : Core D) (is : IsStudio disk s) (num
           (studio_of disk new) passed refl unpin_state)
 
   pub unpin_lacks : Fewer disk s.store → LacksPin number s.pins
-      → Took disk s (Unpin number) silent (Err (refusal.NoPin number)) 0 s
+      → Took disk s (quietly (Unpin number) (Err (refusal.NoPin number))) s
   unpin_lacks fewer lacks =
       refused_own disk s (Unpin number) unpin_quiet is fewer (refusal.NoPin number) refl (lacks_own lacks)

@@ -17,7 +17,7 @@ use Rattle.project_state.specs.Spelling.{spelling}
 use Rattle.editor_core.specs.Core.{Core}
 use Rattle.editor_core.specs.Edits.{IsEdit, IsPlanned, NotPrepared, TaggedEdit}
 use Rattle.editor_core.specs.Studios.{IsStudio, studio_of}
-use Rattle.editor_core.specs.Took.{Took}
+use Rattle.editor_core.specs.Took.{Took, with_sound}
 use Rattle.editor_core.proofs.EditLaws.{edit_needs, edit_own}
 use Rattle.editor_core.proofs.Spaces.{counter_spent, exceeded}
 use Rattle.editor_core.proofs.Staying.{refuses, wants}
@@ -58,17 +58,17 @@ module _ {D : Type 0} (disk : Ghosts D) (s : Core D) (is : IsStudio disk s) (goi
   need = edit_needs disk s is going e plan c sound edit
 
   pub not_prepared : (why : Refusal) (new : Core D) → new ≡ s → NotPrepared s n tracks (length body) why
-      → Took disk s c sound (Err why) 0 new
+      → Took disk s (with_sound c sound (Err why)) new
   not_prepared why new same not =
       let commit = edit.call.commit in
       let own = edit_own disk s is going e plan c sound edit in
       let test =
       refuses disk s c sound why is (fewer s.store) commit.quiet (length body) n (λ held. need n (omega arith)) in
-      let memory : Took disk s c sound (Err refusal.NoMemory) 0 s =
+      let memory : Took disk s (with_sound c sound (Err refusal.NoMemory)) s =
       wants disk s c sound is (fewer s.store) commit.quiet (length body) (λ held. (0, need 0 (omega arith))) in
-      subst (λ (z : Core D). Took disk s c sound (Err why) 0 z) (sym same)
+      subst (λ (z : Core D). Took disk s (with_sound c sound (Err why)) z) (sym same)
       (⊎_elim
-      (λ want. subst (λ (e : Refusal). Took disk s c sound (Err e) 0 s) (sym want) memory)
+      (λ want. subst (λ (e : Refusal). Took disk s (with_sound c sound (Err e)) s) (sym want) memory)
       (⊎_elim
       (λ spent. test (counter_spent t c sound tracks commit n (length body) is.counters.pin_most going own why spent))
       (λ over. test (exceeded t c sound tracks commit n (length body) is.counters.pin_most going own over.0 over.1

@@ -14,7 +14,7 @@ use Rattle.editor_core.specs.Core.{Core}
 use Rattle.editor_core.specs.Exports.{moved_from}
 use Rattle.editor_core.specs.Left.{Left, LeavesOthers, MayRemove, Stops}
 use Rattle.editor_core.specs.Studios.{IsStudio}
-use Rattle.editor_core.specs.Took.{Took, asks, number_behind, silent}
+use Rattle.editor_core.specs.Took.{Exchange, Took, asks, exchange_of, number_behind, silent}
 
 -- what becomes of the sound that a call names, where a vault has these sounds before it and after it
 abbrev pub move_of : Option (List ℕ) → Sounds → Sounds → SoundMove
@@ -52,12 +52,16 @@ pub record Span (D : Type 0) : Type 0 where
 abbrev pub sound_moved : {D : Type 0} → Span D → Option (List ℕ) → SoundMove
 sound_moved span name = move_of name span.old_sounds span.new_sounds
 
+-- a call in its span, and what comes of it
+abbrev pub exchange_over : {D : Type 0} → Span D → Call → Result Reply Refusal → ℕ → Exchange
+exchange_over span call told removed = exchange_of call (sound_moved span (name_in call)) told removed
+
 -- One call, over a vault: where the vault tells its bytes it is a step, of which the vault's move is a part.
 pub record TookOver {D : Type 0} (disk : Ghosts D) (span : Span D) (call : Call) (told : Result Reply Refusal)
     : Type 0 where
   -- how many files of blocks went
   pub removed : ℕ
-  pub took : IsTold call span.tells → Took disk span.old call (sound_moved span (name_in call)) told removed span.new
+  pub took : IsTold call span.tells → Took disk span.old (exchange_over span call told removed) span.new
   pub heard : IsTold call span.tells
       → Heard (name_in call) (sound_moved span (name_in call)) span.old_sounds span.new_sounds
   pub lasts : Lasts disk span.old call told removed span.new

@@ -17,7 +17,7 @@ use Rattle.editor_core.specs.Adding.{HasFailed, stopped_by}
 use Rattle.editor_core.specs.Core.{Core}
 use Rattle.editor_core.specs.Occurrences.{times_named}
 use Rattle.editor_core.specs.Studios.{IsHeld, named_blocks}
-use Rattle.editor_core.specs.Took.{Took, silent, told_by}
+use Rattle.editor_core.specs.Took.{Took, freeing, told_by}
 
 -- ---- one file
 
@@ -85,7 +85,7 @@ HasOnlyNamed disk s =
 pub record Reclaims {D : Type 0} (disk : Ghosts D) (old : Core D) (limit : Option ℕ) (result : Result ℕ Refusal)
     (new : Core D) : Type 0 where
   pub ids : List ℕ
-  pub took : Took disk old (Line (Reclaim limit)) silent (told_by Freed result) (length ids) new
+  pub took : Took disk old (freeing (Line (Reclaim limit)) (told_by Freed result) (length ids)) new
   pub count : IfOk result (λ k. k ≡ length ids)
   pub within : IfSome limit (λ m. length ids ≤ m)
   pub all : IsHeld disk old → IfOk result (λ k. (limit ≡ Some k) ⊎ ((id : ℕ) → IsUnnamed disk new id → ⊥))

@@ -12,13 +12,13 @@ use Rattle.project_state.specs.Tracks.{track_of}
 use Rattle.editor_core.specs.Adding.{IsNoWant}
 use Rattle.editor_core.specs.Core.{Core}
 use Rattle.editor_core.specs.Studios.{IsHeld}
-use Rattle.editor_core.specs.Took.{Took, silent, told_by}
+use Rattle.editor_core.specs.Took.{Took, quietly, told_by}
 
 -- A call that only looks: it is one step; whatever the disk tells, nothing of the studio changes, and nothing of its
 -- disk; and a disk that holds what the studio stands for shows no damaged file.
 pub record Looks {D : Type 0} (disk : Ghosts D) (old : Core D) (call : Call) (told : Result Reply Refusal)
     (new : Core D) : Type 0 where
-  pub took : Took disk old call silent told 0 new
+  pub took : Took disk old (quietly call told) new
   pub same : new ≡ record old { store = new.store }
   pub kept : Kept disk old.store new.store
   pub sound : IsHeld disk old → IfErr told IsUndamaged

@@ -27,6 +27,28 @@ abbrev pub told_by : {A : Type 0} → (A → Reply) → Result A Refusal → Res
 told_by f (Ok x) = Ok (f x)
 told_by f (Err why) = Err why
 
+-- A call, and what comes of it: what becomes of the sound that it names, what is told, and how many files are removed.
+pub record Exchange : Type 0 where
+  pub call : Call
+  pub sound : SoundMove
+  pub told : Result Reply Refusal
+  pub removed : ℕ
+
+abbrev pub exchange_of : Call → SoundMove → Result Reply Refusal → ℕ → Exchange
+exchange_of call sound told removed = record { call = call; sound = sound; told = told; removed = removed }
+
+-- that of a call without a sound, with no file removed
+abbrev pub quietly : Call → Result Reply Refusal → Exchange
+quietly call told = exchange_of call silent told 0
+
+-- of a call that may name a sound, which moves so
+abbrev pub with_sound : Call → SoundMove → Result Reply Refusal → Exchange
+with_sound call sound told = exchange_of call sound told 0
+
+-- and of one without a sound that may remove files
+abbrev pub freeing : Call → Result Reply Refusal → ℕ → Exchange
+freeing call told removed = exchange_of call silent told removed
+
 -- the files keep the studio that the call leads to where nothing refuses it, which is so
 pub record InFlight (t : model.Studio) (call : Call) (sound : SoundMove) (files : Files) : Type 0 where
   pub reply : Reply
@@ -51,33 +73,33 @@ asks m blocks len removed = record {
   calls = 16 + 2 * blocks + 2 * removed;
 }
 
--- One call: a step of the model, the images at each moment, and what is asked of the disk. `removed` files went.
-pub record Took {D : Type 0} (disk : Ghosts D) (old : Core D) (call : Call) (sound : SoundMove)
-    (told : Result Reply Refusal) (removed : ℕ) (new : Core D) : Type 0 where
+-- One call: a step of the model, the images at each moment, and what is asked of the disk.
+pub record Took {D : Type 0} (disk : Ghosts D) (old : Core D) (exchange : Exchange) (new : Core D) : Type 0 where
   -- it is a studio still, and the disk that held it holds it still
   pub studio : IsStudio disk new
   pub held : IsHeld disk old → IsHeld disk new
-  pub step : IsHeld disk old → Answers (studio_of disk old) call sound told (studio_of disk new)
+  pub step : IsHeld disk old
+      → Answers (studio_of disk old) exchange.call exchange.sound exchange.told (studio_of disk new)
   -- at any moment each image has the project of before, or of the call carried out
   pub any_moment : old.stopped ≡ None → IsHeld disk old
-      → EachSince disk old.store new.store (KeepsOneOf (studio_of disk old) call sound)
+      → EachSince disk old.store new.store (KeepsOneOf (studio_of disk old) exchange.call exchange.sound)
   -- after a refusal without a failed change that of before
   pub refused : old.stopped ≡ None → IsHeld disk old → new.stopped ≡ None
-      → OnErr told (EachSince disk old.store new.store (λ c. Keeps c (shown (studio_of disk old))))
+      → OnErr exchange.told (EachSince disk old.store new.store (λ c. Keeps c (shown (studio_of disk old))))
   -- and as long as the studio goes on, each image from now on that of after
   pub now : new.stopped ≡ None → IsHeld disk old
       → EachNow disk new.store (λ c. Keeps c (shown (studio_of disk new)))
   -- the commit number, whatever the disk tells
-  pub number : new.commit_number ≡ number_behind told call old.commit_number
+  pub number : new.commit_number ≡ number_behind exchange.told exchange.call old.commit_number
   -- a studio that had stopped does nothing but give a pin back
   pub rests : IsSome old.stopped → new ≡ record old { pins = new.pins; counts = new.counts }
   -- the length of a record that the call may need, and what of the disk was asked at most
   pub len : ℕ
-  pub needs : IsHeld disk old
-      → (blocks : ℕ) × Needs (outside (studio_of disk old) sound) (studio_of disk old) call blocks len
+  pub needs : IsHeld disk old → (blocks : ℕ)
+      × Needs (outside (studio_of disk old) exchange.sound) (studio_of disk old) exchange.call blocks len
   -- no file goes or comes but the journal and those of blocks, here and in each image
-  pub changed : Changed disk (LeavesOthers old.next_block new.next_block (MayRemove call old.counts))
-      (asks old.block_size (new.next_block - old.next_block) len removed) old.store new.store
+  pub changed : Changed disk (LeavesOthers old.next_block new.next_block (MayRemove exchange.call old.counts))
+      (asks old.block_size (new.next_block - old.next_block) len exchange.removed) old.store new.store
   -- and what is left of the studio, whatever the disk tells
-  pub stops : Stops disk old told new
-  pub left : IfErr told (Left disk old (MayRemove call old.counts) new)
+  pub stops : Stops disk old exchange.told new
+  pub left : IfErr exchange.told (Left disk old (MayRemove exchange.call old.counts) new)

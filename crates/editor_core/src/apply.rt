@@ -10,7 +10,7 @@ ghost use Rattle.editor_core.specs.Core.{core_of};
 ghost use Rattle.editor_core.specs.Imports.{VaultCounted};
 ghost use Rattle.editor_core.specs.Lines.{ChangesCells, UsesClipboard};
 ghost use Rattle.editor_core.specs.Studios.{IsStudio};
-ghost use Rattle.editor_core.specs.Took.{Took, silent, told_by};
+ghost use Rattle.editor_core.specs.Took.{Took, freeing, quietly, told_by};
 
 use super::studio::Studio;
 use disk_model::Store;
@@ -137,7 +137,7 @@ impl<S: Store> Studio<S> {
         requires studio { IsStudio S.Store (core_of self.old) }
         requires in_form { IsInForm command.now }
         requires silent { name_in_line command.now ≡ None }
-        ensures { (removed : ℕ) × Took S.Store (core_of self.old) (Line command.now) silent result removed
+        ensures { (removed : ℕ) × Took S.Store (core_of self.old) (freeing (Line command.now) result removed)
             (core_of self.new) }
     {
         match command {
@@ -180,7 +180,7 @@ impl<S: Store> Studio<S> {
         requires studio { IsStudio S.Store (core_of self.old) }
         requires in_form { IsInForm command.now }
         requires kind { ChangesCells command.now }
-        ensures { Took S.Store (core_of self.old) (Line command.now) silent result 0 (core_of self.new) }
+        ensures { Took S.Store (core_of self.old) (quietly (Line command.now) result) (core_of self.new) }
     {
         match command {
             Command::Put { track, at, samples } => {
@@ -214,7 +214,7 @@ impl<S: Store> Studio<S> {
         requires studio { IsStudio S.Store (core_of self.old) }
         requires in_form { IsInForm command.now }
         requires kind { UsesClipboard command.now }
-        ensures { Took S.Store (core_of self.old) (Line command.now) silent result 0 (core_of self.new) }
+        ensures { Took S.Store (core_of self.old) (quietly (Line command.now) result) (core_of self.new) }
     {
         match command {
             Command::Cut {

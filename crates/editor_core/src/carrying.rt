@@ -19,7 +19,7 @@ ghost use Rattle.editor_core.specs.Imports.{IsNoVault};
 ghost use Rattle.editor_core.specs.Made.{PiecesReadable};
 ghost use Rattle.editor_core.specs.Occurrences.{HasAll, HasIds, Moves};
 ghost use Rattle.editor_core.specs.Studios.{IsHeld, IsStudio, MayPaste, clip_blocks};
-ghost use Rattle.editor_core.specs.Took.{Took, told_by};
+ghost use Rattle.editor_core.specs.Took.{Took, told_by, with_sound};
 
 use super::commits::MOST;
 use super::studio::Studio;
@@ -169,7 +169,8 @@ impl<S: Store> Studio<S> {
         requires few { edit.tracks ≤ 64 }
         ensures took { (c : Call) → (sound : SoundMove)
             → IsEdit S.Store (core_of self.old) c sound (tagged edit tag given.now)
-            → Took S.Store (core_of self.old) c sound (told_by (λ _. reply.Done) result) 0 (core_of self.new) }
+            → Took S.Store (core_of self.old) (with_sound c sound (told_by (λ _. reply.Done) result))
+            (core_of self.new) }
         // Whatever the call means, and whatever is told.
         ensures lasts { (c : Call) → commits_of c ≡ 1 → Lasts S.Store (core_of self.old) c
             (told_by (λ _. reply.Done) result) 0 (core_of self.new) }

@@ -8,7 +8,7 @@ ghost use Rattle.envelope_view.specs.Answers.{IsUndamaged};
 ghost use Rattle.editor_core.specs.Copies.{layouts_at, run_of, Copies, AnswersCopy};
 ghost use Rattle.editor_core.specs.Core.{core_of};
 ghost use Rattle.editor_core.specs.Studios.{IsStudio};
-ghost use Rattle.editor_core.specs.Took.{Took, silent, told_by};
+ghost use Rattle.editor_core.specs.Took.{Took, quietly, told_by};
 
 use super::current::{current_of, layout_of};
 use super::studio::Studio;
@@ -75,8 +75,8 @@ impl<S: Store> Studio<S> {
         to: u64,
     ) -> Result<(), Refusal>
         requires { IsStudio S.Store (core_of self.old) }
-        ensures took { Took S.Store (core_of self.old) (Line (command.Copy track count from to)) silent
-            (told_by (λ _. Copied) result) 0 (core_of self.new) }
+        ensures took { Took S.Store (core_of self.old)
+            (quietly (Line (command.Copy track count from to)) (told_by (λ _. Copied) result)) (core_of self.new) }
         ensures copied { AnswersCopy (core_of self.old)
             (record { track = track; count = count; from = from; to = to }) result (core_of self.new) }
         ensures undamaged { IfErr result IsUndamaged }

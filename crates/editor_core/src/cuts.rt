@@ -11,7 +11,7 @@ ghost use Rattle.envelope_view.specs.Answers.{IsUndamaged};
 ghost use Rattle.editor_core.specs.Core.{core_of};
 ghost use Rattle.editor_core.specs.Cuts.{IsCutPlan, NoCutPlan, cut_cells, cut_line};
 ghost use Rattle.editor_core.specs.Studios.{IsHeld, IsStudio};
-ghost use Rattle.editor_core.specs.Took.{Took, silent, told_by};
+ghost use Rattle.editor_core.specs.Took.{Took, quietly, told_by};
 
 use super::carrying::Planned;
 use super::copies::{RunRange, run_from};
@@ -86,8 +86,8 @@ impl<S: Store> Studio<S> {
         to: u64,
     ) -> Result<u64, Refusal>
         requires { IsStudio S.Store (core_of self.old) }
-        ensures took { Took S.Store (core_of self.old) (Line (command.Cut track count from to)) silent
-            (told_by (λ _. reply.Done) result) 0 (core_of self.new) }
+        ensures took { Took S.Store (core_of self.old)
+            (quietly (Line (command.Cut track count from to)) (told_by (λ _. reply.Done) result)) (core_of self.new) }
         ensures number { IfOk result (λ n. n ≡ self.new.commit_number) }
         ensures sound { IsHeld S.Store (core_of self.old) → IfErr result IsUndamaged }
     {
@@ -115,8 +115,9 @@ impl<S: Store> Studio<S> {
         to: u64,
     ) -> Result<u64, Refusal>
         requires { IsStudio S.Store (core_of self.old) }
-        ensures took { Took S.Store (core_of self.old) (Line (command.SplitCut track count from to)) silent
-            (told_by (λ _. reply.Done) result) 0 (core_of self.new) }
+        ensures took { Took S.Store (core_of self.old)
+            (quietly (Line (command.SplitCut track count from to)) (told_by (λ _. reply.Done) result))
+            (core_of self.new) }
         ensures number { IfOk result (λ n. n ≡ self.new.commit_number) }
         ensures sound { IsHeld S.Store (core_of self.old) → IfErr result IsUndamaged }
     {
@@ -132,8 +133,8 @@ impl<S: Store> Studio<S> {
     // Takes a range of a run out.
     fn cut_range(&mut self, alloc: Global, range: RunRange, edit: CutEdit) -> Result<u64, Refusal>
         requires { IsStudio S.Store (core_of self.old) }
-        ensures took { Took S.Store (core_of self.old) (Line (cut_line edit range)) silent
-            (told_by (λ _. reply.Done) result) 0 (core_of self.new) }
+        ensures took { Took S.Store (core_of self.old)
+            (quietly (Line (cut_line edit range)) (told_by (λ _. reply.Done) result)) (core_of self.new) }
         ensures number { IfOk result (λ n. n ≡ self.new.commit_number) }
         ensures sound { IsHeld S.Store (core_of self.old) → IfErr result IsUndamaged }
     {

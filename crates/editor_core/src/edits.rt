@@ -11,7 +11,7 @@ ghost use Rattle.editor_core.specs.Core.{core_of};
 ghost use Rattle.editor_core.specs.Plain.{line_of, IsGood, refusal_by, set_by, IsSet, IsEdited};
 ghost use Rattle.editor_core.specs.Points.{current_tracks, lacks};
 ghost use Rattle.editor_core.specs.Studios.{IsStudio};
-ghost use Rattle.editor_core.specs.Took.{Took, silent, told_by};
+ghost use Rattle.editor_core.specs.Took.{Took, quietly, told_by};
 
 use super::plain::{PlainEdit, set_track, tracks_for};
 use super::points::{with_new_track, with_track, without_track};
@@ -46,8 +46,8 @@ impl<S: Store> Studio<S> {
     /// stopped.
     pub fn track(&mut self, alloc: Global) -> Result<u64, Refusal>
         requires { IsStudio S.Store (core_of self.old) }
-        ensures took { Took S.Store (core_of self.old) (Line command.Track) silent
-            (told_by (λ _. reply.Done) result) 0 (core_of self.new) }
+        ensures took { Took S.Store (core_of self.old) (quietly (Line command.Track) (told_by (λ _. reply.Done) result))
+            (core_of self.new) }
         ensures number { IfOk result (λ n. n ≡ self.new.commit_number) }
         ensures undamaged { IfErr result IsUndamaged }
     {
@@ -64,8 +64,8 @@ impl<S: Store> Studio<S> {
     /// stopped.
     pub fn drop(&mut self, alloc: Global, track: u64) -> Result<u64, Refusal>
         requires { IsStudio S.Store (core_of self.old) }
-        ensures took { Took S.Store (core_of self.old) (Line (command.Drop track)) silent
-            (told_by (λ _. reply.Done) result) 0 (core_of self.new) }
+        ensures took { Took S.Store (core_of self.old)
+            (quietly (Line (command.Drop track)) (told_by (λ _. reply.Done) result)) (core_of self.new) }
         ensures number { IfOk result (λ n. n ≡ self.new.commit_number) }
         ensures undamaged { IfErr result IsUndamaged }
     {
@@ -80,8 +80,8 @@ impl<S: Store> Studio<S> {
     pub fn level(&mut self, alloc: Global, track: u64, gain: u32) -> Result<u64, Refusal>
         requires studio { IsStudio S.Store (core_of self.old) }
         requires in_form { gain ≤ 1048576 }
-        ensures took { Took S.Store (core_of self.old) (Line (command.Level track gain)) silent
-            (told_by (λ _. reply.Done) result) 0 (core_of self.new) }
+        ensures took { Took S.Store (core_of self.old)
+            (quietly (Line (command.Level track gain)) (told_by (λ _. reply.Done) result)) (core_of self.new) }
         ensures number { IfOk result (λ n. n ≡ self.new.commit_number) }
         ensures undamaged { IfErr result IsUndamaged }
     {
@@ -95,8 +95,8 @@ impl<S: Store> Studio<S> {
     /// Those of `drop`.
     pub fn side(&mut self, alloc: Global, track: u64, side: Side) -> Result<u64, Refusal>
         requires { IsStudio S.Store (core_of self.old) }
-        ensures took { Took S.Store (core_of self.old) (Line (command.Side track side)) silent
-            (told_by (λ _. reply.Done) result) 0 (core_of self.new) }
+        ensures took { Took S.Store (core_of self.old)
+            (quietly (Line (command.Side track side)) (told_by (λ _. reply.Done) result)) (core_of self.new) }
         ensures number { IfOk result (λ n. n ≡ self.new.commit_number) }
         ensures undamaged { IfErr result IsUndamaged }
     {
@@ -110,8 +110,8 @@ impl<S: Store> Studio<S> {
     /// Those of `drop`.
     pub fn mute(&mut self, alloc: Global, track: u64, mute: bool) -> Result<u64, Refusal>
         requires { IsStudio S.Store (core_of self.old) }
-        ensures took { Took S.Store (core_of self.old) (Line (command.Mute track mute)) silent
-            (told_by (λ _. reply.Done) result) 0 (core_of self.new) }
+        ensures took { Took S.Store (core_of self.old)
+            (quietly (Line (command.Mute track mute)) (told_by (λ _. reply.Done) result)) (core_of self.new) }
         ensures number { IfOk result (λ n. n ≡ self.new.commit_number) }
         ensures undamaged { IfErr result IsUndamaged }
     {
@@ -122,8 +122,8 @@ impl<S: Store> Studio<S> {
     fn edit(&mut self, alloc: Global, edit: PlainEdit) -> Result<u64, Refusal>
         requires studio { IsStudio S.Store (core_of self.old) }
         requires good { IsGood edit }
-        ensures took { Took S.Store (core_of self.old) (Line (line_of edit)) silent
-            (told_by (λ _. reply.Done) result) 0 (core_of self.new) }
+        ensures took { Took S.Store (core_of self.old)
+            (quietly (Line (line_of edit)) (told_by (λ _. reply.Done) result)) (core_of self.new) }
         ensures number { IfOk result (λ n. n ≡ self.new.commit_number) }
         ensures undamaged { IfErr result IsUndamaged }
     {

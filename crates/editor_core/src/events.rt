@@ -9,7 +9,7 @@ ghost use Rattle.editor_core.specs.Applied.{TookOver, reply_of as told_reply};
 ghost use Rattle.editor_core.specs.Core.{core_of};
 ghost use Rattle.editor_core.specs.Events.{AreInForm, IsOther, RanOver};
 ghost use Rattle.editor_core.specs.Studios.{IsStudio};
-ghost use Rattle.editor_core.specs.Took.{Took, silent, told_by};
+ghost use Rattle.editor_core.specs.Took.{Took, quietly, told_by};
 
 use super::apply::done;
 use super::studio::Studio;
@@ -129,7 +129,7 @@ impl<S: Store> Studio<S> {
         requires studio { IsStudio S.Store (core_of self.old) }
         requires in_form { IsCallInForm self.old.commit_number call.now }
         requires other { IsOther call.now }
-        ensures took { Took S.Store (core_of self.old) call.now silent result 0 (core_of self.new) }
+        ensures took { Took S.Store (core_of self.old) (quietly call.now result) (core_of self.new) }
     {
         match call {
             Call::Piece {
@@ -154,7 +154,7 @@ impl<S: Store> Studio<S> {
         count: u64,
     ) -> Result<Reply, Refusal>
         requires { IsStudio S.Store (core_of self.old) }
-        ensures { Took S.Store (core_of self.old) (call.ReadPin pin from count) silent result 0 (core_of self.new) }
+        ensures { Took S.Store (core_of self.old) (quietly (call.ReadPin pin from count) result) (core_of self.new) }
     {
         let most = frames_left(self.pin_len(pin)?, from, count);
         let mut frames = vec![in alloc; Frame { left: 0, right: 0 }; most]?;

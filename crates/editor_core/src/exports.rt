@@ -19,7 +19,7 @@ ghost use Rattle.editor_core.specs.Core.{core_of};
 ghost use Rattle.editor_core.specs.Exports.{Writes, moved_from};
 ghost use Rattle.editor_core.specs.Imports.{VaultCounted};
 ghost use Rattle.editor_core.specs.Studios.{IsHeld, IsStudio};
-ghost use Rattle.editor_core.specs.Took.{Took, told_by};
+ghost use Rattle.editor_core.specs.Took.{Took, told_by, with_sound};
 
 use super::current::current_of;
 use super::studio::Studio;
@@ -94,8 +94,9 @@ impl<S: Store> Studio<S> {
     /// what the studio stands for shows no damaged file.
     pub fn export<V: Vault>(&mut self, vault: &mut V, name: &str) -> Result<u64, Refusal>
         requires { IsStudio S.Store (core_of self.old) }
-        ensures took { IsTrue (V.tells vault.old) → Took S.Store (core_of self.old) (Line (command.Export name.now))
-            (moved_from (V.holds vault.old name.now) (V.holds vault.new name.now)) (told_by reply.Wrote result) 0
+        ensures took { IsTrue (V.tells vault.old) → Took S.Store (core_of self.old)
+            (with_sound (Line (command.Export name.now))
+            (moved_from (V.holds vault.old name.now) (V.holds vault.new name.now)) (told_by reply.Wrote result))
             (core_of self.new) }
         // Whatever the vault tells, nothing of the studio and its disk changes.
         ensures lasts { Lasts S.Store (core_of self.old) (Line (command.Export name.now)) (told_by reply.Wrote result)

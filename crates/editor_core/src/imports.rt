@@ -10,7 +10,7 @@ ghost use Rattle.editor_core.specs.Imports.{HasChannels, IsChannelsPlan, IsNoVau
 ghost use Rattle.editor_core.specs.Imports.{channels_refusal, left_as};
 ghost use Rattle.editor_core.specs.Points.{current_tracks};
 ghost use Rattle.editor_core.specs.Studios.{IsHeld, IsStudio};
-ghost use Rattle.editor_core.specs.Took.{Took, told_by};
+ghost use Rattle.editor_core.specs.Took.{Took, told_by, with_sound};
 
 use super::carrying::Planned;
 use super::growth::{Growing, add_channel, ids_left, planned_of};
@@ -51,8 +51,10 @@ impl<S: Store> Studio<S> {
         name: &str,
     ) -> Result<u64, Refusal>
         requires { IsStudio S.Store (core_of self.old) }
-        ensures took { IsTrue (V.tells vault.old) → Took S.Store (core_of self.old) (Line (command.Import name.now))
-            (left_as (V.holds vault.old name.now)) (told_by (λ _. reply.Done) result) 0 (core_of self.new) }
+        ensures took { IsTrue (V.tells vault.old) → Took S.Store (core_of self.old)
+            (with_sound (Line (command.Import name.now)) (left_as (V.holds vault.old name.now))
+            (told_by (λ _. reply.Done) result))
+            (core_of self.new) }
         // Whatever the vault tells.
         ensures lasts { Lasts S.Store (core_of self.old) (Line (command.Import name.now))
             (told_by (λ _. reply.Done) result)
@@ -75,8 +77,9 @@ impl<S: Store> Studio<S> {
         requires studio { IsStudio S.Store (core_of self.old) }
         requires going { self.old.stopped ≡ None }
         ensures took { (name : List ℕ) → (sound : Option (List ℕ)) → HasChannels sound self.old.rate channels
-            → Took S.Store (core_of self.old) (Line (command.Import name)) (left_as sound)
-            (told_by (λ _. reply.Done) result) 0 (core_of self.new) }
+            → Took S.Store (core_of self.old)
+            (with_sound (Line (command.Import name)) (left_as sound) (told_by (λ _. reply.Done) result))
+            (core_of self.new) }
         ensures lasts { (name : List ℕ) → Lasts S.Store (core_of self.old) (Line (command.Import name))
             (told_by (λ _. reply.Done) result) 0 (core_of self.new) }
         ensures number { IfOk result (λ n. n ≡ self.new.commit_number) }

@@ -14,7 +14,7 @@ ghost use Rattle.editor_core.specs.Core.{core_of};
 ghost use Rattle.editor_core.specs.Inserts.{IsPlace, place_cells, place_edit, place_test};
 ghost use Rattle.editor_core.specs.Points.{current_tracks};
 ghost use Rattle.editor_core.specs.Studios.{IsHeld, IsStudio};
-ghost use Rattle.editor_core.specs.Took.{Took, silent, told_by};
+ghost use Rattle.editor_core.specs.Took.{Took, quietly, told_by, with_sound};
 ghost use Rattle.editor_core.specs.TrackEdits.{IsTrackCall, IsTrackPlan, NoTrackPlan};
 
 use super::carrying::Planned;
@@ -90,8 +90,9 @@ impl<S: Store> Studio<S> {
     ) -> Result<u64, Refusal>
         requires studio { IsStudio S.Store (core_of self.old) }
         requires in_form { at < 2 ^ 63 }
-        ensures took { Took S.Store (core_of self.old) (call.Line (command.Put track at samples.now)) silent
-            (told_by (λ _. reply.Done) result) 0 (core_of self.new) }
+        ensures took { Took S.Store (core_of self.old)
+            (quietly (call.Line (command.Put track at samples.now)) (told_by (λ _. reply.Done) result))
+            (core_of self.new) }
         ensures number { IfOk result (λ n. n ≡ self.new.commit_number) }
         ensures sound { IsHeld S.Store (core_of self.old) → IfErr result IsUndamaged }
     {
@@ -120,8 +121,9 @@ impl<S: Store> Studio<S> {
     ) -> Result<u64, Refusal>
         requires studio { IsStudio S.Store (core_of self.old) }
         requires in_form { at < 2 ^ 63 }
-        ensures took { Took S.Store (core_of self.old) (call.Line (command.Ramp track at count start step)) silent
-            (told_by (λ _. reply.Done) result) 0 (core_of self.new) }
+        ensures took { Took S.Store (core_of self.old)
+            (quietly (call.Line (command.Ramp track at count start step)) (told_by (λ _. reply.Done) result))
+            (core_of self.new) }
         ensures number { IfOk result (λ n. n ≡ self.new.commit_number) }
         ensures sound { IsHeld S.Store (core_of self.old) → IfErr result IsUndamaged }
     {
@@ -145,8 +147,8 @@ impl<S: Store> Studio<S> {
     ) -> Result<u64, Refusal>
         requires studio { IsStudio S.Store (core_of self.old) }
         requires tag { (1 ≤ tag) × (tag ≤ self.old.commit_number) }
-        ensures took { Took S.Store (core_of self.old) (call.Piece track tag samples.now) silent
-            (told_by (λ _. reply.Done) result) 0 (core_of self.new) }
+        ensures took { Took S.Store (core_of self.old)
+            (quietly (call.Piece track tag samples.now) (told_by (λ _. reply.Done) result)) (core_of self.new) }
         ensures number { IfOk result (λ n. n ≡ self.new.commit_number) }
         ensures sound { IsHeld S.Store (core_of self.old) → IfErr result IsUndamaged }
     {
@@ -167,7 +169,8 @@ impl<S: Store> Studio<S> {
         requires tag { tag ≤ self.old.commit_number }
         ensures took { (c : Call) → (sound : SoundMove)
             → IsTrackCall c sound (place_edit place (brought_count given.now)) given.now track tag
-            → Took S.Store (core_of self.old) c sound (told_by (λ _. reply.Done) result) 0 (core_of self.new) }
+            → Took S.Store (core_of self.old) (with_sound c sound (told_by (λ _. reply.Done) result))
+            (core_of self.new) }
         ensures number { IfOk result (λ n. n ≡ self.new.commit_number) }
         ensures sound { IsHeld S.Store (core_of self.old) → IfErr result IsUndamaged }
     {

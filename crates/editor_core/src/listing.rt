@@ -9,7 +9,7 @@ ghost use Rattle.pcm_base.specs.Step.{line_of_track};
 ghost use Rattle.project_state.specs.Kept.{meant, meant_track};
 ghost use Rattle.editor_core.specs.Core.{core_of};
 ghost use Rattle.editor_core.specs.Studios.{IsStudio};
-ghost use Rattle.editor_core.specs.Took.{Took, silent, told_by};
+ghost use Rattle.editor_core.specs.Took.{Took, quietly, told_by};
 
 use super::current::current_of;
 use super::studio::Studio;
@@ -51,8 +51,8 @@ impl<S: Store> Studio<S> {
     /// answer.
     pub fn tracks(&self, alloc: Global) -> Result<TrackLines, Refusal>
         requires { IsStudio S.Store (core_of self.now) }
-        ensures took { Took S.Store (core_of self.now) (Line command.Tracks) silent
-            (told_by reply.Tracks result) 0 (core_of self.now) }
+        ensures took { Took S.Store (core_of self.now) (quietly (Line command.Tracks) (told_by reply.Tracks result))
+            (core_of self.now) }
         ensures why { IfErr result (λ e. (e ≡ refusal.NoMemory) ⊎ (faults : ℕ) × (e ≡ refusal.Stopped faults)) }
     {
         if let Some(faults) = self.stopped {

@@ -10,7 +10,7 @@ ghost use Rattle.envelope_view.specs.Answers.{IsUndamaged};
 ghost use Rattle.editor_core.specs.Core.{core_of};
 ghost use Rattle.editor_core.specs.Pastes.{IsPastePlan, NoPastePlan, paste_cells, paste_length, paste_line};
 ghost use Rattle.editor_core.specs.Studios.{IsHeld, IsStudio};
-ghost use Rattle.editor_core.specs.Took.{Took, silent, told_by};
+ghost use Rattle.editor_core.specs.Took.{Took, quietly, told_by};
 
 use super::carrying::Planned;
 use super::copies::run_from;
@@ -69,8 +69,8 @@ impl<S: Store> Studio<S> {
     pub fn paste(&mut self, alloc: Global, track: u64, at: u64) -> Result<u64, Refusal>
         requires studio { IsStudio S.Store (core_of self.old) }
         requires in_form { at < 2 ^ 63 }
-        ensures took { Took S.Store (core_of self.old) (Line (command.Paste track at)) silent
-            (told_by (λ _. reply.Done) result) 0 (core_of self.new) }
+        ensures took { Took S.Store (core_of self.old)
+            (quietly (Line (command.Paste track at)) (told_by (λ _. reply.Done) result)) (core_of self.new) }
         ensures number { IfOk result (λ n. n ≡ self.new.commit_number) }
         ensures sound { IsHeld S.Store (core_of self.old) → IfErr result IsUndamaged }
     {
@@ -86,8 +86,8 @@ impl<S: Store> Studio<S> {
     pub fn paste_over(&mut self, alloc: Global, track: u64, at: u64) -> Result<u64, Refusal>
         requires studio { IsStudio S.Store (core_of self.old) }
         requires in_form { at < 2 ^ 63 }
-        ensures took { Took S.Store (core_of self.old) (Line (command.PasteOver track at)) silent
-            (told_by (λ _. reply.Done) result) 0 (core_of self.new) }
+        ensures took { Took S.Store (core_of self.old)
+            (quietly (Line (command.PasteOver track at)) (told_by (λ _. reply.Done) result)) (core_of self.new) }
         ensures number { IfOk result (λ n. n ≡ self.new.commit_number) }
         ensures sound { IsHeld S.Store (core_of self.old) → IfErr result IsUndamaged }
     {
@@ -104,8 +104,8 @@ impl<S: Store> Studio<S> {
     ) -> Result<u64, Refusal>
         requires studio { IsStudio S.Store (core_of self.old) }
         requires in_form { at < 2 ^ 63 }
-        ensures took { Took S.Store (core_of self.old) (Line (paste_line edit track at)) silent
-            (told_by (λ _. reply.Done) result) 0 (core_of self.new) }
+        ensures took { Took S.Store (core_of self.old)
+            (quietly (Line (paste_line edit track at)) (told_by (λ _. reply.Done) result)) (core_of self.new) }
         ensures number { IfOk result (λ n. n ≡ self.new.commit_number) }
         ensures sound { IsHeld S.Store (core_of self.old) → IfErr result IsUndamaged }
     {

@@ -8,7 +8,7 @@ ghost use Rattle.editor_core.specs.Adding.{IsNoWant};
 ghost use Rattle.editor_core.specs.Core.{core_of};
 ghost use Rattle.editor_core.specs.Pins.{MayFind};
 ghost use Rattle.editor_core.specs.Studios.{IsStudio};
-ghost use Rattle.editor_core.specs.Took.{Took, silent, told_by};
+ghost use Rattle.editor_core.specs.Took.{Took, quietly, told_by};
 
 use super::studio::{Pin, Studio};
 use disk_model::Store;
@@ -37,7 +37,7 @@ impl<S: Store> Studio<S> {
     /// `Stopped` where a change of the disk failed in an earlier call; else `NoPin` where no pin has the number.
     pub fn pin_len(&self, pin: u64) -> Result<u64, Refusal>
         requires { IsStudio S.Store (core_of self.now) }
-        ensures took { Took S.Store (core_of self.now) (call.PinLen pin) silent (told_by reply.Length result) 0
+        ensures took { Took S.Store (core_of self.now) (quietly (call.PinLen pin) (told_by reply.Length result))
             (core_of self.now) }
         ensures memory { IfErr result IsNoWant }
         ensures undamaged { IfErr result IsUndamaged }

@@ -13,7 +13,7 @@ ghost use Rattle.editor_core.specs.Occurrences.{HasIds, Held, times_named};
 ghost use Rattle.editor_core.specs.Pins.{MayTake, AnswersPin, AnswersUnpin};
 ghost use Rattle.editor_core.specs.Points.{current_tracks};
 ghost use Rattle.editor_core.specs.Studios.{IsStudio};
-ghost use Rattle.editor_core.specs.Took.{Took, silent, told_by};
+ghost use Rattle.editor_core.specs.Took.{Took, quietly, told_by};
 
 use super::commits::MOST;
 use super::counting::{drop_point, hold_point};
@@ -57,7 +57,7 @@ impl<S: Store> Studio<S> {
     /// given; else `NoMemory` where there is none for the copy. Nothing has changed then.
     pub fn pin(&mut self) -> Result<u64, Refusal>
         requires { IsStudio S.Store (core_of self.old) }
-        ensures took { Took S.Store (core_of self.old) call.Pin silent (told_by reply.Pinned result) 0
+        ensures took { Took S.Store (core_of self.old) (quietly call.Pin (told_by reply.Pinned result))
             (core_of self.new) }
         ensures pinned { AnswersPin (core_of self.old) result (core_of self.new) }
         ensures undamaged { IfErr result IsUndamaged }
@@ -101,8 +101,8 @@ impl<S: Store> Studio<S> {
     /// `NoPin` where no pin has the number.
     pub fn unpin(&mut self, pin: u64) -> Result<(), Refusal>
         requires { IsStudio S.Store (core_of self.old) }
-        ensures took { Took S.Store (core_of self.old) (call.Unpin pin) silent
-            (told_by (λ _. reply.Done) result) 0 (core_of self.new) }
+        ensures took { Took S.Store (core_of self.old) (quietly (call.Unpin pin) (told_by (λ _. reply.Done) result))
+            (core_of self.new) }
         ensures unpinned { AnswersUnpin (core_of self.old) pin result (core_of self.new) }
     {
         let Some(gone) = take_pin(&mut self.pins, pin) else {

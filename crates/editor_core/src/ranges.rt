@@ -12,7 +12,7 @@ ghost use Rattle.editor_core.specs.Core.{core_of};
 ghost use Rattle.editor_core.specs.Points.{current_tracks};
 ghost use Rattle.editor_core.specs.Ranges.{range_cells, range_edit, range_line, range_most};
 ghost use Rattle.editor_core.specs.Studios.{IsHeld, IsStudio};
-ghost use Rattle.editor_core.specs.Took.{Took, silent, told_by};
+ghost use Rattle.editor_core.specs.Took.{Took, quietly, told_by};
 ghost use Rattle.editor_core.specs.TrackEdits.{IsTrackPlan, NoTrackPlan};
 
 use super::carrying::Planned;
@@ -81,8 +81,8 @@ impl<S: Store> Studio<S> {
     /// stopped.
     pub fn delete(&mut self, alloc: Global, track: u64, from: u64, to: u64) -> Result<u64, Refusal>
         requires { IsStudio S.Store (core_of self.old) }
-        ensures took { Took S.Store (core_of self.old) (Line (command.Delete track from to)) silent
-            (told_by (λ _. reply.Done) result) 0 (core_of self.new) }
+        ensures took { Took S.Store (core_of self.old)
+            (quietly (Line (command.Delete track from to)) (told_by (λ _. reply.Done) result)) (core_of self.new) }
         ensures number { IfOk result (λ n. n ≡ self.new.commit_number) }
         ensures sound { IsHeld S.Store (core_of self.old) → IfErr result IsUndamaged }
     {
@@ -102,8 +102,8 @@ impl<S: Store> Studio<S> {
         to: u64,
     ) -> Result<u64, Refusal>
         requires { IsStudio S.Store (core_of self.old) }
-        ensures took { Took S.Store (core_of self.old) (Line (command.SplitDelete track from to)) silent
-            (told_by (λ _. reply.Done) result) 0 (core_of self.new) }
+        ensures took { Took S.Store (core_of self.old)
+            (quietly (Line (command.SplitDelete track from to)) (told_by (λ _. reply.Done) result)) (core_of self.new) }
         ensures number { IfOk result (λ n. n ≡ self.new.commit_number) }
         ensures sound { IsHeld S.Store (core_of self.old) → IfErr result IsUndamaged }
     {
@@ -121,8 +121,8 @@ impl<S: Store> Studio<S> {
     /// Those of `delete`.
     pub fn silence(&mut self, alloc: Global, track: u64, from: u64, to: u64) -> Result<u64, Refusal>
         requires { IsStudio S.Store (core_of self.old) }
-        ensures took { Took S.Store (core_of self.old) (Line (command.Silence track from to)) silent
-            (told_by (λ _. reply.Done) result) 0 (core_of self.new) }
+        ensures took { Took S.Store (core_of self.old)
+            (quietly (Line (command.Silence track from to)) (told_by (λ _. reply.Done) result)) (core_of self.new) }
         ensures number { IfOk result (λ n. n ≡ self.new.commit_number) }
         ensures sound { IsHeld S.Store (core_of self.old) → IfErr result IsUndamaged }
     {
@@ -136,8 +136,8 @@ impl<S: Store> Studio<S> {
     /// Those of `delete`.
     pub fn trim(&mut self, alloc: Global, track: u64, from: u64, to: u64) -> Result<u64, Refusal>
         requires { IsStudio S.Store (core_of self.old) }
-        ensures took { Took S.Store (core_of self.old) (Line (command.Trim track from to)) silent
-            (told_by (λ _. reply.Done) result) 0 (core_of self.new) }
+        ensures took { Took S.Store (core_of self.old)
+            (quietly (Line (command.Trim track from to)) (told_by (λ _. reply.Done) result)) (core_of self.new) }
         ensures number { IfOk result (λ n. n ≡ self.new.commit_number) }
         ensures sound { IsHeld S.Store (core_of self.old) → IfErr result IsUndamaged }
     {
@@ -159,8 +159,8 @@ impl<S: Store> Studio<S> {
         gain: u32,
     ) -> Result<u64, Refusal>
         requires { IsStudio S.Store (core_of self.old) }
-        ensures took { Took S.Store (core_of self.old) (Line (command.Gain track from to gain)) silent
-            (told_by (λ _. reply.Done) result) 0 (core_of self.new) }
+        ensures took { Took S.Store (core_of self.old)
+            (quietly (Line (command.Gain track from to gain)) (told_by (λ _. reply.Done) result)) (core_of self.new) }
         ensures number { IfOk result (λ n. n ≡ self.new.commit_number) }
         ensures sound { IsHeld S.Store (core_of self.old) → IfErr result IsUndamaged }
     {
@@ -179,8 +179,9 @@ impl<S: Store> Studio<S> {
         edit: RangeEdit,
     ) -> Result<u64, Refusal>
         requires { IsStudio S.Store (core_of self.old) }
-        ensures took { Took S.Store (core_of self.old) (Line (range_line edit range.track range.from range.to)) silent
-            (told_by (λ _. reply.Done) result) 0 (core_of self.new) }
+        ensures took { Took S.Store (core_of self.old)
+            (quietly (Line (range_line edit range.track range.from range.to)) (told_by (λ _. reply.Done) result))
+            (core_of self.new) }
         ensures number { IfOk result (λ n. n ≡ self.new.commit_number) }
         ensures sound { IsHeld S.Store (core_of self.old) → IfErr result IsUndamaged }
     {

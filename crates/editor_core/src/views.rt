@@ -4,7 +4,7 @@ ghost use Rattle.pcm_base.specs.declared.command.Call.TheVariants.{Line};
 ghost use Rattle.pcm_base.specs.declared.command.Command.TheVariants as command;
 ghost use Rattle.editor_core.specs.Core.{core_of};
 ghost use Rattle.editor_core.specs.Studios.{IsStudio};
-ghost use Rattle.editor_core.specs.Took.{Took, silent};
+ghost use Rattle.editor_core.specs.Took.{Took, quietly};
 
 use super::shows::MAX_VIEW;
 use super::studio::Studio;
@@ -29,7 +29,7 @@ impl<S: Store> Studio<S> {
         to: u64,
     ) -> Result<Reply, Refusal>
         requires { IsStudio S.Store (core_of self.old) }
-        ensures { Took S.Store (core_of self.old) (Line (command.Show track from to)) silent result 0
+        ensures { Took S.Store (core_of self.old) (quietly (Line (command.Show track from to)) result)
             (core_of self.new) }
     {
         let mut cells = vec![in alloc; Cell::Gap; view_len(from, to)]?;
@@ -43,7 +43,7 @@ impl<S: Store> Studio<S> {
     // The frames of a range of the mix.
     pub(crate) fn mix_reply(&mut self, alloc: Global, from: u64, to: u64) -> Result<Reply, Refusal>
         requires { IsStudio S.Store (core_of self.old) }
-        ensures { Took S.Store (core_of self.old) (Line (command.Mix from to)) silent result 0 (core_of self.new) }
+        ensures { Took S.Store (core_of self.old) (quietly (Line (command.Mix from to)) result) (core_of self.new) }
     {
         let mut frames = vec![in alloc; Frame { left: 0, right: 0 }; view_len(from, to)]?;
         let count = self.mix(from, to, frames.as_mut_slice())?;
@@ -63,7 +63,7 @@ impl<S: Store> Studio<S> {
         columns: u64,
     ) -> Result<Reply, Refusal>
         requires { IsStudio S.Store (core_of self.old) }
-        ensures { Took S.Store (core_of self.old) (Line (command.Envelope track from to columns)) silent result 0
+        ensures { Took S.Store (core_of self.old) (quietly (Line (command.Envelope track from to columns)) result)
             (core_of self.new) }
     {
         let columns = self.envelope(alloc, track, from, to, columns)?;
@@ -73,7 +73,7 @@ impl<S: Store> Studio<S> {
     // What is told of the tracks.
     pub(crate) fn tracks_reply(&self, alloc: Global) -> Result<Reply, Refusal>
         requires { IsStudio S.Store (core_of self.now) }
-        ensures { Took S.Store (core_of self.now) (Line command.Tracks) silent result 0 (core_of self.now) }
+        ensures { Took S.Store (core_of self.now) (quietly (Line command.Tracks) result) (core_of self.now) }
     {
         let tracks = self.tracks(alloc)?;
         Ok(Reply::Tracks { tracks })

@@ -1,16 +1,12 @@
 -- The calls of a studio leave an honest disk honest.
 use Rattle.std.proofs.Common.{◌≡◌, ◌≢◌, ◌⊎◌, ◌∙◌, inl, inr, ⊎_elim, sym, ap, subst, refl, ℕ, ◌++◌, ◌^◌, ◌≤◌, ◌<◌, Bool}
-use Rattle.std.proofs.Common.{true, false, Option, Some, None, List, [], ◌∷◌, Result, arith}
+use Rattle.std.proofs.Common.{true, false, Option, Some, None, List, [], ◌∷◌, arith}
 use Rattle.std.specs.Prelude.{Contains, IsSome, IsTrue, if◌then◌else◌, nat_le, nat_lt, ◌&&◌, ◌||◌}
 use Rattle.std.specs.List.{AllByRecursion}
 use Rattle.std.proofs.lemmas.Bool.{leb-true}
 use Rattle.std.proofs.lemmas.List.Elements.{All-contains, All-from_recursion}
 use Rattle.std.specs.Option.{option_and_then}
-use Rattle.pcm_base.specs.declared.answer.Reply.{Reply}
 use Rattle.pcm_base.specs.declared.block.BlockRef.{BlockRef}
-use Rattle.pcm_base.specs.declared.command.Call.{Call}
-use Rattle.pcm_base.specs.declared.entry.SoundMove.{SoundMove}
-use Rattle.pcm_base.specs.declared.refusal.Refusal.{Refusal}
 use Rattle.pcm_base.specs.Studio as model
 use Rattle.disk_model.specs.Disk.{Files}
 use Rattle.disk_model.specs.MomentLaws.{upto_refl}
@@ -29,7 +25,7 @@ use Rattle.editor_core.specs.Core.{Core}
 use Rattle.editor_core.specs.Left.{IsBegun, LeavesOthers, MayRemove}
 use Rattle.editor_core.specs.Studios.{IsDurable, IsHeld, IsStudio, clip_blocks, named_blocks, pin_blocks, shown}
 use Rattle.editor_core.specs.Studios.{studio_of}
-use Rattle.editor_core.specs.Took.{Took}
+use Rattle.editor_core.specs.Took.{Exchange, Took}
 use Rattle.editor_recovery.specs.Files.{NoForeign, is_foreign}
 use Rattle.editor_recovery.specs.Honest.{IsHonest, Names}
 use Rattle.editor_recovery.specs.StayingHonest.{IsHonestImage, StaysHonest}
@@ -91,16 +87,15 @@ module _ {D : Type 0} (disk : Ghosts D) (s : Core D) (durable : IsDurable disk s
       subst (λ (n : ℕ). c n ≡ disk.reads s.store n) names.is (All-contains Same (history_blocks s.history) names.block
       (All-from_recursion Same (history_blocks s.history) all) there)
 
-module _ {D : Type 0} (disk : Ghosts D) (old new : Core D) (call : Call) (sound : SoundMove)
-    (told : Result Reply Refusal) (removed : ℕ)
+module _ {D : Type 0} (disk : Ghosts D) (old new : Core D) (exchange : Exchange)
     (is : IsStudio disk old) (held : IsHeld disk old) (honest : IsHonest disk old.store)
-    (took : Took disk old call sound told removed new) where
+    (took : Took disk old exchange new) where
   -- at any moment of it
   no_foreign_since : (c : Files) → disk.may_leave new.store (disk.clock old.store) c → NoForeign c
   no_foreign_since c since =
       let from = took.changed.images.from c since in
-      no_foreign old.next_block new.next_block (MayRemove call old.counts) from.0 c is.counters.block_least from.2
-      (honest.foreign from.0 from.1)
+      no_foreign old.next_block new.next_block (MayRemove exchange.call old.counts) from.0 c is.counters.block_least
+      from.2 (honest.foreign from.0 from.1)
 
   goes_on : new.stopped ≡ None → IsHonest disk new.store
   goes_on still =

@@ -1,9 +1,5 @@
 -- What the calls of a studio leave of an honest disk.
-use Rattle.std.specs.Prelude.{◌≡◌, ◌⊎◌, ℕ, IsTrue, IsSome, None, Result}
-use Rattle.pcm_base.specs.declared.answer.Reply.{Reply}
-use Rattle.pcm_base.specs.declared.command.Call.{Call}
-use Rattle.pcm_base.specs.declared.entry.SoundMove.{SoundMove}
-use Rattle.pcm_base.specs.declared.refusal.Refusal.{Refusal}
+use Rattle.std.specs.Prelude.{◌≡◌, ◌⊎◌, IsTrue, IsSome, None}
 use Rattle.disk_model.specs.Disk.{Files}
 use Rattle.disk_model.specs.declared.store.Store.{Ghosts}
 use Rattle.project_journal.specs.Gate.{EachNow, EachSince}
@@ -11,7 +7,7 @@ use Rattle.project_journal.specs.Start.{NoProject}
 use Rattle.project_state.specs.Kept.{Opened, Keeps}
 use Rattle.editor_core.specs.Core.{Core}
 use Rattle.editor_core.specs.Studios.{IsHeld, IsStudio}
-use Rattle.editor_core.specs.Took.{Took}
+use Rattle.editor_core.specs.Took.{Exchange, Took}
 use Rattle.editor_recovery.specs.Files.{NoForeign}
 use Rattle.editor_recovery.specs.Honest.{IsHonest}
 
@@ -30,9 +26,8 @@ pub record StaysHonest {D : Type 0} (disk : Ghosts D) (old new : Core D) : Type 
 -- Every call of a studio that the disk holds.
 abbrev pub CallsStayHonest : {D : Type 0} → Ghosts D → Type 0
 CallsStayHonest {D = D} disk =
-    (old new : Core D) (call : Call) (sound : SoundMove) (told : Result Reply Refusal) (removed : ℕ)
-    → IsStudio disk old → IsHeld disk old → IsHonest disk old.store
-    → Took disk old call sound told removed new → StaysHonest disk old new
+    (old new : Core D) (exchange : Exchange) → IsStudio disk old → IsHeld disk old → IsHonest disk old.store
+    → Took disk old exchange new → StaysHonest disk old new
 
 -- A disk that keeps to the model, and may leave one such image and no other, is honest: a start behind a stop finds it
 -- so.

@@ -21,7 +21,7 @@ use Rattle.editor_core.specs.Applied.{EndsAlike}
 use Rattle.editor_core.specs.Core.{Core}
 use Rattle.editor_core.specs.Left.{LeavesOthers, MayRemove}
 use Rattle.editor_core.specs.Studios.{studio_of}
-use Rattle.editor_core.specs.Took.{Took, asks, silent, told_by}
+use Rattle.editor_core.specs.Took.{Took, asks, quietly, silent, told_by}
 use Rattle.memory_project.specs.Lines.{Asked, IsOfScript, MayCome, Went, line_room}
 use Rattle.memory_project.specs.Memory.{HasAsked, HasRoom, no_room}
 use Rattle.memory_project.proofs.FreshLemmas.{absent}
@@ -144,7 +144,7 @@ module _ {D : Type 0} (disk : Ghosts D) (old new : Core D) (c : Command) (may : 
   abbrev u : Studio
   u = studio_of disk new
 
-  module _ {told : Result Reply Refusal} (took : Took disk old (Line c) silent told 0 new) (blocks len : ℕ)
+  module _ {told : Result Reply Refusal} (took : Took disk old (quietly (Line c) told) new) (blocks len : ℕ)
       (needs : Needs (outside t silent) t (Line c) blocks len) (next : new.next_block ≡ old.next_block + blocks) where
     few_blocks : new.next_block - old.next_block ≤ 11
     few_blocks = let few = (may.few.most silent blocks len needs).0 in omega (arith, few, next)
@@ -175,7 +175,7 @@ module _ {D : Type 0} (disk : Ghosts D) (old new : Core D) (c : Command) (may : 
         (none_takes old.block_size (new.next_block - old.next_block) took.len may.size few_blocks short) in
         (left.reads, left.changes)
 
-  pub line_went : (r : Reply) → Took disk old (Line c) silent (Ok r) 0 new → Went disk old c new
+  pub line_went : (r : Reply) → Took disk old (quietly (Line c) (Ok r)) new → Went disk old c new
   line_went r took =
       let step = took.step may.held in
       record {
@@ -187,7 +187,7 @@ module _ {D : Type 0} (disk : Ghosts D) (old new : Core D) (c : Command) (may : 
         asked_more = asked_stays took step.blocks step.len step.needs (ap (λ (z : Studio). z.next_block) step.is);
       }
 
-  pub line_wants : (why : Refusal) → Took disk old (Line c) silent (Err why) 0 new → IsUndamaged why
+  pub line_wants : (why : Refusal) → Took disk old (quietly (Line c) (Err why)) new → IsUndamaged why
       → (why ≡ refusal.NoMemory) × (u ≡ t)
   line_wants why took sound = no_answer t u c (names_none c may.kind) no_fault why sound (may.valid silent)
       (took.step may.held)
@@ -202,7 +202,7 @@ module _ {D : Type 0} (disk : Ghosts D) (old new : Core D) (c : Command) (may : 
   pub asked_went : Asked disk old c (Ok (tt {0})) new → Went disk old c new
   asked_went asked = by asked.told asked.took asked.ends
     where
-      by : (told : Result Reply Refusal) → Took disk old (Line c) silent told 0 new → EndsAlike told (Ok (tt {0}))
+      by : (told : Result Reply Refusal) → Took disk old (quietly (Line c) told) new → EndsAlike told (Ok (tt {0}))
           → Went disk old c new
       by (Ok r) took ends = line_went r took
       by (Err why) took ends = absurd ends
@@ -210,7 +210,7 @@ module _ {D : Type 0} (disk : Ghosts D) (old new : Core D) (c : Command) (may : 
   pub asked_wants : (why : Refusal) → Asked disk old c (Err why) new → (why ≡ refusal.NoMemory) × (u ≡ t)
   asked_wants why asked = by asked.told asked.took asked.ends (asked.sound may.held)
     where
-      by : (told : Result Reply Refusal) → Took disk old (Line c) silent told 0 new
+      by : (told : Result Reply Refusal) → Took disk old (quietly (Line c) told) new
           → EndsAlike {B = Unit {0}} told (Err why) → IfErr told IsUndamaged → (why ≡ refusal.NoMemory) × (u ≡ t)
       by (Ok r) took ends sound = absurd ends
       by (Err other) took ends sound =

@@ -16,7 +16,7 @@ use Rattle.envelope_view.specs.Answers.{IsUndamaged}
 use Rattle.editor_core.specs.Applied.{EndsAlike}
 use Rattle.editor_core.specs.Core.{Core}
 use Rattle.editor_core.specs.Studios.{IsHeld, IsStudio, studio_of}
-use Rattle.editor_core.specs.Took.{Took, asks, silent}
+use Rattle.editor_core.specs.Took.{Took, asks, quietly, silent}
 use Rattle.script_gen.specs.Room.{EachNeedsAtMost, NeedsAtMost}
 use Rattle.script_gen.specs.Validity.{AreValid, IsValid}
 use Rattle.memory_project.specs.Memory.{HasAsked, HasRoom, no_room}
@@ -46,7 +46,7 @@ line_room = asks 512 11 6872 0
 pub record Asked {D : Type 0} (disk : Ghosts D) (old : Core D) (c : Command) (answer : Result (Unit {0}) Refusal)
     (new : Core D) : Type 0 where
   pub told : Result Reply Refusal
-  pub took : Took disk old (Line c) silent told 0 new
+  pub took : Took disk old (quietly (Line c) told) new
   pub ends : EndsAlike told answer
   pub sound : IsHeld disk old → IfErr told IsUndamaged
 

@@ -21,7 +21,7 @@ use Rattle.editor_core.specs.Core.{Core}
 use Rattle.editor_core.specs.Events.{KeepsPrefix, NextInFlight}
 use Rattle.editor_core.specs.Left.{Left, MayRemove}
 use Rattle.editor_core.specs.Studios.{IsHeld, IsStudio, shown, studio_of}
-use Rattle.editor_core.specs.Took.{Took, asks, silent}
+use Rattle.editor_core.specs.Took.{Took, asks, exchange_of, freeing, silent}
 use Rattle.editor_core.proofs.Applying.{lasts_took}
 use Rattle.editor_core.proofs.Others.{foreign_more, foreign_none}
 use Rattle.editor_core.proofs.Rests.{rests_keeps}
@@ -86,7 +86,7 @@ flight_more t es e c h = record {
 -- a call that names no sound
 pub does_silent : {D : Type 0} (disk : Ghosts D) (told : Type 0) (old : Core D) (call : Call)
     (what : Result Reply Refusal) (removed : ℕ) (new : Core D)
-    → Took disk old call silent what removed new → Does disk told old call what silent new
+    → Took disk old (freeing call what removed) new → Does disk told old call what silent new
 does_silent disk told old call what removed new took =
     record { removed = removed; took = λ may. took; lasts = lasts_took disk old call what removed new took }
 
@@ -112,7 +112,7 @@ module _ {D : Type 0} (disk : Ghosts D) (told : Type 0) (start old new : Core D)
   abbrev all : List Entry
   all = entries_of deeds ++ entry_of d ∷ []
 
-  took : told → Took disk old call sound what does.removed new
+  took : told → Took disk old (exchange_of call sound what does.removed) new
   took tell = does.took (λ some. tell)
 
   step : told → IsHeld disk start → Step (studio_of disk old) call sound (entry_of d).reply (studio_of disk new)

@@ -19,7 +19,7 @@ use Rattle.editor_core.specs.Core.{Core}
 use Rattle.editor_core.specs.Events.{KeepsPrefix}
 use Rattle.editor_core.specs.Left.{KeepsForeign}
 use Rattle.editor_core.specs.Studios.{IsHeld, IsStudio, shown, studio_of}
-use Rattle.editor_core.specs.Took.{InFlight, Took}
+use Rattle.editor_core.specs.Took.{InFlight, Took, exchange_of}
 use Rattle.studio_seats.specs.declared.deed.Deed.{Deed}
 use Rattle.studio_seats.specs.Deeds.{entries_of, number_after}
 
@@ -52,7 +52,7 @@ pub record Does {D : Type 0} (disk : Ghosts D) (told : Type 0) (old : Core D) (c
     (sound : SoundMove) (new : Core D) : Type 0 where
   -- how many files of blocks went
   pub removed : ℕ
-  pub took : (IsSome (name_in call) → told) → Took disk old call sound what removed new
+  pub took : (IsSome (name_in call) → told) → Took disk old (exchange_of call sound what removed) new
   pub lasts : Lasts disk old call what removed new
 
 -- From the start on, the studio stands for these deeds. Whatever disk and vaults tell, it is a studio, and its commit

@@ -6,7 +6,7 @@ ghost use Rattle.pcm_base.specs.declared.command.Command.TheVariants.{Undo, Redo
 ghost use Rattle.pin_turn.specs.Calls.{known};
 ghost use Rattle.editor_core.specs.Core.{core_of};
 ghost use Rattle.editor_core.specs.Studios.{IsStudio};
-ghost use Rattle.editor_core.specs.Took.{Took, silent, told_by};
+ghost use Rattle.editor_core.specs.Took.{Took, quietly, silent, told_by};
 ghost use Rattle.studio_seats.specs.Desks.{IsAt, Says, asked, origin, start_at, views};
 
 use super::Desk;
@@ -38,8 +38,8 @@ impl<S: Store, V: Vault> Desk<S, V> {
                 seat,
                 &mut |held: &mut Held<S, V>| -> Said<u64>
                     requires { IsStudio S.Store (core_of held.old.studio) }
-                    ensures took { Took S.Store (core_of held.old.studio) (Line Undo) silent
-                        (told_by (λ _. Done) result.what) 0 (core_of held.new.studio) }
+                    ensures took { Took S.Store (core_of held.old.studio)
+                        (quietly (Line Undo) (told_by (λ _. Done) result.what)) (core_of held.new.studio) }
                     ensures at { result.at ≡ (core_of held.new.studio).commit_number }
                     ensures number { IfOk result.what (λ n. n ≡ result.at) }
                 {
@@ -70,8 +70,8 @@ impl<S: Store, V: Vault> Desk<S, V> {
                 seat,
                 &mut |held: &mut Held<S, V>| -> Said<u64>
                     requires { IsStudio S.Store (core_of held.old.studio) }
-                    ensures took { Took S.Store (core_of held.old.studio) (Line Redo) silent
-                        (told_by (λ _. Done) result.what) 0 (core_of held.new.studio) }
+                    ensures took { Took S.Store (core_of held.old.studio)
+                        (quietly (Line Redo) (told_by (λ _. Done) result.what)) (core_of held.new.studio) }
                     ensures at { result.at ≡ (core_of held.new.studio).commit_number }
                     ensures number { IfOk result.what (λ n. n ≡ result.at) }
                 {
@@ -102,8 +102,8 @@ impl<S: Store, V: Vault> Desk<S, V> {
                 seat,
                 &mut |held: &mut Held<S, V>| -> Said<u64>
                     requires { IsStudio S.Store (core_of held.old.studio) }
-                    ensures took { Took S.Store (core_of held.old.studio) (Line (Purge count)) silent
-                        (told_by (λ _. Done) result.what) 0 (core_of held.new.studio) }
+                    ensures took { Took S.Store (core_of held.old.studio)
+                        (quietly (Line (Purge count)) (told_by (λ _. Done) result.what)) (core_of held.new.studio) }
                     ensures at { result.at ≡ (core_of held.new.studio).commit_number }
                     ensures number { IfOk result.what (λ n. n ≡ result.at) }
                 {

@@ -5,7 +5,7 @@ ghost use Rattle.pcm_base.specs.declared.command.Call.TheVariants.{Piece};
 ghost use Rattle.pin_turn.specs.Calls.{known};
 ghost use Rattle.editor_core.specs.Core.{core_of};
 ghost use Rattle.editor_core.specs.Studios.{IsStudio};
-ghost use Rattle.editor_core.specs.Took.{Took, silent, told_by};
+ghost use Rattle.editor_core.specs.Took.{Took, quietly, silent, told_by};
 ghost use Rattle.studio_seats.specs.Deeds.{number_after};
 ghost use Rattle.studio_seats.specs.Desks.{IsAt, Says, asked, origin, start_at, views};
 
@@ -51,8 +51,9 @@ impl<S: Store, V: Vault> Desk<S, V> {
                 &mut |held: &mut Held<S, V>| -> Said<u64>
                     requires studio { IsStudio S.Store (core_of held.old.studio) }
                     requires tag { (1 ≤ tag) × (tag ≤ held.old.studio.commit_number) }
-                    ensures took { Took S.Store (core_of held.old.studio) (Piece track tag samples.entry.now) silent
-                        (told_by (λ _. Done) result.what) 0 (core_of held.new.studio) }
+                    ensures took { Took S.Store (core_of held.old.studio)
+                        (quietly (Piece track tag samples.entry.now) (told_by (λ _. Done) result.what))
+                        (core_of held.new.studio) }
                     ensures at { result.at ≡ (core_of held.new.studio).commit_number }
                     ensures number { IfOk result.what (λ n. n ≡ result.at) }
                 {

@@ -5,7 +5,7 @@ ghost use Rattle.pcm_base.specs.declared.command.Call.TheVariants as call;
 ghost use Rattle.pin_turn.specs.Calls.{known};
 ghost use Rattle.editor_core.specs.Core.{core_of};
 ghost use Rattle.editor_core.specs.Studios.{IsStudio};
-ghost use Rattle.editor_core.specs.Took.{Took, silent, told_by};
+ghost use Rattle.editor_core.specs.Took.{Took, quietly, silent, told_by};
 ghost use Rattle.studio_seats.specs.Deeds.{entries_of};
 ghost use Rattle.studio_seats.specs.Desks.{IsAt, Says, asked, origin, start_at, views};
 ghost use Rattle.studio_seats.specs.Pins.{is_made};
@@ -39,8 +39,8 @@ impl<S: Store, V: Vault> Desk<S, V> {
                 seat,
                 &mut |held: &mut Held<S, V>| -> Said<u64>
                     requires { IsStudio S.Store (core_of held.old.studio) }
-                    ensures took { Took S.Store (core_of held.old.studio) call.Pin silent
-                        (told_by reply.Pinned result.what) 0 (core_of held.new.studio) }
+                    ensures took { Took S.Store (core_of held.old.studio)
+                        (quietly call.Pin (told_by reply.Pinned result.what)) (core_of held.new.studio) }
                     ensures at { result.at ≡ (core_of held.new.studio).commit_number }
                 {
                     let what = held.studio.pin();
@@ -69,8 +69,8 @@ impl<S: Store, V: Vault> Desk<S, V> {
                 seat,
                 &mut |held: &mut Held<S, V>| -> Said<()>
                     requires { IsStudio S.Store (core_of held.old.studio) }
-                    ensures took { Took S.Store (core_of held.old.studio) (call.Unpin pin) silent
-                        (told_by (λ _. reply.Done) result.what) 0 (core_of held.new.studio) }
+                    ensures took { Took S.Store (core_of held.old.studio)
+                        (quietly (call.Unpin pin) (told_by (λ _. reply.Done) result.what)) (core_of held.new.studio) }
                     ensures at { result.at ≡ (core_of held.new.studio).commit_number }
                 {
                     let what = held.studio.unpin(pin);
@@ -99,8 +99,8 @@ impl<S: Store, V: Vault> Desk<S, V> {
                 seat,
                 &mut |held: &mut Held<S, V>| -> Said<u64>
                     requires { IsStudio S.Store (core_of held.old.studio) }
-                    ensures took { Took S.Store (core_of held.old.studio) (call.PinLen pin) silent
-                        (told_by reply.Length result.what) 0 (core_of held.new.studio) }
+                    ensures took { Took S.Store (core_of held.old.studio)
+                        (quietly (call.PinLen pin) (told_by reply.Length result.what)) (core_of held.new.studio) }
                     ensures at { result.at ≡ (core_of held.new.studio).commit_number }
                 {
                     let what = held.studio.pin_len(pin);
@@ -142,8 +142,9 @@ impl<S: Store, V: Vault> Desk<S, V> {
                 &mut |held: &mut Held<S, V>| -> Said<usize>
                     requires { IsStudio S.Store (core_of held.old.studio) }
                     ensures took { Took S.Store (core_of held.old.studio)
-                        (call.ReadPin pin from (length out.entry.now)) silent
-                        (told_by (λ n. reply.Frames (take n out.exit.now)) result.what) 0 (core_of held.new.studio) }
+                        (quietly (call.ReadPin pin from (length out.entry.now))
+                        (told_by (λ n. reply.Frames (take n out.exit.now)) result.what))
+                        (core_of held.new.studio) }
                     ensures at { result.at ≡ (core_of held.new.studio).commit_number }
                     ensures bound { IfOk result.what (λ n. n ≤ length out.exit.now) }
                     ensures limit { IfOk result.what (λ n. 0 < n → from + n ≤ 2 ^ 32) }

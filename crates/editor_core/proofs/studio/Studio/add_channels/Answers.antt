@@ -15,7 +15,7 @@ use Rattle.editor_core.specs.Core.{core_of}
 use Rattle.editor_core.specs.Imports.{IsChannelsPlan, IsNoVault, NoChannelsPlan, all_of, channels_refusal, left_as}
 use Rattle.editor_core.specs.Imports.{total_of}
 use Rattle.editor_core.specs.Points.{current_tracks}
-use Rattle.editor_core.specs.Took.{Took, told_by}
+use Rattle.editor_core.specs.Took.{Took, told_by, with_sound}
 use Rattle.editor_core.proofs.Applying.{lasts_idle}
 use Rattle.editor_core.proofs.ChannelLaws.{all_length, channels_plain}
 use Rattle.editor_core.proofs.ChannelSteps.{channels_edit, channels_planned}
@@ -32,7 +32,8 @@ pub returns-in_err-counts-clause-took : goal.returns-in_err-counts-clause-took
 returns-in_err-counts-clause-took g c = λ name sound has.
     let s = core_of c.args.self.now in
     let r = err_from_is_err_and c.from_residual.result c.from_residual.ensures.1 in
-    subst (λ x. Took g.S.Store s (Line (command.Import name)) (left_as sound) (told_by (λ (n : ℕ). reply.Done) x) 0 s)
+    subst (λ x. Took g.S.Store s
+    (with_sound (Line (command.Import name)) (left_as sound) (told_by (λ (n : ℕ). reply.Done) x)) s)
     (sym (r.1 ∙ ap Err r.2))
     (import_refused g.S.Store s c.requires.studio
     (g.met.S.Store.may_fewer s.store) name sound c.requires.going NoMemory tt)
@@ -84,7 +85,8 @@ pub returns-in_err-samples-clause-took : goal.returns-in_err-samples-clause-took
 returns-in_err-samples-clause-took g c = λ name sound has.
     let s = core_of c.args.self.now in
     let r = err_from_is_err_and c.from_residual-in_err-samples.result c.from_residual-in_err-samples.ensures.1 in
-    subst (λ x. Took g.S.Store s (Line (command.Import name)) (left_as sound) (told_by (λ (n : ℕ). reply.Done) x) 0 s)
+    subst (λ x. Took g.S.Store s
+    (with_sound (Line (command.Import name)) (left_as sound) (told_by (λ (n : ℕ). reply.Done) x)) s)
     (sym (r.1 ∙ ap Err r.2))
     (import_refused g.S.Store s c.requires.studio
     (g.met.S.Store.may_fewer s.store) name sound c.requires.going NoMemory tt)
@@ -111,7 +113,8 @@ returns-in_err-planned-clause-took g c = λ name sound has.
     let unplanned = subst (λ (ns : List ℕ). NoChannelsPlan s ns why)
     (c.as_slice-3.ensures.value ∙ counts_are) c.in_err-planned.ensures.err in
     let r = err_from_is_err_and c.from_residual-in_err-planned.result c.from_residual-in_err-planned.ensures.1 in
-    subst (λ x. Took g.S.Store s (Line (command.Import name)) (left_as sound) (told_by (λ (n : ℕ). reply.Done) x) 0 s)
+    subst (λ x. Took g.S.Store s
+    (with_sound (Line (command.Import name)) (left_as sound) (told_by (λ (n : ℕ). reply.Done) x)) s)
     (sym (r.1 ∙ ap Err r.2))
     (channels_unplanned g.S.Store s c.requires.studio c.args.channels name sound has
     (g.met.S.Store.may_fewer s.store) c.requires.going pass why unplanned)

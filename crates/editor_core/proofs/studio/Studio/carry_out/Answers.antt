@@ -10,7 +10,7 @@ use Rattle.editor_core.specs.Core.{core_of}
 use Rattle.editor_core.specs.Edits.{tagged}
 use Rattle.editor_core.specs.Imports.{IsNoVault}
 use Rattle.editor_core.specs.Occurrences.{HasIds}
-use Rattle.editor_core.specs.Took.{Took, told_by}
+use Rattle.editor_core.specs.Took.{Took, told_by, with_sound}
 use Rattle.editor_core.proofs.CarriedOut.{carried_at, commit_of, told_point}
 use Rattle.editor_core.proofs.EditLaws.{pieces_there}
 use Rattle.editor_core.proofs.EditSteps.{edit_err}
@@ -31,7 +31,7 @@ returns-in_err-carry-clause-took g c = λ call sound edit.
     let why = c.in_err-carry.field-0.0 in
     let all = carried_at g.S.Store s new e c.as_slice.result.now (Err why) c.as_slice.ensures c.requires.next
     c.in_err-carry.ensures.carried in
-    subst (λ x. Took g.S.Store s call sound (told_by (λ (n : ℕ). Done) x) 0 new) (sym (r.1 ∙ ap Err r.2))
+    subst (λ x. Took g.S.Store s (with_sound call sound (told_by (λ (n : ℕ). Done) x)) new) (sym (r.1 ∙ ap Err r.2))
     (edit_err g.S.Store s c.requires.studio c.requires.going e c.requires.planned call sound edit
     g.met.S.Store.may_fewer why new all)
 

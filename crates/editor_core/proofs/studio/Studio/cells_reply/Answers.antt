@@ -7,61 +7,61 @@ use Rattle.pcm_base.specs.declared.command.Command.TheVariants as command
 use Rattle.pcm_base.specs.declared.command.Call.TheVariants.{Line}
 use Rattle.pcm_base.specs.declared.refusal.Refusal.{Refusal}
 use Rattle.editor_core.specs.Core.{core_of}
-use Rattle.editor_core.specs.Took.{Took, silent}
+use Rattle.editor_core.specs.Took.{Took, quietly}
 use Rattle.editor_core.proofs.studio.Studio.cells_reply.Goals as goal
 
 pub returns-in-Delete : goal.returns-in-Delete
 returns-in-Delete g c =
     let s = core_of c.args.self.now in
-    subst (λ (k : Command). Took g.S.Store s (Line k) silent c.done-in-Delete.result 0 (core_of c.delete.new.self))
+    subst (λ (k : Command). Took g.S.Store s (quietly (Line k) c.done-in-Delete.result) (core_of c.delete.new.self))
     (sym c.in-Delete.is)
     (subst (λ (r : Result Reply Refusal).
-    Took g.S.Store s (Line (command.Delete c.in-Delete.track c.in-Delete.from c.in-Delete.to)) silent r 0
+    Took g.S.Store s (quietly (Line (command.Delete c.in-Delete.track c.in-Delete.from c.in-Delete.to)) r)
     (core_of c.delete.new.self)) (sym c.done-in-Delete.ensures) c.delete.ensures.took)
 
 pub returns-in-SplitDelete : goal.returns-in-SplitDelete
 returns-in-SplitDelete g c =
     let s = core_of c.args.self.now in
-    subst (λ (k : Command). Took g.S.Store s (Line k) silent c.done-in-SplitDelete.result 0
+    subst (λ (k : Command). Took g.S.Store s (quietly (Line k) c.done-in-SplitDelete.result)
     (core_of c.split_delete.new.self)) (sym c.in-SplitDelete.is)
     (subst (λ (r : Result Reply Refusal). Took g.S.Store s
-    (Line (command.SplitDelete c.in-SplitDelete.track c.in-SplitDelete.from c.in-SplitDelete.to)) silent r 0
+    (quietly (Line (command.SplitDelete c.in-SplitDelete.track c.in-SplitDelete.from c.in-SplitDelete.to)) r)
     (core_of c.split_delete.new.self)) (sym c.done-in-SplitDelete.ensures) c.split_delete.ensures.took)
 
 pub returns-in-Silence : goal.returns-in-Silence
 returns-in-Silence g c =
     let s = core_of c.args.self.now in
-    subst (λ (k : Command). Took g.S.Store s (Line k) silent c.done-in-Silence.result 0 (core_of c.silence.new.self))
+    subst (λ (k : Command). Took g.S.Store s (quietly (Line k) c.done-in-Silence.result) (core_of c.silence.new.self))
     (sym c.in-Silence.is)
     (subst (λ (r : Result Reply Refusal).
-    Took g.S.Store s (Line (command.Silence c.in-Silence.track c.in-Silence.from c.in-Silence.to)) silent r 0
+    Took g.S.Store s (quietly (Line (command.Silence c.in-Silence.track c.in-Silence.from c.in-Silence.to)) r)
     (core_of c.silence.new.self)) (sym c.done-in-Silence.ensures) c.silence.ensures.took)
 
 pub returns-in-Trim : goal.returns-in-Trim
 returns-in-Trim g c =
     let s = core_of c.args.self.now in
-    subst (λ (k : Command). Took g.S.Store s (Line k) silent c.done-in-Trim.result 0 (core_of c.trim.new.self))
+    subst (λ (k : Command). Took g.S.Store s (quietly (Line k) c.done-in-Trim.result) (core_of c.trim.new.self))
     (sym c.in-Trim.is)
     (subst (λ (r : Result Reply Refusal). Took g.S.Store s
-    (Line (command.Trim c.in-Trim.track c.in-Trim.from c.in-Trim.to)) silent r 0 (core_of c.trim.new.self))
+    (quietly (Line (command.Trim c.in-Trim.track c.in-Trim.from c.in-Trim.to)) r) (core_of c.trim.new.self))
     (sym c.done-in-Trim.ensures) c.trim.ensures.took)
 
 pub returns-in-Gain : goal.returns-in-Gain
 returns-in-Gain g c =
     let s = core_of c.args.self.now in
-    subst (λ (k : Command). Took g.S.Store s (Line k) silent c.done-in-Gain.result 0 (core_of c.gain.new.self))
+    subst (λ (k : Command). Took g.S.Store s (quietly (Line k) c.done-in-Gain.result) (core_of c.gain.new.self))
     (sym c.in-Gain.is)
     (subst (λ (r : Result Reply Refusal). Took g.S.Store s
-    (Line (command.Gain c.in-Gain.track c.in-Gain.from c.in-Gain.to c.in-Gain.gain)) silent r 0
+    (quietly (Line (command.Gain c.in-Gain.track c.in-Gain.from c.in-Gain.to c.in-Gain.gain)) r)
     (core_of c.gain.new.self)) (sym c.done-in-Gain.ensures) c.gain.ensures.took)
 
 pub returns-in-Put : goal.returns-in-Put
 returns-in-Put g c =
     let s = core_of c.args.self.now in
-    subst (λ (k : Command). Took g.S.Store s (Line k) silent c.done.result 0 (core_of c.put.new.self))
+    subst (λ (k : Command). Took g.S.Store s (quietly (Line k) c.done.result) (core_of c.put.new.self))
     (ap (command.Put c.in-Put.track c.in-Put.at) c.as_slice.ensures ∙ sym c.in-Put.is)
     (subst (λ (r : Result Reply Refusal). Took g.S.Store s
-    (Line (command.Put c.in-Put.track c.in-Put.at c.as_slice.result.now)) silent r 0 (core_of c.put.new.self))
+    (quietly (Line (command.Put c.in-Put.track c.in-Put.at c.as_slice.result.now)) r) (core_of c.put.new.self))
     (sym c.done.ensures) c.put.ensures.took)
 
 -- (the samples may come back from the machine's numbers)
@@ -76,7 +76,7 @@ returns-in-Ramp g c =
     let each : step ≡ p.step = omega (arith, ints) in
     let line : command.Ramp p.track p.at p.count start step ≡ c.args.command.now =
     (λ i. command.Ramp p.track p.at p.count (first i) (each i)) ∙ sym p.is in
-    subst (λ (k : Command). Took g.S.Store s (Line k) silent c.done-in-Ramp.result 0 new) line
+    subst (λ (k : Command). Took g.S.Store s (quietly (Line k) c.done-in-Ramp.result) new) line
     (subst (λ (r : Result Reply Refusal).
-    Took g.S.Store s (Line (command.Ramp p.track p.at p.count start step)) silent r 0 new)
+    Took g.S.Store s (quietly (Line (command.Ramp p.track p.at p.count start step)) r) new)
     (sym c.done-in-Ramp.ensures) c.ramp.ensures.took)

@@ -7,51 +7,52 @@ use Rattle.pcm_base.specs.declared.command.Call.TheVariants.{Line}
 use Rattle.pcm_base.specs.declared.refusal.Refusal.{Refusal}
 use Rattle.pcm_base.specs.Form.{IsInForm}
 use Rattle.editor_core.specs.Core.{core_of}
-use Rattle.editor_core.specs.Took.{Took, silent}
+use Rattle.editor_core.specs.Took.{Took, quietly}
 use Rattle.editor_core.proofs.studio.Studio.clipboard_reply.Goals as goal
 
 pub returns-in-Cut : goal.returns-in-Cut
 returns-in-Cut g c =
     let s = core_of c.args.self.now in
-    subst (λ (k : Command). Took g.S.Store s (Line k) silent c.done.result 0 (core_of c.cut.new.self))
+    subst (λ (k : Command). Took g.S.Store s (quietly (Line k) c.done.result) (core_of c.cut.new.self))
     (sym c.in-Cut.is)
     (subst (λ (r : Result Reply Refusal).
-    Took g.S.Store s (Line (command.Cut c.in-Cut.track c.in-Cut.count c.in-Cut.from c.in-Cut.to)) silent r 0
+    Took g.S.Store s (quietly (Line (command.Cut c.in-Cut.track c.in-Cut.count c.in-Cut.from c.in-Cut.to)) r)
     (core_of c.cut.new.self)) (sym c.done.ensures) c.cut.ensures.took)
 
 pub returns-in-SplitCut : goal.returns-in-SplitCut
 returns-in-SplitCut g c =
     let s = core_of c.args.self.now in
-    subst (λ (k : Command). Took g.S.Store s (Line k) silent c.done-in-SplitCut.result 0
+    subst (λ (k : Command). Took g.S.Store s (quietly (Line k) c.done-in-SplitCut.result)
     (core_of c.split_cut.new.self)) (sym c.in-SplitCut.is)
     (subst (λ (r : Result Reply Refusal). Took g.S.Store s
-    (Line (command.SplitCut c.in-SplitCut.track c.in-SplitCut.count c.in-SplitCut.from c.in-SplitCut.to))
-    silent r 0 (core_of c.split_cut.new.self)) (sym c.done-in-SplitCut.ensures) c.split_cut.ensures.took)
+    (quietly (Line (command.SplitCut c.in-SplitCut.track c.in-SplitCut.count c.in-SplitCut.from c.in-SplitCut.to)) r)
+    (core_of c.split_cut.new.self)) (sym c.done-in-SplitCut.ensures) c.split_cut.ensures.took)
 
 pub returns-in-Copy : goal.returns-in-Copy
 returns-in-Copy g c =
     let s = core_of c.args.self.now in
-    subst (λ (k : Command). Took g.S.Store s (Line k) silent c.copied.result 0 (core_of c.copy.new.self))
+    subst (λ (k : Command). Took g.S.Store s (quietly (Line k) c.copied.result) (core_of c.copy.new.self))
     (sym c.in-Copy.is)
     (subst (λ (r : Result Reply Refusal). Took g.S.Store s
-    (Line (command.Copy c.in-Copy.track c.in-Copy.count c.in-Copy.from c.in-Copy.to)) silent r 0
+    (quietly (Line (command.Copy c.in-Copy.track c.in-Copy.count c.in-Copy.from c.in-Copy.to)) r)
     (core_of c.copy.new.self)) (sym c.copied.ensures) c.copy.ensures.took)
 
 pub returns-in-Paste : goal.returns-in-Paste
 returns-in-Paste g c =
     let s = core_of c.args.self.now in
-    subst (λ (k : Command). Took g.S.Store s (Line k) silent c.done-in-Paste.result 0 (core_of c.paste.new.self))
+    subst (λ (k : Command). Took g.S.Store s (quietly (Line k) c.done-in-Paste.result) (core_of c.paste.new.self))
     (sym c.in-Paste.is)
-    (subst (λ (r : Result Reply Refusal). Took g.S.Store s (Line (command.Paste c.in-Paste.track c.in-Paste.at))
-    silent r 0 (core_of c.paste.new.self)) (sym c.done-in-Paste.ensures) c.paste.ensures.took)
+    (subst (λ (r : Result Reply Refusal). Took g.S.Store s
+    (quietly (Line (command.Paste c.in-Paste.track c.in-Paste.at)) r)
+    (core_of c.paste.new.self)) (sym c.done-in-Paste.ensures) c.paste.ensures.took)
 
 pub returns-in-PasteOver : goal.returns-in-PasteOver
 returns-in-PasteOver g c =
     let s = core_of c.args.self.now in
-    subst (λ (k : Command). Took g.S.Store s (Line k) silent c.done-in-PasteOver.result 0
+    subst (λ (k : Command). Took g.S.Store s (quietly (Line k) c.done-in-PasteOver.result)
     (core_of c.paste_over.new.self)) (sym c.in-PasteOver.is)
     (subst (λ (r : Result Reply Refusal).
-    Took g.S.Store s (Line (command.PasteOver c.in-PasteOver.track c.in-PasteOver.at)) silent r 0
+    Took g.S.Store s (quietly (Line (command.PasteOver c.in-PasteOver.track c.in-PasteOver.at)) r)
     (core_of c.paste_over.new.self)) (sym c.done-in-PasteOver.ensures) c.paste_over.ensures.took)
 
 pub paste-requires-clause-in_form : goal.paste-requires-clause-in_form

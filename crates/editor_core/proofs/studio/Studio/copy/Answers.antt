@@ -13,7 +13,7 @@ use Rattle.editor_core.specs.declared.copies.RunRange.{RunRange}
 use Rattle.editor_core.specs.Copies.{run_of, Copies, AnswersCopy, strips_blocks}
 use Rattle.editor_core.specs.Core.{Core, core_of}
 use Rattle.editor_core.specs.Points.{lacks}
-use Rattle.editor_core.specs.Took.{Took, silent, told_by}
+use Rattle.editor_core.specs.Took.{Took, quietly, told_by}
 use Rattle.editor_core.proofs.Bounds.{named_there}
 use Rattle.editor_core.proofs.Clipping.{clip_counted, clip_room, copy_stopped, copy_lacks, copy_refused, strips_few}
 use Rattle.editor_core.proofs.Clipping.{strips_named, copy_done}
@@ -35,7 +35,7 @@ returns-in_err-layout_of-clause-took g c =
     let p = err_from_is_err_and c.from_residual.result c.from_residual.ensures.1 in
     let s = core_of c.args.self.now in
     let call = Line (command.Copy c.args.track c.args.count c.args.from c.args.to) in
-    subst (λ r. Took g.S.Store s call silent (told_by (λ (u : Unit {0}). Copied) r) 0 s)
+    subst (λ r. Took g.S.Store s (quietly call (told_by (λ (u : Unit {0}). Copied) r)) s)
     (sym (p.1 ∙ ap Err (p.2 ∙ c.in_err-layout_of.ensures.0)))
     (copy_lacks g.S.Store s c.requires range (g.met.S.Store.may_fewer s.store)
     (refusal.NoTrack c.args.track) c.in_default.is (ap (lacks c.args.track) c.in_err-layout_of.ensures.1))
@@ -59,7 +59,7 @@ returns-in_err-strips-clause-took g c =
     let refuses =
     subst (λ (z : List Track). Copies (run_of c.args.track z) range (Err why))
     c.current_of.ensures c.in_err-strips.ensures in
-    subst (λ r. Took g.S.Store s call silent (told_by (λ (u : Unit {0}). Copied) r) 0 s) (sym (p.1 ∙ ap Err p.2))
+    subst (λ r. Took g.S.Store s (quietly call (told_by (λ (u : Unit {0}). Copied) r)) s) (sym (p.1 ∙ ap Err p.2))
     (copy_refused g.S.Store s c.requires range (g.met.S.Store.may_fewer
     s.store) c.in_ok-layout_of.field-0.now c.in_ok-layout_of.ensures c.in_default.is why refuses)
 
@@ -109,7 +109,7 @@ returns-clause-took g c =
     let call = Line (command.Copy c.args.track c.args.count c.args.from c.args.to) in
     let copies = subst (λ (z : List Track). Copies (run_of c.args.track z) range (Ok v))
     c.current_of.ensures c.in_ok-strips.ensures in
-    subst (λ (z : Core g.row.S.Denot). Took g.S.Store s call silent (Ok Copied) 0 z) (sym c.take_clip.ensures.fields)
+    subst (λ (z : Core g.row.S.Denot). Took g.S.Store s (quietly call (Ok Copied)) z) (sym c.take_clip.ensures.fields)
     (copy_done g.S.Store s c.requires range (g.met.S.Store.may_fewer s.store)
     c.in_ok-layout_of.field-0.now c.in_ok-layout_of.ensures c.in_default.is v copies
     (count_of c.take_clip.new.self.ledger) c.take_clip.ensures.moves c.take_clip.ensures.most)

@@ -19,7 +19,7 @@ use Rattle.editor_core.specs.Core.{Core, core_of}
 use Rattle.editor_core.specs.Occurrences.{HasAll, HasIds, Moves}
 use Rattle.editor_core.specs.Plain.{line_of, tracks_by, refusal_by, IsEdited}
 use Rattle.editor_core.specs.Points.{current_tracks}
-use Rattle.editor_core.specs.Took.{Took, silent, told_by}
+use Rattle.editor_core.specs.Took.{Took, quietly, silent, told_by}
 use Rattle.editor_core.proofs.Bounds.{few_more, named_there}
 use Rattle.editor_core.proofs.Editing.{counts_named, current_below, current_sound}
 use Rattle.editor_core.proofs.Moving.{tested_out}
@@ -38,7 +38,7 @@ returns-in_err-may_commit-clause-took g c =
     let e = c.args.edit in
     let is = c.requires.studio in
     let why = c.in_err-may_commit.field-0.0 in
-    subst (λ r. Took g.S.Store s (Line (line_of e)) silent (told_by (λ (n : ℕ). Done) r) 0 s) (sym (p.1 ∙ ap Err p.2))
+    subst (λ r. Took g.S.Store s (quietly (Line (line_of e)) (told_by (λ (n : ℕ). Done) r)) s) (sym (p.1 ∙ ap Err p.2))
     (tested_out g.S.Store s (Line (line_of e)) (tracks_by e) 0 c.edit_refusal.result why is
     (g.met.S.Store.may_fewer s.store) (call_by e) (λ held. needs_none g.S.Store s is e)
     (c.edit_refusal.ensures ∙ own_is g.S.Store s is e)
@@ -53,8 +53,8 @@ returns-in_err-make_room-clause-took g c =
     let line = line_of c.args.edit in
     let idle = wants g.S.Store s (Line line) silent c.requires.studio (g.met.S.Store.may_fewer s.store) refl 0
     (λ held. (0, needs_none g.S.Store s c.requires.studio c.args.edit)) in
-    subst (λ r. Took g.S.Store s (Line line) silent (told_by (λ (n : ℕ). Done) r) 0 s1) (sym (p.1 ∙ ap Err p.2))
-    (subst (λ (z : Core g.row.S.Denot). Took g.S.Store s (Line line) silent (Err refusal.NoMemory) 0 z)
+    subst (λ r. Took g.S.Store s (quietly (Line line) (told_by (λ (n : ℕ). Done) r)) s1) (sym (p.1 ∙ ap Err p.2))
+    (subst (λ (z : Core g.row.S.Denot). Took g.S.Store s (quietly (Line line) (Err refusal.NoMemory)) z)
     (sym c.make_room.ensures.same) idle)
 
 pub edited-requires-clause-there : goal.edited-requires-clause-there
@@ -83,8 +83,8 @@ returns-in_err-point-clause-took g c =
     let line = line_of c.args.edit in
     let idle = wants g.S.Store s (Line line) silent c.requires.studio (g.met.S.Store.may_fewer s.store) refl 0
     (λ held. (0, needs_none g.S.Store s c.requires.studio c.args.edit)) in
-    subst (λ r. Took g.S.Store s (Line line) silent (told_by (λ (n : ℕ). Done) r) 0 s1) (sym (p.1 ∙ ap Err p.2))
-    (subst (λ (z : Core g.row.S.Denot). Took g.S.Store s (Line line) silent (Err refusal.NoMemory) 0 z)
+    subst (λ r. Took g.S.Store s (quietly (Line line) (told_by (λ (n : ℕ). Done) r)) s1) (sym (p.1 ∙ ap Err p.2))
+    (subst (λ (z : Core g.row.S.Denot). Took g.S.Store s (quietly (Line line) (Err refusal.NoMemory)) z)
     (sym c.make_room.ensures.same) idle)
 
 pub returns-in_err-point-2-clause-took : goal.returns-in_err-point-2-clause-took
@@ -108,7 +108,8 @@ returns-in_err-point-2-clause-took g c =
     c.in_err-point-2.ensures.record in
     let adds = subst (λ (n : ℕ). Adds {R = List Track} g.S.Store s (spelling (Edit 0 s.next_block (s.next_track + n) p))
     (Err why) mid) c.tracks_for-tracks.ensures adds' in
-    subst (λ x. Took g.S.Store s (Line (line_of e)) silent (told_by (λ (n : ℕ). Done) x) 0 mid) (sym (r.1 ∙ ap Err r.2))
+    subst (λ x. Took g.S.Store s (quietly (Line (line_of e)) (told_by (λ (n : ℕ). Done) x))
+    mid) (sym (r.1 ∙ ap Err r.2))
     (edit_fails g.S.Store s is e c.requires.good none p ed may.2 may.0 may.3 why mid
     (g.met.S.Store.may_fewer s.store) adds)
 
@@ -201,7 +202,7 @@ returns-clause-took g c =
     (subst (λ (h : History (List Track)). Moves mid.counts counts (history_blocks h)
     (history_blocks (edited h c.in_ok-point-2.point 0))) was c.take_point.ensures.counts)) in
     let next : mid.next_track ≡ s.next_track = ap (λ (z : Core g.row.S.Denot). z.next_track) adds.fields.0 in
-    subst (λ (z : Core g.row.S.Denot). Took g.S.Store s (Line (line_of e)) silent (Ok Done) 0 z)
+    subst (λ (z : Core g.row.S.Denot). Took g.S.Store s (quietly (Line (line_of e)) (Ok Done)) z)
     (sym c.take_point.ensures.fields)
     (edit_done g.S.Store s is e c.requires.good none p ed may.2 may.0 may.3 c.in_ok-point-2.point mid
     (edited mid.history c.in_ok-point-2.point 0) counts

@@ -8,7 +8,7 @@ use Rattle.envelope_view.specs.Answers.{IsUndamaged}
 use Rattle.editor_core.specs.Core.{core_of}
 use Rattle.editor_core.specs.Points.{current_tracks}
 use Rattle.editor_core.specs.Ranges.{range_edit, range_line}
-use Rattle.editor_core.specs.Took.{Took, silent, told_by}
+use Rattle.editor_core.specs.Took.{Took, quietly, silent, told_by}
 use Rattle.editor_core.proofs.NoDamage.{no_plan_tells, range_tells}
 use Rattle.editor_core.proofs.RangeLaws.{range_call}
 use Rattle.editor_core.proofs.TrackLaws.{track_edit, track_refused, track_stopped}
@@ -33,7 +33,7 @@ returns-in_err-planned-clause-took g c =
     let line = range_call c.args.edit range.track range.from range.to in
     let r = err_from_is_err_and c.from_residual.result c.from_residual.ensures.1 in
     let why = c.in_err-planned.field-0.0 in
-    subst (λ x. Took g.S.Store s call silent (told_by (λ (n : ℕ). Done) x) 0 s) (sym (r.1 ∙ ap Err r.2))
+    subst (λ x. Took g.S.Store s (quietly call (told_by (λ (n : ℕ). Done) x)) s) (sym (r.1 ∙ ap Err r.2))
     (track_refused g.S.Store s c.requires call silent e Nothing range.track 0 line why
     (g.met.S.Store.may_fewer s.store) c.in_default.is c.in_err-planned.ensures.err)
 

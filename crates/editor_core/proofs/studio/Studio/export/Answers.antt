@@ -20,7 +20,7 @@ use Rattle.editor_core.specs.Core.{core_of}
 use Rattle.editor_core.specs.Exports.{moved_from}
 use Rattle.editor_core.specs.Points.{current_tracks}
 use Rattle.editor_core.specs.Studios.{IsHeld, named_blocks}
-use Rattle.editor_core.specs.Took.{Took, silent, told_by}
+use Rattle.editor_core.specs.Took.{Took, silent, told_by, with_sound}
 use Rattle.editor_core.proofs.Applying.{lasts_idle, lasts_looked}
 use Rattle.editor_core.proofs.Currents.{current_may_read, current_named, current_whole}
 use Rattle.editor_core.proofs.Exporting.{export_failed, export_left, export_len, export_stopped, export_undamaged}
@@ -66,7 +66,7 @@ returns-in_err-bytes-clause-took g c = λ told.
     λ held. subst (λ (z : List Track). MayBegin (wav_text (mix_of (meant (sources_of files) z)) s.rate) was now) same
     (c.in_err-bytes.ensures.written told held.tells (whole held)) in
     let long = ap mix_length_of same ∙ export_len g.S.Store s c.requires name sound in
-    subst (λ r. Took g.S.Store s call sound (told_by reply.Wrote r) 0
+    subst (λ r. Took g.S.Store s (with_sound call sound (told_by reply.Wrote r))
     (record s { store = c.write_stretches.new.store })) (sym (p.1 ∙ ap Err p.2))
     (export_failed g.S.Store s c.requires name sound c.in_default.is c.write_stretches.new.store kept why
     (mix_length_of point)

@@ -9,7 +9,7 @@ use Rattle.sound_import.specs.Imported.{import_refusal}
 use Rattle.editor_core.specs.Applied.{Lasts}
 use Rattle.editor_core.specs.Core.{core_of}
 use Rattle.editor_core.specs.Imports.{left_as}
-use Rattle.editor_core.specs.Took.{Took, told_by}
+use Rattle.editor_core.specs.Took.{Took, told_by, with_sound}
 use Rattle.editor_core.proofs.Applying.{lasts_idle}
 use Rattle.editor_core.proofs.ImportRefused.{counted_so, import_plain, import_refused, import_stopped, taken_has}
 use Rattle.editor_core.proofs.studio.Studio.import.Goals as goal
@@ -32,7 +32,8 @@ returns-in_err-wav-clause-took g c = λ told.
     let sound = g.V.Vault.holds c.args.vault.now name in
     let call = Line (command.Import name) in
     let p = err_from_is_err_and c.from_residual.result c.from_residual.ensures.1 in
-    subst (λ r. Took g.S.Store s call (left_as sound) (told_by (λ _. reply.Done) r) 0 s) (sym (p.1 ∙ ap Err p.2))
+    subst (λ r. Took g.S.Store s (with_sound call (left_as sound) (told_by (λ _. reply.Done) r))
+    s) (sym (p.1 ∙ ap Err p.2))
     (import_refused g.S.Store s c.requires (g.met.S.Store.may_fewer s.store) name sound c.in_default.is
     c.in_err-wav.field-0.0 (c.in_err-wav.ensures.refused told))
 

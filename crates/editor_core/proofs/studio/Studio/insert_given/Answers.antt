@@ -7,7 +7,7 @@ use Rattle.envelope_view.specs.Answers.{IsUndamaged}
 use Rattle.editor_core.specs.Core.{core_of}
 use Rattle.editor_core.specs.Inserts.{place_edit}
 use Rattle.editor_core.specs.Points.{current_tracks}
-use Rattle.editor_core.specs.Took.{Took, told_by}
+use Rattle.editor_core.specs.Took.{Took, told_by, with_sound}
 use Rattle.editor_core.specs.TrackEdits.{IsTrackPlan, NoTrackPlan}
 use Rattle.editor_core.proofs.InsertLaws.{place_tells}
 use Rattle.editor_core.proofs.NoDamage.{no_plan_tells}
@@ -32,7 +32,7 @@ returns-in_err-planned-clause-took g c = λ call sound line.
     let why = c.in_err-planned.field-0.0 in
     let not = subst (λ (k : ℕ). NoTrackPlan (place_edit c.args.place k) c.args.track (current_tracks s.history) why)
     c.count_of.ensures.value c.in_err-planned.ensures.err in
-    subst (λ x. Took g.S.Store s call sound (told_by (λ (n : ℕ). Done) x) 0 s) (sym (r.1 ∙ ap Err r.2))
+    subst (λ x. Took g.S.Store s (with_sound call sound (told_by (λ (n : ℕ). Done) x)) s) (sym (r.1 ∙ ap Err r.2))
     (track_refused g.S.Store s c.requires.studio call sound e given c.args.track c.args.tag line why
     (g.met.S.Store.may_fewer s.store) c.in_default.is not)
 

@@ -6,7 +6,7 @@ use Rattle.pcm_base.specs.declared.command.Call.TheVariants.{Line}
 use Rattle.pcm_base.specs.declared.command.Command.TheVariants as command
 use Rattle.pcm_base.specs.declared.sound.Frame.{Frame}
 use Rattle.editor_core.specs.Core.{core_of}
-use Rattle.editor_core.specs.Took.{Took, silent}
+use Rattle.editor_core.specs.Took.{Took, quietly, silent}
 use Rattle.editor_core.proofs.Staying.{wants}
 use Rattle.editor_core.proofs.Viewing.{view_front}
 use Rattle.editor_core.proofs.studio.Studio.mix_reply.Goals as goal
@@ -16,14 +16,14 @@ returns-in_err-frames g c =
     let s = core_of c.args.self.now in
     let call = Line (command.Mix c.args.from c.args.to) in
     let p = err_from_is_err_and c.from_residual.result c.from_residual.ensures.1 in
-    subst (λ r. Took g.S.Store s call silent r 0 s) (sym (p.1 ∙ ap Err p.2))
+    subst (λ r. Took g.S.Store s (quietly call r) s) (sym (p.1 ∙ ap Err p.2))
     (wants g.S.Store s call silent c.requires (g.met.S.Store.may_fewer s.store) refl 0 (λ held. (0, (refl, refl))))
 
 pub returns : goal.returns
 returns g c =
     let s = core_of c.args.self.now in
     let call = Line (command.Mix c.args.from c.args.to) in
-    subst (λ (xs : List Frame). Took g.S.Store s call silent (Ok (reply.Frames xs)) 0 (core_of c.mix.new.self))
+    subst (λ (xs : List Frame). Took g.S.Store s (quietly call (Ok (reply.Frames xs))) (core_of c.mix.new.self))
     (sym (c.new.ensures ∙ c.truncate.ensures.items ∙ view_front c.in_ok-count.count c.in_ok-frames.frames.len
     c.mix.new.out _ c.in_ok-count.ensures.count (omega (
       arith,

@@ -6,7 +6,7 @@ use Rattle.pcm_base.specs.declared.command.Call.TheVariants.{Line}
 use Rattle.envelope_view.specs.Answers.{IsUndamaged}
 use Rattle.editor_core.specs.Core.{core_of}
 use Rattle.editor_core.specs.Pastes.{paste_line}
-use Rattle.editor_core.specs.Took.{Took, silent, told_by}
+use Rattle.editor_core.specs.Took.{Took, quietly, silent, told_by}
 use Rattle.editor_core.proofs.PasteLaws.{no_paste_tells}
 use Rattle.editor_core.proofs.PasteSteps.{paste_edit, paste_planned}
 use Rattle.editor_core.proofs.PasteSteps.{paste_refused, paste_stopped}
@@ -24,7 +24,7 @@ returns-in_err-planned-clause-took g c =
     let call = Line (paste_line c.args.edit c.args.track c.args.at) in
     let r = err_from_is_err_and c.from_residual.result c.from_residual.ensures.1 in
     let why = c.in_err-planned.field-0.0 in
-    subst (λ x. Took g.S.Store s call silent (told_by (λ (n : ℕ). Done) x) 0 s) (sym (r.1 ∙ ap Err r.2))
+    subst (λ x. Took g.S.Store s (quietly call (told_by (λ (n : ℕ). Done) x)) s) (sym (r.1 ∙ ap Err r.2))
     (paste_refused g.S.Store s c.requires.studio c.args.edit c.args.track c.args.at why
     (g.met.S.Store.may_fewer s.store) c.in_default.is c.in_err-planned.ensures.err)
 

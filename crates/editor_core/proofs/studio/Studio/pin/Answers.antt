@@ -13,7 +13,7 @@ use Rattle.editor_core.specs.Core.{Core, core_of}
 use Rattle.editor_core.specs.Occurrences.{HasIds, Held}
 use Rattle.editor_core.specs.Pins.{AnswersPin}
 use Rattle.editor_core.specs.Points.{current_tracks}
-use Rattle.editor_core.specs.Took.{Took, silent, told_by}
+use Rattle.editor_core.specs.Took.{Took, quietly, told_by}
 use Rattle.editor_core.proofs.Bounds.{named_there, few_more}
 use Rattle.editor_core.proofs.Editing.{current_sound, old_names}
 use Rattle.editor_core.proofs.Pinning.{pinned, pin_spent, pin_stopped, pin_wanting}
@@ -35,7 +35,7 @@ returns-in_err-add_pin-clause-took g c =
     let e = err_from_is_err_and c.from_residual.result c.from_residual.ensures.1 in
     let s = core_of c.args.self.now in
     let mid = core_of c.add_pin.new.self in
-    subst (λ r. Took g.S.Store s call.Pin silent (told_by reply.Pinned r) 0 mid)
+    subst (λ r. Took g.S.Store s (quietly call.Pin (told_by reply.Pinned r)) mid)
     (sym (e.1 ∙ ap Err (e.2 ∙ c.in_err-add_pin.ensures.memory)))
     (pin_wanting g.S.Store s c.requires (g.met.S.Store.may_fewer s.store) mid c.in_err-add_pin.ensures.err)
 
@@ -81,9 +81,9 @@ returns-clause-took g c =
     let room : s.next_pin < 2 ^ 62 = omega (arith, c.if-self-eq-MOST.false, is.counters.pin_most) in
     let number : mid.next_pin ≡ s.next_pin = ap (λ (z : Core g.row.S.Denot). z.next_pin) c.in_ok-add_pin.ensures.ok in
     let replied : s.next_pin ≡ mid.next_pin + 1 - 1 = omega (arith, number) in
-    subst (λ (n : ℕ). Took g.S.Store s call.Pin silent (Ok (reply.Pinned n)) 0
+    subst (λ (n : ℕ). Took g.S.Store s (quietly call.Pin (Ok (reply.Pinned n)))
     (record mid { next_pin = mid.next_pin + 1; counts = counts })) replied
-    (subst (λ (z : Core g.row.S.Denot). Took g.S.Store s call.Pin silent (Ok (reply.Pinned s.next_pin)) 0
+    (subst (λ (z : Core g.row.S.Denot). Took g.S.Store s (quietly call.Pin (Ok (reply.Pinned s.next_pin)))
     (record z { next_pin = z.next_pin + 1; counts = counts })) (sym c.in_ok-add_pin.ensures.ok)
     (pinned g.S.Store s is (g.met.S.Store.may_fewer s.store) counts held room c.in_default.is))
 

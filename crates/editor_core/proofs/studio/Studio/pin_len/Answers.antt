@@ -10,7 +10,7 @@ use Rattle.editor_core.specs.Adding.{IsNoWant}
 use Rattle.editor_core.specs.Core.{core_of}
 use Rattle.editor_core.specs.declared.studio.Pin.{Pin}
 use Rattle.editor_core.specs.Pins.{LacksPin, MayFind}
-use Rattle.editor_core.specs.Took.{Took, silent, told_by}
+use Rattle.editor_core.specs.Took.{Took, quietly, told_by}
 use Rattle.editor_core.proofs.Hearing.{len_stopped, len_lacks, measured}
 use Rattle.editor_core.proofs.studio.Studio.pin_len.Goals as goal
 
@@ -23,7 +23,7 @@ pub returns-in_err-point-clause-took : goal.returns-in_err-point-clause-took
 returns-in_err-point-clause-took g c =
     let p = err_from_is_err_and c.from_residual.result c.from_residual.ensures.1 in
     let s = core_of c.args.self.now in
-    subst (λ r. Took g.S.Store s (PinLen c.args.pin) silent (told_by reply.Length r) 0 s)
+    subst (λ r. Took g.S.Store s (quietly (PinLen c.args.pin) (told_by reply.Length r)) s)
     (sym (p.1 ∙ ap Err (p.2 ∙ c.in_err-point.ensures.0)))
     (len_lacks g.S.Store s c.requires (g.met.S.Store.may_fewer s.store) c.args.pin c.in_default.is
     (subst (LacksPin c.args.pin) c.deref.ensures.value c.in_err-point.ensures.1))

@@ -18,7 +18,7 @@ use Rattle.project_state.specs.Kept.{point_blocks}
 use Rattle.editor_core.specs.Adding.{Adds, IsNoWant}
 use Rattle.editor_core.specs.Core.{Core, core_of}
 use Rattle.editor_core.specs.Occurrences.{HasAll, Dropped}
-use Rattle.editor_core.specs.Took.{Took, silent, told_by}
+use Rattle.editor_core.specs.Took.{Took, quietly, silent, told_by}
 use Rattle.editor_core.proofs.Committing.{fails}
 use Rattle.editor_core.proofs.Moved.{in_range, purged_by}
 use Rattle.editor_core.proofs.Moving.{purge_call, purges, moves, has_oldest, purged_counts, tested_out, no_want}
@@ -31,7 +31,7 @@ pub returns-in_err-may_commit-clause-took : goal.returns-in_err-may_commit-claus
 returns-in_err-may_commit-clause-took g c =
     let p = err_from_is_err_and c.from_residual.result c.from_residual.ensures.1 in
     let s = core_of c.args.self.now in
-    subst (λ r. Took g.S.Store s (Line (command.Purge c.args.count)) silent (told_by (λ (n : ℕ). Done) r) 0 s)
+    subst (λ r. Took g.S.Store s (quietly (Line (command.Purge c.args.count)) (told_by (λ (n : ℕ). Done) r)) s)
     (sym (p.1 ∙ ap Err p.2))
     (tested_out g.S.Store s (Line (command.Purge c.args.count)) 0 9 c.purge_refusal.result c.in_err-may_commit.field-0.0
     c.requires (g.met.S.Store.may_fewer s.store) (purge_call c.args.count)
@@ -77,7 +77,7 @@ returns-in_err-commit_small-clause-took g c =
     let why = c.in_err-commit_small.field-0.0 in
     let adds =
     subst (λ b. Adds g.S.Store s b (Err why) mid) c.purge_body.ensures c.in_err-commit_small.ensures.record in
-    subst (λ r. Took g.S.Store s (Line (command.Purge c.args.count)) silent (told_by (λ (n : ℕ). Done) r) 0 mid)
+    subst (λ r. Took g.S.Store s (quietly (Line (command.Purge c.args.count)) (told_by (λ (n : ℕ). Done) r)) mid)
     (sym (p.1 ∙ ap Err p.2))
     (fails g.S.Store s [] (Line (command.Purge c.args.count)) silent 0 (Purge c.args.count)
     (purged s.history c.args.count) s.clipboard s.next_track c.requires (none_made g.S.Store s)

@@ -5,7 +5,7 @@ use Rattle.pcm_base.specs.declared.answer.Reply.TheVariants as reply
 use Rattle.pcm_base.specs.declared.command.Call.TheVariants.{ReadPin}
 use Rattle.pcm_base.specs.declared.sound.Frame.{Frame}
 use Rattle.editor_core.specs.Core.{core_of}
-use Rattle.editor_core.specs.Took.{Took, silent}
+use Rattle.editor_core.specs.Took.{Took, quietly, silent}
 use Rattle.editor_core.proofs.PinReads.{read_as_many}
 use Rattle.editor_core.proofs.PinRefused.{len_refused, read_refused}
 use Rattle.editor_core.proofs.Staying.{wants}
@@ -21,8 +21,8 @@ returns g c =
     let path = sym (c.new.ensures ∙ c.truncate.ensures.items
     ∙ view_front c.in_ok-read.read c.in_ok-frames.frames.len c.read_pin.new.out _ seen.count
     (omega (arith, c.read_pin.auto.out, c.as_mut_slice.ensures.len, ap length c.as_mut_slice.ensures.value))) in
-    subst (λ (xs : List Frame). Took g.S.Store s (ReadPin c.args.pin c.args.from c.args.count) silent
-    (Ok (reply.Frames xs)) 0 new) path
+    subst (λ (xs : List Frame). Took g.S.Store s
+    (quietly (ReadPin c.args.pin c.args.from c.args.count) (Ok (reply.Frames xs))) new) path
     (read_as_many g.S.Store s c.args.pin c.args.from c.args.count c.in_ok-pin_len.field-0 n
     (omega (
       arith,
@@ -38,7 +38,7 @@ returns-in_err-pin_len g c =
     let s = core_of c.args.self.now in
     let call = ReadPin c.args.pin c.args.from c.args.count in
     let p = err_from_is_err_and c.from_residual.result c.from_residual.ensures.1 in
-    subst (λ r. Took g.S.Store s call silent r 0 s) (sym (p.1 ∙ ap Err p.2))
+    subst (λ r. Took g.S.Store s (quietly call r) s) (sym (p.1 ∙ ap Err p.2))
     (len_refused g.S.Store s c.args.pin c.args.from c.args.count c.in_err-pin_len.field-0.0 s
     c.in_err-pin_len.ensures.took)
 
@@ -47,7 +47,7 @@ returns-in_err-frames g c =
     let s = core_of c.args.self.now in
     let call = ReadPin c.args.pin c.args.from c.args.count in
     let p = err_from_is_err_and c.from_residual-in_err-frames.result c.from_residual-in_err-frames.ensures.1 in
-    subst (λ r. Took g.S.Store s call silent r 0 s) (sym (p.1 ∙ ap Err p.2))
+    subst (λ r. Took g.S.Store s (quietly call r) s) (sym (p.1 ∙ ap Err p.2))
     (wants g.S.Store s call silent c.requires (g.met.S.Store.may_fewer s.store) refl 0 (λ held. (0, (refl, refl))))
 
 pub returns-in_err-read : goal.returns-in_err-read
@@ -56,6 +56,6 @@ returns-in_err-read g c =
     let call = ReadPin c.args.pin c.args.from c.args.count in
     let new = core_of c.read_pin.new.self in
     let p = err_from_is_err_and c.from_residual-in_err-read.result c.from_residual-in_err-read.ensures.1 in
-    subst (λ r. Took g.S.Store s call silent r 0 new) (sym (p.1 ∙ ap Err p.2))
+    subst (λ r. Took g.S.Store s (quietly call r) new) (sym (p.1 ∙ ap Err p.2))
     (read_refused g.S.Store s c.args.pin c.args.from c.args.count
     (length c.as_mut_slice.result.now) c.in_err-read.field-0.0 new c.in_err-read.ensures.seen.looks.took)

@@ -12,7 +12,7 @@ use Rattle.envelope_view.specs.Answers.{IsUndamaged}
 use Rattle.project_state.specs.declared.body.Body.TheVariants.{Redo}
 use Rattle.editor_core.specs.Adding.{Adds, IsNoWant}
 use Rattle.editor_core.specs.Core.{Core, core_of}
-use Rattle.editor_core.specs.Took.{Took, silent, told_by}
+use Rattle.editor_core.specs.Took.{Took, quietly, silent, told_by}
 use Rattle.editor_core.proofs.Committing.{fails}
 use Rattle.editor_core.proofs.Moved.{behind, own_is, redone}
 use Rattle.editor_core.proofs.Moving.{redo_call, redoes, moved, tested_out, no_want, other_reason}
@@ -24,7 +24,7 @@ pub returns-in_err-may_commit-clause-took : goal.returns-in_err-may_commit-claus
 returns-in_err-may_commit-clause-took g c =
     let p = err_from_is_err_and c.from_residual.result c.from_residual.ensures.1 in
     let s = core_of c.args.self.now in
-    subst (λ r. Took g.S.Store s (Line command.Redo) silent (told_by (λ (n : ℕ). Done) r) 0 s) (sym (p.1 ∙ ap Err p.2))
+    subst (λ r. Took g.S.Store s (quietly (Line command.Redo) (told_by (λ (n : ℕ). Done) r)) s) (sym (p.1 ∙ ap Err p.2))
     (tested_out g.S.Store s (Line command.Redo) 0 1 c.redo_refusal.result c.in_err-may_commit.field-0.0 c.requires
     (g.met.S.Store.may_fewer s.store) redo_call (λ held. (refl, refl))
     (own_is g.S.Store s c.redo_refusal.result c.redo_refusal.ensures.value) c.in_err-may_commit.ensures)
@@ -67,7 +67,7 @@ returns-in_err-commit_small-clause-took g c =
     let some = behind s.history NothingToRedo c.redo_refusal.ensures.whole (sym c.redo_refusal.ensures.value ∙ may.1) in
     let why = c.in_err-commit_small.field-0.0 in
     let adds = c.in_err-commit_small.ensures.record in
-    subst (λ r. Took g.S.Store s (Line command.Redo) silent (told_by (λ (n : ℕ). Done) r) 0 mid)
+    subst (λ r. Took g.S.Store s (quietly (Line command.Redo) (told_by (λ (n : ℕ). Done) r)) mid)
     (sym (p.1 ∙ ap Err p.2))
     (fails g.S.Store s [] (Line command.Redo) silent 0 Redo
     (at_cursor s.history (s.history.cursor + 1)) s.clipboard s.next_track c.requires (none_made g.S.Store s)

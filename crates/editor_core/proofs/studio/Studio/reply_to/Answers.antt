@@ -14,7 +14,7 @@ use Rattle.editor_core.specs.Applied.{TookOver}
 use Rattle.editor_core.specs.Core.{core_of}
 use Rattle.editor_core.specs.Exports.{moved_from}
 use Rattle.editor_core.specs.Imports.{VaultCounted}
-use Rattle.editor_core.specs.Took.{Took, told_by}
+use Rattle.editor_core.specs.Took.{Took, told_by, with_sound}
 use Rattle.editor_core.proofs.Applying.{counted_told, names_none, over_silent, over_sound, spanned}
 use Rattle.editor_core.proofs.studio.Studio.reply_to.Goals as goal
 
@@ -30,7 +30,8 @@ returns-in-Import-clause-took g c =
     let same = c.import.ensures.same in
     let over : TookOver g.S.Store span line told =
     over_sound g.S.Store span line name told refl
-    (λ is. subst (λ (z : Sounds). Took g.S.Store s line (moved_from (before name) (z name)) told 0 new) (sym same)
+    (λ is. subst (λ (z : Sounds). Took g.S.Store s (with_sound line (moved_from (before name) (z name)) told)
+    new) (sym same)
     (c.import.ensures.took is))
     (λ is other ne. ap (λ (z : Sounds). z other) same) c.import.ensures.lasts in
     let command_is : command.Import name ≡ c.args.command.now =

@@ -6,16 +6,16 @@ use Rattle.pcm_base.specs.declared.command.Command.TheVariants as command
 use Rattle.pcm_base.specs.declared.command.Call.TheVariants.{Line}
 use Rattle.pcm_base.specs.declared.refusal.Refusal.{Refusal}
 use Rattle.editor_core.specs.Core.{core_of}
-use Rattle.editor_core.specs.Took.{Took, silent}
+use Rattle.editor_core.specs.Took.{Took, freeing, quietly}
 use Rattle.editor_core.proofs.studio.Studio.silent_reply.Goals as goal
 
 pub returns-in-Track : goal.returns-in-Track
 returns-in-Track g c =
     let s = core_of c.args.self.now in (
       0,
-      subst (λ (k : Command). Took g.S.Store s (Line k) silent c.done.result 0 (core_of c.track.new.self))
+      subst (λ (k : Command). Took g.S.Store s (quietly (Line k) c.done.result) (core_of c.track.new.self))
           (sym c.in-Track.is)
-          (subst (λ (r : Result Reply Refusal). Took g.S.Store s (Line (command.Track)) silent r 0
+          (subst (λ (r : Result Reply Refusal). Took g.S.Store s (quietly (Line (command.Track)) r)
           (core_of c.track.new.self)) (sym c.done.ensures) c.track.ensures.took),
     )
 
@@ -23,9 +23,9 @@ pub returns-in-Drop : goal.returns-in-Drop
 returns-in-Drop g c =
     let s = core_of c.args.self.now in (
       0,
-      subst (λ (k : Command). Took g.S.Store s (Line k) silent c.done-in-Drop.result 0 (core_of c.drop.new.self))
+      subst (λ (k : Command). Took g.S.Store s (quietly (Line k) c.done-in-Drop.result) (core_of c.drop.new.self))
           (sym c.in-Drop.is)
-          (subst (λ (r : Result Reply Refusal). Took g.S.Store s (Line (command.Drop c.in-Drop.track)) silent r 0
+          (subst (λ (r : Result Reply Refusal). Took g.S.Store s (quietly (Line (command.Drop c.in-Drop.track)) r)
           (core_of c.drop.new.self)) (sym c.done-in-Drop.ensures) c.drop.ensures.took),
     )
 
@@ -33,39 +33,42 @@ pub returns-in-Level : goal.returns-in-Level
 returns-in-Level g c =
     let s = core_of c.args.self.now in (
       0,
-      subst (λ (k : Command). Took g.S.Store s (Line k) silent c.done-in-Level.result 0 (core_of c.level.new.self))
+      subst (λ (k : Command). Took g.S.Store s (quietly (Line k) c.done-in-Level.result) (core_of c.level.new.self))
           (sym c.in-Level.is)
-          (subst (λ (r : Result Reply Refusal). Took g.S.Store s (Line (command.Level c.in-Level.track c.in-Level.gain))
-          silent r 0 (core_of c.level.new.self)) (sym c.done-in-Level.ensures) c.level.ensures.took),
+          (subst (λ (r : Result Reply Refusal). Took g.S.Store s
+          (quietly (Line (command.Level c.in-Level.track c.in-Level.gain)) r)
+          (core_of c.level.new.self)) (sym c.done-in-Level.ensures) c.level.ensures.took),
     )
 
 pub returns-in-Side : goal.returns-in-Side
 returns-in-Side g c =
     let s = core_of c.args.self.now in (
       0,
-      subst (λ (k : Command). Took g.S.Store s (Line k) silent c.done-in-Side.result 0 (core_of c.side.new.self))
+      subst (λ (k : Command). Took g.S.Store s (quietly (Line k) c.done-in-Side.result) (core_of c.side.new.self))
           (sym c.in-Side.is)
-          (subst (λ (r : Result Reply Refusal). Took g.S.Store s (Line (command.Side c.in-Side.track c.in-Side.side))
-          silent r 0 (core_of c.side.new.self)) (sym c.done-in-Side.ensures) c.side.ensures.took),
+          (subst (λ (r : Result Reply Refusal). Took g.S.Store s
+          (quietly (Line (command.Side c.in-Side.track c.in-Side.side)) r)
+          (core_of c.side.new.self)) (sym c.done-in-Side.ensures) c.side.ensures.took),
     )
 
 pub returns-in-Mute : goal.returns-in-Mute
 returns-in-Mute g c =
     let s = core_of c.args.self.now in (
       0,
-      subst (λ (k : Command). Took g.S.Store s (Line k) silent c.done-in-Mute.result 0 (core_of c.mute.new.self))
+      subst (λ (k : Command). Took g.S.Store s (quietly (Line k) c.done-in-Mute.result) (core_of c.mute.new.self))
           (sym c.in-Mute.is)
-          (subst (λ (r : Result Reply Refusal). Took g.S.Store s (Line (command.Mute c.in-Mute.track c.in-Mute.mute))
-          silent r 0 (core_of c.mute.new.self)) (sym c.done-in-Mute.ensures) c.mute.ensures.took),
+          (subst (λ (r : Result Reply Refusal). Took g.S.Store s
+          (quietly (Line (command.Mute c.in-Mute.track c.in-Mute.mute)) r)
+          (core_of c.mute.new.self)) (sym c.done-in-Mute.ensures) c.mute.ensures.took),
     )
 
 pub returns-in-Undo : goal.returns-in-Undo
 returns-in-Undo g c =
     let s = core_of c.args.self.now in (
       0,
-      subst (λ (k : Command). Took g.S.Store s (Line k) silent c.done-in-Undo.result 0 (core_of c.undo.new.self))
+      subst (λ (k : Command). Took g.S.Store s (quietly (Line k) c.done-in-Undo.result) (core_of c.undo.new.self))
           (sym c.in-Undo.is)
-          (subst (λ (r : Result Reply Refusal). Took g.S.Store s (Line (command.Undo)) silent r 0
+          (subst (λ (r : Result Reply Refusal). Took g.S.Store s (quietly (Line (command.Undo)) r)
           (core_of c.undo.new.self)) (sym c.done-in-Undo.ensures) c.undo.ensures.took),
     )
 
@@ -73,9 +76,9 @@ pub returns-in-Redo : goal.returns-in-Redo
 returns-in-Redo g c =
     let s = core_of c.args.self.now in (
       0,
-      subst (λ (k : Command). Took g.S.Store s (Line k) silent c.done-in-Redo.result 0 (core_of c.redo.new.self))
+      subst (λ (k : Command). Took g.S.Store s (quietly (Line k) c.done-in-Redo.result) (core_of c.redo.new.self))
           (sym c.in-Redo.is)
-          (subst (λ (r : Result Reply Refusal). Took g.S.Store s (Line (command.Redo)) silent r 0
+          (subst (λ (r : Result Reply Refusal). Took g.S.Store s (quietly (Line (command.Redo)) r)
           (core_of c.redo.new.self)) (sym c.done-in-Redo.ensures) c.redo.ensures.took),
     )
 
@@ -83,9 +86,9 @@ pub returns-in-Purge : goal.returns-in-Purge
 returns-in-Purge g c =
     let s = core_of c.args.self.now in (
       0,
-      subst (λ (k : Command). Took g.S.Store s (Line k) silent c.done-in-Purge.result 0 (core_of c.purge.new.self))
+      subst (λ (k : Command). Took g.S.Store s (quietly (Line k) c.done-in-Purge.result) (core_of c.purge.new.self))
           (sym c.in-Purge.is)
-          (subst (λ (r : Result Reply Refusal). Took g.S.Store s (Line (command.Purge c.in-Purge.count)) silent r 0
+          (subst (λ (r : Result Reply Refusal). Took g.S.Store s (quietly (Line (command.Purge c.in-Purge.count)) r)
           (core_of c.purge.new.self)) (sym c.done-in-Purge.ensures) c.purge.ensures.took),
     )
 
@@ -93,7 +96,7 @@ pub returns-in-Show : goal.returns-in-Show
 returns-in-Show g c =
     let s = core_of c.args.self.now in (
       0,
-      subst (λ (k : Command). Took g.S.Store s (Line k) silent c.show_reply.result 0 (core_of c.show_reply.new.self))
+      subst (λ (k : Command). Took g.S.Store s (quietly (Line k) c.show_reply.result) (core_of c.show_reply.new.self))
           (sym c.in-Show.is)
           (c.show_reply.ensures),
     )
@@ -102,7 +105,7 @@ pub returns-in-Mix : goal.returns-in-Mix
 returns-in-Mix g c =
     let s = core_of c.args.self.now in (
       0,
-      subst (λ (k : Command). Took g.S.Store s (Line k) silent c.mix_reply.result 0 (core_of c.mix_reply.new.self))
+      subst (λ (k : Command). Took g.S.Store s (quietly (Line k) c.mix_reply.result) (core_of c.mix_reply.new.self))
           (sym c.in-Mix.is)
           (c.mix_reply.ensures),
     )
@@ -111,7 +114,7 @@ pub returns-in-Envelope : goal.returns-in-Envelope
 returns-in-Envelope g c =
     let s = core_of c.args.self.now in (
       0,
-      subst (λ (k : Command). Took g.S.Store s (Line k) silent c.envelope_reply.result 0
+      subst (λ (k : Command). Took g.S.Store s (quietly (Line k) c.envelope_reply.result)
           (core_of c.envelope_reply.new.self)) (sym c.in-Envelope.is)
           (c.envelope_reply.ensures),
     )
@@ -120,7 +123,7 @@ pub returns-in-Tracks : goal.returns-in-Tracks
 returns-in-Tracks g c =
     let s = core_of c.args.self.now in (
       0,
-      subst (λ (k : Command). Took g.S.Store s (Line k) silent c.tracks_reply.result 0 s) (sym c.in-Tracks.is)
+      subst (λ (k : Command). Took g.S.Store s (quietly (Line k) c.tracks_reply.result) s) (sym c.in-Tracks.is)
           (c.tracks_reply.ensures),
     )
 
@@ -128,9 +131,10 @@ pub returns-in-Reclaim : goal.returns-in-Reclaim
 returns-in-Reclaim g c =
     let s = core_of c.args.self.now in (
       (length c.reclaim.ensures.ids),
-      subst (λ (k : Command). Took g.S.Store s (Line k) silent c.freed.result (length c.reclaim.ensures.ids)
+      subst (λ (k : Command). Took g.S.Store s (freeing (Line k) c.freed.result (length c.reclaim.ensures.ids))
           (core_of c.reclaim.new.self)) (sym c.in-Reclaim.is)
-          (subst (λ (r : Result Reply Refusal). Took g.S.Store s (Line (command.Reclaim c.in-Reclaim.limit)) silent r
-          (length c.reclaim.ensures.ids) (core_of c.reclaim.new.self))
+          (subst (λ (r : Result Reply Refusal). Took g.S.Store s
+          (freeing (Line (command.Reclaim c.in-Reclaim.limit)) r (length c.reclaim.ensures.ids))
+          (core_of c.reclaim.new.self))
           (sym c.freed.ensures) c.reclaim.ensures.took),
     )

@@ -10,7 +10,7 @@ use Rattle.pcm_base.specs.Step.{line_of_track}
 use Rattle.project_state.specs.declared.track.Track.{Track}
 use Rattle.project_state.specs.Kept.{meant}
 use Rattle.editor_core.specs.Core.{core_of}
-use Rattle.editor_core.specs.Took.{Took, silent, told_by}
+use Rattle.editor_core.specs.Took.{Took, quietly, told_by}
 use Rattle.editor_core.proofs.Telling.{tell_stopped, tell_wanting, told_of}
 use Rattle.editor_core.proofs.studio.Studio.tracks.Goals as goal
 
@@ -26,7 +26,7 @@ pub returns-in_err-lines-clause-took : goal.returns-in_err-lines-clause-took
 returns-in_err-lines-clause-took g c =
     let p = err_from_is_err_and c.from_residual.result c.from_residual.ensures.1 in
     let s = core_of c.args.self.now in
-    subst (λ r. Took g.S.Store s (Line command.Tracks) silent (told_by reply.Tracks r) 0 s) (sym (p.1 ∙ ap Err p.2))
+    subst (λ r. Took g.S.Store s (quietly (Line command.Tracks) (told_by reply.Tracks r)) s) (sym (p.1 ∙ ap Err p.2))
     (tell_wanting g.S.Store s c.requires (g.met.S.Store.may_fewer s.store))
 
 pub returns-in_err-lines-clause-why : goal.returns-in_err-lines-clause-why
@@ -39,6 +39,6 @@ pub returns-clause-took : goal.returns-clause-took
 returns-clause-took g c =
     let s = core_of c.args.self.now in
     let lines = c.in_ok-lines.lines.items in
-    subst (λ xs. Took g.S.Store s (Line command.Tracks) silent (Ok (reply.Tracks xs)) 0 s) (sym c.new.ensures)
+    subst (λ xs. Took g.S.Store s (quietly (Line command.Tracks) (Ok (reply.Tracks xs))) s) (sym c.new.ensures)
     (told_of g.S.Store s c.requires (g.met.S.Store.may_fewer s.store) lines c.in_default.is
     (λ src. c.in_ok-lines.ensures src ∙ ap (λ (z : List Track). map line_of_track (meant src z)) c.current_of.ensures))

@@ -11,7 +11,7 @@ use Rattle.envelope_view.specs.Answers.{IsUndamaged}
 use Rattle.project_state.specs.declared.body.Body.TheVariants.{Undo}
 use Rattle.editor_core.specs.Adding.{Adds, IsNoWant}
 use Rattle.editor_core.specs.Core.{Core, core_of}
-use Rattle.editor_core.specs.Took.{Took, silent, told_by}
+use Rattle.editor_core.specs.Took.{Took, quietly, silent, told_by}
 use Rattle.editor_core.proofs.Committing.{fails}
 use Rattle.editor_core.proofs.Moved.{undone, positive}
 use Rattle.editor_core.proofs.Moving.{undo_call, undoes, moved, tested_out, no_want, other_reason}
@@ -23,7 +23,7 @@ pub returns-in_err-may_commit-clause-took : goal.returns-in_err-may_commit-claus
 returns-in_err-may_commit-clause-took g c =
     let p = err_from_is_err_and c.from_residual.result c.from_residual.ensures.1 in
     let s = core_of c.args.self.now in
-    subst (λ r. Took g.S.Store s (Line command.Undo) silent (told_by (λ (n : ℕ). Done) r) 0 s) (sym (p.1 ∙ ap Err p.2))
+    subst (λ r. Took g.S.Store s (quietly (Line command.Undo) (told_by (λ (n : ℕ). Done) r)) s) (sym (p.1 ∙ ap Err p.2))
     (tested_out g.S.Store s (Line command.Undo) 0 1 c.undo_refusal.result c.in_err-may_commit.field-0.0 c.requires
     (g.met.S.Store.may_fewer s.store) undo_call (λ held. (refl, refl))
     c.undo_refusal.ensures c.in_err-may_commit.ensures)
@@ -66,7 +66,7 @@ returns-in_err-commit_small-clause-took g c =
     let some = positive s.history.cursor NothingToUndo own in
     let why = c.in_err-commit_small.field-0.0 in
     let adds = c.in_err-commit_small.ensures.record in
-    subst (λ r. Took g.S.Store s (Line command.Undo) silent (told_by (λ (n : ℕ). Done) r) 0 mid)
+    subst (λ r. Took g.S.Store s (quietly (Line command.Undo) (told_by (λ (n : ℕ). Done) r)) mid)
     (sym (p.1 ∙ ap Err p.2))
     (fails g.S.Store s [] (Line command.Undo) silent 0 Undo
     (at_cursor s.history (s.history.cursor - 1)) s.clipboard s.next_track c.requires (none_made g.S.Store s)

@@ -5,14 +5,14 @@ use Rattle.pcm_base.specs.declared.refusal.Refusal.TheVariants.{NoPin}
 use Rattle.block_ledger.specs.Entries.{count_of}
 use Rattle.editor_core.specs.Core.{core_of}
 use Rattle.editor_core.specs.declared.studio.Pin.{Pin}
-use Rattle.editor_core.specs.Took.{Took, silent}
+use Rattle.editor_core.specs.Took.{Took, quietly}
 use Rattle.editor_core.proofs.Unpinning.{pin_counted, unpinned, unpin_lacks}
 use Rattle.editor_core.proofs.studio.Studio.unpin.Goals as goal
 
 pub returns-in_default-clause-took : goal.returns-in_default-clause-took
 returns-in_default-clause-took g c =
     let s = core_of c.args.self.now in
-    subst (λ (ps : List Pin). Took g.S.Store s (Unpin c.args.pin) silent (Err (NoPin c.args.pin)) 0
+    subst (λ (ps : List Pin). Took g.S.Store s (quietly (Unpin c.args.pin) (Err (NoPin c.args.pin)))
     (record s { pins = ps })) (sym c.in_default.ensures.0)
     (unpin_lacks g.S.Store s c.requires c.args.pin (g.met.S.Store.may_fewer s.store) c.in_default.ensures.1)
 
