@@ -3,6 +3,7 @@ use Rattle.std.proofs.Common.{◌≡◌, inl, IfErr, refl, sym, ap, subst, ℕ, 
 use Rattle.std.proofs.Common.{Result, Ok, Err}
 use Rattle.pcm_base.specs.declared.answer.Reply.{Reply}
 use Rattle.pcm_base.specs.declared.command.Call.{Call}
+use Rattle.pcm_base.specs.declared.entry.SoundMove.{SoundMove}
 use Rattle.pcm_base.specs.declared.refusal.Refusal.{Refusal}
 use Rattle.pcm_base.specs.Outside.{SameElsewhere, Sounds}
 use Rattle.pcm_base.specs.declared.command.Command.{Command}
@@ -17,7 +18,7 @@ use Rattle.editor_core.specs.Exports.{moved_from}
 use Rattle.editor_core.specs.Imports.{VaultCounted}
 use Rattle.editor_core.specs.Left.{Left, MayRemove}
 use Rattle.editor_core.specs.Studios.{IsStudio}
-use Rattle.editor_core.specs.Took.{Took, exchange_of, freeing, number_behind, told_by, with_sound}
+use Rattle.editor_core.specs.Took.{Exchange, Took, exchange_of, freeing, number_behind, told_by, with_sound}
 use Rattle.editor_core.proofs.Leaving.{IsPlain, left_plain}
 use Rattle.editor_core.proofs.Looking.{looked_studio}
 use Rattle.editor_core.proofs.Others.{others_none}
@@ -30,9 +31,8 @@ spanned tells old new old_sounds new_sounds =
 
 module _ {D : Type 0} (disk : Ghosts D) (s : Core D) where
   -- a step lasts
-  pub lasts_took : (call : Call) (told : Result Reply Refusal) (removed : ℕ) (new : Core D)
-      → Took disk s (freeing call told removed) new → Lasts disk s call told removed new
-  lasts_took call told removed new took = record {
+  pub lasts_took : (exchange : Exchange) (new : Core D) → Took disk s exchange new → Lasts disk s exchange new
+  lasts_took exchange new took = record {
     studio = took.studio;
     number = took.number;
     rests = took.rests;
@@ -43,9 +43,10 @@ module _ {D : Type 0} (disk : Ghosts D) (s : Core D) where
   }
 
   -- nothing was done
-  pub lasts_idle : IsStudio disk s → Fewer disk s.store → (call : Call) (why : Refusal) → IsPlain why
-      → Lasts disk s call (Err why) 0 s
-  lasts_idle is fewer call why plain = record {
+  pub lasts_idle : IsStudio disk s → Fewer disk s.store → (call : Call) (sound : SoundMove) (why : Refusal)
+      → IsPlain why
+      → Lasts disk s (with_sound call sound (Err why)) s
+  lasts_idle is fewer call sound why plain = record {
     studio = is;
     number = refl;
     rests = λ some. refl;
@@ -56,12 +57,12 @@ module _ {D : Type 0} (disk : Ghosts D) (s : Core D) where
   }
 
   -- nothing was changed
-  pub lasts_looked : (is : IsStudio disk s) (call : Call) → s.stopped ≡ None
+  pub lasts_looked : (is : IsStudio disk s) (call : Call) (sound : SoundMove) → s.stopped ≡ None
       → (store : D) (kept : Kept disk s.store store) (told : Result Reply Refusal)
       → s.commit_number ≡ number_behind told call s.commit_number
       → IfErr told (Left disk s (MayRemove call s.counts) (record s { store = store }))
-      → Lasts disk s call told 0 (record s { store = store })
-  lasts_looked is call going store kept told number left = record {
+      → Lasts disk s (with_sound call sound told) (record s { store = store })
+  lasts_looked is call sound going store kept told number left = record {
     studio = looked_studio disk s is store kept;
     number = number;
     rests = λ some. absurd (stopped_not s.stopped some going);
@@ -76,14 +77,15 @@ module _ {D : Type 0} (disk : Ghosts D) (s : Core D) where
       (new : Core D) → name_in call ≡ None
       → Took disk s (freeing call told removed) new
       → TookOver disk (spanned tells s new sounds sounds) call told
-  over_silent tells sounds call told removed new none took = record {
-    removed = removed;
-    took = λ is. subst
-        (λ (o : Option (List ℕ)). Took disk s (exchange_of call (move_of o sounds sounds) told removed) new)
-        (sym none) took;
-    heard = λ is. subst (λ (o : Option (List ℕ)). Heard o (move_of o sounds sounds) sounds sounds) (sym none) refl;
-    lasts = lasts_took call told removed new took;
-  }
+  over_silent tells sounds call told removed new none took =
+      let all : Took disk s (exchange_of call (move_of (name_in call) sounds sounds) told removed) new =
+      subst (λ (o : Option (List ℕ)). Took disk s (exchange_of call (move_of o sounds sounds) told removed) new)
+      (sym none) took in record {
+        removed = removed;
+        took = λ is. all;
+        heard = λ is. subst (λ (o : Option (List ℕ)). Heard o (move_of o sounds sounds) sounds sounds) (sym none) refl;
+        lasts = lasts_took (exchange_of call (move_of (name_in call) sounds sounds) told removed) new all;
+      }
 
 -- one that names a sound
 pub over_sound : {D : Type 0} (disk : Ghosts D) (span : Span D) (call : Call) (name : List ℕ)
@@ -91,14 +93,14 @@ pub over_sound : {D : Type 0} (disk : Ghosts D) (span : Span D) (call : Call) (n
     → (IsTrue span.tells
     → Took disk span.old (with_sound call (moved_from (span.old_sounds name) (span.new_sounds name)) told) span.new)
     → (IsTrue span.tells → SameElsewhere name span.old_sounds span.new_sounds)
-    → Lasts disk span.old call told 0 span.new → TookOver disk span call told
+    → ((sound : SoundMove) → Lasts disk span.old (with_sound call sound told) span.new) → TookOver disk span call told
 over_sound disk span call name told named took others lasts = record {
   removed = 0;
   took = λ is. subst (λ (o : Option (List ℕ)). Took disk span.old (with_sound call (sound_moved span o) told) span.new)
       (sym named) (took (is (ap is_some named)));
   heard = λ is. subst (λ (o : Option (List ℕ)). Heard o (sound_moved span o) span.old_sounds span.new_sounds)
       (sym named) (refl, refl, others (is (ap is_some named)));
-  lasts = lasts;
+  lasts = lasts (sound_moved span (name_in call));
 }
 
 -- a reply tells of the vault's count what the answer told

@@ -7,15 +7,16 @@ use Rattle.disk_model.specs.declared.store.Store.{Ghosts}
 use Rattle.editor_core.specs.Adding.{Adds, IsNoWant}
 use Rattle.editor_core.specs.Core.{Core}
 use Rattle.editor_core.specs.Edits.{Carried, IsPrepared, BlockCommit}
+use Rattle.editor_core.specs.Made.{batch_of, ids_from}
 use Rattle.editor_core.specs.Makes.{AreSynced, Making}
 
 -- ---- how the code carries it out: after the first block was made nothing but the disk refuses
 
 pub carried_by : {D : Type 0} (disk : Ghosts D) (s mid new : Core D) (c : BlockCommit)
     (result : Result (Unit {0}) Refusal)
-    → Making disk s c.given (length c.makes) c.makes mid
+    → Making disk s (batch_of c.given c.makes) (length c.makes) mid
     → disk.read_fault_count mid.store ≡ disk.read_fault_count s.store
-    → AreSynced disk s.next_block (length c.makes) mid.store
+    → AreSynced disk (ids_from s.next_block (length c.makes)) mid.store
     → IsPrepared s (length c.makes) c.tracks (length c.body) → Adds disk mid c.body result new → IfErr result IsNoWant
     → Carried disk s c result new
 carried_by disk s mid new c (Ok done) making reads synced prepared adds no_want =

@@ -34,7 +34,7 @@ use Rattle.project_state.proofs.KeptBounds.{all_append, tagged_more}
 use Rattle.editor_core.specs.Core.{Core}
 use Rattle.editor_core.specs.Edits.{IsEdit, IsPlanned, alone, beside, blocks_with, TaggedEdit, clip_behind}
 use Rattle.editor_core.specs.Edits.{history_behind}
-use Rattle.editor_core.specs.Made.{PiecesThere}
+use Rattle.editor_core.specs.Made.{PiecesThere, batch_of, ids_from}
 use Rattle.editor_core.specs.Makes.{AreSynced, Making}
 use Rattle.editor_core.specs.Occurrences.{HasAll, HasIds}
 use Rattle.editor_core.specs.Studios.{IsGiven, IsHeld, IsStudio, clip_blocks, named_blocks, pin_blocks, studio_by}
@@ -99,7 +99,7 @@ module _ {D : Type 0} (disk : Ghosts D) (s : Core D) (is : IsStudio disk s) (goi
 
   -- ---- the counts have room for what is named
 
-  module _ (mid : Core D) (making : Making disk s given n makes mid) (fits : s.next_block + n ≤ 2 ^ 62) where
+  module _ (mid : Core D) (making : Making disk s (batch_of given makes) n mid) (fits : s.next_block + n ≤ 2 ^ 62) where
     mid_is : IsStudio disk mid
     mid_is = made_studio disk s is given makes n mid making going (omega arith) plan.new fits pieces_there
 
@@ -210,7 +210,7 @@ module _ {D : Type 0} (disk : Ghosts D) (s : Core D) (is : IsStudio disk s) (goi
       abbrev pub grown : Core D
       grown = record s { store = store; counts = counts; next_block = s.next_block + n }
 
-      module _ (making : Making disk s given n makes grown) (most : s.next_block + n ≤ 2 ^ 62)
+      module _ (making : Making disk s (batch_of given makes) n grown) (most : s.next_block + n ≤ 2 ^ 62)
           (ids : track_then ≤ 2 ^ 62) where
         pub grown_is : IsStudio disk grown
         grown_is = made_studio disk s is given makes n grown making going (omega arith) plan.new most pieces_there
@@ -218,7 +218,7 @@ module _ {D : Type 0} (disk : Ghosts D) (s : Core D) (is : IsStudio disk s) (goi
         pub grown_held : IsHeld disk s → IsHeld disk grown
         grown_held = made_held disk s is given makes n grown making going (omega arith) plan.new most pieces_there
 
-        pub grown_made : AreSynced disk s.next_block n store → HasMade (IsHeld disk s) disk grown made
+        pub grown_made : AreSynced disk (ids_from s.next_block n) store → HasMade (IsHeld disk s) disk grown made
         grown_made = has_made disk s is given makes going plan.new most pieces_there c sound grown making
 
         written : IsHeld disk s → AreWritten (beside (samples_on (disk.reads store)) (brought given)) makes

@@ -28,6 +28,7 @@ use Rattle.editor_core.specs.Core.{Core}
 use Rattle.editor_core.specs.Edits.{Carried, Committed, IsEdit, IsPlanned, IsPrepared, TaggedEdit, clip_behind}
 use Rattle.editor_core.specs.Edits.{history_behind}
 use Rattle.editor_core.specs.Left.{Left, MayRemove, Stops}
+use Rattle.editor_core.specs.Made.{batch_of, ids_from}
 use Rattle.editor_core.specs.Makes.{AreSynced, Making}
 use Rattle.editor_core.specs.Studios.{IsHeld, IsStudio, clip_blocks, ids_of, pin_blocks, studio_of}
 use Rattle.editor_core.specs.Took.{Took, with_sound}
@@ -91,13 +92,10 @@ module _ {D : Type 0} (disk : Ghosts D) (s : Core D) (is : IsStudio disk s) (goi
   need = edit_needs disk s is going e plan c sound edit
 
   module _ (prepared : IsPrepared s n tracks (length body)) (store : D) (counts : Counts)
-      (making : Making disk s given n makes (record s {
-        store = store;
-        counts = counts;
-        next_block = s.next_block + n;
-      }))
+      (making : Making disk s (batch_of given makes) n
+      (record s { store = store; counts = counts; next_block = s.next_block + n }))
       (reads : disk.read_fault_count store ≡ disk.read_fault_count s.store)
-      (synced : AreSynced disk s.next_block n store) where
+      (synced : AreSynced disk (ids_from s.next_block n) store) where
     abbrev mid : Core D
     mid = record s { store = store; counts = counts; next_block = s.next_block + n }
 
@@ -261,9 +259,10 @@ module _ {D : Type 0} (disk : Ghosts D) (s : Core D) (is : IsStudio disk s) (goi
           }) (inl (refl, adds.fields.2 ∙ making.change_faults)) tt)
 
   -- a studio with blocks that were made, by its parts
-  made_so : (it : Core D) → Making disk s given n makes it
-      → Making disk s given n makes (record s { store = it.store; counts = it.counts; next_block = s.next_block + n })
-  made_so it making = subst (λ (z : Core D). Making disk s given n makes z) making.is making
+  made_so : (it : Core D) → Making disk s (batch_of given makes) n it
+      → Making disk s (batch_of given makes) n
+      (record s { store = it.store; counts = it.counts; next_block = s.next_block + n })
+  made_so it making = subst (λ (z : Core D). Making disk s (batch_of given makes) n z) making.is making
 
   pub edit_err : (why : Refusal) (new : Core D) → Carried disk s (commit_of s e) (Err why) new
       → Took disk s (with_sound c sound (Err why)) new

@@ -29,7 +29,7 @@ use Rattle.editor_core.specs.declared.inserts.Place.TheVariants.{At, End}
 use Rattle.editor_core.specs.Edits.{outside_at}
 use Rattle.editor_core.specs.Inserts.{place_cells, place_edit, place_test}
 use Rattle.editor_core.specs.Took.{silent}
-use Rattle.editor_core.specs.TrackEdits.{IsTrackCall}
+use Rattle.editor_core.specs.TrackEdits.{IsTrackCall, track_command}
 use Rattle.editor_core.proofs.NoDamage.{TellsNone, either_tells}
 use Rattle.editor_core.proofs.RangeLaws.{all_here}
 
@@ -89,7 +89,8 @@ module _ (xs : List ℤ) (given : brings.Given) (is : brought given ≡ (λ i. g
   same = (λ i. stretch (is i) 0 (count i)) ∙ samples_brought xs
 
   pub put_call : (id at : ℕ)
-      → IsTrackCall (call.Line (command.Put id at xs)) silent (place_edit (At at) (brought_count given)) given id 0
+      → IsTrackCall (call.Line (command.Put id at xs)) silent
+      (track_command (place_edit (At at) (brought_count given)) given id 0)
   put_call id at =
       let line = call.Line (command.Put id at xs) in record {
         call = record {
@@ -114,7 +115,7 @@ module _ (xs : List ℤ) (given : brings.Given) (is : brought given ≡ (λ i. g
       }
 
   pub piece_call : (id tag : ℕ)
-      → IsTrackCall (call.Piece id tag xs) silent (place_edit End (brought_count given)) given id tag
+      → IsTrackCall (call.Piece id tag xs) silent (track_command (place_edit End (brought_count given)) given id tag)
   piece_call id tag =
       let piece = call.Piece id tag xs in record {
         call = record {
@@ -139,7 +140,7 @@ module _ (xs : List ℤ) (given : brings.Given) (is : brought given ≡ (λ i. g
       }
 
 ramp_call : (id at count : ℕ) (start step : ℤ) → IsTrackCall (call.Line (command.Ramp id at count start step)) silent
-    (place_edit (At at) count) (given_as.Ramp start step count) id 0
+    (track_command (place_edit (At at) count) (given_as.Ramp start step count) id 0)
 ramp_call id at count start step =
     let same : as_cells (stretch (brought (given_as.Ramp start step count)) 0 count) ≡ ramp_of count start step =
     ramp_brought start step count 0 count in
@@ -165,9 +166,12 @@ ramp_call id at count start step =
 
 -- (the samples may come back from the machine's numbers)
 pub ramp_again : (id at count : ℕ) (start step a b : ℤ) → a ≡ start → b ≡ step → IsTrackCall
-    (call.Line (command.Ramp id at count start step)) silent (place_edit (At at) count) (given_as.Ramp a b count) id 0
+    (call.Line (command.Ramp id at count start step)) silent
+    (track_command (place_edit (At at) count) (given_as.Ramp a b count) id 0)
 ramp_again id at count start step a b first each =
     let line = call.Line (command.Ramp id at count start step) in
-    subst (λ (z : ℤ). IsTrackCall line silent (place_edit (At at) count) (given_as.Ramp z b count) id 0) (sym first)
-    (subst (λ (z : ℤ). IsTrackCall line silent (place_edit (At at) count) (given_as.Ramp start z count) id 0) (sym each)
+    subst (λ (z : ℤ). IsTrackCall line silent
+    (track_command (place_edit (At at) count) (given_as.Ramp z b count) id 0)) (sym first)
+    (subst (λ (z : ℤ). IsTrackCall line silent
+    (track_command (place_edit (At at) count) (given_as.Ramp start z count) id 0)) (sym each)
     (ramp_call id at count start step))

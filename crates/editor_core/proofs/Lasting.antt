@@ -5,6 +5,7 @@ use Rattle.pcm_base.specs.declared.answer.Reply.{Reply}
 use Rattle.pcm_base.specs.declared.answer.Reply.TheVariants.{Done}
 use Rattle.pcm_base.specs.declared.block.BlockRef.{BlockRef}
 use Rattle.pcm_base.specs.declared.command.Call.{Call}
+use Rattle.pcm_base.specs.declared.entry.SoundMove.{SoundMove}
 use Rattle.pcm_base.specs.declared.refusal.Refusal.{Refusal}
 use Rattle.pcm_base.specs.declared.refusal.Refusal.TheVariants as refusal
 use Rattle.pcm_base.specs.Counters.{commits_of}
@@ -26,10 +27,10 @@ use Rattle.editor_core.specs.Applied.{Lasts}
 use Rattle.editor_core.specs.Core.{Core}
 use Rattle.editor_core.specs.Edits.{Carried, Committed, IsPlanned, IsPrepared, TaggedEdit, clip_behind}
 use Rattle.editor_core.specs.Left.{IsSoOf, Left, LeavesOthers, MayRemove, Stops}
-use Rattle.editor_core.specs.Made.{PiecesThere}
+use Rattle.editor_core.specs.Made.{PiecesThere, batch_of}
 use Rattle.editor_core.specs.Makes.{Making, Stuck, Unput, Unread, one_call}
 use Rattle.editor_core.specs.Studios.{IsGiven, IsHeld, IsStudio, clip_blocks, ids_of, pin_blocks}
-use Rattle.editor_core.specs.Took.{asks, number_behind}
+use Rattle.editor_core.specs.Took.{asks, number_behind, with_sound}
 use Rattle.editor_core.proofs.CarriedOut.{commit_of}
 use Rattle.editor_core.proofs.Applying.{lasts_idle}
 use Rattle.editor_core.proofs.EditLaws.{clip_covers_then, covers_then, edit_history, pieces_there, points_then}
@@ -49,7 +50,7 @@ use Rattle.editor_core.proofs.Staying.{record_within, stopped_not}
 
 module _ {D : Type 0} (disk : Ghosts D) (s : Core D) (is : IsStudio disk s) (going : s.stopped ≡ None)
     (e : TaggedEdit) (plan : IsPlanned s e)
-    (c : Call) (one : commits_of c ≡ 1) where
+    (c : Call) (sound : SoundMove) (one : commits_of c ≡ 1) where
   abbrev given : brings.Given
   given = e.given
 
@@ -87,7 +88,8 @@ module _ {D : Type 0} (disk : Ghosts D) (s : Core D) (is : IsStudio disk s) (goi
       → new.commit_number ≡ number_behind told c s.commit_number → (len : ℕ)
       → Changed disk (LeavesOthers s.next_block new.next_block (MayRemove c s.counts))
       (asks s.block_size (new.next_block - s.next_block) len 0) s.store new.store
-      → Stops disk s told new → IfErr told (Left disk s (MayRemove c s.counts) new) → Lasts disk s c told 0 new
+      → Stops disk s told new → IfErr told (Left disk s (MayRemove c s.counts) new)
+      → Lasts disk s (with_sound c sound told) new
   lasts_going told new studio number len changed stops left = record {
     studio = studio;
     number = number;
@@ -101,8 +103,8 @@ module _ {D : Type 0} (disk : Ghosts D) (s : Core D) (is : IsStudio disk s) (goi
   -- ---- some of the blocks are made
 
   module _ (fits : s.next_block + n ≤ 2 ^ 62) (k : ℕ) (few : k ≤ n) where
-    unread_lasts : (why : Refusal) (mid new : Core D) → Making disk s given k makes mid → Unread disk mid new
-        → IsSoOf disk s new why → Lasts disk s c (Err why) 0 new
+    unread_lasts : (why : Refusal) (mid new : Core D) → Making disk s (batch_of given makes) k mid → Unread disk mid new
+        → IsSoOf disk s new why → Lasts disk s (with_sound c sound (Err why)) new
     unread_lasts why mid new was un so =
         let making = making_unread disk s given makes k mid new was un in
         lasts_going (Err why) new (made_studio disk s is given makes k new making going few plan.new fits there)
@@ -110,16 +112,16 @@ module _ {D : Type 0} (disk : Ghosts D) (s : Core D) (is : IsStudio disk s) (goi
         (inl (some_stop disk s given makes fits c k new making, making.change_faults))
         (some_left disk s given makes fits c k new making why so)
 
-    module _ (mid new : Core D) (was : Making disk s given k makes mid)
+    module _ (mid new : Core D) (was : Making disk s (batch_of given makes) k mid)
         (left : (k < n) ⊎ Changed disk StaysStep one_call mid.store new.store) (un : Unput disk mid new) where
       abbrev here : Core D
       here = unput_here disk s given makes fits c k mid new was few left un
 
-      unput_lasts : Lasts disk s c (Err refusal.DiskFault) 0 new
+      unput_lasts : Lasts disk s (with_sound c sound (Err refusal.DiskFault)) new
       unput_lasts =
           let studio : IsStudio disk here =
           with_store disk s is new.store k mid.counts here.stopped (omega (arith, fits, few)) was.ledger in
-          subst (λ (z : Core D). Lasts disk s c (Err refusal.DiskFault) 0 z)
+          subst (λ (z : Core D). Lasts disk s (with_sound c sound (Err refusal.DiskFault)) z)
           (sym (unput_is disk s given makes fits c k mid new was few left un))
           (lasts_going (Err refusal.DiskFault) here studio refl 0
           (unput_changed disk s given makes fits c k mid new was few left un 0)
@@ -127,7 +129,8 @@ module _ {D : Type 0} (disk : Ghosts D) (s : Core D) (is : IsStudio disk s) (goi
           (unput_left disk s given makes fits c k mid new was few left un))
 
   module _ (fits : s.next_block + n ≤ 2 ^ 62) where
-    stuck_lasts : (why : Refusal) (new : Core D) → Stuck disk s given makes why new → Lasts disk s c (Err why) 0 new
+    stuck_lasts : (why : Refusal) (new : Core D) → Stuck disk s (batch_of given makes) why new
+        → Lasts disk s (with_sound c sound (Err why)) new
     stuck_lasts refusal.DiskFault new stuck =
         ⊎_elim
         (λ un.
@@ -144,11 +147,8 @@ module _ {D : Type 0} (disk : Ghosts D) (s : Core D) (is : IsStudio disk s) (goi
   -- ---- all of them
 
   module _ (prepared : IsPrepared s n tracks (length body)) (store : D) (counts : Counts)
-      (making : Making disk s given n makes (record s {
-        store = store;
-        counts = counts;
-        next_block = s.next_block + n;
-      })) where
+      (making : Making disk s (batch_of given makes) n
+      (record s { store = store; counts = counts; next_block = s.next_block + n })) where
     abbrev mid : Core D
     mid = record s { store = store; counts = counts; next_block = s.next_block + n }
 
@@ -174,10 +174,10 @@ module _ {D : Type 0} (disk : Ghosts D) (s : Core D) (is : IsStudio disk s) (goi
 
     -- the record was not added
     failed_lasts : (new : Core D) → Adds {R = Unit {0}} disk mid body (Err refusal.DiskFault) new
-        → Lasts disk s c (Err refusal.DiskFault) 0 new
+        → Lasts disk s (with_sound c sound (Err refusal.DiskFault)) new
     failed_lasts new adds =
         let halted = stopped_by disk mid new.store in
-        subst (λ (z : Core D). Lasts disk s c (Err refusal.DiskFault) 0 z) (sym adds.fields.0)
+        subst (λ (z : Core D). Lasts disk s (with_sound c sound (Err refusal.DiskFault)) z) (sym adds.fields.0)
         (lasts_going (Err refusal.DiskFault) halted (stopped_studio disk mid mid_is new.store) refl (length body)
         (all_changed disk s given makes prepared.blocks c (length body) mid halted making refl
         (changed_wider (others_record mid.next_block mid.next_block NoneGoes)
@@ -208,21 +208,13 @@ module _ {D : Type 0} (disk : Ghosts D) (s : Core D) (is : IsStudio disk s) (goi
           (omega (arith, adds.fields.1)) h' counts' next_track
           moved tracked counted files
 
-      done_lasts : Lasts disk s c (Ok Done) 0 (record new {
-        history = h';
-        clipboard = clip;
-        counts = counts';
-        next_track = next_track;
-      })
+      done_lasts : Lasts disk s (with_sound c sound (Ok Done))
+          (record new { history = h'; clipboard = clip; counts = counts'; next_track = next_track })
       done_lasts =
           let number : s.commit_number + 1 ≡ s.commit_number + commits_of c =
           ap (λ (k : ℕ). s.commit_number + k) (sym one) in
-          subst (λ (z : Core D). Lasts disk s c (Ok Done) 0 (record z {
-            history = h';
-            clipboard = clip;
-            counts = counts';
-            next_track = next_track;
-          })) (sym adds.fields.0)
+          subst (λ (z : Core D). Lasts disk s (with_sound c sound (Ok Done))
+          (record z { history = h'; clipboard = clip; counts = counts'; next_track = next_track })) (sym adds.fields.0)
           (lasts_going (Ok Done) done done_studio number (length body)
           (all_changed disk s given makes prepared.blocks c (length body) mid done making refl
           (changed_wider (others_record mid.next_block mid.next_block NoneGoes)
@@ -232,22 +224,23 @@ module _ {D : Type 0} (disk : Ghosts D) (s : Core D) (is : IsStudio disk s) (goi
   -- ---- all of it
 
   -- a studio with blocks that were made, by its parts
-  made_so : (it : Core D) → Making disk s given n makes it
-      → Making disk s given n makes (record s { store = it.store; counts = it.counts; next_block = s.next_block + n })
-  made_so it making = subst (λ (z : Core D). Making disk s given n makes z) making.is making
+  made_so : (it : Core D) → Making disk s (batch_of given makes) n it
+      → Making disk s (batch_of given makes) n
+      (record s { store = it.store; counts = it.counts; next_block = s.next_block + n })
+  made_so it making = subst (λ (z : Core D). Making disk s (batch_of given makes) n z) making.is making
 
   pub lasts_err : Fewer disk s.store → (why : Refusal) (new : Core D)
-      → Carried disk s (commit_of s e) (Err why) new → Lasts disk s c (Err why) 0 new
+      → Carried disk s (commit_of s e) (Err why) new → Lasts disk s (with_sound c sound (Err why)) new
   lasts_err fewer why new carried = ⊎_elim
       (λ not.
-      subst (λ (z : Core D). Lasts disk s c (Err why) 0 z) (sym not.0)
-      (lasts_idle disk s is fewer c why (unprepared_plain s n tracks (length body) why not.1)))
+      subst (λ (z : Core D). Lasts disk s (with_sound c sound (Err why)) z) (sym not.0)
+      (lasts_idle disk s is fewer c sound why (unprepared_plain s n tracks (length body) why not.1)))
       (⊎_elim
       (λ some. stuck_lasts some.0.blocks why new some.1)
       (λ last.
       let it = last.1 in
       let adds = subst (λ (e : Refusal). Adds {R = Unit {0}} disk it.mid body (Err e) new) last.0 it.adds in
-      subst (λ (e : Refusal). Lasts disk s c (Err e) 0 new) (sym last.0)
+      subst (λ (e : Refusal). Lasts disk s (with_sound c sound (Err e)) new) (sym last.0)
       (failed_lasts it.prepared it.mid.store it.mid.counts (made_so it.mid it.making) new
       (subst (λ (z : Core D). Adds {R = Unit {0}} disk z body (Err refusal.DiskFault) new) it.making.is adds))))
       carried
@@ -257,12 +250,8 @@ module _ {D : Type 0} (disk : Ghosts D) (s : Core D) (is : IsStudio disk s) (goi
       → h' ≡ h → next_track ≡ track_then
       → IsFreshCount (ids_of (history_blocks h ++ (pin_blocks s.pins ++ clip_blocks clip))) counts'
       → ((id : ℕ) → IsSome (counts' id) ↔ IsSome (it.mid.counts id))
-      → Lasts disk s c (Ok Done) 0 (record new {
-        history = h';
-        clipboard = clip;
-        counts = counts';
-        next_track = next_track;
-      })
+      → Lasts disk s (with_sound c sound (Ok Done))
+      (record new { history = h'; clipboard = clip; counts = counts'; next_track = next_track })
   lasts_ok done new it h' counts' next_track moved tracked counted files =
       done_lasts it.prepared it.mid.store it.mid.counts (made_so it.mid it.making) done new
       (subst (λ (z : Core D). Adds disk z body (Ok done) new) it.making.is it.adds) h' counts' next_track moved tracked

@@ -23,7 +23,7 @@ use Rattle.edit_ops.specs.Plans.{AreNew, ref_of}
 use Rattle.piece_store.specs.declared.given.Given.{Given}
 use Rattle.editor_core.specs.Core.{Core}
 use Rattle.editor_core.specs.Left.{Left, MayRemove, Stops}
-use Rattle.editor_core.specs.Made.{PiecesThere}
+use Rattle.editor_core.specs.Made.{PiecesThere, batch_of, ids_from}
 use Rattle.editor_core.specs.Makes.{AreSynced, Making}
 use Rattle.editor_core.specs.Studios.{IsGiven, IsHeld, IsStudio, shown, studio_of}
 use Rattle.editor_core.specs.Took.{KeepsOneOf, Took, number_behind, with_sound}
@@ -48,7 +48,7 @@ module _ {D : Type 0} (disk : Ghosts D) (s : Core D) (is : IsStudio disk s) (giv
   abbrev t : model.Studio
   t = studio_of disk s
 
-  module _ (mid : Core D) (making : Making disk s given n makes mid) where
+  module _ (mid : Core D) (making : Making disk s (batch_of given makes) n mid) where
     mid_going : mid.stopped ≡ None
     mid_going = ap (λ (z : Core D). z.stopped) making.is ∙ going
 
@@ -56,7 +56,7 @@ module _ {D : Type 0} (disk : Ghosts D) (s : Core D) (is : IsStudio disk s) (giv
         → studio_of disk mid ≡ record t { next_block = s.next_block + n; read_faults = disk.read_fault_count mid.store }
     mid_state = made_state disk s is given makes n mid making going (omega arith) fresh most there
 
-    pub has_made : AreSynced disk s.next_block n mid.store → HasMade (IsHeld disk s) disk mid (refs makes)
+    pub has_made : AreSynced disk (ids_from s.next_block n) mid.store → HasMade (IsHeld disk s) disk mid (refs makes)
     has_made synced =
         let next = making_next disk s given makes n mid making in
         let ids = refs_ids s.block_size s.next_block makes fresh in

@@ -20,7 +20,7 @@ use Rattle.piece_store.specs.Bringing.{brought_count}
 use Rattle.editor_core.specs.Adding.{stopped_by}
 use Rattle.editor_core.specs.Core.{Core}
 use Rattle.editor_core.specs.Left.{IsSoOf}
-use Rattle.editor_core.specs.Made.{PiecesThere, SameOutside}
+use Rattle.editor_core.specs.Made.{PiecesThere, SameOutside, batch_of}
 use Rattle.editor_core.specs.Makes.{HasMissed, Making, Stuck, Unput, Unread, made_room, one_call}
 use Rattle.editor_core.specs.Studios.{IsHeld, IsStudio, named_blocks, studio_of}
 use Rattle.editor_core.specs.Took.{Took, with_sound}
@@ -46,7 +46,8 @@ module _ {D : Type 0} (disk : Ghosts D) (s : Core D) (is : IsStudio disk s) (giv
   module _ (len : ℕ) (changes : IsTrue (may_change c)) (leaves : Leaves t c sound)
       (need : IsHeld disk s → (k : ℕ) → k ≤ n → Needs (outside t sound) t c k len)
       (origin : AllNewFrom (named_blocks s) (brought_count given) makes) where
-    going_on : (why : Refusal) (k : ℕ) (new : Core D) → Making disk s given k makes new → k ≤ n → IsSoOf disk s new why
+    going_on : (why : Refusal) (k : ℕ) (new : Core D) → Making disk s (batch_of given makes) k new → k ≤ n
+        → IsSoOf disk s new why
         → (IsHeld disk s → Answers t c sound (Err why) (studio_of disk new))
         → Took disk s (with_sound c sound (Err why)) new
     going_on why k new making few so step =
@@ -69,9 +70,9 @@ module _ {D : Type 0} (disk : Ghosts D) (s : Core D) (is : IsStudio disk s) (giv
         }
 
     -- a read failed, or found a file that is not as it has to be
-    module _ (k : ℕ) (mid new : Core D) (was : Making disk s given k makes mid) (few : k ≤ n)
+    module _ (k : ℕ) (mid new : Core D) (was : Making disk s (batch_of given makes) k mid) (few : k ≤ n)
         (reads : disk.read_fault_count mid.store ≡ disk.read_fault_count s.store) (un : Unread disk mid new) where
-      making : Making disk s given k makes new
+      making : Making disk s (batch_of given makes) k new
       making = making_unread disk s given makes k mid new was un
 
       still_going : new.stopped ≡ None
@@ -133,7 +134,7 @@ module _ {D : Type 0} (disk : Ghosts D) (s : Core D) (is : IsStudio disk s) (giv
           }))
 
     -- the disk failed as a block was written or synced
-    module _ (k : ℕ) (mid new : Core D) (was : Making disk s given k makes mid) (few : k ≤ n)
+    module _ (k : ℕ) (mid new : Core D) (was : Making disk s (batch_of given makes) k mid) (few : k ≤ n)
         (left : (k < n) ⊎ Changed disk StaysStep one_call mid.store new.store)
         (reads : disk.read_fault_count mid.store ≡ disk.read_fault_count s.store) (un : Unput disk mid new) where
       abbrev store : D
@@ -214,7 +215,7 @@ module _ {D : Type 0} (disk : Ghosts D) (s : Core D) (is : IsStudio disk s) (giv
       unput = subst (λ (z : Core D). Took disk s (with_sound c sound (Err refusal.DiskFault)) z)
           (sym (unput_is disk s given makes most c k mid new was few left un)) here_took
 
-    pub not_made : (why : Refusal) (new : Core D) → Stuck disk s given makes why new
+    pub not_made : (why : Refusal) (new : Core D) → Stuck disk s (batch_of given makes) why new
         → Took disk s (with_sound c sound (Err why)) new
     not_made refusal.DiskFault new stuck = ⊎_elim
         (λ un. unread stuck.made stuck.mid new stuck.before stuck.few stuck.read_faults un.0 un.1)

@@ -20,7 +20,7 @@ use Rattle.piece_store.specs.Bringing.{brought_count}
 use Rattle.editor_core.specs.Adding.{HasFailed, stopped_by}
 use Rattle.editor_core.specs.Core.{Core}
 use Rattle.editor_core.specs.Left.{IsSoOf, Left, LeavesOthers, MayRemove}
-use Rattle.editor_core.specs.Made.{SameOutside}
+use Rattle.editor_core.specs.Made.{SameOutside, batch_of}
 use Rattle.editor_core.specs.Makes.{HasMissed, Making, Stuck, Unput, made_room, one_call}
 use Rattle.editor_core.specs.Studios.{IsGiven, IsStudio, named_blocks}
 use Rattle.editor_core.specs.Took.{asks}
@@ -42,7 +42,7 @@ module _ {D : Type 0} (disk : Ghosts D) (s : Core D) (given : Given) (makes : Li
 
   -- ---- some are made, and the studio goes on
 
-  pub some_changed : (k len : ℕ) (new : Core D) → Making disk s given k makes new → k ≤ n
+  pub some_changed : (k len : ℕ) (new : Core D) → Making disk s (batch_of given makes) k new → k ≤ n
       → Changed disk (LeavesOthers s.next_block new.next_block may_go)
       (asks s.block_size (new.next_block - s.next_block) len 0) s.store new.store
   some_changed k len new making few =
@@ -51,10 +51,11 @@ module _ {D : Type 0} (disk : Ghosts D) (s : Core D) (given : Given) (makes : Li
       (omega (arith, most, few)) w)
       (within_some s.block_size k len (new.next_block - s.next_block) (omega (arith, next))) making.changed
 
-  pub some_stop : (k : ℕ) (new : Core D) → Making disk s given k makes new → new.stopped ≡ s.stopped
+  pub some_stop : (k : ℕ) (new : Core D) → Making disk s (batch_of given makes) k new → new.stopped ≡ s.stopped
   some_stop k new making = ap (λ (z : Core D). z.stopped) making.is
 
-  pub some_left : (k : ℕ) (new : Core D) → Making disk s given k makes new → (why : Refusal) → IsSoOf disk s new why
+  pub some_left : (k : ℕ) (new : Core D) → Making disk s (batch_of given makes) k new → (why : Refusal)
+      → IsSoOf disk s new why
       → Left disk s may_go new why
   some_left k new making why so =
       let next = making_next disk s given makes k new making in
@@ -78,7 +79,7 @@ module _ {D : Type 0} (disk : Ghosts D) (s : Core D) (given : Given) (makes : Li
   -- a file was not as it has to be
   pub damaged_so : IsStudio disk s → AllNewFrom (named_blocks s) (brought_count given) makes
       → (why : Refusal) (new : Core D)
-      → Stuck disk s given makes why new → IsTrue (disk.tells s.store)
+      → Stuck disk s (batch_of given makes) why new → IsTrue (disk.tells s.store)
       → IsDamagedIn (disk.reads s.store) (named_blocks s) why
   damaged_so is origin why new stuck told =
       damage_named (named_blocks s) (brought_count given) (disk.reads s.store)
@@ -91,7 +92,7 @@ module _ {D : Type 0} (disk : Ghosts D) (s : Core D) (given : Given) (makes : Li
 
   -- ---- the disk failed as one was put
 
-  module _ (k : ℕ) (mid new : Core D) (was : Making disk s given k makes mid) (few : k ≤ n)
+  module _ (k : ℕ) (mid new : Core D) (was : Making disk s (batch_of given makes) k mid) (few : k ≤ n)
       (left : (k < n) ⊎ Changed disk StaysStep one_call mid.store new.store) (un : Unput disk mid new) where
     abbrev pub unput_here : Core D
     unput_here = record s {
@@ -145,7 +146,8 @@ module _ {D : Type 0} (disk : Ghosts D) (s : Core D) (given : Given) (makes : Li
 
   -- ---- all are made, and then a record is added, or not
 
-  pub all_changed : (len : ℕ) (mid new : Core D) → Making disk s given n makes mid → new.next_block ≡ mid.next_block
+  pub all_changed : (len : ℕ) (mid new : Core D) → Making disk s (batch_of given makes) n mid
+      → new.next_block ≡ mid.next_block
       → Changed disk (Leaving mid.next_block new.next_block)
       (asks mid.block_size (new.next_block - mid.next_block) len 0) mid.store new.store
       → Changed disk (LeavesOthers s.next_block new.next_block may_go)
@@ -162,11 +164,8 @@ module _ {D : Type 0} (disk : Ghosts D) (s : Core D) (given : Given) (makes : Li
       (making_size disk s given makes n mid making) (omega (arith, next)) (omega (arith, next, at_next)))
       making.changed changed
 
-  module _ (store : D) (counts : Counts) (making : Making disk s given n makes (record s {
-    store = store;
-    counts = counts;
-    next_block = s.next_block + n;
-  }))
+  module _ (store : D) (counts : Counts) (making : Making disk s (batch_of given makes) n
+      (record s { store = store; counts = counts; next_block = s.next_block + n }))
       (new : D) (failed : HasFailed disk store new) where
     pub all_failed : HasFailed disk s.store new
     all_failed = record {

@@ -14,14 +14,13 @@ use Rattle.project_journal.proofs.Kept.{each_since, is_at_still}
 use Rattle.edit_ops.specs.declared.types.NewBlock.{NewBlock}
 use Rattle.edit_ops.specs.Plans.{AreNew, ref_of}
 use Rattle.piece_store.specs.declared.given.Given.{Given}
-use Rattle.piece_store.specs.Bringing.{brought}
 use Rattle.piece_store.proofs.MadeLaws.{file_of_block}
 use Rattle.project_state.specs.declared.track.Track.{Track}
 use Rattle.project_state.specs.Kept.{Keeps}
 use Rattle.project_state.specs.KeptSound.{IsSoundPoint, IsSoundTagged}
 use Rattle.project_state.proofs.KeptBounds.{tagged_more}
 use Rattle.editor_core.specs.Core.{Core}
-use Rattle.editor_core.specs.Made.{PiecesThere, SameOutside, AreAbsent, AreMade}
+use Rattle.editor_core.specs.Made.{AreAbsent, AreMade, PiecesThere, SameOutside, batch_of, ids_from}
 use Rattle.editor_core.specs.Makes.{AddsFree, Making}
 use Rattle.editor_core.specs.Studios.{IsGiven, SameBlocks, IsDurable, IsHeld, IsStudio, named_blocks, shown, studio_by}
 use Rattle.editor_core.specs.Studios.{studio_of}
@@ -176,7 +175,8 @@ module _ {D : Type 0} (disk : Ghosts D) (s : Core D) (is : IsStudio disk s) wher
           durable = durable;
         }
 
-  module _ (given : Given) (makes : List NewBlock) (n : ℕ) (mid : Core D) (making : Making disk s given n makes mid)
+  module _ (given : Given) (makes : List NewBlock) (n : ℕ) (mid : Core D)
+      (making : Making disk s (batch_of given makes) n mid)
       (going : s.stopped ≡ None)
       (few : n ≤ length makes) (fresh : AreNew s.block_size s.next_block makes)
       (most : s.next_block + length makes ≤ 2 ^ 62)
@@ -190,7 +190,7 @@ module _ {D : Type 0} (disk : Ghosts D) (s : Core D) (is : IsStudio disk s) wher
     abbrev grown : Core D
     grown = record s { store = mid.store; counts = mid.counts; next_block = s.next_block + n }
 
-    pub are_made : IsHeld disk s → AreMade (brought given) s.next_block n makes reads now
+    pub are_made : IsHeld disk s → AreMade (batch_of given makes) (ids_from s.next_block n) reads now
     are_made held = making.made held.tells (there held) (absent (length makes) going held most)
 
     named_same : IsHeld disk s → SameBlocks bs reads now

@@ -16,10 +16,9 @@ use Rattle.project_journal.specs.Gate.{EachNow}
 use Rattle.edit_ops.specs.declared.types.NewBlock.{NewBlock}
 use Rattle.edit_ops.specs.Plans.{AreNew}
 use Rattle.piece_store.specs.declared.given.Given.{Given}
-use Rattle.piece_store.specs.Bringing.{brought}
 use Rattle.editor_core.specs.Adding.{HasFailed, stopped_by}
 use Rattle.editor_core.specs.Core.{Core}
-use Rattle.editor_core.specs.Made.{SameOutside, AreMade}
+use Rattle.editor_core.specs.Made.{AreMade, SameOutside, batch_of, ids_from}
 use Rattle.editor_core.specs.Makes.{AddsFree, AreSynced, IsDamageAmong, MadeOne, Makes, Making, NotMade, Stuck, Synced}
 use Rattle.editor_core.specs.Makes.{Syncs, Unread, Unsynced, Written, made_room, one_call}
 use Rattle.editor_core.proofs.MadeBlocks.{new_at, next_there, next_absent, made_more, made_none}
@@ -30,25 +29,25 @@ module _ {D : Type 0} (disk : Ghosts D) (s : Core D) (given : Given) (bs : List 
   abbrev z : ℕ
   z = size_of s.block_size
 
-  pub making_none : Fewer disk s.store → Making disk s given 0 bs s
+  pub making_none : Fewer disk s.store → Making disk s (batch_of given bs) 0 s
   making_none fewer =
       let none : s.next_block ≡ s.next_block + 0 = omega arith in record {
         is = λ i. record s { next_block = none i };
         ledger = free_none s.next_block s.counts;
-        made = λ told there gone. made_none (brought given) s.next_block bs (disk.reads s.store);
+        made = λ told there gone. made_none given s.next_block bs (disk.reads s.store);
         changed = changed_none s.store (λ c f apart. refl) fewer;
         change_faults = refl;
       }
 
-  pub making_next : (n : ℕ) (mid : Core D) → Making disk s given n bs mid → mid.next_block ≡ s.next_block + n
+  pub making_next : (n : ℕ) (mid : Core D) → Making disk s (batch_of given bs) n mid → mid.next_block ≡ s.next_block + n
   making_next n mid was = ap (λ (x : Core D). x.next_block) was.is
 
-  pub making_size : (n : ℕ) (mid : Core D) → Making disk s given n bs mid → mid.block_size ≡ s.block_size
+  pub making_size : (n : ℕ) (mid : Core D) → Making disk s (batch_of given bs) n mid → mid.block_size ≡ s.block_size
   making_size n mid was = ap (λ (x : Core D). x.block_size) was.is
 
   pub making_more : (n : ℕ) (d : NewBlock) (mid new : Core D) → n < length bs → AreNew s.block_size s.next_block bs
-      → Making disk s given n bs mid
-      → MadeOne disk mid given (get_or bs n d) new → Making disk s given (n + 1) bs new
+      → Making disk s (batch_of given bs) n mid
+      → MadeOne disk mid given (get_or bs n d) new → Making disk s (batch_of given bs) (n + 1) new
   making_more n d mid new lt fresh was one =
       let m = s.block_size in
       let b : NewBlock = get_or bs n d in
@@ -71,9 +70,9 @@ module _ {D : Type 0} (disk : Ghosts D) (s : Core D) (given : Given) (bs : List 
         made = λ told there gone.
             let made = was.made told there gone in
             let stored = one.stored (still told)
-            (next_there (brought given) m s.next_block n bs d old reads lt fresh gone there made)
-            (next_absent (brought given) m s.next_block n bs d old reads lt fresh gone there made) in
-            made_more (brought given) m s.next_block n bs d old reads lt fresh gone there made (disk.reads new.store)
+            (next_there given m s.next_block n bs d old reads lt fresh gone there made)
+            (next_absent given m s.next_block n bs d old reads lt fresh gone there made) in
+            made_more given m s.next_block n bs d old reads lt fresh gone there made (disk.reads new.store)
             (one.changed.reads (still told)) stored;
         changed = changed_turn (λ d c w. outside_more s.next_block n d c w)
             (λ d e c w v. outside_then s.next_block n b.id d e c is.id w v)
@@ -82,37 +81,38 @@ module _ {D : Type 0} (disk : Ghosts D) (s : Core D) (given : Given) (bs : List 
       }
 
   -- what is read stays, whatever else the calls behind the blocks do
-  making_over : (n : ℕ) (mid new : Core D) → Making disk s given n bs mid → new ≡ record mid { store = new.store }
+  making_over : (n : ℕ) (mid new : Core D) → Making disk s (batch_of given bs) n mid
+      → new ≡ record mid { store = new.store }
       → disk.reads new.store ≡ disk.reads mid.store
       → Changed disk (SameOutside s.next_block n) (made_room z n) s.store new.store
       → disk.change_fault_count new.store ≡ disk.change_fault_count mid.store
-      → Making disk s given n bs new
+      → Making disk s (batch_of given bs) n new
   making_over n mid new was is same changed faults =
       let counts : new.counts ≡ mid.counts = ap (λ (x : Core D). x.counts) is in record {
         is = is ∙ (λ i. record (was.is i) { store = new.store })
             ∙ (λ i. record s { store = new.store; counts = sym counts i; next_block = s.next_block + n });
         ledger = subst (λ (k : Counts). AddsFree s.next_block n s.counts k) (sym counts) was.ledger;
         made = λ told there gone.
-            subst (λ (f : Files). AreMade (brought given) s.next_block n bs (disk.reads s.store) f) (sym same)
-            (was.made told there gone);
+            subst (λ (f : Files). AreMade (batch_of given bs) (ids_from s.next_block n) (disk.reads s.store) f)
+            (sym same) (was.made told there gone);
         changed = changed;
         change_faults = faults ∙ was.change_faults;
       }
 
   -- a piece of the next block could not be read
-  pub making_unread : (n : ℕ) (mid new : Core D) → Making disk s given n bs mid → Unread disk mid new
-      → Making disk s given n bs new
+  pub making_unread : (n : ℕ) (mid new : Core D) → Making disk s (batch_of given bs) n mid → Unread disk mid new
+      → Making disk s (batch_of given bs) n new
   making_unread n mid new was un =
       making_over n mid new was un.is un.kept.same_reads (then_kept was.changed un.kept) un.kept.same_faults
 
   -- ---- each in one call
 
-  pub written_none : Fewer disk s.store → Written disk s given 0 bs s
+  pub written_none : Fewer disk s.store → Written disk s (batch_of given bs) 0 s
   written_none fewer = record { making = making_none fewer; calls = omega arith; read_faults = refl }
 
   pub written_more : (n : ℕ) (d : NewBlock) (mid new : Core D) → n < length bs → AreNew s.block_size s.next_block bs
-      → Written disk s given n bs mid
-      → MadeOne disk mid given (get_or bs n d) new → Written disk s given (n + 1) bs new
+      → Written disk s (batch_of given bs) n mid
+      → MadeOne disk mid given (get_or bs n d) new → Written disk s (batch_of given bs) (n + 1) new
   written_more n d mid new lt fresh was one = record {
     making = making_more n d mid new lt fresh was.making one;
     calls = omega (arith, was.calls, one.changed.calls);
@@ -121,8 +121,8 @@ module _ {D : Type 0} (disk : Ghosts D) (s : Core D) (given : Given) (bs : List 
 
   -- ---- and synced
 
-  synced_making : (n k : ℕ) (mid new : Core D) → k ≤ n → Written disk s given n bs mid
-      → Synced disk mid s.next_block k new → Making disk s given n bs new
+  synced_making : (n k : ℕ) (mid new : Core D) → k ≤ n → Written disk s (batch_of given bs) n mid
+      → Synced disk mid (ids_from s.next_block k) new → Making disk s (batch_of given bs) n new
   synced_making n k mid new le was then =
       making_over n mid new was.making then.is then.reads
       (changed_then_stays (record {
@@ -132,20 +132,20 @@ module _ {D : Type 0} (disk : Ghosts D) (s : Core D) (given : Given) (bs : List 
       }) (called n was.calls was.making.changed) then.changed)
       then.change_faults
 
-  makes_done : (mid new : Core D) → Written disk s given (length bs) bs mid
-      → Synced disk mid s.next_block (length bs) new
-      → Making disk s given (length bs) bs new
+  makes_done : (mid new : Core D) → Written disk s (batch_of given bs) (length bs) mid
+      → Synced disk mid (ids_from s.next_block (length bs)) new
+      → Making disk s (batch_of given bs) (length bs) new
       × (disk.read_fault_count new.store ≡ disk.read_fault_count s.store)
-      × AreSynced disk s.next_block (length bs) new.store
+      × AreSynced disk (ids_from s.next_block (length bs)) new.store
   makes_done mid new was then = (
     synced_making (length bs) (length bs) mid new (omega arith) was then,
     then.read_faults ∙ was.read_faults,
     then.same,
   )
 
-  makes_unsynced : (why : Refusal) (mid new : Core D) → Written disk s given (length bs) bs mid
-      → Unsynced disk mid s.next_block (length bs) why new
-      → Stuck disk s given bs why new
+  makes_unsynced : (why : Refusal) (mid new : Core D) → Written disk s (batch_of given bs) (length bs) mid
+      → Unsynced disk mid (ids_from s.next_block (length bs)) why new
+      → Stuck disk s (batch_of given bs) why new
   makes_unsynced why mid new was un = record {
     made = length bs;
     few = omega arith;
@@ -161,15 +161,16 @@ module _ {D : Type 0} (disk : Ghosts D) (s : Core D) (given : Given) (bs : List 
     sound = λ told there gone. un.is;
   }
 
-  pub makes_both : (result : Result (Unit {0}) Refusal) (mid new : Core D) → Written disk s given (length bs) bs mid
-      → Syncs disk mid s.next_block (length bs) result new → Makes disk s given bs result new
+  pub makes_both : (result : Result (Unit {0}) Refusal) (mid new : Core D)
+      → Written disk s (batch_of given bs) (length bs) mid
+      → Syncs disk mid (ids_from s.next_block (length bs)) result new → Makes disk s (batch_of given bs) result new
   makes_both (Ok done) mid new was then = makes_done mid new was then
   makes_both (Err why) mid new was then = makes_unsynced why mid new was then
 
 -- ---- one sync after another
 
 module _ {D : Type 0} (disk : Ghosts D) (s : Core D) (first : ℕ) where
-  pub synced_none : Fewer disk s.store → Synced disk s first 0 s
+  pub synced_none : Fewer disk s.store → Synced disk s (ids_from first 0) s
   synced_none fewer = record {
     is = refl;
     reads = refl;
@@ -179,13 +180,13 @@ module _ {D : Type 0} (disk : Ghosts D) (s : Core D) (first : ℕ) where
     change_faults = refl;
   }
 
-  module _ (n : ℕ) (mid new : Core D) (was : Synced disk s first n mid) where
+  module _ (n : ℕ) (mid new : Core D) (was : Synced disk s (ids_from first n) mid) where
     pub synced_more : new ≡ record mid { store = new.store } → disk.reads new.store ≡ disk.reads mid.store
         → EachNow disk new.store (λ c. c (first + n) ≡ disk.reads new.store (first + n))
         → Changed disk StaysStep one_call mid.store new.store
         → disk.read_fault_count new.store ≡ disk.read_fault_count mid.store
         → disk.change_fault_count new.store ≡ disk.change_fault_count mid.store
-        → Synced disk s first (n + 1) new
+        → Synced disk s (ids_from first (n + 1)) new
     synced_more is reads durable changed read_faults change_faults = record {
       is = is ∙ (λ i. record (was.is i) { store = new.store });
       reads = reads ∙ was.reads;
@@ -213,7 +214,7 @@ module _ {D : Type 0} (disk : Ghosts D) (s : Core D) (first : ℕ) where
     pub unsynced_here : (m : ℕ) → n < m → new ≡ stopped_by disk mid new.store
         → Changed disk StaysStep one_call mid.store new.store → HasFailed disk mid.store new.store
         → disk.read_fault_count new.store ≡ disk.read_fault_count mid.store
-        → Unsynced disk s first m refusal.DiskFault new
+        → Unsynced disk s (ids_from first m) refusal.DiskFault new
     unsynced_here m lt is changed failed read_faults = record {
       synced = n;
       some_left = lt;

@@ -12,10 +12,9 @@ use Rattle.block_ledger.specs.Counts.{Counts}
 use Rattle.edit_ops.specs.declared.types.NewBlock.{NewBlock}
 use Rattle.edit_ops.specs.Plans.{AreNew}
 use Rattle.piece_store.specs.declared.given.Given.{Given}
-use Rattle.piece_store.specs.Bringing.{brought}
 use Rattle.piece_store.specs.Reading.{AllThere}
 use Rattle.editor_core.specs.Core.{Core}
-use Rattle.editor_core.specs.Made.{PiecesThere, AreAbsent}
+use Rattle.editor_core.specs.Made.{AreAbsent, PiecesThere, batch_of}
 use Rattle.editor_core.specs.Makes.{AddsFree, IsDamageAmong, Making, NotMade, Stuck}
 use Rattle.editor_core.proofs.MadeBlocks.{new_at, next_there}
 
@@ -60,7 +59,7 @@ fresh_next next n old mid id was below is = none_where (mid id)
     ((was.ids id).0 h))
 
 module _ {D : Type 0} (disk : Ghosts D) (s : Core D) (given : Given) (bs : List NewBlock) (n : ℕ) (mid : Core D)
-    (was : Making disk s given n bs mid)
+    (was : Making disk s (batch_of given bs) n mid)
     (lt : n < length bs) (fresh : AreNew s.block_size s.next_block bs) (b : NewBlock)
     (here : slice_get bs n ≡ Some b) where
   -- where the disk has the blocks of all pieces, those of the next block are there still
@@ -68,7 +67,7 @@ module _ {D : Type 0} (disk : Ghosts D) (s : Core D) (given : Given) (bs : List 
       → AreAbsent s.next_block (length bs) (disk.reads s.store) → AllThere (disk.reads mid.store) b.pieces
   pieces_still told there gone =
       subst (λ (x : NewBlock). AllThere (disk.reads mid.store) x.pieces) (item bs n b b lt here)
-      (next_there (brought given) s.block_size s.next_block n bs b (disk.reads s.store)
+      (next_there given s.block_size s.next_block n bs b (disk.reads s.store)
       (disk.reads mid.store) lt fresh gone there (was.made told there gone))
 
   -- the next block was not made
@@ -76,7 +75,7 @@ module _ {D : Type 0} (disk : Ghosts D) (s : Core D) (given : Given) (bs : List 
       → NotMade disk mid why new
       → (IsTrue (disk.tells mid.store) → AllThere (disk.reads mid.store) b.pieces → why ≡ refusal.DiskFault)
       → (IsTrue (disk.tells mid.store) → IsDamageAmong (disk.reads mid.store) b.pieces why)
-      → Stuck disk s given bs why new
+      → Stuck disk s (batch_of given bs) why new
   stuck_here why new reads by sound damaged = record {
     made = n;
     few = omega (arith, lt);

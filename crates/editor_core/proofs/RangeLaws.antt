@@ -26,7 +26,7 @@ use Rattle.editor_core.specs.declared.ranges.RangeEdit.TheVariants.{Delete, Spli
 use Rattle.editor_core.specs.Commits.{IsCommitCall}
 use Rattle.editor_core.specs.Ranges.{range_cells, range_edit, range_line, range_most}
 use Rattle.editor_core.specs.Took.{silent}
-use Rattle.editor_core.specs.TrackEdits.{IsTrackCall}
+use Rattle.editor_core.specs.TrackEdits.{IsTrackCall, track_command}
 
 -- ---- how many blocks
 
@@ -138,7 +138,7 @@ range_commit (Gain gain) id from to = record {
 }
 
 pub range_call : (e : RangeEdit) (id from to : ℕ)
-    → IsTrackCall (Line (range_line e id from to)) silent (range_edit e from to) Nothing id 0
+    → IsTrackCall (Line (range_line e id from to)) silent (track_command (range_edit e from to) Nothing id 0)
 range_call Delete id from to = record {
   call = record {
     commit = range_commit Delete id from to;

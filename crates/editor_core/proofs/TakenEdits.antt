@@ -141,9 +141,10 @@ module _ {D : Type 0} (disk : Ghosts D) (s : Core D) (is : IsStudio disk s) (goi
           (taken_counted disk s is going e plan k.mid k.making now.counts moves last.counts takes)
           (taken_ids disk s is going e plan k.mid k.making now.counts moves last.counts takes))
 
-      pub lasts_so : (c : Call) → commits_of c ≡ 1 → Lasts disk s c (Ok Done) 0 last
-      lasts_so c one = subst (λ (z : Core D). Lasts disk s c (Ok Done) 0 z) (sym all)
-          (lasts_ok disk s is going e plan c one (tt {0}) new k history_now last.counts
+      pub lasts_so : (c : Call) (sound : SoundMove) → commits_of c ≡ 1
+          → Lasts disk s (with_sound c sound (Ok Done)) last
+      lasts_so c sound one = subst (λ (z : Core D). Lasts disk s (with_sound c sound (Ok Done)) z) (sym all)
+          (lasts_ok disk s is going e plan c sound one (tt {0}) new k history_now last.counts
           (new.next_track + e.plan.tracks) moved tracked
           (taken_counted disk s is going e plan k.mid k.making now.counts moves last.counts takes)
           (taken_ids disk s is going e plan k.mid k.making now.counts moves last.counts takes))

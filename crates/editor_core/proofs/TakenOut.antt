@@ -13,6 +13,7 @@ use Rattle.project_state.specs.Kept.{history_blocks, point_blocks}
 use Rattle.project_state.specs.KeptSound.{IsSoundTagged}
 use Rattle.editor_core.specs.Core.{Core}
 use Rattle.editor_core.specs.Edits.{IsPlanned, TaggedEdit, clip_behind, history_behind}
+use Rattle.editor_core.specs.Made.{batch_of}
 use Rattle.editor_core.specs.Makes.{Making}
 use Rattle.editor_core.specs.Occurrences.{HasAll, HasIds, Moves, times_named}
 use Rattle.editor_core.specs.Studios.{IsStudio, clip_blocks, ids_of, named_blocks, pin_blocks}
@@ -78,7 +79,7 @@ module _ {D : Type 0} (disk : Ghosts D) (s : Core D) (is : IsStudio disk s) (goi
         is.format.depth_most,
       )
 
-  module _ (mid : Core D) (making : Making disk s given (length makes) makes mid) (then : Counts)
+  module _ (mid : Core D) (making : Making disk s (batch_of given makes) (length makes) mid) (then : Counts)
       (moves : Moves mid.counts then (history_blocks s.history) (history_blocks h)) where
     counted_mid : (id : ℕ) → occurrences (mid.counts id) ≡ times_named id (named_blocks s)
     counted_mid id = making.ledger.counts id ∙ is.counted id

@@ -34,7 +34,7 @@ use Rattle.editor_core.specs.Edits.{IsEdit, alone, IsEditCall, clip_then, tagged
 use Rattle.editor_core.specs.Points.{current_tracks, lacks}
 use Rattle.editor_core.specs.Studios.{IsStudio, studio_by, studio_of, clip_cells}
 use Rattle.editor_core.specs.Took.{Took, with_sound}
-use Rattle.editor_core.specs.TrackEdits.{IsTrackCall, IsTrackPlan, NoTrackPlan, TrackEdit, track_refusal}
+use Rattle.editor_core.specs.TrackEdits.{IsTrackCall, IsTrackPlan, NoTrackPlan, TrackEdit, track_command, track_refusal}
 use Rattle.editor_core.proofs.Currents.{cells_meant}
 use Rattle.editor_core.proofs.Editing.{current_sound}
 use Rattle.editor_core.proofs.Spaces.{early}
@@ -66,7 +66,7 @@ edited_changed id f (t ∷ ts) =
 
 module _ {D : Type 0} (disk : Ghosts D) (s : Core D) (is : IsStudio disk s) (c : Call) (sound : SoundMove)
     (e : TrackEdit) (given : Given) (id tag : ℕ)
-    (line : IsTrackCall c sound e given id tag) where
+    (line : IsTrackCall c sound (track_command e given id tag)) where
   abbrev old : List Track
   old = current_tracks s.history
 

@@ -25,19 +25,18 @@ move_of (Some name) old new = moved_from (old name) (new name)
 abbrev pub IsTold : Call → Bool → Type 0
 IsTold call tells = IsSome (name_in call) → IsTrue tells
 
--- What holds of a call whatever disk and vault tell: the studio is one still, its commit number is that behind the
--- answer, one that had stopped does nothing but give a pin back, no other file changes, and a refusal leaves what was
--- there.
-pub record Lasts {D : Type 0} (disk : Ghosts D) (old : Core D) (call : Call) (told : Result Reply Refusal)
-    (removed : ℕ) (new : Core D) : Type 0 where
+-- What holds of a call whatever disk and vault tell, and whatever becomes of a sound that it names: the studio is one
+-- still, its commit number is that behind the answer, one that had stopped does nothing but give a pin back, no other
+-- file changes, and a refusal leaves what was there.
+pub record Lasts {D : Type 0} (disk : Ghosts D) (old : Core D) (exchange : Exchange) (new : Core D) : Type 0 where
   pub studio : IsStudio disk new
-  pub number : new.commit_number ≡ number_behind told call old.commit_number
+  pub number : new.commit_number ≡ number_behind exchange.told exchange.call old.commit_number
   pub rests : IsSome old.stopped → new ≡ record old { pins = new.pins; counts = new.counts }
   pub len : ℕ
-  pub changed : Changed disk (LeavesOthers old.next_block new.next_block (MayRemove call old.counts))
-      (asks old.block_size (new.next_block - old.next_block) len removed) old.store new.store
-  pub stops : Stops disk old told new
-  pub left : IfErr told (Left disk old (MayRemove call old.counts) new)
+  pub changed : Changed disk (LeavesOthers old.next_block new.next_block (MayRemove exchange.call old.counts))
+      (asks old.block_size (new.next_block - old.next_block) len exchange.removed) old.store new.store
+  pub stops : Stops disk old exchange.told new
+  pub left : IfErr exchange.told (Left disk old (MayRemove exchange.call old.counts) new)
 
 -- The span of a call, or of many: the studio before it and after it, whether a vault tells its bytes, and the vault's
 -- sounds before it and after it.
@@ -64,7 +63,7 @@ pub record TookOver {D : Type 0} (disk : Ghosts D) (span : Span D) (call : Call)
   pub took : IsTold call span.tells → Took disk span.old (exchange_over span call told removed) span.new
   pub heard : IsTold call span.tells
       → Heard (name_in call) (sound_moved span (name_in call)) span.old_sounds span.new_sounds
-  pub lasts : Lasts disk span.old call told removed span.new
+  pub lasts : Lasts disk span.old (exchange_over span call told removed) span.new
 
 -- an answer as what a line is told: the commit number, and the reply or why there is none
 abbrev pub reply_of : Result Reply Refusal → Reply

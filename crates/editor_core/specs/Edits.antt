@@ -31,7 +31,7 @@ use Rattle.editor_core.specs.declared.carrying.Planned.{Planned}
 use Rattle.editor_core.specs.Adding.{Adds, Exceeds}
 use Rattle.editor_core.specs.Commits.{IsCommitCall}
 use Rattle.editor_core.specs.Core.{Core}
-use Rattle.editor_core.specs.Made.{PiecesReadable}
+use Rattle.editor_core.specs.Made.{PiecesReadable, batch_of, ids_from}
 use Rattle.editor_core.specs.Makes.{AreSynced, Making, Stuck}
 use Rattle.editor_core.specs.Studios.{MayPaste, clip_blocks, clip_cells, named_blocks, studio_by}
 
@@ -157,9 +157,9 @@ pub record BlockCommit : Type 0 where
 pub record Committed {D : Type 0} (disk : Ghosts D) (old : Core D) (c : BlockCommit)
     (result : Result (Unit {0}) Refusal) (new : Core D) : Type 0 where
   pub mid : Core D
-  pub making : Making disk old c.given (length c.makes) c.makes mid
+  pub making : Making disk old (batch_of c.given c.makes) (length c.makes) mid
   pub reads : disk.read_fault_count mid.store ≡ disk.read_fault_count old.store
-  pub synced : AreSynced disk old.next_block (length c.makes) mid.store
+  pub synced : AreSynced disk (ids_from old.next_block (length c.makes)) mid.store
   pub prepared : IsPrepared old (length c.makes) c.tracks (length c.body)
   pub adds : Adds disk mid c.body result new
 
@@ -168,5 +168,5 @@ abbrev pub Carried : {D : Type 0} → Ghosts D → Core D → BlockCommit → Re
 Carried disk old c (Ok done) new = Committed disk old c (Ok done) new
 Carried disk old c (Err why) new =
     ((new ≡ old) × NotPrepared old (length c.makes) c.tracks (length c.body) why)
-    ⊎ ((IsPrepared old (length c.makes) c.tracks (length c.body) × Stuck disk old c.given c.makes why new)
+    ⊎ ((IsPrepared old (length c.makes) c.tracks (length c.body) × Stuck disk old (batch_of c.given c.makes) why new)
     ⊎ ((why ≡ refusal.DiskFault) × Committed disk old c (Err why) new))

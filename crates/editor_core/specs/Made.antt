@@ -1,10 +1,12 @@
 -- New blocks of a plan on a disk, the first n of them made.
-use Rattle.std.specs.Prelude.{◌≡◌, ◌⊎◌, ℕ, ◌+◌, ◌≤◌, ◌<◌, ℤ, List, take, None}
+use Rattle.std.specs.Prelude.{◌≡◌, ◌⊎◌, ℕ, ◌+◌, ◌≤◌, ◌<◌, List, take, None}
 use Rattle.std.specs.List.{AllByRecursion}
 use Rattle.disk_model.specs.Disk.{Files}
 use Rattle.sample_block.specs.Sources.{sources_with, IsWhole}
 use Rattle.edit_ops.specs.declared.types.NewBlock.{NewBlock}
 use Rattle.edit_ops.specs.Plans.{AreWritten, ref_of}
+use Rattle.piece_store.specs.declared.given.Given.{Given}
+use Rattle.piece_store.specs.Bringing.{brought}
 use Rattle.piece_store.specs.Reading.{AllReadable, AllThere}
 
 -- the disk has the blocks that the pieces of new blocks name
@@ -25,9 +27,24 @@ SameInside next n old new = (f : ℕ) → next ≤ f → f < next + n → new f 
 abbrev pub AreAbsent : ℕ → ℕ → Files → Type 0
 AreAbsent next n files = (f : ℕ) → next ≤ f → f < next + n → files f ≡ None
 
--- The first n of some new blocks, whose ids go up from a number, were made, and no other file has changed. What the
--- command brings is given by its places.
-pub record AreMade (given : ℕ → ℤ) (next n : ℕ) (bs : List NewBlock) (old new : Files) : Type 0 where
-  pub same : SameOutside next n old new
-  pub written : AreWritten (sources_with new given) (take n bs)
-  pub whole : AllByRecursion (λ b. IsWhole new (ref_of b)) (take n bs)
+-- New blocks that are made together, and what their command brings for them.
+pub record Batch : Type 0 where
+  pub given : Given
+  pub blocks : List NewBlock
+
+abbrev pub batch_of : Given → List NewBlock → Batch
+batch_of given blocks = record { given = given; blocks = blocks }
+
+-- The ids from one on, so many.
+pub record IdRange : Type 0 where
+  pub first : ℕ
+  pub count : ℕ
+
+abbrev pub ids_from : (first count : ℕ) → IdRange
+ids_from first count = record { first = first; count = count }
+
+-- The first blocks of a batch, of these ids, were made, and no other file has changed.
+pub record AreMade (batch : Batch) (ids : IdRange) (old new : Files) : Type 0 where
+  pub same : SameOutside ids.first ids.count old new
+  pub written : AreWritten (sources_with new (brought batch.given)) (take ids.count batch.blocks)
+  pub whole : AllByRecursion (λ b. IsWhole new (ref_of b)) (take ids.count batch.blocks)

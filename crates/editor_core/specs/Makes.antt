@@ -22,7 +22,7 @@ use Rattle.piece_store.specs.Bringing.{brought}
 use Rattle.piece_store.specs.Reading.{AllThere, IsFaultAmong}
 use Rattle.editor_core.specs.Adding.{HasFailed, stopped_by}
 use Rattle.editor_core.specs.Core.{Core}
-use Rattle.editor_core.specs.Made.{PiecesThere, SameOutside, SameInside, AreAbsent, AreMade}
+use Rattle.editor_core.specs.Made.{AreAbsent, AreMade, Batch, IdRange, PiecesThere, SameInside, SameOutside, ids_from}
 
 -- no occurrence comes or goes, and the ids from one number on, so many, are there too
 pub record AddsFree (next n : ℕ) (old new : Counts) : Type 0 where
@@ -85,87 +85,81 @@ pub record MadeOne {D : Type 0} (disk : Ghosts D) (old : Core D) (given : Given)
   pub read_faults : disk.read_fault_count new.store ≡ disk.read_fault_count old.store
   pub change_faults : disk.change_fault_count new.store ≡ disk.change_fault_count old.store
 
--- The first n of some new blocks are there as the disk reads, and the ledger has their ids. Of failed reads it says
+-- The first n blocks of a batch are there as the disk reads, and the ledger has their ids. Of failed reads it says
 -- nothing, and of images no more than that all other files stay.
-pub record Making {D : Type 0} (disk : Ghosts D) (old : Core D) (given : Given) (n : ℕ) (bs : List NewBlock)
-    (new : Core D) : Type 0 where
+pub record Making {D : Type 0} (disk : Ghosts D) (old : Core D) (batch : Batch) (n : ℕ) (new : Core D)
+    : Type 0 where
   pub is : new ≡ record old { store = new.store; counts = new.counts; next_block = old.next_block + n }
   pub ledger : AddsFree old.next_block n old.counts new.counts
-  pub made : IsTrue (disk.tells old.store) → PiecesThere (disk.reads old.store) bs
-      → AreAbsent old.next_block (length bs) (disk.reads old.store)
-      → AreMade (brought given) old.next_block n bs (disk.reads old.store) (disk.reads new.store)
+  pub made : IsTrue (disk.tells old.store) → PiecesThere (disk.reads old.store) batch.blocks
+      → AreAbsent old.next_block (length batch.blocks) (disk.reads old.store)
+      → AreMade batch (ids_from old.next_block n) (disk.reads old.store) (disk.reads new.store)
   pub changed : Changed disk (SameOutside old.next_block n) (made_room (size_of old.block_size) n) old.store new.store
   pub change_faults : disk.change_fault_count new.store ≡ disk.change_fault_count old.store
 
 -- They are written, by a call each, and no read failed.
-pub record Written {D : Type 0} (disk : Ghosts D) (old : Core D) (given : Given) (n : ℕ) (bs : List NewBlock)
-    (new : Core D) : Type 0 where
-  pub making : Making disk old given n bs new
+pub record Written {D : Type 0} (disk : Ghosts D) (old : Core D) (batch : Batch) (n : ℕ) (new : Core D)
+    : Type 0 where
+  pub making : Making disk old batch n new
   pub calls : disk.change_calls new.store ≤ disk.change_calls old.store + n
   pub read_faults : disk.read_fault_count new.store ≡ disk.read_fault_count old.store
 
--- in each image n files from a number on are as the store reads
-abbrev pub AreSynced : {D : Type 0} → Ghosts D → (first n : ℕ) → D → Type 0
-AreSynced disk first n store = EachNow disk store (SameInside first n (disk.reads store))
+-- in each image the files of these ids are as the store reads
+abbrev pub AreSynced : {D : Type 0} → Ghosts D → IdRange → D → Type 0
+AreSynced disk ids store = EachNow disk store (SameInside ids.first ids.count (disk.reads store))
 
--- N files from a number on are synced, by a call each, and nothing else has changed.
-pub record Synced {D : Type 0} (disk : Ghosts D) (old : Core D) (first n : ℕ) (new : Core D) : Type 0 where
+-- The files of these ids are synced, by a call each, and nothing else has changed.
+pub record Synced {D : Type 0} (disk : Ghosts D) (old : Core D) (ids : IdRange) (new : Core D) : Type 0 where
   pub is : new ≡ record old { store = new.store }
   pub reads : disk.reads new.store ≡ disk.reads old.store
-  pub same : AreSynced disk first n new.store
-  pub changed : Changed disk StaysStep (record { files = 0; bytes = 0; calls = n }) old.store new.store
+  pub same : AreSynced disk ids new.store
+  pub changed : Changed disk StaysStep (record { files = 0; bytes = 0; calls = ids.count }) old.store new.store
   pub read_faults : disk.read_fault_count new.store ≡ disk.read_fault_count old.store
   pub change_faults : disk.change_fault_count new.store ≡ disk.change_fault_count old.store
 
 -- some were synced, and the sync of the next one failed
-pub record Unsynced {D : Type 0} (disk : Ghosts D) (old : Core D) (first n : ℕ) (why : Refusal)
-    (new : Core D) : Type 0 where
+pub record Unsynced {D : Type 0} (disk : Ghosts D) (old : Core D) (ids : IdRange) (why : Refusal) (new : Core D)
+    : Type 0 where
   pub synced : ℕ
-  pub some_left : synced < n
+  pub some_left : synced < ids.count
   pub mid : Core D
-  pub before : Synced disk old first synced mid
+  pub before : Synced disk old (ids_from ids.first synced) mid
   pub is : why ≡ refusal.DiskFault
   pub by : Unput disk mid new
   pub stays : Changed disk StaysStep one_call mid.store new.store
 
 -- Some were written, and the next one was not; or all were, and a sync failed, which left the files as they were. Where
 -- the disk has the blocks of all pieces, the disk failed.
-pub record Stuck {D : Type 0} (disk : Ghosts D) (old : Core D) (given : Given) (bs : List NewBlock) (why : Refusal)
-    (new : Core D) : Type 0 where
+pub record Stuck {D : Type 0} (disk : Ghosts D) (old : Core D) (batch : Batch) (why : Refusal) (new : Core D)
+    : Type 0 where
   pub made : ℕ
-  pub few : made ≤ length bs
+  pub few : made ≤ length batch.blocks
   pub mid : Core D
-  pub before : Making disk old given made bs mid
+  pub before : Making disk old batch made mid
   pub read_faults : disk.read_fault_count mid.store ≡ disk.read_fault_count old.store
   pub by : NotMade disk mid why new
-  pub left : (made < length bs) ⊎ Changed disk StaysStep one_call mid.store new.store
+  pub left : (made < length batch.blocks) ⊎ Changed disk StaysStep one_call mid.store new.store
   pub block : NewBlock
-  pub stands : Contains bs block
+  pub stands : Contains batch.blocks block
   pub damaged : IsTrue (disk.tells mid.store) → IsDamageAmong (disk.reads mid.store) block.pieces why
-  pub sound : IsTrue (disk.tells old.store) → PiecesThere (disk.reads old.store) bs
-      → AreAbsent old.next_block (length bs) (disk.reads old.store) → why ≡ refusal.DiskFault
-
-abbrev pub MakesOne : {D : Type 0} → Ghosts D → Core D → Given → NewBlock → Result (Unit {0}) Refusal → Core D → Type 0
-MakesOne disk old given b result new =
-    MatchResult result (λ _. MadeOne disk old given b new) (λ why. NotMade disk old why new)
+  pub sound : IsTrue (disk.tells old.store) → PiecesThere (disk.reads old.store) batch.blocks
+      → AreAbsent old.next_block (length batch.blocks) (disk.reads old.store) → why ≡ refusal.DiskFault
 
 -- all are written, or the next one was not
-abbrev pub Writes : {D : Type 0} → Ghosts D → Core D → Given → List NewBlock → Result (Unit {0}) Refusal → Core D
-    → Type 0
-Writes disk old given bs result new = MatchResult result
-    (λ _. Written disk old given (length bs) bs new)
-    (λ why. Stuck disk old given bs why new)
+abbrev pub Writes : {D : Type 0} → Ghosts D → Core D → Batch → Result (Unit {0}) Refusal → Core D → Type 0
+Writes disk old batch result new = MatchResult result
+    (λ _. Written disk old batch (length batch.blocks) new)
+    (λ why. Stuck disk old batch why new)
 
 -- all are synced, or one is not
-abbrev pub Syncs : {D : Type 0} → Ghosts D → Core D → ℕ → ℕ → Result (Unit {0}) Refusal → Core D → Type 0
-Syncs disk old first n result new =
-    MatchResult result (λ _. Synced disk old first n new) (λ why. Unsynced disk old first n why new)
+abbrev pub Syncs : {D : Type 0} → Ghosts D → Core D → IdRange → Result (Unit {0}) Refusal → Core D → Type 0
+Syncs disk old ids result new =
+    MatchResult result (λ _. Synced disk old ids new) (λ why. Unsynced disk old ids why new)
 
 -- both in turn
-abbrev pub Makes : {D : Type 0} → Ghosts D → Core D → Given → List NewBlock → Result (Unit {0}) Refusal → Core D
-    → Type 0
-Makes disk old given bs result new = MatchResult result
-    (λ _. Making disk old given (length bs) bs new
+abbrev pub Makes : {D : Type 0} → Ghosts D → Core D → Batch → Result (Unit {0}) Refusal → Core D → Type 0
+Makes disk old batch result new = MatchResult result
+    (λ _. Making disk old batch (length batch.blocks) new
     × (disk.read_fault_count new.store ≡ disk.read_fault_count old.store)
-    × AreSynced disk old.next_block (length bs) new.store)
-    (λ why. Stuck disk old given bs why new)
+    × AreSynced disk (ids_from old.next_block (length batch.blocks)) new.store)
+    (λ why. Stuck disk old batch why new)

@@ -66,13 +66,23 @@ pub record IsTrackPlan {D : Type 0} (e : TrackEdit) (count id : ℕ) (s : Core D
 abbrev pub NoTrackPlan : TrackEdit → ℕ → List Track → Refusal → Type 0
 NoTrackPlan e id old why = (track_refusal id e.test (track_of id old) ≡ Some why) ⊎ (why ≡ refusal.NoMemory)
 
--- A call that makes this edit of a track, with what it brings, under this tag. Of each such call these are all `refl`.
-pub record IsTrackCall (c : Call) (sound : SoundMove) (e : TrackEdit) (given : Given) (id tag : ℕ) : Type 0 where
-  pub call : IsEditCall c sound 0 (λ m s. e.most m (cells_at id (current s)))
-  pub own : (out : Outside) (s : State)
-      → call_tests out s c ≡ ((no_track s id) otherwise (e.test (length (cells_at id (current s)))))
+-- An edit of the track of an id, with what its command brings, under a tag, where 0 is none.
+pub record TrackCommand : Type 0 where
+  pub edit : TrackEdit
+  pub given : Given
+  pub id : ℕ
+  pub tag : ℕ
+
+abbrev pub track_command : TrackEdit → Given → (id tag : ℕ) → TrackCommand
+track_command edit given id tag = record { edit = edit; given = given; id = id; tag = tag }
+
+-- A call of this meaning. Of each such call these are all `refl`.
+pub record IsTrackCall (c : Call) (sound : SoundMove) (it : TrackCommand) : Type 0 where
+  pub call : IsEditCall c sound 0 (λ m s. it.edit.most m (cells_at it.id (current s)))
+  pub own : (out : Outside) (s : State) → call_tests out s c
+      ≡ ((no_track s it.id) otherwise (it.edit.test (length (cells_at it.id (current s)))))
   pub after_is : (out : Outside) (s : State) → after out s c
       ≡ record s {
-        history = recorded s.history (edited_at id (e.cells (brought given)) (current s)) tag;
+        history = recorded s.history (edited_at it.id (it.edit.cells (brought it.given)) (current s)) it.tag;
         commit = s.commit + 1;
       }

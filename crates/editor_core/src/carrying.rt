@@ -172,8 +172,9 @@ impl<S: Store> Studio<S> {
             → Took S.Store (core_of self.old) (with_sound c sound (told_by (λ _. reply.Done) result))
             (core_of self.new) }
         // Whatever the call means, and whatever is told.
-        ensures lasts { (c : Call) → commits_of c ≡ 1 → Lasts S.Store (core_of self.old) c
-            (told_by (λ _. reply.Done) result) 0 (core_of self.new) }
+        ensures lasts { (c : Call) → (sound : SoundMove) → commits_of c ≡ 1
+            → Lasts S.Store (core_of self.old) (with_sound c sound (told_by (λ _. reply.Done) result))
+            (core_of self.new) }
         ensures number { IfOk result (λ n. n ≡ self.new.commit_number) }
         ensures sound { IsHeld S.Store (core_of self.old) → IfErr result IsUndamaged }
         ensures device { IfErr result IsNoVault }

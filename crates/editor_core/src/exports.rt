@@ -3,6 +3,7 @@ ghost use Rattle.std.specs.Prelude.{◌≡◌, ◌⊎◌, ◌+◌, ◌*◌, IsTr
 ghost use Rattle.pcm_base.specs.declared.answer.Reply.TheVariants as reply;
 ghost use Rattle.pcm_base.specs.declared.command.Call.TheVariants.{Line};
 ghost use Rattle.pcm_base.specs.declared.command.Command.TheVariants as command;
+ghost use Rattle.pcm_base.specs.declared.entry.SoundMove.{SoundMove};
 ghost use Rattle.pcm_base.specs.Mix.{mix_of};
 ghost use Rattle.pcm_base.specs.Outside.{SameElsewhere};
 ghost use Rattle.pcm_base.specs.Wave.{wav_text};
@@ -99,8 +100,8 @@ impl<S: Store> Studio<S> {
             (moved_from (V.holds vault.old name.now) (V.holds vault.new name.now)) (told_by reply.Wrote result))
             (core_of self.new) }
         // Whatever the vault tells, nothing of the studio and its disk changes.
-        ensures lasts { Lasts S.Store (core_of self.old) (Line (command.Export name.now)) (told_by reply.Wrote result)
-            0 (core_of self.new) }
+        ensures lasts { (sound : SoundMove) → Lasts S.Store (core_of self.old)
+            (with_sound (Line (command.Export name.now)) sound (told_by reply.Wrote result)) (core_of self.new) }
         ensures same { core_of self.new ≡ record (core_of self.old) { store = self.new.store } }
         ensures kept { Kept S.Store self.old.store self.new.store }
         ensures sound { IsHeld S.Store (core_of self.old) → IfErr result IsUndamaged }

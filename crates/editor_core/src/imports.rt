@@ -3,6 +3,7 @@ ghost use Rattle.std.specs.Prelude.{◌≡◌, ℕ, IsTrue, IfErr, IfOk, Option,
 ghost use Rattle.pcm_base.specs.declared.answer.Reply.TheVariants as reply;
 ghost use Rattle.pcm_base.specs.declared.command.Call.TheVariants.{Line};
 ghost use Rattle.pcm_base.specs.declared.command.Command.TheVariants as command;
+ghost use Rattle.pcm_base.specs.declared.entry.SoundMove.{SoundMove};
 ghost use Rattle.envelope_view.specs.Answers.{IsUndamaged};
 ghost use Rattle.editor_core.specs.Applied.{Lasts};
 ghost use Rattle.editor_core.specs.Core.{core_of};
@@ -56,9 +57,8 @@ impl<S: Store> Studio<S> {
             (told_by (λ _. reply.Done) result))
             (core_of self.new) }
         // Whatever the vault tells.
-        ensures lasts { Lasts S.Store (core_of self.old) (Line (command.Import name.now))
-            (told_by (λ _. reply.Done) result)
-            0 (core_of self.new) }
+        ensures lasts { (sound : SoundMove) → Lasts S.Store (core_of self.old)
+            (with_sound (Line (command.Import name.now)) sound (told_by (λ _. reply.Done) result)) (core_of self.new) }
         ensures number { IfOk result (λ n. n ≡ self.new.commit_number) }
         ensures sound { IsHeld S.Store (core_of self.old) → IfErr result IsUndamaged }
         ensures same { V.holds vault.new ≡ V.holds vault.old }
@@ -80,8 +80,8 @@ impl<S: Store> Studio<S> {
             → Took S.Store (core_of self.old)
             (with_sound (Line (command.Import name)) (left_as sound) (told_by (λ _. reply.Done) result))
             (core_of self.new) }
-        ensures lasts { (name : List ℕ) → Lasts S.Store (core_of self.old) (Line (command.Import name))
-            (told_by (λ _. reply.Done) result) 0 (core_of self.new) }
+        ensures lasts { (name : List ℕ) → (sound : SoundMove) → Lasts S.Store (core_of self.old)
+            (with_sound (Line (command.Import name)) sound (told_by (λ _. reply.Done) result)) (core_of self.new) }
         ensures number { IfOk result (λ n. n ≡ self.new.commit_number) }
         ensures sound { IsHeld S.Store (core_of self.old) → IfErr result IsUndamaged }
         ensures device { IfErr result IsNoVault }

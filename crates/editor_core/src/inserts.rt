@@ -15,7 +15,7 @@ ghost use Rattle.editor_core.specs.Inserts.{IsPlace, place_cells, place_edit, pl
 ghost use Rattle.editor_core.specs.Points.{current_tracks};
 ghost use Rattle.editor_core.specs.Studios.{IsHeld, IsStudio};
 ghost use Rattle.editor_core.specs.Took.{Took, quietly, told_by, with_sound};
-ghost use Rattle.editor_core.specs.TrackEdits.{IsTrackCall, IsTrackPlan, NoTrackPlan};
+ghost use Rattle.editor_core.specs.TrackEdits.{IsTrackCall, IsTrackPlan, NoTrackPlan, track_command};
 
 use super::carrying::Planned;
 use super::planning::planned;
@@ -168,7 +168,7 @@ impl<S: Store> Studio<S> {
         requires place { IsPlace place }
         requires tag { tag ≤ self.old.commit_number }
         ensures took { (c : Call) → (sound : SoundMove)
-            → IsTrackCall c sound (place_edit place (brought_count given.now)) given.now track tag
+            → IsTrackCall c sound (track_command (place_edit place (brought_count given.now)) given.now track tag)
             → Took S.Store (core_of self.old) (with_sound c sound (told_by (λ _. reply.Done) result))
             (core_of self.new) }
         ensures number { IfOk result (λ n. n ≡ self.new.commit_number) }

@@ -1,5 +1,5 @@
 // New blocks, which are written and then synced before a record names them.
-ghost use Rattle.std.specs.Prelude.{◌≡◌, ℕ, IsSome, ◌+◌, ◌≤◌, ◌<◌, ◌^◌, IsTrue, IfErr, None, length};
+ghost use Rattle.std.specs.Prelude.{◌≡◌, ℕ, IsSome, ◌+◌, ◌≤◌, ◌<◌, ◌^◌, IsTrue, IfErr, MatchResult, None, length};
 ghost use Rattle.pcm_base.specs.Pieces.{total};
 ghost use Rattle.pcm_base.specs.declared.refusal.Refusal.TheVariants as refusal;
 ghost use Rattle.sample_block.specs.Spelling.{IsBlock};
@@ -8,8 +8,8 @@ ghost use Rattle.piece_store.specs.Bringing.{brought_count};
 ghost use Rattle.piece_store.specs.Reading.{AllReadable, AllThere};
 ghost use Rattle.edit_ops.specs.Plans.{AreNew};
 ghost use Rattle.editor_core.specs.Core.{core_of};
-ghost use Rattle.editor_core.specs.Made.{PiecesReadable};
-ghost use Rattle.editor_core.specs.Makes.{AddsFree, IsDamageAmong, MakesOne, Makes, Syncs, Writes};
+ghost use Rattle.editor_core.specs.Made.{PiecesReadable, batch_of, ids_from};
+ghost use Rattle.editor_core.specs.Makes.{AddsFree, IsDamageAmong, MadeOne, Makes, NotMade, Syncs, Writes};
 
 use super::studio::Studio;
 use block_ledger::Ledger;
@@ -41,7 +41,9 @@ impl<S: Store> Studio<S> {
         requires spare { 0 < self.old.ledger.spare }
         requires fresh { count_of self.old.ledger block.now.id ≡ None }
         requires few { self.old.next_block < 2 ^ 62 }
-        ensures made { MakesOne S.Store (core_of self.old) given.now block.now result (core_of self.new) }
+        ensures made { MatchResult result
+            (λ _. MadeOne S.Store (core_of self.old) given.now block.now (core_of self.new))
+            (λ e. NotMade S.Store (core_of self.old) e (core_of self.new)) }
         ensures sound { IsTrue (S.tells self.old.store) → AllThere (S.reads self.old.store) block.now.pieces
             → IfErr result (λ e. e ≡ refusal.DiskFault) }
         ensures damaged { IsTrue (S.tells self.old.store)
@@ -75,7 +77,7 @@ impl<S: Store> Studio<S> {
         requires size { self.old.buffers ≤ 262144 }
         requires spare { length makes.now ≤ self.old.ledger.spare }
         requires below { (id : ℕ) → IsSome (count_of self.old.ledger id) → id < self.old.next_block }
-        ensures written { Writes S.Store (core_of self.old) given.now makes.now result (core_of self.new) }
+        ensures written { Writes S.Store (core_of self.old) (batch_of given.now makes.now) result (core_of self.new) }
         ensures history { self.new.history ≡ self.old.history }
         ensures body { self.new.body ≡ self.old.body }
         ensures row { self.new.row ≡ self.old.row }
@@ -89,7 +91,7 @@ impl<S: Store> Studio<S> {
     // Syncs the files of so many blocks from an id on. After a failed sync the studio is stopped.
     fn sync_blocks(&mut self, first: u64, count: u64) -> Result<(), Refusal>
         requires { first + count ≤ 2 ^ 62 }
-        ensures synced { Syncs S.Store (core_of self.old) first count result (core_of self.new) }
+        ensures synced { Syncs S.Store (core_of self.old) (ids_from first count) result (core_of self.new) }
         ensures history { self.new.history ≡ self.old.history }
         ensures body { self.new.body ≡ self.old.body }
         ensures row { self.new.row ≡ self.old.row }
@@ -114,7 +116,7 @@ impl<S: Store> Studio<S> {
         requires size { self.old.buffers ≤ 262144 }
         requires spare { length makes.now ≤ self.old.ledger.spare }
         requires below { (id : ℕ) → IsSome (count_of self.old.ledger id) → id < self.old.next_block }
-        ensures made { Makes S.Store (core_of self.old) given.now makes.now result (core_of self.new) }
+        ensures made { Makes S.Store (core_of self.old) (batch_of given.now makes.now) result (core_of self.new) }
         ensures history { self.new.history ≡ self.old.history }
         ensures body { self.new.body ≡ self.old.body }
         ensures row { self.new.row ≡ self.old.row }

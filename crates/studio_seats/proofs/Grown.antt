@@ -88,7 +88,7 @@ pub does_silent : {D : Type 0} (disk : Ghosts D) (told : Type 0) (old : Core D) 
     (what : Result Reply Refusal) (removed : ℕ) (new : Core D)
     → Took disk old (freeing call what removed) new → Does disk told old call what silent new
 does_silent disk told old call what removed new took =
-    record { removed = removed; took = λ may. took; lasts = lasts_took disk old call what removed new took }
+    record { removed = removed; took = λ may. took; lasts = lasts_took disk old (freeing call what removed) new took }
 
 -- where the disk held the studio, no call tells a damaged file
 unharmed : {D : Type 0} (disk : Ghosts D) (old new : Core D) (call : Call) (what : Result Reply Refusal)

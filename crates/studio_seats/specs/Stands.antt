@@ -53,7 +53,7 @@ pub record Does {D : Type 0} (disk : Ghosts D) (told : Type 0) (old : Core D) (c
   -- how many files of blocks went
   pub removed : ℕ
   pub took : (IsSome (name_in call) → told) → Took disk old (exchange_of call sound what removed) new
-  pub lasts : Lasts disk old call what removed new
+  pub lasts : Lasts disk old (exchange_of call sound what removed) new
 
 -- From the start on, the studio stands for these deeds. Whatever disk and vaults tell, it is a studio, and its commit
 -- number is that to which they lead.

@@ -39,13 +39,13 @@ returns-in_err-counts-clause-took g c = λ name sound has.
     (g.met.S.Store.may_fewer s.store) name sound c.requires.going NoMemory tt)
 
 pub returns-in_err-counts-clause-lasts : goal.returns-in_err-counts-clause-lasts
-returns-in_err-counts-clause-lasts g c = λ name.
+returns-in_err-counts-clause-lasts g c = λ name sound.
     let s = core_of c.args.self.now in
     let r = err_from_is_err_and c.from_residual.result c.from_residual.ensures.1 in
-    subst (λ x. Lasts g.S.Store s (Line (command.Import name)) (told_by (λ (n : ℕ). reply.Done) x) 0 s)
+    subst (λ x. Lasts g.S.Store s (with_sound (Line (command.Import name)) sound (told_by (λ (n : ℕ). reply.Done) x)) s)
     (sym (r.1 ∙ ap Err r.2))
     (lasts_idle g.S.Store s c.requires.studio (g.met.S.Store.may_fewer s.store)
-    (Line (command.Import name)) refusal.NoMemory tt)
+    (Line (command.Import name)) sound refusal.NoMemory tt)
 
 -- ---- a test refuses them
 
@@ -60,10 +60,10 @@ returns-in-Some-clause-took g c = λ name sound has.
     (g.met.S.Store.may_fewer s.store) c.requires.going why test
 
 pub returns-in-Some-clause-lasts : goal.returns-in-Some-clause-lasts
-returns-in-Some-clause-lasts g c = λ name.
+returns-in-Some-clause-lasts g c = λ name sound.
     let s = core_of c.args.self.now in
     lasts_idle g.S.Store s c.requires.studio (g.met.S.Store.may_fewer s.store)
-    (Line (command.Import name)) c.in-Some.reason
+    (Line (command.Import name)) sound c.in-Some.reason
     (channels_plain (length (current_tracks s.history)) c.as_slice-2.result.now c.in-Some.reason
     (sym c.channels_refusal.ensures ∙ c.in-Some.is))
 
@@ -92,13 +92,13 @@ returns-in_err-samples-clause-took g c = λ name sound has.
     (g.met.S.Store.may_fewer s.store) name sound c.requires.going NoMemory tt)
 
 pub returns-in_err-samples-clause-lasts : goal.returns-in_err-samples-clause-lasts
-returns-in_err-samples-clause-lasts g c = λ name.
+returns-in_err-samples-clause-lasts g c = λ name sound.
     let s = core_of c.args.self.now in
     let r = err_from_is_err_and c.from_residual-in_err-samples.result c.from_residual-in_err-samples.ensures.1 in
-    subst (λ x. Lasts g.S.Store s (Line (command.Import name)) (told_by (λ (n : ℕ). reply.Done) x) 0 s)
+    subst (λ x. Lasts g.S.Store s (with_sound (Line (command.Import name)) sound (told_by (λ (n : ℕ). reply.Done) x)) s)
     (sym (r.1 ∙ ap Err r.2))
     (lasts_idle g.S.Store s c.requires.studio (g.met.S.Store.may_fewer s.store)
-    (Line (command.Import name)) refusal.NoMemory tt)
+    (Line (command.Import name)) sound refusal.NoMemory tt)
 
 -- ---- there is no plan
 
@@ -120,13 +120,13 @@ returns-in_err-planned-clause-took g c = λ name sound has.
     (g.met.S.Store.may_fewer s.store) c.requires.going pass why unplanned)
 
 pub returns-in_err-planned-clause-lasts : goal.returns-in_err-planned-clause-lasts
-returns-in_err-planned-clause-lasts g c = λ name.
+returns-in_err-planned-clause-lasts g c = λ name sound.
     let s = core_of c.args.self.now in
     let r = err_from_is_err_and c.from_residual-in_err-planned.result c.from_residual-in_err-planned.ensures.1 in
-    subst (λ x. Lasts g.S.Store s (Line (command.Import name)) (told_by (λ (n : ℕ). reply.Done) x) 0 s)
+    subst (λ x. Lasts g.S.Store s (with_sound (Line (command.Import name)) sound (told_by (λ (n : ℕ). reply.Done) x)) s)
     (sym (r.1 ∙ ap Err r.2))
     (lasts_idle g.S.Store s c.requires.studio (g.met.S.Store.may_fewer s.store)
-    (Line (command.Import name)) c.in_err-planned.field-0.0
+    (Line (command.Import name)) sound c.in_err-planned.field-0.0
     (no_plan_plain s c.as_slice-3.result.now c.in_err-planned.field-0.0
     c.in_err-planned.ensures.err))
 
@@ -202,4 +202,4 @@ returns-clause-took g c = λ name sound has.
     sound has bring)
 
 pub returns-clause-lasts : goal.returns-clause-lasts
-returns-clause-lasts g c = λ name. c.carry_out.ensures.lasts (Line (command.Import name)) refl
+returns-clause-lasts g c = λ name sound. c.carry_out.ensures.lasts (Line (command.Import name)) sound refl

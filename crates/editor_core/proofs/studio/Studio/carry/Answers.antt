@@ -4,6 +4,7 @@ use Rattle.project_state.specs.Spelling.{spelling}
 use Rattle.editor_core.specs.Edits.{BlockCommit}
 use Rattle.editor_core.specs.Adding.{Adds}
 use Rattle.editor_core.specs.Core.{Core, core_of}
+use Rattle.editor_core.specs.Made.{batch_of, ids_from}
 use Rattle.editor_core.specs.Makes.{AreSynced, Making}
 use Rattle.editor_core.proofs.CarriedEdits.{carried_by}
 use Rattle.editor_core.proofs.studio.Studio.carry.Goals as goal
@@ -26,10 +27,10 @@ returns-clause-carried g c =
     let bs = c.args.makes.now in
     let made = c.in_ok-make_blocks.ensures.made in
     let making =
-    subst (λ (z : Core g.row.S.Denot). Making g.S.Store z c.args.given.now (length bs) bs mid) same made.0 in
+    subst (λ (z : Core g.row.S.Denot). Making g.S.Store z (batch_of c.args.given.now bs) (length bs) mid) same made.0 in
     let reads = made.1 ∙ ap (λ (z : Core g.row.S.Denot). g.S.Store.read_fault_count z.store) same in
     let synced =
-    subst (λ (z : Core g.row.S.Denot). AreSynced g.S.Store z.next_block (length bs) mid.store) same made.2 in
+    subst (λ (z : Core g.row.S.Denot). AreSynced g.S.Store (ids_from z.next_block (length bs)) mid.store) same made.2 in
     let body : c.make_blocks.new.self.body.items ≡ spelling c.args.body.now =
     ap (λ b. b.items) c.in_ok-make_blocks.ensures.body ∙ c.in_ok-prepare.ensures.body in
     let adds = subst (λ (b : List ℕ). Adds g.S.Store mid b c.commit_written.result (core_of c.commit_written.new.self))

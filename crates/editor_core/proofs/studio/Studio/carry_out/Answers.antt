@@ -49,7 +49,7 @@ returns-in_err-carry-clause-sound g c = λ held.
     (pieces_there g.S.Store s c.requires.studio c.requires.going e c.requires.planned held) all)
 
 pub returns-in_err-carry-clause-lasts : goal.returns-in_err-carry-clause-lasts
-returns-in_err-carry-clause-lasts g c = λ call one.
+returns-in_err-carry-clause-lasts g c = λ call sound one.
     let s = core_of c.args.self.now in
     let new = core_of c.carry.new.self in
     let e = tagged c.args.edit c.args.tag c.args.given.now in
@@ -57,8 +57,8 @@ returns-in_err-carry-clause-lasts g c = λ call one.
     let why = c.in_err-carry.field-0.0 in
     let all = carried_at g.S.Store s new e c.as_slice.result.now (Err why) c.as_slice.ensures c.requires.next
     c.in_err-carry.ensures.carried in
-    subst (λ x. Lasts g.S.Store s call (told_by (λ (n : ℕ). Done) x) 0 new) (sym (r.1 ∙ ap Err r.2))
-    (lasts_err g.S.Store s c.requires.studio c.requires.going e c.requires.planned call one
+    subst (λ x. Lasts g.S.Store s (with_sound call sound (told_by (λ (n : ℕ). Done) x)) new) (sym (r.1 ∙ ap Err r.2))
+    (lasts_err g.S.Store s c.requires.studio c.requires.going e c.requires.planned call sound one
     (g.met.S.Store.may_fewer s.store) why new all)
 
 pub returns-in_err-carry-clause-device : goal.returns-in_err-carry-clause-device
@@ -195,7 +195,7 @@ returns-clause-took g c = λ call sound edit.
     call sound edit
 
 pub returns-clause-lasts : goal.returns-clause-lasts
-returns-clause-lasts g c = λ call one.
+returns-clause-lasts g c = λ call sound one.
     let s = core_of c.args.self.now in
     let new = core_of c.carry.new.self in
     let e = tagged c.args.edit c.args.tag c.args.given.now in
@@ -211,4 +211,4 @@ returns-clause-lasts g c = λ call one.
       counted = c.take_recorded.ensures.counts;
     } in
     lasts_so g.S.Store s c.requires.studio c.requires.going e c.requires.planned (core_of c.take_recorded.new.self) at
-    (core_of c.take_out.new.self) c.take_out.ensures.fields c.take_out.ensures.moves call one
+    (core_of c.take_out.new.self) c.take_out.ensures.fields c.take_out.ensures.moves call sound one

@@ -109,21 +109,22 @@ returns-clause-took g c = λ told.
     ∙ ap (λ (z : List Track). Some (wav_text (mix_of (meant (sources_of files) z)) s.rate)) same)
 
 pub returns-in-Some-clause-lasts : goal.returns-in-Some-clause-lasts
-returns-in-Some-clause-lasts g c =
+returns-in-Some-clause-lasts g c = λ sound.
     lasts_idle g.S.Store (core_of c.args.self.now) c.requires (g.met.S.Store.may_fewer c.args.self.now.store)
-    (Line (command.Export c.args.name.now)) (refusal.Stopped c.in-Some.faults) tt
+    (Line (command.Export c.args.name.now)) sound (refusal.Stopped c.in-Some.faults) tt
 
 pub returns-in_err-bytes-clause-lasts : goal.returns-in_err-bytes-clause-lasts
-returns-in_err-bytes-clause-lasts g c =
+returns-in_err-bytes-clause-lasts g c = λ sound.
     let s = core_of c.args.self.now in
     let files = g.S.Store.reads s.store in
     let call = Line (command.Export c.args.name.now) in
     let why = c.in_err-bytes.field-0.0 in
     let p = err_from_is_err_and c.from_residual.result c.from_residual.ensures.1 in
-    subst (λ r. Lasts g.S.Store s call (told_by reply.Wrote r) 0 (record s { store = c.write_stretches.new.store }))
+    subst (λ r. Lasts g.S.Store s (with_sound call sound (told_by reply.Wrote r))
+    (record s { store = c.write_stretches.new.store }))
     (sym (p.1 ∙ ap Err p.2))
-    (lasts_looked g.S.Store s c.requires call c.in_default.is c.write_stretches.new.store c.in_err-bytes.ensures.kept
-    (Err _) refl
+    (lasts_looked g.S.Store s c.requires call sound c.in_default.is c.write_stretches.new.store
+    c.in_err-bytes.ensures.kept (Err _) refl
     (export_left g.S.Store s c.requires c.args.name.now silent c.in_default.is c.write_stretches.new.store
     c.in_err-bytes.ensures.kept why
     (g.V.Vault.fault_count c.args.vault.now)
@@ -135,9 +136,9 @@ returns-in_err-bytes-clause-lasts g c =
     (c.in_err-bytes.ensures.damaged told)))))
 
 pub returns-clause-lasts : goal.returns-clause-lasts
-returns-clause-lasts g c =
+returns-clause-lasts g c = λ sound.
     let s = core_of c.args.self.now in
     let same : s.commit_number ≡ s.commit_number + 0 = omega arith in
     lasts_looked g.S.Store s c.requires
-    (Line (command.Export c.args.name.now)) c.in_default.is c.write_stretches.new.store c.in_ok-bytes.ensures.kept
+    (Line (command.Export c.args.name.now)) sound c.in_default.is c.write_stretches.new.store c.in_ok-bytes.ensures.kept
     (Ok (reply.Wrote c.in_ok-bytes.bytes)) same tt

@@ -21,9 +21,9 @@ returns-in-Some-clause-took g c = λ told.
     (g.V.Vault.holds c.args.vault.now c.args.name.now) c.in-Some.faults c.in-Some.is
 
 pub returns-in-Some-clause-lasts : goal.returns-in-Some-clause-lasts
-returns-in-Some-clause-lasts g c =
+returns-in-Some-clause-lasts g c = λ sound.
     lasts_idle g.S.Store (core_of c.args.self.now) c.requires (g.met.S.Store.may_fewer c.args.self.now.store)
-    (Line (command.Import c.args.name.now)) (refusal.Stopped c.in-Some.faults) tt
+    (Line (command.Import c.args.name.now)) sound (refusal.Stopped c.in-Some.faults) tt
 
 pub returns-in_err-wav-clause-took : goal.returns-in_err-wav-clause-took
 returns-in_err-wav-clause-took g c = λ told.
@@ -38,13 +38,13 @@ returns-in_err-wav-clause-took g c = λ told.
     c.in_err-wav.field-0.0 (c.in_err-wav.ensures.refused told))
 
 pub returns-in_err-wav-clause-lasts : goal.returns-in_err-wav-clause-lasts
-returns-in_err-wav-clause-lasts g c =
+returns-in_err-wav-clause-lasts g c = λ sound.
     let s = core_of c.args.self.now in
     let call = Line (command.Import c.args.name.now) in
     let p = err_from_is_err_and c.from_residual.result c.from_residual.ensures.1 in
-    subst (λ r. Lasts g.S.Store s call (told_by (λ _. reply.Done) r) 0 s) (sym (p.1 ∙ ap Err p.2))
-    (lasts_idle g.S.Store s c.requires (g.met.S.Store.may_fewer s.store) call (import_refusal c.in_err-wav.field-0.0)
-    (import_plain c.in_err-wav.field-0.0))
+    subst (λ r. Lasts g.S.Store s (with_sound call sound (told_by (λ _. reply.Done) r)) s) (sym (p.1 ∙ ap Err p.2))
+    (lasts_idle g.S.Store s c.requires (g.met.S.Store.may_fewer s.store) call sound
+    (import_refusal c.in_err-wav.field-0.0) (import_plain c.in_err-wav.field-0.0))
 
 pub returns-clause-took : goal.returns-clause-took
 returns-clause-took g c = λ told.

@@ -2,6 +2,7 @@
 use Rattle.std.proofs.Common.{◌∙◌, sym, ap, subst, Err}
 use Rattle.std.proofs.lemmas.Result.{err_from_is_err_and}
 use Rattle.editor_core.specs.Core.{core_of}
+use Rattle.editor_core.specs.Made.{batch_of}
 use Rattle.editor_core.specs.Makes.{Makes}
 use Rattle.editor_core.proofs.Makings.{makes_both}
 use Rattle.editor_core.proofs.studio.Studio.make_blocks.Goals as goal
@@ -9,7 +10,7 @@ use Rattle.editor_core.proofs.studio.Studio.make_blocks.Goals as goal
 pub returns-in_err-write_blocks-clause-made : goal.returns-in_err-write_blocks-clause-made
 returns-in_err-write_blocks-clause-made g c =
     let e = err_from_is_err_and c.from_residual.result c.from_residual.ensures.1 in
-    subst (λ r. Makes g.S.Store (core_of c.args.self.now) c.args.given.now c.args.makes.now r
+    subst (λ r. Makes g.S.Store (core_of c.args.self.now) (batch_of c.args.given.now c.args.makes.now) r
     (core_of c.write_blocks.new.self)) (sym (e.1 ∙ ap Err e.2))
     c.in_err-write_blocks.ensures.written
 

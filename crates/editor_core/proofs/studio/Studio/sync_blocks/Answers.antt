@@ -1,6 +1,7 @@
 -- One sync after another.
 use Rattle.std.proofs.Common.{◌≡◌, ℕ, Some, refl, subst, arith}
 use Rattle.editor_core.specs.Core.{core_of}
+use Rattle.editor_core.specs.Made.{ids_from}
 use Rattle.editor_core.specs.Makes.{Synced}
 use Rattle.editor_core.proofs.Makings.{synced_none, synced_more, unsynced_here}
 use Rattle.editor_core.proofs.studio.Studio.sync_blocks.Goals as goal
@@ -41,5 +42,5 @@ returns-in-Err-clause-synced g c =
 pub returns-clause-synced : goal.returns-clause-synced
 returns-clause-synced g c =
     let all : c.rows.i ≡ c.args.count = omega (arith, c.rows-test.false, c.rows.auto.i-end) in
-    subst (λ (n : ℕ). Synced g.S.Store (core_of c.args.self.now) c.args.first n (core_of c.rows.self)) all
+    subst (λ (n : ℕ). Synced g.S.Store (core_of c.args.self.now) (ids_from c.args.first n) (core_of c.rows.self)) all
     c.rows.invariant.synced

@@ -5,6 +5,7 @@ use Rattle.std.proofs.lemmas.Result.{err_from_is_err_and}
 use Rattle.edit_ops.specs.declared.types.NewBlock.{NewBlock}
 use Rattle.block_ledger.specs.Entries.{count_of}
 use Rattle.editor_core.specs.Core.{core_of}
+use Rattle.editor_core.specs.Made.{batch_of}
 use Rattle.editor_core.specs.Makes.{MadeOne, Writes}
 use Rattle.editor_core.proofs.Makings.{written_none, written_more, making_next, making_size}
 use Rattle.editor_core.proofs.NextMade.{item, ready_item}
@@ -84,7 +85,7 @@ returns-in_err-write_one-clause-written g c =
     let e = err_from_is_err_and c.from_residual.result c.from_residual.ensures.1 in
     let new = core_of c.write_one.new.self in
     let failed = c.in_err-write_one.ensures in
-    subst (λ r. Writes g.S.Store s c.args.given.now bs r new) (sym (e.1 ∙ ap Err e.2))
+    subst (λ r. Writes g.S.Store s (batch_of c.args.given.now bs) r new) (sym (e.1 ∙ ap Err e.2))
     (stuck_here g.S.Store s c.args.given.now bs n
     (core_of c.rows.self) c.rows.invariant.written.making c.rows-test.true c.requires.new b here
     c.in_err-write_one.field-0.0 new c.rows.invariant.written.read_faults failed.made failed.sound failed.damaged)
