@@ -1,29 +1,25 @@
--- Cuts, as steps of the studio.
-use Rattle.std.proofs.Common.{◌≡◌, ⊎_elim, refl, sym, ap, ◌∙◌, subst, ℕ, ◌+◌, ◌^◌, ◌≤◌, ℤ}
+-- A planned cut of a run is an edit, and a step.
+use Rattle.std.proofs.Common.{◌≡◌, refl, sym, ap, ◌∙◌, subst, ℕ, ◌+◌, ◌^◌, ◌≤◌, ℤ}
 use Rattle.std.proofs.Common.{Option, Some, None, List, length, map, take}
-use Rattle.std.proofs.Common.{replicate, Contains, Ok, Err, arith}
+use Rattle.std.proofs.Common.{replicate, Contains, Ok, arith}
 use Rattle.std.proofs.lemmas.List.{length-replicate}
 use Rattle.pcm_base.specs.declared.block.BlockRef.{BlockRef}
 use Rattle.pcm_base.specs.declared.command.Call.{Call}
 use Rattle.pcm_base.specs.declared.command.Call.TheVariants.{Line}
-use Rattle.pcm_base.specs.declared.refusal.Refusal.{Refusal}
-use Rattle.pcm_base.specs.declared.refusal.Refusal.TheVariants as refusal
 use Rattle.pcm_base.specs.declared.sound.Cell.{Cell}
-use Rattle.pcm_base.specs.Cells.{Project, longest, run_edited, tracks_from}
+use Rattle.pcm_base.specs.Cells.{Project, run_edited}
 use Rattle.pcm_base.specs.Cells as cells
 use Rattle.pcm_base.specs.Edits.{range_of}
 use Rattle.pcm_base.specs.History.{edited, recorded}
-use Rattle.pcm_base.specs.Outside.{Outside}
 use Rattle.pcm_base.specs.Pieces.{Sources}
-use Rattle.pcm_base.specs.Refusals.{◌otherwise◌, bad_range, call_tests, is_empty, refused_if, too_narrow}
-use Rattle.pcm_base.specs.Run.{outside, stop_of}
+use Rattle.pcm_base.specs.Refusals.{◌otherwise◌}
+use Rattle.pcm_base.specs.Run.{outside}
 use Rattle.pcm_base.specs.Sizes.{blocks_of_tracks}
-use Rattle.pcm_base.specs.State.{State, current}
+use Rattle.pcm_base.specs.State.{current}
 use Rattle.pcm_base.specs.Step.{after, copied}
 use Rattle.pcm_base.specs.Studio as model
 use Rattle.disk_model.specs.declared.store.Store.{Ghosts}
 use Rattle.disk_model.proofs.Frames.{Fewer}
-use Rattle.sample_block.specs.Sources.{samples_on}
 use Rattle.clip_track.specs.declared.clips.Clip.{Clip}
 use Rattle.clip_track.specs.declared.items.Item.{Item}
 use Rattle.edit_ops.specs.declared.types.NewBlock.{NewBlock}
@@ -37,17 +33,16 @@ use Rattle.project_state.specs.Tracks.{track_of}
 use Rattle.project_state.proofs.MeantHistories.{meant_recorded}
 use Rattle.editor_core.specs.declared.carrying.Planned.{Planned}
 use Rattle.editor_core.specs.declared.cuts.CutEdit.{CutEdit}
-use Rattle.editor_core.specs.declared.cuts.CutEdit.TheVariants.{Close, Leave}
 use Rattle.editor_core.specs.declared.copies.RunRange.{RunRange}
 use Rattle.editor_core.specs.Copies.{Copies, run_of, strips_blocks}
 use Rattle.editor_core.specs.Core.{Core}
-use Rattle.editor_core.specs.Cuts.{IsCutPlan, NoCutPlan, cut_cells, cut_line, cut_refusal}
+use Rattle.editor_core.specs.Cuts.{IsCutPlan, cut_cells, cut_line}
 use Rattle.editor_core.specs.Edits.{AreAmong, IsEdit, IsEditCall, IsPlanned, alone, blocks_with, clip_behind, clip_then}
 use Rattle.editor_core.specs.Edits.{tagged}
 use Rattle.editor_core.specs.Points.{current_tracks, lacks}
 use Rattle.editor_core.specs.Reads.{HasLayout}
-use Rattle.editor_core.specs.Studios.{IsClipboard, IsStudio, clip_cells, named_blocks, studio_by, studio_of}
-use Rattle.editor_core.specs.Took.{Took, quietly, silent}
+use Rattle.editor_core.specs.Studios.{IsClipboard, IsStudio, clip_cells, named_blocks, studio_by}
+use Rattle.editor_core.specs.Took.{silent}
 use Rattle.editor_core.specs.TrackEdits.{plan_start}
 use Rattle.editor_core.proofs.Clipping.{may_paste, strips_named}
 use Rattle.editor_core.proofs.Contained.{among_itself}
@@ -59,67 +54,9 @@ use Rattle.editor_core.proofs.Lists.{all_left}
 use Rattle.editor_core.proofs.MadeStudios.{refs}
 use Rattle.editor_core.proofs.RunLaws.{run_few, run_planned, run_point}
 use Rattle.editor_core.proofs.RunPlans.{AreLaid, CellEdit}
-use Rattle.editor_core.proofs.Spaces.{early}
-use Rattle.editor_core.proofs.Staying.{refuses, wants}
 use Rattle.editor_core.proofs.Tracks.{current_is}
-use Rattle.editor_core.proofs.CutLaws.{cuts_laid, each_so, run_tests_are, same_edits, strips_short, there_of}
-
--- ---- the lines
-
-pub cut_call : (e : CutEdit) (range : RunRange)
-    → IsEditCall (Line (cut_line e range)) silent 0 (λ m st. blocks_of_tracks range.count)
-cut_call Close range = record {
-  commit = record {
-    one = refl;
-    no_pin = refl;
-    tracks_is = λ rate. refl;
-    stops = λ o. refl;
-    changes = refl;
-    leaves = λ t. refl;
-    heard = λ rate s. refl;
-    quiet = refl;
-    done = λ rate s. refl;
-  };
-  needs = λ rate t blocks len h. h;
-  needed = λ rate t blocks len h. h;
-}
-cut_call Leave range = record {
-  commit = record {
-    one = refl;
-    no_pin = refl;
-    tracks_is = λ rate. refl;
-    stops = λ o. refl;
-    changes = refl;
-    leaves = λ t. refl;
-    heard = λ rate s. refl;
-    quiet = refl;
-    done = λ rate s. refl;
-  };
-  needs = λ rate t blocks len h. h;
-  needed = λ rate t blocks len h. h;
-}
-
--- the own tests of both lines
-abbrev line_tests : (id n from to : ℕ) → Project → Option Refusal
-line_tests id n from to p =
-    (refused_if (is_empty (tracks_from id p)) (refusal.NoTrack id)) otherwise (too_narrow (length (tracks_from id p)) n)
-    otherwise (bad_range from to (longest (take n (tracks_from id p))))
-
-own_by : (e : CutEdit) (range : RunRange) (out : Outside) (st : State)
-    → call_tests out st (Line (cut_line e range))
-    ≡ line_tests range.track range.count range.from range.to (current st)
-own_by Close range out st = refl
-own_by Leave range out st = refl
-
-after_by : (e : CutEdit) (range : RunRange) (out : Outside) (st : State) → after out st (Line (cut_line e range))
-    ≡ record st {
-      history = edited st.history
-          (run_edited range.track (replicate range.count (cut_cells e range.from range.to)) (current st)) 0;
-      commit = st.commit + 1;
-      clipboard = Some (copied range.track range.count range.from range.to (current st));
-    }
-after_by Close range out st = refl
-after_by Leave range out st = refl
+use Rattle.editor_core.proofs.CutLaws.{cuts_laid, each_so, same_edits, strips_short, there_of}
+use Rattle.editor_core.proofs.CutRefused.{after_by, cut_call, own_is}
 
 module _ {D : Type 0} (disk : Ghosts D) (s : Core D) (is : IsStudio disk s) (e : CutEdit) (range : RunRange)
     (fewer : Fewer disk s.store) where
@@ -141,49 +78,8 @@ module _ {D : Type 0} (disk : Ghosts D) (s : Core D) (is : IsStudio disk s) (e :
   abbrev line : Call
   line = Line (cut_line e range)
 
-  abbrev t : model.Studio
-  t = studio_of disk s
-
   old_sound : IsSoundPoint s.block_size s.next_block s.next_track old
   old_sound = current_sound disk s is
-
-  own_is : (block : ℕ → ℕ → ℤ) → call_tests (outside (studio_by (alone block) disk s) silent)
-      (studio_by (alone block) disk s).state line ≡ cut_refusal range old
-  own_is block =
-      let src = alone block in
-      let u = studio_by src disk s in
-      own_by e range (outside u silent) u.state
-      ∙ ap (line_tests id n from to) (current_is src s.history)
-      ∙ run_tests_are src id n from to s.block_size s.next_block s.next_track old old_sound.rising old_sound.sound
-      (track_of id old) refl
-
-  -- ---- a stopped studio, a test of the edit, or memory
-
-  early_refused : (why : Refusal) → ((stop_of s.stopped) otherwise (cut_refusal range old)) ≡ Some why
-      → Took disk s (quietly line (Err why)) s
-  early_refused why h =
-      let call = cut_call e range in
-      let own = own_is (samples_on (disk.reads s.store)) in
-      let first : ((stop_of s.stopped) otherwise (call_tests (outside t silent) t.state line)) ≡ Some why =
-      (λ i. (stop_of s.stopped) otherwise (own i)) ∙ h in
-      refuses disk s line silent why is fewer refl 0 0 (λ held. call.needs t.rate t 0 0 (omega arith, omega arith))
-      (early t line silent 0 call.commit 0 0 why first)
-
-  pub cut_stopped : (faults : ℕ) → s.stopped ≡ Some faults → Took disk s (quietly line (Err (refusal.Stopped faults))) s
-  cut_stopped faults at =
-      early_refused (refusal.Stopped faults) (λ i. (stop_of (at i)) otherwise (cut_refusal range old))
-
-  pub cut_refused : (why : Refusal) → s.stopped ≡ None → NoCutPlan range s why
-      → Took disk s (quietly line (Err why)) s
-  cut_refused why going not = ⊎_elim
-      (λ own. early_refused why ((λ i. (stop_of (going i)) otherwise (cut_refusal range old)) ∙ own))
-      (λ memory.
-      subst (λ (r : Refusal). Took disk s (quietly line (Err r)) s) (sym memory)
-      (wants disk s line silent is fewer refl 0
-      (λ held. (0, (cut_call e range).needs t.rate t 0 0 (omega arith, omega arith)))))
-      not
-
-  -- ---- the plan
 
   module _ (going : s.stopped ≡ None) (planned : Planned) (p : IsCutPlan e range s planned)
       (none : planned.tracks ≡ 0) where
@@ -311,6 +207,6 @@ module _ {D : Type 0} (disk : Ghosts D) (s : Core D) (is : IsStudio disk s) (e :
       most = λ m st. blocks_of_tracks n;
       call = subst (λ (k : ℕ). IsEditCall line silent k (λ m st. blocks_of_tracks n)) (sym none) (cut_call e range);
       few = λ block. few_made;
-      own = λ block. own_is block ∙ p.tests;
+      own = λ block. own_is disk s is e range fewer block ∙ p.tests;
       means = means;
     }

@@ -1,16 +1,13 @@
--- An edit that makes blocks, as one step.
-use Rattle.std.proofs.Common.{◌≡◌, ◌↔◌, inl, inr, ⊎_elim, refl, sym, ◌∙◌, subst, ℕ, ◌+◌, ◌≤◌, IsSome, Option, None}
-use Rattle.std.proofs.Common.{List, ◌++◌, length, Result, Ok, Err, IfErr, arith}
-use Rattle.pcm_base.specs.declared.answer.Reply.{Reply}
+-- An edit that makes blocks, as one step: its record was added, or was not, or nothing was prepared.
+use Rattle.std.proofs.Common.{◌≡◌, ◌↔◌, inl, inr, ⊎_elim, refl, sym, ◌∙◌, subst, ℕ, ◌+◌, IsSome, Option, None}
+use Rattle.std.proofs.Common.{List, ◌++◌, length, Ok, Err, arith}
 use Rattle.pcm_base.specs.declared.answer.Reply.TheVariants.{Done}
 use Rattle.pcm_base.specs.declared.command.Call.{Call}
 use Rattle.pcm_base.specs.declared.entry.SoundMove.{SoundMove}
 use Rattle.pcm_base.specs.declared.refusal.Refusal.{Refusal}
 use Rattle.pcm_base.specs.declared.refusal.Refusal.TheVariants as refusal
-use Rattle.pcm_base.specs.Counters.{EditNeeds, Needs}
 use Rattle.pcm_base.specs.History.{History}
-use Rattle.pcm_base.specs.Refusals.{call_tests}
-use Rattle.pcm_base.specs.Run.{Answers, CarriesOut, followed, outside, refusal_of}
+use Rattle.pcm_base.specs.Run.{followed, outside}
 use Rattle.pcm_base.specs.Studio as model
 use Rattle.disk_model.specs.declared.store.Store.{Ghosts}
 use Rattle.disk_model.proofs.Frames.{Fewer}
@@ -27,25 +24,21 @@ use Rattle.editor_core.specs.Adding.{Adds, stopped_by}
 use Rattle.editor_core.specs.Core.{Core}
 use Rattle.editor_core.specs.Edits.{Carried, Committed, IsEdit, IsPlanned, IsPrepared, TaggedEdit, clip_behind}
 use Rattle.editor_core.specs.Edits.{history_behind}
-use Rattle.editor_core.specs.Left.{Left, MayRemove, Stops}
 use Rattle.editor_core.specs.Made.{batch_of, ids_from}
 use Rattle.editor_core.specs.Makes.{AreSynced, Making}
 use Rattle.editor_core.specs.Studios.{IsHeld, IsStudio, clip_blocks, ids_of, pin_blocks, studio_of}
 use Rattle.editor_core.specs.Took.{Took, with_sound}
 use Rattle.editor_core.proofs.CarriedOut.{commit_of}
 use Rattle.editor_core.proofs.Committing.{failed, failed_state}
-use Rattle.editor_core.proofs.EditLaws.{edit_needs, edit_own, grown_held, grown_is, grown_made, grown_own, move}
 use Rattle.editor_core.proofs.EditLaws.{pieces_there}
-use Rattle.editor_core.proofs.Flights.{IsCommit, IsTested}
+use Rattle.editor_core.proofs.Flights.{IsTested}
 use Rattle.editor_core.proofs.Growing.{grown_state, grows}
-use Rattle.editor_core.proofs.MadeCommits.{composed}
 use Rattle.editor_core.proofs.MadeFailures.{not_made}
 use Rattle.editor_core.proofs.MadeLeft.{all_failed, all_left}
-use Rattle.editor_core.proofs.MadeStudios.{made_state, refs}
+use Rattle.editor_core.proofs.MadeStudios.{refs}
 use Rattle.editor_core.proofs.Premises.{TookWhere}
-use Rattle.editor_core.proofs.Spaces.{nothing}
-use Rattle.editor_core.proofs.Staying.{HasMade}
 use Rattle.editor_core.proofs.UnpreparedEdits.{not_prepared}
+use Rattle.editor_core.proofs.EditMade.{from_start, mid_state, mid_tested, need, passes}
 
 module _ {D : Type 0} (disk : Ghosts D) (s : Core D) (is : IsStudio disk s) (going : s.stopped ≡ None)
     (e : TaggedEdit) (plan : IsPlanned s e)
@@ -88,9 +81,6 @@ module _ {D : Type 0} (disk : Ghosts D) (s : Core D) (is : IsStudio disk s) (goi
   abbrev t : model.Studio
   t = studio_of disk s
 
-  need : (k : ℕ) → k ≤ n → Needs (outside t sound) t c k (length body)
-  need = edit_needs disk s is going e plan c sound edit
-
   module _ (prepared : IsPrepared s n tracks (length body)) (store : D) (counts : Counts)
       (making : Making disk s (batch_of given makes) n
       (record s { store = store; counts = counts; next_block = s.next_block + n }))
@@ -99,78 +89,12 @@ module _ {D : Type 0} (disk : Ghosts D) (s : Core D) (is : IsStudio disk s) (goi
     abbrev mid : Core D
     mid = record s { store = store; counts = counts; next_block = s.next_block + n }
 
-    mid_is : IsStudio disk mid
-    mid_is = grown_is disk s is going e plan c sound edit store counts making
-        prepared.blocks prepared.ids
+    tested : IsTested (IsHeld disk s) disk mid (refs makes) c sound tracks told_body h clip track_then
+    tested = mid_tested disk s is going e plan c sound edit fewer prepared store counts making reads synced
 
-    mid_made : HasMade (IsHeld disk s) disk mid (refs makes)
-    mid_made = grown_made disk s is going e plan c sound edit store counts making
-        prepared.blocks prepared.ids synced
-
-    mid_move : IsCommit (IsHeld disk s) disk mid (refs makes) c sound tracks told_body h clip track_then
-    mid_move = move disk s is going e plan c sound edit store counts making
-        prepared.blocks prepared.ids
-
-    mid_own : call_tests (outside (studio_of disk mid) sound) (studio_of disk mid).state c ≡ None
-    mid_own = grown_own disk s is going e plan c sound edit store counts making
-        prepared.blocks prepared.ids
-
-    -- the commit that is left, where the disk held the studio before the first block
-    mid_tested : IsTested (IsHeld disk s) disk mid (refs makes) c sound tracks told_body h clip track_then
-    mid_tested = record {
-      is = mid_is;
-      holds = grown_held disk s is going e plan c sound edit store counts making
-          prepared.blocks prepared.ids;
-      has_made = mid_made;
-      move = mid_move;
-      going = going;
-      own = mid_own;
-      ids = prepared.ids;
-      number = prepared.number;
-    }
-
-    mid_state : IsHeld disk s
+    state : IsHeld disk s
         → studio_of disk mid ≡ record t { next_block = s.next_block + n; read_faults = disk.read_fault_count store }
-    mid_state =
-        made_state disk s is given makes n mid making going (omega arith) plan.new prepared.blocks
-        (pieces_there disk s is going e plan)
-
-    back : IsHeld disk s → (blocks len : ℕ) → Needs (outside (studio_of disk mid) sound)
-        (studio_of disk mid) c blocks len → Needs (outside t sound) t c blocks len
-    back held blocks len needs =
-        let most = edit.most in
-        let at = edit.call.needed (studio_of disk mid).rate (studio_of disk mid) blocks len needs in
-        edit.call.needs t.rate t blocks len
-        (subst (λ (u : model.Studio). EditNeeds (most u.block_size u.state) (outside u sound) u c blocks len)
-        (mid_state held) at)
-
-    passes : refusal_of (outside t sound) t c n (length body) ≡ None
-    passes =
-        let own = edit_own disk s is going e plan c sound edit in
-        nothing t c sound tracks edit.call.commit n (length body) is.counters.pin_most going own prepared.blocks
-        prepared.ids (omega (arith, prepared.number)) prepared.place prepared.short
-
-    carried_out : CarriesOut t c sound Done (followed (outside t sound) t c n (length body))
-    carried_out = record {
-      blocks = n;
-      len = length body;
-      needs = need n (omega arith);
-      passed = passes;
-      answers = edit.call.commit.done t.rate t.state;
-      is = refl;
-      heard = edit.call.commit.heard t.rate t.state;
-    }
-
-    -- the call from the studio that has the blocks is the call from the start
-    from_start : (told_as : Result Reply Refusal) (new : Core D)
-        → TookWhere (IsHeld disk s) disk mid c sound told_as new
-        → new.next_block ≡ mid.next_block → (IsHeld disk s → Answers t c sound told_as (studio_of disk new))
-        → Stops disk s told_as new
-        → IfErr told_as (Left disk s (MayRemove c s.counts) new) → Took disk s (with_sound c sound told_as) new
-    from_start told_as new took next step stops left =
-        composed disk s is given makes going plan.new prepared.blocks
-        (pieces_there disk s is going e plan) c sound mid making
-        told_as new took next back (λ held. (length body, carried_out)) step stops left
+    state = mid_state disk s is going e plan c sound edit fewer prepared store counts making reads synced
 
     -- the record was not added
     edit_failed : (new : Core D) → Adds {R = Unit {0}} disk mid body (Err refusal.DiskFault) new
@@ -181,23 +105,24 @@ module _ {D : Type 0} (disk : Ghosts D) (s : Core D) (is : IsStudio disk s) (goi
         all_failed disk s given makes prepared.blocks c store counts making new.store adds.fields.2 in
         let here : Core D = stopped_by disk mid new.store in
         let none : s.next_block + n + 0 ≡ s.next_block + n = omega arith in
-        let state = λ (held : IsHeld disk s).
-        failed_state mid_tested new adds held
-        ∙ (λ i. record (mid_state held i) {
+        let stopped_state = λ (held : IsHeld disk s).
+        failed_state tested new adds held
+        ∙ (λ i. record (state held i) {
           stopped = here.stopped;
           next_block = none i;
           read_faults = disk.read_fault_count new.store;
           change_faults = disk.change_fault_count new.store;
         }) in
         subst (λ (z : Core D). Took disk s (with_sound c sound (Err refusal.DiskFault)) z) (sym adds.fields.0)
-        (from_start (Err refusal.DiskFault) here (failed mid_tested new adds) refl (λ held. inr (record {
+        (from_start disk s is going e plan c sound edit fewer prepared store counts making reads synced
+        (Err refusal.DiskFault) here (failed tested new adds) refl (λ held. inr (record {
           breaks = record {
             going = going;
             blocks = n;
             len = length body;
-            needs = need n (omega arith);
+            needs = need disk s is going e plan c sound edit fewer n (omega arith);
             room = prepared.blocks;
-            is = state held;
+            is = stopped_state held;
             leaves = commit.leaves t;
           };
           cause = inr (
@@ -231,16 +156,16 @@ module _ {D : Type 0} (disk : Ghosts D) (s : Core D) (is : IsStudio disk s) (goi
       }
 
       done_took : TookWhere (IsHeld disk s) disk mid c sound (Ok Done) done
-      done_took = grows mid_tested q new adds h' counts' next_track moved tracked counted files
+      done_took = grows tested q new adds h' counts' next_track moved tracked counted files
 
       done_state : IsHeld disk s → studio_of disk done ≡ followed (outside t sound) t c n (length body)
       done_state held =
           let len = length body in
           let one : studio_of disk done ≡ followed (outside (studio_of disk mid) sound) (studio_of disk mid) c 0 len =
-          grown_state mid_tested q new adds h' counts' next_track moved tracked counted files held in
+          grown_state tested q new adds h' counts' next_track moved tracked counted files held in
           let none : s.next_block + n + 0 ≡ s.next_block + n = omega arith in
           one
-          ∙ (λ i. followed (outside (mid_state held i) sound) (mid_state held i) c 0 len)
+          ∙ (λ i. followed (outside (state held i) sound) (state held i) c 0 len)
           ∙ (λ i. record (followed (outside t sound) t c n len) { next_block = none i; read_faults = reads i })
 
       edit_done : Took disk s (with_sound c sound (Ok Done))
@@ -248,11 +173,12 @@ module _ {D : Type 0} (disk : Ghosts D) (s : Core D) (is : IsStudio disk s) (goi
       edit_done =
           subst (λ (z : Core D). Took disk s (with_sound c sound (Ok Done))
           (record z { history = h'; clipboard = clip; counts = counts'; next_track = next_track })) (sym adds.fields.0)
-          (from_start (Ok Done) done done_took refl (λ held. record {
+          (from_start disk s is going e plan c sound edit fewer prepared store counts making reads synced
+          (Ok Done) done done_took refl (λ held. record {
             blocks = n;
             len = length body;
-            needs = need n (omega arith);
-            passed = passes;
+            needs = need disk s is going e plan c sound edit fewer n (omega arith);
+            passed = passes disk s is going e plan c sound edit fewer prepared store counts making reads synced;
             answers = edit.call.commit.done t.rate t.state;
             is = done_state held;
             heard = edit.call.commit.heard t.rate t.state;
@@ -273,7 +199,8 @@ module _ {D : Type 0} (disk : Ghosts D) (s : Core D) (is : IsStudio disk s) (goi
       (λ some.
       not_made disk s is given makes going plan.new some.0.blocks
       (pieces_there disk s is going e plan) c sound
-      (length body) edit.call.commit.changes (edit.call.commit.leaves t) (λ held. need) plan.origin why new some.1)
+      (length body) edit.call.commit.changes (edit.call.commit.leaves t)
+      (λ held. need disk s is going e plan c sound edit fewer) plan.origin why new some.1)
       (λ last.
       let it = last.1 in
       let adds = subst (λ (e : Refusal). Adds {R = Unit {0}} disk it.mid body (Err e) new) last.0 it.adds in

@@ -32,6 +32,7 @@ mod Recorded
 mod NamedThere
 mod EditLaws
 mod UnpreparedEdits
+mod EditMade
 mod EditSteps
 mod CarriedEdits
 mod CarriedOut
@@ -46,8 +47,10 @@ mod RunPlans
 mod RunMeaning
 mod RunLaws
 mod CutLaws
+mod CutRefused
 mod CutSteps
 mod PasteLaws
+mod PasteRefused
 mod PasteSteps
 mod RangeLaws
 mod InsertLaws

@@ -1,6 +1,6 @@
--- Pastes, as steps of the studio.
-use Rattle.std.proofs.Common.{◌≡◌, ⊎_elim, refl, sym, ap, ◌∙◌, subst, ℕ, ◌+◌, ◌≤◌, ℤ}
-use Rattle.std.proofs.Common.{Option, Some, None, List, [], ◌++◌, length, map, take, Contains, Err}
+-- A planned paste is an edit, and a step.
+use Rattle.std.proofs.Common.{◌≡◌, refl, sym, ap, ◌∙◌, subst, ℕ, ◌+◌, ◌≤◌, ℤ}
+use Rattle.std.proofs.Common.{Option, Some, None, List, [], ◌++◌, length, map, take, Contains}
 use Rattle.std.proofs.Common.{arith}
 use Rattle.std.specs.Prelude.{unwrap_or}
 use Rattle.std.specs.List.{AllByRecursion}
@@ -8,22 +8,17 @@ use Rattle.std.proofs.lemmas.List.{length-map}
 use Rattle.pcm_base.specs.declared.block.BlockRef.{BlockRef}
 use Rattle.pcm_base.specs.declared.command.Call.{Call}
 use Rattle.pcm_base.specs.declared.command.Call.TheVariants.{Line}
-use Rattle.pcm_base.specs.declared.refusal.Refusal.{Refusal}
-use Rattle.pcm_base.specs.declared.refusal.Refusal.TheVariants as refusal
 use Rattle.pcm_base.specs.declared.sound.Cell.{Cell}
 use Rattle.pcm_base.specs.Cells.{run_edited}
 use Rattle.pcm_base.specs.History.{edited, recorded}
-use Rattle.pcm_base.specs.Outside.{Outside}
 use Rattle.pcm_base.specs.Pieces.{Sources}
-use Rattle.pcm_base.specs.Refusals.{◌otherwise◌, call_tests}
-use Rattle.pcm_base.specs.Run.{outside, stop_of}
+use Rattle.pcm_base.specs.Run.{outside}
 use Rattle.pcm_base.specs.Sizes.{blocks_of_tracks}
-use Rattle.pcm_base.specs.State.{State, clip_of, current}
+use Rattle.pcm_base.specs.State.{clip_of, current}
 use Rattle.pcm_base.specs.Step.{after}
 use Rattle.pcm_base.specs.Studio as model
 use Rattle.disk_model.specs.declared.store.Store.{Ghosts}
-use Rattle.disk_model.proofs.Frames.{Fewer}
-use Rattle.sample_block.specs.Sources.{AllNamed, IsNamed, samples_on}
+use Rattle.sample_block.specs.Sources.{AllNamed, IsNamed}
 use Rattle.clip_track.specs.declared.clips.Clip.{Clip}
 use Rattle.clip_track.specs.declared.items.Item.{Item}
 use Rattle.clip_track.specs.Items.{strip_cells}
@@ -39,16 +34,15 @@ use Rattle.project_state.proofs.KeptBounds.{all_append}
 use Rattle.project_state.proofs.MeantHistories.{meant_recorded}
 use Rattle.editor_core.specs.declared.carrying.Planned.{Planned}
 use Rattle.editor_core.specs.declared.pastes.PasteEdit.{PasteEdit}
-use Rattle.editor_core.specs.declared.pastes.PasteEdit.TheVariants.{Insert, Cover}
 use Rattle.editor_core.specs.Copies.{run_of, strips_blocks}
 use Rattle.editor_core.specs.Core.{Core}
 use Rattle.editor_core.specs.Edits.{AreAmong, IsEdit, IsEditCall, IsPlanned, alone, blocks_with, clip_behind, clip_then}
 use Rattle.editor_core.specs.Edits.{tagged}
-use Rattle.editor_core.specs.Pastes.{IsPastePlan, NoPastePlan, paste_cells, paste_length, paste_line, paste_refusal}
+use Rattle.editor_core.specs.Pastes.{IsPastePlan, paste_cells, paste_length, paste_line}
 use Rattle.editor_core.specs.Points.{current_tracks}
 use Rattle.editor_core.specs.Studios.{IsClipboard, IsGiven, IsStudio, MayPaste, clip_blocks, clip_cells, named_blocks}
-use Rattle.editor_core.specs.Studios.{pin_blocks, studio_by, studio_of}
-use Rattle.editor_core.specs.Took.{Took, quietly, silent}
+use Rattle.editor_core.specs.Studios.{pin_blocks, studio_by}
+use Rattle.editor_core.specs.Took.{silent}
 use Rattle.editor_core.specs.TrackEdits.{plan_start}
 use Rattle.editor_core.proofs.Contained.{among_itself}
 use Rattle.editor_core.proofs.Copying.{from_blocks, from_track, layout_of, run_is}
@@ -59,59 +53,10 @@ use Rattle.editor_core.proofs.Lists.{all_left, all_right}
 use Rattle.editor_core.proofs.MadeStudios.{refs}
 use Rattle.editor_core.proofs.RunLaws.{run_few, run_planned, run_point}
 use Rattle.editor_core.proofs.RunPlans.{AreLaid, CellEdit, edits_at}
-use Rattle.editor_core.proofs.Spaces.{early}
-use Rattle.editor_core.proofs.Staying.{refuses, wants}
 use Rattle.editor_core.proofs.Tracks.{current_is}
-use Rattle.editor_core.proofs.PasteLaws.{each_strip, line_tests, line_tests_are, pastes_laid, same_edits}
+use Rattle.editor_core.proofs.PasteLaws.{each_strip, pastes_laid, same_edits}
 use Rattle.editor_core.proofs.PasteLaws.{strips_may_read}
-
--- ---- the lines
-
-pub paste_call : (e : PasteEdit) (id at : ℕ)
-    → IsEditCall (Line (paste_line e id at)) silent 0 (λ m st. blocks_of_tracks (length (clip_of st)))
-paste_call Insert id at = record {
-  commit = record {
-    one = refl;
-    no_pin = refl;
-    tracks_is = λ rate. refl;
-    stops = λ o. refl;
-    changes = refl;
-    leaves = λ t. refl;
-    heard = λ rate s. refl;
-    quiet = refl;
-    done = λ rate s. refl;
-  };
-  needs = λ rate t blocks len h. h;
-  needed = λ rate t blocks len h. h;
-}
-paste_call Cover id at = record {
-  commit = record {
-    one = refl;
-    no_pin = refl;
-    tracks_is = λ rate. refl;
-    stops = λ o. refl;
-    changes = refl;
-    leaves = λ t. refl;
-    heard = λ rate s. refl;
-    quiet = refl;
-    done = λ rate s. refl;
-  };
-  needs = λ rate t blocks len h. h;
-  needed = λ rate t blocks len h. h;
-}
-
-own_by : (e : PasteEdit) (id at : ℕ) (out : Outside) (st : State) → call_tests out st (Line (paste_line e id at))
-    ≡ line_tests (paste_length e at) id st.clipboard (clip_of st) (current st)
-own_by Insert id at out st = refl
-own_by Cover id at out st = refl
-
-after_by : (e : PasteEdit) (id at : ℕ) (out : Outside) (st : State) → after out st (Line (paste_line e id at))
-    ≡ record st {
-      history = edited st.history (run_edited id (map (paste_cells e at) (clip_of st)) (current st)) 0;
-      commit = st.commit + 1;
-    }
-after_by Insert id at out st = refl
-after_by Cover id at out st = refl
+use Rattle.editor_core.proofs.PasteRefused.{after_by, own_is, paste_call}
 
 module _ {D : Type 0} (disk : Ghosts D) (s : Core D) (is : IsStudio disk s) (e : PasteEdit) (id at : ℕ) where
   abbrev old : List Track
@@ -120,53 +65,8 @@ module _ {D : Type 0} (disk : Ghosts D) (s : Core D) (is : IsStudio disk s) (e :
   abbrev line : Call
   line = Line (paste_line e id at)
 
-  abbrev t : model.Studio
-  t = studio_of disk s
-
-  abbrev refused_by : Option Refusal
-  refused_by = paste_refusal e id at s.clipboard old
-
   old_sound : IsSoundPoint s.block_size s.next_block s.next_track old
   old_sound = current_sound disk s is
-
-  own_is : (block : ℕ → ℕ → ℤ) → call_tests (outside (studio_by (alone block) disk s) silent)
-      (studio_by (alone block) disk s).state line ≡ refused_by
-  own_is block =
-      let src = alone block in
-      let u = studio_by src disk s in
-      own_by e id at (outside u silent) u.state
-      ∙ ap (line_tests (paste_length e at) id u.state.clipboard (clip_of u.state)) (current_is src s.history)
-      ∙ line_tests_are src (paste_length e at) id s.block_size s.next_block s.next_track s.clipboard old
-      old_sound.rising old_sound.sound (track_of id old) refl
-
-  -- ---- a stopped studio, a test of the edit, or memory
-
-  early_refused : (why : Refusal) → Fewer disk s.store → ((stop_of s.stopped) otherwise refused_by) ≡ Some why
-      → Took disk s (quietly line (Err why)) s
-  early_refused why fewer h =
-      let call = paste_call e id at in
-      let own = own_is (samples_on (disk.reads s.store)) in
-      let first : ((stop_of s.stopped) otherwise (call_tests (outside t silent) t.state line)) ≡ Some why =
-      (λ i. (stop_of s.stopped) otherwise (own i)) ∙ h in
-      refuses disk s line silent why is fewer refl 0 0 (λ held. call.needs t.rate t 0 0 (omega arith, omega arith))
-      (early t line silent 0 call.commit 0 0 why first)
-
-  pub paste_stopped : (faults : ℕ) → Fewer disk s.store → s.stopped ≡ Some faults
-      → Took disk s (quietly line (Err (refusal.Stopped faults))) s
-  paste_stopped faults fewer at_fault =
-      early_refused (refusal.Stopped faults) fewer (λ i. (stop_of (at_fault i)) otherwise refused_by)
-
-  pub paste_refused : (why : Refusal) → Fewer disk s.store → s.stopped ≡ None → NoPastePlan e id at s why
-      → Took disk s (quietly line (Err why)) s
-  paste_refused why fewer going not = ⊎_elim
-      (λ own. early_refused why fewer ((λ i. (stop_of (going i)) otherwise refused_by) ∙ own))
-      (λ memory.
-      subst (λ (r : Refusal). Took disk s (quietly line (Err r)) s) (sym memory)
-      (wants disk s line silent is fewer refl 0
-      (λ held. (0, (paste_call e id at).needs t.rate t 0 0 (omega arith, omega arith)))))
-      not
-
-  -- ---- the plan
 
   module _ (planned : Planned) (p : IsPastePlan e id at s planned) (none : planned.tracks ≡ 0)
       (keeps : planned.clip ≡ None) where
@@ -297,6 +197,6 @@ module _ {D : Type 0} (disk : Ghosts D) (s : Core D) (is : IsStudio disk s) (e :
       call = subst (λ (k : ℕ). IsEditCall line silent k (λ m st. blocks_of_tracks (length (clip_of st)))) (sym none)
           (paste_call e id at);
       few = few_made;
-      own = λ block. own_is block ∙ p.tests;
+      own = λ block. own_is disk s is e id at block ∙ p.tests;
       means = means;
     }

@@ -8,8 +8,8 @@ use Rattle.editor_core.specs.Core.{core_of}
 use Rattle.editor_core.specs.Cuts.{cut_line}
 use Rattle.editor_core.specs.Took.{Took, quietly, silent, told_by}
 use Rattle.editor_core.proofs.CutLaws.{no_cut_tells}
+use Rattle.editor_core.proofs.CutRefused.{cut_refused, cut_stopped}
 use Rattle.editor_core.proofs.CutSteps.{cut_edit, cut_planned}
-use Rattle.editor_core.proofs.CutSteps.{cut_refused, cut_stopped}
 use Rattle.editor_core.proofs.studio.Studio.cut_range.Goals as goal
 
 pub returns-in-Some-clause-took : goal.returns-in-Some-clause-took

@@ -8,8 +8,8 @@ use Rattle.editor_core.specs.Core.{core_of}
 use Rattle.editor_core.specs.Pastes.{paste_line}
 use Rattle.editor_core.specs.Took.{Took, quietly, silent, told_by}
 use Rattle.editor_core.proofs.PasteLaws.{no_paste_tells}
+use Rattle.editor_core.proofs.PasteRefused.{paste_refused, paste_stopped}
 use Rattle.editor_core.proofs.PasteSteps.{paste_edit, paste_planned}
-use Rattle.editor_core.proofs.PasteSteps.{paste_refused, paste_stopped}
 use Rattle.editor_core.proofs.studio.Studio.paste_strips.Goals as goal
 
 pub returns-in-Some-clause-took : goal.returns-in-Some-clause-took
