@@ -32,7 +32,8 @@ module _ {T E : Type 0} where
   module _ {F R : Type 0} (stands : T → T → List E → Type 0) (maker : E → ℕ) (start : T)
       (G : Mut F (MutBor T × Unit {0}) (R × (MutBor T × Unit {0}))) (f f' : F) (added : R → F → List E) (r : R)
       (m0 m1 m2 m3 : Me (Option T) (View T E)) (n : ℕ) (x : Option T) (value value' : T)
-      (room : n < 2 ^ 63) (bare : m0.1 ≡ []) (from_start : m0.0.start ≡ Some start) (took : Took stands maker m0 n m1)
+      (room : n < 2 ^ 63) (bare : m0.1 ≡ []) (from_start : m0.0.start ≡ Some start)
+      (took : Took stands maker record { before = m0; word = n; after = m1 })
       (out : m1.1 ≡ (0, x) ∷ []) (e2 : m2 ≡ (m1.0, (0, None) ∷ [])) (is : x ≡ Some value)
       (called : CalledAtMut G f value r f' value') (e3 : m3 ≡ (m2.0, (0, Some value') ∷ []))
       (fits : FitsTurn (meaning stands maker start) m0.0 G f added) where

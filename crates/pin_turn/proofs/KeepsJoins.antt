@@ -1,5 +1,5 @@
 -- To take a seat in, and to compare what both have seen, keep the rule.
-use Rattle.std.proofs.Common.{◌≡◌, ℕ, zero, suc, ◌+◌, ◌<◌, ◌≤◌, ⊎_elim, List, []}
+use Rattle.std.proofs.Common.{◌≡◌, ℕ, ◌+◌, ◌<◌, ◌≤◌, ⊎_elim, List, []}
 use Rattle.std.proofs.Common.{◌∷◌, ◌++◌, length, set, sym, refl, ap, ◌∙◌, subst, arith, Option}
 use mathlib.Core.Logic.{dite}
 use mathlib.Core.Option.{none, some, some-injective}
@@ -20,7 +20,7 @@ use Rattle.pin_turn.proofs.Sums.{total_set, Each-right}
 use Rattle.pin_turn.proofs.Sums.{Each-left, Each-map, times-append, times_here}
 use Rattle.pin_turn.proofs.Sums.{times-without, Each-without, longer_cases, shorter_cases}
 use Rattle.pin_turn.proofs.Sums.{shorter_begins, whole_if_long, long_enough, Each-any, or_cases}
-use Rattle.pin_turn.proofs.RuleSteps.{apart, at_here, held_set, knows_set, longest_set}
+use Rattle.pin_turn.proofs.RuleSteps.{at_here, held_set, knows_set, longest_set}
 
 module _ {T E : Type 0} (stands : T → T → List E → Type 0) (maker : E → ℕ) (start : T) where
   abbrev V : Type 0
@@ -86,7 +86,7 @@ module _ {T E : Type 0} (stands : T → T → List E → Type 0) (maker : E → 
   joins id v other w sits sits' mine bare s r at apart' there =
       let both : V = hearing v w in
       let vs : List V = set s.views id both in
-      let P = Knows maker start r.log r.busy r.holder in
+      let P = Knows maker record { start = start; log = r.log; busy = r.busy; holder = r.holder } in
       let at' : get_elem? s.views other ≡ some w = sym (set_else s.views id other both apart') ∙ there in
       let k = r.each id v at in
       let k' = r.each other w at' in
@@ -220,7 +220,7 @@ module _ {T E : Type 0} (stands : T → T → List E → Type 0) (maker : E → 
       let numbers_are : (x : ℕ) → has_number x w + times x (n ∷ []) ≡ has_number x v = λ x.
       let a : has_number x v ≡ times x (v.number ∷ n ∷ []) = ap (times x) both in
       omega arith in
-      let P = Knows maker start r.log r.busy r.holder in (
+      let P = Knows maker record { start = start; log = r.log; busy = r.busy; holder = r.holder } in (
         w,
         keeps,
         tt,

@@ -1,5 +1,5 @@
 -- To draw a number and to split a seat off keep the rule.
-use Rattle.std.proofs.Common.{◌≡◌, ℕ, zero, suc, ◌+◌, ◌<◌, ⊎_elim, List, []}
+use Rattle.std.proofs.Common.{◌≡◌, ℕ, ◌+◌, ◌<◌, ⊎_elim, List, []}
 use Rattle.std.proofs.Common.{◌∷◌, ◌++◌, set, get_or, sym, refl, ap, subst, arith, Option, Some}
 use mathlib.Core.Logic.{dite}
 use mathlib.Core.Option.{none}
@@ -16,7 +16,7 @@ use Rattle.pin_turn.specs.Rule.{ByOthers, mine_at, away_at, has_number, Knows, T
 use Rattle.pin_turn.specs.Rule.{drew_number}
 use Rattle.pin_turn.proofs.Sums.{total_set, total_snoc, Each-append, Each-right}
 use Rattle.pin_turn.proofs.Sums.{Each-left, Each-map, times-append, times_else, times_one}
-use Rattle.pin_turn.proofs.RuleSteps.{apart, away_below, held_set, knows_set, longest_set, number_below}
+use Rattle.pin_turn.proofs.RuleSteps.{away_below, held_set, knows_set, longest_set, number_below}
 
 module _ {T E : Type 0} (stands : T → T → List E → Type 0) (maker : E → ℕ) (start : T) where
   abbrev V : Type 0
@@ -63,7 +63,8 @@ module _ {T E : Type 0} (stands : T → T → List E → Type 0) (maker : E → 
               home = r.home;
               out = r.out;
               held = λ e. held_set stands maker start s.views r.holder id v w at (λ g. absurd (cc)) (r.held e);
-              each = knows_set stands maker start (Knows maker start r.log r.busy r.holder) s.views id w
+              each = knows_set stands maker start
+                  (Knows maker record { start = start; log = r.log; busy = r.busy; holder = r.holder }) s.views id w
                   record {
                     later = k.later;
                     begins = k.begins;
@@ -132,7 +133,7 @@ module _ {T E : Type 0} (stands : T → T → List E → Type 0) (maker : E → 
       let w : V = rested v in
       let o : V = new_view v in
       let vs : List V = set s.views id w in
-      let P = Knows maker start r.log r.busy r.holder in
+      let P = Knows maker record { start = start; log = r.log; busy = r.busy; holder = r.holder } in
       let both : numbers v ≡ v.number ∷ n ∷ [] = ap (numbers_at v.number) is in
       let new : o.number ≡ n = ap (Rattle.pin_turn.specs.Views.drawn_or 0) is in
       let numbers_are : (x : ℕ) → has_number x w + has_number x o ≡ has_number x v = λ x.

@@ -49,7 +49,8 @@ module _ {T E : Type 0} (stands : T → T → List E → Type 0) (maker : E → 
     home = λ _. (start, refl, h);
     out = λ e. absurd (omega arith);
     held = λ e. absurd (omega arith);
-    each = knows_set stands maker start (Knows maker start [] 0 0) (v ∷ []) 0 v
+    each = knows_set stands maker start
+        (Knows maker record { start = start; log = []; busy = 0; holder = 0 }) (v ∷ []) 0 v
         record {
           later = [];
           begins = refl;

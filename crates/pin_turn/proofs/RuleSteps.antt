@@ -89,8 +89,9 @@ module _ {T E : Type 0} (stands : T → T → List E → Type 0) (maker : E → 
       → (busy' ≡ 0 → (y : T) × (get_elem? homes' 0 ≡ some (some (Some y))) × stands start y log')
       → (busy' ≡ 1 → get_elem? homes' 0 ≡ some none)
       → (busy' ≡ 1 → (u : V) × (get_elem? (set s.views id w) holder' ≡ some u) × (u.stage ≡ Holding))
-      → Knows maker start log' busy' holder' id w
-      → ((j : ℕ) (u : V) → j ≢ id → get_elem? s.views j ≡ some u → Knows maker start log' busy' holder' j u)
+      → Knows maker record { start = start; log = log'; busy = busy'; holder = holder' } id w
+      → ((j : ℕ) (u : V) → j ≢ id → get_elem? s.views j ≡ some u
+      → Knows maker record { start = start; log = log'; busy = busy'; holder = holder' } j u)
       → ((j : ℕ) × (u : V) × (get_elem? (set s.views id w) j ≡ some u) × (u.stage ≢ Gone) × (u.seen ≡ log'))
       → numbers w ≡ numbers v → w.away ≡ v.away
       → ((k : ℕ) → mine_at k w + once_below k (length r.log) ≡ mine_at k v + once_below k (length log'))
@@ -109,7 +110,8 @@ module _ {T E : Type 0} (stands : T → T → List E → Type 0) (maker : E → 
         home = home;
         out = out;
         held = held;
-        each = knows_set (Knows maker start log' busy' holder') s.views id w mine others;
+        each = knows_set (Knows maker record { start = start; log = log'; busy = busy'; holder = holder' })
+            s.views id w mine others;
         longest = longest;
         counted = λ k.
             let a = total_set (mine_at k) s.views id v w at in

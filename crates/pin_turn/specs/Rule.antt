@@ -22,31 +22,40 @@ away_at n v = times n v.away
 abbrev pub has_number : {T E : Type 0} → ℕ → View T E → ℕ
 has_number n v = times n (numbers v)
 
--- what holds of the view v of the seat at place j, where the turns so far made the list `log`, and where while `busy`
--- is 1 the seat at place `holder` has the turn
-pub record Knows {T E : Type 0} (maker : E → ℕ) (start : T) (log : List E) (busy holder j : ℕ)
-    (v : View T E) : Type 0 where
+-- the turns so far
+pub record Turns (T E : Type 0) : Type 0 where
+  -- the value with which they began
+  pub start : T
+  -- the entries of all of them
+  pub log : List E
+  -- 1 while a seat has the turn, else 0
+  pub busy : ℕ
+  -- the place of the view of that seat
+  pub holder : ℕ
+
+-- what holds of the view v of the seat at place j
+pub record Knows {T E : Type 0} (maker : E → ℕ) (turns : Turns T E) (j : ℕ) (v : View T E) : Type 0 where
   -- what the seat has not seen yet
   pub later : List E
   -- what it has seen begins the list of all
-  pub begins : log ≡ v.seen ++ later
+  pub begins : turns.log ≡ v.seen ++ later
   -- it has seen all its own entries
   pub by_others : ByOthers maker (numbers v) later
   -- all seats that are not gone have one start
-  pub start_is : v.stage ≢ Gone → v.start ≡ Some start
+  pub start_is : v.stage ≢ Gone → v.start ≡ Some turns.start
   -- the seats that were split from it have higher numbers
   pub above : Each (λ n. v.number < n) v.away
   -- a seat that is gone left nothing behind
   pub bare : v.stage ≡ Gone → (v.mine ≡ []) × (v.away ≡ [])
   -- where it found that no turn is left, the word is 2 ^ 63
-  pub spent : v.used_up ≡ true → length log * 2 + busy ≡ 2 ^ 63
+  pub spent : v.used_up ≡ true → length turns.log * 2 + turns.busy ≡ 2 ^ 63
   -- between the two steps of a join: the list that it keeps for the comparison begins the list of all, and holds all
   -- entries of the seat that had seen it
   pub heard : (k owner : ℕ) (told : List E) → v.stage ≡ Joining k owner told
-      → (more : List E) × (log ≡ told ++ more) × ByOthers maker (owner ∷ []) more
+      → (more : List E) × (turns.log ≡ told ++ more) × ByOthers maker (owner ∷ []) more
       × (0 < times owner (v.number ∷ k ∷ [])) × (0 < times k v.away)
   -- only one seat has the turn, only while the word is odd, and it has seen all
-  pub holds : v.stage ≡ Holding → (busy ≡ 1) × (holder ≡ j) × (later ≡ [])
+  pub holds : v.stage ≡ Holding → (turns.busy ≡ 1) × (turns.holder ≡ j) × (later ≡ [])
 
 -- the rule, where `start` is the value with which the turn began
 pub record TurnRule {T E : Type 0} (stands : T → T → List E → Type 0) (maker : E → ℕ) (start : T)
@@ -70,7 +79,8 @@ pub record TurnRule {T E : Type 0} (stands : T → T → List E → Type 0) (mak
   pub out : busy ≡ 1 → get_elem? s.homes 0 ≡ some none
   -- and a seat has the turn
   pub held : busy ≡ 1 → (v : View T E) × (get_elem? s.views holder ≡ some v) × (v.stage ≡ Holding)
-  pub each : (j : ℕ) (v : View T E) → get_elem? s.views j ≡ some v → Knows maker start log busy holder j v
+  pub each : (j : ℕ) (v : View T E) → get_elem? s.views j ≡ some v
+      → Knows maker record { start = start; log = log; busy = busy; holder = holder } j v
   -- some seat has seen the list of all
   pub longest : (j : ℕ) × (v : View T E) × (get_elem? s.views j ≡ some v) × (v.stage ≢ Gone) × (v.seen ≡ log)
   -- each place of the list is in `mine` of one seat, once, and nothing else is in any
@@ -95,17 +105,25 @@ pub record IsNewNumber {T E : Type 0} (maker : E → ℕ) (v : View T E) (n : �
 abbrev Standing : Type 0 → Type 0 → Type 0
 Standing T E = Me (Option T) (View T E)
 
--- the turn was taken at the word n: the value is in hand, and stands for all that is seen now
-pub record Took {T E : Type 0} (stands : T → T → List E → Type 0) (maker : E → ℕ) (m : Me (Option T) (View T E)) (n : ℕ)
-    (m' : Me (Option T) (View T E)) : Type 0 where
+-- a step on the word of the turn
+pub record WordStep (T E : Type 0) : Type 0 where
+  -- the seat before it
+  pub before : Standing T E
+  -- the word that it found
+  pub word : ℕ
+  -- the seat behind it
+  pub after : Standing T E
+
+-- the turn was taken: the value is in hand, and stands for all that is seen now
+pub record Took {T E : Type 0} (stands : T → T → List E → Type 0) (maker : E → ℕ) (step : WordStep T E) : Type 0 where
   pub value : T
   pub between : List E
-  pub hand : m'.1 ≡ (0, Some value) ∷ m.1
-  pub view : m'.0 ≡ record m.0 { seen = m.0.seen ++ between; stage = Holding }
-  pub by_others : ByOthers maker (m.0.number ∷ []) between
-  pub turns : length (m.0.seen ++ between) * 2 ≡ n
-  pub unspent : m.0.used_up ≡ false
-  pub stand : (start : T) → m.0.start ≡ Some start → stands start value (m.0.seen ++ between)
+  pub hand : step.after.1 ≡ (0, Some value) ∷ step.before.1
+  pub view : step.after.0 ≡ record step.before.0 { seen = step.before.0.seen ++ between; stage = Holding }
+  pub by_others : ByOthers maker (step.before.0.number ∷ []) between
+  pub turns : length (step.before.0.seen ++ between) * 2 ≡ step.word
+  pub unspent : step.before.0.used_up ≡ false
+  pub stand : (start : T) → step.before.0.start ≡ Some start → stands start value (step.before.0.seen ++ between)
 
 module _ {T E : Type 0} where
   -- a load told the word: from 2 ^ 63 on no turn is left, below it nothing changed
@@ -114,7 +132,8 @@ module _ {T E : Type 0} where
 
   -- a compare_exchange: where it found the word that it expected the turn was taken, else nothing changed
   abbrev pub took : (T → T → List E → Type 0) → (E → ℕ) → Step (Option T) → Standing T E → ℕ → Standing T E → Type 0
-  took stands maker st m n m' = (n ≡ st.first → Took stands maker m n m') × (n ≢ st.first → m' ≡ m)
+  took stands maker st m n m' =
+      (n ≡ st.first → Took stands maker record { before = m; word = n; after = m' }) × (n ≢ st.first → m' ≡ m)
 
   -- a store: these entries were added, the place is the seat's own, and the turn was given back
   abbrev pub gave : List E → Step (Option T) → Standing T E → ℕ → Standing T E → Type 0

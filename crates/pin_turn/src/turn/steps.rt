@@ -23,7 +23,7 @@ impl<T: Stands> Turn<T> {
             (place.new.me ≡ (record place.old.me.0 { used_up = true }, []))
             (λ n. (n < 2 ^ 63)
             × (n % 2 ≡ 0)
-            × Took T.stands T.maker place.old.me n place.new.me) }
+            × Took T.stands T.maker record { before = place.old.me; word = n; after = place.new.me }) }
     {
         let shared = &self.table.shared;
         for _ in rt.forever() {
