@@ -8,7 +8,7 @@ use Rattle.edit_ports.specs.declared.sink.Sink as sink
 use Rattle.edit_ports.specs.declared.source.Source as source
 use Rattle.recorder_work.specs.Captured.{IsStoppedBy}
 use Rattle.recorder_work.specs.Drained.{Takes}
-use Rattle.player_work.specs.Spoken.{Writes}
+use Rattle.player_work.specs.Spoken.{Writes, speaker_state}
 use Rattle.desk_session.specs.declared.told.Heard.{Heard}
 use Rattle.desk_session.specs.declared.told.Kept.{Kept}
 
@@ -29,8 +29,8 @@ pub record IsPlayed {P : Type 0} (speakers : sink.Ghosts P) (speaker speaker_now
   pub frames : List Frame
   pub first : (all : List Frame) → shows all → frames ≡ take (length frames) all
   pub whole : heard.refused ≡ None → (all : List Frame) → shows all → frames ≡ all
-  pub writes : Writes (speakers.written speaker) (speakers.written speaker_now) (speakers.fault_count speaker)
-      (speakers.fault_count speaker_now) heard.frames heard.fault frames
+  pub writes : Writes (speaker_state speakers speaker) (speaker_state speakers speaker_now)
+      record { frames = heard.frames; fault = heard.fault } frames
   pub exact : heard.frames ≡ writes.bytes / 4
 
 -- the numbers of the pieces
