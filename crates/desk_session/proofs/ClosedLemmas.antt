@@ -73,7 +73,7 @@ module _ {D V M : Type 0} (mics : source.Ghosts M) (mic mic_now : M) (first trac
   pieces_are None kept h r = no_pieces (record_calls track None) (λ c k. k) kept h r.0
   pieces_are (Some (Ok tag)) None h r = absurd r
   pieces_are (Some (Ok tag)) (Some kept) h r =
-      sym (piece_commits first track tag v w h r.told kept.numbers kept.samples kept.refused _ r.takes)
+      sym (piece_commits first track tag v w h r.told _ _ r.takes)
   pieces_are (Some (Err why)) kept h r = no_pieces (record_calls track (Some (Err why))) (λ c k. k) kept h r.0
 
 module _ {D V M P : Type 0} (k : Kinds D V M P) (start final : Core D) (mid : V) (lent : Lent V M P) (out : Outcome)

@@ -17,7 +17,7 @@ use Rattle.studio_seats.specs.Pieces.{pieces_by}
 use Rattle.studio_seats.proofs.MergeLemmas.{numbers_append, numbers_others, pieces_are_chunks}
 use Rattle.studio_seats.proofs.OnwardLemmas.{each_append}
 use Rattle.studio_seats.proofs.PieceLemmas.{pieces_append, pieces_others}
-use Rattle.recorder_work.specs.Drained.{Takes}
+use Rattle.recorder_work.specs.Drained.{Taken, TakerState, Takes}
 use Rattle.desk_session.specs.Parts.{NewPart}
 use Rattle.desk_session.proofs.PartLemmas.{same_seat}
 use Rattle.desk_session.proofs.RejoinLemmas.{lower}
@@ -52,12 +52,13 @@ zipped chunks [] h = refl
 zipped [] (n ∷ ns) h = absurd (omega (arith, h))
 zipped (c ∷ cs) (n ∷ ns) h = ap (λ (l : List ℕ). n ∷ l) (zipped cs ns (omega (arith, h)))
 
-few : (refused : Option Refusal) (pieces pieces' : List (List ℤ × ℕ)) (told : Option Refusal) (numbers : List ℕ)
-    (samples : ℕ) (chunks : List (List ℤ)) → Takes pieces pieces' told numbers samples refused chunks
-    → length numbers ≤ length chunks
-few None pieces pieces' told numbers samples chunks t = let all = (t.all refl).0 in omega (arith, all)
-few (Some reason) pieces pieces' told numbers samples chunks t =
-    let some = (t.some reason refl).0 in omega (arith, some)
+few : (before : List (List ℤ × ℕ)) (taker : TakerState) (told : Taken) (chunks : List (List ℤ))
+    → Takes before taker told chunks → length told.numbers ≤ length chunks
+few before taker told chunks t = by_refusal told.refused refl
+  where
+    by_refusal : (refused : Option Refusal) → told.refused ≡ refused → length told.numbers ≤ length chunks
+    by_refusal None is = let all = (t.all is).0 in omega (arith, all)
+    by_refusal (Some reason) is = let some = (t.some reason is).0 in omega (arith, some)
 
 none_is : (seat n : ℕ) (e : Deed) → (e.actor ≡ seat → ⊥) → (b : Bool) → (seat == e.actor) ≡ b
     → number_if b (is_commit e) n ≡ []
@@ -78,12 +79,12 @@ module _ {D V : Type 0} (first track tag : ℕ) (v w : View (Held D V) Deed) (h 
   pub no_pieces : pieces_by track tag w.number first v.seen ≡ []
   no_pieces = pieces_others track tag w.number first v.seen (lower w.number v.seen h.unseen)
 
-  pub piece_commits : (told : Option Refusal) (numbers : List ℕ) (samples : ℕ) (refused : Option Refusal)
-      (chunks : List (List ℤ))
-      → Takes [] (pieces_by track tag w.number first w.seen) told numbers samples refused chunks
-      → numbers ≡ numbers_of (by_seat w.number) (number_after first v.seen) h.part.added
-  piece_commits told numbers samples refused chunks t =
+  pub piece_commits : (refused : Option Refusal) (told : Taken) (chunks : List (List ℤ))
+      → Takes [] record { pieces = pieces_by track tag w.number first w.seen; refused = refused } told chunks
+      → told.numbers ≡ numbers_of (by_seat w.number) (number_after first v.seen) h.part.added
+  piece_commits refused told chunks t =
       let seat = w.number in
+      let numbers = told.numbers in
       let took : pieces_by track tag seat first w.seen
       ≡ pieces_by track tag seat first v.seen ++ zip (take (length numbers) chunks) numbers =
       t.kept ∙ ap (λ (l : List (List ℤ × ℕ)). l ++ zip (take (length numbers) chunks) numbers) (sym no_pieces) in
@@ -98,7 +99,8 @@ module _ {D V : Type 0} (first track tag : ℕ) (v w : View (Held D V) Deed) (h 
       ∙ (numbers_append (by_seat seat) first v.seen h.part.added
       ∙ ap (λ (l : List ℕ). l ++ numbers_of (by_seat seat) (number_after first v.seen) h.part.added)
       (numbers_others seat first v.seen (lower seat v.seen h.unseen))) in
-      sym (zipped chunks numbers (few refused [] (pieces_by track tag seat first w.seen) told numbers samples chunks t))
+      sym (zipped chunks numbers
+      (few [] record { pieces = pieces_by track tag seat first w.seen; refused = refused } told chunks t))
       ∙ (sym k ∙ own)
 
 -- deeds of others behind what a seat saw add no pieces

@@ -1,6 +1,5 @@
 -- What a recording and a playback did, in the words of the microphone and the speaker that were lent.
 use Rattle.std.proofs.Common.{◌≡◌, ℕ, List, Option, take, sym, ap, ◌∙◌, subst}
-use Rattle.pcm_base.specs.declared.refusal.Refusal.{Refusal}
 use Rattle.pcm_base.specs.Causes.{Rose}
 use Rattle.pcm_base.specs.Recordings.{chunks_of, frame_bytes}
 use Rattle.edit_ports.specs.declared.frames.FrameGiver as giver
@@ -8,9 +7,10 @@ use Rattle.edit_ports.specs.declared.pieces.PieceTaker as taker
 use Rattle.edit_ports.specs.declared.sink.Sink as sink
 use Rattle.edit_ports.specs.declared.source.Source as source
 use Rattle.edit_ports.specs.Told.{grown, preceded}
+use Rattle.recorder_work.specs.Blocks.{MicState}
 use Rattle.recorder_work.specs.Captured.{IsStoppedBy}
 use Rattle.recorder_work.specs.declared.microphone.MicEnd.{MicEnd}
-use Rattle.recorder_work.specs.Drained.{Takes}
+use Rattle.recorder_work.specs.Drained.{Taken, Takes, taker_state}
 use Rattle.sound_run.specs.declared.play.Played.{Played}
 use Rattle.sound_run.specs.declared.record.Recorded.{Recorded}
 use Rattle.sound_run.specs.Played.{Plays}
@@ -29,12 +29,14 @@ pub recorded_of : {L M T : Type 0} (mics : source.Ghosts M) (lent : source.Ghost
 recorded_of mics lent takers inner left count m t d k h end numbers samples refused = record {
   bytes = h.bytes;
   read = sym (left m) ∙ (h.read ∙ ap (preceded h.bytes) (left d.mic));
-  stopped = subst (λ (z : MicEnd × Option (List ℕ) × ℕ × ℕ). IsStoppedBy z.0 h.bytes z.1 z.2 z.3)
-      (λ i. (sym end i, left d.mic i, count m i, count d.mic i)) h.stopped;
+  stopped = subst (λ (z : MicEnd × MicState × MicState). IsStoppedBy z.0 h.bytes z.1 z.2) (λ i. (
+    sym end i,
+    record { left = left m i; fault_count = count m i },
+    record { left = left d.mic i; fault_count = count d.mic i },
+  )) h.stopped;
   told = takers.refused d.taker;
-  takes = subst (λ (z : List ℕ × ℕ × Option Refusal). Takes (takers.pieces t) (takers.pieces d.taker)
-      (takers.refused d.taker) z.0 z.1 z.2 (chunks_of h.bytes))
-      (λ i. (sym numbers i, sym samples i, sym refused i)) h.takes;
+  takes = subst (λ (told : Taken). Takes (takers.pieces t) (taker_state takers d.taker) told (chunks_of h.bytes))
+      (λ i. record { numbers = sym numbers i; samples = sym samples i; refused = sym refused i }) h.takes;
 }
 
 -- A speaker that was lent tells what was written to the one behind it, and counts its faults.

@@ -6,6 +6,7 @@ use Rattle.pcm_base.specs.Recordings.{chunks_of}
 use Rattle.edit_ports.specs.Told.{preceded}
 use Rattle.edit_ports.specs.declared.sink.Sink as sink
 use Rattle.edit_ports.specs.declared.source.Source as source
+use Rattle.recorder_work.specs.Blocks.{mic_state}
 use Rattle.recorder_work.specs.Captured.{IsStoppedBy}
 use Rattle.recorder_work.specs.Drained.{Takes}
 use Rattle.player_work.specs.Spoken.{Writes, speaker_state}
@@ -18,9 +19,10 @@ pub record IsRecorded {M : Type 0} (mics : source.Ghosts M) (mic mic_now : M) (p
     (kept : Kept) : Type 0 where
   pub bytes : List ℕ
   pub read : mics.left mic ≡ preceded bytes (mics.left mic_now)
-  pub stopped : IsStoppedBy kept.end bytes (mics.left mic_now) (mics.fault_count mic) (mics.fault_count mic_now)
+  pub stopped : IsStoppedBy kept.end bytes (mic_state mics mic) (mic_state mics mic_now)
   pub told : Option Refusal
-  pub takes : Takes pieces pieces_now told kept.numbers kept.samples kept.refused (chunks_of bytes)
+  pub takes : Takes pieces record { pieces = pieces_now; refused = told }
+      record { numbers = kept.numbers; samples = kept.samples; refused = kept.refused } (chunks_of bytes)
 
 -- The bytes of these frames were written to the speaker, or where it failed the first; the frames are the first of
 -- those that are shown, all of them where no read was refused.

@@ -3,7 +3,7 @@ ghost use Rattle.std.specs.Prelude.{◌≡◌, ◌⊎◌, ℕ, ℤ, ◌+◌, ◌
 ghost use Rattle.std.specs.Prelude.{Some, None, is_some, IfNone, IfSome};
 ghost use Rattle.edit_ports.specs.Answers.{first_refusal};
 ghost use Rattle.record_ring.specs.Ends.{received, SameOut};
-ghost use Rattle.recorder_work.specs.Drained.{Takes, Drains};
+ghost use Rattle.recorder_work.specs.Drained.{Drains, Takes, taker_state, told_by};
 
 use super::wait;
 use edit_ports::points::AFTER_PIECE;
@@ -77,11 +77,8 @@ fn take_chunk<R: Wait, T: PieceTaker>(
     requires small { tally.old.samples + CHUNK_SAMPLES < 2 ^ 64 }
     requires unrefused { tally.old.refused ≡ None → T.refused taker.old ≡ None }
     ensures takes { (start : List (List ℤ × ℕ)) (chunks : List (List ℤ)) →
-        Takes start (T.pieces taker.old)
-        (T.refused taker.old) tally.old.numbers.items tally.old.samples tally.old.refused chunks →
-        Takes start (T.pieces taker.new)
-        (T.refused taker.new) tally.new.numbers.items tally.new.samples tally.new.refused
-        (chunks ++ chunk.now.samples ∷ []) }
+        Takes start (taker_state T.PieceTaker taker.old) (told_by tally.old) chunks →
+        Takes start (taker_state T.PieceTaker taker.new) (told_by tally.new) (chunks ++ chunk.now.samples ∷ []) }
     ensures grows { tally.new.samples ≤ tally.old.samples + CHUNK_SAMPLES }
     ensures goes { (first : T) → T.follows first (is_some (T.refused taker.old)) taker.old →
         T.follows first (is_some (T.refused taker.new)) taker.new }

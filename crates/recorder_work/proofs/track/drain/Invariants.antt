@@ -2,15 +2,14 @@
 use Rattle.std.proofs.Common.{◌≡◌, ◌*◌, ◌≤◌, ℤ, false, List, length, is_some}
 use Rattle.pcm_base.specs.Recordings.{numbered}
 use Rattle.record_ring.specs.Ends.{received, SameOut}
-use Rattle.recorder_work.specs.Drained.{Takes}
+use Rattle.recorder_work.specs.Drained.{Takes, taker_state, told_by}
 use Rattle.recorder_work.proofs.track.drain.Given as goal
 
 abbrev pub invariant-loop : goal.invariant-loop
 invariant-loop g l = record {
   chunks : List (List ℤ);
   so_far : received l.output ≡ numbered 0 chunks;
-  takes : Takes (g.T.PieceTaker.pieces l.fn.taker) (g.T.PieceTaker.pieces l.taker)
-      (g.T.PieceTaker.refused l.taker) l.tally.numbers.items l.tally.samples l.tally.refused chunks;
+  takes : Takes (g.T.PieceTaker.pieces l.fn.taker) (taker_state g.T.PieceTaker l.taker) (told_by l.tally) chunks;
   goes : (first : g.row.T.Denot) → g.T.PieceTaker.follows first false l.fn.taker
       → g.T.PieceTaker.follows first (is_some (g.T.PieceTaker.refused l.taker)) l.taker;
   ring : SameOut l.fn.output l.output;
