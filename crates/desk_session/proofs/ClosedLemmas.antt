@@ -17,10 +17,10 @@ use Rattle.studio_seats.specs.declared.deed.Deed.{Deed}
 use Rattle.studio_seats.specs.declared.held.Held.{Held}
 use Rattle.studio_seats.specs.Deeds.{actor_of, entries_of, number_after}
 use Rattle.studio_seats.specs.Desks.{IsFirst}
-use Rattle.studio_seats.specs.Merge.{Numbers, any_seat, by_seat, deeds_of, numbers_of}
+use Rattle.studio_seats.specs.Merge.{Commits, Numbers, any_seat, by_seat, deeds_of, numbers_of}
 use Rattle.studio_seats.specs.Onward.{Asks, IsLine, places_of}
 use Rattle.studio_seats.specs.Pieces.{pieces_by}
-use Rattle.studio_seats.specs.Stands.{AllTell, StandsFor}
+use Rattle.studio_seats.specs.Stands.{StandsFor, origin}
 use Rattle.studio_seats.specs.Faults.{AllServed}
 use Rattle.studio_seats.proofs.FaultLemmas.{desks_serve}
 use Rattle.studio_seats.proofs.MergeLemmas.{merged_numbers}
@@ -82,7 +82,7 @@ module _ {D V M P : Type 0} (k : Kinds D V M P) (start final : Core D) (mid : V)
     (s : Sat k
     (record { start = start; track = start.next_track; last = last; seat = v; seat_now = w })
     (record lent { vault = mid }) out)
-    (stands : StandsFor k.disk (AllTell k.vaults) start final w.seen)
+    (stands : StandsFor (origin k.disk k.vaults start) final w.seen)
     (counts : (k : ℕ) → times k w.mine ≡ once_below k (length w.seen)) where
   abbrev disk : Ghosts D
   disk = k.disk
@@ -221,23 +221,26 @@ module _ {D V M P : Type 0} (k : Kinds D V M P) (start final : Core D) (mid : V)
         (adds.sounds is);
   }
 
-  numbers : Numbers n final.commit_number (record_commits opened.recording) told.commits (piece_numbers out.kept)
+  numbers : Numbers n final.commit_number
+      record { opening = record_commits opened.recording; script = told.commits; pieces = piece_numbers out.kept }
   numbers =
       let merged = list.merged n pieces reads v s.script s.recorder s.player w s.seats (quiet opened.pin) own counts in
-      let all = merged_numbers n w.seen v.number s.recorder.number _ _ _ merged in
+      let all = merged_numbers n w.seen _ _ merged in
       let script : numbers_of (by_seat v.number) (number_after n v.seen) s.seats.by_script.added ≡ told.commits =
       ap (λ (a : ℕ). numbers_of (by_seat a) (number_after n v.seen) s.seats.by_script.added) is_zero
       ∙ sym script_numbers in
       let piece = pieces_are k.mics lent.mic lent.mic_now n start.next_track v s.recorder opened.recording out.kept
       s.seats.by_recorder s.recorded in
-      subst (λ (z : ℕ × List ℕ × List ℕ × List ℕ). Numbers n z.0 z.1 z.2 z.3)
-      (λ i. (sym stands.number i, opening_numbers i, script i, piece i)) all
+      subst (λ (z : ℕ × Commits). Numbers n z.0 z.1) (λ i. (
+        sym stands.number i,
+        record { opening = opening_numbers i; script = script i; pieces = piece i },
+      )) all
 
   served : IsUndisturbed disk vaults start final (vaults.fault_count before) (vaults.fault_count after)
       → AllServed final w.seen × Each TellsNoDevice (deeds_of (by_seat 0) rest)
   served h =
-      let whole_is : StandsFor disk (AllTell vaults) start final (q.seen ++ s.seats.more_script) =
-      subst (λ (l : List Deed). StandsFor disk (AllTell vaults) start final l) s.seats.script_is stands in
+      let whole_is : StandsFor (origin disk vaults start) final (q.seen ++ s.seats.more_script) =
+      subst (λ (l : List Deed). StandsFor (origin disk vaults start) final l) s.seats.script_is stands in
       let fair =
       sessions_serve disk vaults s.ran.lines s.ran.printed.answers p q start final s.seats.more_script session
       whole_is h in

@@ -187,9 +187,11 @@ module _ {D V : Type 0} (first : ℕ) (pieces reads : Call → Type 0) (v script
       → numbers_of (by_seat v.number) n h.by_script.added ≡ numbers_of (by_seat v.number) n rest
   script_numbers n = own_numbers v.number n rest h.by_script.added h.more_script refl made.script
 
-  pub merged : Merged first w.seen v.number recorder.number (numbers_of any_seat first v.seen)
-      (numbers_of (by_seat v.number) (number_after first v.seen) h.by_script.added)
-      (numbers_of (by_seat recorder.number) (number_after first v.seen) h.by_recorder.part.added)
+  pub merged : Merged first w.seen record { script = v.number; recorder = recorder.number } record {
+    opening = numbers_of any_seat first v.seen;
+    script = numbers_of (by_seat v.number) (number_after first v.seen) h.by_script.added;
+    pieces = numbers_of (by_seat recorder.number) (number_after first v.seen) h.by_recorder.part.added;
+  }
   merged = record {
     opening = v.seen;
     rest = rest;

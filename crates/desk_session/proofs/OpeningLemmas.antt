@@ -17,9 +17,10 @@ use Rattle.editor_core.specs.Took.{silent, told_by}
 use Rattle.studio_seats.specs.declared.deed.Deed.{Deed}
 use Rattle.studio_seats.specs.declared.held.Held.{Held}
 use Rattle.studio_seats.specs.Deeds.{commits, deed, number_after, raised}
-use Rattle.studio_seats.specs.Desks.{Says, Spends, Turned, asked, origin, spent, views}
+use Rattle.studio_seats.specs.Desks.{Says, Spends, Turned, asked, spent, views}
 use Rattle.studio_seats.specs.Merge.{by_seat, deeds_of, number_if, numbers_of}
 use Rattle.studio_seats.specs.Onward.{Onward}
+use Rattle.studio_seats.specs.Stands.{origin}
 use Rattle.studio_seats.proofs.Grown.{number_append}
 use Rattle.studio_seats.proofs.MergeLemmas.{deeds_append, deeds_others, numbers_append, numbers_others}
 use Rattle.studio_seats.proofs.OnwardLemmas.{onward_on, onward_self, onward_turn}

@@ -6,6 +6,7 @@ use Rattle.studio_seats.specs.declared.deed.Deed.{Deed}
 use Rattle.studio_seats.specs.declared.held.Held.{Held}
 use Rattle.studio_seats.specs.Pieces.{pieces_by}
 use Rattle.studio_seats.specs.Shows.{IsMixOf}
+use Rattle.studio_seats.specs.Stands.{origin}
 use Rattle.script_session.specs.Place.{place_of}
 use Rattle.script_session.specs.Progress.{Ran, reached}
 use Rattle.desk_session.specs.Lent.{Kinds, Lent, Outcome}
@@ -46,5 +47,5 @@ pub record Sat {D V M P : Type 0} (k : Kinds D V M P) (s : Sitting D V) (lent : 
       (pieces_by s.track tag recorder.number s.start.commit_number recorder.seen)))
       ((out.kept ≡ None) × (lent.mic_now ≡ lent.mic))
   pub played : WhereMade out.opened.pin (λ pin. IsSomeAnd out.heard
-      (IsPlayed k.speakers lent.speaker lent.speaker_now (IsMixOf k.disk k.vaults s.start s.seat.seen pin)))
+      (IsPlayed k.speakers lent.speaker lent.speaker_now (IsMixOf (origin k.disk k.vaults s.start) s.seat.seen pin)))
       ((out.heard ≡ None) × (lent.speaker_now ≡ lent.speaker))

@@ -16,7 +16,7 @@ use Rattle.studio_seats.specs.Merge.{Numbers, by_seat, deeds_of, numbers_of}
 use Rattle.studio_seats.specs.Onward.{Asks, IsLine}
 use Rattle.studio_seats.specs.Pieces.{pieces_by}
 use Rattle.studio_seats.specs.Shows.{IsMixOf}
-use Rattle.studio_seats.specs.Stands.{AllTell, StandsFor}
+use Rattle.studio_seats.specs.Stands.{StandsFor, origin}
 use Rattle.script_session.specs.Added.{OfLines}
 use Rattle.script_session.specs.Place.{Place}
 use Rattle.script_session.specs.Progress.{IsCut, WritesAnswers, outcome_of, says_no}
@@ -92,7 +92,7 @@ pub record IsScripted {V M P : Type 0} (vaults : vault.Ghosts V) (first : ℕ) (
 pub record IsSession {D V M P : Type 0} (k : Kinds D V M P) (start final : Core D) (lent : Lent V M P) (out : Outcome)
     : Type 0 where
   pub deeds : List Deed
-  pub stands : StandsFor k.disk (AllTell k.vaults) start final deeds
+  pub stands : StandsFor (origin k.disk k.vaults start) final deeds
   pub made : IsMadeOf start.next_track out.opened deeds
   pub scripted : IsScripted k.vaults start.commit_number made.opening made.rest lent out.told
   -- a recording that was asked for and has its track; else the microphone is as it was
@@ -103,7 +103,7 @@ pub record IsSession {D V M P : Type 0} (k : Kinds D V M P) (start final : Core 
   -- a playback that was asked for and has its pin, of the mix of the project that was current where it was made; else
   -- the speaker is as it was
   pub played : WhereMade out.opened.pin (λ pin. IsSomeAnd out.heard
-      (IsPlayed k.speakers lent.speaker lent.speaker_now (IsMixOf k.disk k.vaults start made.opening pin)))
+      (IsPlayed k.speakers lent.speaker lent.speaker_now (IsMixOf (origin k.disk k.vaults start) made.opening pin)))
       ((out.heard ≡ None) × (lent.speaker_now ≡ lent.speaker))
   -- Where no device failed no deed tells of one, and the studio goes on.
   pub served : IsUndisturbed k.disk k.vaults start final (k.vaults.fault_count lent.vault)
@@ -111,5 +111,8 @@ pub record IsSession {D V M P : Type 0} (k : Kinds D V M P) (start final : Core 
       → AllServed final deeds × Each TellsNoDevice (deeds_of (by_seat 0) made.rest)
   -- the numbers of the new track, of the script and of the pieces are together all behind the first up to the last,
   -- each once, and each list rises
-  pub numbers : Numbers start.commit_number final.commit_number (record_commits out.opened.recording) out.told.commits
-      (piece_numbers out.kept)
+  pub numbers : Numbers start.commit_number final.commit_number (record {
+    opening = record_commits out.opened.recording;
+    script = out.told.commits;
+    pieces = piece_numbers out.kept;
+  })

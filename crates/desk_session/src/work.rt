@@ -7,6 +7,7 @@ ghost use Rattle.studio_seats.specs.Onward.{IsLine, IsPieceOf, IsReadOf, Onward}
 ghost use Rattle.studio_seats.specs.Pieces.{pieces_by};
 ghost use Rattle.studio_seats.specs.Pins.{is_made};
 ghost use Rattle.studio_seats.specs.Shows.{IsMixOf};
+ghost use Rattle.studio_seats.specs.Stands.{origin};
 ghost use Rattle.script_session.specs.Kept.{Holds};
 ghost use Rattle.script_session.specs.Place.{place_of};
 ghost use Rattle.script_session.specs.Progress.{IsCauseOf, Ran, reached};
@@ -105,7 +106,7 @@ fn lend_work<
     ensures plays { WhereMade opened.pin
         (λ pin. Onward (IsReadOf pin) (known seats.player) (known result.0.seats.player)
         × IsSomeAnd result.0.heard (IsPlayed P.Sink speaker.old result.3.now
-        (IsMixOf S.Store V.Vault (start_at desk.now) (known seats.player).seen pin)))
+        (IsMixOf (origin S.Store V.Vault (start_at desk.now)) (known seats.player).seen pin)))
         ((known result.0.seats.player ≡ known seats.player) × (result.0.heard ≡ None) × (result.3.now ≡ speaker.old)) }
     ensures same_references { (result.1.ghost_name ≡ vault.entry.ghost_name)
         × (result.2.ghost_name ≡ mic.entry.ghost_name)
@@ -219,7 +220,7 @@ pub fn run_work<
     ensures plays { WhereMade opened.pin
         (λ pin. Onward (IsReadOf pin) (known seats.player) (known result.seats.player)
         × IsSomeAnd result.heard (IsPlayed P.Sink speaker.old speaker.new
-        (IsMixOf S.Store V.Vault (start_at desk.now) (known seats.player).seen pin)))
+        (IsMixOf (origin S.Store V.Vault (start_at desk.now)) (known seats.player).seen pin)))
         ((known result.seats.player ≡ known seats.player) × (result.heard ≡ None) × (speaker.new ≡ speaker.old)) }
 {
     let (worked, vault, mic, speaker) = lend_work(

@@ -22,7 +22,8 @@ use Rattle.editor_core.specs.Took.{told_by}
 use Rattle.studio_seats.specs.declared.deed.Deed.{Deed}
 use Rattle.studio_seats.specs.declared.held.Held.{Held}
 use Rattle.studio_seats.specs.Deeds.{commits, deed, number_after}
-use Rattle.studio_seats.specs.Desks.{Says, Spends, Turned, asked, origin, spent, views}
+use Rattle.studio_seats.specs.Desks.{Says, Spends, Turned, asked, spent, views}
+use Rattle.studio_seats.specs.Stands.{origin}
 use Rattle.studio_seats.proofs.Turns.{number_on, said_number}
 use Rattle.script_session.specs.Place.{CountsFaults, Enters, place_of, with_number}
 use Rattle.script_session.specs.Session.{Turn}

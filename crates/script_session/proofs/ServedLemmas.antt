@@ -16,7 +16,7 @@ use Rattle.editor_core.specs.Imports.{IsNoVault}
 use Rattle.studio_seats.specs.declared.deed.Deed.{Deed}
 use Rattle.studio_seats.specs.Faults.{IsServed}
 use Rattle.studio_seats.specs.Merge.{by_seat, deeds_of}
-use Rattle.studio_seats.specs.Stands.{AllTell, IsUnharmed, StandsFor}
+use Rattle.studio_seats.specs.Stands.{IsUnharmed, StandsFor, origin}
 use Rattle.studio_seats.proofs.FaultLemmas.{desks_serve}
 use Rattle.script_session.specs.Added.{Adds, SparesVault}
 use Rattle.script_session.specs.Place.{Place}
@@ -56,7 +56,7 @@ fair_each (d ∷ ds) served unharmed spares =
 pub fair_added : {D V : Type 0} (disk : Ghosts D) (vaults : vault.Ghosts V) (lines : List (List ℕ))
     (answers : List Answer) (p q : Place)
     (start now : Core D) (later : List Deed) (adds : Adds p q lines answers)
-    → StandsFor disk (AllTell vaults) start now (q.seen ++ later)
+    → StandsFor (origin disk vaults start) now (q.seen ++ later)
     → IsUndisturbed disk vaults start now p.faults q.faults → Each TellsNoDevice (deeds_of (by_seat p.seat) adds.added)
 fair_added disk vaults lines answers p q start now later adds stands quiet =
     let all = desks_serve disk vaults start now (q.seen ++ later) stands quiet.told quiet.held quiet.going quiet.calm in

@@ -12,7 +12,7 @@ use Rattle.editor_core.specs.Studios.{IsHeld, studio_of}
 use Rattle.studio_seats.specs.declared.deed.Deed.{Deed}
 use Rattle.studio_seats.specs.Faults.{IsCalm}
 use Rattle.studio_seats.specs.Merge.{by_seat, deeds_of}
-use Rattle.studio_seats.specs.Stands.{AllTell, StandsFor}
+use Rattle.studio_seats.specs.Stands.{AllTell, StandsFor, origin}
 use Rattle.script_session.specs.Added.{OfLines}
 use Rattle.script_session.specs.Place.{Place}
 use Rattle.script_session.specs.Session.{Session}
@@ -47,5 +47,5 @@ pub record Serves (p q : Place) (lines : List (List ℕ)) (answers : List Answer
 
 abbrev pub SessionsServe : {D V : Type 0} → Ghosts D → vault.Ghosts V → Type 0
 SessionsServe {D} disk vaults = (lines : List (List ℕ)) (answers : List Answer) (p q : Place) (start now : Core D)
-    (later : List Deed) → Session p lines answers q → StandsFor disk (AllTell vaults) start now (q.seen ++ later)
+    (later : List Deed) → Session p lines answers q → StandsFor (origin disk vaults start) now (q.seen ++ later)
     → IsUndisturbed disk vaults start now p.faults q.faults → Serves p q lines answers

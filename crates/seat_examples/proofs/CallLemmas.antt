@@ -16,8 +16,9 @@ use Rattle.editor_core.specs.Took.{told_by}
 use Rattle.studio_seats.specs.declared.deed.Deed.{Deed}
 use Rattle.studio_seats.specs.declared.held.Held.{Held}
 use Rattle.studio_seats.specs.Deeds.{deed, entries_of, number_after, raised}
-use Rattle.studio_seats.specs.Desks.{Says, Spends, Turned, asked, origin, views}
+use Rattle.studio_seats.specs.Desks.{Says, Spends, Turned, asked, views}
 use Rattle.studio_seats.specs.Pins.{is_made}
+use Rattle.studio_seats.specs.Stands.{origin}
 use Rattle.studio_seats.proofs.FrameLemmas.{made_on}
 use Rattle.studio_seats.proofs.Grown.{entries_append, number_append}
 use Rattle.studio_seats.proofs.Turns.{number_on}

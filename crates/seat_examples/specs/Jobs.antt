@@ -4,17 +4,16 @@ use Rattle.pcm_base.specs.declared.command.Call.{Call}
 use Rattle.pcm_base.specs.declared.command.Call.TheVariants.{Line}
 use Rattle.pcm_base.specs.declared.command.Command.TheVariants as command
 use Rattle.pcm_base.specs.declared.sound.Frame.{Frame}
-use Rattle.disk_model.specs.declared.store.Store.{Ghosts}
-use Rattle.edit_ports.specs.declared.vault.Vault as vault
 use Rattle.pin_turn.specs.declared.view.View.{View}
-use Rattle.editor_core.specs.Core.{Core}
 use Rattle.studio_seats.specs.declared.deed.Deed.{Deed}
 use Rattle.studio_seats.specs.declared.held.Held.{Held}
 use Rattle.studio_seats.specs.Deeds.{entries_of, number_after}
+use Rattle.studio_seats.specs.Desks.{Views}
 use Rattle.studio_seats.specs.Onward.{IsPieceOf, IsReadOf}
 use Rattle.studio_seats.specs.Pieces.{pieces_by}
 use Rattle.studio_seats.specs.Pins.{is_made}
 use Rattle.studio_seats.specs.Shows.{IsMixOf}
+use Rattle.studio_seats.specs.Stands.{Origin}
 use Rattle.seat_examples.specs.declared.jobs.Job.{Job}
 use Rattle.seat_examples.specs.declared.jobs.Job.TheVariants as job
 use Rattle.seat_examples.specs.declared.session.Session.{Session}
@@ -48,19 +47,17 @@ piece_count track tag first v = length (pieces_by track tag v.number first v.see
 
 -- Where vaults tell their bytes and the disk held the studio at the start, the mix of the project that was current
 -- where the pin was made has these frames.
-abbrev pub IsPinOf : {D V : Type 0} → Ghosts D → vault.Ghosts V → Core D → View (Held D V) Deed → ℕ → List Frame
-    → Type 0
-IsPinOf disk vaults start v pin mix = (all : List Frame) → IsMixOf disk vaults start v.seen pin all → all ≡ mix
+abbrev pub IsPinOf : {D V : Type 0} → Origin D V → View (Held D V) Deed → ℕ → List Frame → Type 0
+IsPinOf o v pin mix = (all : List Frame) → IsMixOf o v.seen pin all → all ≡ mix
 
 -- What a job of so many turns has done, or found, that ended with no refusal: as many turns, of a recording as many
 -- pieces, and of a pin, where there was a turn, that it has the frames that were wanted.
-abbrev pub did : {D V : Type 0} → Ghosts D → vault.Ghosts V → Core D → Job → ℕ → View (Held D V) Deed
-    → View (Held D V) Deed → Type 0
-did disk vaults start (job.Edit track) turns v w = length w.mine ≡ length v.mine + turns
-did disk vaults start (job.Record track tag) turns v w =
-    piece_count track tag start.commit_number w ≡ piece_count track tag start.commit_number v + turns
-did disk vaults start (job.Play pin mix) turns v w = 0 < turns → IsPinOf disk vaults start v pin mix
-did disk vaults start job.Reclaim turns v w = length w.mine ≡ length v.mine + turns
+abbrev pub did : {D V : Type 0} → Origin D V → Job → ℕ → Views D V → Type 0
+did o (job.Edit track) turns seat = length seat.after.mine ≡ length seat.before.mine + turns
+did o (job.Record track tag) turns seat = piece_count track tag o.start.commit_number seat.after
+    ≡ piece_count track tag o.start.commit_number seat.before + turns
+did o (job.Play pin mix) turns seat = 0 < turns → IsPinOf o seat.before pin mix
+did o job.Reclaim turns seat = length seat.after.mine ≡ length seat.before.mine + turns
 
 -- the session may go on in threads by a seat that has seen these deeds
 pub record IsReady (s : Session) (first : ℕ) (seen : List Deed) : Type 0 where

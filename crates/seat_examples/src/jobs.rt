@@ -2,9 +2,10 @@
 ghost use Rattle.std.specs.Prelude.{◌≡◌, ◌↔◌, ◌+◌, ◌^◌, ◌<◌, ◌≤◌, IsTrue, length};
 ghost use Rattle.pin_turn.specs.Calls.{known};
 ghost use Rattle.studio_seats.specs.Deeds.{entries_of, number_after};
-ghost use Rattle.studio_seats.specs.Desks.{IsAt, start_at};
+ghost use Rattle.studio_seats.specs.Desks.{IsAt, start_at, views};
 ghost use Rattle.studio_seats.specs.Onward.{IsPieceOf, IsReadOf, Onward};
 ghost use Rattle.studio_seats.specs.Pins.{is_made};
+ghost use Rattle.studio_seats.specs.Stands.{origin};
 ghost use Rattle.seat_examples.specs.Jobs.{IsFullReclaim, IsPinOf, IsRampIn, asked, did, needed, piece_count};
 
 use super::lines::{RamDesk, RamSeat, line};
@@ -119,7 +120,7 @@ fn play<R: Wait, S: Store, V: Vault>(
     ensures same { IsAt desk.now result.0 }
     ensures goes { Onward (IsReadOf pin) (known seat) (known result.0) }
     ensures done { result.1 ≡ End.Done → 0 < turns
-        → IsPinOf S.Store V.Vault (start_at desk.now) (known seat) pin mix.now }
+        → IsPinOf (origin S.Store V.Vault (start_at desk.now)) (known seat) pin mix.now }
 {
     let mut giver = DeskGiver::new(desk, seat, pin);
     'reads: for _ in 0..turns {
@@ -165,8 +166,8 @@ pub fn work<R: Wait>(
     ensures same { IsAt desk.now result.0 }
     ensures goes { Onward (asked job) (known seat) (known result.0) }
     ensures done { result.1 ≡ End.Done
-        → did (⟦<RamStore as Store>⟧) (⟦<MemVault as Vault>⟧) (start_at desk.now) job turns (known seat)
-        (known result.0) }
+        → did (origin (⟦<RamStore as Store>⟧) (⟦<MemVault as Vault>⟧) (start_at desk.now)) job turns
+        (views (known seat) (known result.0)) }
 {
     match job {
         Job::Edit { track } => edit(rt, alloc, desk, seat, track, turns),

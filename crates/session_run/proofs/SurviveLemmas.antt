@@ -9,14 +9,14 @@ use Rattle.editor_core.specs.Studios.{IsHeld, studio_of}
 use Rattle.editor_recovery.specs.Honest.{IsHonest}
 use Rattle.studio_seats.specs.declared.deed.Deed.{Deed}
 use Rattle.studio_seats.specs.Deeds.{entries_of}
-use Rattle.studio_seats.specs.Stands.{AllTell, StandsFor}
+use Rattle.studio_seats.specs.Stands.{AllTell, StandsFor, origin}
 use Rattle.desk_session.specs.Lent.{Kinds}
 use Rattle.session_run.specs.Opening.{OpensTo}
 use Rattle.session_run.specs.Runs.{RunsSurvive, Survives}
 
 module _ {D V : Type 0} (disk : Ghosts D) (vaults : vault.Ghosts V) (store : D) (start final : Core D)
     (deeds : List Deed)
-    (opens : OpensTo disk store start) (stands : StandsFor disk (AllTell vaults) start final deeds)
+    (opens : OpensTo disk store start) (stands : StandsFor (origin disk vaults start) final deeds)
     (honest : IsHonest disk store) (told : AllTell vaults) where
   held : IsHeld disk start
   held = opens.held honest

@@ -22,9 +22,10 @@ use Rattle.editor_core.specs.Took.{silent, told_by}
 use Rattle.studio_seats.specs.declared.deed.Deed.{Deed}
 use Rattle.studio_seats.specs.declared.held.Held.{Held}
 use Rattle.studio_seats.specs.Deeds.{deed, entries_of, entry_of}
-use Rattle.studio_seats.specs.Desks.{Says, Spends, Turned, asked, origin, views}
+use Rattle.studio_seats.specs.Desks.{Says, Spends, Turned, asked, views}
 use Rattle.studio_seats.specs.Pins.{after_entry, is_made, makes_pin, pin_frames}
 use Rattle.studio_seats.specs.Shows.{IsMixOf}
+use Rattle.studio_seats.specs.Stands.{origin}
 use Rattle.studio_seats.proofs.Grown.{entries_append}
 use Rattle.studio_seats.proofs.PinLemmas.{frames_on, read_frames, run_shows}
 
@@ -124,8 +125,8 @@ module _ {D V : Type 0} (disk : Ghosts D) (vaults : vault.Ghosts V) (start : Cor
       subst (λ (es : List Entry). IsTrue (is_made pin es)) (sym more.1) (made_on pin (entries_of v.seen) more.0 made)
 
   -- and it shows the same frames
-  pub same_frames : SaysRead → (all : List Frame) → IsMixOf disk vaults start v.seen pin all
-      → IsMixOf disk vaults start w.seen pin all
+  pub same_frames : SaysRead → (all : List Frame) → IsMixOf (origin disk vaults start) v.seen pin all
+      → IsMixOf (origin disk vaults start) w.seen pin all
   same_frames h all shows = let more = seen_on h in record {
     told = shows.told;
     held = shows.held;
@@ -134,7 +135,7 @@ module _ {D V : Type 0} (disk : Ghosts D) (vaults : vault.Ghosts V) (start : Cor
   }
 
   pub back_frames : SaysRead → IsTrue (is_made pin (entries_of v.seen)) → (all : List Frame)
-      → IsMixOf disk vaults start w.seen pin all → IsMixOf disk vaults start v.seen pin all
+      → IsMixOf (origin disk vaults start) w.seen pin all → IsMixOf (origin disk vaults start) v.seen pin all
   back_frames h made all shows =
       let more = seen_on h in
       let first = frames_made t.rate t.state pin (entries_of v.seen) made in
@@ -146,7 +147,7 @@ module _ {D V : Type 0} (disk : Ghosts D) (vaults : vault.Ghosts V) (start : Cor
       }
 
   abbrev Given : ℕ → Type 0
-  Given count = (all : List Frame) → IsMixOf disk vaults start v.seen pin all
+  Given count = (all : List Frame) → IsMixOf (origin disk vaults start) v.seen pin all
       → take count new ≡ take (length old) (drop from all)
 
   gives_at : (what : Result ℕ Refusal) (at : ℕ) → Reads what at → IfOk what Given

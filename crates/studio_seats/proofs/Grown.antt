@@ -5,7 +5,6 @@ use Rattle.std.specs.Prelude.{IfErr}
 use Rattle.pcm_base.specs.declared.answer.Reply.{Reply}
 use Rattle.pcm_base.specs.declared.command.Call.{Call}
 use Rattle.pcm_base.specs.declared.entry.Entry.{Entry}
-use Rattle.pcm_base.specs.declared.entry.SoundMove.{SoundMove}
 use Rattle.pcm_base.specs.declared.refusal.Refusal.{Refusal}
 use Rattle.pcm_base.specs.declared.refusal.Refusal.TheVariants as refusal
 use Rattle.pcm_base.specs.Run.{Run, Step}
@@ -29,7 +28,7 @@ use Rattle.editor_core.proofs.Unharmed.{held_undamaged}
 use Rattle.pin_turn.proofs.Sums.{Each-append}
 use Rattle.studio_seats.specs.declared.deed.Deed.{Deed}
 use Rattle.studio_seats.specs.Deeds.{deed, entry_of, entries_of, is_commit, number_after, raised}
-use Rattle.studio_seats.specs.Stands.{Does, IsUnharmed, StandsFor, StopsInFlight}
+use Rattle.studio_seats.specs.Stands.{AllTell, Does, IsUnharmed, Origin, StandsFor, StopsInFlight}
 use Rattle.studio_seats.proofs.Refused.{number_raised, step_of, stopped_not, stopped_shown}
 
 -- ---- lists
@@ -84,9 +83,9 @@ flight_more t es e c h = record {
 -- ---- a call makes the list longer
 
 -- a call that names no sound
-pub does_silent : {D : Type 0} (disk : Ghosts D) (told : Type 0) (old : Core D) (call : Call)
+pub does_silent : {D : Type 0} {actor : ℕ} (disk : Ghosts D) (told : Type 0) (old : Core D) (call : Call)
     (what : Result Reply Refusal) (removed : ℕ) (new : Core D)
-    → Took disk old (freeing call what removed) new → Does disk told old call what silent new
+    → Took disk old (freeing call what removed) new → Does disk told old (deed actor call what silent) new
 does_silent disk told old call what removed new took =
     record { removed = removed; took = λ may. took; lasts = lasts_took disk old (freeing call what removed) new took }
 
@@ -99,25 +98,29 @@ unharmed disk old new call (Err (refusal.Damaged file at want have)) held left =
     absurd (held_undamaged disk old new (MayRemove call old.counts) (refusal.Damaged file at want have) held left)
 unharmed disk old new call (Err why) held left = tt
 
-module _ {D : Type 0} (disk : Ghosts D) (told : Type 0) (start old new : Core D) (deeds : List Deed)
-    (was : StandsFor disk told start old deeds)
-    (actor : ℕ) (call : Call) (what : Result Reply Refusal) (sound : SoundMove)
-    (does : Does disk told old call what sound new) where
+module _ {D V : Type 0} (o : Origin D V) (old new : Core D) (deeds : List Deed) (was : StandsFor o old deeds) (d : Deed)
+    (does : Does o.disk (AllTell o.vaults) old d new) where
+  abbrev disk : Ghosts D
+  disk = o.disk
+
+  abbrev told : Type 0
+  told = AllTell o.vaults
+
+  abbrev start : Core D
+  start = o.start
+
   abbrev t : model.Studio
   t = studio_of disk start
-
-  abbrev d : Deed
-  d = deed actor call what sound
 
   abbrev all : List Entry
   all = entries_of deeds ++ entry_of d ∷ []
 
-  took : told → Took disk old (exchange_of call sound what does.removed) new
+  took : told → Took disk old (exchange_of d.call d.sound d.what does.removed) new
   took tell = does.took (λ some. tell)
 
-  step : told → IsHeld disk start → Step (studio_of disk old) call sound (entry_of d).reply (studio_of disk new)
+  step : told → IsHeld disk start → Step (studio_of disk old) d.call d.sound (entry_of d).reply (studio_of disk new)
   step tell held =
-      step_of (studio_of disk old) (studio_of disk new) call sound what ((took tell).step (was.held tell held))
+      step_of (studio_of disk old) (studio_of disk new) d.call d.sound d.what ((took tell).step (was.held tell held))
 
   -- ---- at any moment
 
@@ -157,7 +160,7 @@ module _ {D : Type 0} (disk : Ghosts D) (told : Type 0) (start old new : Core D)
   stops tell still some held c now =
       let images = (took tell).changed.images in
       let since = images.fewer (disk.clock old.store) (disk.clock new.store) c images.later (upto_refl _) now in
-      let same = stopped_shown (studio_of disk old) (studio_of disk new) call sound what
+      let same = stopped_shown (studio_of disk old) (studio_of disk new) d.call d.sound d.what
       ((took tell).step (was.held tell held)) still some in
       ⊎_elim
       (λ kept. inl (subst (λ (z : _). Keeps c z) (sym same) kept))
@@ -196,32 +199,32 @@ module _ {D : Type 0} (disk : Ghosts D) (told : Type 0) (start old new : Core D)
 
   -- ---- all of it
 
-  pub extends : StandsFor disk told start new (deeds ++ d ∷ [])
+  pub extends : StandsFor o new (deeds ++ d ∷ [])
   extends = record {
     studio = does.lasts.studio;
-    number = does.lasts.number ∙ number_raised what call old.commit_number ∙ ap (raised (is_commit d)) was.number
+    number = does.lasts.number ∙ number_raised d.what d.call old.commit_number ∙ ap (raised (is_commit d)) was.number
         ∙ sym (number_append start.commit_number deeds (d ∷ []));
     held = λ tell held. (took tell).held (was.held tell held);
     run = λ tell held. subst (λ (es : List Entry). Run t es (studio_of disk new)) (sym more)
         (run_more t (studio_of disk old) (studio_of disk new) (entries_of deeds) (entry_of d) (was.run tell held)
         (step tell held));
     whole = λ tell held. Each-append (λ (z : Deed). IfErr z.what IsUnharmed) deeds (d ∷ []) (was.whole tell held)
-        (unharmed disk old new call what (was.held tell held) does.lasts.left, tt);
+        (unharmed disk old new d.call d.what (was.held tell held) does.lasts.left, tt);
     any_moment = λ tell going held. subst (λ (es : List Entry). EachSince disk start.store new.store (KeepsPrefix t es))
         (sym more) (stays old.stopped refl tell going held);
     going = λ tell still held. (took tell).now still (was.held tell held);
     stopped = λ tell going some held. subst (λ (es : List Entry).
         EachNow disk new.store (λ c. Keeps c (shown (studio_of disk new)) ⊎ StopsInFlight t es c)) (sym more)
         (ends old.stopped refl tell going some held);
-    others = foreign_more disk start.store old new call
+    others = foreign_more disk start.store old new d.call
         (asks old.block_size (new.next_block - old.next_block) does.lasts.len does.removed) was.studio was.others
         does.lasts.changed;
   }
 
 -- a studio stands for nothing from itself on
-pub begins : {D : Type 0} (disk : Ghosts D) (told : Type 0) (start : Core D) → IsStudio disk start
-    → Fewer disk start.store → StandsFor disk told start start []
-begins disk told start is fewer = record {
+pub begins : {D V : Type 0} (o : Origin D V) → IsStudio o.disk o.start → Fewer o.disk o.start.store
+    → StandsFor o o.start []
+begins o is fewer = record {
   studio = is;
   number = refl;
   held = λ tell held. held;
@@ -231,11 +234,13 @@ begins disk told start is fewer = record {
     front = [];
     back = [];
     cut = refl;
-    reached = studio_of disk start;
+    reached = studio_of o.disk o.start;
     run = refl;
-    keeps = inl (rests_keeps disk start is start.store (kept_none start.store fewer) going held c since);
+    keeps = inl
+        (rests_keeps o.disk o.start is o.start.store (kept_none o.start.store fewer) going held c since);
   };
-  going = λ tell still held c now. rests_keeps disk start is start.store (kept_none start.store fewer) still held c now;
-  stopped = λ tell going some held c now. absurd (stopped_not start.stopped some going);
-  others = foreign_none disk start.store fewer;
+  going = λ tell still held c now.
+      rests_keeps o.disk o.start is o.start.store (kept_none o.start.store fewer) still held c now;
+  stopped = λ tell going some held c now. absurd (stopped_not o.start.stopped some going);
+  others = foreign_none o.disk o.start.store fewer;
 }

@@ -13,6 +13,7 @@ use Rattle.pcm_base.specs.Run.{Heard, name_in_line}
 use Rattle.disk_model.specs.declared.store.Store.{Ghosts}
 use Rattle.editor_core.specs.Applied.{Applies, EndsAlike, move_of, reply_of, Span, sound_moved}
 use Rattle.editor_core.specs.Took.{told_by}
+use Rattle.studio_seats.specs.Deeds.{deed}
 use Rattle.studio_seats.specs.Stands.{Does}
 
 module _ {R : Type 0} where
@@ -24,14 +25,14 @@ module _ {R : Type 0} where
   told_is (Err why) (Ok x) reply is ends = absurd ends
   told_is (Err why) (Err other) reply is ends = ap Err (sym ends)
 
-  pub does_line : {D : Type 0} (disk : Ghosts D) (told : Type 0) (span : Span D) (c : Command)
+  pub does_line : {D : Type 0} {actor : ℕ} (disk : Ghosts D) (told : Type 0) (span : Span D) (c : Command)
       (result : Result R Refusal) (answer : Answer) → (told → IsTrue span.tells)
       → Applies disk span (Line c) result answer
-      → Does disk told span.old (Line c) (told_by (λ _. answer.reply) result) (sound_moved span (name_in_line c))
-      span.new
-  does_line disk told span c result answer tell a =
+      → Does disk told span.old
+      (deed actor (Line c) (told_by (λ _. answer.reply) result) (sound_moved span (name_in_line c))) span.new
+  does_line {actor = actor} disk told span c result answer tell a =
       subst (λ (z : Result Reply Refusal).
-      Does disk told span.old (Line c) z (sound_moved span (name_in_line c)) span.new)
+      Does disk told span.old (deed actor (Line c) z (sound_moved span (name_in_line c))) span.new)
       (told_is a.told result answer.reply a.reply a.ends)
       (record { removed = a.over.removed; took = λ may. a.over.took (λ some. tell (may some)); lasts = a.over.lasts })
 

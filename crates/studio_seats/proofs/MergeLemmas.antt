@@ -69,7 +69,7 @@ numbers_rise kind n (e ∷ es) = rise_if (kind e) (is_commit e) n (numbers_of ki
     (numbers_rise kind (raised (is_commit e) n) es)
 
 pub merged_numbers : MergedNumbers
-merged_numbers first log script recorder opening_commits script_commits piece_commits h =
+merged_numbers first log seats commits h =
     let mid : ℕ = number_after first h.opening in
     let last : number_after first log ≡ number_after mid h.rest =
     ap (number_after first) h.split ∙ number_append first h.opening h.rest in
@@ -77,20 +77,20 @@ merged_numbers first log script recorder opening_commits script_commits piece_co
       each = λ k.
           let a = both_kinds any_seat no_seat first h.opening (splits_all h.opening) k in
           let none : times k (numbers_of no_seat first h.opening) ≡ 0 = ap (times k) (none_of first h.opening) in
-          let b = both_kinds (by_seat script) (by_seat recorder) mid h.rest h.kinds k in
-          let o : times k opening_commits ≡ times k (numbers_of any_seat first h.opening) = ap (times k) h.opening_is in
-          let s : times k script_commits ≡ times k (numbers_of (by_seat script) mid h.rest) =
+          let b = both_kinds (by_seat seats.script) (by_seat seats.recorder) mid h.rest h.kinds k in
+          let o : times k commits.opening ≡ times k (numbers_of any_seat first h.opening) = ap (times k) h.opening_is in
+          let s : times k commits.script ≡ times k (numbers_of (by_seat seats.script) mid h.rest) =
           ap (times k) h.script_is in
-          let p : times k piece_commits ≡ times k (numbers_of (by_seat recorder) mid h.rest) =
+          let p : times k commits.pieces ≡ times k (numbers_of (by_seat seats.recorder) mid h.rest) =
           ap (times k) h.pieces_is in
           let z : once_below k (number_after first log + 1) ≡ once_below k (number_after mid h.rest + 1) =
           ap (λ (n : ℕ). once_below k (n + 1)) last in
           omega (arith, a, none, b, o, s, p, z);
       opening_rises = subst (Rises first) (sym h.opening_is) (numbers_rise any_seat first h.opening);
       script_rises = subst (Rises first) (sym h.script_is) (rises_from first mid
-          (numbers_of (by_seat script) mid h.rest) grown (numbers_rise (by_seat script) mid h.rest));
+          (numbers_of (by_seat seats.script) mid h.rest) grown (numbers_rise (by_seat seats.script) mid h.rest));
       pieces_rise = subst (Rises first) (sym h.pieces_is) (rises_from first mid
-          (numbers_of (by_seat recorder) mid h.rest) grown (numbers_rise (by_seat recorder) mid h.rest));
+          (numbers_of (by_seat seats.recorder) mid h.rest) grown (numbers_rise (by_seat seats.recorder) mid h.rest));
     }
 
 -- deeds of seats with lower numbers are by others

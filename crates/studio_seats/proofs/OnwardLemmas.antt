@@ -17,8 +17,9 @@ use Rattle.studio_seats.specs.declared.held.Held.{Held}
 use Rattle.studio_seats.specs.declared.deed.Deed.{Deed}
 use Rattle.studio_seats.specs.Deeds.{actor_of, deed}
 use Rattle.studio_seats.specs.Merge.{by_seat}
-use Rattle.studio_seats.specs.Desks.{Says, Spends, Turned, asked, origin, views}
+use Rattle.studio_seats.specs.Desks.{Says, Spends, Turned, asked, views}
 use Rattle.studio_seats.specs.Onward.{Onward, Asks, places_of}
+use Rattle.studio_seats.specs.Stands.{origin}
 
 pub each_append : (P : Deed → Type 0) (xs ys : List Deed) → Each P xs → Each P ys → Each P (xs ++ ys)
 each_append P [] ys h k = k

@@ -16,8 +16,9 @@ use Rattle.editor_core.specs.Took.{silent, told_by}
 use Rattle.studio_seats.specs.declared.deed.Deed.{Deed}
 use Rattle.studio_seats.specs.declared.held.Held.{Held}
 use Rattle.studio_seats.specs.Deeds.{actor_of, deed, is_commit, number_after, raised}
-use Rattle.studio_seats.specs.Desks.{Says, Spends, Turned, asked, origin, views}
+use Rattle.studio_seats.specs.Desks.{Says, Spends, Turned, asked, views}
 use Rattle.studio_seats.specs.Pieces.{piece_by, piece_in, pieces_by}
+use Rattle.studio_seats.specs.Stands.{origin}
 use Rattle.studio_seats.proofs.Grown.{number_append}
 use Rattle.studio_seats.proofs.Turns.{number_on}
 

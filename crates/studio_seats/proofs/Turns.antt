@@ -20,9 +20,9 @@ use Rattle.editor_core.specs.Studios.{IsStudio}
 use Rattle.studio_seats.specs.declared.deed.Deed.{Deed}
 use Rattle.studio_seats.specs.declared.held.Held.{Held}
 use Rattle.studio_seats.specs.Deeds.{actor_of, deed, is_commit, number_after, raised}
-use Rattle.studio_seats.specs.Desks.{Says, Spends, Turned, asked, origin, spent, views}
+use Rattle.studio_seats.specs.Desks.{Says, Spends, Turned, asked, spent, views}
 use Rattle.studio_seats.specs.Holding.{HeldFor}
-use Rattle.studio_seats.specs.Stands.{AllTell, Does}
+use Rattle.studio_seats.specs.Stands.{AllTell, Does, origin}
 use Rattle.studio_seats.proofs.Grown.{extends}
 
 module _ {D V : Type 0} (disk : Ghosts D) (vaults : vault.Ghosts V) where
@@ -36,37 +36,37 @@ module _ {D V : Type 0} (disk : Ghosts D) (vaults : vault.Ghosts V) where
   is_studio start x y deeds stands is = subst (λ (z : Held D V). IsStudio disk (core z)) (sym is) stands.studio
 
   -- what a call did, shown and left through a reference
-  does_at : (s t s' t' : Held D V) (call : Call) (what : Result Reply Refusal) (sound : SoundMove)
-      → Does disk (AllTell vaults) (core s') call what sound (core t')
-      → s' ≡ s → t' ≡ t → Does disk (AllTell vaults) (core s) call what sound (core t)
-  does_at s t s' t' call what sound does a b =
-      subst (λ (z : Held D V × Held D V). Does disk (AllTell vaults) (core z.0) call what sound (core z.1))
-      (λ i. (a i, b i)) does
+  does_at : (s t s' t' : Held D V) (d : Deed) → Does disk (AllTell vaults) (core s') d (core t') → s' ≡ s → t' ≡ t
+      → Does disk (AllTell vaults) (core s) d (core t)
+  does_at s t s' t' d does a b =
+      subst (λ (z : Held D V × Held D V). Does disk (AllTell vaults) (core z.0) d (core z.1)) (λ i. (a i, b i)) does
 
   module _ {F A : Type 0} (start : Held D V) (v : View (Held D V) Deed)
       (g : Mut F (MutBor (Held D V) × Unit {0}) (Said A × (MutBor (Held D V) × Unit {0}))) (f : F)
       (call : Call) (what : Said A → F → Result Reply Refusal) (sound : F → SoundMove) where
+    -- what the turn adds
+    abbrev done : Said A → F → Deed
+    done s f' = deed v.number call (what s f') (sound f')
+
     -- the closure may be called at what the turn finds, and is one call of the studio
     pub fits : ((more : List Deed) (x : Held D V) → ByOthers actor_of (v.number ∷ []) more
         → HeldFor disk vaults start x (v.seen ++ more) → TakesAtMut g f x)
         → ((s : Said A) (f' : F) (x x' : Held D V) (called : CalledAtMut g f x s f' x')
-        → Does disk (AllTell vaults) (core called.shown.now) call (what s f') (sound f') (core called.left.now))
-        → FitsTurn (meaning (HeldFor disk vaults) actor_of start) v g f
-        (λ s f'. deed v.number call (what s f') (sound f') ∷ [])
+        → Does disk (AllTell vaults) (core called.shown.now) (done s f') (core called.left.now))
+        → FitsTurn (meaning (HeldFor disk vaults) actor_of start) v g f (λ s f'. done s f' ∷ [])
     fits may does = record {
       may = λ more x others few stood. may more x others stood;
       leaves = λ more x others few stood s f' x' called.
-          extends disk (AllTell vaults) (core start) (core x) (core x') (v.seen ++ more) stood v.number call (what s f')
-          (sound f')
-          (does_at x x' called.shown.now called.left.now call (what s f') (sound f')
-          (does s f' x x' called) called.shows called.leaves);
-      by_seat = λ s f'. (deed v.number call (what s f') (sound f'), refl, refl);
+          extends (origin disk vaults (core start)) (core x) (core x') (v.seen ++ more) stood (done s f')
+          (does_at x x' called.shown.now called.left.now (done s f') (does s f' x x' called) called.shows
+          called.leaves);
+      by_seat = λ s f'. (done s f', refl, refl);
     }
 
     -- what the closure says of a call, which is told to the caller in other words
     pub record Called (f' : F) (s : Said A) (x x' : Held D V) (said_what : Said A → Result Reply Refusal)
         (said_sound : SoundMove) : Type 0 where
-      pub does : Does disk (AllTell vaults) (core x) call (what s f') (sound f') (core x')
+      pub does : Does disk (AllTell vaults) (core x) (done s f') (core x')
       pub number : s.at ≡ (core x').commit_number
       pub what_is : what s f' ≡ said_what s
       pub sound_is : sound f' ≡ said_sound
@@ -74,12 +74,12 @@ module _ {D V : Type 0} (disk : Ghosts D) (vaults : vault.Ghosts V) where
     turned : (s : Said A) (f' : F) (w : View (Held D V) Deed) (said_what : Said A → Result Reply Refusal)
         (said_sound : SoundMove)
         (took : TookTurn (meaning (HeldFor disk vaults) actor_of start) g (called_as f s f')
-        (addition v (deed v.number call (what s f') (sound f') ∷ []) w))
+        (addition v (done s f' ∷ []) w))
         → Called f' s took.called.shown.now took.called.left.now said_what said_sound
         → Turned (origin disk vaults (core start)) (asked call (said_what s) said_sound) s.at (views v w)
     turned s f' w said_what said_sound took at =
-        let does = does_at took.value took.value' took.called.shown.now took.called.left.now call (what s f')
-        (sound f') at.does took.called.shows took.called.leaves in
+        let does = does_at took.value took.value' took.called.shown.now took.called.left.now (done s f') at.does
+        took.called.shows took.called.leaves in
         subst (λ (z : Result Reply Refusal × SoundMove).
         Turned (origin disk vaults (core start)) (asked call z.0 z.1) s.at (views v w))
         (λ i. (at.what_is i, at.sound_is i)) record {
@@ -92,8 +92,8 @@ module _ {D V : Type 0} (disk : Ghosts D) (vaults : vault.Ghosts V) where
           after = core took.value';
           stood = took.stood;
           does = does;
-          stands = extends disk (AllTell vaults) (core start) (core took.value) (core took.value')
-              (v.seen ++ took.between) took.stood v.number call (what s f') (sound f') does;
+          stands = extends (origin disk vaults (core start)) (core took.value) (core took.value')
+              (v.seen ++ took.between) took.stood (done s f') does;
           number = at.number ∙ ap (λ (z : Held D V). (core z).commit_number) took.called.leaves;
         }
 
@@ -101,7 +101,7 @@ module _ {D V : Type 0} (disk : Ghosts D) (vaults : vault.Ghosts V) where
     pub says : (f' : F) (said_what : Said A → Result Reply Refusal) (said_sound : SoundMove) (w : View (Held D V) Deed)
         (result : Result (Said A) Spent) (said : Said A)
         → MatchResult result (λ s. TookTurn (meaning (HeldFor disk vaults) actor_of start) g (called_as f s f')
-        (addition v (deed v.number call (what s f') (sound f') ∷ []) w))
+        (addition v (done s f' ∷ []) w))
         (λ _. (w ≡ record v { used_up = true }) × (f' ≡ f))
         → MatchResult result (λ s. said ≡ s) (λ _. (said.at ≡ 0) × (said.what ≡ Err spent))
         → ((s : Said A) (x x' : Held D V) (called : CalledAtMut g f x s f' x')
@@ -117,7 +117,7 @@ module _ {D V : Type 0} (disk : Ghosts D) (vaults : vault.Ghosts V) where
     pub if_taken : (f' : F) (w : View (Held D V) Deed) (result : Result (Said A) Spent) (said : Said A)
         (P : Said A → Type 0)
         → MatchResult result (λ s. TookTurn (meaning (HeldFor disk vaults) actor_of start) g (called_as f s f')
-        (addition v (deed v.number call (what s f') (sound f') ∷ []) w))
+        (addition v (done s f' ∷ []) w))
         (λ _. (w ≡ record v { used_up = true }) × (f' ≡ f))
         → MatchResult result (λ s. said ≡ s) (λ _. (said.at ≡ 0) × (said.what ≡ Err spent))
         → ((s : Said A) (x x' : Held D V) (called : CalledAtMut g f x s f' x') → P s)
@@ -129,7 +129,7 @@ module _ {D V : Type 0} (disk : Ghosts D) (vaults : vault.Ghosts V) where
     -- and where there was none, the closure is as it was
     pub if_spent : (f' : F) (w : View (Held D V) Deed) (result : Result (Said A) Spent) (said : Said A)
         → MatchResult result (λ s. TookTurn (meaning (HeldFor disk vaults) actor_of start) g (called_as f s f')
-        (addition v (deed v.number call (what s f') (sound f') ∷ []) w))
+        (addition v (done s f' ∷ []) w))
         (λ _. (w ≡ record v { used_up = true }) × (f' ≡ f))
         → MatchResult result (λ s. said ≡ s) (λ _. (said.at ≡ 0) × (said.what ≡ Err spent))
         → w.used_up ≡ true → f' ≡ f
@@ -140,7 +140,7 @@ module _ {D V : Type 0} (disk : Ghosts D) (vaults : vault.Ghosts V) where
     -- taken or not
     pub either_way : (f' : F) (w : View (Held D V) Deed) (result : Result (Said A) Spent) (P : Type 0)
         → MatchResult result (λ s. TookTurn (meaning (HeldFor disk vaults) actor_of start) g (called_as f s f')
-        (addition v (deed v.number call (what s f') (sound f') ∷ []) w))
+        (addition v (done s f' ∷ []) w))
         (λ _. (w ≡ record v { used_up = true }) × (f' ≡ f))
         → (f' ≡ f → P) → ((s : Said A) (x x' : Held D V) (called : CalledAtMut g f x s f' x') → P) → P
     either_way f' w (Ok s) P took still met = met s took.value took.value' took.called

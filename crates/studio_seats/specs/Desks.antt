@@ -6,8 +6,6 @@ use Rattle.pcm_base.specs.declared.entry.SoundMove.{SoundMove}
 use Rattle.pcm_base.specs.declared.refusal.Refusal.{Refusal}
 use Rattle.pcm_base.specs.declared.refusal.Refusal.TheVariants.{Spent}
 use Rattle.pcm_base.specs.declared.said.Said.{Said}
-use Rattle.disk_model.specs.declared.store.Store.{Ghosts}
-use Rattle.edit_ports.specs.declared.vault.Vault as vault
 use Rattle.pin_turn.specs.declared.view.Seat.{Seat}
 use Rattle.pin_turn.specs.declared.view.View.{View}
 use Rattle.pin_turn.specs.Calls.{IsOf, start_of}
@@ -17,17 +15,11 @@ use Rattle.studio_seats.specs.declared.deed.Deed.{Deed}
 use Rattle.studio_seats.specs.declared.desk.Desk.{Desk}
 use Rattle.studio_seats.specs.declared.held.Held.{Held}
 use Rattle.studio_seats.specs.Deeds.{actor_of, deed}
-use Rattle.studio_seats.specs.Stands.{AllTell, Does, StandsFor}
+use Rattle.studio_seats.specs.Stands.{AllTell, Does, Origin, StandsFor}
 
 -- no turn is left
 abbrev pub spent : Refusal
 spent = Spent (2 ^ 62)
-
--- what the types of store and vault tell of their objects, and the studio with which a desk began
-pub record Origin (D V : Type 0) : Type 1 where
-  pub disk : Ghosts D
-  pub vaults : vault.Ghosts V
-  pub start : Core D
 
 -- a call, what it was answered, and what became of the sound that it names
 pub record Asked : Type 0 where
@@ -39,9 +31,6 @@ pub record Asked : Type 0 where
 pub record Views (D V : Type 0) : Type 0 where
   pub before : View (Held D V) Deed
   pub after : View (Held D V) Deed
-
-abbrev pub origin : {D V : Type 0} → Ghosts D → vault.Ghosts V → Core D → Origin D V
-origin disk vaults start = record { disk = disk; vaults = vaults; start = start }
 
 abbrev pub asked : Call → Result Reply Refusal → SoundMove → Asked
 asked call what sound = record { call = call; what = what; sound = sound }
@@ -83,10 +72,9 @@ module _ {D V : Type 0} where
     }
     pub before : Core D
     pub after : Core D
-    pub stood : StandsFor o.disk (AllTell o.vaults) o.start before (seat.before.seen ++ between)
-    pub does : Does o.disk (AllTell o.vaults) before a.call a.what a.sound after
-    pub stands : StandsFor o.disk (AllTell o.vaults) o.start after
-        ((seat.before.seen ++ between) ++ deed_of seat.before.number a ∷ [])
+    pub stood : StandsFor o before (seat.before.seen ++ between)
+    pub does : Does o.disk (AllTell o.vaults) before (deed_of seat.before.number a) after
+    pub stands : StandsFor o after ((seat.before.seen ++ between) ++ deed_of seat.before.number a ∷ [])
     pub number : at ≡ after.commit_number
 
   -- no turn was left, and nothing was asked

@@ -13,7 +13,7 @@ use Rattle.edit_ports.specs.declared.vault.Vault as vault
 use Rattle.editor_core.specs.Core.{Core}
 use Rattle.editor_core.specs.Studios.{IsHeld, studio_of}
 use Rattle.studio_seats.specs.declared.deed.Deed.{Deed}
-use Rattle.studio_seats.specs.Stands.{AllTell, IsUnharmed, StandsFor}
+use Rattle.studio_seats.specs.Stands.{AllTell, IsUnharmed, StandsFor, origin}
 
 -- no count of faults rose, and none stands at its type's end
 pub record IsCalm (t u : model.Studio) : Type 0 where
@@ -47,6 +47,6 @@ pub record AllServed {D : Type 0} (now : Core D) (deeds : List Deed) : Type 0 wh
   pub unharmed : Each (λ d. IfErr d.what IsUnharmed) deeds
 
 abbrev pub DesksServe : {D V : Type 0} → Ghosts D → vault.Ghosts V → Type 0
-DesksServe {D} disk vaults = (start now : Core D) (deeds : List Deed) → StandsFor disk (AllTell vaults) start now deeds
+DesksServe {D} disk vaults = (start now : Core D) (deeds : List Deed) → StandsFor (origin disk vaults start) now deeds
     → AllTell vaults → IsHeld disk start → start.stopped ≡ None → IsCalm (studio_of disk start) (studio_of disk now)
     → AllServed now deeds

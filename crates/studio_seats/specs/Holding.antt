@@ -5,7 +5,8 @@ use Rattle.edit_ports.specs.declared.vault.Vault as vault
 use Rattle.editor_core.specs.Core.{core_of}
 use Rattle.studio_seats.specs.declared.deed.Deed.{Deed}
 use Rattle.studio_seats.specs.declared.held.Held.{Held}
-use Rattle.studio_seats.specs.Stands.{AllTell, StandsFor}
+use Rattle.studio_seats.specs.Stands.{StandsFor, origin}
 
 abbrev pub HeldFor : {D V : Type 0} → Ghosts D → vault.Ghosts V → Held D V → Held D V → List Deed → Type 0
-HeldFor disk vaults start now deeds = StandsFor disk (AllTell vaults) (core_of start.studio) (core_of now.studio) deeds
+HeldFor disk vaults start now deeds =
+    StandsFor (origin disk vaults (core_of start.studio)) (core_of now.studio) deeds

@@ -43,32 +43,45 @@ one_if b = if b then 1 else 0
 abbrev pub SplitsIn : (Deed → Bool) → (Deed → Bool) → List Deed → Type 0
 SplitsIn one two es = Each (λ e. is_commit e ≡ true → one_if (one e) + one_if (two e) ≡ 1) es
 
+-- the numbers of two seats
+pub record TwoSeats : Type 0 where
+  -- the first, by which the script is carried out
+  pub script : ℕ
+  -- the one that takes the pieces of a recording
+  pub recorder : ℕ
+
+-- commit numbers, by who made the commits
+pub record Commits : Type 0 where
+  -- what the first seat did before there was another
+  pub opening : List ℕ
+  -- the script
+  pub script : List ℕ
+  -- the pieces of the recording
+  pub pieces : List ℕ
+
 -- The list that all seats made together, by the number before it. The first seat did some things alone, of which the
 -- last commit is the recording's own. Then the script, by the first seat, and the recorder, by another, made all the
 -- commits.
-pub record Merged (first : ℕ) (log : List Deed) (script recorder : ℕ)
-    (opening_commits script_commits piece_commits : List ℕ) : Type 0 where
+pub record Merged (first : ℕ) (log : List Deed) (seats : TwoSeats) (commits : Commits) : Type 0 where
   pub opening : List Deed
   pub rest : List Deed
   pub split : log ≡ opening ++ rest
-  pub kinds : SplitsIn (by_seat script) (by_seat recorder) rest
-  pub opening_is : opening_commits ≡ numbers_of any_seat first opening
-  pub script_is : script_commits ≡ numbers_of (by_seat script) (number_after first opening) rest
-  pub pieces_is : piece_commits ≡ numbers_of (by_seat recorder) (number_after first opening) rest
+  pub kinds : SplitsIn (by_seat seats.script) (by_seat seats.recorder) rest
+  pub opening_is : commits.opening ≡ numbers_of any_seat first opening
+  pub script_is : commits.script ≡ numbers_of (by_seat seats.script) (number_after first opening) rest
+  pub pieces_is : commits.pieces ≡ numbers_of (by_seat seats.recorder) (number_after first opening) rest
 
 -- the numbers are together all from above the first to the last, each once, and each list rises
-pub record Numbers (first last : ℕ) (opening_commits script_commits piece_commits : List ℕ) : Type 0 where
-  pub each : (k : ℕ) → once_below k
-      (first + 1) + (times k opening_commits + times k script_commits + times k piece_commits) ≡ once_below k (last + 1)
-  pub opening_rises : Rises first opening_commits
-  pub script_rises : Rises first script_commits
-  pub pieces_rise : Rises first piece_commits
+pub record Numbers (first last : ℕ) (commits : Commits) : Type 0 where
+  pub each : (k : ℕ) → once_below k (first + 1)
+      + (times k commits.opening + times k commits.script + times k commits.pieces) ≡ once_below k (last + 1)
+  pub opening_rises : Rises first commits.opening
+  pub script_rises : Rises first commits.script
+  pub pieces_rise : Rises first commits.pieces
 
 abbrev pub MergedNumbers : Type 0
-MergedNumbers =
-    (first : ℕ) (log : List Deed) (script recorder : ℕ) (opening_commits script_commits piece_commits : List ℕ)
-    → Merged first log script recorder opening_commits script_commits piece_commits
-    → Numbers first (number_after first log) opening_commits script_commits piece_commits
+MergedNumbers = (first : ℕ) (log : List Deed) (seats : TwoSeats) (commits : Commits) → Merged first log seats commits
+    → Numbers first (number_after first log) commits
 
 abbrev pub is_piece : ℕ → ℕ → Call → Bool
 is_piece to by (call.Line c) = false

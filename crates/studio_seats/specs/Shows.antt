@@ -1,20 +1,16 @@
 -- What a pin shows to a seat that has seen it made.
 use Rattle.std.specs.Prelude.{◌≡◌, ℕ, List, Some}
 use Rattle.pcm_base.specs.declared.sound.Frame.{Frame}
-use Rattle.disk_model.specs.declared.store.Store.{Ghosts}
-use Rattle.edit_ports.specs.declared.vault.Vault as vault
-use Rattle.editor_core.specs.Core.{Core}
 use Rattle.editor_core.specs.Studios.{IsHeld, studio_of}
 use Rattle.studio_seats.specs.declared.deed.Deed.{Deed}
 use Rattle.studio_seats.specs.Deeds.{entries_of}
 use Rattle.studio_seats.specs.Pins.{pin_frames}
-use Rattle.studio_seats.specs.Stands.{AllTell}
+use Rattle.studio_seats.specs.Stands.{AllTell, Origin}
 
 -- Where vaults tell their bytes and the disk held the studio at the start, these are the frames of the mix of the
 -- project that was current where the pin was made.
-pub record IsMixOf {D V : Type 0} (disk : Ghosts D) (vaults : vault.Ghosts V) (start : Core D) (seen : List Deed)
-    (pin : ℕ)
-    (all : List Frame) : Type 0 where
-  pub told : AllTell vaults
-  pub held : IsHeld disk start
-  pub frames : pin_frames (studio_of disk start).rate (studio_of disk start).state (entries_of seen) pin ≡ Some all
+pub record IsMixOf {D V : Type 0} (o : Origin D V) (seen : List Deed) (pin : ℕ) (all : List Frame) : Type 0 where
+  pub told : AllTell o.vaults
+  pub held : IsHeld o.disk o.start
+  pub frames : pin_frames (studio_of o.disk o.start).rate (studio_of o.disk o.start).state (entries_of seen) pin
+      ≡ Some all

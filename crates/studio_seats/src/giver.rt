@@ -28,9 +28,11 @@ impl<'a, S: Store, V: Vault> FrameGiver for DeskGiver<'a, S, V> {
     ghost use Rattle.studio_seats.specs.Desks.{start_at};
     ghost use Rattle.studio_seats.specs.Onward.{Onward, IsReadOf};
     ghost use Rattle.studio_seats.specs.Shows.{IsMixOf};
+    ghost use Rattle.studio_seats.specs.Stands.{origin};
 
     // Those of the mix of the project that was current where the pin was made.
-    ghost shows = { λ s all. IsMixOf S.Store V.Vault (start_at s.desk.now) (known s.seat).seen s.pin all };
+    ghost shows = { λ s all.
+        IsMixOf (origin S.Store V.Vault (start_at s.desk.now)) (known s.seat).seen s.pin all };
 
     ghost refused = { λ s. s.refused };
 

@@ -7,8 +7,9 @@ ghost use Rattle.editor_core.specs.Core.{core_of};
 ghost use Rattle.editor_core.specs.Studios.{IsStudio};
 ghost use Rattle.editor_core.specs.Took.{Took, quietly, silent, told_by};
 ghost use Rattle.studio_seats.specs.Deeds.{entries_of};
-ghost use Rattle.studio_seats.specs.Desks.{IsAt, Says, asked, origin, start_at, views};
+ghost use Rattle.studio_seats.specs.Desks.{IsAt, Says, asked, start_at, views};
 ghost use Rattle.studio_seats.specs.Pins.{is_made};
+ghost use Rattle.studio_seats.specs.Stands.{origin};
 
 use super::Desk;
 use super::said::said_by;

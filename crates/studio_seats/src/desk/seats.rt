@@ -8,7 +8,7 @@ ghost use Rattle.editor_core.specs.Core.{core_of};
 ghost use Rattle.editor_core.specs.Studios.{IsStudio};
 ghost use Rattle.studio_seats.specs.Deeds.{actor_of};
 ghost use Rattle.studio_seats.specs.Desks.{IsAt, IsFirst, start_at};
-ghost use Rattle.studio_seats.specs.Stands.{StandsFor, AllTell};
+ghost use Rattle.studio_seats.specs.Stands.{StandsFor, origin};
 
 use super::Desk;
 use crate::held::{DeskSeat, Held};
@@ -70,7 +70,7 @@ impl<S: Store, V: Vault> Desk<S, V> {
     /// Hands the studio out, by the first seat, once all others are joined.
     pub fn close(self, seat: DeskSeat<S, V>) -> Studio<S>
         requires { IsAt self seat × ((known seat).number ≡ 0) × ((known seat).away ≡ []) }
-        ensures stands { StandsFor S.Store (AllTell V.Vault) (start_at self) (core_of result) (known seat).seen }
+        ensures stands { StandsFor (origin S.Store V.Vault (start_at self)) (core_of result) (known seat).seen }
         ensures mine { (k : ℕ) → times k (known seat).mine ≡ once_below k (length (known seat).seen) }
         ensures spent { (known seat).used_up ≡ true → length (known seat).seen ≡ 2 ^ 62 }
     {

@@ -6,6 +6,7 @@ use Rattle.studio_seats.specs.declared.deed.Deed.{Deed}
 use Rattle.studio_seats.specs.Desks.{start_at}
 use Rattle.studio_seats.specs.Pieces.{pieces_by}
 use Rattle.studio_seats.specs.Shows.{IsMixOf}
+use Rattle.studio_seats.specs.Stands.{origin}
 use Rattle.script_session.specs.Place.{Place, place_of}
 use Rattle.script_session.specs.Progress.{Ran, reached}
 use Rattle.desk_session.specs.Opening.{play_calls, record_calls}
@@ -101,6 +102,6 @@ returns-clause-sat g c =
           (λ h. (h.1, h.2));
       played = where_both o.pin c.run_work-seats.ensures.plays
           (λ pin h. subst (λ (l : List Deed). IsSomeAnd w.heard (IsPlayed g.P.Sink speaker speaker_now
-          (IsMixOf g.S.Store g.V.Vault start l pin))) seen h.1)
+          (IsMixOf (origin g.S.Store g.V.Vault start) l pin))) seen h.1)
           (λ h. (h.1, h.2));
     }

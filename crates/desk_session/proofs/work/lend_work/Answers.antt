@@ -5,6 +5,7 @@ use Rattle.studio_seats.specs.Desks.{IsAt, start_at}
 use Rattle.studio_seats.specs.Onward.{IsLine, IsPieceOf, IsReadOf, Onward}
 use Rattle.studio_seats.specs.Pieces.{pieces_by}
 use Rattle.studio_seats.specs.Shows.{IsMixOf}
+use Rattle.studio_seats.specs.Stands.{origin}
 use Rattle.studio_seats.proofs.OnwardLemmas.{onward_self}
 use Rattle.script_session.specs.Place.{Place, place_of}
 use Rattle.script_session.specs.Progress.{Ran, reached}
@@ -81,7 +82,7 @@ returns-clause-plays g c =
       some_as b.2 h.4.4
           (λ k f. subst (λ (X : Type 0). X)
           (λ i. IsPlayed g.P.Sink (h.2.1 i) (sym h.4.3 i)
-          (IsMixOf g.S.Store g.V.Vault (start_at (h.2.2 i)) (h.2.3 i).seen (pin_is i)) k)
+          (IsMixOf (origin g.S.Store g.V.Vault (start_at (h.2.2 i))) (h.2.3 i).seen (pin_is i)) k)
           (played_of g.P.Sink _ _ (λ l. l.sink.now) (λ l. refl) (λ l. refl) w.giver w.speaker a k h.3 f.0 f.1 f.2)),
     ))
     (λ h. (ap known h.2.0 ∙ h.1.0, h.2.3, h.2.2 ∙ h.1.3))

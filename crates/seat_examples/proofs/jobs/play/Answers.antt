@@ -8,6 +8,7 @@ use Rattle.pin_turn.specs.Calls.{known}
 use Rattle.studio_seats.specs.Desks.{IsAt, start_at}
 use Rattle.studio_seats.specs.Onward.{IsReadOf, Onward}
 use Rattle.studio_seats.specs.Shows.{IsMixOf}
+use Rattle.studio_seats.specs.Stands.{origin}
 use Rattle.studio_seats.proofs.OnwardLemmas.{onward_on, onward_self}
 use Rattle.seat_examples.proofs.jobs.play.Goals as goal
 
@@ -58,7 +59,8 @@ reads-preserved g c =
     let out = c.give_frames.new.out in
     let on = c.give_frames.ensures.goes s (refl, refl, onward_self (IsReadOf s.pin) (known s.seat)) in
     let more = subst (λ (pin : ℕ). Onward (IsReadOf pin) (known s.seat) here) inv.pin on.2 in
-    let shows : List Frame → Type 0 = IsMixOf g.S.Store g.V.Vault (start_at s.desk.now) (known s.seat).seen s.pin in
+    let shows : List Frame → Type 0 =
+    IsMixOf (origin g.S.Store g.V.Vault (start_at s.desk.now)) (known s.seat).seen s.pin in
     let told : ℕ → Type 0 = λ count. (all : List Frame) → shows all → take count out ≡ take 8 all in
     let given = subst (λ (r : Result ℕ Refusal). IfOk r told) c.in-Ok.is c.give_frames.ensures.given in
     let is = c.is_mix.ensures.0 (search (rules, c.if-not-is_mix.false)) in

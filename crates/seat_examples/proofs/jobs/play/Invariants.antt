@@ -5,6 +5,7 @@ use Rattle.pin_turn.specs.Calls.{known}
 use Rattle.studio_seats.specs.Desks.{start_at}
 use Rattle.studio_seats.specs.Onward.{IsReadOf, Onward}
 use Rattle.studio_seats.specs.Shows.{IsMixOf}
+use Rattle.studio_seats.specs.Stands.{origin}
 use Rattle.seat_examples.specs.Jobs.{IsPinOf}
 use Rattle.seat_examples.proofs.jobs.play.Given as goal
 
@@ -13,7 +14,8 @@ invariant-reads g l = record {
   desk : l.giver.desk.now ≡ l.desk;
   pin : l.giver.pin ≡ l.fn.pin;
   goes : Onward (IsReadOf l.fn.pin) (known l.fn.seat) (known l.giver.seat);
-  shows : (all : List Frame) → IsMixOf g.S.Store g.V.Vault (start_at l.desk) (known l.fn.seat).seen l.fn.pin all
-      → IsMixOf g.S.Store g.V.Vault (start_at l.giver.desk.now) (known l.giver.seat).seen l.giver.pin all;
-  read : 0 < l.counter → IsPinOf g.S.Store g.V.Vault (start_at l.desk) (known l.fn.seat) l.fn.pin l.mix;
+  shows : (all : List Frame)
+      → IsMixOf (origin g.S.Store g.V.Vault (start_at l.desk)) (known l.fn.seat).seen l.fn.pin all
+      → IsMixOf (origin g.S.Store g.V.Vault (start_at l.giver.desk.now)) (known l.giver.seat).seen l.giver.pin all;
+  read : 0 < l.counter → IsPinOf (origin g.S.Store g.V.Vault (start_at l.desk)) (known l.fn.seat) l.fn.pin l.mix;
 }

@@ -3,8 +3,9 @@ use Rattle.std.proofs.Common.{sym, subst}
 use Rattle.disk_model.specs.contracts.ram.RamStoreStore.TheImpl as ram
 use Rattle.edit_ports.specs.contracts.mem_vault.MemVaultVault.TheImpl as mem
 use Rattle.pin_turn.specs.Calls.{known}
-use Rattle.studio_seats.specs.Desks.{start_at}
+use Rattle.studio_seats.specs.Desks.{start_at, views}
 use Rattle.studio_seats.specs.Onward.{Onward}
+use Rattle.studio_seats.specs.Stands.{origin}
 use Rattle.seat_examples.specs.declared.jobs.Job.{Job}
 use Rattle.seat_examples.specs.Jobs.{asked, did}
 use Rattle.seat_examples.proofs.jobs.work.Goals as goal
@@ -16,9 +17,9 @@ returns-in-Play-clause-goes g c =
 
 pub returns-in-Play-clause-done : goal.returns-in-Play-clause-done
 returns-in-Play-clause-done g c = λ is.
-    let start = start_at c.args.desk.now in
+    let from = origin ram.ghosts mem.ghosts (start_at c.args.desk.now) in
     let done : Job → Type 0 =
-    λ job. did ram.ghosts mem.ghosts start job c.args.turns (known c.args.seat) (known c.play.result.0) in
+    λ job. did from job c.args.turns (views (known c.args.seat) (known c.play.result.0)) in
     subst done (sym c.in-Play.is) (c.play.ensures.done is)
 
 pub returns-in-Reclaim-clause-goes : goal.returns-in-Reclaim-clause-goes
