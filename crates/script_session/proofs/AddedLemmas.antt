@@ -2,6 +2,7 @@
 use Rattle.std.proofs.Common.{◌≡◌, inl, inr, ℕ, if◌then◌else◌, Bool, true, false, IsTrue, List, [], ◌∷◌, ◌++◌}
 use Rattle.std.proofs.Common.{Result, Ok, Err, IfErr, Option, Some, None, IsSome, ◌≤◌, refl, sym, ◌∙◌, ap, subst}
 use Rattle.std.proofs.Common.{append_assoc, eq-eqb, arith}
+use Rattle.std.specs.Prelude.{MatchBool}
 use Rattle.std.proofs.lemmas.List.{append-nil}
 use Rattle.pcm_base.specs.declared.answer.Answer.{Answer}
 use Rattle.pcm_base.specs.declared.answer.Reply.{Reply}
@@ -207,7 +208,8 @@ adds_silent p q line lines answers silent h = record {
 adds_next : (b : Bool) (p q : Place) (line : List ℕ) (lines : List (List ℕ)) (answers : List Answer)
     → is_silent line ≡ b
     → ((mid : Place) (later : List Answer) → Session mid lines later q → Adds mid q lines later)
-    → Next b p line answers (λ mid later. Session mid lines later q) → Adds p q (line ∷ lines) answers
+    → MatchBool b (Session p lines answers q) (Next p line answers (λ mid later. Session mid lines later q))
+    → Adds p q (line ∷ lines) answers
 adds_next true p q line lines answers is goes h = adds_silent p q line lines answers is (goes p answers h)
 adds_next false p q line lines [] is goes h = absurd h
 adds_next false p q line lines (a ∷ answers) is goes (mid, turn, h) =

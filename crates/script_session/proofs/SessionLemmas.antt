@@ -1,6 +1,7 @@
 -- A session, one line on.
 use Rattle.std.proofs.Common.{◌≡◌, ℕ, List, [], ◌∷◌, ◌++◌, Bool, true, false, ◌||◌, Option, Result, Ok, Err, take, refl}
 use Rattle.std.proofs.Common.{sym, ap, ◌∙◌, subst}
+use Rattle.std.specs.Prelude.{MatchBool}
 use Rattle.std.specs.List.{list_any, flat_map}
 use Rattle.std.proofs.lemmas.List.{flat_map_more}
 use Rattle.pcm_base.specs.declared.answer.Answer.{Answer}
@@ -15,7 +16,8 @@ use Rattle.script_session.specs.Progress.{Printed, Reached, Start, WritesAnswers
 
 -- what stands behind a line may be weakened
 Next-weaker : (b : Bool) (s : Place) (line : List ℕ) (answers : List Answer) (P Q : Place → List Answer → Type 0)
-    → ((m : Place) (later : List Answer) → P m later → Q m later) → Next b s line answers P → Next b s line answers Q
+    → ((m : Place) (later : List Answer) → P m later → Q m later)
+    → MatchBool b (P s answers) (Next s line answers P) → MatchBool b (Q s answers) (Next s line answers Q)
 Next-weaker true s line answers P Q f h = f s answers h
 Next-weaker false s line [] P Q f h = h
 Next-weaker false s line (a ∷ answers) P Q f (t, is, h) = (t, is, f t answers h)
@@ -23,7 +25,8 @@ Next-weaker false s line (a ∷ answers) P Q f (t, is, h) = (t, is, f t answers 
 -- the same with one more answer at the end
 Next-push : (b : Bool) (s : Place) (line : List ℕ) (answers : List Answer) (last : Answer)
     (P Q : Place → List Answer → Type 0) → ((m : Place) (later : List Answer) → P m later → Q m (later ++ last ∷ []))
-    → Next b s line answers P → Next b s line (answers ++ last ∷ []) Q
+    → MatchBool b (P s answers) (Next s line answers P)
+    → MatchBool b (Q s (answers ++ last ∷ [])) (Next s line (answers ++ last ∷ []) Q)
 Next-push true s line answers last P Q f h = f s answers h
 Next-push false s line [] last P Q f h = absurd h
 Next-push false s line (a ∷ answers) last P Q f (t, is, h) = (t, is, f t answers h)

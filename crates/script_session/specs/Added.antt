@@ -1,5 +1,5 @@
 -- What a script adds to the list of a desk, line by line.
-use Rattle.std.specs.Prelude.{◌≡◌, ◌⊎◌, ℕ, ◌≤◌, Bool, true, false, IsTrue, IsSome, List, [], ◌∷◌, ◌++◌, Result, Ok, Err}
+use Rattle.std.specs.Prelude.{◌≡◌, ◌⊎◌, ℕ, ◌≤◌, IsTrue, IsSome, List, [], ◌∷◌, ◌++◌, MatchBool, Result, Ok, Err}
 use Rattle.std.specs.Prelude.{IfErr}
 use Rattle.pcm_base.specs.declared.answer.Answer.{Answer}
 use Rattle.pcm_base.specs.declared.answer.Reply.{Reply}
@@ -36,18 +36,18 @@ OfLine seat (Err column) a own = (own ≡ []) × ((a.reply ≡ Refused (BadLine 
 OfLine seat (Ok command) a own =
     IsDeedOf seat command a own ⊎ ((own ≡ []) × ((a.reply ≡ Refused spent) ⊎ (a.reply ≡ Refused NoMemory)))
 
--- silent lines have none
-abbrev pub OfNext : Bool → ℕ → List ℕ → List Answer → List Deed → (List Answer → List Deed → Type 0) → Type 0
-OfNext true seat line answers own later = later answers own
-OfNext false seat line [] own later = ⊥
-OfNext false seat line (a ∷ answers) own later =
-    (one rest : List Deed) × (own ≡ one ++ rest) × OfLine seat (line_of line) a one × later answers rest
+-- the first answer is that of the first deeds, and the later answers are those of the rest
+abbrev pub OfNext : (Answer → List Deed → Type 0) → (List Answer → List Deed → Type 0) → List Answer → List Deed
+    → Type 0
+OfNext First Later [] own = ⊥
+OfNext First Later (a ∷ answers) own =
+    (one rest : List Deed) × (own ≡ one ++ rest) × First a one × Later answers rest
 
--- these are the deeds of some lines with these answers, in order
+-- these are the deeds of some lines with these answers, in order; silent lines have none
 abbrev pub OfLines : ℕ → List (List ℕ) → List Answer → List Deed → Type 0
 OfLines seat [] answers own = (answers ≡ []) × (own ≡ [])
-OfLines seat (line ∷ lines) answers own =
-    OfNext (is_silent line) seat line answers own (λ later rest. OfLines seat lines later rest)
+OfLines seat (line ∷ lines) answers own = MatchBool (is_silent line) (OfLines seat lines answers own)
+    (OfNext (OfLine seat (line_of line)) (λ later rest. OfLines seat lines later rest) answers own)
 
 -- a deed does not tell that the vault failed, or it names no sound
 abbrev pub SparesVault : Deed → Type 0

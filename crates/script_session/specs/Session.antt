@@ -1,5 +1,5 @@
 -- A session: what the lines of a script are answered.
-use Rattle.std.specs.Prelude.{◌≡◌, ◌⊎◌, ℕ, List, [], ◌∷◌, Bool, true, false, Result, Ok, Err}
+use Rattle.std.specs.Prelude.{◌≡◌, ◌⊎◌, ℕ, List, [], ◌∷◌, Bool, true, false, MatchBool, Result, Ok, Err}
 use Rattle.pcm_base.specs.declared.command.Command.{Command}
 use Rattle.pcm_base.specs.declared.refusal.Refusal.TheVariants.{BadLine, NoMemory}
 use Rattle.pcm_base.specs.declared.answer.Reply.TheVariants.{Refused}
@@ -20,16 +20,16 @@ Turn p (Ok command) r q = Enters p command r q ⊎ ((r ≡ Refused spent) × (q 
 abbrev pub Answers : Place → List ℕ → Answer → Place → Type 0
 Answers s line a t = Turn s (line_of line) a.reply t × (a.commit ≡ t.last)
 
--- a silent line has no answer, any other line the first of some answers
-abbrev pub Next : Bool → Place → List ℕ → List Answer → (Place → List Answer → Type 0) → Type 0
-Next true s line answers later = later s answers
-Next false s line [] later = ⊥
-Next false s line (a ∷ answers) later = (t : Place) × Answers s line a t × later t answers
+-- a line has the first of some answers
+abbrev pub Next : Place → List ℕ → List Answer → (Place → List Answer → Type 0) → Type 0
+Next s line [] later = ⊥
+Next s line (a ∷ answers) later = (t : Place) × Answers s line a t × later t answers
 
--- from s these lines get these answers, in order, and lead to t
+-- from s these lines get these answers, in order, and lead to t; a silent line has none
 abbrev pub Session : Place → List (List ℕ) → List Answer → Place → Type 0
 Session s [] answers t = (answers ≡ []) × (t ≡ s)
-Session s (line ∷ lines) answers t = Next (is_silent line) s line answers (λ mid later. Session mid lines later t)
+Session s (line ∷ lines) answers t = MatchBool (is_silent line) (Session s lines answers t)
+    (Next s line answers (λ mid later. Session mid lines later t))
 
 abbrev pub is_refusal : Reply → Bool
 is_refusal (Refused reason) = true
