@@ -27,6 +27,7 @@ use Rattle.studio_seats.proofs.MergeLemmas.{merged_numbers}
 use Rattle.script_session.specs.Served.{IsUndisturbed, TellsNoDevice}
 use Rattle.script_session.proofs.ServedLemmas.{sessions_serve}
 use Rattle.script_session.specs.Added.{Adds, OfLines}
+use Rattle.script_session.specs.Change.{Change, change}
 use Rattle.script_session.specs.Place.{Place, place_of}
 use Rattle.script_session.specs.Session.{Session}
 use Rattle.script_session.proofs.AddedLemmas.{sessions_add}
@@ -36,7 +37,7 @@ use Rattle.desk_session.specs.declared.told.Told.{Told}
 use Rattle.desk_session.specs.Lent.{Kinds, Lent, Outcome}
 use Rattle.desk_session.specs.Opening.{IsOpening, Opens, PinDeed, TrackDeed, WhereMade, play_calls, record_calls}
 use Rattle.desk_session.specs.Opening.{record_commits}
-use Rattle.desk_session.specs.Parts.{NewPart}
+use Rattle.desk_session.specs.Parts.{NewPart, Parted}
 use Rattle.desk_session.specs.Sat.{Sat}
 use Rattle.desk_session.specs.Sessions.{IsMadeOf, IsScripted, IsSession, place_behind}
 use Rattle.desk_session.specs.Sounds.{IsRecorded, piece_numbers}
@@ -54,12 +55,12 @@ quiet (Some (Ok pin)) c (inl (from, count, is)) = ap commits_of is
 quiet (Some (Ok pin)) c (inr is) = ap commits_of is
 quiet (Some (Err why)) c h = absurd h
 
-module _ {D V M : Type 0} (mics : source.Ghosts M) (mic mic_now : M) (first track : ℕ)
+module _ {D V M : Type 0} (mics : source.Ghosts M) (mic : Change M) (first track : ℕ)
     (v w : View (Held D V) Deed) where
   abbrev Recorded : Option (Result ℕ Refusal) → Option Kept → Type 0
   Recorded made kept = WhereMade made
-      (λ tag. IsSomeAnd kept (IsRecorded mics mic mic_now [] (pieces_by track tag w.number first w.seen)))
-      ((kept ≡ None) × (mic_now ≡ mic))
+      (λ tag. IsSomeAnd kept (IsRecorded mics mic (change [] (pieces_by track tag w.number first w.seen))))
+      ((kept ≡ None) × (mic.now ≡ mic.before))
 
   no_pieces : (fits : Call → Type 0) → ((c : Call) → fits c → ⊥) → (kept : Option Kept) (h : NewPart fits v w)
       → kept ≡ None
@@ -78,10 +79,10 @@ module _ {D V M : Type 0} (mics : source.Ghosts M) (mic mic_now : M) (first trac
 
 module _ {D V M P : Type 0} (k : Kinds D V M P) (start final : Core D) (mid : V) (lent : Lent V M P) (out : Outcome)
     (u v w : View (Held D V) Deed) (last : ℕ) (first : IsFirst u) (o : Opens start.commit_number out.opened u v)
-    (is_last : last ≡ number_after start.commit_number v.seen) (same : mid ≡ lent.vault)
+    (is_last : last ≡ number_after start.commit_number v.seen) (same : mid ≡ lent.vault.before)
     (s : Sat k
     (record { start = start; track = start.next_track; last = last; seat = v; seat_now = w })
-    (record lent { vault = mid }) out)
+    (record lent { vault = change mid lent.vault.now }) out)
     (stands : StandsFor (origin k.disk k.vaults start) final w.seen)
     (counts : (k : ℕ) → times k w.mine ≡ once_below k (length w.seen)) where
   abbrev disk : Ghosts D
@@ -97,13 +98,16 @@ module _ {D V M P : Type 0} (k : Kinds D V M P) (start final : Core D) (mid : V)
   opened = out.opened
 
   abbrev before : V
-  before = lent.vault
+  before = lent.vault.before
 
   abbrev after : V
-  after = lent.vault_now
+  after = lent.vault.now
 
   abbrev n : ℕ
   n = start.commit_number
+
+  abbrev x : Parted D V
+  x = record { seat = v; script = s.script; recorder = s.recorder; player = s.player; joined = w }
 
   is_zero : v.number ≡ 0
   is_zero = o.onward.number ∙ first.number
@@ -122,7 +126,7 @@ module _ {D V M P : Type 0} (k : Kinds D V M P) (start final : Core D) (mid : V)
   added_is = o.onward.seen ∙ ap (λ (l : List Deed). l ++ o.onward.added) first.seen
 
   all_opening : Each (λ e. by_seat v.number e ≡ true) v.seen
-  all_opening = list.all_opening n pieces reads v s.script s.recorder s.player w s.seats (quiet opened.pin) own counts
+  all_opening = list.all_opening n pieces reads x s.seats (quiet opened.pin) own counts
 
   opening_is : v.seen ≡ o.track_own ++ o.pin_own
   opening_is = sym (own_deeds (by_seat v.number) v.seen all_opening)
@@ -133,16 +137,16 @@ module _ {D V M P : Type 0} (k : Kinds D V M P) (start final : Core D) (mid : V)
       ∙ ((λ i. numbers_of (by_seat (o.onward.number i)) (number_after n (sym first.seen i)) (added_is i)) ∙ o.numbers)
 
   abbrev rest : List Deed
-  rest = list.rest n pieces reads v s.script s.recorder s.player w s.seats (quiet opened.pin) own counts
+  rest = list.rest n pieces reads x s.seats (quiet opened.pin) own counts
 
   whole : w.seen ≡ v.seen ++ rest
-  whole = list.whole n pieces reads v s.script s.recorder s.player w s.seats (quiet opened.pin) own counts
+  whole = list.whole n pieces reads x s.seats (quiet opened.pin) own counts
 
   abbrev made : IsMadeOf start.next_track opened w.seen
   made = record {
-    seats = list.seats n pieces reads v s.script s.recorder s.player w s.seats (quiet opened.pin) own counts;
+    seats = list.seats n pieces reads x s.seats (quiet opened.pin) own counts;
     script_seat = is_zero;
-    apart = list.apart n pieces reads v s.script s.recorder s.player w s.seats (quiet opened.pin) own counts;
+    apart = list.apart n pieces reads x s.seats (quiet opened.pin) own counts;
     opening = v.seen;
     rest = rest;
     split = whole;
@@ -151,18 +155,18 @@ module _ {D V M P : Type 0} (k : Kinds D V M P) (start final : Core D) (mid : V)
     opening_is = opening_is;
     track_is = subst (λ (a : ℕ). TrackDeed a opened.recording o.track_own) first.number o.track;
     pin_is = subst (λ (a : ℕ). PinDeed a opened.pin o.pin_own) first.number o.pin;
-    all = list.all_rest n pieces reads v s.script s.recorder s.player w s.seats (quiet opened.pin) own counts;
+    all = list.all_rest n pieces reads x s.seats (quiet opened.pin) own counts;
     lines = subst (λ (a : ℕ). Asks IsLine a rest) is_zero
-        (list.asks_lines n pieces reads v s.script s.recorder s.player w s.seats (quiet opened.pin) own counts);
-    pieces = list.asks_pieces n pieces reads v s.script s.recorder s.player w s.seats (quiet opened.pin) own counts;
-    reads = list.asks_reads n pieces reads v s.script s.recorder s.player w s.seats (quiet opened.pin) own counts;
+        (list.asks_lines n pieces reads x s.seats (quiet opened.pin) own counts);
+    pieces = list.asks_pieces n pieces reads x s.seats (quiet opened.pin) own counts;
+    reads = list.asks_reads n pieces reads x s.seats (quiet opened.pin) own counts;
   }
 
   abbrev p : Place
   p = place_behind n v.seen v.used_up (vaults.tells before) (vaults.holds before) (vaults.fault_count before)
 
   abbrev q : Place
-  q = place_of start s.script s.told_last told.commits (vaults.tells after) (vaults.holds after)
+  q = place_of start s.script s.ran.0 told.commits (vaults.tells after) (vaults.holds after)
       (vaults.fault_count after)
 
   begins : place_of start v last [] (vaults.tells mid) (vaults.holds mid) (vaults.fault_count mid) ≡ p
@@ -178,11 +182,11 @@ module _ {D V M P : Type 0} (k : Kinds D V M P) (start final : Core D) (mid : V)
     faults = vaults.fault_count (same i);
   }
 
-  session : Session p s.ran.lines s.ran.printed.answers q
-  session = subst (λ (z : Place). Session z s.ran.lines s.ran.printed.answers q) begins s.ran.printed.session
+  session : Session p s.ran.1.lines s.ran.1.printed.answers q
+  session = subst (λ (z : Place). Session z s.ran.1.lines s.ran.1.printed.answers q) begins s.ran.1.printed.session
 
-  adds : Adds p q s.ran.lines s.ran.printed.answers
-  adds = sessions_add s.ran.lines s.ran.printed.answers p q session
+  adds : Adds p q s.ran.1.lines s.ran.1.printed.answers
+  adds = sessions_add s.ran.1.lines s.ran.1.printed.answers p q session
 
   more_is : adds.added ≡ s.seats.by_script.added
   more_is = same_rest v.seen adds.added s.seats.by_script.added (sym adds.seen ∙ s.seats.by_script.seen)
@@ -190,32 +194,32 @@ module _ {D V M P : Type 0} (k : Kinds D V M P) (start final : Core D) (mid : V)
   own_is : deeds_of (by_seat 0) adds.added ≡ deeds_of (by_seat 0) rest
   own_is = ap (deeds_of (by_seat 0)) more_is
       ∙ subst (λ (a : ℕ). deeds_of (by_seat a) s.seats.by_script.added ≡ deeds_of (by_seat a) rest) is_zero
-      (list.script_deeds n pieces reads v s.script s.recorder s.player w s.seats (quiet opened.pin) own counts)
+      (list.script_deeds n pieces reads x s.seats (quiet opened.pin) own counts)
 
   script_numbers : told.commits ≡ numbers_of (by_seat 0) (number_after n v.seen) s.seats.by_script.added
   script_numbers = adds.numbers ∙ ap (numbers_of (by_seat 0) (number_after n v.seen)) more_is
 
-  scripted : IsScripted vaults n v.seen rest lent told
+  scripted : IsScripted vaults (record { first = n; opening = v.seen; rest = rest }) lent told
   scripted = record {
-    read = s.ran.read;
-    lines = s.ran.lines;
-    answers = s.ran.printed.answers;
-    bytes = s.ran.bytes;
-    cut = s.ran.cut;
-    written = s.ran.printed.written;
-    no = s.ran.printed.no;
+    read = s.ran.1.read;
+    lines = s.ran.1.lines;
+    answers = s.ran.1.printed.answers;
+    bytes = s.ran.1.bytes;
+    cut = s.ran.1.cut;
+    written = s.ran.1.printed.written;
+    no = s.ran.1.printed.no;
     used_up = v.used_up;
     last = q;
     session = session;
     later = s.seats.more_script;
     seen = sym whole ∙ s.seats.script_is;
     by_others = subst (λ (a : ℕ). ByOthers actor_of (a ∷ []) s.seats.more_script) is_zero
-        (list.made n pieces reads v s.script s.recorder s.player w s.seats (quiet opened.pin) own counts).script;
-    are = subst (λ (l : List Deed). OfLines 0 s.ran.lines s.ran.printed.answers l) own_is adds.own;
+        (list.made n pieces reads x s.seats (quiet opened.pin) own counts).script;
+    are = subst (λ (l : List Deed). OfLines 0 s.ran.1.lines s.ran.1.printed.answers l) own_is adds.own;
     numbers = script_numbers
         ∙ subst (λ (a : ℕ). numbers_of (by_seat a) (number_after n v.seen) s.seats.by_script.added
         ≡ numbers_of (by_seat a) (number_after n v.seen) rest) is_zero
-        (list.script_numbers n pieces reads v s.script s.recorder s.player w s.seats (quiet opened.pin) own counts
+        (list.script_numbers n pieces reads x s.seats (quiet opened.pin) own counts
         (number_after n v.seen));
     sounds = λ is. subst (λ (l : List Deed). Follows (vaults.holds before) (entries_of l) (vaults.holds after)) own_is
         (adds.sounds is);
@@ -224,25 +228,26 @@ module _ {D V M P : Type 0} (k : Kinds D V M P) (start final : Core D) (mid : V)
   numbers : Numbers n final.commit_number
       record { opening = record_commits opened.recording; script = told.commits; pieces = piece_numbers out.kept }
   numbers =
-      let merged = list.merged n pieces reads v s.script s.recorder s.player w s.seats (quiet opened.pin) own counts in
+      let merged = list.merged n pieces reads x s.seats (quiet opened.pin) own counts in
       let all = merged_numbers n w.seen _ _ merged in
       let script : numbers_of (by_seat v.number) (number_after n v.seen) s.seats.by_script.added ≡ told.commits =
       ap (λ (a : ℕ). numbers_of (by_seat a) (number_after n v.seen) s.seats.by_script.added) is_zero
       ∙ sym script_numbers in
-      let piece = pieces_are k.mics lent.mic lent.mic_now n start.next_track v s.recorder opened.recording out.kept
+      let piece = pieces_are k.mics lent.mic n start.next_track v s.recorder opened.recording out.kept
       s.seats.by_recorder s.recorded in
       subst (λ (z : ℕ × Commits). Numbers n z.0 z.1) (λ i. (
         sym stands.number i,
         record { opening = opening_numbers i; script = script i; pieces = piece i },
       )) all
 
-  served : IsUndisturbed disk vaults start final (vaults.fault_count before) (vaults.fault_count after)
+  served : IsUndisturbed (origin disk vaults start) final
+      (change (vaults.fault_count before) (vaults.fault_count after))
       → AllServed final w.seen × Each TellsNoDevice (deeds_of (by_seat 0) rest)
   served h =
       let whole_is : StandsFor (origin disk vaults start) final (q.seen ++ s.seats.more_script) =
       subst (λ (l : List Deed). StandsFor (origin disk vaults start) final l) s.seats.script_is stands in
       let fair =
-      sessions_serve disk vaults s.ran.lines s.ran.printed.answers p q start final s.seats.more_script session
+      sessions_serve disk vaults s.ran.1.lines s.ran.1.printed.answers p q start final s.seats.more_script session
       whole_is h in
       let is : fair.added ≡ s.seats.by_script.added =
       same_rest v.seen fair.added s.seats.by_script.added (sym fair.seen ∙ s.seats.by_script.seen) in
@@ -259,10 +264,10 @@ module _ {D V M P : Type 0} (k : Kinds D V M P) (start final : Core D) (mid : V)
     made = made;
     scripted = scripted;
     recorded = where_both opened.recording s.recorded
-        (λ tag h. subst (λ ps. IsSomeAnd out.kept (IsRecorded k.mics lent.mic lent.mic_now [] ps))
+        (λ tag h. subst (λ ps. IsSomeAnd out.kept (IsRecorded k.mics lent.mic (change [] ps)))
         (sym (pieces_in start.next_track tag s.recorder.number n w.seen s.recorder.seen s.seats.more_recorder
         s.seats.recorder_is
-        (list.made n pieces reads v s.script s.recorder s.player w s.seats (quiet opened.pin) own counts).recorder)) h)
+        (list.made n pieces reads x s.seats (quiet opened.pin) own counts).recorder)) h)
         (λ h. h);
     played = s.played;
     served = served;

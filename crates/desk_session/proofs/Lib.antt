@@ -9,3 +9,4 @@ pub mod SideLemmas
 pub mod SoundLemmas
 pub mod SeatLemmas
 pub mod ClosedLemmas
+pub mod LentLemmas

@@ -7,19 +7,17 @@ use Rattle.pcm_base.specs.declared.answer.Reply.{Reply}
 use Rattle.pcm_base.specs.declared.command.Call.{Call}
 use Rattle.pcm_base.specs.declared.refusal.Refusal.{Refusal}
 use Rattle.pcm_base.specs.Counters.{commits_of}
-use Rattle.pin_turn.specs.declared.view.View.{View}
 use Rattle.pin_turn.specs.Counts.{Each, once_below, times}
 use Rattle.pin_turn.specs.Rule.{ByOthers}
 use Rattle.pin_turn.proofs.Sums.{Each-left, Each-right}
 use Rattle.studio_seats.specs.declared.deed.Deed.{Deed}
-use Rattle.studio_seats.specs.declared.held.Held.{Held}
 use Rattle.studio_seats.specs.Deeds.{actor_of, commits, is_commit, number_after, raised}
 use Rattle.studio_seats.specs.Merge.{Merged, SplitsIn, any_seat, by_seat, deeds_of, number_if, numbers_of, one_if}
 use Rattle.studio_seats.specs.Onward.{Asks, IsLine, places_of}
 use Rattle.studio_seats.proofs.MergeLemmas.{deeds_append, deeds_others, numbers_append, numbers_others}
 use Rattle.studio_seats.proofs.OnwardLemmas.{asks_others, each_append}
 use Rattle.desk_session.specs.Makers.{Apart, Made, Parts, Seats, is_by}
-use Rattle.desk_session.specs.Parts.{Rejoined}
+use Rattle.desk_session.specs.Parts.{Parted, Rejoined}
 use Rattle.desk_session.proofs.PartLemmas.{parts_made, same_seat}
 
 pub same_rest : (xs a b : List Deed) → xs ++ a ≡ xs ++ b → a ≡ b
@@ -107,98 +105,99 @@ all_numbers kind n (e ∷ es) h =
     (λ i. number_if (h.0 i) (is_commit e) (raised (is_commit e) n)
     ++ all_numbers kind (raised (is_commit e) n) es h.1 i)
 
-module _ {D V : Type 0} (first : ℕ) (pieces reads : Call → Type 0) (v script recorder player w : View (Held D V) Deed)
-    (h : Rejoined pieces reads v script recorder player w) (quiet : (c : Call) → reads c → commits_of c ≡ 0)
-    (own : v.mine ≡ places_of (by_seat v.number) 0 v.seen)
-    (counts : (k : ℕ) → times k w.mine ≡ once_below k (length w.seen)) where
+module _ {D V : Type 0} (first : ℕ) (pieces reads : Call → Type 0) (x : Parted D V) (h : Rejoined pieces reads x)
+    (quiet : (c : Call) → reads c → commits_of c ≡ 0)
+    (own : x.seat.mine ≡ places_of (by_seat x.seat.number) 0 x.seat.seen)
+    (counts : (k : ℕ) → times k x.joined.mine ≡ once_below k (length x.joined.seen)) where
   abbrev pub seats : Seats
-  seats = record { script = v.number; recorder = recorder.number; player = player.number }
+  seats = record { script = x.seat.number; recorder = x.recorder.number; player = x.player.number }
 
   pub apart : Apart seats
   apart = record {
-    script_recorder = below_not v.number recorder.number h.by_recorder.above;
-    script_player = below_not v.number player.number h.by_player.above;
-    recorder_player = below_not recorder.number player.number h.apart;
+    script_recorder = below_not x.seat.number x.recorder.number h.by_recorder.above;
+    script_player = below_not x.seat.number x.player.number h.by_player.above;
+    recorder_player = below_not x.recorder.number x.player.number h.apart;
   }
 
-  abbrev parts : Parts seats w.seen
+  abbrev parts : Parts seats x.joined.seen
   parts = record {
-    script = script.seen;
+    script = x.script.seen;
     more_script = h.more_script;
     script_is = h.script_is;
-    recorder = recorder.seen;
+    recorder = x.recorder.seen;
     more_recorder = h.more_recorder;
     recorder_is = h.recorder_is;
-    player = player.seen;
+    player = x.player.seen;
     more_player = h.more_player;
     player_is = h.player_is;
-    mine = w.mine;
+    mine = x.joined.mine;
     mine_is = h.mine ∙ (λ i. (h.script_mine own i ++ h.by_player.mine i) ++ h.by_recorder.mine i);
     counts = counts;
   }
 
-  pub made : Made seats w.seen parts
-  made = parts_made seats w.seen parts apart
+  pub made : Made seats x.joined.seen parts
+  made = parts_made seats x.joined.seen parts apart
 
   abbrev pub rest : List Deed
   rest = h.by_script.added ++ h.more_script
 
-  behind : (a b c d : List Deed) → a ≡ b ++ c → w.seen ≡ a ++ d → w.seen ≡ b ++ (c ++ d)
+  behind : (a b c d : List Deed) → a ≡ b ++ c → x.joined.seen ≡ a ++ d → x.joined.seen ≡ b ++ (c ++ d)
   behind a b c d is is2 = is2 ∙ (ap (λ (l : List Deed). l ++ d) is ∙ append_assoc b c d)
 
-  pub whole : w.seen ≡ v.seen ++ rest
-  whole = behind script.seen v.seen h.by_script.added h.more_script h.by_script.seen h.script_is
+  pub whole : x.joined.seen ≡ x.seat.seen ++ rest
+  whole = behind x.script.seen x.seat.seen h.by_script.added h.more_script h.by_script.seen h.script_is
 
   recorder_rest : rest ≡ h.by_recorder.part.added ++ h.more_recorder
-  recorder_rest = same_rest v.seen rest (h.by_recorder.part.added ++ h.more_recorder) (sym whole
-      ∙ behind recorder.seen v.seen h.by_recorder.part.added h.more_recorder h.by_recorder.part.seen h.recorder_is)
+  recorder_rest = same_rest x.seat.seen rest (h.by_recorder.part.added ++ h.more_recorder) (sym whole
+      ∙ behind x.recorder.seen x.seat.seen h.by_recorder.part.added h.more_recorder h.by_recorder.part.seen
+      h.recorder_is)
 
   player_rest : rest ≡ h.by_player.part.added ++ h.more_player
-  player_rest = same_rest v.seen rest (h.by_player.part.added ++ h.more_player) (sym whole
-      ∙ behind player.seen v.seen h.by_player.part.added h.more_player h.by_player.part.seen h.player_is)
+  player_rest = same_rest x.seat.seen rest (h.by_player.part.added ++ h.more_player) (sym whole
+      ∙ behind x.player.seen x.seat.seen h.by_player.part.added h.more_player h.by_player.part.seen h.player_is)
 
   -- each deed behind the opening is by one of the seats
   pub all_rest : Each (λ e. is_by seats e ≡ true) rest
-  all_rest = Each-right (λ e. is_by seats e ≡ true) v.seen rest
+  all_rest = Each-right (λ e. is_by seats e ≡ true) x.seat.seen rest
       (subst (λ (l : List Deed). Each (λ e. is_by seats e ≡ true) l) whole made.all)
 
   -- and each of the opening by the first
-  pub all_opening : Each (λ e. by_seat v.number e ≡ true) v.seen
-  all_opening = all_first seats v.seen h.by_recorder.unseen h.by_player.unseen
-      (Each-left (λ e. is_by seats e ≡ true) v.seen rest
+  pub all_opening : Each (λ e. by_seat x.seat.number e ≡ true) x.seat.seen
+  all_opening = all_first seats x.seat.seen h.by_recorder.unseen h.by_player.unseen
+      (Each-left (λ e. is_by seats e ≡ true) x.seat.seen rest
       (subst (λ (l : List Deed). Each (λ e. is_by seats e ≡ true) l) whole made.all))
 
-  pub asks_lines : Asks IsLine v.number rest
-  asks_lines = asked_in IsLine v.number rest h.by_script.added h.more_script refl
+  pub asks_lines : Asks IsLine x.seat.number rest
+  asks_lines = asked_in IsLine x.seat.number rest h.by_script.added h.more_script refl
       (subst (λ (n : ℕ). Asks IsLine n h.by_script.added) h.script_number h.by_script.asks) made.script
 
-  pub asks_pieces : Asks pieces recorder.number rest
-  asks_pieces = asked_in pieces recorder.number rest h.by_recorder.part.added h.more_recorder recorder_rest
+  pub asks_pieces : Asks pieces x.recorder.number rest
+  asks_pieces = asked_in pieces x.recorder.number rest h.by_recorder.part.added h.more_recorder recorder_rest
       h.by_recorder.part.asks made.recorder
 
-  pub asks_reads : Asks reads player.number rest
-  asks_reads = asked_in reads player.number rest h.by_player.part.added h.more_player player_rest h.by_player.part.asks
-      made.player
+  pub asks_reads : Asks reads x.player.number rest
+  asks_reads = asked_in reads x.player.number rest h.by_player.part.added h.more_player player_rest
+      h.by_player.part.asks made.player
 
-  pub script_deeds : deeds_of (by_seat v.number) h.by_script.added ≡ deeds_of (by_seat v.number) rest
-  script_deeds = own_deeds_in v.number rest h.by_script.added h.more_script refl made.script
+  pub script_deeds : deeds_of (by_seat x.seat.number) h.by_script.added ≡ deeds_of (by_seat x.seat.number) rest
+  script_deeds = own_deeds_in x.seat.number rest h.by_script.added h.more_script refl made.script
 
   pub script_numbers : (n : ℕ)
-      → numbers_of (by_seat v.number) n h.by_script.added ≡ numbers_of (by_seat v.number) n rest
-  script_numbers n = own_numbers v.number n rest h.by_script.added h.more_script refl made.script
+      → numbers_of (by_seat x.seat.number) n h.by_script.added ≡ numbers_of (by_seat x.seat.number) n rest
+  script_numbers n = own_numbers x.seat.number n rest h.by_script.added h.more_script refl made.script
 
-  pub merged : Merged first w.seen record { script = v.number; recorder = recorder.number } record {
-    opening = numbers_of any_seat first v.seen;
-    script = numbers_of (by_seat v.number) (number_after first v.seen) h.by_script.added;
-    pieces = numbers_of (by_seat recorder.number) (number_after first v.seen) h.by_recorder.part.added;
+  pub merged : Merged first x.joined.seen record { script = x.seat.number; recorder = x.recorder.number } record {
+    opening = numbers_of any_seat first x.seat.seen;
+    script = numbers_of (by_seat x.seat.number) (number_after first x.seat.seen) h.by_script.added;
+    pieces = numbers_of (by_seat x.recorder.number) (number_after first x.seat.seen) h.by_recorder.part.added;
   }
   merged = record {
-    opening = v.seen;
+    opening = x.seat.seen;
     rest = rest;
     split = whole;
     kinds = splits seats reads quiet rest apart all_rest asks_reads;
     opening_is = refl;
-    script_is = script_numbers (number_after first v.seen);
-    pieces_is = own_numbers recorder.number (number_after first v.seen) rest h.by_recorder.part.added h.more_recorder
-        recorder_rest made.recorder;
+    script_is = script_numbers (number_after first x.seat.seen);
+    pieces_is = own_numbers x.recorder.number (number_after first x.seat.seen) rest h.by_recorder.part.added
+        h.more_recorder recorder_rest made.recorder;
   }

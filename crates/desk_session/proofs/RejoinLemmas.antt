@@ -103,7 +103,9 @@ module _ {D V : Type 0} where
 
     pub rejoined : (j w : View (Held D V) Deed) → j ≡ joined script player → w ≡ joined j recorder
         → Begins actor_of script player ⊎ Begins actor_of player script
-        → Begins actor_of j recorder ⊎ Begins actor_of recorder j → Rejoined pieces reads v script recorder player w
+        → Begins actor_of j recorder ⊎ Begins actor_of recorder j
+        → Rejoined pieces reads
+        (record { seat = v; script = script; recorder = recorder; player = player; joined = w })
     rejoined j w is is2 alike alike2 =
         let seen1 : v1.seen ≡ v.seen = ap (λ (z : View (Held D V) Deed). z.seen) kept in
         let seen2 : v2.seen ≡ v.seen = ap (λ (z : View (Held D V) Deed). z.seen) kept2 ∙ seen1 in

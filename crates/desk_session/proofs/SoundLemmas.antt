@@ -15,6 +15,7 @@ use Rattle.sound_run.specs.declared.play.Played.{Played}
 use Rattle.sound_run.specs.declared.record.Recorded.{Recorded}
 use Rattle.sound_run.specs.Played.{Plays}
 use Rattle.sound_run.specs.Recorded.{Records}
+use Rattle.script_session.specs.Change.{change}
 use Rattle.desk_session.specs.declared.told.Heard.{Heard}
 use Rattle.desk_session.specs.declared.told.Kept.{Kept}
 use Rattle.desk_session.specs.Sounds.{IsPlayed, IsRecorded}
@@ -25,7 +26,7 @@ pub recorded_of : {L M T : Type 0} (mics : source.Ghosts M) (lent : source.Ghost
     (count : (l : L) → lent.fault_count l ≡ mics.fault_count (inner l)) (m : L) (t : T) (d : Recorded L T) (k : Kept)
     → Records lent takers m t d → k.end ≡ d.end → k.numbers ≡ d.numbers → k.samples ≡ d.samples
     → k.refused ≡ d.refused
-    → IsRecorded mics (inner m) (inner d.mic) (takers.pieces t) (takers.pieces d.taker) k
+    → IsRecorded mics (change (inner m) (inner d.mic)) (change (takers.pieces t) (takers.pieces d.taker)) k
 recorded_of mics lent takers inner left count m t d k h end numbers samples refused = record {
   bytes = h.bytes;
   read = sym (left m) ∙ (h.read ∙ ap (preceded h.bytes) (left d.mic));
@@ -44,7 +45,7 @@ pub played_of : {G L P : Type 0} (speakers : sink.Ghosts P) (lent : sink.Ghosts 
     (inner : L → P) (written : (l : L) → lent.written l ≡ speakers.written (inner l))
     (count : (l : L) → lent.fault_count l ≡ speakers.fault_count (inner l)) (v : G) (s : L) (d : Played G L) (k : Heard)
     → Plays givers lent v s d → k.refused ≡ d.refused → k.frames ≡ d.frames → k.fault ≡ d.fault
-    → IsPlayed speakers (inner s) (inner d.speaker) (givers.shows v) k
+    → IsPlayed speakers (change (inner s) (inner d.speaker)) (givers.shows v) k
 played_of speakers lent givers inner written count v s d k h refused frames fault = record {
   frames = h.frames;
   first = h.first;

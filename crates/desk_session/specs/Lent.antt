@@ -1,9 +1,13 @@
 -- What a session is handed, and what it tells.
-use Rattle.std.specs.Prelude.{ℕ, List, Option}
+use Rattle.std.specs.Prelude.{◌≡◌, ℕ, List, Option}
 use Rattle.disk_model.specs.declared.store.Store.{Ghosts}
 use Rattle.edit_ports.specs.declared.sink.Sink as sink
 use Rattle.edit_ports.specs.declared.source.Source as source
 use Rattle.edit_ports.specs.declared.vault.Vault as vault
+use Rattle.script_session.specs.declared.stop.Stop.{Stop}
+use Rattle.script_session.specs.Change.{Change, change}
+use Rattle.script_session.specs.Progress.{IsCauseOf}
+use Rattle.desk_session.specs.declared.devices.Devices.{Devices}
 use Rattle.desk_session.specs.declared.opening.Opened.{Opened}
 use Rattle.desk_session.specs.declared.told.Heard.{Heard}
 use Rattle.desk_session.specs.declared.told.Kept.{Kept}
@@ -16,19 +20,42 @@ pub record Kinds (D V M P : Type 0) : Type 1 where
   pub mics : source.Ghosts M
   pub speakers : sink.Ghosts P
 
+abbrev pub kinds : {D V M P : Type 0} → Ghosts D → vault.Ghosts V → source.Ghosts M → sink.Ghosts P → Kinds D V M P
+kinds disk vaults mics speakers = record { disk = disk; vaults = vaults; mics = mics; speakers = speakers }
+
 -- What is lent to a session, before and after it: the vault, the microphone and the speaker; and where they tell them
 -- the bytes that the script has left, and those that were written of the answers.
 pub record Lent (V M P : Type 0) : Type 0 where
-  pub vault : V
-  pub vault_now : V
-  pub mic : M
-  pub mic_now : M
-  pub speaker : P
-  pub speaker_now : P
-  pub left : Option (List ℕ)
-  pub left_now : Option (List ℕ)
-  pub written : Option (List ℕ)
-  pub written_now : Option (List ℕ)
+  pub vault : Change V
+  pub mic : Change M
+  pub speaker : Change P
+  pub left : Change (Option (List ℕ))
+  pub written : Change (Option (List ℕ))
+
+-- by the devices
+abbrev pub lent_by : {V A O M P : Type 0} → source.Ghosts A → sink.Ghosts O → Change (Devices V A O M P) → Lent V M P
+lent_by sources sinks d = record {
+  vault = change d.before.vault.now d.now.vault.now;
+  mic = change d.before.mic.now d.now.mic.now;
+  speaker = change d.before.speaker.now d.now.speaker.now;
+  left = change (sources.left d.before.script.now) (sources.left d.now.script.now);
+  written = change (sinks.written d.before.out.now) (sinks.written d.now.out.now);
+}
+
+-- what stopped a script has its cause in the counts of faults of the devices
+abbrev pub IsCausedIn : {V A O M P : Type 0} → source.Ghosts A → sink.Ghosts O → Change (Devices V A O M P) → Stop
+    → Type 0
+IsCausedIn sources sinks d stop =
+    IsCauseOf stop (change (sources.fault_count d.before.script.now) (sources.fault_count d.now.script.now))
+    (change (sinks.fault_count d.before.out.now) (sinks.fault_count d.now.out.now))
+
+-- these are the devices that were lent
+abbrev pub AreSame : {V A O M P : Type 0} → Devices V A O M P → Devices V A O M P → Type 0
+AreSame lent back = (back.vault.ghost_name ≡ lent.vault.ghost_name)
+    × (back.script.ghost_name ≡ lent.script.ghost_name)
+    × (back.out.ghost_name ≡ lent.out.ghost_name)
+    × (back.mic.ghost_name ≡ lent.mic.ghost_name)
+    × (back.speaker.ghost_name ≡ lent.speaker.ghost_name)
 
 -- what a session tells: of the script, of what was opened for it, of the recording and of the playback
 pub record Outcome : Type 0 where

@@ -5,5 +5,6 @@ pub mod Opening
 pub mod Sides
 pub mod Sounds
 pub mod Lent
+pub mod Works
 pub mod Sat
 pub mod Sessions

@@ -1,5 +1,6 @@
 -- What a session does before its script: a new track for a recording, and a pin for a playback.
-use Rattle.std.specs.Prelude.{◌≡◌, ◌⊎◌, ℕ, max, List, [], ◌∷◌, ◌++◌, Option, Some, None, Result, Ok, Err}
+use Rattle.std.specs.Prelude.{◌≡◌, ◌⊎◌, ℕ, ◌≤◌, max, List, [], ◌∷◌, ◌++◌, Option, Some, None, Result, Ok, Err}
+use Rattle.std.specs.Prelude.{IsTrue}
 use Rattle.pcm_base.specs.declared.answer.Reply.{Reply}
 use Rattle.pcm_base.specs.declared.answer.Reply.TheVariants as reply
 use Rattle.pcm_base.specs.declared.command.Call.{Call}
@@ -7,13 +8,15 @@ use Rattle.pcm_base.specs.declared.command.Call.TheVariants.{Line, Pin, Unpin}
 use Rattle.pcm_base.specs.declared.command.Command.TheVariants.{Track}
 use Rattle.pcm_base.specs.declared.refusal.Refusal.{Refusal}
 use Rattle.pin_turn.specs.declared.view.View.{View}
+use Rattle.editor_core.specs.Core.{Core}
 use Rattle.editor_core.specs.Took.{silent}
 use Rattle.studio_seats.specs.declared.deed.Deed.{Deed}
 use Rattle.studio_seats.specs.declared.held.Held.{Held}
-use Rattle.studio_seats.specs.Deeds.{deed, number_after}
+use Rattle.studio_seats.specs.Deeds.{deed, entries_of, number_after}
 use Rattle.studio_seats.specs.Desks.{spent}
 use Rattle.studio_seats.specs.Merge.{by_seat, deeds_of, numbers_of}
 use Rattle.studio_seats.specs.Onward.{IsPieceOf, IsReadOf, Onward}
+use Rattle.studio_seats.specs.Pins.{is_made}
 use Rattle.desk_session.specs.declared.opening.Opened.{Opened}
 
 -- the seat's own deed of a call that was answered so; it is none where no turn was left
@@ -45,6 +48,18 @@ WhereMade (Some (Err why)) P else_ = else_
 -- a fact of what was made
 abbrev pub IfMade : {A : Type 0} → Option (Result A Refusal) → (A → Type 0) → Type 0
 IfMade made P = WhereMade made P (Unit {0})
+
+-- the number of a recording is a commit number up to this one
+abbrev pub IsTagTo : Option (Result ℕ Refusal) → ℕ → Type 0
+IsTagTo recording number = IfMade recording (λ tag. (1 ≤ tag) × (tag ≤ number))
+
+-- a pin was made by these deeds
+abbrev pub IsPinIn : Option (Result ℕ Refusal) → List Deed → Type 0
+IsPinIn pin seen = IfMade pin (λ number. IsTrue (is_made number (entries_of seen)))
+
+-- the commit number behind what a seat has seen of a desk that began so
+abbrev pub number_seen : {D V : Type 0} → Core D → View (Held D V) Deed → ℕ
+number_seen start v = number_after start.commit_number v.seen
 
 -- the commit number of a new track, which is the recording's own
 abbrev pub record_commits : Option (Result ℕ Refusal) → List ℕ

@@ -8,6 +8,15 @@ use Rattle.studio_seats.specs.declared.held.Held.{Held}
 use Rattle.studio_seats.specs.Merge.{by_seat}
 use Rattle.studio_seats.specs.Onward.{Asks, IsLine, places_of}
 
+-- What a seat knew before others were split from it; what it, the recorder's and the player's knew before they were
+-- joined; and what it knew then.
+pub record Parted (D V : Type 0) : Type 0 where
+  pub seat : View (Held D V) Deed
+  pub script : View (Held D V) Deed
+  pub recorder : View (Held D V) Deed
+  pub player : View (Held D V) Deed
+  pub joined : View (Held D V) Deed
+
 module _ {D V : Type 0} where
   -- a seat went on from what another had seen, and what it asked fits
   pub record Part (fits : Call → Type 0) (v w : View (Held D V) Deed) : Type 0 where
@@ -23,21 +32,21 @@ module _ {D V : Type 0} where
     pub mine : w.mine ≡ places_of (by_seat w.number) 0 w.seen
 
   -- The seat went on by lines, a recorder's and a player's by what fits them, and then it had seen what each had seen.
-  pub record Rejoined (pieces reads : Call → Type 0) (v script recorder player w : View (Held D V) Deed) : Type 0 where
-    pub by_script : Part IsLine v script
-    pub script_number : script.number ≡ v.number
-    pub by_recorder : NewPart pieces v recorder
-    pub by_player : NewPart reads v player
-    pub apart : recorder.number < player.number
+  pub record Rejoined (pieces reads : Call → Type 0) (x : Parted D V) : Type 0 where
+    pub by_script : Part IsLine x.seat x.script
+    pub script_number : x.script.number ≡ x.seat.number
+    pub by_recorder : NewPart pieces x.seat x.recorder
+    pub by_player : NewPart reads x.seat x.player
+    pub apart : x.recorder.number < x.player.number
     pub more_script : List Deed
-    pub script_is : w.seen ≡ script.seen ++ more_script
+    pub script_is : x.joined.seen ≡ x.script.seen ++ more_script
     pub more_recorder : List Deed
-    pub recorder_is : w.seen ≡ recorder.seen ++ more_recorder
+    pub recorder_is : x.joined.seen ≡ x.recorder.seen ++ more_recorder
     pub more_player : List Deed
-    pub player_is : w.seen ≡ player.seen ++ more_player
-    pub mine : w.mine ≡ (script.mine ++ player.mine) ++ recorder.mine
-    pub number : w.number ≡ v.number
-    pub away : w.away ≡ v.away
+    pub player_is : x.joined.seen ≡ x.player.seen ++ more_player
+    pub mine : x.joined.mine ≡ (x.script.mine ++ x.player.mine) ++ x.recorder.mine
+    pub number : x.joined.number ≡ x.seat.number
+    pub away : x.joined.away ≡ x.seat.away
     -- where the turns of the seat were those of its own deeds, they still are, before it took the others in
-    pub script_mine : v.mine ≡ places_of (by_seat v.number) 0 v.seen
-        → script.mine ≡ places_of (by_seat v.number) 0 script.seen
+    pub script_mine : x.seat.mine ≡ places_of (by_seat x.seat.number) 0 x.seat.seen
+        → x.script.mine ≡ places_of (by_seat x.seat.number) 0 x.script.seen

@@ -18,6 +18,7 @@ use Rattle.studio_seats.specs.Pieces.{pieces_by}
 use Rattle.studio_seats.specs.Shows.{IsMixOf}
 use Rattle.studio_seats.specs.Stands.{StandsFor, origin}
 use Rattle.script_session.specs.Added.{OfLines}
+use Rattle.script_session.specs.Change.{change}
 use Rattle.script_session.specs.Place.{Place}
 use Rattle.script_session.specs.Progress.{IsCut, WritesAnswers, outcome_of, says_no}
 use Rattle.script_session.specs.Served.{IsUndisturbed, TellsNoDevice}
@@ -62,31 +63,37 @@ place_behind first opening used_up tells sounds faults = record {
   faults = faults;
 }
 
+-- The commit number with which a session began, the deeds of its opening, and those behind them.
+pub record Split : Type 0 where
+  pub first : ℕ
+  pub opening : List Deed
+  pub rest : List Deed
+
 -- What a script did, of the deeds of a session: the bytes that it read are these lines, their answers were written, and
 -- the deeds of its seat are those of its lines.
-pub record IsScripted {V M P : Type 0} (vaults : vault.Ghosts V) (first : ℕ) (opening rest : List Deed)
-    (lent : Lent V M P) (told : Told) : Type 0 where
+pub record IsScripted {V M P : Type 0} (vaults : vault.Ghosts V) (deeds : Split) (lent : Lent V M P) (told : Told)
+    : Type 0 where
   pub read : List ℕ
   pub lines : List (List ℕ)
   pub answers : List Answer
-  pub bytes : lent.left ≡ preceded read lent.left_now
-  pub cut : IsCut told.stop read lines lent.left_now
-  pub written : WritesAnswers (outcome_of told.stop) lent.written lent.written_now answers
+  pub bytes : lent.left.before ≡ preceded read lent.left.now
+  pub cut : IsCut told.stop read lines lent.left.now
+  pub written : WritesAnswers (outcome_of told.stop) lent.written.before lent.written.now answers
   pub no : told.refused ≡ list_any says_no answers
   -- each answer tells the commit number behind its turn, and where it took none the one that was told last
   pub used_up : Bool
   pub last : Place
-  pub session : Session (place_behind first opening used_up (vaults.tells lent.vault)
-      (vaults.holds lent.vault) (vaults.fault_count lent.vault)) lines answers last
+  pub session : Session (place_behind deeds.first deeds.opening used_up (vaults.tells lent.vault.before)
+      (vaults.holds lent.vault.before) (vaults.fault_count lent.vault.before)) lines answers last
   -- what its seat saw at last begins the list, and behind that nothing is by it
   pub later : List Deed
-  pub seen : opening ++ rest ≡ last.seen ++ later
+  pub seen : deeds.opening ++ deeds.rest ≡ last.seen ++ later
   pub by_others : ByOthers actor_of (0 ∷ []) later
-  pub are : OfLines 0 lines answers (deeds_of (by_seat 0) rest)
-  pub numbers : told.commits ≡ numbers_of (by_seat 0) (number_after first opening) rest
+  pub are : OfLines 0 lines answers (deeds_of (by_seat 0) deeds.rest)
+  pub numbers : told.commits ≡ numbers_of (by_seat 0) (number_after deeds.first deeds.opening) deeds.rest
   -- the sounds of a vault that tells its bytes follow its deeds
-  pub sounds : IsTrue (vaults.tells lent.vault)
-      → Follows (vaults.holds lent.vault) (entries_of (deeds_of (by_seat 0) rest)) (vaults.holds lent.vault_now)
+  pub sounds : IsTrue (vaults.tells lent.vault.before) → Follows (vaults.holds lent.vault.before)
+      (entries_of (deeds_of (by_seat 0) deeds.rest)) (vaults.holds lent.vault.now)
 
 -- A session took the studio from `start` to `final`, which stands for its deeds, in one list: a run of the model.
 pub record IsSession {D V M P : Type 0} (k : Kinds D V M P) (start final : Core D) (lent : Lent V M P) (out : Outcome)
@@ -94,20 +101,21 @@ pub record IsSession {D V M P : Type 0} (k : Kinds D V M P) (start final : Core 
   pub deeds : List Deed
   pub stands : StandsFor (origin k.disk k.vaults start) final deeds
   pub made : IsMadeOf start.next_track out.opened deeds
-  pub scripted : IsScripted k.vaults start.commit_number made.opening made.rest lent out.told
+  pub scripted : IsScripted k.vaults
+      (record { first = start.commit_number; opening = made.opening; rest = made.rest }) lent out.told
   -- a recording that was asked for and has its track; else the microphone is as it was
   pub recorded : WhereMade out.opened.recording (λ tag. IsSomeAnd out.kept
-      (IsRecorded k.mics lent.mic lent.mic_now []
-      (pieces_by start.next_track tag made.seats.recorder start.commit_number deeds)))
-      ((out.kept ≡ None) × (lent.mic_now ≡ lent.mic))
+      (IsRecorded k.mics lent.mic
+      (change [] (pieces_by start.next_track tag made.seats.recorder start.commit_number deeds))))
+      ((out.kept ≡ None) × (lent.mic.now ≡ lent.mic.before))
   -- a playback that was asked for and has its pin, of the mix of the project that was current where it was made; else
   -- the speaker is as it was
   pub played : WhereMade out.opened.pin (λ pin. IsSomeAnd out.heard
-      (IsPlayed k.speakers lent.speaker lent.speaker_now (IsMixOf (origin k.disk k.vaults start) made.opening pin)))
-      ((out.heard ≡ None) × (lent.speaker_now ≡ lent.speaker))
+      (IsPlayed k.speakers lent.speaker (IsMixOf (origin k.disk k.vaults start) made.opening pin)))
+      ((out.heard ≡ None) × (lent.speaker.now ≡ lent.speaker.before))
   -- Where no device failed no deed tells of one, and the studio goes on.
-  pub served : IsUndisturbed k.disk k.vaults start final (k.vaults.fault_count lent.vault)
-      (k.vaults.fault_count lent.vault_now)
+  pub served : IsUndisturbed (origin k.disk k.vaults start) final
+      (change (k.vaults.fault_count lent.vault.before) (k.vaults.fault_count lent.vault.now))
       → AllServed final deeds × Each TellsNoDevice (deeds_of (by_seat 0) made.rest)
   -- the numbers of the new track, of the script and of the pieces are together all behind the first up to the last,
   -- each once, and each list rises

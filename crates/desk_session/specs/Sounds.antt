@@ -10,28 +10,29 @@ use Rattle.recorder_work.specs.Blocks.{mic_state}
 use Rattle.recorder_work.specs.Captured.{IsStoppedBy}
 use Rattle.recorder_work.specs.Drained.{Takes}
 use Rattle.player_work.specs.Spoken.{Writes, speaker_state}
+use Rattle.script_session.specs.Change.{Change}
 use Rattle.desk_session.specs.declared.told.Heard.{Heard}
 use Rattle.desk_session.specs.declared.told.Kept.{Kept}
 
 -- These bytes were read of the microphone, up to what stopped it; the pieces of the recording are their chunks, in
 -- order and each once, with these numbers, up to the first that was refused.
-pub record IsRecorded {M : Type 0} (mics : source.Ghosts M) (mic mic_now : M) (pieces pieces_now : List (List ℤ × ℕ))
+pub record IsRecorded {M : Type 0} (mics : source.Ghosts M) (mic : Change M) (pieces : Change (List (List ℤ × ℕ)))
     (kept : Kept) : Type 0 where
   pub bytes : List ℕ
-  pub read : mics.left mic ≡ preceded bytes (mics.left mic_now)
-  pub stopped : IsStoppedBy kept.end bytes (mic_state mics mic) (mic_state mics mic_now)
+  pub read : mics.left mic.before ≡ preceded bytes (mics.left mic.now)
+  pub stopped : IsStoppedBy kept.end bytes (mic_state mics mic.before) (mic_state mics mic.now)
   pub told : Option Refusal
-  pub takes : Takes pieces record { pieces = pieces_now; refused = told }
+  pub takes : Takes pieces.before record { pieces = pieces.now; refused = told }
       record { numbers = kept.numbers; samples = kept.samples; refused = kept.refused } (chunks_of bytes)
 
 -- The bytes of these frames were written to the speaker, or where it failed the first; the frames are the first of
 -- those that are shown, all of them where no read was refused.
-pub record IsPlayed {P : Type 0} (speakers : sink.Ghosts P) (speaker speaker_now : P) (shows : List Frame → Type 0)
+pub record IsPlayed {P : Type 0} (speakers : sink.Ghosts P) (speaker : Change P) (shows : List Frame → Type 0)
     (heard : Heard) : Type 0 where
   pub frames : List Frame
   pub first : (all : List Frame) → shows all → frames ≡ take (length frames) all
   pub whole : heard.refused ≡ None → (all : List Frame) → shows all → frames ≡ all
-  pub writes : Writes (speaker_state speakers speaker) (speaker_state speakers speaker_now)
+  pub writes : Writes (speaker_state speakers speaker.before) (speaker_state speakers speaker.now)
       record { frames = heard.frames; fault = heard.fault } frames
   pub exact : heard.frames ≡ writes.bytes / 4
 

@@ -5,12 +5,15 @@
 //! studio out. It opens no project and prints no last line.
 #![tactic(auto)]
 
+mod devices;
 mod opening;
 mod player;
 mod recorder;
 mod rings;
+mod script;
 mod seated;
 mod seats;
+mod setting;
 mod told;
 mod work;
 

@@ -1,10 +1,18 @@
 // What a session does before its script: a new track for a recording, and a pin for a playback.
-ghost use Rattle.std.specs.Prelude.{◌≡◌, ◌≤◌, [], IsTrue, Some, is_some, IfOk};
+ghost use Rattle.std.specs.Prelude.{◌≡◌, [], Some, is_some};
 ghost use Rattle.pin_turn.specs.Calls.{known};
-ghost use Rattle.studio_seats.specs.Deeds.{entries_of, number_after};
 ghost use Rattle.studio_seats.specs.Desks.{IsAt, start_at};
-ghost use Rattle.studio_seats.specs.Pins.{is_made};
-ghost use Rattle.desk_session.specs.Opening.{IfMade, Opens, OpensPart, PinDeed, TellsNumber, TrackDeed, record_commits};
+ghost use Rattle.desk_session.specs.Opening.{
+  IsPinIn,
+  IsTagTo,
+  Opens,
+  OpensPart,
+  PinDeed,
+  TellsNumber,
+  TrackDeed,
+  number_seen,
+  record_commits,
+};
 
 use disk_model::Store;
 use edit_ports::Vault;
@@ -43,8 +51,7 @@ fn open_track<R: Wait, S: Store, V: Vault>(
     ensures same { IsAt desk.now seat.new }
     ensures opens { OpensPart (start_at desk.now).commit_number (TrackDeed (known seat.old).number (Some result.what))
         (record_commits (Some result.what)) (known seat.old) (known seat.new) }
-    ensures tag { IfOk result.what (λ tag. (1 ≤ tag)
-        × (tag ≤ number_after (start_at desk.now).commit_number (known seat.new).seen)) }
+    ensures tag { IsTagTo (Some result.what) (number_seen (start_at desk.now) (known seat.new)) }
     ensures at { TellsNumber (start_at desk.now).commit_number (known seat.old) result.at (known seat.new) }
     ensures untouched { vault.new ≡ vault.old }
 {
@@ -73,13 +80,12 @@ fn open_recording<R: Wait, S: Store, V: Vault>(
     records: bool,
 ) -> (Option<Result<u64, Refusal>>, u64)
     requires at { IsAt desk.now seat.old }
-    requires last { last ≡ number_after (start_at desk.now).commit_number (known seat.old).seen }
+    requires last { last ≡ number_seen (start_at desk.now) (known seat.old) }
     ensures same { IsAt desk.now seat.new }
     ensures opens { OpensPart (start_at desk.now).commit_number (TrackDeed (known seat.old).number result.0)
         (record_commits result.0) (known seat.old) (known seat.new) }
-    ensures tag { IfMade result.0 (λ tag. (1 ≤ tag)
-        × (tag ≤ number_after (start_at desk.now).commit_number (known seat.new).seen)) }
-    ensures last { result.1 ≡ number_after (start_at desk.now).commit_number (known seat.new).seen }
+    ensures tag { IsTagTo result.0 (number_seen (start_at desk.now) (known seat.new)) }
+    ensures last { result.1 ≡ number_seen (start_at desk.now) (known seat.new) }
     ensures asked { is_some result.0 ≡ records }
     ensures untouched { vault.new ≡ vault.old }
 {
@@ -100,12 +106,12 @@ fn open_playback<R: Wait, S: Store, V: Vault>(
     plays: bool,
 ) -> (Option<Result<u64, Refusal>>, u64)
     requires at { IsAt desk.now seat.old }
-    requires last { last ≡ number_after (start_at desk.now).commit_number (known seat.old).seen }
+    requires last { last ≡ number_seen (start_at desk.now) (known seat.old) }
     ensures same { IsAt desk.now seat.new }
     ensures opens { OpensPart (start_at desk.now).commit_number (PinDeed (known seat.old).number result.0) []
         (known seat.old) (known seat.new) }
-    ensures made { IfMade result.0 (λ pin. IsTrue (is_made pin (entries_of (known seat.new).seen))) }
-    ensures last { result.1 ≡ number_after (start_at desk.now).commit_number (known seat.new).seen }
+    ensures made { IsPinIn result.0 (known seat.new).seen }
+    ensures last { result.1 ≡ number_seen (start_at desk.now) (known seat.new) }
     ensures asked { is_some result.0 ≡ plays }
 {
     if plays {
@@ -128,13 +134,12 @@ pub fn open<R: Wait, S: Store, V: Vault>(
     beside: Beside,
 ) -> (Opened, u64)
     requires at { IsAt desk.now seat.old }
-    requires last { last ≡ number_after (start_at desk.now).commit_number (known seat.old).seen }
+    requires last { last ≡ number_seen (start_at desk.now) (known seat.old) }
     ensures same { IsAt desk.now seat.new }
     ensures opens { Opens (start_at desk.now).commit_number result.0 (known seat.old) (known seat.new) }
-    ensures tag { IfMade result.0.recording (λ tag. (1 ≤ tag)
-        × (tag ≤ number_after (start_at desk.now).commit_number (known seat.new).seen)) }
-    ensures made { IfMade result.0.pin (λ pin. IsTrue (is_made pin (entries_of (known seat.new).seen))) }
-    ensures last { result.1 ≡ number_after (start_at desk.now).commit_number (known seat.new).seen }
+    ensures tag { IsTagTo result.0.recording (number_seen (start_at desk.now) (known seat.new)) }
+    ensures made { IsPinIn result.0.pin (known seat.new).seen }
+    ensures last { result.1 ≡ number_seen (start_at desk.now) (known seat.new) }
     ensures asked { (is_some result.0.recording ≡ beside.records) × (is_some result.0.pin ≡ beside.plays) }
     ensures untouched { vault.new ≡ vault.old }
 {

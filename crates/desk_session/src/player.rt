@@ -1,10 +1,8 @@
 // The player's side of a session.
-ghost use Rattle.std.specs.Prelude.{◌≡◌, IsSomeAnd, IsTrue, MatchResult, None, is_some};
+ghost use Rattle.std.specs.Prelude.{◌≡◌, IsSomeAnd, MatchResult, None, is_some};
 ghost use Rattle.pin_turn.specs.Calls.{known};
-ghost use Rattle.studio_seats.specs.Deeds.{entries_of};
 ghost use Rattle.studio_seats.specs.Desks.{IsAt};
-ghost use Rattle.studio_seats.specs.Pins.{is_made};
-ghost use Rattle.desk_session.specs.Opening.{IfMade};
+ghost use Rattle.desk_session.specs.Opening.{IsPinIn};
 ghost use Rattle.desk_session.specs.Sides.{Lends};
 
 use super::told::Heard;
@@ -24,7 +22,7 @@ pub fn lend_player<'a, 'b, S: Store, V: Vault, P: Sink>(
     pin: Option<Result<u64, Refusal>>,
 ) -> Result<Playback<DeskGiver<'a, S, V>, LentSink<'b, P>>, (DeskSeat<S, V>, &'b mut P)>
     requires at { IsAt desk.now seat }
-    requires made { IfMade pin (λ number. IsTrue (is_made number (entries_of (known seat).seen))) }
+    requires made { IsPinIn pin (known seat).seen }
     requires ring { is_some ring ≡ is_some pin }
     ensures { Lends pin
         (λ number w. (w.speaker.sink.ghost_name ≡ speaker.entry.ghost_name) × (w.speaker.sink.now ≡ speaker.old)

@@ -1,9 +1,8 @@
 // The recorder's side of a session.
-ghost use Rattle.std.specs.Prelude.{◌≡◌, ◌≤◌, IsSomeAnd, MatchResult, None, is_some};
+ghost use Rattle.std.specs.Prelude.{◌≡◌, IsSomeAnd, MatchResult, None, is_some};
 ghost use Rattle.pin_turn.specs.Calls.{known};
-ghost use Rattle.studio_seats.specs.Deeds.{number_after};
 ghost use Rattle.studio_seats.specs.Desks.{IsAt, start_at};
-ghost use Rattle.desk_session.specs.Opening.{IfMade};
+ghost use Rattle.desk_session.specs.Opening.{IsTagTo, number_seen};
 ghost use Rattle.desk_session.specs.Sides.{Lends};
 
 use super::told::Kept;
@@ -24,8 +23,7 @@ pub fn lend_recorder<'a, 'b, S: Store, V: Vault, M: Source>(
     recording: Option<Result<u64, Refusal>>,
 ) -> Result<Recording<LentSource<'b, M>, DeskTaker<'a, S, V>>, (DeskSeat<S, V>, &'b mut M)>
     requires at { IsAt desk.now seat }
-    requires tag { IfMade recording (λ tag. (1 ≤ tag)
-        × (tag ≤ number_after (start_at desk.now).commit_number (known seat).seen)) }
+    requires tag { IsTagTo recording (number_seen (start_at desk.now) (known seat)) }
     requires ring { is_some ring ≡ is_some recording }
     ensures { Lends recording
         (λ tag w. (w.mic.source.ghost_name ≡ mic.entry.ghost_name) × (w.mic.source.now ≡ mic.old)

@@ -4,17 +4,22 @@ ghost use Rattle.pin_turn.specs.Calls.{known};
 ghost use Rattle.editor_core.specs.Core.{core_of};
 ghost use Rattle.editor_core.specs.Studios.{IsStudio};
 ghost use Rattle.studio_seats.specs.Desks.{IsAt, IsFirst, start_at};
+ghost use Rattle.script_session.specs.Change.{change};
 ghost use Rattle.script_session.specs.Progress.{IsCauseOf};
+ghost use Rattle.desk_session.specs.Lent.{kinds};
 ghost use Rattle.desk_session.specs.Sessions.{IsSession};
 
+use super::devices::Devices;
 use super::opening::{Beside, Opened, open};
 use super::rings::Rings;
-use super::seats::{Rejoined, run_seats};
+use super::seats::run_seats;
+use super::setting::Setting;
 use super::told::{Heard, Kept, Told};
 use disk_model::Store;
 use edit_ports::{Gate, Sink, Source, Vault};
 use editor_core::Studio;
 use script_session::LineBuffer;
+use sound_session::take_back;
 use std::alloc::Global;
 use std::sync::Wait;
 use std::thread::Threads;
@@ -99,29 +104,18 @@ impl<S: Store, V: Vault> Seated<S, V> {
         M: Source + Send,
         P: Sink + Send,
         G: Gate + Sync,
-        ensures session { IsSession
-            (record { disk = S.Store; vaults = V.Vault; mics = M.Source; speakers = P.Sink })
+        ensures session { IsSession (kinds S.Store V.Vault M.Source P.Sink)
             (start_at self.desk) (core_of result.studio)
             (record {
-              vault = vault.old;
-              vault_now = vault.new;
-              mic = mic.old;
-              mic_now = mic.new;
-              speaker = speaker.old;
-              speaker_now = speaker.new;
-              left = A.left script.old;
-              left_now = A.left script.new;
-              written = O.written out.old;
-              written_now = O.written out.new;
+              vault = change vault.old vault.new;
+              mic = change mic.old mic.new;
+              speaker = change speaker.old speaker.new;
+              left = change (A.left script.old) (A.left script.new);
+              written = change (O.written out.old) (O.written out.new);
             })
-            (record {
-              told = result.told;
-              opened = result.opened;
-              kept = result.kept;
-              heard = result.heard;
-            }) }
-        ensures cause { IsCauseOf result.told.stop (A.fault_count script.old) (A.fault_count script.new)
-            (O.fault_count out.old) (O.fault_count out.new) }
+            (record { told = result.told; opened = result.opened; kept = result.kept; heard = result.heard }) }
+        ensures cause { IsCauseOf result.told.stop (change (A.fault_count script.old) (A.fault_count script.new))
+            (change (O.fault_count out.old) (O.fault_count out.new)) }
         ensures asked { (is_some result.opened.recording ≡ self.beside.records)
             × (is_some result.opened.pin ≡ self.beside.plays) }
         ensures track { result.track ≡ (start_at self.desk).next_track }
@@ -137,22 +131,40 @@ impl<S: Store, V: Vault> Seated<S, V> {
         } = self;
         line.clear();
         let (opened, last) = open(rt, alloc, &desk, &mut seat, vault, first, beside);
-        let Rejoined {
-            seat,
-            told,
-            kept,
-            heard,
-        } = run_seats(
-            rt, alloc, &desk, seat, opened, rings, track, line, last, vault, script, out, mic,
-            speaker, gate,
-        );
+        let setting = Setting {
+            opened,
+            rings,
+            track,
+            last,
+            line,
+        };
+        let devices = Devices {
+            vault,
+            script,
+            out,
+            mic,
+            speaker,
+        };
+        let (rejoined, devices) = run_seats(rt, alloc, &desk, seat, setting, devices, gate);
+        let Devices {
+            vault,
+            script,
+            out,
+            mic,
+            speaker,
+        } = devices;
+        take_back(vault);
+        take_back(script);
+        take_back(out);
+        take_back(mic);
+        take_back(speaker);
         Ended {
-            studio: desk.close(seat),
+            studio: desk.close(rejoined.seat),
             opened,
             track,
-            told,
-            kept,
-            heard,
+            told: rejoined.told,
+            kept: rejoined.kept,
+            heard: rejoined.heard,
         }
     }
 }

@@ -1,30 +1,29 @@
 // One seat at a desk is split in three, and joined again.
-ghost use Rattle.std.specs.Prelude.{◌≡◌, ◌≤◌, [], ℕ, IsSomeAnd, IsTrue, None, Some, is_some};
+ghost use Rattle.std.specs.Prelude.{◌≡◌, [], None, Some};
 ghost use Rattle.pcm_base.specs.declared.command.Call.TheVariants.{Unpin};
 ghost use Rattle.pin_turn.specs.Calls.{known};
-ghost use Rattle.studio_seats.specs.Deeds.{entries_of, number_after};
 ghost use Rattle.studio_seats.specs.Desks.{IsAt, start_at};
 ghost use Rattle.studio_seats.specs.Onward.{Onward};
-ghost use Rattle.studio_seats.specs.Pins.{is_made};
+ghost use Rattle.script_session.specs.Change.{change};
 ghost use Rattle.script_session.specs.Kept.{Holds};
-ghost use Rattle.script_session.specs.Progress.{IsCauseOf};
-ghost use Rattle.desk_session.specs.Opening.{IfMade, WhereMade};
+ghost use Rattle.desk_session.specs.Lent.{AreSame, IsCausedIn, kinds, lent_by};
+ghost use Rattle.desk_session.specs.Opening.{IsPinIn, IsTagTo, WhereMade, number_seen};
 ghost use Rattle.desk_session.specs.Sat.{Sat};
 
-use super::opening::Opened;
-use super::rings::Rings;
+use super::devices::Devices;
+use super::setting::Setting;
 use super::told::{Heard, Kept, Told};
 use super::work::{Seats, Worked, run_work};
 use disk_model::Store;
 use edit_ports::{Gate, Sink, Source, Vault};
 use pcm_base::Refusal;
-use script_session::LineBuffer;
 use std::alloc::Global;
 use std::sync::Wait;
 use std::thread::Threads;
 use studio_seats::{Desk, DeskSeat};
 
 /// What a session left of a seat, and what it tells.
+#[derive(Drop)]
 pub struct Rejoined<S: Store, V: Vault> {
     pub seat: DeskSeat<S, V>,
     pub told: Told,
@@ -62,9 +61,14 @@ fn let_go<R: Wait, S: Store, V: Vault>(
     }
 }
 
-/// Runs a script, and beside it a recording and a playback where they were opened, each by a seat of its own, and lets
-/// the pin go behind them.
+/// Runs a script, and beside it a recording and a playback where they were opened, each by a seat of its own, lets the
+/// pin go behind them, and hands back what was lent.
 pub fn run_seats<
+    'v,
+    'a,
+    'o,
+    'm,
+    'p,
     R: Threads + Wait + Sync,
     S: Store + Send,
     V: Vault + Send,
@@ -76,52 +80,32 @@ pub fn run_seats<
 >(
     rt: &R,
     alloc: Global,
-    desk: &Desk<S, V>,
+    desk: &'v Desk<S, V>,
     mut seat: DeskSeat<S, V>,
-    opened: Opened,
-    rings: Rings,
-    track: u64,
-    line: LineBuffer,
-    last: u64,
-    vault: &mut V,
-    script: &mut A,
-    out: &mut O,
-    mic: &mut M,
-    speaker: &mut P,
+    setting: Setting,
+    devices: Devices<'v, 'a, 'o, 'm, 'p, V, A, O, M, P>,
     gate: &G,
-) -> Rejoined<S, V>
+) -> (Rejoined<S, V>, Devices<'v, 'a, 'o, 'm, 'p, V, A, O, M, P>)
     requires at { IsAt desk.now seat }
-    requires line { Holds line [] }
-    requires last { last ≡ number_after (start_at desk.now).commit_number (known seat).seen }
-    requires tag { IfMade opened.recording (λ tag. (1 ≤ tag)
-        × (tag ≤ number_after (start_at desk.now).commit_number (known seat).seen)) }
-    requires made { IfMade opened.pin (λ pin. IsTrue (is_made pin (entries_of (known seat).seen))) }
-    requires rings { (is_some rings.record ≡ is_some opened.recording) × (is_some rings.play ≡ is_some opened.pin) }
-    ensures at { IsAt desk.now result.seat }
-    ensures sat { Sat (record { disk = S.Store; vaults = V.Vault; mics = M.Source; speakers = P.Sink })
+    requires line { Holds setting.line [] }
+    requires last { setting.last ≡ number_seen (start_at desk.now) (known seat) }
+    requires tag { IsTagTo setting.opened.recording (number_seen (start_at desk.now) (known seat)) }
+    requires made { IsPinIn setting.opened.pin (known seat).seen }
+    ensures at { IsAt desk.now result.0.seat }
+    ensures sat { Sat (kinds S.Store V.Vault M.Source P.Sink)
         (record {
           start = start_at desk.now;
-          track = track;
-          last = last;
+          track = setting.track;
+          last = setting.last;
           seat = known seat;
-          seat_now = known result.seat;
+          seat_now = known result.0.seat;
         })
-        (record {
-          vault = vault.old;
-          vault_now = vault.new;
-          mic = mic.old;
-          mic_now = mic.new;
-          speaker = speaker.old;
-          speaker_now = speaker.new;
-          left = A.left script.old;
-          left_now = A.left script.new;
-          written = O.written out.old;
-          written_now = O.written out.new;
-        })
-        (record { told = result.told; opened = opened; kept = result.kept; heard = result.heard }) }
-    ensures cause { IsCauseOf result.told.stop (A.fault_count script.old) (A.fault_count script.new)
-        (O.fault_count out.old) (O.fault_count out.new) }
+        (lent_by A.Source O.Sink (change devices.entry result.1))
+        (record { told = result.0.told; opened = setting.opened; kept = result.0.kept; heard = result.0.heard }) }
+    ensures cause { IsCausedIn A.Source O.Sink (change devices.entry result.1) result.0.told.stop }
+    ensures same { AreSame devices.entry result.1 }
 {
+    let pin = setting.opened.pin;
     let recorder = desk.split(&mut seat);
     let player = desk.split(&mut seat);
     let seats = Seats {
@@ -129,27 +113,28 @@ pub fn run_seats<
         recorder,
         player,
     };
+    let (worked, devices) = run_work(rt, alloc, desk, seats, setting, devices, gate);
     let Worked {
         seats,
         told,
         kept,
         heard,
-    } = run_work(
-        rt, alloc, desk, seats, opened, rings, track, line, last, vault, script, out, mic, speaker,
-        gate,
-    );
+    } = worked;
     let Seats {
         script: mut seat,
         recorder,
         mut player,
     } = seats;
-    let_go(rt, desk, &mut player, opened.pin);
+    let_go(rt, desk, &mut player, pin);
     desk.join(&mut seat, player);
     desk.join(&mut seat, recorder);
-    Rejoined {
-        seat,
-        told,
-        kept,
-        heard,
-    }
+    (
+        Rejoined {
+            seat,
+            told,
+            kept,
+            heard,
+        },
+        devices,
+    )
 }

@@ -8,10 +8,10 @@ use Rattle.edit_ports.specs.Told.{preceded}
 use Rattle.edit_ports.proofs.ToldLaws.{preceded-nil, preceded-preceded}
 use Rattle.script_session.specs.declared.stop.Stop.{Stop}
 use Rattle.script_session.specs.declared.stop.Stop.TheVariants as stop
+use Rattle.script_session.specs.Change.{Change, change}
 use Rattle.script_session.specs.Kept.{Kept, Holds}
 use Rattle.script_session.specs.Progress.{Cut, Going, Halted, Printed, Reading, Ended, Ran, IsCut, IsEndCut, IsCauseOf}
-use Rattle.script_session.specs.Progress.{Reached, Unread}
-use Rattle.script_session.specs.Progress.{IsSinkCauseOf}
+use Rattle.script_session.specs.Progress.{IsSinkCauseOf, Reached}
 use Rattle.script_session.proofs.CutLemmas.{Cut-ended, Cut-end, Cut-last}
 
 pub Ended-nothing : (r : Reached) (kept : Kept) (read : List ℕ) → ((part : List ℕ) → Holds kept part → part ≡ [])
@@ -45,17 +45,14 @@ Ended-fault r q kept failed read some answers g = record {
   printed = answers g.lines g.part g.holds g.printed;
 }
 
-abbrev pub unread : Option (List ℕ) → Option (List ℕ) → Unread
-unread left left_now = record { left = left; left_now = left_now }
-
 pub Reading-start : (r : Reached) (left : Option (List ℕ)) (kept : Kept) → Going r kept []
-    → Reading r (unread left left) kept 0
+    → Reading r (change left left) kept 0
 Reading-start r left kept g = record { read = []; bytes = sym (preceded-nil left); count = refl; going = g }
 
 pub Reading-more : (r q : Reached) (left mid new : Option (List ℕ)) (kept kept' : Kept) (total count : ℕ)
     (piece : List ℕ) → mid ≡ preceded piece new → length piece ≡ count
-    → ((read : List ℕ) → Going r kept read → Going q kept' (read ++ piece)) → Reading r (unread left mid) kept total
-    → Reading q (unread left new) kept' (total + count)
+    → ((read : List ℕ) → Going r kept read → Going q kept' (read ++ piece)) → Reading r (change left mid) kept total
+    → Reading q (change left new) kept' (total + count)
 Reading-more r q left mid new kept kept' total count piece moves long goes h = record {
   read = h.read ++ piece;
   bytes = h.bytes ∙ ap (preceded h.read) moves ∙ preceded-preceded new h.read piece;
@@ -64,7 +61,7 @@ Reading-more r q left mid new kept kept' total count piece moves long goes h = r
 }
 
 pub Ran-source : (r : Reached) (left mid new : Option (List ℕ)) (kept : Kept) (total : ℕ) → new ≡ mid
-    → Reading r (unread left mid) kept total → Ran stop.SourceFault r (unread left new)
+    → Reading r (change left mid) kept total → Ran stop.SourceFault r (change left new)
 Ran-source r left mid new kept total same h = record {
   read = h.read;
   lines = h.going.lines;
@@ -74,7 +71,7 @@ Ran-source r left mid new kept total same h = record {
 }
 
 pub Ran-limit : (r : Reached) (left new : Option (List ℕ)) (kept : Kept) (total : ℕ) → total ≡ 2 ^ 32
-    → Reading r (unread left new) kept total → Ran stop.Limit r (unread left new)
+    → Reading r (change left new) kept total → Ran stop.Limit r (change left new)
 Ran-limit r left new kept total full h = record {
   read = h.read;
   lines = h.going.lines;
@@ -93,7 +90,7 @@ at_end stop.OutFault read lines left l h c = c
 pub Ran-end : (stop : Stop) (r q : Reached) (left mid new : Option (List ℕ)) (kept : Kept) (total : ℕ) →
     total < 2 ^ 32 → mid ≡ preceded [] new → IsAtEnd new →
     ((read : List ℕ) → Going r kept read → Ended stop q read) →
-    Reading r (unread left mid) kept total → Ran stop q (unread left new)
+    Reading r (change left mid) kept total → Ran stop q (change left new)
 Ran-end stop r q left mid new kept total below moves last ends h =
     let e = ends h.read h.going in
     record {
@@ -107,7 +104,7 @@ Ran-end stop r q left mid new kept total below moves last ends h =
 pub Ran-out : (r q : Reached) (left mid new : Option (List ℕ)) (kept : Kept) (failed : Failed) (total : ℕ)
     (piece : List ℕ) → mid ≡ preceded piece new →
     ((read : List ℕ) → Going r kept read → Halted q failed (read ++ piece)) →
-    Reading r (unread left mid) kept total → Ran stop.OutFault q (unread left new)
+    Reading r (change left mid) kept total → Ran stop.OutFault q (change left new)
 Ran-out r q left mid new kept failed total piece moves halts h =
     let s = halts h.read h.going in
     record {
@@ -118,8 +115,9 @@ Ran-out r q left mid new kept failed total piece moves halts h =
       printed = s.printed;
     }
 
-pub end_cause : (stop : Stop) (a a' o o' : ℕ) → a' ≡ a → IsSinkCauseOf stop o o' → IsCauseOf stop a a' o o'
-end_cause stop.End a a' o o' e c = (e, c)
-end_cause stop.Limit a a' o o' e c = absurd c
-end_cause stop.SourceFault a a' o o' e c = absurd c
-end_cause stop.OutFault a a' o o' e c = (e, c.0, c.1)
+pub end_cause : (stop : Stop) (source sink : Change ℕ) → source.now ≡ source.before → IsSinkCauseOf stop sink
+    → IsCauseOf stop source sink
+end_cause stop.End source sink e c = (e, c)
+end_cause stop.Limit source sink e c = absurd c
+end_cause stop.SourceFault source sink e c = absurd c
+end_cause stop.OutFault source sink e c = (e, c.0, c.1)

@@ -19,6 +19,7 @@ use Rattle.studio_seats.specs.Merge.{by_seat, deeds_of}
 use Rattle.studio_seats.specs.Stands.{IsUnharmed, StandsFor, origin}
 use Rattle.studio_seats.proofs.FaultLemmas.{desks_serve}
 use Rattle.script_session.specs.Added.{Adds, SparesVault}
+use Rattle.script_session.specs.Change.{change}
 use Rattle.script_session.specs.Place.{Place}
 use Rattle.script_session.specs.Served.{IsOfNoDevice, IsUndisturbed, SessionsServe, TellsNoDevice}
 use Rattle.script_session.proofs.AddedLemmas.{sessions_add}
@@ -57,7 +58,8 @@ pub fair_added : {D V : Type 0} (disk : Ghosts D) (vaults : vault.Ghosts V) (lin
     (answers : List Answer) (p q : Place)
     (start now : Core D) (later : List Deed) (adds : Adds p q lines answers)
     → StandsFor (origin disk vaults start) now (q.seen ++ later)
-    → IsUndisturbed disk vaults start now p.faults q.faults → Each TellsNoDevice (deeds_of (by_seat p.seat) adds.added)
+    → IsUndisturbed (origin disk vaults start) now (change p.faults q.faults)
+    → Each TellsNoDevice (deeds_of (by_seat p.seat) adds.added)
 fair_added disk vaults lines answers p q start now later adds stands quiet =
     let all = desks_serve disk vaults start now (q.seen ++ later) stands quiet.told quiet.held quiet.going quiet.calm in
     let Served : Deed → Type 0 = λ d. IfErr d.what (IsServed d.call) in

@@ -1,4 +1,5 @@
 -- What the contracts cite, lowest first.
+pub mod Change
 pub mod Kept
 pub mod Place
 pub mod Session

@@ -12,6 +12,7 @@ use Rattle.script_text.specs.Lines.{lines_of, ended_lines}
 use Rattle.script_text.specs.Text.{text_of}
 use Rattle.script_session.specs.declared.stop.Stop.{Stop}
 use Rattle.script_session.specs.declared.stop.Stop.TheVariants as stop
+use Rattle.script_session.specs.Change.{Change}
 use Rattle.script_session.specs.Kept.{Kept, Holds}
 use Rattle.script_session.specs.Session.{Session, is_refusal}
 
@@ -30,11 +31,6 @@ pub record Reached : Type 0 where
 abbrev pub reached : Start → Place → Option (List ℕ) → Bool → Reached
 reached start place written refused =
     record { start = start; place = place; written = written; refused = refused }
-
--- what a source had left at first, and what it has left now
-pub record Unread : Type 0 where
-  pub left : Option (List ℕ)
-  pub left_now : Option (List ℕ)
 
 -- no LF
 abbrev pub HasNoLf : List ℕ → Type 0
@@ -98,25 +94,27 @@ abbrev pub outcome_of : Stop → Result (Unit {0}) Failed
 outcome_of stop.OutFault = Err (record {})
 outcome_of other = Ok tt
 
--- what a session read, and what it printed
-pub record Ran (stop : Stop) (r : Reached) (source : Unread) : Type 0 where
+-- what a session read of what a source had left, and what it printed
+pub record Ran (stop : Stop) (r : Reached) (left : Change (Option (List ℕ))) : Type 0 where
   pub read : List ℕ
   pub lines : List (List ℕ)
-  pub bytes : source.left ≡ preceded read source.left_now
-  pub cut : IsCut stop read lines source.left_now
+  pub bytes : left.before ≡ preceded read left.now
+  pub cut : IsCut stop read lines left.now
   pub printed : Printed r (outcome_of stop) lines
 
--- the counts of faults of the source and of the sink, before and after
-abbrev pub IsCauseOf : Stop → ℕ → ℕ → ℕ → ℕ → Type 0
-IsCauseOf stop.End a a' o o' = (a' ≡ a) × (o' ≡ o)
-IsCauseOf stop.Limit a a' o o' = (a' ≡ a) × (o' ≡ o)
-IsCauseOf stop.SourceFault a a' o o' = (a ≤ a') × Rose a a' × (o' ≡ o)
-IsCauseOf stop.OutFault a a' o o' = (a' ≡ a) × (o ≤ o') × Rose o o'
+-- by the counts of faults of the source and of the sink
+abbrev pub IsCauseOf : Stop → Change ℕ → Change ℕ → Type 0
+IsCauseOf stop.End source sink = (source.now ≡ source.before) × (sink.now ≡ sink.before)
+IsCauseOf stop.Limit source sink = (source.now ≡ source.before) × (sink.now ≡ sink.before)
+IsCauseOf stop.SourceFault source sink =
+    (source.before ≤ source.now) × Rose source.before source.now × (sink.now ≡ sink.before)
+IsCauseOf stop.OutFault source sink =
+    (source.now ≡ source.before) × (sink.before ≤ sink.now) × Rose sink.before sink.now
 
--- the bytes so far of a source, and how far they brought a session
-pub record Reading (r : Reached) (source : Unread) (kept : Kept) (total : ℕ) : Type 0 where
+-- the bytes so far of what a source had left, and how far they brought a session
+pub record Reading (r : Reached) (left : Change (Option (List ℕ))) (kept : Kept) (total : ℕ) : Type 0 where
   pub read : List ℕ
-  pub bytes : source.left ≡ preceded read source.left_now
+  pub bytes : left.before ≡ preceded read left.now
   pub count : length read ≡ total
   pub going : Going r kept read
 
@@ -131,7 +129,7 @@ pub record Ended (stop : Stop) (r : Reached) (read : List ℕ) : Type 0 where
   pub cut : IsEndCut stop read lines
   pub printed : Printed r (outcome_of stop) lines
 
-abbrev pub IsSinkCauseOf : Stop → ℕ → ℕ → Type 0
-IsSinkCauseOf stop.OutFault o o' = (o ≤ o') × Rose o o'
-IsSinkCauseOf stop.End o o' = o' ≡ o
-IsSinkCauseOf other o o' = ⊥
+abbrev pub IsSinkCauseOf : Stop → Change ℕ → Type 0
+IsSinkCauseOf stop.OutFault sink = (sink.before ≤ sink.now) × Rose sink.before sink.now
+IsSinkCauseOf stop.End sink = sink.now ≡ sink.before
+IsSinkCauseOf other sink = ⊥

@@ -1,6 +1,7 @@
 // The bytes of a script.
 ghost use Rattle.std.specs.Prelude.{◌≡◌, ◌∷◌, [], ◌++◌, Ok, Err, List, ℕ, MatchResult};
 ghost use Rattle.pcm_base.specs.Causes.{HasCause};
+ghost use Rattle.script_session.specs.Change.{change};
 ghost use Rattle.script_session.specs.Kept.{Holds};
 ghost use Rattle.script_session.specs.Progress.{HasNoLf, Going, Halted, Ran, Ended, IsCauseOf, IsSinkCauseOf, Start};
 ghost use Rattle.script_session.specs.Progress.{reached};
@@ -82,7 +83,7 @@ fn end_script<R: Wait, E: Editor, O: Sink, G: Gate>(
         Going (reached start (E.place session.old.editor) (O.written out.old) session.old.refused)
         session.old.line read →
         Ended result (reached start (E.place session.new.editor) (O.written out.new) session.new.refused) read }
-    ensures cause { IsSinkCauseOf result (O.fault_count out.old) (O.fault_count out.new) }
+    ensures cause { IsSinkCauseOf result (change (O.fault_count out.old) (O.fault_count out.new)) }
     ensures follows { (first : E) → E.follows first session.old.editor → E.follows first session.new.editor }
 {
     if session.line.is_empty() {
@@ -106,9 +107,9 @@ pub fn read_script<R: Wait, E: Editor, A: Source, O: Sink, G: Gate>(
     ensures ran { (start : Start) →
         Going (reached start (E.place session.old.editor) (O.written out.old) session.old.refused) session.old.line [] →
         Ran result (reached start (E.place session.new.editor) (O.written out.new) session.new.refused)
-        (record { left = A.left script.old; left_now = A.left script.new }) }
-    ensures cause { IsCauseOf result (A.fault_count script.old) (A.fault_count script.new)
-        (O.fault_count out.old) (O.fault_count out.new) }
+        (change (A.left script.old) (A.left script.new)) }
+    ensures cause { IsCauseOf result (change (A.fault_count script.old) (A.fault_count script.new))
+        (change (O.fault_count out.old) (O.fault_count out.new)) }
     ensures follows { (first : E) → E.follows first session.old.editor → E.follows first session.new.editor }
 {
     let mut buffer = [0u8; 16384];

@@ -4,10 +4,12 @@ use Rattle.std.proofs.lemmas.List.{take_all}
 use Rattle.pcm_base.specs.declared.failed.Failed.{Failed}
 use Rattle.pcm_base.specs.Causes.{HasCause}
 use Rattle.edit_ports.specs.Told.{grown, Writes}
+use Rattle.script_session.specs.Change.{change}
 use Rattle.session_run.specs.Streams.{PrintsFrom}
 
 pub prints : (r : Result (Unit {0}) Failed) (count count_now : ℕ) (old new : Option (List ℕ)) (text : List ℕ)
-    → HasCause count count_now r → Writes r old new text → PrintsFrom count count_now old new text
+    → HasCause count count_now r → Writes r old new text
+    → PrintsFrom (record { written = change old new; faults = change count count_now }) text
 prints (Ok u) count count_now old new text c w =
     ((length text, omega arith, w ∙ ap (grown old) (sym (take_all (length text) text (omega arith)))), λ quiet. w)
 prints (Err failed) count count_now old new text c (n, within, is) =

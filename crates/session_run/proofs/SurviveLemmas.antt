@@ -10,6 +10,7 @@ use Rattle.editor_recovery.specs.Honest.{IsHonest}
 use Rattle.studio_seats.specs.declared.deed.Deed.{Deed}
 use Rattle.studio_seats.specs.Deeds.{entries_of}
 use Rattle.studio_seats.specs.Stands.{AllTell, StandsFor, origin}
+use Rattle.script_session.specs.Change.{change}
 use Rattle.desk_session.specs.Lent.{Kinds}
 use Rattle.session_run.specs.Opening.{OpensTo}
 use Rattle.session_run.specs.Runs.{RunsSurvive, Survives}
@@ -35,7 +36,7 @@ module _ {D V : Type 0} (disk : Ghosts D) (vaults : vault.Ghosts V) (store : D) 
       inr (stands.any_moment told opens.fresh.stopped held c y))
       (stands.others.images.added (disk.clock store) c opens.looks.changed.images.later h)
 
-  pub survives : Survives disk vaults store start final deeds
+  pub survives : Survives disk store (change start final) deeds
   survives = record {
     any_moment = any_moment;
     going = λ going. stands.going told going held;
@@ -43,5 +44,5 @@ module _ {D V : Type 0} (disk : Ghosts D) (vaults : vault.Ghosts V) (store : D) 
   }
 
 pub runs_survive : {D V M P : Type 0} (k : Kinds D V M P) → RunsSurvive k
-runs_survive {D} {V} {M} {P} k store start final p beside opens ran honest told =
-    survives k.disk k.vaults store start final ran.session.deeds opens ran.session.stands honest told
+runs_survive {D} {V} {M} {P} k store core j opens ran honest told =
+    survives k.disk k.vaults store core.before core.now ran.session.deeds opens ran.session.stands honest told

@@ -5,9 +5,10 @@ use Rattle.editor_core.specs.Core.{Core}
 use Rattle.desk_session.specs.Lent.{Kinds}
 use Rattle.memory_project.specs.Fresh.{IsFresh}
 use Rattle.memory_project.specs.declared.fresh.FreshProject.{FreshProject}
+use Rattle.script_session.specs.Change.{change}
 use Rattle.script_text.specs.declared.call_fault.CallFault.TheVariants as call
 use Rattle.session_run.specs.declared.ending.Done.{Done}
-use Rattle.session_run.specs.Ports.{Idle, Ports}
+use Rattle.session_run.specs.Ports.{Idle, Ports, SameVault, job}
 use Rattle.session_run.specs.Refused.{IsRefused}
 use Rattle.session_run.specs.Runs.{RunsOpened, RunsTo, Wants}
 use Rattle.session_run.specs.Streams.{Unread}
@@ -37,7 +38,7 @@ module _ {D V M P C : Type 0} (k : Kinds D V M P) (start : Core D) (p : Ports V 
   }
 
   ran : (final : Core D) → status ≡ (if nat_lt 0 (faults_of disk final) then 4 else done.status)
-      → RunsTo k start final p nothing done.status done → Tried k p given
+      → RunsTo k (change start final) (job p nothing) done → Tried k p given
   ran final is r = record {
     start = start;
     final = final;
@@ -80,11 +81,11 @@ module _ {D V M P C : Type 0} (k : Kinds D V M P) (start : Core D) (p : Ports V 
         };
       }
 
-  pub tried : (opened : RunsOpened k start p nothing done)
+  pub tried : (opened : RunsOpened k start (job p nothing) done)
       → status ≡ (if nat_lt 0 (faults_of disk opened.0) then 4 else done.status)
       → Tried k p given
-      ⊎ (IsRefused call.NoMemory p.streams given × Unread p.streams × Idle p × (p.vault_now ≡ p.vault))
+      ⊎ (IsRefused call.NoMemory p.streams given × Unread p.streams × Idle p × SameVault p)
   tried opened is = ⊎_elim
-      (λ (r : RunsTo k start opened.0 p nothing done.status done). inl (ran opened.0 is r))
+      (λ (r : RunsTo k (change start opened.0) (job p nothing) done). inl (ran opened.0 is r))
       (λ (w : Wants start opened.0 p done). inr (wants opened.0 is w, w.unread, w.idle, w.same.1))
       opened.2

@@ -10,12 +10,12 @@ use Rattle.call_words.specs.Words.{is_new, words_of}
 use Rattle.call_words.specs.Texts.{Text}
 use Rattle.script_text.specs.declared.call_fault.CallFault.{CallFault}
 use Rattle.script_text.specs.declared.call_fault.CallFault.TheVariants as call
-use Rattle.desk_session.specs.Lent.{Kinds}
+use Rattle.desk_session.specs.Lent.{Kinds, kinds}
 use Rattle.session_run.specs.declared.counts.FaultCounts.{FaultCounts}
 use Rattle.session_run.specs.declared.ending.Done.{Done}
 use Rattle.session_run.specs.declared.ending.Ending.{Ending}
 use Rattle.session_run.specs.Generates.{Generates}
-use Rattle.session_run.specs.Ports.{Idle, Ports}
+use Rattle.session_run.specs.Ports.{Handed, Idle, Ports, SameVault, job}
 use Rattle.session_run.specs.Projects.{Checks, Lists, Makes}
 use Rattle.session_run.specs.Refused.{IsRefused}
 use Rattle.session_run.specs.Runs.{Runs}
@@ -28,27 +28,35 @@ Turns fault store s done = IsRefused fault s done × (done.store ≡ store)
 
 -- the script is not read, microphone, speaker and vault are as they were
 abbrev pub LeavesRest : {V M P : Type 0} → Ports V M P → Type 0
-LeavesRest p = Unread p.streams × Idle p × (p.vault_now ≡ p.vault)
+LeavesRest p = Unread p.streams × Idle p × SameVault p
 
--- What is done for the words, where `ram` is the disk in memory.
-abbrev pub DoesWords : {R D V M P : Type 0} → Ghosts R → Kinds D V M P → Option Words → D → Ports V M P → Done D
-    → Type 0
-DoesWords ram k None store p done = Turns call.Usage store p.streams done × LeavesRest p
-DoesWords ram k (Some (words.New project)) store p done =
-    Makes k.disk project store p.streams done × LeavesRest p
-DoesWords ram k (Some (words.Run records plays)) store p done =
-    Runs k store p (record { records = records; plays = plays }) done
-DoesWords ram k (Some words.Try) store p done =
-    Tries (record { disk = ram; vaults = k.vaults; mics = k.mics; speakers = k.speakers }) store p done
-DoesWords ram k (Some words.List) store p done = Lists k.disk store p.streams done × LeavesRest p
-DoesWords ram k (Some words.Check) store p done = Checks k.disk store p.streams done × LeavesRest p
-DoesWords ram k (Some (words.Gen number lines)) store p done =
-    Generates ram number lines store p.streams done × LeavesRest p
+-- what the types tell of their objects, that of the disk in memory among them
+pub record World (R D V M P : Type 0) : Type 1 where
+  pub ram : Ghosts R
+  pub kinds : Kinds D V M P
+
+-- those of a script on the disk in memory
+abbrev pub in_memory : {R D V M P : Type 0} → World R D V M P → Kinds R V M P
+in_memory w = kinds w.ram w.kinds.vaults w.kinds.mics w.kinds.speakers
+
+-- What is done for the words.
+abbrev pub DoesWords : {R D V M P : Type 0} → World R D V M P → Option Words → Handed D V M P → Done D → Type 0
+DoesWords w None h done = Turns call.Usage h.store h.ports.streams done × LeavesRest h.ports
+DoesWords w (Some (words.New project)) h done =
+    Makes w.kinds.disk project h.store h.ports.streams done × LeavesRest h.ports
+DoesWords w (Some (words.Run records plays)) h done =
+    Runs w.kinds h.store (job h.ports (record { records = records; plays = plays })) done
+DoesWords w (Some words.Try) h done = Tries (in_memory w) h.store h.ports done
+DoesWords w (Some words.List) h done = Lists w.kinds.disk h.store h.ports.streams done × LeavesRest h.ports
+DoesWords w (Some words.Check) h done = Checks w.kinds.disk h.store h.ports.streams done × LeavesRest h.ports
+DoesWords w (Some (words.Gen number lines)) h done =
+    Generates w.ram (record { number = number; lines = lines }) h.ports.streams done × (done.store ≡ h.store)
+    × LeavesRest h.ports
 
 -- The same, or there was no memory to read the options of a new project.
-abbrev pub Does : {R D V M P : Type 0} → Ghosts R → Kinds D V M P → List Text → D → Ports V M P → Done D → Type 0
-Does ram k texts store p done = DoesWords ram k (words_of texts) store p done
-    ⊎ (IsTrue (is_new texts) × Turns call.NoMemory store p.streams done × LeavesRest p)
+abbrev pub Does : {R D V M P : Type 0} → World R D V M P → List Text → Handed D V M P → Done D → Type 0
+Does w texts h done = DoesWords w (words_of texts) h done
+    ⊎ (IsTrue (is_new texts) × Turns call.NoMemory h.store h.ports.streams done × LeavesRest h.ports)
 
 -- the counts of faults of all devices
 abbrev pub counts : {A O D V M P : Type 0} → source.Ghosts A → sink.Ghosts O → Kinds D V M P → A → O → D → V → M → P

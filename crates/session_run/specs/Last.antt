@@ -14,7 +14,7 @@ use Rattle.script_text.specs.declared.last.RecordEnd.TheVariants as rec
 use Rattle.script_text.specs.declared.last.RecordLine.{RecordLine}
 use Rattle.desk_session.specs.declared.told.Heard.{Heard}
 use Rattle.desk_session.specs.declared.told.Kept.{Kept}
-use Rattle.session_run.specs.Streams.{PrintsFrom}
+use Rattle.session_run.specs.Streams.{Output, PrintsFrom}
 
 abbrev pub mic_end : MicEnd → RecordEnd
 mic_end mic.End = rec.Whole
@@ -97,11 +97,11 @@ status_of stop.SourceFault fault refused = 4
 status_of stop.OutFault fault refused = 4
 
 -- behind the answers the last lines were written; after a fault of the output nothing more is
-abbrev pub WritesEnd : Stop → ℕ → ℕ → Option (List ℕ) → Option (List ℕ) → List ℕ → Type 0
-WritesEnd stop.End count count_now mid new text = PrintsFrom count count_now mid new text
-WritesEnd stop.Limit count count_now mid new text = PrintsFrom count count_now mid new text
-WritesEnd stop.SourceFault count count_now mid new text = PrintsFrom count count_now mid new text
-WritesEnd stop.OutFault count count_now mid new text = new ≡ mid
+abbrev pub WritesEnd : Stop → Output → List ℕ → Type 0
+WritesEnd stop.End sink text = PrintsFrom sink text
+WritesEnd stop.Limit sink text = PrintsFrom sink text
+WritesEnd stop.SourceFault sink text = PrintsFrom sink text
+WritesEnd stop.OutFault sink text = sink.written.now ≡ sink.written.before
 
 -- the commit number of the recording's track
 abbrev pub record_commit : Option (Result ℕ Refusal) → Option ℕ

@@ -1,33 +1,44 @@
--- What a call is handed besides its store.
+-- What a call is handed.
 use Rattle.std.specs.Prelude.{◌≡◌, ℕ, List, Option}
+use Rattle.script_session.specs.Change.{Change, change}
+use Rattle.desk_session.specs.declared.opening.Beside.{Beside}
 use Rattle.desk_session.specs.Lent.{Lent}
 use Rattle.session_run.specs.Streams.{Streams}
 
--- Before and after: the vault, the microphone, the speaker and the streams.
+-- Besides its store, before and after: the vault, the microphone, the speaker and the streams.
 pub record Ports (V M P : Type 0) : Type 0 where
-  pub vault : V
-  pub vault_now : V
-  pub mic : M
-  pub mic_now : M
-  pub speaker : P
-  pub speaker_now : P
+  pub vault : Change V
+  pub mic : Change M
+  pub speaker : Change P
   pub streams : Streams
+
+-- the store as it is handed in, and the rest
+pub record Handed (D V M P : Type 0) : Type 0 where
+  pub store : D
+  pub ports : Ports V M P
+
+-- with what a script is run, and what is asked for beside it
+pub record Job (V M P : Type 0) : Type 0 where
+  pub ports : Ports V M P
+  pub beside : Beside
+
+abbrev pub job : {V M P : Type 0} → Ports V M P → Beside → Job V M P
+job ports beside = record { ports = ports; beside = beside }
 
 -- what a session is lent of them, where so much is written when it ends
 abbrev pub lent_of : {V M P : Type 0} → Ports V M P → Option (List ℕ) → Lent V M P
 lent_of p written_now = record {
   vault = p.vault;
-  vault_now = p.vault_now;
   mic = p.mic;
-  mic_now = p.mic_now;
   speaker = p.speaker;
-  speaker_now = p.speaker_now;
-  left = p.streams.left;
-  left_now = p.streams.left_now;
-  written = p.streams.written;
-  written_now = written_now;
+  left = p.streams.source.left;
+  written = change p.streams.sink.written.before written_now;
 }
 
 -- microphone and speaker are as they were
 abbrev pub Idle : {V M P : Type 0} → Ports V M P → Type 0
-Idle p = (p.mic_now ≡ p.mic) × (p.speaker_now ≡ p.speaker)
+Idle p = (p.mic.now ≡ p.mic.before) × (p.speaker.now ≡ p.speaker.before)
+
+-- and so is the vault
+abbrev pub SameVault : {V M P : Type 0} → Ports V M P → Type 0
+SameVault p = p.vault.now ≡ p.vault.before

@@ -1,7 +1,6 @@
 -- A script on the project of a store, and beside it a recording and a playback.
 use Rattle.std.specs.Prelude.{◌≡◌, ◌⊎◌, ℕ, ◌||◌, true, List, Option, Err, IsSome, None, is_some}
 use Rattle.disk_model.specs.declared.store.Store.{Ghosts}
-use Rattle.edit_ports.specs.declared.vault.Vault as vault
 use Rattle.editor_core.specs.Core.{Core}
 use Rattle.editor_core.specs.Events.{KeepsPrefix}
 use Rattle.editor_core.specs.Studios.{shown, studio_of}
@@ -14,8 +13,8 @@ use Rattle.script_text.specs.Last.{last_text}
 use Rattle.studio_seats.specs.declared.deed.Deed.{Deed}
 use Rattle.studio_seats.specs.Deeds.{entries_of}
 use Rattle.studio_seats.specs.Stands.{AllTell, StopsInFlight}
+use Rattle.script_session.specs.Change.{Change, change}
 use Rattle.script_session.specs.Progress.{IsCauseOf}
-use Rattle.desk_session.specs.declared.opening.Beside.{Beside}
 use Rattle.desk_session.specs.Lent.{Kinds, Outcome}
 use Rattle.desk_session.specs.Sessions.{IsSession}
 use Rattle.desk_session.specs.Sounds.{piece_numbers}
@@ -23,35 +22,38 @@ use Rattle.session_run.specs.declared.ending.Done.{Done}
 use Rattle.session_run.specs.Last.{WritesEnd, mic_failed, play_line, play_refused, record_commit, record_line}
 use Rattle.session_run.specs.Last.{record_refused, speaker_failed, status_of}
 use Rattle.session_run.specs.Opening.{Looks, OpensTo}
-use Rattle.session_run.specs.Ports.{Idle, Ports, lent_of}
+use Rattle.session_run.specs.Ports.{Idle, Job, Ports, SameVault, lent_of}
 use Rattle.session_run.specs.Refused.{IsRefused, call_fault_of}
 use Rattle.session_run.specs.Streams.{Unread}
 
 -- A session took a studio from `start` to `final`: a script, and beside it what was asked for. Its answers and the last
 -- lines were written.
-pub record RunsOn {D V M P : Type 0} (k : Kinds D V M P) (start final : Core D) (p : Ports V M P) (beside : Beside)
-    : Type 0 where
+pub record RunsOn {D V M P : Type 0} (k : Kinds D V M P) (core : Change (Core D)) (j : Job V M P) : Type 0 where
   pub out : Outcome
   -- what the sink had before the last lines, and its count of faults
   pub mid : Option (List ℕ)
   pub faults : ℕ
-  pub session : IsSession k start final (lent_of p mid) out
-  pub asked : (is_some out.opened.recording ≡ beside.records) × (is_some out.opened.pin ≡ beside.plays)
-  pub cause : IsCauseOf out.told.stop p.streams.source_faults p.streams.source_faults_now p.streams.sink_faults faults
-  pub ended : WritesEnd out.told.stop faults p.streams.sink_faults_now mid p.streams.written_now (last_text
-      (record_line start.next_track out.opened.recording out.kept) (play_line out.opened.pin out.heard)
-      final.commit_number)
+  pub session : IsSession k core.before core.now (lent_of j.ports mid) out
+  pub asked : (is_some out.opened.recording ≡ j.beside.records) × (is_some out.opened.pin ≡ j.beside.plays)
+  pub cause : IsCauseOf out.told.stop j.ports.streams.source.faults (change j.ports.streams.sink.faults.before faults)
+  pub ended : WritesEnd out.told.stop (record {
+    written = change mid j.ports.streams.sink.written.now;
+    faults = change faults j.ports.streams.sink.faults.now;
+  }) (last_text
+      (record_line core.before.next_track out.opened.recording out.kept) (play_line out.opened.pin out.heard)
+      core.now.commit_number)
 
--- What such a session leaves, and its status before the faults of a disk in memory are counted.
-pub record RunsTo {D V M P C : Type 0} (k : Kinds D V M P) (start final : Core D) (p : Ports V M P) (beside : Beside)
-    (status : ℕ) (done : Done C) : Type 0 where
-  pub ran : RunsOn k start final p beside
-  pub status_is : status ≡ status_of ran.out.told.stop (mic_failed ran.out.kept || speaker_failed ran.out.heard)
-      (ran.out.told.refused || (record_refused (record_line start.next_track ran.out.opened.recording ran.out.kept)
+-- What such a session leaves, with its status before the faults of a disk in memory are counted.
+pub record RunsTo {D V M P C : Type 0} (k : Kinds D V M P) (core : Change (Core D)) (j : Job V M P) (done : Done C)
+    : Type 0 where
+  pub ran : RunsOn k core j
+  pub status_is : done.status ≡ status_of ran.out.told.stop (mic_failed ran.out.kept || speaker_failed ran.out.heard)
+      (ran.out.told.refused
+      || (record_refused (record_line core.before.next_track ran.out.opened.recording ran.out.kept)
       || play_refused (play_line ran.out.opened.pin ran.out.heard)))
   pub opened : done.opened ≡ true
-  pub first : done.first_commit ≡ start.commit_number
-  pub last : done.last_commit ≡ final.commit_number
+  pub first : done.first_commit ≡ core.before.commit_number
+  pub last : done.last_commit ≡ core.now.commit_number
   pub record_is : done.record_commit ≡ record_commit ran.out.opened.recording
   pub commits : done.commits ≡ ran.out.told.commits
   pub pieces : done.pieces ≡ piece_numbers ran.out.kept
@@ -61,33 +63,35 @@ pub record Wants {D V M P C : Type 0} (start final : Core D) (p : Ports V M P) (
   pub refused : IsRefused call.NoMemory p.streams done
   pub unread : Unread p.streams
   pub idle : Idle p
-  pub same : (final ≡ start) × (p.vault_now ≡ p.vault)
+  pub same : (final ≡ start) × SameVault p
 
 -- The word `run` on a project that was opened.
-abbrev pub RunsOpened : {D V M P : Type 0} → Kinds D V M P → Core D → Ports V M P → Beside → Done D → Type 0
-RunsOpened {D} k start p beside done = (final : Core D) × (done.store ≡ final.store)
-    × (RunsTo k start final p beside done.status done ⊎ Wants start final p done)
+abbrev pub RunsOpened : {D V M P : Type 0} → Kinds D V M P → Core D → Job V M P → Done D → Type 0
+RunsOpened {D} k start j done = (final : Core D) × (done.store ≡ final.store)
+    × (RunsTo k (change start final) j done ⊎ Wants start final j.ports done)
 
 -- The word `run`: the project is opened and a session is run on it, or it is refused.
-abbrev pub Runs : {D V M P : Type 0} → Kinds D V M P → D → Ports V M P → Beside → Done D → Type 0
-Runs {D} k store p beside done = ((start : Core D) × OpensTo k.disk store start × RunsOpened k start p beside done)
+abbrev pub Runs : {D V M P : Type 0} → Kinds D V M P → D → Job V M P → Done D → Type 0
+Runs {D} k store j done = ((start : Core D) × OpensTo k.disk store start × RunsOpened k start j done)
     ⊎ ((fault : OpenFault) × Looks k.disk store done.store (Err fault)
-    × IsRefused (call_fault_of fault) p.streams done × Unread p.streams × Idle p × (p.vault_now ≡ p.vault))
+    × IsRefused (call_fault_of fault) j.ports.streams done × Unread j.ports.streams × Idle j.ports
+    × SameVault j.ports)
 
 -- What a stop may leave of a script that ran on a project of a disk that was honest, where vaults tell their bytes. At
 -- any moment each image, but one that the store could already leave, has the project behind some of the first deeds,
 -- the one in flight counted last. At the end it has that behind all of them; where one of them stopped the studio, that
 -- one may be in flight.
-pub record Survives {D V : Type 0} (disk : Ghosts D) (vaults : vault.Ghosts V) (store : D) (start final : Core D)
-    (deeds : List Deed) : Type 0 where
-  pub any_moment : EachSince disk store final.store (λ c. disk.may_leave store (disk.clock store) c
-      ⊎ KeepsPrefix (studio_of disk start) (entries_of deeds) c)
-  pub going : final.stopped ≡ None → EachNow disk final.store (λ c. Keeps c (shown (studio_of disk final)))
-  pub stopped : IsSome final.stopped → EachNow disk final.store (λ c.
-      Keeps c (shown (studio_of disk final)) ⊎ StopsInFlight (studio_of disk start) (entries_of deeds) c)
+pub record Survives {D : Type 0} (disk : Ghosts D) (store : D) (core : Change (Core D)) (deeds : List Deed)
+    : Type 0 where
+  pub any_moment : EachSince disk store core.now.store (λ c. disk.may_leave store (disk.clock store) c
+      ⊎ KeepsPrefix (studio_of disk core.before) (entries_of deeds) c)
+  pub going : core.now.stopped ≡ None
+      → EachNow disk core.now.store (λ c. Keeps c (shown (studio_of disk core.now)))
+  pub stopped : IsSome core.now.stopped → EachNow disk core.now.store (λ c.
+      Keeps c (shown (studio_of disk core.now)) ⊎ StopsInFlight (studio_of disk core.before) (entries_of deeds) c)
 
 -- It is so of each run.
 abbrev pub RunsSurvive : {D V M P : Type 0} → Kinds D V M P → Type 0
-RunsSurvive {D} {V} {M} {P} k = (store : D) (start final : Core D) (p : Ports V M P) (beside : Beside)
-    → OpensTo k.disk store start → (ran : RunsOn k start final p beside) → IsHonest k.disk store → AllTell k.vaults
-    → Survives k.disk k.vaults store start final ran.session.deeds
+RunsSurvive {D} {V} {M} {P} k = (store : D) (core : Change (Core D)) (j : Job V M P)
+    → OpensTo k.disk store core.before → (ran : RunsOn k core j) → IsHonest k.disk store → AllTell k.vaults
+    → Survives k.disk store core ran.session.deeds

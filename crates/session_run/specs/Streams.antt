@@ -4,50 +4,52 @@ use Rattle.pcm_base.specs.Causes.{Rose}
 use Rattle.edit_ports.specs.Told.{grown}
 use Rattle.edit_ports.specs.declared.sink.Sink as sink
 use Rattle.edit_ports.specs.declared.source.Source as source
+use Rattle.script_session.specs.Change.{Change, change}
 
--- Before and after: the bytes that the source has left and those that the sink has, where they tell them, and their
--- counts of faults.
+-- the bytes that a source has left, where it tells them, and its count of faults
+pub record Input : Type 0 where
+  pub left : Change (Option (List ℕ))
+  pub faults : Change ℕ
+
+-- the bytes that a sink has, where it tells them, and its count of faults
+pub record Output : Type 0 where
+  pub written : Change (Option (List ℕ))
+  pub faults : Change ℕ
+
+-- the source of the script and the sink of the answers
 pub record Streams : Type 0 where
-  pub left : Option (List ℕ)
-  pub left_now : Option (List ℕ)
-  pub source_faults : ℕ
-  pub source_faults_now : ℕ
-  pub written : Option (List ℕ)
-  pub written_now : Option (List ℕ)
-  pub sink_faults : ℕ
-  pub sink_faults_now : ℕ
+  pub source : Input
+  pub sink : Output
 
-abbrev pub streams : {A O : Type 0} → source.Ghosts A → sink.Ghosts O → A → A → O → O → Streams
-streams sources sinks script script_now out out_now = record {
-  left = sources.left script;
-  left_now = sources.left script_now;
-  source_faults = sources.fault_count script;
-  source_faults_now = sources.fault_count script_now;
-  written = sinks.written out;
-  written_now = sinks.written out_now;
-  sink_faults = sinks.fault_count out;
-  sink_faults_now = sinks.fault_count out_now;
+abbrev pub input : {A : Type 0} → source.Ghosts A → Change A → Input
+input sources script = record {
+  left = change (sources.left script.before) (sources.left script.now);
+  faults = change (sources.fault_count script.before) (sources.fault_count script.now);
 }
+
+abbrev pub output : {O : Type 0} → sink.Ghosts O → Change O → Output
+output sinks out = record {
+  written = change (sinks.written out.before) (sinks.written out.now);
+  faults = change (sinks.fault_count out.before) (sinks.fault_count out.now);
+}
+
+abbrev pub streams : {A O : Type 0} → source.Ghosts A → sink.Ghosts O → Change A → Change O → Streams
+streams sources sinks script out = record { source = input sources script; sink = output sinks out }
 
 -- the same of a sink alone, beside what is said of a source
-abbrev pub from_sink : {O : Type 0} → sink.Ghosts O → Streams → O → O → Streams
-from_sink sinks s out out_now = record s {
-  written = sinks.written out;
-  written_now = sinks.written out_now;
-  sink_faults = sinks.fault_count out;
-  sink_faults_now = sinks.fault_count out_now;
-}
+abbrev pub from_sink : {O : Type 0} → sink.Ghosts O → Streams → Change O → Streams
+from_sink sinks s out = record s { sink = output sinks out }
 
 -- the source was not read
 abbrev pub Unread : Streams → Type 0
-Unread s = (s.left_now ≡ s.left) × (s.source_faults_now ≡ s.source_faults)
+Unread s = (s.source.left.now ≡ s.source.left.before) × (s.source.faults.now ≡ s.source.faults.before)
 
 -- a text was written: all of it where the count of faults did not rise, and else a part of it from its front
-abbrev pub PrintsFrom : ℕ → ℕ → Option (List ℕ) → Option (List ℕ) → List ℕ → Type 0
-PrintsFrom count count_now old new text =
-    ((n : ℕ) × (n ≤ length text) × (new ≡ grown old (take n text)))
-    × ((Rose count count_now → ⊥) → new ≡ grown old text)
+abbrev pub PrintsFrom : Output → List ℕ → Type 0
+PrintsFrom sink text =
+    ((n : ℕ) × (n ≤ length text) × (sink.written.now ≡ grown sink.written.before (take n text)))
+    × ((Rose sink.faults.before sink.faults.now → ⊥) → sink.written.now ≡ grown sink.written.before text)
 
 -- this text alone was written
 abbrev pub Prints : Streams → List ℕ → Type 0
-Prints s text = PrintsFrom s.sink_faults s.sink_faults_now s.written s.written_now text
+Prints s text = PrintsFrom s.sink text

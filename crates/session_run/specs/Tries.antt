@@ -7,9 +7,10 @@ use Rattle.editor_core.specs.Core.{Core}
 use Rattle.memory_project.specs.declared.fresh.FreshProject.{FreshProject}
 use Rattle.memory_project.specs.Fresh.{IsFresh}
 use Rattle.pcm_base.specs.Studio.{fault_sum}
+use Rattle.script_session.specs.Change.{change}
 use Rattle.script_text.specs.declared.call_fault.CallFault.TheVariants as call
 use Rattle.session_run.specs.declared.ending.Done.{Done}
-use Rattle.session_run.specs.Ports.{Idle, Ports}
+use Rattle.session_run.specs.Ports.{Idle, Ports, SameVault, job}
 use Rattle.session_run.specs.Refused.{IsRefused}
 use Rattle.session_run.specs.Runs.{RunsTo}
 use Rattle.session_run.specs.Streams.{Unread}
@@ -39,11 +40,11 @@ pub record Tried {D V M P C : Type 0} (k : Kinds D V M P) (p : Ports V M P) (don
   pub final : Core D
   pub fresh_is : IsFresh k.disk tried_project start
   pub status : ℕ
-  pub ran : RunsTo k start final p nothing status done
+  pub ran : RunsTo k (change start final) (job p nothing) (record done { status = status })
   pub status_is : done.status ≡ (if nat_lt 0 (faults_of k.disk final) then 4 else status)
 
 -- The word `try`, on the memory disk: the store that was handed in comes back as it was.
 abbrev pub Tries : {D V M P C : Type 0} → Kinds D V M P → C → Ports V M P → Done C → Type 0
 Tries k store p done = (done.store ≡ store)
     × (Tried k p done
-    ⊎ (IsRefused call.NoMemory p.streams done × Unread p.streams × Idle p × (p.vault_now ≡ p.vault)))
+    ⊎ (IsRefused call.NoMemory p.streams done × Unread p.streams × Idle p × SameVault p))

@@ -1,5 +1,6 @@
 // The counts of faults of the devices that a call is handed.
 ghost use Rattle.std.specs.Prelude.{◌≡◌};
+ghost use Rattle.desk_session.specs.Lent.{kinds};
 ghost use Rattle.session_run.specs.Call.{any_rose, counts};
 
 use disk_model::Store;
@@ -26,7 +27,7 @@ pub fn count_faults<A: Source, O: Sink, S: Store, V: Vault, M: Source, P: Sink>(
     speaker: &P,
 ) -> FaultCounts
     ensures { result ≡ counts A.Source O.Sink
-        (record { disk = S.Store; vaults = V.Vault; mics = M.Source; speakers = P.Sink })
+        (kinds S.Store V.Vault M.Source P.Sink)
         script.now out.now store.now vault.now mic.now speaker.now }
 {
     FaultCounts {

@@ -1,5 +1,6 @@
 // The script of a number, run in memory.
-ghost use Rattle.std.specs.Prelude.{◌≤◌};
+ghost use Rattle.std.specs.Prelude.{◌≡◌, ◌≤◌};
+ghost use Rattle.script_session.specs.Change.{change};
 ghost use Rattle.session_run.specs.Generates.{Generates};
 ghost use Rattle.session_run.specs.Streams.{Streams, from_sink};
 
@@ -16,8 +17,9 @@ use std::alloc::Global;
 pub fn run_gen<S, O: Sink>(alloc: Global, out: &mut O, store: S, number: u64, lines: u32) -> Done<S>
     requires least { 2 ≤ lines }
     requires most { lines ≤ 4096 }
-    ensures { (source : Streams) → Generates ⟦<RamStore as Store>⟧ number lines store
-        (from_sink O.Sink source out.old out.new) result }
+    ensures sum { (source : Streams) → Generates ⟦<RamStore as Store>⟧ (record { number = number; lines = lines })
+        (from_sink O.Sink source (change out.old out.new)) result }
+    ensures store { result.store ≡ store }
 {
     match run_generated(alloc, number, lines) {
         Ok(sum) => {

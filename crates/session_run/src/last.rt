@@ -1,7 +1,8 @@
 // What is told of a session at its end.
 ghost use Rattle.std.specs.Prelude.{◌≡◌, ◌||◌};
 ghost use Rattle.script_text.specs.Last.{last_text};
-ghost use Rattle.session_run.specs.Streams.{PrintsFrom};
+ghost use Rattle.script_session.specs.Change.{change};
+ghost use Rattle.session_run.specs.Streams.{PrintsFrom, output};
 ghost use Rattle.session_run.specs.Last.{
   WritesEnd,
   mic_end,
@@ -174,8 +175,7 @@ fn print_last<O: Sink>(
     played: Option<PlayLine>,
     commit: u64,
 )
-    ensures { PrintsFrom (O.fault_count out.old) (O.fault_count out.new) (O.written out.old) (O.written out.new)
-        (last_text recorded played commit) }
+    ensures { PrintsFrom (output O.Sink (change out.old out.new)) (last_text recorded played commit) }
 {
     let _ = write_last(out, recorded, played, commit);
 }
@@ -188,8 +188,7 @@ pub fn end_lines<O: Sink>(
     played: Option<PlayLine>,
     commit: u64,
 )
-    ensures { WritesEnd stop (O.fault_count out.old) (O.fault_count out.new) (O.written out.old) (O.written out.new)
-        (last_text recorded played commit) }
+    ensures { WritesEnd stop (output O.Sink (change out.old out.new)) (last_text recorded played commit) }
 {
     match stop {
         Stop::End => print_last(out, recorded, played, commit),

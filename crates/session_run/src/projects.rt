@@ -3,6 +3,7 @@ ghost use Rattle.std.specs.Prelude.{◌≡◌, ◌⊎◌, None};
 ghost use Rattle.call_words.specs.Bounds.{IsNewProject};
 ghost use Rattle.editor_core.specs.Core.{core_of};
 ghost use Rattle.editor_core.specs.Studios.{IsStudio};
+ghost use Rattle.script_session.specs.Change.{change};
 ghost use Rattle.script_text.specs.declared.call_fault.CallFault.TheVariants as call;
 ghost use Rattle.session_run.specs.Projects.{Checks, Listed, Lists, Makes};
 ghost use Rattle.session_run.specs.Refused.{IsRefused};
@@ -26,7 +27,8 @@ pub fn make_project<S: Store, O: Sink>(
     project: NewProject,
 ) -> Done<S>
     requires { IsNewProject project }
-    ensures { (source : Streams) → Makes S.Store project store (from_sink O.Sink source out.old out.new) result }
+    ensures { (source : Streams) → Makes S.Store project store (from_sink O.Sink source (change out.old out.new))
+        result }
 {
     match create(
         alloc,
@@ -48,8 +50,8 @@ fn list_opened<S: Store, O: Sink>(alloc: Global, out: &mut O, studio: Studio<S>)
     requires studio { IsStudio S.Store (core_of studio) }
     requires going { (core_of studio).stopped ≡ None }
     ensures listed { (source : Streams)
-        → Listed S.Store (core_of studio) (from_sink O.Sink source out.old out.new) result
-        ⊎ IsRefused call.NoMemory (from_sink O.Sink source out.old out.new) result }
+        → Listed S.Store (core_of studio) (from_sink O.Sink source (change out.old out.new)) result
+        ⊎ IsRefused call.NoMemory (from_sink O.Sink source (change out.old out.new)) result }
     ensures store { result.store ≡ (core_of studio).store }
 {
     let Ok(tracks) = studio.tracks(alloc) else {
@@ -71,7 +73,7 @@ fn list_opened<S: Store, O: Sink>(alloc: Global, out: &mut O, studio: Studio<S>)
 
 /// Shows the project of a store.
 pub fn list_project<S: Store, O: Sink>(alloc: Global, out: &mut O, store: S) -> Done<S>
-    ensures { (source : Streams) → Lists S.Store store (from_sink O.Sink source out.old out.new) result }
+    ensures { (source : Streams) → Lists S.Store store (from_sink O.Sink source (change out.old out.new)) result }
 {
     match open_store(alloc, store) {
         Ok(studio) => list_opened(alloc, out, studio),
@@ -81,7 +83,7 @@ pub fn list_project<S: Store, O: Sink>(alloc: Global, out: &mut O, store: S) -> 
 
 /// Checks the blocks of the project of a store.
 pub fn check_project<S: Store, O: Sink>(alloc: Global, out: &mut O, store: S) -> Done<S>
-    ensures { (source : Streams) → Checks S.Store store (from_sink O.Sink source out.old out.new) result }
+    ensures { (source : Streams) → Checks S.Store store (from_sink O.Sink source (change out.old out.new)) result }
 {
     match open_store(alloc, store) {
         Ok(mut studio) => match check(alloc, &mut studio) {

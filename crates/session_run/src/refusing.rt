@@ -2,7 +2,8 @@
 ghost use Rattle.std.specs.Prelude.{◌≡◌};
 ghost use Rattle.script_text.specs.CallFault.{refused_text};
 ghost use Rattle.session_run.specs.Refused.{IsDone, call_fault_of, status_of_fault};
-ghost use Rattle.session_run.specs.Streams.{PrintsFrom};
+ghost use Rattle.script_session.specs.Change.{change};
+ghost use Rattle.session_run.specs.Streams.{PrintsFrom, output};
 
 use super::ending::Done;
 use edit_ports::Sink;
@@ -50,8 +51,7 @@ fn status_of_fault(fault: CallFault) -> u8
 
 /// Prints why a call is refused, and hands the store back. A fault of the output is told by its count.
 pub fn refuse<O: Sink, S>(alloc: Global, out: &mut O, store: S, fault: CallFault) -> Done<S>
-    ensures printed { PrintsFrom (O.fault_count out.old) (O.fault_count out.new) (O.written out.old) (O.written out.new)
-        (refused_text fault) }
+    ensures printed { PrintsFrom (output O.Sink (change out.old out.new)) (refused_text fault) }
     ensures done { IsDone (status_of_fault fault) result }
     ensures store { result.store ≡ store }
 {

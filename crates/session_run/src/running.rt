@@ -2,6 +2,8 @@
 ghost use Rattle.std.specs.Prelude.{◌≡◌, ◌||◌, true};
 ghost use Rattle.editor_core.specs.Core.{core_of};
 ghost use Rattle.editor_core.specs.Studios.{IsStudio};
+ghost use Rattle.script_session.specs.Change.{change};
+ghost use Rattle.desk_session.specs.Lent.{kinds};
 ghost use Rattle.desk_session.specs.Sounds.{piece_numbers};
 ghost use Rattle.script_text.specs.Last.{last_text};
 ghost use Rattle.session_run.specs.Last.{
@@ -15,8 +17,9 @@ ghost use Rattle.session_run.specs.Last.{
   speaker_failed,
   status_of,
 };
+ghost use Rattle.session_run.specs.Ports.{job};
 ghost use Rattle.session_run.specs.Runs.{Runs, RunsOpened};
-ghost use Rattle.session_run.specs.Streams.{streams};
+ghost use Rattle.session_run.specs.Streams.{output, streams};
 
 use super::ending::Done;
 use super::last::{
@@ -52,8 +55,7 @@ fn finish<S: Store, O: Sink>(
     first_commit: u64,
     ended: Ended<S>,
 ) -> Done<S>
-    ensures ended { WritesEnd ended.told.stop (O.fault_count out.old) (O.fault_count out.new)
-        (O.written out.old) (O.written out.new) (last_text
+    ensures ended { WritesEnd ended.told.stop (output O.Sink (change out.old out.new)) (last_text
         (record_line ended.track ended.opened.recording ended.kept) (play_line ended.opened.pin ended.heard)
         (core_of ended.studio).commit_number) }
     ensures status { (result.status ≡ status_of ended.told.stop (mic_failed ended.kept || speaker_failed ended.heard)
@@ -115,18 +117,13 @@ where
     P: Sink + Send,
     G: Gate + Sync,
     requires { IsStudio S.Store (core_of studio) }
-    ensures { RunsOpened (record { disk = S.Store; vaults = V.Vault; mics = M.Source; speakers = P.Sink })
-        (core_of studio)
-        (record {
-          vault = vault.old;
-          vault_now = vault.new;
-          mic = mic.old;
-          mic_now = mic.new;
-          speaker = speaker.old;
-          speaker_now = speaker.new;
-          streams = streams A.Source O.Sink script.old script.new out.old out.new;
-        })
-        beside result }
+    ensures { RunsOpened (kinds S.Store V.Vault M.Source P.Sink) (core_of studio)
+        (job (record {
+          vault = change vault.old vault.new;
+          mic = change mic.old mic.new;
+          speaker = change speaker.old speaker.new;
+          streams = streams A.Source O.Sink (change script.old script.new) (change out.old out.new);
+        }) beside) result }
 {
     let first = studio.commit_number();
     match Seated::new(alloc, studio, beside) {
@@ -160,17 +157,13 @@ where
     M: Source + Send,
     P: Sink + Send,
     G: Gate + Sync,
-    ensures { Runs (record { disk = S.Store; vaults = V.Vault; mics = M.Source; speakers = P.Sink }) store
-        (record {
-          vault = vault.old;
-          vault_now = vault.new;
-          mic = mic.old;
-          mic_now = mic.new;
-          speaker = speaker.old;
-          speaker_now = speaker.new;
-          streams = streams A.Source O.Sink script.old script.new out.old out.new;
-        })
-        beside result }
+    ensures { Runs (kinds S.Store V.Vault M.Source P.Sink) store
+        (job (record {
+          vault = change vault.old vault.new;
+          mic = change mic.old mic.new;
+          speaker = change speaker.old speaker.new;
+          streams = streams A.Source O.Sink (change script.old script.new) (change out.old out.new);
+        }) beside) result }
 {
     match open_store(alloc, store) {
         Ok(studio) => run_opened(

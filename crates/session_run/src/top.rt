@@ -1,6 +1,7 @@
 // The call of the program.
 ghost use Rattle.std.specs.Prelude.{◌≡◌, if◌then◌else◌, map, string_bytes};
-ghost use Rattle.desk_session.specs.Lent.{Kinds};
+ghost use Rattle.script_session.specs.Change.{change};
+ghost use Rattle.desk_session.specs.Lent.{Kinds, kinds};
 ghost use Rattle.session_run.specs.Call.{Does, EndsAs, any_rose, counts};
 ghost use Rattle.session_run.specs.declared.ending.Done.{Done};
 ghost use Rattle.session_run.specs.Streams.{streams};
@@ -43,17 +44,16 @@ where
     M: Source + Send,
     P: Sink + Send,
     G: Gate + Sync,
-    ensures { Does ⟦<RamStore as Store>⟧
-        (record { disk = S.Store; vaults = V.Vault; mics = M.Source; speakers = P.Sink })
-        (map string_bytes words.now) store
+    ensures { Does (record { ram = ⟦<RamStore as Store>⟧; kinds = kinds S.Store V.Vault M.Source P.Sink })
+        (map string_bytes words.now)
         (record {
-          vault = vault.old;
-          vault_now = vault.new;
-          mic = mic.old;
-          mic_now = mic.new;
-          speaker = speaker.old;
-          speaker_now = speaker.new;
-          streams = streams A.Source O.Sink script.old script.new out.old out.new;
+          store = store;
+          ports = record {
+            vault = change vault.old vault.new;
+            mic = change mic.old mic.new;
+            speaker = change speaker.old speaker.new;
+            streams = streams A.Source O.Sink (change script.old script.new) (change out.old out.new);
+          };
         })
         result }
 {
@@ -103,17 +103,16 @@ where
     M: Source + Send,
     P: Sink + Send,
     G: Gate + Sync,
-    ensures does { let k : Kinds S V M P =
-        record { disk = S.Store; vaults = V.Vault; mics = M.Source; speakers = P.Sink } in
-        (done : Done S) × Does ⟦<RamStore as Store>⟧ k (map string_bytes words.now) store
+    ensures does { let k : Kinds S V M P = kinds S.Store V.Vault M.Source P.Sink in
+        (done : Done S) × Does (record { ram = ⟦<RamStore as Store>⟧; kinds = k }) (map string_bytes words.now)
         (record {
-          vault = vault.old;
-          vault_now = vault.new;
-          mic = mic;
-          mic_now = result.mic;
-          speaker = speaker;
-          speaker_now = result.speaker;
-          streams = streams A.Source O.Sink script.old script.new out.old out.new;
+          store = store;
+          ports = record {
+            vault = change vault.old vault.new;
+            mic = change mic result.mic;
+            speaker = change speaker result.speaker;
+            streams = streams A.Source O.Sink (change script.old script.new) (change out.old out.new);
+          };
         })
         done
         × EndsAs (any_rose

@@ -1,5 +1,7 @@
 // A script on a fresh project in memory.
 ghost use Rattle.std.specs.Prelude.{◌≡◌, nat_lt, if◌then◌else◌};
+ghost use Rattle.script_session.specs.Change.{change};
+ghost use Rattle.desk_session.specs.Lent.{kinds};
 ghost use Rattle.session_run.specs.Streams.{streams};
 ghost use Rattle.session_run.specs.Tries.{Tries, tried_project};
 
@@ -57,18 +59,13 @@ where
     M: Source + Send,
     P: Sink + Send,
     G: Gate + Sync,
-    ensures { Tries
-        (record { disk = ⟦<RamStore as Store>⟧; vaults = V.Vault; mics = M.Source; speakers = P.Sink }) store
+    ensures { Tries (kinds ⟦<RamStore as Store>⟧ V.Vault M.Source P.Sink) store
         (record {
-          vault = vault.old;
-          vault_now = vault.new;
-          mic = mic.old;
-          mic_now = mic.new;
-          speaker = speaker.old;
-          speaker_now = speaker.new;
-          streams = streams A.Source O.Sink script.old script.new out.old out.new;
-        })
-        result }
+          vault = change vault.old vault.new;
+          mic = change mic.old mic.new;
+          speaker = change speaker.old speaker.new;
+          streams = streams A.Source O.Sink (change script.old script.new) (change out.old out.new);
+        }) result }
 {
     let Ok(studio) = fresh_studio(alloc, &tried_project()) else {
         return refuse(alloc, out, store, CallFault::NoMemory);

@@ -2,6 +2,7 @@
 ghost use Rattle.std.specs.Prelude.{◌≡◌, [], false};
 ghost use Rattle.sound_run.specs.Recorded.{Records};
 ghost use Rattle.sound_run.specs.Played.{Plays};
+ghost use Rattle.script_session.specs.Change.{change};
 ghost use Rattle.script_session.specs.Kept.{Holds};
 ghost use Rattle.script_session.specs.Progress.{Ran, IsCauseOf, reached};
 ghost use Rattle.sound_session.specs.IfGiven.{IfGiven};
@@ -30,9 +31,9 @@ fn run_script<R: Wait, E: Editor, A: Source, O: Sink, G: Gate>(
     requires fresh { session.old.refused ≡ false }
     ensures ran { Ran result (reached (record { place = E.place session.old.editor; written = O.written out.old })
         (E.place session.new.editor) (O.written out.new) session.new.refused)
-        (record { left = A.left script.old; left_now = A.left script.new }) }
-    ensures cause { IsCauseOf result (A.fault_count script.old) (A.fault_count script.new)
-        (O.fault_count out.old) (O.fault_count out.new) }
+        (change (A.left script.old) (A.left script.new)) }
+    ensures cause { IsCauseOf result (change (A.fault_count script.old) (A.fault_count script.new))
+        (change (O.fault_count out.old) (O.fault_count out.new)) }
     ensures follows { (first : E) → E.follows first session.old.editor → E.follows first session.new.editor }
 {
     read_script(rt, alloc, session, script, out, gate)
@@ -56,9 +57,9 @@ impl<'a, 'b, 'c, E: Editor, A: Source, O: Sink> Task for Lines<'a, 'b, 'c, E, A,
         × (r.3.ghost_name ≡ t.out.ghost_name)
         × Ran r.0 (reached (record { place = E.place t.session.now.editor; written = O.written t.out.now })
         (E.place r.1.now.editor) (O.written r.3.now) r.1.now.refused)
-        (record { left = A.left t.script.now; left_now = A.left r.2.now })
-        × IsCauseOf r.0 (A.fault_count t.script.now) (A.fault_count r.2.now) (O.fault_count t.out.now)
-        (O.fault_count r.3.now)
+        (change (A.left t.script.now) (A.left r.2.now))
+        × IsCauseOf r.0 (change (A.fault_count t.script.now) (A.fault_count r.2.now))
+        (change (O.fault_count t.out.now) (O.fault_count r.3.now))
         × ((first : _) → E.follows first t.session.now.editor → E.follows first r.1.now.editor) };
 
     fn run<R: Wait, G: Gate>(
@@ -104,9 +105,9 @@ fn run_threads<
     requires fresh { session.old.refused ≡ false }
     ensures ran { Ran result.0 (reached (record { place = E.place session.old.editor; written = O.written out.old })
         (E.place session.new.editor) (O.written out.new) session.new.refused)
-        (record { left = A.left script.old; left_now = A.left script.new }) }
-    ensures cause { IsCauseOf result.0 (A.fault_count script.old) (A.fault_count script.new)
-        (O.fault_count out.old) (O.fault_count out.new) }
+        (change (A.left script.old) (A.left script.new)) }
+    ensures cause { IsCauseOf result.0 (change (A.fault_count script.old) (A.fault_count script.new))
+        (change (O.fault_count out.old) (O.fault_count out.new)) }
     ensures follows { (first : E) → E.follows first session.old.editor → E.follows first session.new.editor }
     ensures records { IfGiven (λ r done. Records M.Source T.PieceTaker r.mic r.taker done) recording result.1 }
     ensures plays { IfGiven (λ p done. Plays V.FrameGiver P.Sink p.giver p.speaker done) playback result.2 }
@@ -154,9 +155,9 @@ pub fn run_beside<
     requires fresh { session.old.refused ≡ false }
     ensures ran { Ran result.0 (reached (record { place = E.place session.old.editor; written = O.written out.old })
         (E.place session.new.editor) (O.written out.new) session.new.refused)
-        (record { left = A.left script.old; left_now = A.left script.new }) }
-    ensures cause { IsCauseOf result.0 (A.fault_count script.old) (A.fault_count script.new)
-        (O.fault_count out.old) (O.fault_count out.new) }
+        (change (A.left script.old) (A.left script.new)) }
+    ensures cause { IsCauseOf result.0 (change (A.fault_count script.old) (A.fault_count script.new))
+        (change (O.fault_count out.old) (O.fault_count out.new)) }
     ensures follows { (first : E) → E.follows first session.old.editor → E.follows first session.new.editor }
     ensures records { IfGiven (λ r done. Records M.Source T.PieceTaker r.mic r.taker done) recording result.1 }
     ensures plays { IfGiven (λ p done. Plays V.FrameGiver P.Sink p.giver p.speaker done) playback result.2 }

@@ -29,7 +29,7 @@ returns-then-count-eq0-clause-ran g c = λ start going.
 
 pub returns-then-count-eq0-clause-cause : goal.returns-then-count-eq0-clause-cause
 returns-then-count-eq0-clause-cause g c =
-    end_cause c.end_script.result _ _ _ _ (c.in-Ok.ensures.cause.kept ∙ c.loop-total.invariant.source)
+    end_cause c.end_script.result _ _ (c.in-Ok.ensures.cause.kept ∙ c.loop-total.invariant.source)
     (rw c.loop-total.invariant.sink at c.end_script.ensures.cause)
 
 pub returns-in-Err-take_piece-clause-ran : goal.returns-in-Err-take_piece-clause-ran

@@ -1,5 +1,6 @@
 -- The bytes so far brought the session here, and nothing failed.
 use Rattle.std.proofs.Common.{◌≡◌, ◌-◌, ◌≤◌, []}
+use Rattle.script_session.specs.Change.{change}
 use Rattle.script_session.specs.Progress.{Going, Reading, Start, reached}
 use Rattle.script_session.proofs.read.read_script.Given as goal
 
@@ -9,7 +10,7 @@ invariant-loop-total g l = record {
       Going (reached start (g.E.Editor.place l.fn.session.editor) (g.O.Sink.written l.fn.out) l.fn.session.refused)
       l.fn.session.line [] →
       Reading (reached start (g.E.Editor.place l.session.editor) (g.O.Sink.written l.out) l.session.refused)
-      (record { left = g.A.Source.left l.fn.script; left_now = g.A.Source.left l.script }) l.session.line l.total;
+      (change (g.A.Source.left l.fn.script) (g.A.Source.left l.script)) l.session.line l.total;
   follows : (first : g.row.E.Denot) → g.E.Editor.follows first l.fn.session.editor
       → g.E.Editor.follows first l.session.editor;
   bound : l.total ≤ 4294967296;

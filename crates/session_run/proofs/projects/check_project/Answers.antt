@@ -3,6 +3,7 @@ use Rattle.std.proofs.Common.{ℕ, Ok, Err, inl, inr, ap, subst, sym, ◌∙◌}
 use Rattle.editor_core.specs.Core.{core_of}
 use Rattle.script_text.specs.Project.{checked_text}
 use Rattle.session_run.specs.Opening.{Looks}
+use Rattle.script_session.specs.Change.{change}
 use Rattle.session_run.specs.Streams.{Prints, from_sink}
 use Rattle.session_run.proofs.ProjectLemmas.{refused_as}
 use Rattle.session_run.proofs.StreamLemmas.{prints}
@@ -10,7 +11,7 @@ use Rattle.session_run.proofs.projects.check_project.Goals as goal
 
 pub returns-in-Ok-check : goal.returns-in-Ok-check
 returns-in-Ok-check g c = λ source. inl (
-    let s = from_sink g.O.Sink source c.args.out.now c.write_checked.new.out in
+    let s = from_sink g.O.Sink source (change c.args.out.now c.write_checked.new.out) in
     let e = c.in-Ok.ensures in record {
       start = core_of c.in-Ok.studio;
       final = core_of c.check.new.studio;

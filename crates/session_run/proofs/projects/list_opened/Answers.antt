@@ -3,6 +3,7 @@ use Rattle.std.proofs.Common.{inl, ◌∙◌, List, subst}
 use Rattle.pcm_base.specs.declared.sound.TrackLine.{TrackLine}
 use Rattle.script_text.specs.declared.project.ProjectLines.{ProjectLines}
 use Rattle.script_text.specs.Project.{project_text}
+use Rattle.script_session.specs.Change.{change}
 use Rattle.session_run.specs.Streams.{Prints, from_sink}
 use Rattle.session_run.proofs.ProjectLemmas.{same_tracks}
 use Rattle.session_run.proofs.StreamLemmas.{prints}
@@ -11,7 +12,7 @@ use Rattle.session_run.proofs.projects.list_opened.Goals as goal
 pub returns-clause-listed : goal.returns-clause-listed
 returns-clause-listed g c = λ source. inl (
     let facts = c.facts-facts.ensures in
-    let s = from_sink g.O.Sink source c.args.out.now c.write_project.new.out in record {
+    let s = from_sink g.O.Sink source (change c.args.out.now c.write_project.new.out) in record {
       tracks = c.in-Ok.tracks;
       are = λ held. same_tracks _ _ (c.in-Ok.ensures.took.step held).answers;
       printed = subst (λ (x : ProjectLines × List TrackLine). Prints s (project_text x.0 x.1))

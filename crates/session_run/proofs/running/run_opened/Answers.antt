@@ -2,9 +2,12 @@
 use Rattle.std.proofs.Common.{inl, inr, refl, ap, subst, ◌∙◌, ◌≡◌, ◌||◌, ℕ}
 use Rattle.editor_core.specs.Core.{Core, core_of}
 use Rattle.script_text.specs.Last.{last_text}
+use Rattle.script_session.specs.Change.{change}
+use Rattle.desk_session.specs.Lent.{kinds}
 use Rattle.desk_session.specs.Sessions.{IsSession}
 use Rattle.session_run.specs.Last.{WritesEnd, mic_failed, play_line, play_refused, record_line, record_refused}
 use Rattle.session_run.specs.Last.{speaker_failed, status_of}
+use Rattle.session_run.specs.Streams.{output}
 use Rattle.session_run.proofs.running.run_opened.Goals as goal
 
 pub returns-in-Ok : goal.returns-in-Ok
@@ -25,18 +28,12 @@ returns-in-Ok g c =
           faults = g.O.Sink.fault_count ran.new.out;
           session =
               subst (λ (z : Core g.row.S.Denot). IsSession
-              (record { disk = g.S.Store; vaults = g.V.Vault; mics = g.M.Source; speakers = g.P.Sink }) z
-              (core_of e.studio) (record {
-                vault = c.args.vault.now;
-                vault_now = ran.new.vault;
-                mic = c.args.mic.now;
-                mic_now = ran.new.mic;
-                speaker = c.args.speaker.now;
-                speaker_now = ran.new.speaker;
-                left = g.A.Source.left c.args.script.now;
-                left_now = g.A.Source.left ran.new.script;
-                written = g.O.Sink.written c.args.out.now;
-                written_now = g.O.Sink.written ran.new.out;
+              (kinds g.S.Store g.V.Vault g.M.Source g.P.Sink) z (core_of e.studio) (record {
+                vault = change c.args.vault.now ran.new.vault;
+                mic = change c.args.mic.now ran.new.mic;
+                speaker = change c.args.speaker.now ran.new.speaker;
+                left = change (g.A.Source.left c.args.script.now) (g.A.Source.left ran.new.script);
+                written = change (g.O.Sink.written c.args.out.now) (g.O.Sink.written ran.new.out);
               }) (record { told = e.told; opened = e.opened; kept = e.kept; heard = e.heard }))
               c.in-Ok.ensures.ok.0 ran.ensures.session;
           asked = (
@@ -45,8 +42,7 @@ returns-in-Ok g c =
           );
           cause = ran.ensures.cause;
           ended = subst
-              (λ (t : ℕ). WritesEnd e.told.stop (g.O.Sink.fault_count ran.new.out) (g.O.Sink.fault_count end.new.out)
-              (g.O.Sink.written ran.new.out) (g.O.Sink.written end.new.out)
+              (λ (t : ℕ). WritesEnd e.told.stop (output g.O.Sink (change ran.new.out end.new.out))
               (last_text (record_line t e.opened.recording e.kept) (play_line e.opened.pin e.heard)
               (core_of e.studio).commit_number)) track end.ensures.ended;
         };

@@ -1,40 +1,41 @@
 -- What the words ask for.
 use Rattle.std.proofs.Common.{inl, refl, ap, ◌∙◌, Some}
+use Rattle.script_session.specs.Change.{change}
 use Rattle.session_run.specs.Streams.{Streams, streams}
-use Rattle.session_run.proofs.CallLemmas.{asked, idle_ports}
+use Rattle.session_run.proofs.CallLemmas.{asked, idle}
 use Rattle.session_run.proofs.top.carry_out.Goals as goal
 
 pub returns-in-Ok-New : goal.returns-in-Ok-New
 returns-in-Ok-New g c =
-    let s : Streams =
-    streams g.A.Source g.O.Sink c.args.script.now c.args.script.now c.args.out.now c.make_project.new.out in
-    inl (asked _ _ _ _ c.args.store (idle_ports c.args.vault.now c.args.mic.now c.args.speaker.now s)
+    let s : Streams = streams g.A.Source g.O.Sink (change c.args.script.now c.args.script.now)
+    (change c.args.out.now c.make_project.new.out) in
+    inl (asked _ _ _ (idle c.args.store c.args.vault.now c.args.mic.now c.args.speaker.now s)
     c.make_project.result
     (c.in-Ok-New.ensures.read ∙ ap Some c.in-Ok-New.field-0-is)
     (c.make_project.ensures s, ((refl, refl), (refl, refl), refl)))
 
 pub returns-in-Ok-List : goal.returns-in-Ok-List
 returns-in-Ok-List g c =
-    let s : Streams =
-    streams g.A.Source g.O.Sink c.args.script.now c.args.script.now c.args.out.now c.list_project.new.out in
-    inl (asked _ _ _ _ c.args.store (idle_ports c.args.vault.now c.args.mic.now c.args.speaker.now s)
+    let s : Streams = streams g.A.Source g.O.Sink (change c.args.script.now c.args.script.now)
+    (change c.args.out.now c.list_project.new.out) in
+    inl (asked _ _ _ (idle c.args.store c.args.vault.now c.args.mic.now c.args.speaker.now s)
     c.list_project.result
     (c.in-Ok-List.ensures.read ∙ ap Some c.in-Ok-List.field-0-is)
     (c.list_project.ensures s, ((refl, refl), (refl, refl), refl)))
 
 pub returns-in-Ok-Check : goal.returns-in-Ok-Check
 returns-in-Ok-Check g c =
-    let s : Streams =
-    streams g.A.Source g.O.Sink c.args.script.now c.args.script.now c.args.out.now c.check_project.new.out in
-    inl (asked _ _ _ _ c.args.store (idle_ports c.args.vault.now c.args.mic.now c.args.speaker.now s)
+    let s : Streams = streams g.A.Source g.O.Sink (change c.args.script.now c.args.script.now)
+    (change c.args.out.now c.check_project.new.out) in
+    inl (asked _ _ _ (idle c.args.store c.args.vault.now c.args.mic.now c.args.speaker.now s)
     c.check_project.result
     (c.in-Ok-Check.ensures.read ∙ ap Some c.in-Ok-Check.field-0-is)
     (c.check_project.ensures s, ((refl, refl), (refl, refl), refl)))
 
 pub returns-in-Ok-Gen : goal.returns-in-Ok-Gen
 returns-in-Ok-Gen g c =
-    let s : Streams =
-    streams g.A.Source g.O.Sink c.args.script.now c.args.script.now c.args.out.now c.run_gen.new.out in
-    inl (asked _ _ _ _ c.args.store (idle_ports c.args.vault.now c.args.mic.now c.args.speaker.now s) c.run_gen.result
+    let s : Streams = streams g.A.Source g.O.Sink (change c.args.script.now c.args.script.now)
+    (change c.args.out.now c.run_gen.new.out) in
+    inl (asked _ _ _ (idle c.args.store c.args.vault.now c.args.mic.now c.args.speaker.now s) c.run_gen.result
     (c.in-Ok-Gen.ensures.read ∙ ap Some c.in-Ok-Gen.field-0-is)
-    (c.run_gen.ensures s, ((refl, refl), (refl, refl), refl)))
+    (c.run_gen.ensures.sum s, c.run_gen.ensures.store, ((refl, refl), (refl, refl), refl)))

@@ -1,0 +1,146 @@
+-- What came back follows what was lent.
+use Rattle.std.proofs.Common.{refl, sym, subst, ◌∙◌, ap, Bool}
+use Rattle.pin_turn.specs.Calls.{known}
+use Rattle.studio_seats.specs.Desks.{IsAt, start_at}
+use Rattle.studio_seats.specs.Onward.{IsLine, IsPieceOf, IsReadOf, Onward}
+use Rattle.studio_seats.specs.Pieces.{pieces_by}
+use Rattle.studio_seats.specs.Shows.{IsMixOf}
+use Rattle.studio_seats.specs.Stands.{origin}
+use Rattle.studio_seats.proofs.OnwardLemmas.{onward_self}
+use Rattle.script_session.specs.declared.stop.Stop.{Stop}
+use Rattle.script_session.specs.Change.{change}
+use Rattle.script_session.specs.Place.{Place, place_of}
+use Rattle.script_session.specs.Progress.{Ran, reached}
+use Rattle.desk_session.specs.Sounds.{IsPlayed, IsRecorded}
+use Rattle.desk_session.proofs.SideLemmas.{back, some_as, where_any, where_both}
+use Rattle.desk_session.proofs.SoundLemmas.{played_of, recorded_of}
+use Rattle.desk_session.proofs.work.run_work.Goals as goal
+
+pub returns-clause-works : goal.returns-clause-works
+returns-clause-works g c =
+    let o = c.args.setting.opened in
+    let d = c.args.devices in
+    let lends = c.lend_script-lines.ensures in
+    let takes = c.take_script-seat.ensures in
+    let s = c.run_beside-stop.new.session in
+    let first =
+    c.run_beside-stop.ensures.follows c.lend_script-lines.result.editor
+    (refl, refl, onward_self IsLine (known c.lend_script-lines.result.editor.seat)) in
+    let desk = first.0 ∙ lends.of.0 in
+    let kept = c.take_recorder-recorder.result in
+    let heard = c.take_player-player.result in
+    record {
+      goes = subst (λ (X : Type 0). X) (λ i. Onward IsLine (lends.seat i) (sym takes.seat i)) first.2;
+      ran = (
+        s.editor.last,
+        subst (λ (z : Stop × Bool × Place × Place). Ran z.0
+            (reached (record { place = z.2; written = g.O.Sink.written d.out.now }) z.3
+            (g.O.Sink.written c.run_beside-stop.new.out) z.1)
+            (change (g.A.Source.left d.script.now) (g.A.Source.left c.run_beside-stop.new.script)))
+            (λ i. (
+              sym takes.told.0 i,
+              sym takes.told.1 i,
+              place_of (start_at (lends.of.0 i)) (lends.seat i) (lends.fresh.0 i) (lends.fresh.1 i)
+                  (g.V.Vault.tells (lends.of.2 i)) (g.V.Vault.holds (lends.of.2 i))
+                  (g.V.Vault.fault_count (lends.of.2 i)),
+              place_of (start_at (desk i)) (sym takes.seat i) s.editor.last (sym takes.told.2 i)
+                  (g.V.Vault.tells (sym takes.vault.1 i)) (g.V.Vault.holds (sym takes.vault.1 i))
+                  (g.V.Vault.fault_count (sym takes.vault.1 i)),
+            ))
+            c.run_beside-stop.ensures.ran,
+      );
+      records = where_both o.recording
+          (back _ _ _ _ _ o.recording c.lend_recorder-recording.result c.run_beside-stop.result.1
+          c.lend_recorder-recording.ensures c.run_beside-stop.ensures.records c.take_recorder-recorder.ensures)
+          (λ tag h.
+          let w = h.0 in
+          let a = h.1 in
+          let goes = h.3.taker_goes w.taker
+          (refl, refl, refl, onward_self (IsPieceOf w.taker.track w.taker.tag) (known w.taker.seat)) in
+          let track = h.2.4 in
+          let tag_is = h.2.5 in
+          let at = goes.0 ∙ h.2.2 in (
+            subst (λ (X : Type 0). X) (λ i. Onward (IsPieceOf (track i) (tag_is i)) (h.2.3 i) (sym h.4.1 i)) goes.3,
+            some_as kept.2 h.4.4
+                (λ k f. subst (λ (X : Type 0). X)
+                (λ i. IsRecorded g.M.Source (change (h.2.1 i) (sym h.4.3 i))
+                (change
+                (pieces_by (track i) (tag_is i) (h.2.3 i).number (start_at (h.2.2 i)).commit_number (h.2.3 i).seen)
+                (pieces_by ((goes.1 ∙ track) i) ((goes.2 ∙ tag_is) i) (sym h.4.1 i).number
+                (start_at (at i)).commit_number (sym h.4.1 i).seen)) k)
+                (recorded_of g.M.Source _ _ (λ l. l.source.now) (λ l. refl) (λ l. refl) w.mic w.taker a k h.3 f.0 f.1
+                f.2 f.3)),
+          ))
+          (λ h. (ap known h.2.0 ∙ h.1.0, h.2.3, h.2.2 ∙ h.1.3));
+      plays = where_both o.pin
+          (back _ _ _ _ _ o.pin c.lend_player-playback.result c.run_beside-stop.result.2
+          c.lend_player-playback.ensures c.run_beside-stop.ensures.plays c.take_player-player.ensures)
+          (λ pin h.
+          let w = h.0 in
+          let a = h.1 in
+          let goes = h.3.giver_goes w.giver (refl, refl, onward_self (IsReadOf w.giver.pin) (known w.giver.seat)) in
+          let pin_is = h.2.4 in (
+            subst (λ (X : Type 0). X) (λ i. Onward (IsReadOf (pin_is i)) (h.2.3 i) (sym h.4.1 i)) goes.2,
+            some_as heard.2 h.4.4
+                (λ k f. subst (λ (X : Type 0). X)
+                (λ i. IsPlayed g.P.Sink (change (h.2.1 i) (sym h.4.3 i))
+                (IsMixOf (origin g.S.Store g.V.Vault (start_at (h.2.2 i))) (h.2.3 i).seen (pin_is i)) k)
+                (played_of g.P.Sink _ _ (λ l. l.sink.now) (λ l. refl) (λ l. refl) w.giver w.speaker a k h.3 f.0 f.1
+                f.2)),
+          ))
+          (λ h. (ap known h.2.0 ∙ h.1.0, h.2.3, h.2.2 ∙ h.1.3));
+    }
+
+pub returns-clause-at : goal.returns-clause-at
+returns-clause-at g c =
+    let o = c.args.setting.opened in
+    let desk = c.args.desk.now in
+    let first =
+    c.run_beside-stop.ensures.follows c.lend_script-lines.result.editor
+    (refl, refl, onward_self IsLine (known c.lend_script-lines.result.editor.seat)) in
+    let recorded = back _ _ _ _ _ o.recording c.lend_recorder-recording.result c.run_beside-stop.result.1
+    c.lend_recorder-recording.ensures c.run_beside-stop.ensures.records
+    c.take_recorder-recorder.ensures in
+    let played = back _ _ _ _ _ o.pin c.lend_player-playback.result c.run_beside-stop.result.2
+    c.lend_player-playback.ensures c.run_beside-stop.ensures.plays
+    c.take_player-player.ensures in (
+      subst (λ d. IsAt d c.take_script-seat.result.0) (first.0 ∙ c.lend_script-lines.ensures.of.0)
+          c.take_script-seat.ensures.at,
+      where_any o.recording recorded
+          (λ tag h. subst (λ d. IsAt d c.take_recorder-recorder.result.0)
+          ((h.3.taker_goes h.0.taker
+          (refl, refl, refl, onward_self (IsPieceOf h.0.taker.track h.0.taker.tag) (known h.0.taker.seat))).0 ∙ h.2.2)
+          h.4.0)
+          (λ h. subst (λ s. IsAt desk s) (sym h.2.0) h.1.1),
+      where_any o.pin played
+          (λ pin h. subst (λ d. IsAt d c.take_player-player.result.0)
+          ((h.3.giver_goes h.0.giver (refl, refl, onward_self (IsReadOf h.0.giver.pin) (known h.0.giver.seat))).0
+          ∙ h.2.2) h.4.0)
+          (λ h. subst (λ s. IsAt desk s) (sym h.2.0) h.1.1),
+    )
+
+pub returns-clause-cause : goal.returns-clause-cause
+returns-clause-cause g c = rw c.take_script-seat.ensures.told.0 c.run_beside-stop.ensures.cause
+
+pub returns-clause-same : goal.returns-clause-same
+returns-clause-same g c =
+    let o = c.args.setting.opened in
+    let first =
+    c.run_beside-stop.ensures.follows c.lend_script-lines.result.editor
+    (refl, refl, onward_self IsLine (known c.lend_script-lines.result.editor.seat)) in
+    let recorded = back _ _ _ _ _ o.recording c.lend_recorder-recording.result c.run_beside-stop.result.1
+    c.lend_recorder-recording.ensures c.run_beside-stop.ensures.records
+    c.take_recorder-recorder.ensures in
+    let played = back _ _ _ _ _ o.pin c.lend_player-playback.result c.run_beside-stop.result.2
+    c.lend_player-playback.ensures c.run_beside-stop.ensures.plays
+    c.take_player-player.ensures in (
+      c.take_script-seat.ensures.vault.0 ∙ first.1 ∙ c.lend_script-lines.ensures.of.1,
+      refl,
+      refl,
+      where_any o.recording recorded
+          (λ tag h. h.4.2 ∙ (h.3.mic_goes h.0.mic (refl, λ before x. x)).0 ∙ h.2.0)
+          (λ h. h.2.1 ∙ h.1.2),
+      where_any o.pin played
+          (λ pin h. h.4.2 ∙ (h.3.speaker_goes h.0.speaker (refl, λ before x. x)).0 ∙ h.2.0)
+          (λ h. h.2.1 ∙ h.1.2),
+    )

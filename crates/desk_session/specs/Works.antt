@@ -1,0 +1,68 @@
+-- What the threads of a session did, each by a seat of its own.
+use Rattle.std.specs.Prelude.{◌≡◌, ℕ, ℤ, List, [], None, IsSomeAnd}
+use Rattle.edit_ports.specs.declared.vault.Vault as vault
+use Rattle.pin_turn.specs.declared.view.View.{View}
+use Rattle.editor_core.specs.Core.{Core}
+use Rattle.studio_seats.specs.declared.deed.Deed.{Deed}
+use Rattle.studio_seats.specs.declared.held.Held.{Held}
+use Rattle.studio_seats.specs.Onward.{IsLine, IsPieceOf, IsReadOf, Onward}
+use Rattle.studio_seats.specs.Pieces.{pieces_by}
+use Rattle.studio_seats.specs.Shows.{IsMixOf}
+use Rattle.studio_seats.specs.Stands.{origin}
+use Rattle.script_session.specs.Change.{Change, change}
+use Rattle.script_session.specs.Place.{place_of}
+use Rattle.script_session.specs.Progress.{Ran, reached}
+use Rattle.desk_session.specs.declared.told.Told.{Told}
+use Rattle.desk_session.specs.Lent.{Kinds, Lent, Outcome}
+use Rattle.desk_session.specs.Opening.{WhereMade}
+use Rattle.desk_session.specs.Sounds.{IsPlayed, IsRecorded}
+
+-- The studio with which a desk began, the commit number that was told last before a script, and what the script's seat
+-- knew before it and knows behind it.
+pub record Scripting (D V : Type 0) : Type 0 where
+  pub start : Core D
+  pub last : ℕ
+  pub seat : Change (View (Held D V) Deed)
+
+-- a script ran, from the place of its seat before to that of its seat behind
+abbrev pub RanScript : {D V M P : Type 0} → vault.Ghosts V → Scripting D V → Lent V M P → Told → Type 0
+RanScript vaults s lent told = (told_last : ℕ) × Ran told.stop
+    (reached (record {
+      place = place_of s.start s.seat.before s.last [] (vaults.tells lent.vault.before)
+          (vaults.holds lent.vault.before) (vaults.fault_count lent.vault.before);
+      written = lent.written.before;
+    })
+    (place_of s.start s.seat.now told_last told.commits (vaults.tells lent.vault.now)
+    (vaults.holds lent.vault.now) (vaults.fault_count lent.vault.now))
+    lent.written.now told.refused)
+    lent.left
+
+-- The studio with which a desk began, the track of the recording, the commit number that was told last before the
+-- script, and what the seats of script, recorder and player knew before and know behind.
+pub record Working (D V : Type 0) : Type 0 where
+  pub start : Core D
+  pub track : ℕ
+  pub last : ℕ
+  pub script : Change (View (Held D V) Deed)
+  pub recorder : Change (View (Held D V) Deed)
+  pub player : Change (View (Held D V) Deed)
+
+-- the pieces of a recording, as a seat has seen them
+abbrev pub pieces_seen : {D V : Type 0} → Working D V → ℕ → View (Held D V) Deed → List (List ℤ × ℕ)
+pieces_seen s tag v = pieces_by s.track tag v.number s.start.commit_number v.seen
+
+-- The lines were run, and beside them a recording where there is a track and a playback where there is a pin.
+pub record Works {D V M P : Type 0} (k : Kinds D V M P) (s : Working D V) (lent : Lent V M P) (out : Outcome)
+    : Type 0 where
+  pub goes : Onward IsLine s.script.before s.script.now
+  pub ran : RanScript k.vaults (record { start = s.start; last = s.last; seat = s.script }) lent out.told
+  pub records : WhereMade out.opened.recording
+      (λ tag. Onward (IsPieceOf s.track tag) s.recorder.before s.recorder.now
+      × IsSomeAnd out.kept (IsRecorded k.mics lent.mic
+      (change (pieces_seen s tag s.recorder.before) (pieces_seen s tag s.recorder.now))))
+      ((s.recorder.now ≡ s.recorder.before) × (out.kept ≡ None) × (lent.mic.now ≡ lent.mic.before))
+  pub plays : WhereMade out.opened.pin
+      (λ pin. Onward (IsReadOf pin) s.player.before s.player.now
+      × IsSomeAnd out.heard (IsPlayed k.speakers lent.speaker
+      (IsMixOf (origin k.disk k.vaults s.start) s.player.before.seen pin)))
+      ((s.player.now ≡ s.player.before) × (out.heard ≡ None) × (lent.speaker.now ≡ lent.speaker.before))
