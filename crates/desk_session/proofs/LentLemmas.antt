@@ -22,7 +22,8 @@ module _ {D V M P : Type 0} {k : Kinds D V M P} {start final : Core D} {out : Ou
         left = change left r;
         written = change written b;
       }) out
-  session_of {vault} {v} {w} {mic} {m} {n} {speaker} {p} {q} {left} {l} {r} {written} {a} {b} one two three four five h =
+  session_of {vault} {v} {w} {mic} {m} {n} {speaker} {p} {q} {left} {l} {r} {written} {a} {b} one two three four five
+      h =
       subst (λ (z : V × M × P × Option (List ℕ) × Option (List ℕ)). IsSession k start final (record {
         vault = change vault z.0;
         mic = change mic z.1;
