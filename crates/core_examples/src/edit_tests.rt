@@ -1,9 +1,9 @@
 // Edits that make blocks, of a studio on a disk in memory, whose blocks have at most 4 samples.
-use super::projects::vault;
 use super::scripts::Ask::{Line, Piece};
 use super::scripts::{Ask, Row};
-use super::tests::{answers, tells_new};
-use disk_model::{RamStore, Store};
+use super::tests::{answers, each_stops, tells_new};
+use super::vaults::vault;
+use disk_model::Store;
 use std::alloc::Global;
 use std::process::Abort;
 use std::test::*;
@@ -15,7 +15,7 @@ const PIECE: Ask = Piece {
 };
 
 // Two pieces of a recording are one point: one undo takes both away, and one redo brings them back.
-const SCRIPT: [Row; 18] = [
+static SCRIPT: [Row; 18] = [
     (Line("track"), "ok 1"),
     (Line("put 2 0 7 -7 300"), "no 1 NoTrack 2"),
     (Line("put 1 0 7 -7 300"), "ok 2"),
@@ -45,7 +45,7 @@ fn each_edit_is_a_commit(rt: HostRuntime) -> Result<(), Fail> {
 }
 
 // What is cut and pasted; a cut begins at track 1.
-const PASTES: [Row; 16] = [
+static PASTES: [Row; 16] = [
     (Line("track"), "ok 1"),
     (Line("paste 1 0"), "no 1 EmptyClipboard"),
     (Line("put 1 0 7 -7 300"), "ok 2"),
@@ -70,7 +70,7 @@ fn what_is_cut_is_pasted(rt: HostRuntime) -> Result<(), Fail> {
 }
 
 // What a studio answers whose first block, or the record behind it, fails.
-const STOPPED: [Row; 3] = [
+static STOPPED: [Row; 3] = [
     (Line("track"), "ok 1"),
     (Line("put 1 0 7 -7 300"), "no 1 DiskFault"),
     (Line("put 1 0 7 -7 300"), "no 1 Stopped 1"),
@@ -78,18 +78,15 @@ const STOPPED: [Row; 3] = [
 
 // The calls of the put, behind those of the new journal and of the track's record: the block, written and synced, and
 // then the row and the gate of the record.
-const CHANGES: [u64; 6] = [14, 15, 16, 17, 18, 19];
+static CHANGES: [u64; 6] = [14, 15, 16, 17, 18, 19];
 
 #[test]
 fn a_change_that_fails_stops_the_studio(rt: HostRuntime) -> Result<(), Fail> {
-    for call in &CHANGES {
-        answers(&rt, rt.alloc(), 3, &[*call], &STOPPED)?;
-    }
-    Ok(())
+    each_stops(&rt, rt.alloc(), &CHANGES, &STOPPED)
 }
 
 // Nine samples are three blocks.
-const NINE: [Row; 2] = [
+static NINE: [Row; 2] = [
     (Line("track"), "ok 1"),
     (Line("put 1 0 1 -2 3 -4 5 -6 7 -8 9"), "no 1 DiskFault"),
 ];
@@ -97,7 +94,7 @@ const NINE: [Row; 2] = [
 // The blocks are of the ids 16 to 18: the calls 14 to 16 write them, 17 to 19 sync them, and 20 begins the record.
 // Where such a call fails, how many of the blocks are there as the disk reads, and how many a stop leaves that keeps
 // what was synced alone.
-const BLOCK_CALLS: [(u64, u64, u64); 7] = [
+static BLOCK_CALLS: [(u64, u64, u64); 7] = [
     (14, 0, 0),
     (15, 1, 0),
     (16, 2, 0),
@@ -107,12 +104,12 @@ const BLOCK_CALLS: [(u64, u64, u64); 7] = [
     (20, 3, 3),
 ];
 
-fn has_block(store: &mut RamStore, file: u64) -> bool {
+fn has_block<S: Store>(store: &mut S, file: u64) -> bool {
     matches!(store.size(file), Ok(Some(_)))
 }
 
 // How many of the blocks are there, if they are the first ones.
-fn blocks_there(store: &mut RamStore) -> Option<u64> {
+fn blocks_there<S: Store>(store: &mut S) -> Option<u64> {
     match (
         has_block(store, 16),
         has_block(store, 17),
@@ -134,7 +131,7 @@ fn keeps_blocks(
     there: u64,
     synced: u64,
 ) -> Result<(), Fail> {
-    let mut vault = vault(alloc)?;
+    let mut vault = vault(alloc, &[])?;
     let mut store = tells_new(rt, alloc, 3, &[call], &mut vault, &NINE)?;
     let mut left = store.image(alloc, 1)?;
     assert!(rt; blocks_there(&mut store) == Some(there), "call {call}");
@@ -142,10 +139,14 @@ fn keeps_blocks(
     Ok(())
 }
 
-#[test]
-fn all_blocks_are_written_before_the_first_sync(rt: HostRuntime) -> Result<(), Fail> {
+fn each_keeps_blocks(rt: &impl Abort, alloc: Global) -> Result<(), Fail> {
     for (call, there, synced) in &BLOCK_CALLS {
-        keeps_blocks(&rt, rt.alloc(), *call, *there, *synced)?;
+        keeps_blocks(rt, alloc, *call, *there, *synced)?;
     }
     Ok(())
+}
+
+#[test]
+fn all_blocks_are_written_before_the_first_sync(rt: HostRuntime) -> Result<(), Fail> {
+    each_keeps_blocks(&rt, rt.alloc())
 }

@@ -6,7 +6,7 @@ use super::scripts::Row;
 pub(crate) const DEPTH: u32 = 6;
 
 // Each line, and its answer. A block has at most 4 samples; the comments tell what the new ones hold.
-pub(crate) const SCRIPT: [Row; 36] = [
+pub(crate) static SCRIPT: [Row; 36] = [
     (Line("track"), "ok 1"),
     // 16: 1 2 3, 17: 4 5, 18: 10 20 30, 19: 1 -1.
     (Line("put 1 0 1 2 3 4 5"), "ok 2"),
@@ -77,4 +77,4 @@ pub(crate) const SCRIPT: [Row; 36] = [
 // The number of the last commit, and what is left when all is reclaimed: the journal, and the blocks of the points.
 pub(crate) const LAST: u64 = 24;
 
-pub(crate) const FILES: [u64; 4] = [0, 25, 27, 28];
+pub(crate) static FILES: [u64; 4] = [0, 25, 27, 28];

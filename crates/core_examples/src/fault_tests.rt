@@ -4,13 +4,14 @@ ghost use Rattle.editor_core.specs.Core.{core_of};
 ghost use Rattle.editor_core.specs.Studios.{IsStudio};
 
 use super::every_line::{DEPTH, FILES, LAST, SCRIPT};
-use super::projects::{found, vault};
+use super::projects::{found, make, open};
 use super::scripts::{Ask, Played, Row, answer, play};
 use super::tests::disk;
+use super::vaults::vault;
 use disk_model::{RamStore, Store};
 use edit_ports::MemVault;
 use editor_core::Studio;
-use editor_recovery::{OpenFault, create, open_store};
+use editor_recovery::OpenFault;
 use pcm_base::{Answer, Refusal, Reply};
 use std::alloc::Global;
 use std::process::Abort;
@@ -65,7 +66,7 @@ fn plays_on<S: Store>(
 ) -> Result<End, Fail>
     requires { IsStudio S.Store (core_of studio.old) }
 {
-    let mut vault = vault(alloc)?;
+    let mut vault = vault(alloc, &[])?;
     let Played {
         rows,
         commit,
@@ -114,7 +115,7 @@ fn keeps_all(rt: &impl Abort, alloc: Global, store: RamStore) -> Result<(), Fail
 // A project whose making or opening failed is made, if it is not there, and opened.
 fn begins_again(rt: &impl Abort, alloc: Global, store: RamStore) -> Result<(), Fail> {
     let mut store = store;
-    match create(alloc, &mut store, 8000, 4, DEPTH) {
+    match make(alloc, &mut store, 4, DEPTH) {
         Ok(()) | Err(OpenFault::Exists) => {}
         Err(_) => return Err("not made".into()),
     }
@@ -124,19 +125,26 @@ fn begins_again(rt: &impl Abort, alloc: Global, store: RamStore) -> Result<(), F
     Ok(())
 }
 
-// Plays the script on a disk whose call of this number fails. It answers whether there was such a call.
-fn is_met_by_script(
+// The same where the fault was the disk's.
+fn begins_again_at(
     rt: &impl Abort,
     alloc: Global,
-    studio: Studio<RamStore>,
-    script: &[Row],
+    store: RamStore,
+    fault: OpenFault,
+) -> Result<bool, Fail> {
+    assert!(rt; matches!(fault, OpenFault::DiskFault));
+    begins_again(rt, alloc, store)?;
+    Ok(true)
+}
+
+// What a disk has where a script ended so. It answers whether a call of it failed.
+fn keeps(
+    rt: &impl Abort,
+    alloc: Global,
+    store: RamStore,
     call: u64,
-) -> Result<bool, Fail>
-    requires { IsStudio ⟦<RamStore as Store>⟧ (core_of studio) }
-{
-    let mut studio = studio;
-    let end = plays_on(rt, alloc, &mut studio, script)?;
-    let store = studio.into_store();
+    end: End,
+) -> Result<bool, Fail> {
     match end {
         End::Whole => {
             assert!(rt; store.faults() == 0);
@@ -148,31 +156,33 @@ fn is_met_by_script(
     Ok(true)
 }
 
-// The same, from the making of the project on.
+// Plays the script on a disk whose call of this number fails, from the making of the project on. It answers whether
+// there was such a call.
 fn is_met(rt: &impl Abort, alloc: Global, script: &[Row], call: u64) -> Result<bool, Fail> {
     let mut store = disk(alloc, &[call])?;
-    if let Err(fault) = create(alloc, &mut store, 8000, 4, DEPTH) {
-        assert!(rt; fault == OpenFault::DiskFault);
-        begins_again(rt, alloc, store)?;
-        return Ok(true);
+    if let Err(fault) = make(alloc, &mut store, 4, DEPTH) {
+        return begins_again_at(rt, alloc, store, fault);
     }
-    match open_store(alloc, store) {
-        Ok(studio) => is_met_by_script(rt, alloc, studio, script, call),
-        Err((fault, store)) => {
-            assert!(rt; fault == OpenFault::DiskFault);
-            begins_again(rt, alloc, store)?;
-            Ok(true)
+    match open(alloc, store) {
+        Ok(mut studio) => {
+            let end = plays_on(rt, alloc, &mut studio, script)?;
+            keeps(rt, alloc, studio.into_store(), call, end)
         }
+        Err((fault, store)) => begins_again_at(rt, alloc, store, fault),
     }
 }
 
-#[test]
-fn each_call_fails_in_turn(rt: HostRuntime) -> Result<(), Fail> {
-    let alloc = rt.alloc();
+// Each call of the disk fails in turn, up to the first number that no call has.
+fn each_fails(rt: &impl Abort, alloc: Global) -> Result<(), Fail> {
     for call in 1..1000 {
-        if !is_met(&rt, alloc, &SCRIPT, call)? {
+        if !is_met(rt, alloc, &SCRIPT, call)? {
             return Ok(());
         }
     }
     Err("it goes on".into())
+}
+
+#[test]
+fn each_call_fails_in_turn(rt: HostRuntime) -> Result<(), Fail> {
+    each_fails(&rt, rt.alloc())
 }

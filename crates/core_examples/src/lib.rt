@@ -20,4 +20,6 @@ mod stop_tests;
 #[cfg(test)]
 mod tests;
 #[cfg(test)]
+mod vaults;
+#[cfg(test)]
 mod worked_tests;

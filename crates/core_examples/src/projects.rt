@@ -4,33 +4,43 @@ ghost use Rattle.project_journal.specs.Header.{IsFormat};
 ghost use Rattle.editor_core.specs.Core.{core_of};
 ghost use Rattle.editor_core.specs.Studios.{IsStudio};
 
-use super::sound_tests::MONO;
 use super::tests::disk;
 use disk_model::{RamStore, Store};
-use edit_ports::MemVault;
 use editor_core::Studio;
-use editor_recovery::{check, create, open_store};
-use pcm_base::Numbers;
+use editor_recovery::{OpenFault, check, create, open_store};
 use std::alloc::Global;
 use std::process::Abort;
 use std::test::*;
 
-// A vault with one sound, and room for one more.
-pub(crate) fn vault(alloc: Global) -> Result<MemVault, Fail> {
-    let mut vault = MemVault::new(alloc, 1, 4096, Numbers::new(Vec::new(alloc)))?;
-    vault.place("a.wav", &MONO)?;
-    Ok(vault)
+// Makes a project of 8,000 frames a second, with blocks of so many samples at most, and so many points.
+pub(crate) fn make<S: Store>(
+    alloc: Global,
+    store: &mut S,
+    block_size: u32,
+    depth: u32,
+) -> Result<(), OpenFault>
+    requires { IsFormat 8000 block_size depth }
+{
+    create(alloc, store, 8000, block_size, depth)
 }
 
-// A new project of 8,000 frames a second on a disk, with blocks of so many samples at most, and so many points.
+// Such a project on a new disk.
 pub(crate) fn project(alloc: Global, block_size: u32, depth: u32) -> Result<RamStore, Fail>
     requires { IsFormat 8000 block_size depth }
 {
     let mut store = disk(alloc, &[])?;
-    create(alloc, &mut store, 8000, block_size, depth)
-        .ok()
-        .ok_or("not made")?;
-    Ok(store)
+    match make(alloc, &mut store, block_size, depth) {
+        Ok(()) => Ok(store),
+        Err(_) => Err("not made".into()),
+    }
+}
+
+// Opens the project of a disk.
+pub(crate) fn open<S: Store>(alloc: Global, store: S) -> Result<Studio<S>, (OpenFault, S)>
+    ensures studio { IfOk result (λ s. IsStudio S.Store (core_of s)) }
+    ensures going { IfOk result (λ s. (core_of s).stopped ≡ None) }
+{
+    open_store(alloc, store)
 }
 
 // The studio of a disk that is opened.
@@ -38,7 +48,7 @@ pub(crate) fn opened<S: Store + Drop>(alloc: Global, store: S) -> Result<Studio<
     ensures studio { IfOk result (λ s. IsStudio S.Store (core_of s)) }
     ensures going { IfOk result (λ s. (core_of s).stopped ≡ None) }
 {
-    match open_store(alloc, store) {
+    match open(alloc, store) {
         Ok(studio) => Ok(studio),
         Err((_fault, _store)) => Err("not opened".into()),
     }
@@ -69,6 +79,25 @@ fn named_files<S: Store>(alloc: Global, studio: &Studio<S>) -> Result<Vec<u64>, 
     Ok(files)
 }
 
+// The numbers of the files of a disk.
+fn files_of<S: Store + Drop>(alloc: Global, store: S) -> Result<Vec<u64>, Fail> {
+    let mut store = store;
+    let mut files = Vec::new(alloc);
+    match store.files(&mut files) {
+        Ok(()) => Ok(files),
+        Err(_) => Err("not listed".into()),
+    }
+}
+
+// How many blocks a check finds whole, if it finds all so.
+pub(crate) fn checked<S: Store>(alloc: Global, studio: &mut Studio<S>) -> Option<u64>
+    requires studio { IsStudio S.Store (core_of studio.old) }
+    requires going { (core_of studio.old).stopped ≡ None }
+    ensures { IsStudio S.Store (core_of studio.new) }
+{
+    check(alloc, studio).ok()
+}
+
 // The project of a disk: a commit number, and its files after a reclaim.
 #[derive(Drop)]
 pub(crate) struct Kept {
@@ -84,15 +113,10 @@ pub(crate) fn found<S: Store + Drop>(
 ) -> Result<Kept, Fail> {
     let mut studio = opened(alloc, store)?;
     let number = studio.commit_number();
-    assert!(rt; check(alloc, &mut studio).is_ok());
+    assert!(rt; checked(alloc, &mut studio).is_some());
     reclaim_all(&mut studio)?;
     let named = named_files(alloc, &studio)?;
-    let mut files = Vec::new(alloc);
-    studio
-        .into_store()
-        .files(&mut files)
-        .ok()
-        .ok_or("not listed")?;
+    let files = files_of(alloc, studio.into_store())?;
     assert!(rt; files.as_slice() == named.as_slice());
     Ok(Kept { number, files })
 }

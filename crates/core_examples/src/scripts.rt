@@ -1,11 +1,12 @@
 // Scripts: what is asked of a studio, one after another, and the text of each answer.
+ghost use Rattle.pcm_base.specs.Form.{IsInForm};
 ghost use Rattle.editor_core.specs.Core.{core_of};
 ghost use Rattle.editor_core.specs.Studios.{IsStudio};
 
 use disk_model::Store;
 use edit_ports::{MemSink, MemVault};
 use editor_core::Studio;
-use pcm_base::{Answer, Numbers, Refusal, Reply};
+use pcm_base::{Answer, Command, Numbers, Refusal, Reply};
 use script_text::{parse, write_answer};
 use std::alloc::Global;
 use std::process::Abort;
@@ -24,6 +25,8 @@ pub(crate) enum Ask {
     Pin,
     PinLen(u64),
     Unpin(u64),
+    // Whether a scan finds a block at this place among those that are named, as a length of 1 or 0.
+    Scan(u64),
 }
 
 // What is asked, and the text of its answer: what is printed, without the LF.
@@ -36,6 +39,25 @@ fn reply_of(told: Result<Reply, Refusal>) -> Reply {
     }
 }
 
+// The answer to a command.
+fn apply<S: Store>(
+    alloc: Global,
+    studio: &mut Studio<S>,
+    vault: &mut MemVault,
+    command: &Command,
+) -> Answer
+    requires studio { IsStudio S.Store (core_of studio.old) }
+    requires in_form { IsInForm command.now }
+    ensures { IsStudio S.Store (core_of studio.new) }
+{
+    let mut answer = Answer {
+        commit: studio.commit_number(),
+        reply: Reply::Copied,
+    };
+    let _told = studio.apply(alloc, vault, command, &mut answer);
+    answer
+}
+
 // The answer to a line.
 fn carry<S: Store>(
     alloc: Global,
@@ -46,21 +68,13 @@ fn carry<S: Store>(
     requires { IsStudio S.Store (core_of studio.old) }
     ensures { IsStudio S.Store (core_of studio.new) }
 {
-    let mut answer = Answer {
-        commit: studio.commit_number(),
-        reply: Reply::Copied,
-    };
     match parse(alloc, line.as_bytes()) {
-        Ok(command) => {
-            let _told = studio.apply(alloc, vault, &command, &mut answer);
-        }
-        Err(fault) => {
-            answer.reply = Reply::Refused {
-                reason: fault.into(),
-            }
-        }
+        Ok(command) => apply(alloc, studio, vault, &command),
+        Err(fault) => Answer {
+            commit: studio.commit_number(),
+            reply: reply_of(Err(fault.into())),
+        },
     }
-    answer
 }
 
 // Samples of a recording. Its tag has to be the number of a commit.
@@ -105,6 +119,19 @@ fn unpin<S: Store>(studio: &mut Studio<S>, pin: u64) -> Result<Reply, Refusal>
     Ok(Reply::Done)
 }
 
+fn scan<S: Store>(alloc: Global, studio: &mut Studio<S>, place: u64) -> Result<Reply, Refusal>
+    requires { IsStudio S.Store (core_of studio.old) }
+    ensures { IsStudio S.Store (core_of studio.new) }
+{
+    if let Some(faults) = studio.stopped() {
+        return Err(Refusal::Stopped { faults });
+    }
+    let is_there = studio.scan_block(alloc, place)?;
+    Ok(Reply::Length {
+        frames: is_there as u64,
+    })
+}
+
 // The answer to what is asked.
 pub(crate) fn answer<S: Store>(
     alloc: Global,
@@ -125,6 +152,7 @@ pub(crate) fn answer<S: Store>(
         Ask::Pin => pin(studio),
         Ask::PinLen(number) => pin_len(studio, number),
         Ask::Unpin(number) => unpin(studio, number),
+        Ask::Scan(place) => scan(alloc, studio, place),
     };
     Answer {
         commit: studio.commit_number(),

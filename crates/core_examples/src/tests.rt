@@ -3,9 +3,9 @@ ghost use Rattle.std.specs.Prelude.{◌≡◌, ◌≤◌, ℕ, IsTrue, IfOk, Non
 ghost use Rattle.editor_core.specs.Core.{core_of};
 ghost use Rattle.editor_core.specs.Studios.{IsHeld, IsStudio};
 
-use super::projects::vault;
 use super::scripts::Ask::Line;
 use super::scripts::{Row, tells};
+use super::vaults::vault;
 use block_ledger::Ledger;
 use disk_model::{RamStore, Store};
 use edit_ports::MemVault;
@@ -18,7 +18,7 @@ use std::process::Abort;
 use std::test::*;
 use undo_history::History;
 
-const SCRIPT: [Row; 15] = [
+static SCRIPT: [Row; 15] = [
     (Line("undo"), "no 0 NothingToUndo"),
     (Line("redo"), "no 0 NothingToRedo"),
     (Line("purge 1"), "no 0 BadRange"),
@@ -40,14 +40,9 @@ const SCRIPT: [Row; 15] = [
 pub(crate) fn disk(alloc: Global, failing: &[u64]) -> Result<RamStore, Fail>
     ensures { IfOk result (λ s. s.log.history ≡ []) }
 {
-    let mut fails = Vec::new(alloc);
-    for call in failing {
-        fails.push(*call)?;
-    }
-    match RamStore::new(alloc, 64, 65_536, 1_024, Numbers::new(fails)) {
-        Ok(store) => Ok(store),
-        Err(_) => Err("no memory".into()),
-    }
+    let fails = Numbers::new(Vec::from_slice(alloc, failing)?);
+    let store = RamStore::new(alloc, 64, 65_536, 1_024, fails)?;
+    Ok(store)
 }
 
 // A studio of a new project, with at most this many points.
@@ -83,8 +78,8 @@ pub(crate) fn new_studio<S: Store + Drop>(
     }
 }
 
-// Asks for the rows on a new project with at most this many points, on a disk whose calls of these numbers fail. Each is
-// answered as it stands beside it. It answers the disk.
+// Asks for the rows on a new project with at most this many points, on a disk whose calls of these numbers fail. Each
+// is answered as it stands beside it. It answers the disk.
 pub(crate) fn tells_new(
     rt: &impl Abort,
     alloc: Global,
@@ -110,8 +105,21 @@ pub(crate) fn answers(
 ) -> Result<(), Fail>
     requires { (1 ≤ depth) × (depth ≤ 4096) }
 {
-    let mut vault = vault(alloc)?;
+    let mut vault = vault(alloc, &[])?;
     let _store = tells_new(rt, alloc, depth, failing, &mut vault, rows)?;
+    Ok(())
+}
+
+// The same where each of these calls of the disk fails, of one project each.
+pub(crate) fn each_stops(
+    rt: &impl Abort,
+    alloc: Global,
+    calls: &[u64],
+    rows: &[Row],
+) -> Result<(), Fail> {
+    for call in calls {
+        answers(rt, alloc, 3, &[*call], rows)?;
+    }
     Ok(())
 }
 
@@ -121,21 +129,18 @@ fn each_call_is_a_commit(rt: HostRuntime) -> Result<(), Fail> {
 }
 
 // What a studio answers whose first change fails.
-const STOPPED: [Row; 3] = [
+static STOPPED: [Row; 3] = [
     (Line("track"), "no 0 DiskFault"),
     (Line("track"), "no 0 Stopped 1"),
     (Line("undo"), "no 0 Stopped 1"),
 ];
 
 // The calls of the first record, behind those of the new journal: its row and then its gate, each written and synced.
-const CHANGES: [u64; 4] = [10, 11, 12, 13];
+static CHANGES: [u64; 4] = [10, 11, 12, 13];
 
 #[test]
 fn a_change_that_fails_stops_the_studio(rt: HostRuntime) -> Result<(), Fail> {
-    for call in &CHANGES {
-        answers(&rt, rt.alloc(), 3, &[*call], &STOPPED)?;
-    }
-    Ok(())
+    each_stops(&rt, rt.alloc(), &CHANGES, &STOPPED)
 }
 
 // So many tracks of a new project are a commit each.
@@ -144,14 +149,21 @@ fn adds_tracks<S: Store>(rt: &impl Abort, alloc: Global, studio: &mut Studio<S>,
     ensures { IsStudio S.Store (core_of studio.new) }
 {
     'tracks: for before in 0..count {
-        assert!(rt; studio.track(alloc) == Ok(before + 1));
+        assert!(rt; studio.track(alloc).ok() == Some(before + 1));
     }
+}
+
+// It has 64 tracks at most.
+fn has_64_tracks<S: Store>(rt: &impl Abort, alloc: Global, studio: &mut Studio<S>)
+    requires { IsStudio S.Store (core_of studio.old) }
+{
+    adds_tracks(rt, alloc, studio, 64);
+    assert!(rt; matches!(studio.track(alloc), Err(Refusal::TrackLimit)));
 }
 
 fn adds_64_tracks(rt: &impl Abort, alloc: Global) -> Result<(), Fail> {
     let mut studio = new_studio(alloc, disk(alloc, &[])?, 3)?;
-    adds_tracks(rt, alloc, &mut studio, 64);
-    assert!(rt; studio.track(alloc) == Err(Refusal::TrackLimit));
+    has_64_tracks(rt, alloc, &mut studio);
     Ok(())
 }
 

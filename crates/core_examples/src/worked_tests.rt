@@ -1,19 +1,18 @@
 // Worked scripts: each line with its answer, by hand from the rules of the lines.
-use super::projects::{opened, project};
+use super::projects::{checked, make, open, opened, project};
 use super::scripts::Ask::Line;
 use super::scripts::{Row, play, tells};
-use super::sound_tests::MONO;
 use super::tests::disk;
-use disk_model::RamStore;
-use edit_ports::MemVault;
-use editor_recovery::{OpenFault, check, create, open_store};
-use pcm_base::{BlockRef, Numbers};
+use super::vaults::vault;
+use disk_model::{RamStore, Store};
+use editor_core::Studio;
+use editor_recovery::OpenFault;
 use std::alloc::Global;
 use std::process::Abort;
 use std::test::*;
 
 // Each is played on a new project, whose blocks have at most 4 samples, and which keeps 256 points.
-const SCRIPTS: [&[Row]; 16] = [
+static SCRIPTS: [&[Row]; 16] = [
     &[
         (Line("track"), "ok 1"),
         (Line("put 1 0 1 2 3 4 5"), "ok 2"),
@@ -133,53 +132,27 @@ const SCRIPTS: [&[Row]; 16] = [
     ],
 ];
 
-// The sound of one channel, with other bytes at a place.
-fn changed(at: usize, bytes: &[u8]) -> Result<[u8; 48], Fail> {
-    let mut sound = MONO;
-    for (i, byte) in bytes.iter().enumerate() {
-        let place = at.checked_add(i).ok_or("too far")?;
-        *sound.get_mut(place).ok_or("too far")? = *byte;
-    }
-    Ok(sound)
-}
-
-// A chunk of three bytes, and the one behind it that makes them even.
-const CHUNK: &[u8] = b"LIST\x03\0\0\0abc\0";
-
-// A vault of sounds that are read, and of some that are not, with room for two more.
-fn sounds(alloc: Global) -> Result<MemVault, Fail> {
-    let mut vault = MemVault::new(alloc, 2, 4096, Numbers::new(Vec::new(alloc)))?;
-    vault.place("a.wav", &MONO)?;
-    let mut chunk = Vec::new(alloc);
-    chunk.extend_from_slice(&MONO[..36])?;
-    chunk.extend_from_slice(CHUNK)?;
-    chunk.extend_from_slice(&MONO[36..])?;
-    vault.place("chunk.wav", chunk.as_slice())?;
-    vault.place("open.wav", &changed(40, b"\xFF\xFF\xFF\xFF")?)?;
-    vault.place("short.wav", &MONO[..47])?;
-    vault.place("deep.wav", &changed(34, &[24])?)?;
-    vault.place("rate.wav", &changed(24, &[0x41])?)?;
-    Ok(vault)
-}
-
 // Opens a disk and plays a script. All of it is answered as it stands beside the lines.
 fn plays(rt: &impl Abort, alloc: Global, store: RamStore, rows: &[Row]) -> Result<RamStore, Fail> {
     let mut studio = opened(alloc, store)?;
-    tells(rt, alloc, &mut studio, &mut sounds(alloc)?, rows)?;
+    tells(rt, alloc, &mut studio, &mut vault(alloc, &[])?, rows)?;
     Ok(studio.into_store())
 }
 
-#[test]
-fn worked_scripts(rt: HostRuntime) -> Result<(), Fail> {
-    let alloc = rt.alloc();
-    for rows in SCRIPTS {
-        let _store = plays(&rt, alloc, project(alloc, 4, 256)?, rows)?;
+fn plays_all(rt: &impl Abort, alloc: Global) -> Result<(), Fail> {
+    for rows in &SCRIPTS {
+        let _store = plays(rt, alloc, project(alloc, 4, 256)?, rows)?;
     }
     Ok(())
 }
 
+#[test]
+fn worked_scripts(rt: HostRuntime) -> Result<(), Fail> {
+    plays_all(&rt, rt.alloc())
+}
+
 // Column edges lie inside frames of 256 samples.
-const WIDE: [Row; 3] = [
+static WIDE: [Row; 3] = [
     (Line("track"), "ok 1"),
     (Line("ramp 1 0 300 0 1"), "ok 2"),
     (
@@ -189,21 +162,24 @@ const WIDE: [Row; 3] = [
 ];
 
 // Of one point nothing is undone.
-const SHALLOW: [Row; 2] = [
+static SHALLOW: [Row; 2] = [
     (Line("track"), "ok 1"),
     (Line("undo"), "no 1 NothingToUndo"),
 ];
 
-#[test]
-fn other_formats(rt: HostRuntime) -> Result<(), Fail> {
-    let alloc = rt.alloc();
-    let _wide = plays(&rt, alloc, project(alloc, 512, 256)?, &WIDE)?;
-    let _shallow = plays(&rt, alloc, project(alloc, 4, 1)?, &SHALLOW)?;
+fn plays_other_formats(rt: &impl Abort, alloc: Global) -> Result<(), Fail> {
+    let _wide = plays(rt, alloc, project(alloc, 512, 256)?, &WIDE)?;
+    let _shallow = plays(rt, alloc, project(alloc, 4, 1)?, &SHALLOW)?;
     Ok(())
 }
 
+#[test]
+fn other_formats(rt: HostRuntime) -> Result<(), Fail> {
+    plays_other_formats(&rt, rt.alloc())
+}
+
 // The cut makes block 18 of 3 4 5. The first reclaim takes 17, and 16 stays for what was cut; the paste makes 19 of it.
-const CUT: [Row; 8] = [
+static CUT: [Row; 8] = [
     (Line("track"), "ok 1"),
     (Line("put 1 0 1 2 3 4 5"), "ok 2"),
     (Line("cut 1 1 0 2"), "ok 3"),
@@ -215,31 +191,44 @@ const CUT: [Row; 8] = [
 ];
 
 // An opening knows of nothing that was cut.
-const OPENED: [Row; 3] = [
+static OPENED: [Row; 3] = [
     (Line("paste 1 0"), "no 5 EmptyClipboard"),
     (Line("reclaim"), "freed 5 1"),
     (Line("show 1 0 9"), "cells 5 1 2 3 4 5"),
 ];
 
-#[test]
-fn what_was_cut_is_kept_until_an_opening(rt: HostRuntime) -> Result<(), Fail> {
-    let alloc = rt.alloc();
-    let store = plays(&rt, alloc, project(alloc, 4, 256)?, &CUT)?;
-    let studio = opened(alloc, plays(&rt, alloc, store, &OPENED)?)?;
+// The blocks that are named behind both: 18 of 3 samples, and 19 of 2.
+fn has_both_blocks<S: Store>(alloc: Global, studio: &Studio<S>) -> Result<bool, Fail> {
     let named = studio.named_blocks(alloc)?;
-    let want = [BlockRef { id: 18, len: 3 }, BlockRef { id: 19, len: 2 }];
-    assert!(rt; named.as_slice() == want.as_slice());
+    let is_named = match named.as_slice() {
+        [first, second] => {
+            first.id == 18 && first.len == 3 && second.id == 19 && second.len == 2
+        }
+        _ => false,
+    };
+    Ok(is_named)
+}
+
+fn keeps_what_was_cut(rt: &impl Abort, alloc: Global) -> Result<(), Fail> {
+    let store = plays(rt, alloc, project(alloc, 4, 256)?, &CUT)?;
+    let studio = opened(alloc, plays(rt, alloc, store, &OPENED)?)?;
+    assert!(rt; has_both_blocks(alloc, &studio)?);
     Ok(())
 }
 
-const FIVE: [Row; 2] = [(Line("track"), "ok 1"), (Line("put 1 0 1 2 3 4 5"), "ok 2")];
+#[test]
+fn what_was_cut_is_kept_until_an_opening(rt: HostRuntime) -> Result<(), Fail> {
+    keeps_what_was_cut(&rt, rt.alloc())
+}
 
-const UNREAD: [Row; 2] = [
+static FIVE: [Row; 2] = [(Line("track"), "ok 1"), (Line("put 1 0 1 2 3 4 5"), "ok 2")];
+
+static UNREAD: [Row; 2] = [
     (Line("show 1 0 1"), "no 2 DiskFault"),
     (Line("put 1 0 9"), "ok 3"),
 ];
 
-const UNWRITTEN: [Row; 2] = [
+static UNWRITTEN: [Row; 2] = [
     (Line("put 1 0 9"), "no 2 DiskFault"),
     (Line("show 1 0 1"), "no 2 Stopped 1"),
 ];
@@ -248,11 +237,11 @@ const UNWRITTEN: [Row; 2] = [
 // answered as it stands beside its lines.
 fn plays_both(rt: &impl Abort, alloc: Global, call: u64, rows: &[Row]) -> Result<bool, Fail> {
     let mut store = disk(alloc, &[call])?;
-    create(alloc, &mut store, 8000, 4, 256)
-        .ok()
-        .ok_or("not made")?;
+    if make(alloc, &mut store, 4, 256).is_err() {
+        return Err("not made".into());
+    }
+    let mut vault = vault(alloc, &[])?;
     let mut studio = opened(alloc, store)?;
-    let mut vault = sounds(alloc)?;
     tells(rt, alloc, &mut studio, &mut vault, &FIVE)?;
     let second = play(alloc, &mut studio, &mut vault, rows)?;
     Ok(second.rows == rows.len())
@@ -260,13 +249,11 @@ fn plays_both(rt: &impl Abort, alloc: Global, call: u64, rows: &[Row]) -> Result
 
 // The first read of the one fails. Of the other the first calls read the block that it takes in: the first that stops
 // is a write.
-#[test]
-fn a_read_fails_and_a_write(rt: HostRuntime) -> Result<(), Fail> {
-    let alloc = rt.alloc();
-    let done = plays(&rt, alloc, project(alloc, 4, 256)?, &FIVE)?.call_count();
-    assert!(rt; plays_both(&rt, alloc, done.saturating_add(1), &UNREAD)?);
+fn reads_and_writes_fail(rt: &impl Abort, alloc: Global) -> Result<(), Fail> {
+    let done = plays(rt, alloc, project(alloc, 4, 256)?, &FIVE)?.call_count();
+    assert!(rt; plays_both(rt, alloc, done.saturating_add(1), &UNREAD)?);
     for more in 1..9 {
-        if plays_both(&rt, alloc, done.saturating_add(more), &UNWRITTEN)? {
+        if plays_both(rt, alloc, done.saturating_add(more), &UNWRITTEN)? {
             return Ok(());
         }
     }
@@ -274,16 +261,25 @@ fn a_read_fails_and_a_write(rt: HostRuntime) -> Result<(), Fail> {
 }
 
 #[test]
-fn made_once_and_checked(rt: HostRuntime) -> Result<(), Fail> {
-    let alloc = rt.alloc();
-    match open_store(alloc, disk(alloc, &[])?) {
-        Ok(_studio) => return Err("opened".into()),
-        Err((fault, _store)) => assert!(rt; fault == OpenFault::Absent),
-    }
+fn a_read_fails_and_a_write(rt: HostRuntime) -> Result<(), Fail> {
+    reads_and_writes_fail(&rt, rt.alloc())
+}
+
+// Whether a disk without files has no project to open.
+fn is_absent<S: Store + Drop>(alloc: Global, store: S) -> bool {
+    matches!(open(alloc, store), Err((OpenFault::Absent, _)))
+}
+
+fn made_once(rt: &impl Abort, alloc: Global) -> Result<(), Fail> {
+    assert!(rt; is_absent(alloc, disk(alloc, &[])?));
     let mut store = project(alloc, 4, 256)?;
-    let again = create(alloc, &mut store, 8000, 4, 256);
-    assert!(rt; again == Err(OpenFault::Exists));
-    let mut studio = opened(alloc, plays(&rt, alloc, store, &FIVE)?)?;
-    assert!(rt; check(alloc, &mut studio) == Ok(2));
+    assert!(rt; matches!(make(alloc, &mut store, 4, 256), Err(OpenFault::Exists)));
+    let mut studio = opened(alloc, plays(rt, alloc, store, &FIVE)?)?;
+    assert!(rt; checked(alloc, &mut studio) == Some(2));
     Ok(())
+}
+
+#[test]
+fn made_once_and_checked(rt: HostRuntime) -> Result<(), Fail> {
+    made_once(&rt, rt.alloc())
 }
