@@ -1,7 +1,7 @@
 // Calls of the program on a disk in memory, with their streams, a microphone and a speaker in memory, and what they
 // leave.
-use disk_model::RamStore;
-use edit_ports::{Gate, MemSink, MemSource, MemVault, OpenGate};
+use disk_model::{RamStore, Store};
+use edit_ports::{Gate, MemSink, MemSource, MemVault, OpenGate, Sink, Source, Vault};
 use pcm_base::Numbers;
 use session_run::{Ending, studio_call};
 use std::alloc::Global;
@@ -10,12 +10,13 @@ use std::test::*;
 use std::thread::Threads;
 
 // One channel of the samples 1 and -1, at 8,000 frames a second.
-const MONO: &[u8] =
-    b"RIFF(\0\0\0WAVEfmt \x10\0\0\0\x01\0\x01\0@\x1F\0\0\x80>\0\0\x02\0\x10\0data\x04\0\0\0\x01\0\xFF\xFF";
+static MONO: &[u8] =
+    b"RIFF(\0\0\0WAVEfmt \x10\0\0\0\x01\0\x01\0\x40\x1F\0\0\x80\x3E\0\0\x02\0\x10\0\
+data\x04\0\0\0\x01\0\xFF\xFF";
 
-// What a call is asked: its words, parted by single spaces, and its script. Of its source, its output, its vault and its
-// microphone the calls of these numbers fail. A read of the script gives so many bytes at most, and a write takes as
-// many. The microphone's bytes come four a read, and the speaker has room for so many.
+// What a call is asked: its words, parted by single spaces, and its script. Of its source, its output, its vault and
+// its microphone the calls of these numbers fail. A read of the script gives so many bytes at most, and a write takes
+// as many. The microphone's bytes come four a read, and the speaker has room for so many.
 #[derive(Clone, Copy)]
 pub(crate) struct Asked<'a> {
     pub(crate) words: &'a str,
@@ -29,19 +30,26 @@ pub(crate) struct Asked<'a> {
     pub(crate) room: usize,
 }
 
+// A call none of whose streams fails, but a microphone that may not be read. Its speaker takes nothing.
+pub(crate) const PLAIN: Asked<'static> = Asked {
+    words: "studio run",
+    script: b"",
+    piece: 65_536,
+    reads: &[],
+    writes: &[],
+    sounds: &[],
+    mic: &[],
+    mic_reads: &[1],
+    room: 0,
+};
+
 impl<'a> Asked<'a> {
-    // A call none of whose streams fails, but a microphone that may not be read. Its speaker takes nothing.
+    // A plain call of these words with a script.
     pub(crate) fn new(words: &'a str, script: &'a [u8]) -> Asked<'a> {
         Asked {
             words,
             script,
-            piece: 65_536,
-            reads: &[],
-            writes: &[],
-            sounds: &[],
-            mic: &[],
-            mic_reads: &[1],
-            room: 0,
+            ..PLAIN
         }
     }
 }
@@ -86,7 +94,59 @@ fn words_of(alloc: Global, text: &str) -> Result<Vec<String>, Fail> {
     Ok(words)
 }
 
-// Makes a call at a gate. Its vault has one sound, and room for one more.
+fn source_of(
+    alloc: Global,
+    bytes: &[u8],
+    piece: usize,
+    failing: &[u64],
+) -> Result<MemSource, Fail> {
+    let bytes = Vec::from_slice(alloc, bytes)?;
+    let fails = numbers(alloc, failing)?;
+    Ok(MemSource::new(bytes, piece.max(1), fails))
+}
+
+fn sink_of(alloc: Global, room: usize, piece: usize, failing: &[u64]) -> Result<MemSink, Fail> {
+    let sink = MemSink::new(alloc, room, piece.max(1), numbers(alloc, failing)?)?;
+    Ok(sink)
+}
+
+// A vault with one sound, and room for one more.
+fn vault_of(alloc: Global, failing: &[u64]) -> Result<MemVault, Fail> {
+    let mut vault = MemVault::new(alloc, 1, 4_096, numbers(alloc, failing)?)?;
+    vault.place("a.wav", MONO)?;
+    Ok(vault)
+}
+
+// The call of the program, over streams and a disk of any kinds: so that a proof about certain ones does not lay out
+// what is promised of it.
+fn carried<R, A, O, S, V, M, P, G>(
+    rt: &R,
+    alloc: Global,
+    words: &[String],
+    script: &mut A,
+    out: &mut O,
+    store: S,
+    vault: &mut V,
+    mic: M,
+    speaker: P,
+    gate: &G,
+) -> Ending<S, M, P>
+where
+    R: Threads + Wait + Sync,
+    A: Source + Send,
+    O: Sink + Send,
+    S: Store + Send,
+    V: Vault + Send,
+    M: Source + Send,
+    P: Sink + Send,
+    G: Gate + Sync,
+{
+    studio_call(
+        rt, alloc, words, script, out, store, vault, mic, speaker, gate,
+    )
+}
+
+// Makes a call at a gate.
 pub(crate) fn call_at<R: Threads + Wait + Sync, G: Gate + Sync>(
     rt: &R,
     alloc: Global,
@@ -94,26 +154,25 @@ pub(crate) fn call_at<R: Threads + Wait + Sync, G: Gate + Sync>(
     store: RamStore,
     gate: &G,
 ) -> Result<Called, Fail> {
-    let piece = asked.piece.max(1);
-    let script = Vec::from_slice(alloc, asked.script)?;
-    let mut source = MemSource::new(script, piece, numbers(alloc, asked.reads)?);
-    let mut sink = MemSink::new(alloc, 65_536, piece, numbers(alloc, asked.writes)?)?;
-    let mut vault = MemVault::new(alloc, 1, 4_096, numbers(alloc, asked.sounds)?)?;
-    vault.place("a.wav", MONO)?;
-    let bytes = Vec::from_slice(alloc, asked.mic)?;
-    let ending = studio_call(
+    let words = words_of(alloc, asked.words)?;
+    let mut script = source_of(alloc, asked.script, asked.piece, asked.reads)?;
+    let mut out = sink_of(alloc, 65_536, asked.piece, asked.writes)?;
+    let mut vault = vault_of(alloc, asked.sounds)?;
+    let mic = source_of(alloc, asked.mic, 4, asked.mic_reads)?;
+    let speaker = sink_of(alloc, asked.room, 65_536, &[])?;
+    let ending = carried(
         rt,
         alloc,
-        words_of(alloc, asked.words)?.as_slice(),
-        &mut source,
-        &mut sink,
+        words.as_slice(),
+        &mut script,
+        &mut out,
         store,
         &mut vault,
-        MemSource::new(bytes, 4, numbers(alloc, asked.mic_reads)?),
-        MemSink::new(alloc, asked.room, 65_536, numbers(alloc, &[])?)?,
+        mic,
+        speaker,
         gate,
     );
-    let text = Vec::from_slice(alloc, sink.bytes())?;
+    let text = Vec::from_slice(alloc, out.bytes())?;
     Ok(Called { text, ending })
 }
 
@@ -125,61 +184,4 @@ pub(crate) fn call<R: Threads + Wait + Sync>(
     store: RamStore,
 ) -> Result<Called, Fail> {
     call_at(rt, alloc, asked, store, &OpenGate)
-}
-
-// Makes a call, which prints this text and ends with this status, and answers its store. Else the test fails and names
-// the text.
-pub(crate) fn tells<R: Threads + Wait + Sync>(
-    rt: &R,
-    alloc: Global,
-    asked: Asked,
-    store: RamStore,
-    text: &str,
-    status: u8,
-) -> Result<RamStore, Fail> {
-    let called = call(rt, alloc, asked, store)?;
-    let is_told = called.text.as_slice() == text.as_bytes();
-    let ending = called.ending;
-    if is_told && ending.status == status {
-        Ok(ending.store)
-    } else {
-        Err(Fail::new(text))
-    }
-}
-
-// The disk of a new project, of 8,000 samples a second and blocks of 4 samples, on which a script was run. Of its calls
-// those of these numbers fail, which come later.
-pub(crate) fn project<R: Threads + Wait + Sync>(
-    rt: &R,
-    alloc: Global,
-    failing: &[u64],
-    script: &[u8],
-) -> Result<RamStore, Fail> {
-    project_of(
-        rt,
-        alloc,
-        failing,
-        "studio new --rate 8000 --block 4",
-        script,
-    )
-}
-
-// The same of a project that these words make.
-pub(crate) fn project_of<R: Threads + Wait + Sync>(
-    rt: &R,
-    alloc: Global,
-    failing: &[u64],
-    words: &str,
-    script: &[u8],
-) -> Result<RamStore, Fail> {
-    let store = tells(
-        rt,
-        alloc,
-        Asked::new(words, b""),
-        disk(alloc, failing)?,
-        "ok 0\n",
-        0,
-    )?;
-    let called = call(rt, alloc, Asked::new("studio run", script), store)?;
-    Ok(called.into_store())
 }

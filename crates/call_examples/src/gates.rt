@@ -19,7 +19,7 @@ const ALL_THREE: &[Place] = &[(BEFORE_LINE, 3), (BEFORE_PUSH, 1), (AFTER_PUSH, 1
 
 // The script's third line and the first pushes of the recorder and of the player are held until all three were reached,
 // and the fourth line until a piece was made and a frame was taken.
-pub(crate) const OVERLAP: &[Hold] = &[
+pub(crate) static OVERLAP: [Hold; 4] = [
     ((BEFORE_LINE, 3), ALL_THREE),
     ((BEFORE_PUSH, 1), ALL_THREE),
     ((AFTER_PUSH, 1), ALL_THREE),
@@ -27,7 +27,7 @@ pub(crate) const OVERLAP: &[Hold] = &[
 ];
 
 // The first push of the recorder is held until a line was answered.
-pub(crate) const ANSWER_FIRST: &[Hold] = &[((BEFORE_PUSH, 1), &[(AFTER_ANSWER, 1)])];
+pub(crate) static ANSWER_FIRST: [Hold; 1] = [((BEFORE_PUSH, 1), &[(AFTER_ANSWER, 1)])];
 
 // How often each point was passed, and whether a thread has looked in vain.
 #[derive(Clone, Copy)]

@@ -15,6 +15,8 @@ mod recording_stop_tests;
 #[cfg(test)]
 mod refused_tests;
 #[cfg(test)]
+mod sessions;
+#[cfg(test)]
 mod sound_tests;
 #[cfg(test)]
 mod stop_tests;

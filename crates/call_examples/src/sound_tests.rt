@@ -1,5 +1,6 @@
 // Worked calls that record and play: what is printed, what is heard and what is kept, by hand from the rules.
-use super::calls::{Asked, Called, call, project_of};
+use super::calls::{Asked, Called, PLAIN, call};
+use super::sessions::project_of;
 use disk_model::RamStore;
 use std::alloc::Global;
 use std::sync::Wait;
@@ -17,14 +18,9 @@ type Row = (Asked<'static>, Printed, Numbered, &'static str);
 
 const ALONE: Asked<'static> = Asked {
     words: "studio run --record",
-    script: b"",
-    piece: 65_536,
-    reads: &[],
-    writes: &[],
-    sounds: &[],
     mic: b"\x05\0\x06\0\x07\0",
     mic_reads: &[],
-    room: 0,
+    ..PLAIN
 };
 
 const BOTH: Asked<'static> = Asked {
@@ -45,7 +41,7 @@ const HEARD: &[u8] = b"\x01\0\x01\0\x02\0\x02\0";
 const NONE: Numbered = (None, &[], &[]);
 
 // Each on a project of a track with the samples 1 and 2.
-const ROWS: [Row; 11] = [
+static ROWS: [Row; 11] = [
     (
         BOTH,
         ("rec 2 1 3\nplay 2\nend 4\n", 0, HEARD),
@@ -138,49 +134,59 @@ const ROWS: [Row; 11] = [
     ),
 ];
 
-fn has_numbers(called: &Called, numbered: Numbered) -> bool {
+fn has_numbers(called: &Called, numbered: &Numbered) -> bool {
     let (track, script, pieces) = numbered;
     let ending = &called.ending;
-    ending.record_commit == track
-        && ending.script_commits.as_slice() == script
-        && ending.piece_commits.as_slice() == pieces
+    ending.record_commit == *track
+        && ending.script_commits.as_slice() == *script
+        && ending.piece_commits.as_slice() == *pieces
+}
+
+fn is_told(called: &Called, printed: &Printed, numbered: &Numbered) -> bool {
+    let (text, status, speaker) = printed;
+    called.is(text, *status, speaker) && has_numbers(called, numbered)
 }
 
 // Makes the call of a row, and the one behind it.
 fn does<R: Threads + Wait + Sync>(
     rt: &R,
     alloc: Global,
-    row: Row,
+    row: &Row,
     store: RamStore,
 ) -> Result<(), Fail> {
-    let (asked, (text, status, speaker), numbered, found) = row;
-    let called = call(rt, alloc, asked, store)?;
-    let is_told = called.is(text, status, speaker) && has_numbers(&called, numbered);
+    let (asked, printed, numbered, found) = row;
+    let called = call(rt, alloc, *asked, store)?;
+    if !is_told(&called, printed, numbered) {
+        return Err(Fail::new(printed.0));
+    }
     let shows = Asked::new("studio run", b"show 2 0 9\n");
     let shown = call(rt, alloc, shows, called.into_store())?;
-    if is_told && shown.text.as_slice() == found.as_bytes() {
+    if shown.text.as_slice() == found.as_bytes() {
         Ok(())
     } else {
-        Err(Fail::new(text))
+        Err(Fail::new(found))
     }
+}
+
+fn does_all<R: Threads + Wait + Sync>(rt: &R, alloc: Global) -> Result<(), Fail> {
+    let new = "studio new --rate 8000 --block 4";
+    let base = project_of(rt, alloc, &[], new, b"track\nput 1 0 1 2\n")?;
+    for row in &ROWS {
+        does(rt, alloc, row, base.image(alloc, 0)?)?;
+    }
+    Ok(())
 }
 
 #[test]
 fn worked_rows(rt: HostRuntime) -> Result<(), Fail> {
-    let alloc = rt.alloc();
-    let new = "studio new --rate 8000 --block 4";
-    let base = project_of(&rt, alloc, &[], new, b"track\nput 1 0 1 2\n")?;
-    for row in ROWS {
-        does(&rt, alloc, row, base.image(alloc, 0)?)?;
-    }
-    Ok(())
+    does_all(&rt, rt.alloc())
 }
 
 // A project of so many tracks without samples, what is asked, what is printed and the status. Nothing is heard.
 type Empty = (usize, Asked<'static>, &'static str, u8);
 
 // With 64 tracks there is none for a recording, and the microphone is not read.
-const EMPTY: [Empty; 5] = [
+static EMPTY: [Empty; 5] = [
     (0, PLAYED, "play 0\nend 0\n", 0),
     (0, BOTH, "rec 1 1 3\nplay 0\nend 2\n", 0),
     (63, ALONE, "rec 64 1 3\nend 65\n", 0),
@@ -204,18 +210,30 @@ const EMPTY: [Empty; 5] = [
     ),
 ];
 
-#[test]
-fn projects_without_samples(rt: HostRuntime) -> Result<(), Fail> {
-    let alloc = rt.alloc();
-    for (tracks, asked, text, status) in EMPTY {
-        let mut script = Vec::new(alloc);
-        for _ in 0..tracks {
-            script.extend_from_slice(b"track\n")?;
-        }
-        let store = project_of(&rt, alloc, &[], "studio new", script.as_slice())?;
-        if !call(&rt, alloc, asked, store)?.is(text, status, b"") {
+// The disk of a new project of so many tracks.
+fn with_tracks<R: Threads + Wait + Sync>(
+    rt: &R,
+    alloc: Global,
+    tracks: usize,
+) -> Result<RamStore, Fail> {
+    let mut script = Vec::new(alloc);
+    for _ in 0..tracks {
+        script.extend_from_slice(b"track\n")?;
+    }
+    project_of(rt, alloc, &[], "studio new", script.as_slice())
+}
+
+fn plays_empty<R: Threads + Wait + Sync>(rt: &R, alloc: Global) -> Result<(), Fail> {
+    for (tracks, asked, text, status) in &EMPTY {
+        let store = with_tracks(rt, alloc, *tracks)?;
+        if !call(rt, alloc, *asked, store)?.is(text, *status, b"") {
             return Err(Fail::new(text));
         }
     }
     Ok(())
+}
+
+#[test]
+fn projects_without_samples(rt: HostRuntime) -> Result<(), Fail> {
+    plays_empty(&rt, rt.alloc())
 }

@@ -1,5 +1,6 @@
 // A disk that stops at any of its calls, or one of whose calls fails in a script: what is printed, and what is found.
-use super::calls::{Asked, call, disk, project, tells};
+use super::calls::{Asked, call, disk};
+use super::sessions::{Found, has_told, project, tells};
 use disk_model::RamStore;
 use std::alloc::Global;
 use std::sync::Wait;
@@ -33,59 +34,44 @@ fn lives<R: Threads + Wait + Sync>(
 }
 
 // What `list` prints before the first line `ok`, and behind each.
-const FOUND: [&str; 4] = [
-    "refused Absent\n",
-    "project 8000 4 256\ncommit 0 points 1 cursor 0\nend 0\n",
-    "project 8000 4 256\ncommit 1 points 2 cursor 1\ntrack 1 65536 both 0 0\nend 1\n",
-    "project 8000 4 256\ncommit 2 points 3 cursor 2\ntrack 1 65536 both 0 3\nend 2\n",
+static FOUND: [Found; 4] = [
+    ("refused Absent\n", 3),
+    ("project 8000 4 256\ncommit 0 points 1 cursor 0\nend 0\n", 0),
+    (
+        "project 8000 4 256\ncommit 1 points 2 cursor 1\ntrack 1 65536 both 0 0\nend 1\n",
+        0,
+    ),
+    (
+        "project 8000 4 256\ncommit 2 points 3 cursor 2\ntrack 1 65536 both 0 3\nend 2\n",
+        0,
+    ),
 ];
 
-// Whether this is what `list` prints behind so many lines `ok`.
-fn is_found(text: &[u8], told: usize) -> bool {
-    match FOUND.get(told) {
-        Some(line) => line.as_bytes() == text,
-        None => false,
+// Each image of a disk that stops after so many calls has what stands behind the lines `ok`, or behind one more.
+fn images_keep<R: Threads + Wait + Sync>(rt: &R, alloc: Global, calls: u64) -> Result<(), Fail> {
+    let mut store = disk(alloc, &[])?;
+    store.stop_after(calls);
+    let (store, told) = lives(rt, alloc, store)?;
+    for choice in 0..10 {
+        has_told(rt, alloc, store.image(alloc, choice)?, &FOUND, told)?;
     }
+    Ok(())
 }
 
-// A disk has what stands behind so many lines `ok`, or one more, and its blocks are whole.
-fn has_told<R: Threads + Wait + Sync>(
-    rt: &R,
-    alloc: Global,
-    store: RamStore,
-    told: usize,
-) -> Result<(), Fail> {
-    let listed = call(rt, alloc, Asked::new("studio list", b""), store)?;
-    let text = listed.text.as_slice();
-    let is_kept = is_found(text, told) || is_found(text, told.saturating_add(1));
-    let status = listed.ending.status;
-    let checked = call(
-        rt,
-        alloc,
-        Asked::new("studio check", b""),
-        listed.into_store(),
-    )?;
-    if is_kept && checked.ending.status == status {
-        Ok(())
-    } else {
-        Err(Fail::new("not what was told"))
+fn stops_keep<R: Threads + Wait + Sync>(rt: &R, alloc: Global) -> Result<(), Fail> {
+    let (whole, told) = lives(rt, alloc, disk(alloc, &[])?)?;
+    if told != 3 {
+        return Err(Fail::new("not played whole"));
     }
+    for calls in 0..=whole.call_count() {
+        images_keep(rt, alloc, calls)?;
+    }
+    Ok(())
 }
 
 #[test]
 fn a_stop_after_each_call(rt: HostRuntime) -> Result<(), Fail> {
-    let alloc = rt.alloc();
-    let (whole, told) = lives(&rt, alloc, disk(alloc, &[])?)?;
-    assert!(rt; told == 3);
-    for calls in 0..=whole.call_count() {
-        let mut store = disk(alloc, &[])?;
-        store.stop_after(calls);
-        let (store, told) = lives(&rt, alloc, store)?;
-        for choice in 0..10 {
-            has_told(&rt, alloc, store.image(alloc, choice)?, told)?;
-        }
-    }
-    Ok(())
+    stops_keep(&rt, rt.alloc())
 }
 
 // The disk of a script in which the first call fails that is answered so.
@@ -106,26 +92,33 @@ fn fails_so<R: Threads + Wait + Sync>(
     Err(Fail::new(text))
 }
 
-// A write that fails stops a script. A call anew finds what was told.
-#[test]
-fn a_write_fails(rt: HostRuntime) -> Result<(), Fail> {
-    let alloc = rt.alloc();
-    let script = b"track\nput 1 0 1 2 3 4 5\nput 1 0 9\nshow 1 0 1\n";
-    let text = "ok 1\nok 2\nno 2 DiskFault\nno 2 Stopped 1\nend 2\n";
-    let store = fails_so(&rt, alloc, script, text)?;
-    let shows = Asked::new("studio run", b"show 1 0 1\n");
-    let _store = tells(&rt, alloc, shows, store, "cells 2 1\nend 2\n", 0)?;
+// A script, what is printed where a call of the disk fails, and what a call anew shows.
+type Row = (&'static [u8], &'static str, &'static str);
+
+// A write that fails stops a script, and a read that fails does not. A call anew finds what was told.
+static FAILED: [Row; 2] = [
+    (
+        b"track\nput 1 0 1 2 3 4 5\nput 1 0 9\nshow 1 0 1\n",
+        "ok 1\nok 2\nno 2 DiskFault\nno 2 Stopped 1\nend 2\n",
+        "cells 2 1\nend 2\n",
+    ),
+    (
+        b"track\nput 1 0 1 2 3 4 5\nshow 1 0 1\nput 1 0 9\n",
+        "ok 1\nok 2\nno 2 DiskFault\nok 3\nend 3\n",
+        "cells 3 9\nend 3\n",
+    ),
+];
+
+fn keeps_told<R: Threads + Wait + Sync>(rt: &R, alloc: Global) -> Result<(), Fail> {
+    for (script, text, shown) in &FAILED {
+        let store = fails_so(rt, alloc, script, text)?;
+        let shows = Asked::new("studio run", b"show 1 0 1\n");
+        let _store = tells(rt, alloc, shows, store, shown, 0)?;
+    }
     Ok(())
 }
 
-// A read that fails does not.
 #[test]
-fn a_read_fails(rt: HostRuntime) -> Result<(), Fail> {
-    let alloc = rt.alloc();
-    let script = b"track\nput 1 0 1 2 3 4 5\nshow 1 0 1\nput 1 0 9\n";
-    let text = "ok 1\nok 2\nno 2 DiskFault\nok 3\nend 3\n";
-    let store = fails_so(&rt, alloc, script, text)?;
-    let shows = Asked::new("studio run", b"show 1 0 1\n");
-    let _store = tells(&rt, alloc, shows, store, "cells 3 9\nend 3\n", 0)?;
-    Ok(())
+fn a_write_fails_and_a_read(rt: HostRuntime) -> Result<(), Fail> {
+    keeps_told(&rt, rt.alloc())
 }

@@ -1,5 +1,9 @@
 // Worked calls, one after another on one disk: what is printed, by hand from the rules of the lines and the words.
-use super::calls::{Asked, call, disk, tells};
+use super::calls::{Asked, call, disk};
+use super::sessions::tells;
+use disk_model::RamStore;
+use edit_ports::{MemSink, MemSource};
+use session_run::Ending;
 use std::alloc::Global;
 use std::sync::Wait;
 use std::test::*;
@@ -13,7 +17,7 @@ type Call = (&'static str, &'static [Row], &'static str, u8);
 
 // On one disk: there is no project, then it is made, once, edited, shown and checked, and edited again. Blocks 16 of
 // 1 2 3, 17 of 4 5, and 18 of 1 4 5 are checked. A script in memory leaves all that as it was.
-const MADE: [Call; 12] = [
+static MADE: [Call; 12] = [
     ("studio list", &[], "refused Absent", 3),
     ("studio run", &[], "refused Absent", 3),
     ("studio check", &[], "refused Absent", 3),
@@ -75,7 +79,7 @@ const MADE: [Call; 12] = [
 ];
 
 // What was cut is kept until the next call: the first reclaim takes block 17, and 16 stays for what was cut.
-const CUT: [Call; 3] = [
+static CUT: [Call; 3] = [
     (
         "studio new --depth=256 --block 4 --rate=8000",
         &[],
@@ -109,7 +113,7 @@ const CUT: [Call; 3] = [
 ];
 
 // Of one point nothing is undone.
-const SHALLOW: [Call; 2] = [
+static SHALLOW: [Call; 2] = [
     ("studio new --rate 8000 --block 4 --depth 1", &[], "ok 0", 0),
     (
         "studio run",
@@ -120,7 +124,7 @@ const SHALLOW: [Call; 2] = [
 ];
 
 // Each on a project of its own, in memory, and there is none on the disk.
-const TRIED: [Call; 6] = [
+static TRIED: [Call; 6] = [
     ("studio try", &[("#", "")], "end 0", 0),
     (
         "studio try",
@@ -226,20 +230,23 @@ fn plays<R: Threads + Wait + Sync>(rt: &R, alloc: Global, calls: &[Call]) -> Res
     Ok(())
 }
 
+fn plays_all<R: Threads + Wait + Sync>(rt: &R, alloc: Global) -> Result<(), Fail> {
+    plays(rt, alloc, &MADE)?;
+    plays(rt, alloc, &CUT)?;
+    plays(rt, alloc, &SHALLOW)?;
+    plays(rt, alloc, &TRIED)
+}
+
 #[test]
 fn worked_calls(rt: HostRuntime) -> Result<(), Fail> {
-    let alloc = rt.alloc();
-    plays(&rt, alloc, &MADE)?;
-    plays(&rt, alloc, &CUT)?;
-    plays(&rt, alloc, &SHALLOW)?;
-    plays(&rt, alloc, &TRIED)
+    plays_all(&rt, rt.alloc())
 }
 
 // Words and a script, and what the ending tells: whether a project was opened, the commit numbers with which the script
 // began and ended, and those of its own commits.
 type Told = (&'static str, &'static [u8], bool, u64, u64, &'static [u64]);
 
-const TOLD: [Told; 8] = [
+static TOLD: [Told; 8] = [
     ("studio list", b"", false, 0, 0, &[]),
     ("studio new --rate 8000 --block 4", b"", false, 0, 0, &[]),
     (
@@ -257,19 +264,30 @@ const TOLD: [Told; 8] = [
     ("studio try", b"track\nimport a.wav\n", true, 0, 2, &[1, 2]),
 ];
 
-#[test]
-fn endings(rt: HostRuntime) -> Result<(), Fail> {
-    let alloc = rt.alloc();
+fn is_told(ending: &Ending<RamStore, MemSource, MemSink>, told: &Told) -> bool {
+    let (_, _, opened, first, last, commits) = told;
+    ending.opened == *opened
+        && ending.first_commit == *first
+        && ending.last_commit == *last
+        && ending.script_commits.as_slice() == *commits
+        && ending.record_commit.is_none()
+        && ending.piece_commits.as_slice().is_empty()
+}
+
+fn ends_so<R: Threads + Wait + Sync>(rt: &R, alloc: Global) -> Result<(), Fail> {
     let mut store = disk(alloc, &[])?;
-    for (words, script, opened, first, last, commits) in &TOLD {
-        let ending = call(&rt, alloc, Asked::new(words, script), store)?.ending;
-        let is_told = ending.opened == *opened
-            && ending.first_commit == *first
-            && ending.last_commit == *last
-            && ending.script_commits.as_slice() == *commits;
-        assert!(rt; is_told, "{words}");
-        assert!(rt; ending.record_commit.is_none() && ending.piece_commits.as_slice().is_empty());
+    for told in &TOLD {
+        let asked = Asked::new(told.0, told.1);
+        let ending = call(rt, alloc, asked, store)?.ending;
+        if !is_told(&ending, told) {
+            return Err(Fail::new(told.0));
+        }
         store = ending.store;
     }
     Ok(())
+}
+
+#[test]
+fn endings(rt: HostRuntime) -> Result<(), Fail> {
+    ends_so(&rt, rt.alloc())
 }
