@@ -45,7 +45,7 @@ after_first skip (x ∷ xs) ys h =
     after_past skip x (xs ++ ys) (omega (arith, h)) ∙ after_first (skip - item_len x) xs ys (omega (arith, h))
     ∙ ap (λ n. items_after n ys) (omega (arith, h))
 
--- within the gaps at the front, or just behind them
+-- within the gaps at the front, or just after them
 pub after_gap : (skip g : ℕ) (xs : List Item) → AreItems xs → skip ≤ g
     → items_after skip (gap_items g ++ xs) ≡ gap_items (g - skip) ++ xs
 after_gap skip zero xs v h =

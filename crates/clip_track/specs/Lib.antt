@@ -5,3 +5,4 @@ pub mod Rests
 pub mod Room
 pub mod Rough
 pub mod StripClips
+pub mod Shared

@@ -16,11 +16,11 @@ abbrev pub stretch_item : Stretch → Item
 stretch_item (Gaps len) = Gap len
 stretch_item (Block b from) = Sound (Old b from b.len)
 
--- the next stretch of some items, where there is one, and what is left behind it
+-- the next stretch of some items, where there is one, and what is left after it
 abbrev pub IsNext : List Item → Option Stretch → List Item → Type 0
 IsNext old next new = MatchOption next ((old ≡ []) × (new ≡ [])) (λ s. old ≡ stretch_item s ∷ new)
 
--- blocks, of the first of which so many samples are passed
+-- blocks, of the first of which this many samples are passed
 abbrev pub sound_from : ℕ → List BlockRef → List Item
 sound_from passed [] = []
 sound_from passed (b ∷ bs) = Sound (Old b passed b.len) ∷ sound_items bs
@@ -29,7 +29,7 @@ abbrev pub IsWithin : ℕ → List BlockRef → Type 0
 IsWithin passed [] = Unit {0}
 IsWithin passed (b ∷ bs) = passed < b.len
 
--- what is left: gaps, blocks of a clip, and the clips behind it
+-- what is left: gaps, blocks of a clip, and the clips after it
 abbrev pub left_items : Left → List Item
 left_items l = (gap_items l.gaps ++ sound_from l.passed l.blocks.now) ++ items_from l.end l.clips.now
 

@@ -11,6 +11,7 @@ ghost use Rattle.clip_track.specs.Rough.{rough_items, ItemsShort};
 
 use super::items::{Item, Strip, append_part, push_gap};
 use super::rest::{Rest, rest_from, take_items};
+use super::shared::SharedClips;
 use block_sequence::Sequence;
 use pcm_base::{BlockRef, NoMemory, Piece};
 use std::alloc::{AllocError, Global};
@@ -27,7 +28,7 @@ pub struct Clip {
 /// gap after the one before. Contracts see them as a list.
 #[derive(Drop)]
 pub struct Layout {
-    clips: Vec<Clip>,
+    clips: SharedClips,
 }
 
 impl Model for Layout {
@@ -38,9 +39,9 @@ impl Model for Layout {
 
     ghost use Rattle.clip_track.specs.Clips.{IsLayout};
 
-    ghost view = { λ l. l.clips.items };
+    ghost view = { λ l. l.clips };
 
-    ghost invariant = { λ l. IsLayout l.clips.items };
+    ghost invariant = { λ l. IsLayout l.clips };
 }
 
 fn append_blocks(out: &mut Vec<Item>, blocks: &[BlockRef]) -> Result<(), AllocError>
@@ -79,18 +80,6 @@ fn clip_items(alloc: Global, clips: &[Clip]) -> Result<Vec<Item>, AllocError>
     Ok(out)
 }
 
-fn copy_clips(alloc: Global, clips: &[Clip]) -> Result<Vec<Clip>, NoMemory>
-    ensures { IfOk result (λ v. v.items ≡ clips.now) }
-{
-    let mut out = Vec::new(alloc);
-    for clip in clips {
-        let start = clip.start;
-        let blocks = clip.blocks.copy()?;
-        out.push(Clip { start, blocks })?;
-    }
-    Ok(out)
-}
-
 /// Where the last clip ends.
 fn end_of(clips: &[Clip]) -> u64
     requires { layout.IsLayout clips.now }
@@ -108,16 +97,21 @@ impl Layout {
         ensures { result ≡ [] }
     {
         Layout {
-            clips: Vec::new(alloc),
+            clips: SharedClips::new(alloc),
         }
     }
 
     /// The layout of some clips, which are taken over as they are.
-    pub fn from_clips(clips: Vec<Clip>) -> Layout
+    ///
+    /// # Errors
+    ///
+    /// There is no memory for their count of owners.
+    pub fn from_clips(clips: Vec<Clip>) -> Result<Layout, NoMemory>
         requires { layout.IsLayout clips.items }
-        ensures { result ≡ clips.items }
+        ensures { IfOk result (λ l. l ≡ clips.items) }
     {
-        Layout { clips }
+        let clips = SharedClips::from_clips(clips)?;
+        Ok(Layout { clips })
     }
 
     /// The clips, in order.
@@ -139,15 +133,15 @@ impl Layout {
         end_of(self.clips.as_slice())
     }
 
-    /// Another layout of the same clips; block references are copied, and no sample.
+    /// Another layout of the same clips, which both have then.
     ///
     /// # Errors
     ///
-    /// There is no memory for the copy.
+    /// The count of owners is at its end.
     pub fn copy(&self) -> Result<Layout, NoMemory>
         ensures { IfOk result (λ l. l ≡ self.now) }
     {
-        let clips = copy_clips(*self.clips.allocator(), self.clips.as_slice())?;
+        let clips = self.clips.copy()?;
         Ok(Layout { clips })
     }
 
@@ -167,7 +161,7 @@ impl Layout {
         ensures smooth { IfOk result (λ s. (m : ℕ) → layout.AllHalfFull m self.now → rough_items m true true s ≡ 0) }
         ensures short { IfOk result (λ s. (m : ℕ) → layout.AllHalfFull m self.now → ItemsShort m s) }
     {
-        let items = clip_items(*self.clips.allocator(), self.clips.as_slice())?;
+        let items = clip_items(self.clips.allocator(), self.clips.as_slice())?;
         Ok(Strip::from_items(items))
     }
 
@@ -199,7 +193,7 @@ impl Layout {
         ensures fit { IfOk result (λ s. (m : ℕ) → layout.AllHalfFull m self.now → strip.ItemsFit m s) }
     {
         let mut rest = self.rest(from);
-        let items = take_items(*self.clips.allocator(), &mut rest, to - from)?;
+        let items = take_items(self.clips.allocator(), &mut rest, to - from)?;
         Ok(Strip::from_items(items))
     }
 
@@ -222,7 +216,7 @@ impl Layout {
             (λ s. (m : ℕ) → layout.AllHalfFull m self.now → strip.ItemsFit m middle.now → strip.ItemsFit m s) }
     {
         let whole = self.to_strip()?;
-        let mut out = Vec::new(*self.clips.allocator());
+        let mut out = Vec::new(self.clips.allocator());
         append_part(&mut out, whole.as_slice(), 0, from)?;
         append_part(&mut out, middle.as_slice(), 0, middle.len())?;
         append_part(&mut out, whole.as_slice(), to, whole.len() - to)?;

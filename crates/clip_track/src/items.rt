@@ -13,7 +13,7 @@ use std::marker::Model;
 /// What a strip is made of.
 #[derive(Clone, Copy, Debug)]
 pub enum Item {
-    /// So many gaps.
+    /// `len` gaps.
     Gap { len: u64 },
     /// The samples of a piece.
     Sound { piece: Piece },
@@ -147,6 +147,7 @@ impl Strip {
     }
 }
 
+/// Adds a gap of `n` cells, and nothing where `n` is 0. After an error nothing is added.
 pub fn push_gap(out: &mut Vec<Item>, n: u64) -> Result<(), AllocError>
     ensures items { OnOk result (out.new.items ≡ out.old.items ++ strip.gap_items n) }
     ensures unchanged { OnErr result (out.new.items ≡ out.old.items) }
@@ -157,7 +158,7 @@ pub fn push_gap(out: &mut Vec<Item>, n: u64) -> Result<(), AllocError>
     Ok(())
 }
 
-/// Adds so many gaps.
+/// Adds `n` gaps.
 ///
 /// # Errors
 ///

@@ -9,6 +9,7 @@
 mod clips;
 mod items;
 mod rest;
+mod shared;
 mod strip_clips;
 
 pub use clips::{Clip, Layout};

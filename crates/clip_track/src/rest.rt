@@ -14,7 +14,7 @@ use std::marker::Model;
 /// What stands at a place of a layout, from there on.
 #[derive(Clone, Copy, Debug, PartialEq, Eq)]
 pub enum Stretch {
-    /// So many gaps.
+    /// `len` gaps.
     Gaps { len: u64 },
     /// The samples of a block, from one of them to its last.
     Block { block: BlockRef, from: u32 },
@@ -36,7 +36,7 @@ impl Stretch {
     }
 }
 
-// Gaps, the blocks of a clip, of the first of which so many samples are passed, and the clips behind its end.
+// Gaps, the blocks of a clip, of the first of which `passed` samples are passed, and the clips after its end.
 #[derive(Clone, Copy)]
 struct Left<'a> {
     gaps: u64,
@@ -67,7 +67,7 @@ impl<'a> Model for Rest<'a> {
 }
 
 impl<'a> Rest<'a> {
-    /// The next stretch, where there is one. What is left begins behind it.
+    /// The next stretch, where there is one. What is left begins after it.
     pub fn next(&mut self) -> Option<Stretch>
         ensures next { IsNext self.old result self.new }
         ensures ok { AreItems self.old }
@@ -112,7 +112,7 @@ fn entered<'a>(left: Left<'a>) -> Left<'a>
     }
 }
 
-// A clip and those behind it, from the end of the one before on.
+// A clip and those after it, from the end of the one before on.
 fn enter<'a>(end: u64, clip: &'a Clip, more: &'a [Clip]) -> Left<'a>
     requires apart { AreClips end (clip.now ∷ more.now) }
     requires few { end_of end (clip.now ∷ more.now) ≤ 2 ^ 32 }
@@ -132,7 +132,7 @@ fn enter<'a>(end: u64, clip: &'a Clip, more: &'a [Clip]) -> Left<'a>
     }
 }
 
-// Blocks of a clip, of which so many samples are passed, and what is left behind it.
+// Blocks of a clip, of which `count` samples are passed, and what is left after them.
 fn pass_blocks<'a>(left: Left<'a>, count: u64) -> Left<'a>
     requires left { IsLeft left }
     requires front { left.gaps ≡ 0 }
@@ -209,7 +209,7 @@ pub(crate) fn rest_from<'a>(clips: &'a [Clip], place: u64) -> Rest<'a>
     Rest { left }
 }
 
-// The first cells of what is left, so many or as many as there are.
+// The first `count` cells of what is left, or as many as there are.
 pub(crate) fn take_items(
     alloc: Global,
     rest: &mut Rest,

@@ -11,7 +11,7 @@ use super::vaults::{TWO, vault};
 use disk_model::Store;
 use edit_ports::{MemVault, Vault};
 use editor_core::*;
-use pcm_base::{Call, Command, Event, Refusal, Reply, Samples};
+use pcm_base::{Answer, Call, Command, Event, Refusal, Reply, Samples};
 use std::alloc::Global;
 use std::process::Abort;
 use std::test::*;
@@ -176,16 +176,16 @@ fn number_of(reply: &Reply) -> u64 {
     }
 }
 
-// What a studio replies to two actors: a script, and a player that pins the project, asks for its length, reads it and
+// What a studio answers to two actors: a script, and a player that pins the project, asks for its length, reads it and
 // lets it go.
-fn replies_of<S: Store, V: Vault>(
+fn answers_of<S: Store, V: Vault>(
     alloc: Global,
     studio: &mut Studio<S>,
     vault: &mut V,
-) -> Result<Vec<Reply>, Fail>
+) -> Result<Vec<Answer>, Fail>
     requires { IsStudio S.Store (core_of studio.old) }
 {
-    let mut replies = Vec::new(alloc);
+    let mut answers = Vec::new(alloc);
     let samples = Samples::new(vec![in alloc; 3i16, 4, 5]?);
     let put = Command::Put {
         track: 1,
@@ -208,32 +208,42 @@ fn replies_of<S: Store, V: Vault>(
         asks(Call::Unpin { pin: 1 }),
         asks(Call::PinLen { pin: 1 }),
     ];
-    studio.run_events(alloc, vault, &events, &mut replies)?;
-    Ok(replies)
+    studio.run_events(alloc, vault, &events, &mut answers)?;
+    Ok(answers)
 }
 
-// The replies, as numbers.
-static TOLD: [u64; 9] = [1, 1, 101, 1, 203, 302, 400, 1, 400];
+// The commit number of each answer, and its reply as a number.
+static TOLD: [[u64; 2]; 9] = [
+    [1, 1],
+    [2, 1],
+    [2, 101],
+    [3, 1],
+    [3, 203],
+    [3, 302],
+    [3, 400],
+    [3, 1],
+    [3, 400],
+];
 
-fn are_told(replies: &[Reply]) -> bool {
-    for (reply, number) in replies.iter().zip(&TOLD) {
-        if number_of(reply) != *number {
+fn are_told(answers: &[Answer]) -> bool {
+    for (answer, told) in answers.iter().zip(&TOLD) {
+        if answer.commit != told[0] || number_of(&answer.reply) != told[1] {
             return false;
         }
     }
-    replies.len() == TOLD.len()
+    answers.len() == TOLD.len()
 }
 
-fn replies_to_events(rt: &impl Abort, alloc: Global) -> Result<(), Fail> {
+fn answers_to_events(rt: &impl Abort, alloc: Global) -> Result<(), Fail> {
     let mut vault = vault(alloc, &[])?;
     let mut studio = new_studio(alloc, disk(alloc, &[])?, 3)?;
-    let replies = replies_of(alloc, &mut studio, &mut vault)?;
-    assert!(rt; are_told(replies.as_slice()));
+    let answers = answers_of(alloc, &mut studio, &mut vault)?;
+    assert!(rt; are_told(answers.as_slice()));
     assert!(rt; studio.commit_number() == 3);
     Ok(())
 }
 
 #[test]
-fn events_are_replied(rt: HostRuntime) -> Result<(), Fail> {
-    replies_to_events(&rt, rt.alloc())
+fn events_are_answered(rt: HostRuntime) -> Result<(), Fail> {
+    answers_to_events(&rt, rt.alloc())
 }

@@ -1,8 +1,9 @@
 -- What a session did to a studio, once its desk is closed.
-use Rattle.std.proofs.Common.{◌≡◌, inl, inr, ℕ, true, List, [], ◌∷◌, ◌++◌, length, Option, Some, None, Result, Ok, Err}
-use Rattle.std.proofs.Common.{sym, ◌∙◌, ap, subst}
+use Rattle.std.proofs.Common.{◌≡◌, inl, inr, ℕ, ◌^◌, Bool, true, List, [], ◌∷◌, ◌++◌, length, Option, Some, None, Result, Ok, Err}
+use Rattle.std.proofs.Common.{refl, sym, ◌∙◌, ap, subst}
 use Rattle.std.specs.Prelude.{IsSomeAnd}
 use Rattle.pcm_base.specs.declared.command.Call.{Call}
+use Rattle.pcm_base.specs.declared.command.Call.TheVariants.{Unpin}
 use Rattle.pcm_base.specs.declared.refusal.Refusal.{Refusal}
 use Rattle.pcm_base.specs.Counters.{commits_of}
 use Rattle.pcm_base.specs.Run.{Follows}
@@ -12,17 +13,20 @@ use Rattle.edit_ports.specs.declared.vault.Vault as vault
 use Rattle.pin_turn.specs.declared.view.View.{View}
 use Rattle.pin_turn.specs.Counts.{Each, once_below, times}
 use Rattle.pin_turn.specs.Rule.{ByOthers}
+use Rattle.pin_turn.proofs.Sums.{Each-left}
 use Rattle.editor_core.specs.Core.{Core}
 use Rattle.studio_seats.specs.declared.deed.Deed.{Deed}
 use Rattle.studio_seats.specs.declared.held.Held.{Held}
 use Rattle.studio_seats.specs.Deeds.{actor_of, entries_of, number_after}
 use Rattle.studio_seats.specs.Desks.{IsFirst}
 use Rattle.studio_seats.specs.Merge.{Commits, Numbers, any_seat, by_seat, deeds_of, numbers_of}
-use Rattle.studio_seats.specs.Onward.{Asks, IsLine, places_of}
+use Rattle.studio_seats.specs.Leads.{HadTurn}
+use Rattle.studio_seats.specs.Onward.{Asks, EndsBy, IsLine, places_of}
 use Rattle.studio_seats.specs.Pieces.{pieces_by}
 use Rattle.studio_seats.specs.Stands.{StandsFor, origin}
 use Rattle.studio_seats.specs.Faults.{AllServed}
 use Rattle.studio_seats.proofs.FaultLemmas.{desks_serve}
+use Rattle.studio_seats.proofs.Grown.{leads}
 use Rattle.studio_seats.proofs.MergeLemmas.{merged_numbers}
 use Rattle.script_session.specs.Served.{IsUndisturbed, TellsNoDevice}
 use Rattle.script_session.proofs.ServedLemmas.{sessions_serve}
@@ -31,6 +35,7 @@ use Rattle.script_session.specs.Change.{Change, change}
 use Rattle.script_session.specs.Place.{Place, place_of}
 use Rattle.script_session.specs.Session.{Session}
 use Rattle.script_session.proofs.AddedLemmas.{sessions_add}
+use Rattle.script_session.proofs.SpentLemmas.{sessions_spend}
 use Rattle.desk_session.specs.declared.opening.Opened.{Opened}
 use Rattle.desk_session.specs.declared.told.Kept.{Kept}
 use Rattle.desk_session.specs.declared.told.Told.{Told}
@@ -40,13 +45,15 @@ use Rattle.desk_session.specs.Opening.{record_commits}
 use Rattle.desk_session.specs.Parts.{NewPart, Parted}
 use Rattle.desk_session.specs.Sat.{Sat}
 use Rattle.desk_session.specs.Sessions.{IsMadeOf, IsScripted, IsSession, place_behind}
-use Rattle.desk_session.specs.Sounds.{IsRecorded, piece_numbers}
+use Rattle.desk_session.specs.Sounds.{IsRecorded, Recorded, piece_numbers}
+use Rattle.desk_session.proofs.EndLemmas.{ends_later}
 use Rattle.desk_session.proofs.ListLemmas as list
 use Rattle.desk_session.proofs.ListLemmas.{all_numbers, same_rest}
 use Rattle.desk_session.proofs.MakerLemmas.{own_deeds}
+use Rattle.desk_session.proofs.OpeningLemmas.{own_later, pin_later, track_later}
 use Rattle.desk_session.proofs.RecordedLemmas.{no_numbers, piece_commits, pieces_in}
 use Rattle.desk_session.proofs.RejoinLemmas.{own_mine}
-use Rattle.desk_session.proofs.SideLemmas.{where_both}
+use Rattle.desk_session.proofs.SideLemmas.{some_as, where_both}
 
 -- the player's calls are no commits
 pub quiet : (pin : Option (Result ℕ Refusal)) (c : Call) → play_calls pin c → commits_of c ≡ 0
@@ -56,10 +63,11 @@ quiet (Some (Ok pin)) c (inr is) = ap commits_of is
 quiet (Some (Err why)) c h = absurd h
 
 module _ {D V M : Type 0} (mics : source.Ghosts M) (mic : Change M) (first track : ℕ)
-    (v w : View (Held D V) Deed) where
-  abbrev Recorded : Option (Result ℕ Refusal) → Option Kept → Type 0
-  Recorded made kept = WhereMade made
-      (λ tag. IsSomeAnd kept (IsRecorded mics mic (change [] (pieces_by track tag w.number first w.seen))))
+    (v w : View (Held D V) Deed) (spent : Bool) (own : List Deed) where
+  abbrev IsRecording : Option (Result ℕ Refusal) → Option Kept → Type 0
+  IsRecording made kept = WhereMade made
+      (λ tag. IsSomeAnd kept
+      (Recorded mics mic (change [] (pieces_by track tag w.number first w.seen)) spent own))
       ((kept ≡ None) × (mic.now ≡ mic.before))
 
   no_pieces : (fits : Call → Type 0) → ((c : Call) → fits c → ⊥) → (kept : Option Kept) (h : NewPart fits v w)
@@ -70,11 +78,11 @@ module _ {D V M : Type 0} (mics : source.Ghosts M) (mic : Change M) (first track
 
   -- the numbers of the recorder's seat are those of the pieces
   pieces_are : (made : Option (Result ℕ Refusal)) (kept : Option Kept) (h : NewPart (record_calls track made) v w)
-      → Recorded made kept → numbers_of (by_seat w.number) (number_after first v.seen) h.part.added ≡ piece_numbers kept
+      → IsRecording made kept → numbers_of (by_seat w.number) (number_after first v.seen) h.part.added ≡ piece_numbers kept
   pieces_are None kept h r = no_pieces (record_calls track None) (λ c k. k) kept h r.0
   pieces_are (Some (Ok tag)) None h r = absurd r
   pieces_are (Some (Ok tag)) (Some kept) h r =
-      sym (piece_commits first track tag v w h r.told _ _ r.takes)
+      sym (piece_commits first track tag v w h r.told _ _ r.is.takes)
   pieces_are (Some (Err why)) kept h r = no_pieces (record_calls track (Some (Err why))) (λ c k. k) kept h r.0
 
 module _ {D V M P : Type 0} (k : Kinds D V M P) (start final : Core D) (mid : V) (lent : Lent V M P) (out : Outcome)
@@ -84,7 +92,8 @@ module _ {D V M P : Type 0} (k : Kinds D V M P) (start final : Core D) (mid : V)
     (record { start = start; track = start.next_track; last = last; seat = v; seat_now = w })
     (record lent { vault = change mid lent.vault.now }) out)
     (stands : StandsFor (origin k.disk k.vaults start) final w.seen)
-    (counts : (k : ℕ) → times k w.mine ≡ once_below k (length w.seen)) where
+    (counts : (k : ℕ) → times k w.mine ≡ once_below k (length w.seen))
+    (turns : w.used_up ≡ true → length w.seen ≡ 2 ^ 62) where
   abbrev disk : Ghosts D
   disk = k.disk
 
@@ -142,7 +151,11 @@ module _ {D V M P : Type 0} (k : Kinds D V M P) (start final : Core D) (mid : V)
   whole : w.seen ≡ v.seen ++ rest
   whole = list.whole n pieces reads x s.seats (quiet opened.pin) own counts
 
-  abbrev made : IsMadeOf start.next_track opened w.seen
+  -- what the seat found before the script it still knows
+  known_later : v.used_up ≡ true → w.used_up ≡ true
+  known_later is = s.seats.script_spent (s.seats.by_script.used_up is)
+
+  abbrev made : IsMadeOf w.used_up start.next_track opened w.seen
   made = record {
     seats = list.seats n pieces reads x s.seats (quiet opened.pin) own counts;
     script_seat = is_zero;
@@ -153,8 +166,10 @@ module _ {D V M P : Type 0} (k : Kinds D V M P) (start final : Core D) (mid : V)
     track_own = o.track_own;
     pin_own = o.pin_own;
     opening_is = opening_is;
-    track_is = subst (λ (a : ℕ). TrackDeed a opened.recording o.track_own) first.number o.track;
-    pin_is = subst (λ (a : ℕ). PinDeed a opened.pin o.pin_own) first.number o.pin;
+    track_is = subst (λ (a : ℕ). TrackDeed w.used_up a opened.recording o.track_own) first.number
+        (track_later v.used_up w.used_up u.number opened.recording o.track_own known_later o.track);
+    pin_is = subst (λ (a : ℕ). PinDeed w.used_up a opened.pin o.pin_own) first.number
+        (pin_later v.used_up w.used_up u.number opened.pin o.pin_own known_later o.pin);
     all = list.all_rest n pieces reads x s.seats (quiet opened.pin) own counts;
     lines = subst (λ (a : ℕ). Asks IsLine a rest) is_zero
         (list.asks_lines n pieces reads x s.seats (quiet opened.pin) own counts);
@@ -199,7 +214,7 @@ module _ {D V M P : Type 0} (k : Kinds D V M P) (start final : Core D) (mid : V)
   script_numbers : told.commits ≡ numbers_of (by_seat 0) (number_after n v.seen) s.seats.by_script.added
   script_numbers = adds.numbers ∙ ap (numbers_of (by_seat 0) (number_after n v.seen)) more_is
 
-  scripted : IsScripted vaults (record { first = n; opening = v.seen; rest = rest }) lent told
+  scripted : IsScripted vaults w.used_up (record { first = n; opening = v.seen; rest = rest }) lent told
   scripted = record {
     read = s.ran.1.read;
     lines = s.ran.1.lines;
@@ -221,9 +236,20 @@ module _ {D V M P : Type 0} (k : Kinds D V M P) (start final : Core D) (mid : V)
         ≡ numbers_of (by_seat a) (number_after n v.seen) rest) is_zero
         (list.script_numbers n pieces reads x s.seats (quiet opened.pin) own counts
         (number_after n v.seen));
+    found = s.seats.script_spent;
+    tell_spent = λ had told. s.seats.script_spent ((sessions_spend s.ran.1.lines s.ran.1.printed.answers p q session).found
+        (Each-left HadTurn q.seen s.seats.more_script
+        (subst (λ (l : List Deed). Each HadTurn l) (sym whole ∙ s.seats.script_is) had)) told);
+    ends = (refl, refl, refl);
     sounds = λ is. subst (λ (l : List Deed). Follows (vaults.holds before) (entries_of l) (vaults.holds after)) own_is
         (adds.sounds is);
   }
+
+  piece_numbers_are : numbers_of (by_seat s.recorder.number) (number_after n v.seen) s.seats.by_recorder.part.added
+      ≡ piece_numbers out.kept
+  piece_numbers_are = pieces_are k.mics lent.mic n start.next_track v s.recorder s.recorder.used_up
+      (deeds_of (by_seat s.recorder.number) s.seats.by_recorder.part.added) opened.recording out.kept
+      s.seats.by_recorder s.recorded
 
   numbers : Numbers n final.commit_number
       record { opening = record_commits opened.recording; script = told.commits; pieces = piece_numbers out.kept }
@@ -233,14 +259,12 @@ module _ {D V M P : Type 0} (k : Kinds D V M P) (start final : Core D) (mid : V)
       let script : numbers_of (by_seat v.number) (number_after n v.seen) s.seats.by_script.added ≡ told.commits =
       ap (λ (a : ℕ). numbers_of (by_seat a) (number_after n v.seen) s.seats.by_script.added) is_zero
       ∙ sym script_numbers in
-      let piece = pieces_are k.mics lent.mic n start.next_track v s.recorder opened.recording out.kept
-      s.seats.by_recorder s.recorded in
       subst (λ (z : ℕ × Commits). Numbers n z.0 z.1) (λ i. (
-        sym stands.number i,
-        record { opening = opening_numbers i; script = script i; pieces = piece i },
+        sym (leads (origin disk vaults start) final w.seen stands).number i,
+        record { opening = opening_numbers i; script = script i; pieces = piece_numbers_are i },
       )) all
 
-  served : IsUndisturbed (origin disk vaults start) final
+  served : IsUndisturbed (origin disk vaults start) final w.seen
       (change (vaults.fault_count before) (vaults.fault_count after))
       → AllServed final w.seen × Each TellsNoDevice (deeds_of (by_seat 0) rest)
   served h =
@@ -248,7 +272,8 @@ module _ {D V M P : Type 0} (k : Kinds D V M P) (start final : Core D) (mid : V)
       subst (λ (l : List Deed). StandsFor (origin disk vaults start) final l) s.seats.script_is stands in
       let fair =
       sessions_serve disk vaults s.ran.1.lines s.ran.1.printed.answers p q start final s.seats.more_script session
-      whole_is h in
+      whole_is (subst (λ (l : List Deed). IsUndisturbed (origin disk vaults start) final l
+      (change (vaults.fault_count before) (vaults.fault_count after))) s.seats.script_is h) in
       let is : fair.added ≡ s.seats.by_script.added =
       same_rest v.seen fair.added s.seats.by_script.added (sym fair.seen ∙ s.seats.by_script.seen) in
       let own : deeds_of (by_seat 0) fair.added ≡ deeds_of (by_seat 0) rest =
@@ -261,15 +286,39 @@ module _ {D V M P : Type 0} (k : Kinds D V M P) (start final : Core D) (mid : V)
   closed = record {
     deeds = w.seen;
     stands = stands;
+    spent = w.used_up;
+    turns = turns;
     made = made;
     scripted = scripted;
     recorded = where_both opened.recording s.recorded
-        (λ tag h. subst (λ ps. IsSomeAnd out.kept (IsRecorded k.mics lent.mic (change [] ps)))
-        (sym (pieces_in start.next_track tag s.recorder.number n w.seen s.recorder.seen s.seats.more_recorder
-        s.seats.recorder_is
-        (list.made n pieces reads x s.seats (quiet opened.pin) own counts).recorder)) h)
+        (λ tag h. some_as out.kept h (λ kept is. record {
+          told = is.told;
+          is = subst (λ ps. IsRecorded k.mics lent.mic (change [] ps) is.told kept)
+              (sym (pieces_in start.next_track tag s.recorder.number n w.seen s.recorder.seen s.seats.more_recorder
+              s.seats.recorder_is
+              (list.made n pieces reads x s.seats (quiet opened.pin) own counts).recorder)) is.is;
+          ends = ends_later s.recorder.used_up w.used_up is.told (deeds_of (by_seat s.recorder.number) rest)
+              s.seats.recorder_spent
+              (subst (λ (l : List Deed). EndsBy s.recorder.used_up is.told l)
+              (list.recorder_deeds n pieces reads x s.seats (quiet opened.pin) own counts) is.ends);
+        }))
         (λ h. h);
-    played = s.played;
+    opening_numbers = opening_numbers;
+    pieces_are = sym piece_numbers_are
+        ∙ list.recorder_numbers n pieces reads x s.seats (quiet opened.pin) own counts (number_after n v.seen);
+    played = where_both opened.pin s.played
+        (λ pin h. some_as out.heard h (λ heard is. record {
+          is = is.is;
+          reads = is.reads;
+          release = is.release;
+          own_is = sym (list.player_deeds n pieces reads x s.seats (quiet opened.pin) own counts) ∙ is.own_is;
+          are = is.are;
+          ends = ends_later s.player.used_up w.used_up heard.refused is.reads s.seats.player_spent is.ends;
+          what = is.what;
+          released = own_later s.player.used_up w.used_up s.player.number (Unpin pin) is.what is.release
+              s.seats.player_spent is.released;
+        }))
+        (λ h. h);
     served = served;
     numbers = numbers;
   }

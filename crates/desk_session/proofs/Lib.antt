@@ -8,5 +8,6 @@ pub mod RecordedLemmas
 pub mod SideLemmas
 pub mod SoundLemmas
 pub mod SeatLemmas
+pub mod EndLemmas
 pub mod ClosedLemmas
 pub mod LentLemmas

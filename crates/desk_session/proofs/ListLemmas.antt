@@ -182,9 +182,23 @@ module _ {D V : Type 0} (first : ℕ) (pieces reads : Call → Type 0) (x : Part
   pub script_deeds : deeds_of (by_seat x.seat.number) h.by_script.added ≡ deeds_of (by_seat x.seat.number) rest
   script_deeds = own_deeds_in x.seat.number rest h.by_script.added h.more_script refl made.script
 
+  pub recorder_deeds : deeds_of (by_seat x.recorder.number) h.by_recorder.part.added
+      ≡ deeds_of (by_seat x.recorder.number) rest
+  recorder_deeds = own_deeds_in x.recorder.number rest h.by_recorder.part.added h.more_recorder recorder_rest
+      made.recorder
+
+  pub player_deeds : deeds_of (by_seat x.player.number) h.by_player.part.added
+      ≡ deeds_of (by_seat x.player.number) rest
+  player_deeds = own_deeds_in x.player.number rest h.by_player.part.added h.more_player player_rest made.player
+
   pub script_numbers : (n : ℕ)
       → numbers_of (by_seat x.seat.number) n h.by_script.added ≡ numbers_of (by_seat x.seat.number) n rest
   script_numbers n = own_numbers x.seat.number n rest h.by_script.added h.more_script refl made.script
+
+  pub recorder_numbers : (n : ℕ) → numbers_of (by_seat x.recorder.number) n h.by_recorder.part.added
+      ≡ numbers_of (by_seat x.recorder.number) n rest
+  recorder_numbers n = own_numbers x.recorder.number n rest h.by_recorder.part.added h.more_recorder recorder_rest
+      made.recorder
 
   pub merged : Merged first x.joined.seen record { script = x.seat.number; recorder = x.recorder.number } record {
     opening = numbers_of any_seat first x.seat.seen;
@@ -198,6 +212,5 @@ module _ {D V : Type 0} (first : ℕ) (pieces reads : Call → Type 0) (x : Part
     kinds = splits seats reads quiet rest apart all_rest asks_reads;
     opening_is = refl;
     script_is = script_numbers (number_after first x.seat.seen);
-    pieces_is = own_numbers x.recorder.number (number_after first x.seat.seen) rest h.by_recorder.part.added
-        h.more_recorder recorder_rest made.recorder;
+    pieces_is = recorder_numbers (number_after first x.seat.seen);
   }

@@ -1,11 +1,11 @@
 -- What the turns of an opening add to the list.
-use Rattle.std.proofs.Common.{◌≡◌, inl, inr, ⊎_elim, ℕ, ◌≤◌, max, if◌then◌else◌, Bool, List, [], ◌∷◌, ◌++◌, Option}
+use Rattle.std.proofs.Common.{◌≡◌, inl, inr, ⊎_elim, ℕ, ◌+◌, ◌≤◌, max, if◌then◌else◌, Bool, true, List, [], ◌∷◌, ◌++◌, Option}
 use Rattle.std.proofs.Common.{Some, None, Result, Ok, Err, refl, sym, ◌∙◌, ap, subst, arith, append_assoc, eq-eqb}
 use Rattle.std.proofs.lemmas.List.{append-nil}
 use Rattle.pcm_base.specs.declared.answer.Reply.{Reply}
 use Rattle.pcm_base.specs.declared.answer.Reply.TheVariants as reply
 use Rattle.pcm_base.specs.declared.command.Call.{Call}
-use Rattle.pcm_base.specs.declared.command.Call.TheVariants.{Line, Pin}
+use Rattle.pcm_base.specs.declared.command.Call.TheVariants.{Line, Pin, Unpin}
 use Rattle.pcm_base.specs.declared.command.Command.TheVariants.{Track}
 use Rattle.pcm_base.specs.declared.refusal.Refusal.{Refusal}
 use Rattle.pcm_base.specs.declared.said.Said.{Said}
@@ -24,9 +24,9 @@ use Rattle.studio_seats.specs.Stands.{origin}
 use Rattle.studio_seats.proofs.Grown.{number_append}
 use Rattle.studio_seats.proofs.MergeLemmas.{deeds_append, deeds_others, numbers_append, numbers_others}
 use Rattle.studio_seats.proofs.OnwardLemmas.{onward_on, onward_self, onward_turn}
-use Rattle.studio_seats.proofs.Turns.{number_on}
+use Rattle.studio_seats.proofs.Turns.{number_on, turned_number}
 use Rattle.desk_session.specs.declared.opening.Opened.{Opened}
-use Rattle.desk_session.specs.Opening.{IfMade, IsOpening, Opens, OpensPart, OwnDeed, PinDeed, TellsNumber, TrackDeed}
+use Rattle.desk_session.specs.Opening.{IfMade, IsOpening, LetsGo, MakesCall, Opens, OwnDeed, PinDeed, TellsNumber, TrackDeed}
 use Rattle.desk_session.specs.Opening.{record_commits}
 use Rattle.desk_session.proofs.ListLemmas.{same_rest}
 
@@ -50,21 +50,21 @@ abbrev numbers_told : Bool → ℕ → List ℕ
 numbers_told commit at = if commit then at ∷ [] else []
 
 module _ {D V A : Type 0} (disk : Ghosts D) (vaults : vault.Ghosts V) (start : Core D) (v w : View (Held D V) Deed)
-    (call : Call)
-    (what : Result Reply Refusal) (said : Said A) (fit : IsOpening call)
+    (fits : Call → Type 0) (call : Call)
+    (what : Result Reply Refusal) (said : Said A) (fit : fits call)
     (none : (why : Refusal) → said.what ≡ Err why → what ≡ Err why) where
   turned : (x : Turned (origin disk vaults start) (asked call what silent) said.at (views v w))
-      → OpensPart start.commit_number (OwnDeed v.number call what) (numbers_told (commits what call) said.at) v w
+      → MakesCall fits start.commit_number (OwnDeed w.used_up v.number call what) (numbers_told (commits what call) said.at) v w
   turned x =
       let e = deed v.number call what silent in
       let n = v.number in
       let m = number_after start.commit_number v.seen in
-      let on = onward_turn IsOpening disk vaults start v w call what silent said fit (inl x) in
+      let on = onward_turn fits disk vaults start v w call what silent said fit (inl x) in
       let seen : w.seen ≡ v.seen ++ (x.between ++ e ∷ []) =
       ap (λ (z : View (Held D V) Deed). z.seen) x.view ∙ append_assoc v.seen x.between (e ∷ []) in
       let is : on.added ≡ x.between ++ e ∷ [] = same_rest v.seen on.added (x.between ++ e ∷ []) (sym on.seen ∙ seen) in
       let at : said.at ≡ raised (commits what call) (number_after m x.between) =
-      x.number ∙ (x.stands.number ∙ (number_append start.commit_number (v.seen ++ x.between) (e ∷ [])
+      x.number ∙ (turned_number x ∙ (number_append start.commit_number (v.seen ++ x.between) (e ∷ [])
       ∙ ap (raised (commits what call)) (number_append start.commit_number v.seen x.between))) in
       record {
         onward = on;
@@ -76,28 +76,28 @@ module _ {D V A : Type 0} (disk : Ghosts D) (vaults : vault.Ghosts V) (start : C
       }
 
   spends : Spends v said w
-      → OpensPart start.commit_number (OwnDeed v.number call what) (numbers_told (commits what call) said.at) v w
+      → MakesCall fits start.commit_number (OwnDeed w.used_up v.number call what) (numbers_told (commits what call) said.at) v w
   spends x =
       let n = v.number in
       let m = number_after start.commit_number v.seen in
-      let on = onward_turn IsOpening disk vaults start v w call what silent said fit (inr x) in
+      let on = onward_turn fits disk vaults start v w call what silent said fit (inr x) in
       let is : on.added ≡ [] =
       nothing_more v.seen on.added (sym (ap (λ (z : View (Held D V) Deed). z.seen) x.view) ∙ on.seen) in
       let refused : what ≡ Err spent = none spent x.what in
       record {
         onward = on;
-        own = inr (refused, ap (deeds_of (by_seat n)) is);
+        own = inr (refused, ap (deeds_of (by_seat n)) is, ap (λ (z : View (Held D V) Deed). z.used_up) x.view);
         numbers_are = ap (numbers_of (by_seat n) m) is
             ∙ sym (ap (λ (r : Result Reply Refusal). numbers_told (commits r call) said.at) refused);
       }
 
   -- the deed of a call, and its number
   pub opens_call : Says (origin disk vaults start) (asked call what silent) said (views v w)
-      → OpensPart start.commit_number (OwnDeed v.number call what) (numbers_told (commits what call) said.at) v w
+      → MakesCall fits start.commit_number (OwnDeed w.used_up v.number call what) (numbers_told (commits what call) said.at) v w
   opens_call h = ⊎_elim turned spends h
 
 -- nothing was called
-pub opens_none : {D V : Type 0} (first : ℕ) (v : View (Held D V) Deed) → OpensPart first (λ own. own ≡ []) [] v v
+pub opens_none : {D V : Type 0} (first : ℕ) (v : View (Held D V) Deed) → MakesCall IsOpening first (λ own. own ≡ []) [] v v
 opens_none {D} {V} first v =
     let on : Onward IsOpening v v = onward_self IsOpening v in
     let is : on.added ≡ [] = nothing_more v.seen on.added on.seen in
@@ -110,8 +110,8 @@ opens_none {D} {V} first v =
 -- the same of a call, told in other words
 pub opens_as : {D V : Type 0} (first : ℕ) (One Other : List Deed → Type 0) (numbers others : List ℕ)
     (v w : View (Held D V) Deed)
-    → ((own : List Deed) → One own → Other own) → numbers ≡ others → OpensPart first One numbers v w
-    → OpensPart first Other others v w
+    → ((own : List Deed) → One own → Other own) → numbers ≡ others → MakesCall IsOpening first One numbers v w
+    → MakesCall IsOpening first Other others v w
 opens_as first One Other numbers others v w f is h =
     record {
       onward = h.onward;
@@ -119,10 +119,28 @@ opens_as first One Other numbers others v w f is h =
       numbers_are = h.numbers_are ∙ is;
     }
 
--- both, one behind the other
+pub own_later : (a b : Bool) (n : ℕ) (call : Call) (what : Result Reply Refusal) (own : List Deed)
+    → (a ≡ true → b ≡ true) → OwnDeed a n call what own → OwnDeed b n call what own
+own_later a b n call what own later (inl is) = inl is
+own_later a b n call what own later (inr h) = inr (h.0, h.1, later h.2)
+
+-- a seat that found that no turn is left still knows
+pub track_later : (a b : Bool) (n : ℕ) (made : Option (Result ℕ Refusal)) (own : List Deed) → (a ≡ true → b ≡ true)
+    → TrackDeed a n made own → TrackDeed b n made own
+track_later a b n None own later h = h
+track_later a b n (Some (Ok tag)) own later (r, h) = (r, own_later a b n (Line Track) (Ok r) own later h)
+track_later a b n (Some (Err why)) own later h = own_later a b n (Line Track) (Err why) own later h
+
+pub pin_later : (a b : Bool) (n : ℕ) (made : Option (Result ℕ Refusal)) (own : List Deed) → (a ≡ true → b ≡ true)
+    → PinDeed a n made own → PinDeed b n made own
+pin_later a b n None own later h = h
+pin_later a b n (Some (Ok pin)) own later h = own_later a b n Pin (Ok (reply.Pinned pin)) own later h
+pin_later a b n (Some (Err why)) own later h = own_later a b n Pin (Err why) own later h
+
+-- both, one after the other
 pub opens_both : {D V : Type 0} (first : ℕ) (opened : Opened) (u v w : View (Held D V) Deed)
-    → OpensPart first (TrackDeed u.number opened.recording) (record_commits opened.recording) u v
-    → OpensPart first (PinDeed v.number opened.pin) [] v w → Opens first opened u w
+    → MakesCall IsOpening first (TrackDeed v.used_up u.number opened.recording) (record_commits opened.recording) u v
+    → MakesCall IsOpening first (PinDeed w.used_up v.number opened.pin) [] v w → Opens first opened u w
 opens_both {D} {V} first opened u v w h k =
     let on : Onward IsOpening u w = onward_on IsOpening u v w h.onward k.onward in
     let n = u.number in
@@ -140,8 +158,9 @@ opens_both {D} {V} first opened u v w h k =
       track_own = deeds_of (by_seat n) h.onward.added;
       pin_own = deeds_of (by_seat n) k.onward.added;
       own = ap (deeds_of (by_seat n)) is ∙ deeds_append (by_seat n) h.onward.added k.onward.added;
-      track = h.own;
-      pin = subst (λ (a : ℕ). PinDeed a opened.pin (deeds_of (by_seat a) k.onward.added)) same k.own;
+      track = track_later v.used_up w.used_up n opened.recording (deeds_of (by_seat n) h.onward.added)
+          k.onward.used_up h.own;
+      pin = subst (λ (a : ℕ). PinDeed w.used_up a opened.pin (deeds_of (by_seat a) k.onward.added)) same k.own;
       numbers = ap (numbers_of (by_seat n) m) is ∙ (numbers_append (by_seat n) m h.onward.added k.onward.added
           ∙ ((λ i. h.numbers_are i ++ later i) ∙ append-nil (record_commits opened.recording)));
     }
@@ -168,7 +187,7 @@ module _ {D V A : Type 0} (disk : Ghosts D) (vaults : vault.Ghosts V) (start : C
       let seen : w.seen ≡ v.seen ++ (x.between ++ e ∷ []) =
       ap (λ (z : View (Held D V) Deed). z.seen) x.view ∙ append_assoc v.seen x.between (e ∷ []) in
       let same : said.at ≡ number_after n w.seen = x.number
-      ∙ (x.stands.number ∙ sym (ap (λ (z : View (Held D V) Deed). number_after n z.seen) x.view)) in
+      ∙ (turned_number x ∙ sym (ap (λ (z : View (Held D V) Deed). number_after n z.seen) x.view)) in
       let on = number_on n v.seen (x.between ++ e ∷ []) in
       let at = ap (number_after n) seen in
       let up : max last said.at ≡ said.at = omega (arith, is, same, on, at) in up ∙ same
@@ -190,30 +209,57 @@ module _ {D V A : Type 0} (disk : Ghosts D) (vaults : vault.Ghosts V) (start : C
   abbrev told : Result Reply Refusal
   told = told_by f said.what
 
-  called : OpensPart start.commit_number (OwnDeed v.number (Line Track) told)
+  called : MakesCall IsOpening start.commit_number (OwnDeed w.used_up v.number (Line Track) told)
       (numbers_told (commits told (Line Track)) said.at) v w
-  called = opens_call disk vaults start v w (Line Track) told said (inl refl)
+  called = opens_call disk vaults start v w IsOpening (Line Track) told said (inl refl)
       (λ why is. ap (λ (r : Result A Refusal). told_by f r) is) says
 
   -- a new track
   pub track_made : (x : A) → said.what ≡ Ok x
-      → OpensPart start.commit_number (TrackDeed v.number (Some (Ok said.at))) (record_commits (Some (Ok said.at))) v w
-  track_made x is = opens_as start.commit_number (OwnDeed v.number (Line Track) told)
-      (TrackDeed v.number (Some (Ok said.at))) (numbers_told (commits told (Line Track)) said.at) (said.at ∷ []) v w
-      (λ own h. (f x, subst (λ (r : Result A Refusal). OwnDeed v.number (Line Track) (told_by f r) own) is h))
+      → MakesCall IsOpening start.commit_number (TrackDeed w.used_up v.number (Some (Ok said.at)))
+      (record_commits (Some (Ok said.at))) v w
+  track_made x is = opens_as start.commit_number (OwnDeed w.used_up v.number (Line Track) told)
+      (TrackDeed w.used_up v.number (Some (Ok said.at))) (numbers_told (commits told (Line Track)) said.at) (said.at ∷ []) v w
+      (λ own h. (f x, subst (λ (r : Result A Refusal). OwnDeed w.used_up v.number (Line Track) (told_by f r) own) is h))
       (ap (λ (r : Result A Refusal). numbers_told (commits (told_by f r) (Line Track)) said.at) is) called
+
+  taken_above : (x : A) → said.what ≡ Ok x
+      → Turned (origin disk vaults start) (asked (Line Track) told silent) said.at (views v w) → 1 ≤ said.at
+  taken_above x is t =
+      let n = start.commit_number in
+      let e = deed v.number (Line Track) told silent in
+      let at : said.at ≡ raised (commits told (Line Track)) (number_after n (v.seen ++ t.between)) =
+      t.number ∙ (turned_number t ∙ number_append n (v.seen ++ t.between) (e ∷ [])) in
+      let one : said.at ≡ number_after n (v.seen ++ t.between) + 1 =
+      at ∙ ap (λ (r : Result A Refusal). raised (commits (told_by f r) (Line Track)) (number_after n (v.seen ++ t.between)))
+      is in omega (arith, one)
+
+  -- its number is a commit number, up to the last that the seat knows
+  pub track_tag : (x : A) → said.what ≡ Ok x
+      → (1 ≤ said.at) × (said.at ≤ number_after start.commit_number w.seen)
+  track_tag x is =
+      let last = number_after start.commit_number v.seen in
+      let up : max last said.at ≡ number_after start.commit_number w.seen =
+      tells_number disk vaults start v w (Line Track) told said says last refl in (
+        ⊎_elim (taken_above x is) (λ (t : Spends v said w). absurd (no_answer x (sym is ∙ t.what))) says,
+        omega (arith, up),
+      )
+    where
+      no_answer : (x : A) → Ok x ≡ Err spent → ⊥
+      no_answer x is = cc
 
   pub track_refused : (why : Refusal) → said.what ≡ Err why
-      → OpensPart start.commit_number (TrackDeed v.number (Some (Err why))) (record_commits (Some (Err why))) v w
-  track_refused why is = opens_as start.commit_number (OwnDeed v.number (Line Track) told)
-      (TrackDeed v.number (Some (Err why))) (numbers_told (commits told (Line Track)) said.at) [] v w
-      (λ own h. subst (λ (r : Result A Refusal). OwnDeed v.number (Line Track) (told_by f r) own) is h)
+      → MakesCall IsOpening start.commit_number (TrackDeed w.used_up v.number (Some (Err why)))
+      (record_commits (Some (Err why))) v w
+  track_refused why is = opens_as start.commit_number (OwnDeed w.used_up v.number (Line Track) told)
+      (TrackDeed w.used_up v.number (Some (Err why))) (numbers_told (commits told (Line Track)) said.at) [] v w
+      (λ own h. subst (λ (r : Result A Refusal). OwnDeed w.used_up v.number (Line Track) (told_by f r) own) is h)
       (ap (λ (r : Result A Refusal). numbers_told (commits (told_by f r) (Line Track)) said.at) is) called
 
-pin_deed : (seat : ℕ) (r : Result ℕ Refusal) (own : List Deed) → OwnDeed seat Pin (told_by reply.Pinned r) own
-    → PinDeed seat (Some r) own
-pin_deed seat (Ok pin) own h = h
-pin_deed seat (Err why) own h = h
+pin_deed : (used_up : Bool) (seat : ℕ) (r : Result ℕ Refusal) (own : List Deed)
+    → OwnDeed used_up seat Pin (told_by reply.Pinned r) own → PinDeed used_up seat (Some r) own
+pin_deed used_up seat (Ok pin) own h = h
+pin_deed used_up seat (Err why) own h = h
 
 no_numbers : (r : Result ℕ Refusal) (at : ℕ) → numbers_told (commits (told_by reply.Pinned r) Pin) at ≡ []
 no_numbers (Ok pin) at = refl
@@ -223,10 +269,34 @@ no_numbers (Err why) at = refl
 pub pinned : {D V : Type 0} (disk : Ghosts D) (vaults : vault.Ghosts V) (start : Core D) (v w : View (Held D V) Deed)
     (said : Said ℕ)
     → Says (origin disk vaults start) (asked Pin (told_by reply.Pinned said.what) silent) said (views v w)
-    → OpensPart start.commit_number (PinDeed v.number (Some said.what)) [] v w
+    → MakesCall IsOpening start.commit_number (PinDeed w.used_up v.number (Some said.what)) [] v w
 pinned {D} {V} disk vaults start v w said says =
     let told = told_by reply.Pinned said.what in
-    opens_as start.commit_number (OwnDeed v.number Pin told) (PinDeed v.number (Some said.what))
-    (numbers_told (commits told Pin) said.at) [] v w (pin_deed v.number said.what) (no_numbers said.what said.at)
-    (opens_call disk vaults start v w Pin told said (inr refl)
+    opens_as start.commit_number (OwnDeed w.used_up v.number Pin told)
+    (PinDeed w.used_up v.number (Some said.what)) (numbers_told (commits told Pin) said.at) [] v w
+    (pin_deed w.used_up v.number said.what) (no_numbers said.what said.at)
+    (opens_call disk vaults start v w IsOpening Pin told said (inr refl)
     (λ why is. ap (λ (r : Result ℕ Refusal). told_by reply.Pinned r) is) says)
+
+-- a pin was released
+pub lets_go : {D V : Type 0} (disk : Ghosts D) (vaults : vault.Ghosts V) (start : Core D) (v w : View (Held D V) Deed)
+    (pin : ℕ) (said : Said (Unit {0}))
+    → Says (origin disk vaults start) (asked (Unpin pin) (told_by (λ _. reply.Done) said.what) silent) said (views v w)
+    → LetsGo start.commit_number pin v w
+lets_go {D} {V} disk vaults start v w pin said says =
+    let told = told_by (λ _. reply.Done) said.what in
+    let called = opens_call disk vaults start v w (λ call. call ≡ Unpin pin) (Unpin pin) told said refl
+    (λ why is. ap (λ (r : Result (Unit {0}) Refusal). told_by (λ _. reply.Done) r) is) says in
+    record {
+      what = told;
+      calls = record {
+        onward = called.onward;
+        own = called.own;
+        numbers_are = called.numbers_are ∙ no_unpin said.what said.at;
+      };
+    }
+  where
+    no_unpin : (r : Result (Unit {0}) Refusal) (at : ℕ)
+        → numbers_told (commits (told_by (λ _. reply.Done) r) (Unpin pin)) at ≡ []
+    no_unpin (Ok _) at = refl
+    no_unpin (Err why) at = refl

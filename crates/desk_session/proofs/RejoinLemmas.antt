@@ -1,5 +1,6 @@
 -- A seat is split in three, and joined again.
-use Rattle.std.proofs.Common.{◌≡◌, ◌⊎◌, ⊎_elim, ℕ, ◌<◌, List, [], ◌∷◌, ◌++◌, length, sym, ◌∙◌, ap, subst, arith}
+use Rattle.std.proofs.Common.{◌≡◌, ◌⊎◌, ⊎_elim, ℕ, ◌<◌, Bool, true, false, ◌||◌, List, [], ◌∷◌, ◌++◌, length, refl, sym}
+use Rattle.std.proofs.Common.{◌∙◌, ap, subst, arith}
 use Rattle.std.proofs.Common.{append_assoc}
 use Rattle.std.proofs.lemmas.Bool.Decides.{nat_tests}
 use Rattle.std.proofs.lemmas.List.{append-nil}
@@ -18,6 +19,10 @@ use Rattle.studio_seats.specs.Onward.{Asks, IsLine, Onward, places_of}
 use Rattle.studio_seats.proofs.OnwardLemmas.{places_others}
 use Rattle.desk_session.specs.Parts.{NewPart, Part, Rejoined}
 use Rattle.desk_session.proofs.PartLemmas.{places_behind}
+
+or_true : (b : Bool) → (b || true) ≡ true
+or_true true = refl
+or_true false = refl
 
 below_other : (seat n : ℕ) → n < seat → times n (seat ∷ []) ≡ 0
 below_other seat n h = grind (arith, nat_tests)
@@ -47,11 +52,13 @@ module _ {D V : Type 0} where
       ))
       h
 
-  part_of : (fits : Call → Type 0) (u v w : View (Held D V) Deed) → v.seen ≡ u.seen → Onward fits v w → Part fits u w
-  part_of fits u v w same o = record {
+  part_of : (fits : Call → Type 0) (u v w : View (Held D V) Deed) → v.seen ≡ u.seen
+      → (u.used_up ≡ true → v.used_up ≡ true) → Onward fits v w → Part fits u w
+  part_of fits u v w same known o = record {
     added = o.added;
     seen = o.seen ∙ ap (λ (l : List Deed). l ++ o.added) same;
     asks = subst (λ (n : ℕ). Asks fits n o.added) (sym o.number) o.asks;
+    used_up = λ is. o.used_up (known is);
   }
 
   -- a seat that was split off
@@ -67,7 +74,7 @@ module _ {D V : Type 0} where
       ∙ (places_behind (by_seat o.number) o.seen on.added
       ∙ ap (λ (l : List ℕ). l ++ places_of (by_seat o.number) (length o.seen) on.added) none) in
       record {
-        part = part_of fits v o w seen on;
+        part = part_of fits v o w seen (λ is. ap (λ (z : View (Held D V) Deed). z.used_up) new ∙ is) on;
         above = subst (λ (n : ℕ). v.number < n) (sym on.number) above;
         unseen = subst (λ (n : ℕ). Each (λ e. e.actor < n) v.seen) (sym on.number) unseen;
         mine = on.mine
@@ -117,12 +124,17 @@ module _ {D V : Type 0} where
         let two = both_begin j recorder alike2 in
         let j_seen : j.seen ≡ longer script.seen player.seen = ap (λ (z : View (Held D V) Deed). z.seen) is in
         let w_seen : w.seen ≡ longer j.seen recorder.seen = ap (λ (z : View (Held D V) Deed). z.seen) is2 in
+        let j_used : j.used_up ≡ (script.used_up || player.used_up) =
+        ap (λ (z : View (Held D V) Deed). z.used_up) is in
+        let w_used : w.used_up ≡ (j.used_up || recorder.used_up) =
+        ap (λ (z : View (Held D V) Deed). z.used_up) is2 in
         let w_j : w.seen ≡ j.seen ++ two.0.0 = w_seen ∙ two.0.1 in
         let below : r.number < p.number = last_of v.away (λ k. k < p.number) r.number
         (subst (λ (l : List ℕ). Each (λ k. k < p.number) l) (ap (λ (z : View (Held D V) Deed). z.away) kept)
         number2.above_away) in
         record {
-          by_script = part_of IsLine v v2 script seen2 on;
+          by_script = part_of IsLine v v2 script seen2 (λ is. ap (λ (z : View (Held D V) Deed). z.used_up) kept2
+              ∙ (ap (λ (z : View (Held D V) Deed). z.used_up) kept ∙ is)) on;
           script_number = on.number ∙ number_2;
           by_recorder = new_part pieces v r recorder new number.above_own number.above_makers rec;
           by_player = new_part reads v p player
@@ -143,6 +155,11 @@ module _ {D V : Type 0} where
           number = ap (λ (z : View (Held D V) Deed). z.number) is2
               ∙ (ap (λ (z : View (Held D V) Deed). z.number) is ∙ (on.number ∙ number_2));
           away = ap (λ (z : View (Held D V) Deed). z.away) is2 ∙ (second_join j is).2;
+          script_spent = λ h. w_used ∙ (ap (λ (b : Bool). b || recorder.used_up) (j_used
+              ∙ ap (λ (b : Bool). b || player.used_up) h));
+          recorder_spent = λ h. w_used ∙ (ap (λ (b : Bool). j.used_up || b) h ∙ or_true j.used_up);
+          player_spent = λ h. w_used ∙ ap (λ (b : Bool). b || recorder.used_up) (j_used
+              ∙ (ap (λ (b : Bool). script.used_up || b) h ∙ or_true script.used_up));
           script_mine = λ own. own_mine IsLine v2 script on
               (mine2 ∙ (own ∙ (λ i. places_of (by_seat (sym number_2 i)) 0 (sym seen2 i))))
               ∙ ap (λ (n : ℕ). places_of (by_seat n) 0 script.seen) number_2;

@@ -31,6 +31,7 @@ module _ {D V : Type 0} where
     number = h.number;
     away = h.away;
     mine = h.mine;
+    used_up = h.used_up;
   }
 
   pub recorder_goes : (made : Option (Result ℕ Refusal)) (track : ℕ) (v w : View (Held D V) Deed)

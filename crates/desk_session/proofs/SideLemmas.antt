@@ -41,6 +41,13 @@ where_both None h f g = g h
 where_both (Some (Ok x)) h f g = f x h
 where_both (Some (Err why)) h f g = g h
 
+-- the same of two things that hold of what was made
+pub where_two : {X : Type 0} {P R Q : X → Type 0} {E G F : Type 0} (made : Option (Result X Refusal))
+    → WhereMade made P E → WhereMade made R G → ((x : X) → P x → R x → Q x) → (E → G → F) → WhereMade made Q F
+where_two None h k f g = g h k
+where_two (Some (Ok x)) h k f g = f x h k
+where_two (Some (Err why)) h k f g = g h k
+
 -- what holds either way
 pub where_any : {X : Type 0} {P : X → Type 0} {E F : Type 0} (made : Option (Result X Refusal)) → WhereMade made P E
     → ((x : X) → P x → F) → (E → F) → F
@@ -70,6 +77,11 @@ pub where_none : {X : Type 0} (P : X → Type 0) (E : Type 0) (made : Option (Re
 where_none P E None o told is h = h
 where_none P E (Some (Ok y)) o told is h = absurd (some_or_none o y told is)
 where_none P E (Some (Err why)) o told is h = h
+
+-- what holds of what is there
+pub some_any : {X F : Type 0} {P : X → Type 0} (o : Option X) → IsSomeAnd o P → ((x : X) → P x → F) → F
+some_any None h f = absurd h
+some_any (Some x) h f = f x h
 
 pub some_as : {X : Type 0} {P Q : X → Type 0} (o : Option X) → IsSomeAnd o P → ((x : X) → P x → Q x) → IsSomeAnd o Q
 some_as None h f = absurd h

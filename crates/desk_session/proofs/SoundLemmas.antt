@@ -26,7 +26,8 @@ pub recorded_of : {L M T : Type 0} (mics : source.Ghosts M) (lent : source.Ghost
     (count : (l : L) → lent.fault_count l ≡ mics.fault_count (inner l)) (m : L) (t : T) (d : Recorded L T) (k : Kept)
     → Records lent takers m t d → k.end ≡ d.end → k.numbers ≡ d.numbers → k.samples ≡ d.samples
     → k.refused ≡ d.refused
-    → IsRecorded mics (change (inner m) (inner d.mic)) (change (takers.pieces t) (takers.pieces d.taker)) k
+    → IsRecorded mics (change (inner m) (inner d.mic)) (change (takers.pieces t) (takers.pieces d.taker))
+    (takers.refused d.taker) k
 recorded_of mics lent takers inner left count m t d k h end numbers samples refused = record {
   bytes = h.bytes;
   read = sym (left m) ∙ (h.read ∙ ap (preceded h.bytes) (left d.mic));
@@ -35,7 +36,6 @@ recorded_of mics lent takers inner left count m t d k h end numbers samples refu
     record { left = left m i; fault_count = count m i },
     record { left = left d.mic i; fault_count = count d.mic i },
   )) h.stopped;
-  told = takers.refused d.taker;
   takes = subst (λ (told : Taken). Takes (takers.pieces t) (taker_state takers d.taker) told (chunks_of h.bytes))
       (λ i. record { numbers = sym numbers i; samples = sym samples i; refused = sym refused i }) h.takes;
 }

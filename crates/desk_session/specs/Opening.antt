@@ -1,6 +1,6 @@
 -- What a session does before its script: a new track for a recording, and a pin for a playback.
-use Rattle.std.specs.Prelude.{◌≡◌, ◌⊎◌, ℕ, ◌≤◌, max, List, [], ◌∷◌, ◌++◌, Option, Some, None, Result, Ok, Err}
-use Rattle.std.specs.Prelude.{IsTrue}
+use Rattle.std.specs.Prelude.{◌≡◌, ◌⊎◌, ℕ, ◌≤◌, max, Bool, true, List, [], ◌∷◌, ◌++◌, Option, Some, None, Result, Ok}
+use Rattle.std.specs.Prelude.{Err, IsTrue}
 use Rattle.pcm_base.specs.declared.answer.Reply.{Reply}
 use Rattle.pcm_base.specs.declared.answer.Reply.TheVariants as reply
 use Rattle.pcm_base.specs.declared.command.Call.{Call}
@@ -19,21 +19,22 @@ use Rattle.studio_seats.specs.Onward.{IsPieceOf, IsReadOf, Onward}
 use Rattle.studio_seats.specs.Pins.{is_made}
 use Rattle.desk_session.specs.declared.opening.Opened.{Opened}
 
--- the seat's own deed of a call that was answered so; it is none where no turn was left
-abbrev pub OwnDeed : ℕ → Call → Result Reply Refusal → List Deed → Type 0
-OwnDeed seat call what own = (own ≡ deed seat call what silent ∷ []) ⊎ ((what ≡ Err spent) × (own ≡ []))
+-- the seat's own deed of a call that was answered so; it is none where no turn was left, as the seat then knows
+abbrev pub OwnDeed : Bool → ℕ → Call → Result Reply Refusal → List Deed → Type 0
+OwnDeed used_up seat call what own =
+    (own ≡ deed seat call what silent ∷ []) ⊎ ((what ≡ Err spent) × (own ≡ []) × (used_up ≡ true))
 
 -- a new track: it was not asked for, or it was made, or it was refused
-abbrev pub TrackDeed : ℕ → Option (Result ℕ Refusal) → List Deed → Type 0
-TrackDeed seat None own = own ≡ []
-TrackDeed seat (Some (Ok tag)) own = (reply : Reply) × OwnDeed seat (Line Track) (Ok reply) own
-TrackDeed seat (Some (Err why)) own = OwnDeed seat (Line Track) (Err why) own
+abbrev pub TrackDeed : Bool → ℕ → Option (Result ℕ Refusal) → List Deed → Type 0
+TrackDeed used_up seat None own = own ≡ []
+TrackDeed used_up seat (Some (Ok tag)) own = (reply : Reply) × OwnDeed used_up seat (Line Track) (Ok reply) own
+TrackDeed used_up seat (Some (Err why)) own = OwnDeed used_up seat (Line Track) (Err why) own
 
 -- a pin: it was not asked for, or it was made and has this number, or it was refused
-abbrev pub PinDeed : ℕ → Option (Result ℕ Refusal) → List Deed → Type 0
-PinDeed seat None own = own ≡ []
-PinDeed seat (Some (Ok pin)) own = OwnDeed seat Pin (Ok (reply.Pinned pin)) own
-PinDeed seat (Some (Err why)) own = OwnDeed seat Pin (Err why) own
+abbrev pub PinDeed : Bool → ℕ → Option (Result ℕ Refusal) → List Deed → Type 0
+PinDeed used_up seat None own = own ≡ []
+PinDeed used_up seat (Some (Ok pin)) own = OwnDeed used_up seat Pin (Ok (reply.Pinned pin)) own
+PinDeed used_up seat (Some (Err why)) own = OwnDeed used_up seat Pin (Err why) own
 
 -- one of both calls
 abbrev pub IsOpening : Call → Type 0
@@ -72,13 +73,18 @@ module _ {D V : Type 0} where
   abbrev pub TellsNumber : ℕ → View (Held D V) Deed → ℕ → View (Held D V) Deed → Type 0
   TellsNumber first v at w = (last : ℕ) → last ≡ number_after first v.seen → max last at ≡ number_after first w.seen
 
-  -- A seat went on by one call at most: its deed, and the numbers of its commits, by the number with which the desk
-  -- began.
-  pub record OpensPart (first : ℕ) (IsOwn : List Deed → Type 0) (numbers : List ℕ) (v w : View (Held D V) Deed)
-      : Type 0 where
-    pub onward : Onward IsOpening v w
+  -- A seat went on by one call at most, which fits: its deed, and the numbers of its commits, by the number with which
+  -- the desk began.
+  pub record MakesCall (fits : Call → Type 0) (first : ℕ) (IsOwn : List Deed → Type 0) (numbers : List ℕ)
+      (v w : View (Held D V) Deed) : Type 0 where
+    pub onward : Onward fits v w
     pub own : IsOwn (deeds_of (by_seat v.number) onward.added)
     pub numbers_are : numbers_of (by_seat v.number) (number_after first v.seen) onward.added ≡ numbers
+
+  -- A seat let a pin go: one call, whatever it was answered.
+  pub record LetsGo (first pin : ℕ) (v w : View (Held D V) Deed) : Type 0 where
+    pub what : Result Reply Refusal
+    pub calls : MakesCall (λ call. call ≡ Unpin pin) first (OwnDeed w.used_up v.number (Unpin pin) what) [] v w
 
   -- A seat made both. The recording's number is that of the new track.
   pub record Opens (first : ℕ) (opened : Opened) (v w : View (Held D V) Deed) : Type 0 where
@@ -86,8 +92,8 @@ module _ {D V : Type 0} where
     pub track_own : List Deed
     pub pin_own : List Deed
     pub own : deeds_of (by_seat v.number) onward.added ≡ track_own ++ pin_own
-    pub track : TrackDeed v.number opened.recording track_own
-    pub pin : PinDeed v.number opened.pin pin_own
+    pub track : TrackDeed w.used_up v.number opened.recording track_own
+    pub pin : PinDeed w.used_up v.number opened.pin pin_own
     pub numbers : numbers_of (by_seat v.number) (number_after first v.seen) onward.added
         ≡ record_commits opened.recording
 

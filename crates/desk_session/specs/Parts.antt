@@ -1,5 +1,5 @@
 -- A seat from which two were split, and that took them in again.
-use Rattle.std.specs.Prelude.{◌≡◌, ◌<◌, List, ◌++◌}
+use Rattle.std.specs.Prelude.{◌≡◌, ◌<◌, true, List, ◌++◌}
 use Rattle.pcm_base.specs.declared.command.Call.{Call}
 use Rattle.pin_turn.specs.declared.view.View.{View}
 use Rattle.pin_turn.specs.Counts.{Each}
@@ -23,6 +23,8 @@ module _ {D V : Type 0} where
     pub added : List Deed
     pub seen : w.seen ≡ v.seen ++ added
     pub asks : Asks fits w.number added
+    -- where it had found that no turn is left, it still knows
+    pub used_up : v.used_up ≡ true → w.used_up ≡ true
 
   -- it had a new number, and its turns are those that it made since
   pub record NewPart (fits : Call → Type 0) (v w : View (Held D V) Deed) : Type 0 where
@@ -47,6 +49,10 @@ module _ {D V : Type 0} where
     pub mine : x.joined.mine ≡ (x.script.mine ++ x.player.mine) ++ x.recorder.mine
     pub number : x.joined.number ≡ x.seat.number
     pub away : x.joined.away ≡ x.seat.away
+    -- what one of them found, that no turn is left, it knows too
+    pub script_spent : x.script.used_up ≡ true → x.joined.used_up ≡ true
+    pub recorder_spent : x.recorder.used_up ≡ true → x.joined.used_up ≡ true
+    pub player_spent : x.player.used_up ≡ true → x.joined.used_up ≡ true
     -- where the turns of the seat were those of its own deeds, they still are, before it took the others in
     pub script_mine : x.seat.mine ≡ places_of (by_seat x.seat.number) 0 x.seat.seen
         → x.script.mine ≡ places_of (by_seat x.seat.number) 0 x.script.seen

@@ -4,6 +4,7 @@ use Rattle.pin_turn.specs.declared.view.View.{View}
 use Rattle.editor_core.specs.Core.{Core}
 use Rattle.studio_seats.specs.declared.deed.Deed.{Deed}
 use Rattle.studio_seats.specs.declared.held.Held.{Held}
+use Rattle.studio_seats.specs.Merge.{by_seat, deeds_of}
 use Rattle.studio_seats.specs.Pieces.{pieces_by}
 use Rattle.studio_seats.specs.Shows.{IsMixOf}
 use Rattle.studio_seats.specs.Stands.{origin}
@@ -11,7 +12,7 @@ use Rattle.script_session.specs.Change.{change}
 use Rattle.desk_session.specs.Lent.{Kinds, Lent, Outcome}
 use Rattle.desk_session.specs.Opening.{WhereMade, play_calls, record_calls}
 use Rattle.desk_session.specs.Parts.{Rejoined}
-use Rattle.desk_session.specs.Sounds.{IsPlayed, IsRecorded}
+use Rattle.desk_session.specs.Sounds.{Played, Recorded}
 use Rattle.desk_session.specs.Works.{RanScript}
 
 -- The studio with which a desk began, the track of the recording, the commit number that was told last before the
@@ -37,10 +38,11 @@ pub record Sat {D V M P : Type 0} (k : Kinds D V M P) (s : Sitting D V) (lent : 
     joined = s.seat_now;
   })
   pub ran : RanScript k.vaults (record { start = s.start; last = s.last; seat = change s.seat script }) lent out.told
-  pub recorded : WhereMade out.opened.recording (λ tag. IsSomeAnd out.kept
-      (IsRecorded k.mics lent.mic
-      (change [] (pieces_by s.track tag recorder.number s.start.commit_number recorder.seen))))
+  pub recorded : WhereMade out.opened.recording (λ tag. IsSomeAnd out.kept (Recorded k.mics lent.mic
+      (change [] (pieces_by s.track tag recorder.number s.start.commit_number recorder.seen)) recorder.used_up
+      (deeds_of (by_seat recorder.number) seats.by_recorder.part.added)))
       ((out.kept ≡ None) × (lent.mic.now ≡ lent.mic.before))
-  pub played : WhereMade out.opened.pin (λ pin. IsSomeAnd out.heard
-      (IsPlayed k.speakers lent.speaker (IsMixOf (origin k.disk k.vaults s.start) s.seat.seen pin)))
+  pub played : WhereMade out.opened.pin (λ pin. IsSomeAnd out.heard (Played k.speakers lent.speaker
+      (IsMixOf (origin k.disk k.vaults s.start) s.seat.seen pin) pin player.used_up player.number
+      (deeds_of (by_seat player.number) seats.by_player.part.added)))
       ((out.heard ≡ None) × (lent.speaker.now ≡ lent.speaker.before))

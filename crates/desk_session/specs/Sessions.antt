@@ -1,5 +1,5 @@
 -- A session at a desk: a script, and beside it a recording and a playback, where they were asked for.
-use Rattle.std.specs.Prelude.{◌≡◌, ℕ, Bool, true, IsTrue, List, [], ◌∷◌, ◌++◌, None, IsSomeAnd}
+use Rattle.std.specs.Prelude.{◌≡◌, ℕ, ◌^◌, Bool, true, IsTrue, List, [], ◌∷◌, ◌++◌, length, None, IsSomeAnd}
 use Rattle.std.specs.List.{list_any}
 use Rattle.pcm_base.specs.declared.answer.Answer.{Answer}
 use Rattle.pcm_base.specs.Outside.{Sounds}
@@ -12,7 +12,8 @@ use Rattle.editor_core.specs.Core.{Core}
 use Rattle.studio_seats.specs.declared.deed.Deed.{Deed}
 use Rattle.studio_seats.specs.Deeds.{actor_of, entries_of, number_after}
 use Rattle.studio_seats.specs.Faults.{AllServed}
-use Rattle.studio_seats.specs.Merge.{Numbers, by_seat, deeds_of, numbers_of}
+use Rattle.studio_seats.specs.Leads.{HadTurn}
+use Rattle.studio_seats.specs.Merge.{Numbers, any_seat, by_seat, deeds_of, numbers_of}
 use Rattle.studio_seats.specs.Onward.{Asks, IsLine}
 use Rattle.studio_seats.specs.Pieces.{pieces_by}
 use Rattle.studio_seats.specs.Shows.{IsMixOf}
@@ -23,16 +24,17 @@ use Rattle.script_session.specs.Place.{Place}
 use Rattle.script_session.specs.Progress.{IsCut, WritesAnswers, outcome_of, says_no}
 use Rattle.script_session.specs.Served.{IsUndisturbed, TellsNoDevice}
 use Rattle.script_session.specs.Session.{Session}
+use Rattle.script_session.specs.Spent.{TellSpent}
 use Rattle.desk_session.specs.declared.opening.Opened.{Opened}
 use Rattle.desk_session.specs.declared.told.Told.{Told}
 use Rattle.desk_session.specs.Lent.{Kinds, Lent, Outcome}
 use Rattle.desk_session.specs.Makers.{Apart, Seats, is_by}
 use Rattle.desk_session.specs.Opening.{PinDeed, TrackDeed, WhereMade, play_calls, record_calls, record_commits}
-use Rattle.desk_session.specs.Sounds.{IsPlayed, IsRecorded, piece_numbers}
+use Rattle.desk_session.specs.Sounds.{Played, Recorded, piece_numbers}
 
 -- The deeds of a session, by their makers: the first seat made the opening, and then the lines; a second one made the
--- pieces of the recording, and a third one read the pin and let it go.
-pub record IsMadeOf (track : ℕ) (opened : Opened) (deeds : List Deed) : Type 0 where
+-- pieces of the recording, and a third one read the pin and released it. Where one of them made no turn, none was left.
+pub record IsMadeOf (spent : Bool) (track : ℕ) (opened : Opened) (deeds : List Deed) : Type 0 where
   pub seats : Seats
   pub script_seat : seats.script ≡ 0
   pub apart : Apart seats
@@ -42,8 +44,8 @@ pub record IsMadeOf (track : ℕ) (opened : Opened) (deeds : List Deed) : Type 0
   pub track_own : List Deed
   pub pin_own : List Deed
   pub opening_is : opening ≡ track_own ++ pin_own
-  pub track_is : TrackDeed 0 opened.recording track_own
-  pub pin_is : PinDeed 0 opened.pin pin_own
+  pub track_is : TrackDeed spent 0 opened.recording track_own
+  pub pin_is : PinDeed spent 0 opened.pin pin_own
   pub all : Each (λ d. is_by seats d ≡ true) rest
   pub lines : Asks IsLine 0 rest
   pub pieces : Asks (record_calls track opened.recording) seats.recorder rest
@@ -71,8 +73,8 @@ pub record Split : Type 0 where
 
 -- What a script did, of the deeds of a session: the bytes that it read are these lines, their answers were written, and
 -- the deeds of its seat are those of its lines.
-pub record IsScripted {V M P : Type 0} (vaults : vault.Ghosts V) (deeds : Split) (lent : Lent V M P) (told : Told)
-    : Type 0 where
+pub record IsScripted {V M P : Type 0} (vaults : vault.Ghosts V) (spent : Bool) (deeds : Split) (lent : Lent V M P)
+    (told : Told) : Type 0 where
   pub read : List ℕ
   pub lines : List (List ℕ)
   pub answers : List Answer
@@ -91,6 +93,12 @@ pub record IsScripted {V M P : Type 0} (vaults : vault.Ghosts V) (deeds : Split)
   pub by_others : ByOthers actor_of (0 ∷ []) later
   pub are : OfLines 0 lines answers (deeds_of (by_seat 0) deeds.rest)
   pub numbers : told.commits ≡ numbers_of (by_seat 0) (number_after deeds.first deeds.opening) deeds.rest
+  -- where the seat found that no turn is left, none was; and if no deed was refused so, an answer is Spent only then
+  pub found : last.used_up ≡ true → spent ≡ true
+  pub tell_spent : Each HadTurn (deeds.opening ++ deeds.rest) → TellSpent answers → spent ≡ true
+  -- the last place is that of the vault as it came back, and of the numbers that were returned
+  pub ends : (last.sounds ≡ vaults.holds lent.vault.now) × (last.faults ≡ vaults.fault_count lent.vault.now)
+      × (last.commits ≡ told.commits)
   -- the sounds of a vault that tells its bytes follow its deeds
   pub sounds : IsTrue (vaults.tells lent.vault.before) → Follows (vaults.holds lent.vault.before)
       (entries_of (deeds_of (by_seat 0) deeds.rest)) (vaults.holds lent.vault.now)
@@ -100,23 +108,31 @@ pub record IsSession {D V M P : Type 0} (k : Kinds D V M P) (start final : Core 
     : Type 0 where
   pub deeds : List Deed
   pub stands : StandsFor (origin k.disk k.vaults start) final deeds
-  pub made : IsMadeOf start.next_track out.opened deeds
-  pub scripted : IsScripted k.vaults
+  -- whether a seat found that no turn was left: then as many were made as there are
+  pub spent : Bool
+  pub turns : spent ≡ true → length deeds ≡ 2 ^ 62
+  pub made : IsMadeOf spent start.next_track out.opened deeds
+  pub scripted : IsScripted k.vaults spent
       (record { first = start.commit_number; opening = made.opening; rest = made.rest }) lent out.told
   -- a recording that was asked for and has its track; else the microphone is as it was
-  pub recorded : WhereMade out.opened.recording (λ tag. IsSomeAnd out.kept
-      (IsRecorded k.mics lent.mic
-      (change [] (pieces_by start.next_track tag made.seats.recorder start.commit_number deeds))))
+  pub recorded : WhereMade out.opened.recording (λ tag. IsSomeAnd out.kept (Recorded k.mics lent.mic
+      (change [] (pieces_by start.next_track tag made.seats.recorder start.commit_number deeds)) spent
+      (deeds_of (by_seat made.seats.recorder) made.rest)))
       ((out.kept ≡ None) × (lent.mic.now ≡ lent.mic.before))
   -- a playback that was asked for and has its pin, of the mix of the project that was current where it was made; else
   -- the speaker is as it was
-  pub played : WhereMade out.opened.pin (λ pin. IsSomeAnd out.heard
-      (IsPlayed k.speakers lent.speaker (IsMixOf (origin k.disk k.vaults start) made.opening pin)))
+  pub played : WhereMade out.opened.pin (λ pin. IsSomeAnd out.heard (Played k.speakers lent.speaker
+      (IsMixOf (origin k.disk k.vaults start) made.opening pin) pin spent made.seats.player
+      (deeds_of (by_seat made.seats.player) made.rest)))
       ((out.heard ≡ None) × (lent.speaker.now ≡ lent.speaker.before))
   -- Where no device failed no deed tells of one, and the studio goes on.
-  pub served : IsUndisturbed (origin k.disk k.vaults start) final
+  pub served : IsUndisturbed (origin k.disk k.vaults start) final deeds
       (change (k.vaults.fault_count lent.vault.before) (k.vaults.fault_count lent.vault.now))
       → AllServed final deeds × Each TellsNoDevice (deeds_of (by_seat 0) made.rest)
+  -- the numbers of the opening are the new track's, and those of the recorder's commits are the pieces'
+  pub opening_numbers : numbers_of any_seat start.commit_number made.opening ≡ record_commits out.opened.recording
+  pub pieces_are : piece_numbers out.kept
+      ≡ numbers_of (by_seat made.seats.recorder) (number_after start.commit_number made.opening) made.rest
   -- the numbers of the new track, of the script and of the pieces are together all behind the first up to the last,
   -- each once, and each list rises
   pub numbers : Numbers start.commit_number final.commit_number (record {

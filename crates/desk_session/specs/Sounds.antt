@@ -1,5 +1,7 @@
 -- What a recording and a playback have done.
-use Rattle.std.specs.Prelude.{◌≡◌, ℕ, ◌/◌, ℤ, List, [], length, take, Option, Some, None}
+use Rattle.std.specs.Prelude.{◌≡◌, ℕ, ◌/◌, ℤ, Bool, List, [], ◌++◌, length, take, Option, Some, None, Result}
+use Rattle.pcm_base.specs.declared.answer.Reply.{Reply}
+use Rattle.pcm_base.specs.declared.command.Call.TheVariants.{Unpin}
 use Rattle.pcm_base.specs.declared.refusal.Refusal.{Refusal}
 use Rattle.pcm_base.specs.declared.sound.Frame.{Frame}
 use Rattle.pcm_base.specs.Recordings.{chunks_of}
@@ -10,18 +12,21 @@ use Rattle.recorder_work.specs.Blocks.{mic_state}
 use Rattle.recorder_work.specs.Captured.{IsStoppedBy}
 use Rattle.recorder_work.specs.Drained.{Takes}
 use Rattle.player_work.specs.Spoken.{Writes, speaker_state}
+use Rattle.pin_turn.specs.Counts.{Each}
+use Rattle.studio_seats.specs.declared.deed.Deed.{Deed}
+use Rattle.studio_seats.specs.Onward.{EndsBy, IsReadOf}
 use Rattle.script_session.specs.Change.{Change}
 use Rattle.desk_session.specs.declared.told.Heard.{Heard}
 use Rattle.desk_session.specs.declared.told.Kept.{Kept}
+use Rattle.desk_session.specs.Opening.{OwnDeed}
 
 -- These bytes were read of the microphone, up to what stopped it; the pieces of the recording are their chunks, in
--- order and each once, with these numbers, up to the first that was refused.
+-- order and each once, with these numbers, up to the first that was refused, where the taker of the pieces had `told`.
 pub record IsRecorded {M : Type 0} (mics : source.Ghosts M) (mic : Change M) (pieces : Change (List (List ℤ × ℕ)))
-    (kept : Kept) : Type 0 where
+    (told : Option Refusal) (kept : Kept) : Type 0 where
   pub bytes : List ℕ
   pub read : mics.left mic.before ≡ preceded bytes (mics.left mic.now)
   pub stopped : IsStoppedBy kept.end bytes (mic_state mics mic.before) (mic_state mics mic.now)
-  pub told : Option Refusal
   pub takes : Takes pieces.before record { pieces = pieces.now; refused = told }
       record { numbers = kept.numbers; samples = kept.samples; refused = kept.refused } (chunks_of bytes)
 
@@ -35,6 +40,26 @@ pub record IsPlayed {P : Type 0} (speakers : sink.Ghosts P) (speaker : Change P)
   pub writes : Writes (speaker_state speakers speaker.before) (speaker_state speakers speaker.now)
       record { frames = heard.frames; fault = heard.fault } frames
   pub exact : heard.frames ≡ writes.bytes / 4
+
+-- The deeds of the recorder's seat end by what the taker was refused: none was asked after that.
+pub record Recorded {M : Type 0} (mics : source.Ghosts M) (mic : Change M) (pieces : Change (List (List ℤ × ℕ)))
+    (spent : Bool) (own : List Deed) (kept : Kept) : Type 0 where
+  pub told : Option Refusal
+  pub is : IsRecorded mics mic pieces told kept
+  pub ends : EndsBy spent told own
+
+-- The deeds of the player's seat are the reads, which end by the refusal that is returned, and then one that releases
+-- the pin, or none where no turn was left.
+pub record Played {P : Type 0} (speakers : sink.Ghosts P) (speaker : Change P) (shows : List Frame → Type 0) (pin : ℕ)
+    (spent : Bool) (player : ℕ) (own : List Deed) (heard : Heard) : Type 0 where
+  pub is : IsPlayed speakers speaker shows heard
+  pub reads : List Deed
+  pub release : List Deed
+  pub own_is : own ≡ reads ++ release
+  pub are : Each (λ d. IsReadOf pin d.call) reads
+  pub ends : EndsBy spent heard.refused reads
+  pub what : Result Reply Refusal
+  pub released : OwnDeed spent player (Unpin pin) what release
 
 -- the numbers of the pieces
 abbrev pub piece_numbers : Option Kept → List ℕ

@@ -1,11 +1,12 @@
 -- What the threads of a session did, each by a seat of its own.
-use Rattle.std.specs.Prelude.{◌≡◌, ℕ, ℤ, List, [], None, IsSomeAnd}
+use Rattle.std.specs.Prelude.{◌≡◌, ℕ, ℤ, List, [], Option, None, IsSomeAnd, is_some}
+use Rattle.pcm_base.specs.declared.refusal.Refusal.{Refusal}
 use Rattle.edit_ports.specs.declared.vault.Vault as vault
 use Rattle.pin_turn.specs.declared.view.View.{View}
 use Rattle.editor_core.specs.Core.{Core}
 use Rattle.studio_seats.specs.declared.deed.Deed.{Deed}
 use Rattle.studio_seats.specs.declared.held.Held.{Held}
-use Rattle.studio_seats.specs.Onward.{IsLine, IsPieceOf, IsReadOf, Onward}
+use Rattle.studio_seats.specs.Onward.{IsLine, IsPieceOf, IsReadOf, Onward, WorksOn, worker}
 use Rattle.studio_seats.specs.Pieces.{pieces_by}
 use Rattle.studio_seats.specs.Shows.{IsMixOf}
 use Rattle.studio_seats.specs.Stands.{origin}
@@ -57,12 +58,14 @@ pub record Works {D V M P : Type 0} (k : Kinds D V M P) (s : Working D V) (lent 
   pub goes : Onward IsLine s.script.before s.script.now
   pub ran : RanScript k.vaults (record { start = s.start; last = s.last; seat = s.script }) lent out.told
   pub records : WhereMade out.opened.recording
-      (λ tag. Onward (IsPieceOf s.track tag) s.recorder.before s.recorder.now
+      (λ tag. (told : Option Refusal)
+      × WorksOn (IsPieceOf s.track tag) (is_some told) (worker s.recorder.before None) (worker s.recorder.now told)
       × IsSomeAnd out.kept (IsRecorded k.mics lent.mic
-      (change (pieces_seen s tag s.recorder.before) (pieces_seen s tag s.recorder.now))))
+      (change (pieces_seen s tag s.recorder.before) (pieces_seen s tag s.recorder.now)) told))
       ((s.recorder.now ≡ s.recorder.before) × (out.kept ≡ None) × (lent.mic.now ≡ lent.mic.before))
   pub plays : WhereMade out.opened.pin
-      (λ pin. Onward (IsReadOf pin) s.player.before s.player.now
-      × IsSomeAnd out.heard (IsPlayed k.speakers lent.speaker
-      (IsMixOf (origin k.disk k.vaults s.start) s.player.before.seen pin)))
+      (λ pin. IsSomeAnd out.heard (λ heard.
+      WorksOn (IsReadOf pin) (is_some heard.refused) (worker s.player.before None)
+      (worker s.player.now heard.refused)
+      × IsPlayed k.speakers lent.speaker (IsMixOf (origin k.disk k.vaults s.start) s.player.before.seen pin) heard))
       ((s.player.now ≡ s.player.before) × (out.heard ≡ None) × (lent.speaker.now ≡ lent.speaker.before))

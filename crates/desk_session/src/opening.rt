@@ -3,10 +3,11 @@ ghost use Rattle.std.specs.Prelude.{◌≡◌, [], Some, is_some};
 ghost use Rattle.pin_turn.specs.Calls.{known};
 ghost use Rattle.studio_seats.specs.Desks.{IsAt, start_at};
 ghost use Rattle.desk_session.specs.Opening.{
+  IsOpening,
   IsPinIn,
   IsTagTo,
+  MakesCall,
   Opens,
-  OpensPart,
   PinDeed,
   TellsNumber,
   TrackDeed,
@@ -49,7 +50,8 @@ fn open_track<R: Wait, S: Store, V: Vault>(
 ) -> Said<u64>
     requires { IsAt desk.now seat.old }
     ensures same { IsAt desk.now seat.new }
-    ensures opens { OpensPart (start_at desk.now).commit_number (TrackDeed (known seat.old).number (Some result.what))
+    ensures opens { MakesCall IsOpening (start_at desk.now).commit_number
+        (TrackDeed (known seat.new).used_up (known seat.old).number (Some result.what))
         (record_commits (Some result.what)) (known seat.old) (known seat.new) }
     ensures tag { IsTagTo (Some result.what) (number_seen (start_at desk.now) (known seat.new)) }
     ensures at { TellsNumber (start_at desk.now).commit_number (known seat.old) result.at (known seat.new) }
@@ -82,8 +84,9 @@ fn open_recording<R: Wait, S: Store, V: Vault>(
     requires at { IsAt desk.now seat.old }
     requires last { last ≡ number_seen (start_at desk.now) (known seat.old) }
     ensures same { IsAt desk.now seat.new }
-    ensures opens { OpensPart (start_at desk.now).commit_number (TrackDeed (known seat.old).number result.0)
-        (record_commits result.0) (known seat.old) (known seat.new) }
+    ensures opens { MakesCall IsOpening (start_at desk.now).commit_number
+        (TrackDeed (known seat.new).used_up (known seat.old).number result.0) (record_commits result.0)
+        (known seat.old) (known seat.new) }
     ensures tag { IsTagTo result.0 (number_seen (start_at desk.now) (known seat.new)) }
     ensures last { result.1 ≡ number_seen (start_at desk.now) (known seat.new) }
     ensures asked { is_some result.0 ≡ records }
@@ -108,8 +111,8 @@ fn open_playback<R: Wait, S: Store, V: Vault>(
     requires at { IsAt desk.now seat.old }
     requires last { last ≡ number_seen (start_at desk.now) (known seat.old) }
     ensures same { IsAt desk.now seat.new }
-    ensures opens { OpensPart (start_at desk.now).commit_number (PinDeed (known seat.old).number result.0) []
-        (known seat.old) (known seat.new) }
+    ensures opens { MakesCall IsOpening (start_at desk.now).commit_number
+        (PinDeed (known seat.new).used_up (known seat.old).number result.0) [] (known seat.old) (known seat.new) }
     ensures made { IsPinIn result.0 (known seat.new).seen }
     ensures last { result.1 ≡ number_seen (start_at desk.now) (known seat.new) }
     ensures asked { is_some result.0 ≡ plays }

@@ -26,7 +26,8 @@ pub fn lend_player<'a, 'b, S: Store, V: Vault, P: Sink>(
     requires ring { is_some ring ≡ is_some pin }
     ensures { Lends pin
         (λ number w. (w.speaker.sink.ghost_name ≡ speaker.entry.ghost_name) × (w.speaker.sink.now ≡ speaker.old)
-        × (w.giver.desk.now ≡ desk.now) × (known w.giver.seat ≡ known seat) × (w.giver.pin ≡ number))
+        × (w.giver.desk.now ≡ desk.now) × (known w.giver.seat ≡ known seat) × (w.giver.pin ≡ number)
+        × (w.giver.refused ≡ None))
         (λ r. (known r.0 ≡ known seat) × IsAt desk.now r.0 × (r.1.ghost_name ≡ speaker.entry.ghost_name)
         × (r.1.now ≡ speaker.old))
         result }

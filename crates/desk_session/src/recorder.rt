@@ -28,7 +28,7 @@ pub fn lend_recorder<'a, 'b, S: Store, V: Vault, M: Source>(
     ensures { Lends recording
         (λ tag w. (w.mic.source.ghost_name ≡ mic.entry.ghost_name) × (w.mic.source.now ≡ mic.old)
         × (w.taker.desk.now ≡ desk.now) × (known w.taker.seat ≡ known seat) × (w.taker.track ≡ track)
-        × (w.taker.tag ≡ tag))
+        × (w.taker.tag ≡ tag) × (w.taker.refused ≡ None))
         (λ r. (known r.0 ≡ known seat) × IsAt desk.now r.0 × (r.1.ghost_name ≡ mic.entry.ghost_name)
         × (r.1.now ≡ mic.old))
         result }

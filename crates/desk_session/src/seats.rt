@@ -1,13 +1,11 @@
 // One seat at a desk is split in three, and joined again.
 ghost use Rattle.std.specs.Prelude.{◌≡◌, [], None, Some};
-ghost use Rattle.pcm_base.specs.declared.command.Call.TheVariants.{Unpin};
 ghost use Rattle.pin_turn.specs.Calls.{known};
 ghost use Rattle.studio_seats.specs.Desks.{IsAt, start_at};
-ghost use Rattle.studio_seats.specs.Onward.{Onward};
 ghost use Rattle.script_session.specs.Change.{change};
 ghost use Rattle.script_session.specs.Kept.{Holds};
 ghost use Rattle.desk_session.specs.Lent.{AreSame, IsCausedIn, kinds, lent_by};
-ghost use Rattle.desk_session.specs.Opening.{IsPinIn, IsTagTo, WhereMade, number_seen};
+ghost use Rattle.desk_session.specs.Opening.{IsPinIn, IsTagTo, LetsGo, WhereMade, number_seen};
 ghost use Rattle.desk_session.specs.Sat.{Sat};
 
 use super::devices::Devices;
@@ -50,8 +48,8 @@ fn let_go<R: Wait, S: Store, V: Vault>(
 )
     requires { IsAt desk.now seat.old }
     ensures same { IsAt desk.now seat.new }
-    ensures goes { WhereMade pin (λ number. Onward (λ call. call ≡ Unpin number) (known seat.old) (known seat.new))
-        (known seat.new ≡ known seat.old) }
+    ensures goes { WhereMade pin (λ number. LetsGo (start_at desk.now).commit_number number (known seat.old)
+        (known seat.new)) (known seat.new ≡ known seat.old) }
 {
     match pin_number(pin) {
         Some(number) => {

@@ -57,7 +57,7 @@ fn name_blocks(
 }
 
 /// Gives the new blocks of all clips their ids, and makes the layout.
-fn name_clips(planner: Planner, clips: Vec<LaidClip>) -> Result<Plan, AllocError>
+fn name_clips(planner: Planner, clips: Vec<LaidClip>) -> Result<Plan, NoMemory>
     requires apart { laid.AreLaidClips planner.block_size 0 clips.items }
     requires few { laid.laid_end 0 clips.items ≤ 2 ^ 32 }
     ensures layout { IfOk result (λ p. p.layout ≡ laid.named_clips planner.next clips.items) }
@@ -75,7 +75,7 @@ fn name_clips(planner: Planner, clips: Vec<LaidClip>) -> Result<Plan, AllocError
         out.push(Clip { start, blocks })?;
     }
     Ok(Plan {
-        layout: Layout::from_clips(out),
+        layout: Layout::from_clips(out)?,
         makes: NewBlocks::new(makes),
         next: id,
     })

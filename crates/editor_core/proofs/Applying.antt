@@ -1,5 +1,5 @@
 -- What a call does over a vault, from what it does by itself.
-use Rattle.std.proofs.Common.{◌≡◌, inl, IfErr, refl, sym, ap, subst, ℕ, Bool, IsTrue, Option, Some, None, is_some, List}
+use Rattle.std.proofs.Common.{◌≡◌, inl, IfErr, refl, sym, ap, subst, ℕ, Bool, IsTrue, Option, Some, None, is_some, List, []}
 use Rattle.std.proofs.Common.{Result, Ok, Err}
 use Rattle.pcm_base.specs.declared.answer.Reply.{Reply}
 use Rattle.pcm_base.specs.declared.command.Call.{Call}
@@ -11,23 +11,25 @@ use Rattle.pcm_base.specs.declared.command.Command.TheVariants as command
 use Rattle.pcm_base.specs.Run.{Heard, name_in, name_in_line}
 use Rattle.disk_model.specs.Frames.{Kept}
 use Rattle.disk_model.specs.declared.store.Store.{Ghosts}
-use Rattle.disk_model.proofs.Frames.{Fewer, changed_kept, changed_none}
+use Rattle.disk_model.proofs.Frames.{Fewer, changed_kept, changed_none, kept_none}
+pub use Rattle.editor_core.specs.Applied.{spanned}
 use Rattle.editor_core.specs.Applied.{Lasts, TookOver, move_of, Span, sound_moved}
 use Rattle.editor_core.specs.Core.{Core}
 use Rattle.editor_core.specs.Exports.{moved_from}
 use Rattle.editor_core.specs.Imports.{VaultCounted}
-use Rattle.editor_core.specs.Left.{Left, MayRemove}
+use Rattle.editor_core.specs.Left.{Left, MayRemove, Untouched}
 use Rattle.editor_core.specs.Studios.{IsStudio}
 use Rattle.editor_core.specs.Took.{Exchange, Took, exchange_of, freeing, number_behind, told_by, with_sound}
 use Rattle.editor_core.proofs.Leaving.{IsPlain, left_plain}
 use Rattle.editor_core.proofs.Looking.{looked_studio}
 use Rattle.editor_core.proofs.Others.{others_none}
+use Rattle.editor_core.proofs.Removing.{RemovesNone, frees_none, ids_same, no_record}
 use Rattle.editor_core.proofs.Staying.{stopped_not}
 
--- a span by its parts
-abbrev pub spanned : {D : Type 0} → Bool → Core D → Core D → Sounds → Sounds → Span D
-spanned tells old new old_sounds new_sounds =
-    record { old = old; new = new; tells = tells; old_sounds = old_sounds; new_sounds = new_sounds }
+kept_untouched : {D : Type 0} (disk : Ghosts D) (s new : Core D) (told : Result Reply Refusal)
+    → Kept disk s.store new.store → Untouched disk s told new
+kept_untouched disk s new (Ok r) kept = tt
+kept_untouched disk s new (Err why) kept = λ device. kept
 
 module _ {D : Type 0} (disk : Ghosts D) (s : Core D) where
   -- a step lasts
@@ -37,43 +39,55 @@ module _ {D : Type 0} (disk : Ghosts D) (s : Core D) where
     number = took.number;
     rests = took.rests;
     len = took.len;
+    records = took.records;
     changed = took.changed;
+    frees = took.frees;
+    ids = took.ids;
+    untouched = took.untouched;
     stops = took.stops;
     left = took.left;
   }
 
   -- nothing was done
-  pub lasts_idle : IsStudio disk s → Fewer disk s.store → (call : Call) (sound : SoundMove) (why : Refusal)
+  pub lasts_idle : IsStudio disk s → Fewer disk s.store → (call : Call) → RemovesNone call → (sound : SoundMove) (why : Refusal)
       → IsPlain why
       → Lasts disk s (with_sound call sound (Err why)) s
-  lasts_idle is fewer call sound why plain = record {
+  lasts_idle is fewer call none sound why plain = record {
     studio = is;
     number = refl;
     rests = λ some. refl;
     len = 0;
+    records = no_record (Err why) s;
     changed = changed_none s.store (others_none s.next_block s.next_block (MayRemove call s.counts)) fewer;
+    frees = frees_none disk s call (Err why) s none;
+    ids = ids_same s s refl refl;
+    untouched = λ device. kept_none s.store fewer;
     stops = inl (refl, refl);
-    left = left_plain disk s (MayRemove call s.counts) s.store why plain;
+    left = left_plain disk s s.store why plain;
   }
 
   -- nothing was changed
-  pub lasts_looked : (is : IsStudio disk s) (call : Call) (sound : SoundMove) → s.stopped ≡ None
+  pub lasts_looked : (is : IsStudio disk s) (call : Call) → RemovesNone call → (sound : SoundMove) → s.stopped ≡ None
       → (store : D) (kept : Kept disk s.store store) (told : Result Reply Refusal)
       → s.commit_number ≡ number_behind told call s.commit_number
-      → IfErr told (Left disk s (MayRemove call s.counts) (record s { store = store }))
+      → IfErr told (Left disk s (record s { store = store }))
       → Lasts disk s (with_sound call sound told) (record s { store = store })
-  lasts_looked is call sound going store kept told number left = record {
+  lasts_looked is call none sound going store kept told number left = record {
     studio = looked_studio disk s is store kept;
     number = number;
     rests = λ some. absurd (stopped_not s.stopped some going);
     len = 0;
+    records = no_record told (record s { store = store });
     changed = changed_kept (others_none s.next_block s.next_block (MayRemove call s.counts)) kept;
+    frees = frees_none disk s call told (record s { store = store }) none;
+    ids = ids_same s (record s { store = store }) refl refl;
+    untouched = kept_untouched disk s (record s { store = store }) told kept;
     stops = inl (refl, kept.same_faults);
     left = left;
   }
 
   -- a call that names no sound
-  pub over_silent : (tells : Bool) (sounds : Sounds) (call : Call) (told : Result Reply Refusal) (removed : ℕ)
+  pub over_silent : (tells : Bool) (sounds : Sounds) (call : Call) (told : Result Reply Refusal) (removed : List ℕ)
       (new : Core D) → name_in call ≡ None
       → Took disk s (freeing call told removed) new
       → TookOver disk (spanned tells s new sounds sounds) call told
@@ -95,7 +109,7 @@ pub over_sound : {D : Type 0} (disk : Ghosts D) (span : Span D) (call : Call) (n
     → (IsTrue span.tells → SameElsewhere name span.old_sounds span.new_sounds)
     → ((sound : SoundMove) → Lasts disk span.old (with_sound call sound told) span.new) → TookOver disk span call told
 over_sound disk span call name told named took others lasts = record {
-  removed = 0;
+  removed = [];
   took = λ is. subst (λ (o : Option (List ℕ)). Took disk span.old (with_sound call (sound_moved span o) told) span.new)
       (sym named) (took (is (ap is_some named)));
   heard = λ is. subst (λ (o : Option (List ℕ)). Heard o (sound_moved span o) span.old_sounds span.new_sounds)

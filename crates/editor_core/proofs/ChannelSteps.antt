@@ -116,7 +116,7 @@ module _ {D : Type 0} (disk : Ghosts D) (s : Core D) (is : IsStudio disk s) (cha
           (no_room s.commit_number 1)) (spends s.next_block need spent.2) in
           subst (λ (k : ℕ). Took disk s (with_sound call (left_as sound) (Err (refusal.SpaceSpent k need)))
           s) (sym spent.0)
-          (refuses disk s call (left_as sound) why is fewer refl 0 need (λ held. (few, omega arith))
+          (refuses disk s call (left_as sound) why is fewer refl refl 0 need (λ held. (few, omega arith))
           (counter_spent (studio_of disk s) call (left_as sound) (length counts) commit need 0 is.counters.pin_most
           going (own_is (sources_of (disk.reads s.store)) ∙ pass) why first))
       channels_unplanned pass why spent = absurd spent

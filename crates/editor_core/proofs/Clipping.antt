@@ -125,12 +125,12 @@ module _ {D : Type 0} (disk : Ghosts D) (s : Core D) (is : IsStudio disk s) (ran
 
   pub copy_stopped : (faults : ℕ) → s.stopped ≡ Some faults → Took disk s (quietly line (Err (refusal.Stopped faults)))
       s
-  copy_stopped faults stopped = refused_stopped disk s line copy_quiet is fewer faults refl stopped
+  copy_stopped faults stopped = refused_stopped disk s line copy_quiet tt is fewer faults refl stopped
 
   pub copy_lacks : (why : Refusal) → s.stopped ≡ None → lacks id (track_of id ts) ≡ Some why
       → Took disk s (quietly line (Err why)) s
   copy_lacks why going lack =
-      refused_own disk s line copy_quiet is fewer why (ap stop_of going)
+      refused_own disk s line copy_quiet tt is fewer why (ap stop_of going)
       ((λ i. (sym (track_is disk s is id) i) otherwise (rest_tests (current t.state)))
       ∙ (λ i. (lack i) otherwise (rest_tests (current t.state))))
 
@@ -156,9 +156,9 @@ module _ {D : Type 0} (disk : Ghosts D) (s : Core D) (is : IsStudio disk s) (ran
 
     pub copy_refused : (why : Refusal) → (copy_tests (run_of id ts) n from to ≡ Some why) ⊎ (why ≡ refusal.NoMemory)
         → Took disk s (quietly line (Err why)) s
-    copy_refused why (inl test) = refused_own disk s line copy_quiet is fewer why (ap stop_of going) (tests_are ∙ test)
+    copy_refused why (inl test) = refused_own disk s line copy_quiet tt is fewer why (ap stop_of going) (tests_are ∙ test)
     copy_refused why (inr want) = subst (λ (z : Refusal). Took disk s (quietly line (Err z)) s) (sym want)
-        (refused_wanting disk s line copy_quiet is fewer)
+        (refused_wanting disk s line copy_quiet tt is fewer)
 
     -- ---- carried out
     module _ (v : List (List Item)) (copies : Copies (run_of id ts) range (Ok v)) where
@@ -235,6 +235,6 @@ module _ {D : Type 0} (disk : Ghosts D) (s : Core D) (is : IsStudio disk s) (ran
             let room = room_of disk s line is in
             let passed = quiet_passes t line copy_quiet room (ap stop_of going) (tests_are ∙ copies.0)
             (fits s.next_pin 0 (omega (arith, is.counters.pin_most))) in
-            renamed_took disk s is (Some v) s.pins s.next_pin counts copy_renames line copy_quiet Copied fewer
+            renamed_took disk s is (Some v) s.pins s.next_pin counts copy_renames line copy_quiet tt Copied fewer
             (λ some. absurd (stopped_not s.stopped some going))
             (λ _. carried t line copy_quiet room Copied (studio_of disk new) passed refl copy_state)

@@ -18,7 +18,6 @@ use Rattle.project_state.specs.declared.track.Track.{Track}
 use Rattle.project_state.specs.Spelling.{spelling}
 use Rattle.editor_core.specs.Adding.{Adds, Exceeds, stopped_by}
 use Rattle.editor_core.specs.Core.{Core}
-use Rattle.editor_core.specs.Left.{MayRemove}
 use Rattle.editor_core.specs.Studios.{IsHeld, IsStudio, named_blocks, studio_by, studio_of}
 use Rattle.editor_core.specs.Took.{Took, with_sound}
 use Rattle.editor_core.proofs.Flights.{IsCommit, IsTested, flight, number_left, whole_still}
@@ -27,6 +26,7 @@ use Rattle.editor_core.proofs.Lists.{all_left}
 use Rattle.editor_core.proofs.Leaving.{left_stopped}
 use Rattle.editor_core.proofs.Others.{NoneGoes, others_record}
 use Rattle.editor_core.proofs.Premises.{TookWhere, took_so}
+use Rattle.editor_core.proofs.Removing.{commit_frees, commit_removes_none, ids_same, off_untouched}
 use Rattle.editor_core.proofs.Sounds.{sources_elsewhere}
 use Rattle.editor_core.proofs.Spaces.{exceeded}
 use Rattle.editor_core.proofs.Staying.{HasMade, record_within, refuses, some_none, stopped_not, wants}
@@ -94,9 +94,11 @@ module _ {D : Type 0} {Has : Type 0} {disk : Ghosts D} {s : Core D} {made : List
       rests = λ some. absurd (stopped_not s.stopped some t.going);
       len = len;
       needs = λ has. (0, t.move.needs has);
+      records = λ off. adds.fields.3;
       changed =
           changed_wider (others_record s.next_block s.next_block NoneGoes)
-          (record_within s.block_size (s.next_block - s.next_block) len 0) adds.changed;
+          (record_within (with_sound c sound (Err refusal.DiskFault)) (disk.reads s.store 0) s.block_size
+          (s.next_block - s.next_block) len t.move.call.one) adds.changed;
     }
 
 -- ---- of a studio that the disk holds
@@ -125,7 +127,8 @@ module _ {D : Type 0} (disk : Ghosts D) (s : Core D) (made : List BlockRef) (c :
   unfit : (why : Refusal) → Fewer disk s.store → Exceeds s.journal_end size why
       → Took disk s (with_sound c sound (Err why)) s
   unfit why fewer over =
-      refuses disk s c sound why is fewer move.call.quiet size 0 move.needs
+      refuses disk s c sound why is fewer (commit_frees disk s c (Err why) s move.call.one) move.call.quiet size 0
+      move.needs
       (exceeded (studio_of disk s) c sound tracks move.call 0 size is.counters.pin_most going own
       (omega (arith, is.counters.block_most)) ids (number_left tested) why over)
 
@@ -138,7 +141,7 @@ module _ {D : Type 0} (disk : Ghosts D) (s : Core D) (made : List BlockRef) (c :
       (unfit why fewer (adds.fields.1, adds.fields.2, adds.fields.3))
   fails refusal.NoMemory mid fewer adds =
       subst (λ (z : Core D). Took disk s (with_sound c sound (Err refusal.NoMemory)) z) (sym adds.fields)
-      (wants disk s c sound is fewer move.call.quiet size (λ held. (0, move.needs held)))
+      (wants disk s c sound is fewer (commit_removes_none c move.call.one) move.call.quiet size (λ held. (0, move.needs held)))
   fails (refusal.RecordLimit n) mid fewer adds =
       let why = refusal.RecordLimit n in
       subst (λ (z : Core D). Took disk s (with_sound c sound (Err why)) z) (sym adds.fields.0)
@@ -146,5 +149,7 @@ module _ {D : Type 0} (disk : Ghosts D) (s : Core D) (made : List BlockRef) (c :
   fails refusal.DiskFault mid fewer adds =
       subst (λ (z : Core D). Took disk s (with_sound c sound (Err refusal.DiskFault)) z) (sym adds.fields.0)
       (took_so disk s c sound (Err refusal.DiskFault) (after tested mid adds) (failed tested mid adds)
-      (inr (refl, adds.fields.2, refl)) (left_stopped disk s (MayRemove c s.counts) mid.store adds.fields.2))
+      (commit_removes_none c move.call.one) (ids_same s (after tested mid adds) refl refl)
+      (off_untouched disk s.store mid.store refusal.DiskFault refl)
+      (inr (refl, adds.fields.2, refl)) (left_stopped disk s mid.store adds.fields.2))
   fails why mid fewer adds = absurd adds.fields

@@ -32,6 +32,7 @@ use Rattle.editor_core.specs.Studios.{IsStudio, studio_by, studio_of}
 use Rattle.editor_core.specs.Took.{Took, quietly, silent}
 use Rattle.editor_core.proofs.Editing.{current_sound}
 use Rattle.editor_core.proofs.Spaces.{early}
+use Rattle.editor_core.proofs.Removing.{commit_frees, commit_removes_none}
 use Rattle.editor_core.proofs.Staying.{refuses, wants}
 use Rattle.editor_core.proofs.Tracks.{current_is}
 use Rattle.editor_core.proofs.CutLaws.{run_tests_are}
@@ -136,7 +137,8 @@ module _ {D : Type 0} (disk : Ghosts D) (s : Core D) (is : IsStudio disk s) (e :
       let own = own_is (samples_on (disk.reads s.store)) in
       let first : ((stop_of s.stopped) otherwise (call_tests (outside t silent) t.state line)) ≡ Some why =
       (λ i. (stop_of s.stopped) otherwise (own i)) ∙ h in
-      refuses disk s line silent why is fewer refl 0 0 (λ held. call.needs t.rate t 0 0 (omega arith, omega arith))
+      refuses disk s line silent why is fewer (commit_frees disk s line (Err why) s call.commit.one) refl 0 0
+      (λ held. call.needs t.rate t 0 0 (omega arith, omega arith))
       (early t line silent 0 call.commit 0 0 why first)
 
   pub cut_stopped : (faults : ℕ) → s.stopped ≡ Some faults → Took disk s (quietly line (Err (refusal.Stopped faults))) s
@@ -149,6 +151,6 @@ module _ {D : Type 0} (disk : Ghosts D) (s : Core D) (is : IsStudio disk s) (e :
       (λ own. early_refused why ((λ i. (stop_of (going i)) otherwise (cut_refusal range old)) ∙ own))
       (λ memory.
       subst (λ (r : Refusal). Took disk s (quietly line (Err r)) s) (sym memory)
-      (wants disk s line silent is fewer refl 0
+      (wants disk s line silent is fewer (commit_removes_none line (cut_call e range).commit.one) refl 0
       (λ held. (0, (cut_call e range).needs t.rate t 0 0 (omega arith, omega arith)))))
       not

@@ -268,6 +268,7 @@ module _ {D : Type 0} (disk : Ghosts D) (s : Core D) (is : IsStudio disk s) (goi
           points = points_then;
           depth = recorded_depth s.history point tag;
           few = recorded_few s.history point tag;
+          says = (refl, refl, sym (recorded_current s.history point tag is.format.depth_least));
           model = λ held. edit.means (samples_on (disk.reads store)) (written held);
           needs = λ held.
               edit.call.needs (studio_of disk grown).rate (studio_of disk grown) 0 len

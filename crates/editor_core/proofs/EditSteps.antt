@@ -34,9 +34,10 @@ use Rattle.editor_core.proofs.EditLaws.{pieces_there}
 use Rattle.editor_core.proofs.Flights.{IsTested}
 use Rattle.editor_core.proofs.Growing.{grown_state, grows}
 use Rattle.editor_core.proofs.MadeFailures.{not_made}
-use Rattle.editor_core.proofs.MadeLeft.{all_failed, all_left}
+use Rattle.editor_core.proofs.MadeLeft.{all_failed, all_ids, all_left}
 use Rattle.editor_core.proofs.MadeStudios.{refs}
 use Rattle.editor_core.proofs.Premises.{TookWhere}
+use Rattle.editor_core.proofs.Removing.{commit_removes_none, ids_made, off_untouched}
 use Rattle.editor_core.proofs.UnpreparedEdits.{not_prepared}
 use Rattle.editor_core.proofs.EditMade.{from_start, mid_state, mid_tested, need, passes}
 
@@ -102,7 +103,7 @@ module _ {D : Type 0} (disk : Ghosts D) (s : Core D) (is : IsStudio disk s) (goi
     edit_failed new adds =
         let commit = edit.call.commit in
         let failed_change =
-        all_failed disk s given makes prepared.blocks c store counts making new.store adds.fields.2 in
+        all_failed disk s given makes prepared.blocks c sound store counts making new.store adds.fields.2 in
         let here : Core D = stopped_by disk mid new.store in
         let none : s.next_block + n + 0 ≡ s.next_block + n = omega arith in
         let stopped_state = λ (held : IsHeld disk s).
@@ -135,8 +136,9 @@ module _ {D : Type 0} (disk : Ghosts D) (s : Core D) (is : IsStudio disk s) (goi
             },
           );
         }))
-        (inr (refl, failed_change, refl))
-        (all_left disk s given makes prepared.blocks c store counts making new.store adds.fields.2))
+        (all_ids disk s given makes prepared.blocks c sound store counts making new.store adds.fields.2)
+        (off_untouched disk s.store new.store refusal.DiskFault refl) (inr (refl, failed_change, refl))
+        (all_left disk s given makes prepared.blocks c sound store counts making new.store adds.fields.2))
 
     -- it was
     module _ {Q : Type 0} (q : Q) (new : Core D) (adds : Adds disk mid body (Ok q) new) (h' : History (List Track))
@@ -182,7 +184,7 @@ module _ {D : Type 0} (disk : Ghosts D) (s : Core D) (is : IsStudio disk s) (goi
             answers = edit.call.commit.done t.rate t.state;
             is = done_state held;
             heard = edit.call.commit.heard t.rate t.state;
-          }) (inl (refl, adds.fields.2 ∙ making.change_faults)) tt)
+          }) (ids_made s done counts n making.ledger files refl) tt (inl (refl, adds.fields.2 ∙ making.change_faults)) tt)
 
   -- a studio with blocks that were made, by its parts
   made_so : (it : Core D) → Making disk s (batch_of given makes) n it
@@ -198,8 +200,8 @@ module _ {D : Type 0} (disk : Ghosts D) (s : Core D) (is : IsStudio disk s) (goi
       (⊎_elim
       (λ some.
       not_made disk s is given makes going plan.new some.0.blocks
-      (pieces_there disk s is going e plan) c sound
-      (length body) edit.call.commit.changes (edit.call.commit.leaves t)
+      (pieces_there disk s is going e plan) c sound (commit_removes_none c edit.call.commit.one)
+      (length body) some.0.short edit.call.commit.changes (edit.call.commit.leaves t)
       (λ held. need disk s is going e plan c sound edit fewer) plan.origin why new some.1)
       (λ last.
       let it = last.1 in

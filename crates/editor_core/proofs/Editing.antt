@@ -220,6 +220,7 @@ module _ {D : Type 0} (disk : Ghosts D) (s : Core D) (is : IsStudio disk s) wher
       points = points_then;
       depth = refl;
       few = ending_few s.history (kept s.history) p 0;
+      says = (refl, refl, sym (ending_current s.history (kept s.history) p 0 is.format.depth_least));
       model = model;
       needs = needs;
     }

@@ -31,9 +31,10 @@ use Rattle.project_journal.specs.Gate.{EachSince}
 use Rattle.mix_view.specs.Tracks.{mix_length_of}
 use Rattle.project_state.specs.Kept.{Keeps, meant}
 use Rattle.wav_pcm.specs.Wavs.{FitsFile}
+use Rattle.wav_pcm.specs.Written.{MayBegin}
 use Rattle.sound_export.specs.declared.fault.ExportFault.{ExportFault}
 use Rattle.sound_export.specs.declared.fault.ExportFault.TheVariants.{TooLong, Block, VaultFault}
-use Rattle.sound_export.specs.Written.{ExportCountedBy, IsBlockFault, IsLengthFault, IsNoDamage, IsOfDevice, MayBegin}
+use Rattle.sound_export.specs.Written.{ExportCountedBy, IsBlockFault, IsLengthFault, IsNoDamage, IsOfDevice}
 use Rattle.sound_export.specs.Written.{refusal_of as reason_of_export}
 use Rattle.sound_export.proofs.GrowLaws.{length_mix}
 use Rattle.envelope_view.specs.Answers.{IsUndamaged}
@@ -47,6 +48,7 @@ use Rattle.editor_core.proofs.Images.{keeps_now}
 use Rattle.editor_core.proofs.Leaving.{left_read}
 use Rattle.editor_core.proofs.Looking.{looked, looked_held, looked_studio}
 use Rattle.editor_core.proofs.Others.{NoneGoes, others_none}
+use Rattle.editor_core.proofs.Removing.{ids_same, no_record}
 use Rattle.editor_core.proofs.Spaces.{fits}
 use Rattle.editor_core.proofs.Staying.{refuses, stopped_not}
 use Rattle.editor_core.proofs.ExportLengths.{length_text, mix_len_by}
@@ -96,7 +98,7 @@ module _ {D : Type 0} (disk : Ghosts D) (s : Core D) (is : IsStudio disk s) (nam
   pub export_stopped : Fewer disk s.store → sound.after ≡ sound.before → (faults : ℕ) → s.stopped ≡ Some faults
       → Took disk s (with_sound call sound (Err (refusal.Stopped faults))) s
   export_stopped fewer quiet faults stopped =
-      refuses disk s call sound (refusal.Stopped faults) is fewer quiet 0 0 (λ held. (refl, refl))
+      refuses disk s call sound (refusal.Stopped faults) is fewer refl quiet 0 0 (λ held. (refl, refl))
       (ap (λ (z : Option Refusal). z otherwise rest) (ap stop_of stopped))
     where
       rest : Option Refusal
@@ -136,7 +138,11 @@ module _ {D : Type 0} (disk : Ghosts D) (s : Core D) (is : IsStudio disk s) (nam
       rests = λ some. absurd (stopped_not s.stopped some going);
       len = 0;
       needs = λ held. (0, (refl, refl));
+      records = no_record (Ok (reply.Wrote bytes)) here;
       changed = changed_kept (others_none s.next_block s.next_block NoneGoes) kept;
+      frees = refl;
+      ids = ids_same s here refl refl;
+      untouched = tt;
       stops = inl (refl, kept.same_faults);
       left = tt;
     }
@@ -155,9 +161,13 @@ module _ {D : Type 0} (disk : Ghosts D) (s : Core D) (is : IsStudio disk s) (nam
       rests = λ some. absurd (stopped_not s.stopped some going);
       len = 0;
       needs = λ held. (0, (refl, refl));
+      records = no_record (Err why) here;
       changed = changed_kept (others_none s.next_block s.next_block NoneGoes) kept;
+      frees = refl;
+      ids = ids_same s here refl refl;
+      untouched = λ device. kept;
       stops = inl (refl, kept.same_faults);
-      left = left_read disk s NoneGoes store why so;
+      left = left_read disk s store why so;
     }
 
     -- ---- carried out
@@ -222,14 +232,14 @@ module _ {D : Type 0} (disk : Ghosts D) (s : Core D) (is : IsStudio disk s) (nam
     pub export_left : (why : ExportFault) (faults faults' : ℕ)
         → ExportCountedBy why (disk.read_fault_count s.store) (disk.read_fault_count store) faults faults'
         → (IsTrue (disk.tells s.store) → IsBlockFault (disk.reads s.store) (named_blocks s) why)
-        → Left disk s NoneGoes here (reason_of_export why)
+        → Left disk s here (reason_of_export why)
     export_left (TooLong frames) faults faults' counted named =
-        left_read disk s NoneGoes store (refusal.TooLong frames) tt
+        left_read disk s store (refusal.TooLong frames) tt
     export_left (Block fault.DiskFault) faults faults' counted named =
-        left_read disk s NoneGoes store refusal.DiskFault (inl (record { rose = counted.0.0; later = counted.0.1 }))
+        left_read disk s store refusal.DiskFault (inl (record { rose = counted.0.0; later = counted.0.1 }))
     export_left (Block (fault.Damaged file found)) faults faults' counted named =
-        left_read disk s NoneGoes store (refusal.Damaged file found.at found.want found.have) named
-    export_left VaultFault faults faults' counted named = left_read disk s NoneGoes store refusal.VaultFault tt
+        left_read disk s store (refusal.Damaged file found.at found.want found.have) named
+    export_left VaultFault faults faults' counted named = left_read disk s store refusal.VaultFault tt
 
     pub export_failed : (why : ExportFault) (len faults faults' : ℕ) → len ≡ length point_mix → IsLengthFault len why
         → ExportCountedBy why (disk.read_fault_count s.store) (disk.read_fault_count store) faults faults'

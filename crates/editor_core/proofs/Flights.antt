@@ -28,6 +28,7 @@ use Rattle.project_state.specs.Spelling.{spelling}
 use Rattle.project_state.proofs.KeptBounds.{all_append}
 use Rattle.editor_core.specs.Adding.{Adds}
 use Rattle.editor_core.specs.Core.{Core}
+use Rattle.editor_core.specs.Records.{Says}
 use Rattle.editor_core.specs.Studios.{IsGiven, IsDurable, IsHeld, IsStudio, MayPaste, SameBlocks, clip_blocks}
 use Rattle.editor_core.specs.Studios.{clip_cells, named_blocks, pin_blocks, shown, studio_of}
 use Rattle.editor_core.specs.Took.{KeepsOneOf}
@@ -70,6 +71,7 @@ pub record IsCommit {D : Type 0} (Has : Type 0) (disk : Ghosts D) (s : Core D) (
   pub points : AllByRecursion (IsSoundTagged s.block_size s.next_block track_then (s.commit_number + 1)) h.points
   pub depth : h.depth ≡ s.history.depth
   pub few : length h.points ≤ h.depth
+  pub says : Says s.next_block track_then h body
   pub model : Has → after (outside (studio_of disk s) sound) (studio_of disk s).state c
       ≡ record (studio_of disk s).state {
         history = meant_history (sources_of (disk.reads s.store)) h;

@@ -17,7 +17,7 @@ use Rattle.project_journal.specs.Journal.{HasLog}
 use Rattle.project_journal.proofs.Kept.{is_at_still, each_since}
 use Rattle.project_state.specs.Kept.{Keeps}
 use Rattle.editor_core.specs.Core.{Core}
-use Rattle.editor_core.specs.Frees.{removal_room}
+use Rattle.editor_core.specs.Removals.{removal_room}
 use Rattle.editor_core.specs.Occurrences.{times_named}
 use Rattle.editor_core.specs.Studios.{IsGiven, SameBlocks, IsDurable, IsHeld, IsStudio, shown, studio_by, studio_of}
 use Rattle.editor_core.specs.Studios.{named_blocks}

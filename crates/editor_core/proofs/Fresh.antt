@@ -47,6 +47,7 @@ module _ (rate m depth : ℕ) (h : Stored (List Track)) (l : ledger.Kept) (is : 
       pin_least = omega arith;
       pin_most = omega arith;
       commit_most = omega arith;
+      end_least = omega arith;
       end_most = omega arith;
     };
     points = subst (λ (z : History (List Track)). AllByRecursion (IsSoundTagged m 16 1 0) z.points) (sym is)

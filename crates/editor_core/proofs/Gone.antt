@@ -8,7 +8,7 @@ use Rattle.std.proofs.lemmas.List.{get_or_append_left, get_or-append-add, get_or
 use Rattle.std.proofs.lemmas.List.Elements.{Contains-append_left, Contains-append_right, Contains-append_cases}
 use Rattle.disk_model.specs.Disk.{Files, RemoveStep}
 use Rattle.block_ledger.specs.Counts.{Counts, SetsCount, IsFirstFree}
-use Rattle.editor_core.specs.Frees.{AreGone, Forgets, Removes, RemovesPart}
+use Rattle.editor_core.specs.Removals.{AreGone, Forgets, Removes, RemovesPart}
 
 none_in : {X : Type 0} (x : X) → Contains [] x → ⊥
 none_in x h = omega (arith, h.1)

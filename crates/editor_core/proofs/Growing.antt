@@ -1,5 +1,5 @@
 -- A commit whose record was added: then the studio has another history.
-use Rattle.std.proofs.Common.{◌≡◌, ◌↔◌, inl, refl, sym, ap, ◌∙◌, subst, ℕ, ◌+◌, ◌-◌, ◌^◌, ◌≤◌, ◌<◌, IsTrue, List, ◌∷◌}
+use Rattle.std.proofs.Common.{◌≡◌, ◌↔◌, inl, inr, refl, sym, ap, ◌∙◌, subst, ℕ, ◌+◌, ◌-◌, ◌^◌, ◌≤◌, ◌<◌, IsTrue, List, ◌∷◌}
 use Rattle.std.proofs.Common.{[], ◌++◌, length, Option, None, IsSome, Ok, arith, if◌then◌else◌, ◌==◌}
 use Rattle.std.specs.List.{AllByRecursion}
 use Rattle.pcm_base.specs.declared.answer.Reply.TheVariants.{Done}
@@ -26,6 +26,7 @@ use Rattle.project_state.specs.Kept.{Kept, new_project, LeadTo, meant_history, h
 use Rattle.project_state.specs.Spelling.{spelling}
 use Rattle.editor_core.specs.Adding.{Adds}
 use Rattle.editor_core.specs.Core.{Core}
+use Rattle.editor_core.specs.Records.{Says}
 use Rattle.editor_core.specs.Studios.{IsDurable, IsHeld, IsStudio, clip_blocks, clip_cells, ids_of, named_blocks}
 use Rattle.editor_core.specs.Studios.{pin_blocks, studio_by, studio_of}
 use Rattle.editor_core.specs.Took.{Took, with_sound}
@@ -35,6 +36,7 @@ use Rattle.editor_core.proofs.Images.{keeps_now}
 use Rattle.editor_core.proofs.Leading.{lead_more}
 use Rattle.editor_core.proofs.Others.{NoneGoes, others_record}
 use Rattle.editor_core.proofs.Premises.{TookWhere, took_so}
+use Rattle.editor_core.proofs.Removing.{commit_removes_none, ids_still}
 use Rattle.editor_core.proofs.Sounds.{sources_elsewhere}
 use Rattle.editor_core.proofs.Staying.{HasMade, record_within, stopped_not}
 
@@ -92,7 +94,7 @@ module _ {D : Type 0} {Has : Type 0} {disk : Ghosts D} {s : Core D} {made : List
         → AllByRecursion P (named_blocks grown)
     grown_named =
         named_led disk s t.is made h clip track_then on mid.store
-        (s.journal_end + 5 + len) end_then h' counts next_track moved
+        (s.journal_end + 5 + len) end_then (omega arith) h' counts next_track moved
         tracked counted files
 
     grown_end : mid.journal_end ≡ s.journal_end + 5 + len
@@ -148,7 +150,7 @@ module _ {D : Type 0} {Has : Type 0} {disk : Ghosts D} {s : Core D} {made : List
     grown_studio : IsStudio disk grown
     grown_studio =
         led_studio disk s t.is made h clip track_then on mid.store
-        (s.journal_end + 5 + len) end_then h' counts next_track moved
+        (s.journal_end + 5 + len) end_then (omega arith) h' counts next_track moved
         tracked counted files
 
     pub grown_state : Has → studio_of disk grown ≡ followed out before c 0 len
@@ -193,9 +195,16 @@ module _ {D : Type 0} {Has : Type 0} {disk : Ghosts D} {s : Core D} {made : List
       rests = λ some. absurd (stopped_not s.stopped some t.going);
       len = len;
       needs = λ has. (0, t.move.needs has);
+      records = inr (
+        body,
+        refl,
+        subst (λ (k : ℕ). Says s.next_block k h' body) (sym tracked)
+            (subst (λ (z : History (List Track)). Says s.next_block track_then z body) (sym moved) t.move.says),
+      );
       changed =
           changed_wider (others_record s.next_block s.next_block NoneGoes)
-          (record_within s.block_size (s.next_block - s.next_block) len 0) adds.changed;
+          (record_within (with_sound c sound (Ok Done)) (disk.reads s.store 0) s.block_size
+          (s.next_block - s.next_block) len t.move.call.one) adds.changed;
     }
 
 -- ---- of a studio that the disk holds
@@ -232,4 +241,7 @@ module _ {D : Type 0} (disk : Ghosts D) (s : Core D) (made : List BlockRef) (c :
     grows_so =
         subst Leaves (sym adds.fields.0)
         (took_so disk s c sound (Ok Done) (grown tested q mid adds h' counts next_track moved tracked counted files)
-        (grows tested q mid adds h' counts next_track moved tracked counted files) (inl (refl, adds.fields.2)) tt)
+        (grows tested q mid adds h' counts next_track moved tracked counted files)
+        (commit_removes_none c move.call.one)
+        (ids_still s (grown tested q mid adds h' counts next_track moved tracked counted files) files refl) tt
+        (inl (refl, adds.fields.2)) tt)

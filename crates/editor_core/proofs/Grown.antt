@@ -69,7 +69,7 @@ module _ {D : Type 0} (disk : Ghosts D) (s : Core D) (is : IsStudio disk s) wher
         all_append P (history_blocks h) rest_then (on.covers P all)
         (all_append P pins (clip_blocks clip) (all_left P pins (clip_blocks s.clipboard) rest) (on.clip_covers P all))
 
-    module _ (store : D) (end : ℕ) (end_most : end ≤ 2 ^ 62) (h' : History (List Track)) (counts : Counts)
+    module _ (store : D) (end : ℕ) (end_most : end ≤ 2 ^ 62) (end_later : s.journal_end ≤ end) (h' : History (List Track)) (counts : Counts)
         (next_track : ℕ)
         (moved : h' ≡ h) (tracked : next_track ≡ track_then)
         (counted : IsFreshCount (ids_of (history_blocks h ++ rest_then)) counts)
@@ -119,6 +119,7 @@ module _ {D : Type 0} (disk : Ghosts D) (s : Core D) (is : IsStudio disk s) wher
           pin_least = is.counters.pin_least;
           pin_most = is.counters.pin_most;
           commit_most = omega (arith, on.number);
+          end_least = omega (arith, is.counters.end_least, end_later);
           end_most = end_most;
         };
         few_points = subst (λ (z : History (List Track)). length z.points ≤ z.depth) (sym moved) on.few;

@@ -82,11 +82,11 @@ module _ {D : Type 0} (disk : Ghosts D) (s : Core D) (is : IsStudio disk s) (few
 
     pub mix_stopped : (faults : ℕ) → s.stopped ≡ Some faults → Took disk s (quietly mix (Err (refusal.Stopped faults)))
         s
-    mix_stopped faults stopped = refused_stopped disk s mix mix_quiet is fewer faults refl stopped
+    mix_stopped faults stopped = refused_stopped disk s mix mix_quiet tt is fewer faults refl stopped
 
     pub mix_beyond : (why : Refusal) → s.stopped ≡ None → bad_view from to ≡ Some why
         → Took disk s (quietly mix (Err why)) s
-    mix_beyond why going bad = refused_own disk s mix mix_quiet is fewer why (ap stop_of going) bad
+    mix_beyond why going bad = refused_own disk s mix mix_quiet tt is fewer why (ap stop_of going) bad
 
     module _ (going : s.stopped ≡ None) (store : D) (kept : Kept disk s.store store) where
       pub mix_done : (frames : List Frame) → bad_view from to ≡ None
@@ -97,7 +97,7 @@ module _ {D : Type 0} (disk : Ghosts D) (s : Core D) (is : IsStudio disk s) (few
           let room = room_of disk s mix is in
           let passed = quiet_passes t mix mix_quiet room (ap stop_of going) good
           (fits s.next_pin 0 (omega (arith, is.counters.pin_most))) in
-          looked_ok disk s is store kept mix mix_quiet going (reply.Frames frames) faults
+          looked_ok disk s is store kept mix mix_quiet tt going (reply.Frames frames) faults
           (λ held. carried t mix mix_quiet room (reply.Frames frames) t passed
           (ap reply.Frames (heard held ∙ ap (λ (p : Project). part from to (mix_of p)) (sym (current_meant disk s is))))
           refl)
@@ -106,7 +106,7 @@ module _ {D : Type 0} (disk : Ghosts D) (s : Core D) (is : IsStudio disk s) (few
           → (IsTrue (disk.tells s.store) → IsFaultIn (disk.reads s.store) (point_blocks (current_tracks s.history)) why)
           → Took disk s (quietly mix (Err (reason_of why))) (record s { store = store })
       mix_failed why counted damaged =
-          looked_failed disk s is store kept mix mix_quiet going refl why counted
+          looked_failed disk s is store kept mix mix_quiet tt going refl why counted
           (λ told. reason_damaged (disk.reads s.store) (named_blocks s) why (fault_among (disk.reads s.store)
           (named_blocks s) (point_blocks (current_tracks s.history)) why (current_named disk s is) (damaged told)))
 
@@ -118,11 +118,11 @@ module _ {D : Type 0} (disk : Ghosts D) (s : Core D) (is : IsStudio disk s) (few
 
     pub len_stopped : (faults : ℕ) → s.stopped ≡ Some faults
         → Took disk s (quietly (PinLen pin) (Err (refusal.Stopped faults))) s
-    len_stopped faults stopped = refused_stopped disk s (PinLen pin) len_quiet is fewer faults refl stopped
+    len_stopped faults stopped = refused_stopped disk s (PinLen pin) len_quiet tt is fewer faults refl stopped
 
     pub len_lacks : s.stopped ≡ None → LacksPin pin s.pins
         → Took disk s (quietly (PinLen pin) (Err (refusal.NoPin pin))) s
-    len_lacks going lacks = refused_own disk s (PinLen pin) len_quiet is fewer (refusal.NoPin pin) (ap stop_of going)
+    len_lacks going lacks = refused_own disk s (PinLen pin) len_quiet tt is fewer (refusal.NoPin pin) (ap stop_of going)
         (lacks_own disk s is pin lacks)
 
     pub measured : s.stopped ≡ None → (point : List Track) (n : ℕ) → MayFind s.pins pin (Some point)
@@ -132,7 +132,7 @@ module _ {D : Type 0} (disk : Ghosts D) (s : Core D) (is : IsStudio disk s) (few
         let room = room_of disk s (PinLen pin) is in
         let passed = quiet_passes t (PinLen pin) len_quiet room (ap stop_of going) (has_own disk s is pin point found)
         (fits s.next_pin 0 (omega (arith, is.counters.pin_most))) in
-        stays_answered disk s (PinLen pin) len_quiet is fewer (reply.Length n)
+        stays_answered disk s (PinLen pin) len_quiet tt is fewer (reply.Length n)
         (λ held. carried t (PinLen pin) len_quiet room (reply.Length n) t passed (
           meant src point,
           pin_meant disk s is pin point found,
@@ -148,10 +148,10 @@ module _ {D : Type 0} (disk : Ghosts D) (s : Core D) (is : IsStudio disk s) (few
 
       pub read_stopped : (faults : ℕ) → s.stopped ≡ Some faults
           → Took disk s (quietly read (Err (refusal.Stopped faults))) s
-      read_stopped faults stopped = refused_stopped disk s read read_quiet is fewer faults refl stopped
+      read_stopped faults stopped = refused_stopped disk s read read_quiet tt is fewer faults refl stopped
 
       pub read_lacks : s.stopped ≡ None → LacksPin pin s.pins → Took disk s (quietly read (Err (refusal.NoPin pin))) s
-      read_lacks going lacks = refused_own disk s read read_quiet is fewer (refusal.NoPin pin) (ap stop_of going)
+      read_lacks going lacks = refused_own disk s read read_quiet tt is fewer (refusal.NoPin pin) (ap stop_of going)
           (lacks_own disk s is pin lacks)
 
       module _ (going : s.stopped ≡ None) (point : List Track) (found : MayFind s.pins pin (Some point)) (store : D)
@@ -163,7 +163,7 @@ module _ {D : Type 0} (disk : Ghosts D) (s : Core D) (is : IsStudio disk s) (few
             let room = room_of disk s read is in
             let passed = quiet_passes t read read_quiet room (ap stop_of going) (has_own disk s is pin point found)
             (fits s.next_pin 0 (omega (arith, is.counters.pin_most))) in
-            looked_ok disk s is store kept read read_quiet going (reply.Frames frames) faults
+            looked_ok disk s is store kept read read_quiet tt going (reply.Frames frames) faults
             (λ held. carried t read read_quiet room (reply.Frames frames) t passed (
               meant src point,
               pin_meant disk s is pin point found,
@@ -175,6 +175,6 @@ module _ {D : Type 0} (disk : Ghosts D) (s : Core D) (is : IsStudio disk s) (few
             → (IsTrue (disk.tells s.store) → IsFaultIn (disk.reads s.store) (point_blocks point) why)
             → Took disk s (quietly read (Err (reason_of why))) (record s { store = store })
         read_failed why counted damaged =
-            looked_failed disk s is store kept read read_quiet going refl why counted
+            looked_failed disk s is store kept read read_quiet tt going refl why counted
             (λ told. reason_damaged (disk.reads s.store) (named_blocks s) why (fault_among (disk.reads s.store)
             (named_blocks s) (point_blocks point) why (pin_named disk s is pin point found) (damaged told)))

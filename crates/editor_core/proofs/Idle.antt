@@ -1,15 +1,14 @@
 -- Nothing was asked of the disk, or a record's append failed.
-use Rattle.std.proofs.Common.{◌≡◌, inl, refl, sym, ap, ◌∙◌, subst, ℕ, ◌+◌, ◌≤◌, IsTrue, List, length, Option, None}
-use Rattle.std.proofs.Common.{Some, Ok, Err, Result, IfOk, OnOk, OnErr, IsErrOf, arith}
+use Rattle.std.proofs.Common.{◌≡◌, inl, refl, sym, ap, ◌∙◌, subst, ℕ, ◌+◌, ◌≤◌, IsTrue, List, length}
+use Rattle.std.proofs.Common.{Ok, Err, Result, IfOk, OnOk, OnErr, IsErrOf, arith}
 use Rattle.pcm_base.specs.Causes.{Rose}
 use Rattle.pcm_base.specs.Sizes.{LONGEST_BODY}
 use Rattle.pcm_base.specs.declared.refusal.Refusal.{Refusal}
 use Rattle.pcm_base.specs.declared.refusal.Refusal.TheVariants as refusal
 use Rattle.disk_model.specs.Disk.{SameElsewhere}
 use Rattle.disk_model.specs.Frames.{Changed}
-use Rattle.disk_model.specs.Room.{files_made}
 use Rattle.disk_model.specs.declared.store.Store.{Ghosts}
-use Rattle.disk_model.proofs.Frames.{Fewer, changed_none, changed_wider}
+use Rattle.disk_model.proofs.Frames.{Fewer, changed_none}
 use Rattle.project_journal.specs.Answer.{Appends, Causes, HasFault}
 use Rattle.project_journal.specs.Gate.{EachSince}
 use Rattle.project_journal.specs.Header.{version_1}
@@ -18,7 +17,7 @@ use Rattle.project_journal.specs.Rooms.{append_room}
 use Rattle.project_journal.specs.declared.fault.JournalFault.{JournalFault}
 use Rattle.project_journal.specs.declared.fault.JournalFault.TheVariants as journal
 use Rattle.project_journal.proofs.Kept.{each_has}
-use Rattle.editor_core.specs.Adding.{Adds, Exceeds, Fields, HasFailed, Settles, record_room, stopped_by}
+use Rattle.editor_core.specs.Adding.{Adds, Exceeds, Fields, HasFailed, Settles, stopped_by}
 use Rattle.editor_core.specs.Core.{Core}
 
 pub adds_nothing : {D R : Type 0} (disk : Ghosts D) (s : Core D) (body : List ℕ) (why : Refusal) → Fewer disk s.store
@@ -44,10 +43,6 @@ has_failed : {D : Type 0} (disk : Ghosts D) (old new : D) → HasFault disk old 
     → Rose (disk.change_fault_count old) (disk.change_fault_count new) → HasFailed disk old new
 has_failed disk old new has rose = record { rose = rose; later = has.later_changes }
 
-files_few : {A : Type 0} (o : Option A) → files_made o ≤ 1
-files_few None = omega arith
-files_few (Some x) = omega arith
-
 abbrev is_memory : Result ℕ JournalFault → Type 0
 is_memory (Err journal.NoMemory) = Unit {0}
 is_memory other = ⊥
@@ -63,13 +58,6 @@ module _ {D : Type 0} (disk : Ghosts D) (old : Core D) (store : D) (body : List 
     (changed : Changed disk (SameElsewhere 0) (append_room (disk.reads old.store 0) (length body)) old.store store)
     (read_faults : disk.read_fault_count store ≡ disk.read_fault_count old.store)
     (short : length body ≤ LONGEST_BODY) where
-  record_changed : Changed disk (SameElsewhere 0) (record_room (length body)) old.store store
-  record_changed = changed_wider (λ d x w. w) (record {
-    files = files_few (disk.reads old.store 0);
-    bytes = omega arith;
-    calls = omega arith;
-  }) changed
-
   frame : (result : Result (Unit {0}) Refusal) (new : Core D) → new.store ≡ store
       → Fields disk old (length body) result new
       → ((log : Log) → IsTrue (disk.tells old.store) → IsAt version_1 disk old.store old.journal_end log
@@ -81,8 +69,8 @@ module _ {D : Type 0} (disk : Ghosts D) (old : Core D) (store : D) (body : List 
         λ log told here. subst (λ (z : D). EachSince disk old.store z (HasOneOf version_1 log (with_body log body)))
         (sym same) (any_moment log told here);
     done = done;
-    changed = subst (λ (z : D). Changed disk (SameElsewhere 0) (record_room (length body)) old.store z)
-        (sym same) record_changed;
+    changed = subst (λ (z : D). Changed disk (SameElsewhere 0) (append_room (disk.reads old.store 0) (length body))
+        old.store z) (sym same) changed;
     read_faults = ap disk.read_fault_count same ∙ read_faults;
   }
 

@@ -66,7 +66,7 @@ module _ {D : Type 0} (disk : Ghosts D) (s : Core D) (is : IsStudio disk s) (few
   pub import_stopped : (faults : ℕ) → s.stopped ≡ Some faults
       → Took disk s (with_sound call (left_as sound) (Err (refusal.Stopped faults))) s
   import_stopped faults at =
-      refuses disk s call (left_as sound) (refusal.Stopped faults) is fewer refl 0 0
+      refuses disk s call (left_as sound) (refusal.Stopped faults) is fewer refl refl 0 0
       (λ held. (omega arith, omega arith))
       (ap (λ (z : Option Refusal). z otherwise ((call_tests out t.state call) otherwise rest)) (ap stop_of at))
 
@@ -74,7 +74,7 @@ module _ {D : Type 0} (disk : Ghosts D) (s : Core D) (is : IsStudio disk s) (few
     pub own_refused : (why : Refusal) → call_tests out t.state call ≡ Some why
         → Took disk s (with_sound call (left_as sound) (Err why)) s
     own_refused why test =
-        refuses disk s call (left_as sound) why is fewer refl 0 0 (λ held. (omega arith, omega arith))
+        refuses disk s call (left_as sound) why is fewer refl refl 0 0 (λ held. (omega arith, omega arith))
         (λ i. (stop_of (going i)) otherwise (test i) otherwise rest)
 
     pub import_refused : (why : ImportFault) → IsRefused sound s.rate why
@@ -83,10 +83,10 @@ module _ {D : Type 0} (disk : Ghosts D) (s : Core D) (is : IsStudio disk s) (few
     import_refused (BadWav fault) h = own_refused (refusal.BadWav fault) (h t.state)
     import_refused (RateDiffers have want) h = own_refused (refusal.RateDiffers have want) (h t.state)
     import_refused NoMemory h =
-        wants disk s call (left_as sound) is fewer refl 0 (λ held. (0, (omega arith, omega arith)))
+        wants disk s call (left_as sound) is fewer tt refl 0 (λ held. (0, (omega arith, omega arith)))
     import_refused Vault h =
         let none : s.next_block ≡ s.next_block + 0 = omega arith in
-        stays disk s call (left_as sound) refusal.VaultFault is fewer refl 0 tt
+        stays disk s call (left_as sound) refusal.VaultFault is fewer refl refl 0 tt
         (λ held. (0, (omega arith, omega arith))) (λ held. inr (
           refl,
           record {

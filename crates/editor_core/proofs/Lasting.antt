@@ -1,6 +1,6 @@
 -- What holds of an edit that makes blocks, whatever its call means and whatever is told; and that no vault refuses it.
 use Rattle.std.proofs.Common.{◌≡◌, ◌↔◌, ◌⊎◌, ◌<◌, inl, inr, ⊎_elim, refl, sym, ap, ◌∙◌, subst, ℕ, ◌+◌, ◌-◌, ◌^◌, ◌≤◌}
-use Rattle.std.proofs.Common.{IfErr, IsSome, Option, None, List, ◌++◌, length, Result, Ok, Err, arith}
+use Rattle.std.proofs.Common.{IfErr, IsSome, Option, None, List, [], true, ◌++◌, length, Result, Ok, Err, arith}
 use Rattle.pcm_base.specs.declared.answer.Reply.{Reply}
 use Rattle.pcm_base.specs.declared.answer.Reply.TheVariants.{Done}
 use Rattle.pcm_base.specs.declared.block.BlockRef.{BlockRef}
@@ -25,8 +25,11 @@ use Rattle.project_state.specs.Spelling.{spelling}
 use Rattle.editor_core.specs.Adding.{Adds, stopped_by}
 use Rattle.editor_core.specs.Applied.{Lasts}
 use Rattle.editor_core.specs.Core.{Core}
+use Rattle.editor_core.specs.Exchanges.{is_broken_off}
 use Rattle.editor_core.specs.Edits.{Carried, Committed, IsPlanned, IsPrepared, TaggedEdit, clip_behind}
-use Rattle.editor_core.specs.Left.{IsSoOf, Left, LeavesOthers, MayRemove, Stops}
+use Rattle.editor_core.specs.Points.{current_tracks}
+use Rattle.editor_core.specs.Records.{Records}
+use Rattle.editor_core.specs.Left.{CountsIds, IsSoOf, Left, LeavesOthers, MayRemove, Stops, Untouched}
 use Rattle.editor_core.specs.Made.{PiecesThere, batch_of}
 use Rattle.editor_core.specs.Makes.{Making, Stuck, Unput, Unread, one_call}
 use Rattle.editor_core.specs.Studios.{IsGiven, IsHeld, IsStudio, clip_blocks, ids_of, pin_blocks}
@@ -36,14 +39,15 @@ use Rattle.editor_core.proofs.Applying.{lasts_idle}
 use Rattle.editor_core.proofs.EditLaws.{clip_covers_then, covers_then, edit_history, pieces_there, points_then}
 use Rattle.editor_core.proofs.Grown.{LeadsOn, led_studio, stopped_studio}
 use Rattle.editor_core.proofs.Lists.{all_so}
-use Rattle.editor_core.proofs.MadeLeft.{all_changed, all_failed, all_left, damaged_so, missed_so, some_changed}
-use Rattle.editor_core.proofs.MadeLeft.{some_left, some_stop, unput_changed, unput_failed, unput_here, unput_is}
-use Rattle.editor_core.proofs.MadeLeft.{unput_left}
+use Rattle.editor_core.proofs.MadeLeft.{all_changed, all_failed, all_ids, all_left, damaged_so, missed_so}
+use Rattle.editor_core.proofs.MadeLeft.{some_changed, some_ids, some_left, some_stop, unput_changed, unput_failed}
+use Rattle.editor_core.proofs.MadeLeft.{unput_here, unput_ids, unput_is, unput_left}
 use Rattle.editor_core.proofs.MadeStudios.{IsNewId, made_studio, refs, refs_ids, with_store}
 use Rattle.editor_core.proofs.Makings.{making_unread}
 use Rattle.editor_core.proofs.Others.{NoneGoes, others_record}
 use Rattle.editor_core.proofs.PlainTests.{unprepared_plain}
-use Rattle.editor_core.proofs.Recorded.{recorded_depth, recorded_few}
+use Rattle.editor_core.proofs.Recorded.{recorded_current, recorded_depth, recorded_few}
+use Rattle.editor_core.proofs.Removing.{commit_frees, commit_removes_none, ids_made, no_record, off_untouched}
 use Rattle.editor_core.proofs.Staying.{record_within, stopped_not}
 
 -- ---- the studio behind it
@@ -85,17 +89,22 @@ module _ {D : Type 0} (disk : Ghosts D) (s : Core D) (is : IsStudio disk s) (goi
   there = pieces_there disk s is going e plan
 
   lasts_going : (told : Result Reply Refusal) (new : Core D) → IsStudio disk new
-      → new.commit_number ≡ number_behind told c s.commit_number → (len : ℕ)
+      → new.commit_number ≡ number_behind told c s.commit_number → (len : ℕ) → Records told new len
       → Changed disk (LeavesOthers s.next_block new.next_block (MayRemove c s.counts))
-      (asks s.block_size (new.next_block - s.next_block) len 0) s.store new.store
-      → Stops disk s told new → IfErr told (Left disk s (MayRemove c s.counts) new)
+      (asks (with_sound c sound told) (disk.reads s.store 0) s.block_size (new.next_block - s.next_block) len)
+      s.store new.store
+      → CountsIds s [] new → Untouched disk s told new → Stops disk s told new → IfErr told (Left disk s new)
       → Lasts disk s (with_sound c sound told) new
-  lasts_going told new studio number len changed stops left = record {
+  lasts_going told new studio number len records changed ids untouched stops left = record {
     studio = studio;
     number = number;
     rests = λ some. absurd (stopped_not s.stopped some going);
     len = len;
+    records = records;
     changed = changed;
+    frees = commit_frees disk s c told new one;
+    ids = ids;
+    untouched = untouched;
     stops = stops;
     left = left;
   }
@@ -104,29 +113,33 @@ module _ {D : Type 0} (disk : Ghosts D) (s : Core D) (is : IsStudio disk s) (goi
 
   module _ (fits : s.next_block + n ≤ 2 ^ 62) (k : ℕ) (few : k ≤ n) where
     unread_lasts : (why : Refusal) (mid new : Core D) → Making disk s (batch_of given makes) k mid → Unread disk mid new
-        → IsSoOf disk s new why → Lasts disk s (with_sound c sound (Err why)) new
-    unread_lasts why mid new was un so =
+        → is_broken_off why ≡ true → IsSoOf disk s new why → Lasts disk s (with_sound c sound (Err why)) new
+    unread_lasts why mid new was un off so =
         let making = making_unread disk s given makes k mid new was un in
         lasts_going (Err why) new (made_studio disk s is given makes k new making going few plan.new fits there)
-        (ap (λ (z : Core D). z.commit_number) making.is) 0 (some_changed disk s given makes fits c k 0 new making few)
-        (inl (some_stop disk s given makes fits c k new making, making.change_faults))
-        (some_left disk s given makes fits c k new making why so)
+        (ap (λ (z : Core D). z.commit_number) making.is) 0 (no_record (Err why) new)
+        (some_changed disk s given makes fits c sound why k 0 new making few)
+        (some_ids disk s given makes fits c sound k new making) (off_untouched disk s.store new.store why off)
+        (inl (some_stop disk s given makes fits c sound k new making, making.change_faults))
+        (some_left disk s given makes fits c sound k new making why so)
 
     module _ (mid new : Core D) (was : Making disk s (batch_of given makes) k mid)
         (left : (k < n) ⊎ Changed disk StaysStep one_call mid.store new.store) (un : Unput disk mid new) where
       abbrev here : Core D
-      here = unput_here disk s given makes fits c k mid new was few left un
+      here = unput_here disk s given makes fits c sound k mid new was few left un
 
       unput_lasts : Lasts disk s (with_sound c sound (Err refusal.DiskFault)) new
       unput_lasts =
           let studio : IsStudio disk here =
           with_store disk s is new.store k mid.counts here.stopped (omega (arith, fits, few)) was.ledger in
           subst (λ (z : Core D). Lasts disk s (with_sound c sound (Err refusal.DiskFault)) z)
-          (sym (unput_is disk s given makes fits c k mid new was few left un))
-          (lasts_going (Err refusal.DiskFault) here studio refl 0
-          (unput_changed disk s given makes fits c k mid new was few left un 0)
-          (inr (refl, unput_failed disk s given makes fits c k mid new was few left un, refl))
-          (unput_left disk s given makes fits c k mid new was few left un))
+          (sym (unput_is disk s given makes fits c sound k mid new was few left un))
+          (lasts_going (Err refusal.DiskFault) here studio refl 0 (no_record (Err refusal.DiskFault) here)
+          (unput_changed disk s given makes fits c sound k mid new was few left un 0)
+          (unput_ids disk s given makes fits c sound k mid new was few left un)
+          (off_untouched disk s.store new.store refusal.DiskFault refl)
+          (inr (refl, unput_failed disk s given makes fits c sound k mid new was few left un, refl))
+          (unput_left disk s given makes fits c sound k mid new was few left un))
 
   module _ (fits : s.next_block + n ≤ 2 ^ 62) where
     stuck_lasts : (why : Refusal) (new : Core D) → Stuck disk s (batch_of given makes) why new
@@ -134,14 +147,14 @@ module _ {D : Type 0} (disk : Ghosts D) (s : Core D) (is : IsStudio disk s) (goi
     stuck_lasts refusal.DiskFault new stuck =
         ⊎_elim
         (λ un.
-        unread_lasts fits stuck.made stuck.few refusal.DiskFault stuck.mid new stuck.before un.0
-        (inl (missed_so disk s given makes fits c stuck.mid.store new.store stuck.read_faults un.1)))
+        unread_lasts fits stuck.made stuck.few refusal.DiskFault stuck.mid new stuck.before un.0 refl
+        (inl (missed_so disk s given makes fits c sound stuck.mid.store new.store stuck.read_faults un.1)))
         (λ un. unput_lasts fits stuck.made stuck.few stuck.mid new stuck.before stuck.left un)
         stuck.by
     stuck_lasts (refusal.Damaged file at want have) new stuck =
         let why = refusal.Damaged file at want have in
-        unread_lasts fits stuck.made stuck.few why stuck.mid new stuck.before stuck.by.0
-        (damaged_so disk s given makes fits c is plan.origin why new stuck)
+        unread_lasts fits stuck.made stuck.few why stuck.mid new stuck.before stuck.by.0 refl
+        (damaged_so disk s given makes fits c sound is plan.origin why new stuck)
     stuck_lasts why new stuck = absurd stuck.by
 
   -- ---- all of them
@@ -179,11 +192,16 @@ module _ {D : Type 0} (disk : Ghosts D) (s : Core D) (is : IsStudio disk s) (goi
         let halted = stopped_by disk mid new.store in
         subst (λ (z : Core D). Lasts disk s (with_sound c sound (Err refusal.DiskFault)) z) (sym adds.fields.0)
         (lasts_going (Err refusal.DiskFault) halted (stopped_studio disk mid mid_is new.store) refl (length body)
-        (all_changed disk s given makes prepared.blocks c (length body) mid halted making refl
+        (λ device. prepared.short)
+        (all_changed disk s given makes prepared.blocks c sound is (Err refusal.DiskFault) (length body) mid halted
+        making refl
         (changed_wider (others_record mid.next_block mid.next_block NoneGoes)
-        (record_within mid.block_size (mid.next_block - mid.next_block) (length body) 0) adds.changed))
-        (inr (refl, all_failed disk s given makes prepared.blocks c store counts making new.store adds.fields.2, refl))
-        (all_left disk s given makes prepared.blocks c store counts making new.store adds.fields.2))
+        (record_within (with_sound c sound (Err refusal.DiskFault)) (disk.reads store 0) mid.block_size
+        (mid.next_block - mid.next_block) (length body) one) adds.changed))
+        (all_ids disk s given makes prepared.blocks c sound store counts making new.store adds.fields.2)
+        (off_untouched disk s.store new.store refusal.DiskFault refl)
+        (inr (refl, all_failed disk s given makes prepared.blocks c sound store counts making new.store adds.fields.2, refl))
+        (all_left disk s given makes prepared.blocks c sound store counts making new.store adds.fields.2))
 
     -- it was
     module _ {Q : Type 0} (q : Q) (new : Core D) (adds : Adds disk mid body (Ok q) new) (h' : History (List Track))
@@ -205,7 +223,7 @@ module _ {D : Type 0} (disk : Ghosts D) (s : Core D) (is : IsStudio disk s) (goi
       done_studio : IsStudio disk done
       done_studio =
           led_studio disk mid mid_is (refs makes) h clip track_then leads new.store (s.journal_end + 5 + length body)
-          (omega (arith, adds.fields.1)) h' counts' next_track
+          (omega (arith, adds.fields.1)) (omega arith) h' counts' next_track
           moved tracked counted files
 
       done_lasts : Lasts disk s (with_sound c sound (Ok Done))
@@ -216,9 +234,16 @@ module _ {D : Type 0} (disk : Ghosts D) (s : Core D) (is : IsStudio disk s) (goi
           subst (λ (z : Core D). Lasts disk s (with_sound c sound (Ok Done))
           (record z { history = h'; clipboard = clip; counts = counts'; next_track = next_track })) (sym adds.fields.0)
           (lasts_going (Ok Done) done done_studio number (length body)
-          (all_changed disk s given makes prepared.blocks c (length body) mid done making refl
+          (inr (
+            Edit tag (s.next_block + n) track_then point,
+            refl,
+            (refl, sym tracked, sym (ap current_tracks moved ∙ recorded_current s.history point tag is.format.depth_least)),
+          ))
+          (all_changed disk s given makes prepared.blocks c sound is (Ok Done) (length body) mid done making refl
           (changed_wider (others_record mid.next_block mid.next_block NoneGoes)
-          (record_within mid.block_size (mid.next_block - mid.next_block) (length body) 0) adds.changed))
+          (record_within (with_sound c sound (Ok Done)) (disk.reads store 0) mid.block_size
+          (mid.next_block - mid.next_block) (length body) one) adds.changed))
+          (ids_made s done counts n making.ledger files refl) tt
           (inl (refl, adds.fields.2 ∙ making.change_faults)) tt)
 
   -- ---- all of it
@@ -234,7 +259,7 @@ module _ {D : Type 0} (disk : Ghosts D) (s : Core D) (is : IsStudio disk s) (goi
   lasts_err fewer why new carried = ⊎_elim
       (λ not.
       subst (λ (z : Core D). Lasts disk s (with_sound c sound (Err why)) z) (sym not.0)
-      (lasts_idle disk s is fewer c sound why (unprepared_plain s n tracks (length body) why not.1)))
+      (lasts_idle disk s is fewer c (commit_removes_none c one) sound why (unprepared_plain s n tracks (length body) why not.1)))
       (⊎_elim
       (λ some. stuck_lasts some.0.blocks why new some.1)
       (λ last.

@@ -1,3 +1,4 @@
+mod Removing
 mod Quiet
 mod Naming
 mod Meanings
@@ -63,7 +64,7 @@ mod Turns
 mod Pushes
 mod Leading
 mod Sounds
-mod Images
+pub mod Images
 mod Idle
 mod Spaces
 mod Staying
@@ -92,6 +93,7 @@ mod Exporting
 mod Channels
 mod Importing
 mod ImportTests
+pub mod Entries
 mod EventRuns
 mod Viewing
 pub mod Applying

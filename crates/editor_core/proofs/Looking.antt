@@ -30,6 +30,7 @@ use Rattle.editor_core.proofs.Images.{keeps_now}
 use Rattle.editor_core.proofs.Leaving.{IsPlain, left_read, plain_so}
 use Rattle.editor_core.proofs.Others.{others_none}
 use Rattle.editor_core.proofs.Quiet.{IsQuiet}
+use Rattle.editor_core.proofs.Removing.{RemovesNone, frees_none, ids_same, no_record}
 use Rattle.editor_core.proofs.Staying.{stopped_not}
 
 module _ {D : Type 0} (disk : Ghosts D) (s : Core D) (is : IsStudio disk s) (store : D)
@@ -98,7 +99,7 @@ module _ {D : Type 0} (disk : Ghosts D) (s : Core D) (is : IsStudio disk s) (sto
   keeps_after : s.stopped ≡ None → IsHeld disk s → EachNow disk store (λ c. Keeps c (shown (studio_of disk looked)))
   keeps_after going held = keeps_now disk looked going (looked_held held)
 
-  module _ (c : Call) (quiet : IsQuiet c) (going : s.stopped ≡ None) where
+  module _ (c : Call) (quiet : IsQuiet c) (none : RemovesNone c) (going : s.stopped ≡ None) where
     abbrev t : model.Studio
     t = studio_of disk s
 
@@ -117,7 +118,11 @@ module _ {D : Type 0} (disk : Ghosts D) (s : Core D) (is : IsStudio disk s) (sto
       rests = λ some. absurd (stopped_not s.stopped some going);
       len = 0;
       needs = λ held. (0, quiet.needs t);
+      records = no_record (Ok r) looked;
       changed = changed_kept (others_none s.next_block s.next_block (MayRemove c s.counts)) kept;
+      frees = frees_none disk s c (Ok r) looked none;
+      ids = ids_same s looked refl refl;
+      untouched = tt;
       stops = inl (refl, kept.same_faults);
       left = tt;
     }
@@ -136,9 +141,13 @@ module _ {D : Type 0} (disk : Ghosts D) (s : Core D) (is : IsStudio disk s) (sto
       rests = λ some. absurd (stopped_not s.stopped some going);
       len = 0;
       needs = λ held. (0, quiet.needs t);
+      records = no_record (Err why) looked;
       changed = changed_kept (others_none s.next_block s.next_block (MayRemove c s.counts)) kept;
+      frees = frees_none disk s c (Err why) looked none;
+      ids = ids_same s looked refl refl;
+      untouched = λ device. kept;
       stops = inl (refl, kept.same_faults);
-      left = left_read disk s (MayRemove c s.counts) store why so;
+      left = left_read disk s store why so;
     }
 
     -- the disk failed, or a file was not as it has to be, and the studio goes on

@@ -1,5 +1,5 @@
 -- A commit behind blocks that were made for it.
-use Rattle.std.proofs.Common.{◌≡◌, inl, inr, ⊎_elim, ap, ◌∙◌, subst, ℕ, ◌+◌, ◌^◌, ◌≤◌, None, List, length, Result}
+use Rattle.std.proofs.Common.{◌≡◌, inl, inr, ⊎_elim, ap, ◌∙◌, subst, ℕ, ◌+◌, ◌^◌, ◌≤◌, None, List, [], length, Result}
 use Rattle.std.proofs.Common.{Ok, Err, IfErr, OnErr, arith}
 use Rattle.std.specs.List.{AllByRecursion}
 use Rattle.std.proofs.lemmas.List.{take_all}
@@ -22,7 +22,7 @@ use Rattle.edit_ops.specs.declared.types.NewBlock.{NewBlock}
 use Rattle.edit_ops.specs.Plans.{AreNew, ref_of}
 use Rattle.piece_store.specs.declared.given.Given.{Given}
 use Rattle.editor_core.specs.Core.{Core}
-use Rattle.editor_core.specs.Left.{Left, MayRemove, Stops}
+use Rattle.editor_core.specs.Left.{CountsIds, Left, Stops, Untouched}
 use Rattle.editor_core.specs.Made.{PiecesThere, batch_of, ids_from}
 use Rattle.editor_core.specs.Makes.{AreSynced, Making}
 use Rattle.editor_core.specs.Studios.{IsGiven, IsHeld, IsStudio, shown, studio_of}
@@ -32,6 +32,7 @@ use Rattle.editor_core.proofs.Makings.{making_next}
 use Rattle.editor_core.proofs.MadeLeft.{all_changed}
 use Rattle.editor_core.proofs.MadeStudios.{IsNewId, are_made, keeps_outside, made_state, refs, refs_all, refs_ids}
 use Rattle.editor_core.proofs.Premises.{TookWhere}
+use Rattle.editor_core.proofs.Removing.{RemovesNone, frees_none}
 use Rattle.editor_core.proofs.Staying.{HasMade, stopped_not}
 
 on_err : {R E : Type 0} (result : Result R E) (P Q : Type 0) → (P → Q) → OnErr result P → OnErr result Q
@@ -102,9 +103,10 @@ module _ {D : Type 0} (disk : Ghosts D) (s : Core D) (is : IsStudio disk s) (giv
         → Needs (outside (studio_of disk mid) sound) (studio_of disk mid) c blocks len
         → Needs (outside t sound) t c blocks len)
         → (IsHeld disk s → (len : ℕ) × CarriesOut t c sound Done (followed (outside t sound) t c n len))
-        → (IsHeld disk s → Answers t c sound told_as (studio_of disk new)) → Stops disk s told_as new
-        → IfErr told_as (Left disk s (MayRemove c s.counts) new) → Took disk s (with_sound c sound told_as) new
-    composed told_as new took next back carried step stops left =
+        → (IsHeld disk s → Answers t c sound told_as (studio_of disk new)) → RemovesNone c → CountsIds s [] new
+        → Untouched disk s told_as new → Stops disk s told_as new
+        → IfErr told_as (Left disk s new) → Took disk s (with_sound c sound told_as) new
+    composed told_as new took next back carried step none ids untouched stops left =
         let images = making.changed.images in
         let at_next = making_next disk s given makes n mid making in
         let number : mid.commit_number ≡ s.commit_number = ap (λ (z : Core D). z.commit_number) making.is in record {
@@ -129,7 +131,11 @@ module _ {D : Type 0} (disk : Ghosts D) (s : Core D) (is : IsStudio disk s) (giv
           rests = λ some. absurd (stopped_not s.stopped some going);
           len = took.len;
           needs = λ held. let need = took.needs held in (need.0, back held need.0 took.len need.1);
-          changed = all_changed disk s given makes most c took.len mid new making next took.changed;
+          records = took.records;
+          changed = all_changed disk s given makes most c sound is told_as took.len mid new making next took.changed;
+          frees = frees_none disk s c told_as new none;
+          ids = ids;
+          untouched = untouched;
           stops = stops;
           left = left;
         }

@@ -1,12 +1,13 @@
 -- A making of blocks that failed.
 use Rattle.std.proofs.Common.{◌≡◌, ◌⊎◌, ◌<◌, inl, inr, ⊎_elim, refl, sym, ap, ◌∙◌, subst, ℕ, ◌+◌, ◌^◌, ◌≤◌, IsTrue}
-use Rattle.std.proofs.Common.{None, List, length, Err, arith}
+use Rattle.std.proofs.Common.{None, List, length, Err, true, arith}
 use Rattle.pcm_base.specs.declared.command.Call.{Call}
 use Rattle.pcm_base.specs.declared.entry.SoundMove.{SoundMove}
 use Rattle.pcm_base.specs.declared.refusal.Refusal.{Refusal}
 use Rattle.pcm_base.specs.declared.refusal.Refusal.TheVariants as refusal
 use Rattle.pcm_base.specs.Counters.{Needs}
 use Rattle.pcm_base.specs.Run.{Answers, Leaves, may_change, outside}
+use Rattle.pcm_base.specs.Sizes.{LONGEST_BODY}
 use Rattle.pcm_base.specs.Studio as model
 use Rattle.disk_model.specs.Disk.{StaysStep}
 use Rattle.disk_model.specs.Frames.{Changed}
@@ -19,6 +20,7 @@ use Rattle.piece_store.specs.declared.given.Given.{Given}
 use Rattle.piece_store.specs.Bringing.{brought_count}
 use Rattle.editor_core.specs.Adding.{stopped_by}
 use Rattle.editor_core.specs.Core.{Core}
+use Rattle.editor_core.specs.Exchanges.{is_broken_off}
 use Rattle.editor_core.specs.Left.{IsSoOf}
 use Rattle.editor_core.specs.Made.{PiecesThere, SameOutside, batch_of}
 use Rattle.editor_core.specs.Makes.{HasMissed, Making, Stuck, Unput, Unread, made_room, one_call}
@@ -26,31 +28,34 @@ use Rattle.editor_core.specs.Studios.{IsHeld, IsStudio, named_blocks, studio_of}
 use Rattle.editor_core.specs.Took.{Took, with_sound}
 use Rattle.editor_core.proofs.Images.{keeps_now}
 use Rattle.editor_core.proofs.Makings.{making_unread}
-use Rattle.editor_core.proofs.MadeLeft.{damaged_so, missed_so, some_changed, some_left, some_stop, unput_changed}
-use Rattle.editor_core.proofs.MadeLeft.{unput_failed, unput_files, unput_here, unput_is, unput_left}
+use Rattle.editor_core.proofs.MadeLeft.{damaged_so, missed_so, some_changed, some_ids, some_left, some_stop}
+use Rattle.editor_core.proofs.MadeLeft.{unput_changed, unput_failed, unput_files, unput_here, unput_ids, unput_is}
+use Rattle.editor_core.proofs.MadeLeft.{unput_left}
 use Rattle.editor_core.proofs.MadeStudios.{below_same, keeps_outside, made_held, made_state, made_studio, with_held}
 use Rattle.editor_core.proofs.MadeStudios.{with_store}
 use Rattle.editor_core.proofs.Meanings.{same_studio}
+use Rattle.editor_core.proofs.Removing.{RemovesNone, frees_none, off_untouched}
 use Rattle.editor_core.proofs.Staying.{some_none, stopped_not}
 
 module _ {D : Type 0} (disk : Ghosts D) (s : Core D) (is : IsStudio disk s) (given : Given) (makes : List NewBlock)
     (going : s.stopped ≡ None)
     (fresh : AreNew s.block_size s.next_block makes) (most : s.next_block + length makes ≤ 2 ^ 62)
-    (there : IsHeld disk s → PiecesThere (disk.reads s.store) makes) (c : Call) (sound : SoundMove) where
+    (there : IsHeld disk s → PiecesThere (disk.reads s.store) makes) (c : Call) (sound : SoundMove)
+    (none : RemovesNone c) where
   abbrev n : ℕ
   n = length makes
 
   abbrev t : model.Studio
   t = studio_of disk s
 
-  module _ (len : ℕ) (changes : IsTrue (may_change c)) (leaves : Leaves t c sound)
+  module _ (len : ℕ) (short : len ≤ LONGEST_BODY) (changes : IsTrue (may_change c)) (leaves : Leaves t c sound)
       (need : IsHeld disk s → (k : ℕ) → k ≤ n → Needs (outside t sound) t c k len)
       (origin : AllNewFrom (named_blocks s) (brought_count given) makes) where
     going_on : (why : Refusal) (k : ℕ) (new : Core D) → Making disk s (batch_of given makes) k new → k ≤ n
-        → IsSoOf disk s new why
+        → is_broken_off why ≡ true → IsSoOf disk s new why
         → (IsHeld disk s → Answers t c sound (Err why) (studio_of disk new))
         → Took disk s (with_sound c sound (Err why)) new
-    going_on why k new making few so step =
+    going_on why k new making few off so step =
         let studio = made_studio disk s is given makes k new making going few fresh most there in
         let holds = made_held disk s is given makes k new making going few fresh most there in
         let images = making.changed.images in record {
@@ -64,9 +69,13 @@ module _ {D : Type 0} (disk : Ghosts D) (s : Core D) (is : IsStudio disk s) (giv
           rests = λ some. absurd (stopped_not s.stopped some going);
           len = len;
           needs = λ held. (k, need held k few);
-          changed = some_changed disk s given makes most c k len new making few;
-          stops = inl (some_stop disk s given makes most c k new making, making.change_faults);
-          left = some_left disk s given makes most c k new making why so;
+          records = λ device. short;
+          changed = some_changed disk s given makes most c sound why k len new making few;
+          frees = frees_none disk s c (Err why) new none;
+          ids = some_ids disk s given makes most c sound k new making;
+          untouched = off_untouched disk s.store new.store why off;
+          stops = inl (some_stop disk s given makes most c sound k new making, making.change_faults);
+          left = some_left disk s given makes most c sound k new making why so;
         }
 
     -- a read failed, or found a file that is not as it has to be
@@ -95,8 +104,8 @@ module _ {D : Type 0} (disk : Ghosts D) (s : Core D) (is : IsStudio disk s) (giv
           })
 
       unread : HasMissed disk mid.store new.store → Took disk s (with_sound c sound (Err refusal.DiskFault)) new
-      unread missed = going_on refusal.DiskFault k new making few
-          (inl (missed_so disk s given makes most c mid.store new.store reads missed)) (λ held. inr (record {
+      unread missed = going_on refusal.DiskFault k new making few refl
+          (inl (missed_so disk s given makes most c sound mid.store new.store reads missed)) (λ held. inr (record {
             breaks = record {
               going = going;
               blocks = k;
@@ -118,7 +127,7 @@ module _ {D : Type 0} (disk : Ghosts D) (s : Core D) (is : IsStudio disk s) (giv
           → IsSoOf disk s new (refusal.Damaged file at want have)
           → Took disk s (with_sound c sound (Err (refusal.Damaged file at want have))) new
       damaged file at want have same so =
-          going_on (refusal.Damaged file at want have) k new making few so (λ held. inr (record {
+          going_on (refusal.Damaged file at want have) k new making few refl so (λ held. inr (record {
             breaks = record {
               going = going;
               blocks = k;
@@ -141,11 +150,11 @@ module _ {D : Type 0} (disk : Ghosts D) (s : Core D) (is : IsStudio disk s) (giv
       store = new.store
 
       abbrev here : Core D
-      here = unput_here disk s given makes most c k mid new was few left un
+      here = unput_here disk s given makes most c sound k mid new was few left un
 
       changed : Changed disk (SameOutside s.next_block (k + 1))
           (together (made_room (size_of s.block_size) k) (made_room (size_of mid.block_size) 1)) s.store store
-      changed = unput_files disk s given makes most c k mid new was few left un
+      changed = unput_files disk s given makes most c sound k mid new was few left un
 
       here_studio : IsStudio disk here
       here_studio =
@@ -206,14 +215,18 @@ module _ {D : Type 0} (disk : Ghosts D) (s : Core D) (is : IsStudio disk s) (giv
         rests = λ some. absurd (stopped_not s.stopped some going);
         len = len;
         needs = λ held. (k, need held k few);
-        changed = unput_changed disk s given makes most c k mid new was few left un len;
-        stops = inr (refl, unput_failed disk s given makes most c k mid new was few left un, refl);
-        left = unput_left disk s given makes most c k mid new was few left un;
+        records = λ device. short;
+        changed = unput_changed disk s given makes most c sound k mid new was few left un len;
+        frees = frees_none disk s c (Err refusal.DiskFault) here none;
+        ids = unput_ids disk s given makes most c sound k mid new was few left un;
+        untouched = off_untouched disk s.store store refusal.DiskFault refl;
+        stops = inr (refl, unput_failed disk s given makes most c sound k mid new was few left un, refl);
+        left = unput_left disk s given makes most c sound k mid new was few left un;
       }
 
       unput : Took disk s (with_sound c sound (Err refusal.DiskFault)) new
       unput = subst (λ (z : Core D). Took disk s (with_sound c sound (Err refusal.DiskFault)) z)
-          (sym (unput_is disk s given makes most c k mid new was few left un)) here_took
+          (sym (unput_is disk s given makes most c sound k mid new was few left un)) here_took
 
     pub not_made : (why : Refusal) (new : Core D) → Stuck disk s (batch_of given makes) why new
         → Took disk s (with_sound c sound (Err why)) new
@@ -224,5 +237,5 @@ module _ {D : Type 0} (disk : Ghosts D) (s : Core D) (is : IsStudio disk s) (giv
     not_made (refusal.Damaged file at want have) new stuck =
         damaged stuck.made stuck.mid new stuck.before stuck.few stuck.read_faults stuck.by.0 file at want have
         stuck.by.1
-        (damaged_so disk s given makes most c is origin (refusal.Damaged file at want have) new stuck)
+        (damaged_so disk s given makes most c sound is origin (refusal.Damaged file at want have) new stuck)
     not_made why new stuck = absurd stuck.by

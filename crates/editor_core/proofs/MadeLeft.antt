@@ -1,13 +1,15 @@
 -- What blocks that were made, and then a record or a fault, leave of other files and of a studio that refuses.
 use Rattle.std.proofs.Common.{◌≡◌, ◌⊎◌, inl, inr, ⊎_elim, refl, sym, ap, ◌∙◌, subst, ℕ, ◌+◌, ◌-◌, ◌^◌, ◌≤◌, ◌<◌, IsTrue}
-use Rattle.std.proofs.Common.{List, length, arith}
+use Rattle.std.proofs.Common.{List, [], length, Result, Err, arith}
 use Rattle.pcm_base.specs.declared.block.BlockRef.{BlockRef}
+use Rattle.pcm_base.specs.declared.answer.Reply.{Reply}
 use Rattle.pcm_base.specs.declared.command.Call.{Call}
+use Rattle.pcm_base.specs.declared.entry.SoundMove.{SoundMove}
 use Rattle.pcm_base.specs.declared.refusal.Refusal.{Refusal}
 use Rattle.pcm_base.specs.declared.refusal.Refusal.TheVariants as refusal
 use Rattle.disk_model.specs.Disk.{Files, StaysStep}
 use Rattle.disk_model.specs.Frames.{Changed}
-use Rattle.disk_model.specs.Room.{together}
+use Rattle.disk_model.specs.Room.{files_made, together}
 use Rattle.disk_model.specs.declared.store.Store.{Ghosts}
 use Rattle.disk_model.proofs.Frames.{changed_then_stays, changed_turn, changed_wider}
 use Rattle.sample_block.specs.Spelling.{size_of}
@@ -19,21 +21,21 @@ use Rattle.piece_store.specs.declared.given.Given.{Given}
 use Rattle.piece_store.specs.Bringing.{brought_count}
 use Rattle.editor_core.specs.Adding.{HasFailed, stopped_by}
 use Rattle.editor_core.specs.Core.{Core}
-use Rattle.editor_core.specs.Left.{IsSoOf, Left, LeavesOthers, MayRemove}
+use Rattle.editor_core.specs.Left.{CountsIds, IsSoOf, Left, LeavesOthers, MayRemove}
 use Rattle.editor_core.specs.Made.{SameOutside, batch_of}
 use Rattle.editor_core.specs.Makes.{HasMissed, Making, Stuck, Unput, made_room, one_call}
 use Rattle.editor_core.specs.Studios.{IsGiven, IsStudio, named_blocks}
-use Rattle.editor_core.specs.Took.{asks}
+use Rattle.editor_core.specs.Took.{asks, with_sound}
 use Rattle.editor_core.proofs.Contained.{contained}
-use Rattle.editor_core.proofs.Leaving.{ids_made}
-use Rattle.editor_core.proofs.MadeRooms.{within_last, within_some, within_then}
+use Rattle.editor_core.proofs.MadeRooms.{changed_told, within_last, within_some, within_then}
 use Rattle.editor_core.proofs.Makings.{making_next, making_size}
 use Rattle.editor_core.proofs.MakingCounts.{outside_then}
 use Rattle.editor_core.proofs.NamedDamage.{damage_named, from_at}
 use Rattle.editor_core.proofs.Others.{Leaving, NoneGoes, others_made, others_then, others_wider}
+use Rattle.editor_core.proofs.Removing.{ids_made}
 
 module _ {D : Type 0} (disk : Ghosts D) (s : Core D) (given : Given) (makes : List NewBlock)
-    (most : s.next_block + length makes ≤ 2 ^ 62) (c : Call) where
+    (most : s.next_block + length makes ≤ 2 ^ 62) (c : Call) (sound : SoundMove) where
   abbrev n : ℕ
   n = length makes
 
@@ -42,21 +44,23 @@ module _ {D : Type 0} (disk : Ghosts D) (s : Core D) (given : Given) (makes : Li
 
   -- ---- some are made, and the studio goes on
 
-  pub some_changed : (k len : ℕ) (new : Core D) → Making disk s (batch_of given makes) k new → k ≤ n
+  pub some_changed : (why : Refusal) (k len : ℕ) (new : Core D) → Making disk s (batch_of given makes) k new → k ≤ n
       → Changed disk (LeavesOthers s.next_block new.next_block may_go)
-      (asks s.block_size (new.next_block - s.next_block) len 0) s.store new.store
-  some_changed k len new making few =
+      (asks (with_sound c sound (Err why)) (disk.reads s.store 0) s.block_size (new.next_block - s.next_block) len)
+      s.store new.store
+  some_changed why k len new making few =
       let next = making_next disk s given makes k new making in
       changed_wider (λ d x w. others_made s.next_block k new.next_block may_go d x (omega (arith, next))
       (omega (arith, most, few)) w)
-      (within_some s.block_size k len (new.next_block - s.next_block) (omega (arith, next))) making.changed
+      (within_some (with_sound c sound (Err why)) (disk.reads s.store 0) s.block_size k len
+      (new.next_block - s.next_block) (omega (arith, next))) making.changed
 
   pub some_stop : (k : ℕ) (new : Core D) → Making disk s (batch_of given makes) k new → new.stopped ≡ s.stopped
   some_stop k new making = ap (λ (z : Core D). z.stopped) making.is
 
   pub some_left : (k : ℕ) (new : Core D) → Making disk s (batch_of given makes) k new → (why : Refusal)
       → IsSoOf disk s new why
-      → Left disk s may_go new why
+      → Left disk s new why
   some_left k new making why so =
       let next = making_next disk s given makes k new making in
       let stop = some_stop k new making in record {
@@ -66,9 +70,13 @@ module _ {D : Type 0} (disk : Ghosts D) (s : Core D) (given : Given) (makes : Li
           next_block = sym next i;
           stopped = sym stop i;
         });
-        ids = λ id not. ids_made s.counts new.counts s.next_block k new.next_block making.ledger next id;
         so = so;
       }
+
+  pub some_ids : (k : ℕ) (new : Core D) → Making disk s (batch_of given makes) k new → CountsIds s [] new
+  some_ids k new making =
+      ids_made s new new.counts k making.ledger (λ id. (λ some. some, λ some. some))
+      (making_next disk s given makes k new making)
 
   -- a read failed
   pub missed_so : (mid new : D) → disk.read_fault_count mid ≡ disk.read_fault_count s.store → HasMissed disk mid new
@@ -113,9 +121,11 @@ module _ {D : Type 0} (disk : Ghosts D) (s : Core D) (given : Given) (makes : Li
         (record { files = omega arith; bytes = omega arith; calls = omega arith }) was.changed un.changed
 
     pub unput_changed : (len : ℕ) → Changed disk (LeavesOthers s.next_block unput_here.next_block may_go)
-        (asks s.block_size (unput_here.next_block - s.next_block) len 0) s.store new.store
+        (asks (with_sound c sound (Err refusal.DiskFault)) (disk.reads s.store 0) s.block_size
+        (unput_here.next_block - s.next_block) len) s.store new.store
     unput_changed len =
-        let within = within_last s.block_size mid.block_size k len (unput_here.next_block - s.next_block)
+        let within = within_last c sound (disk.reads s.store 0) s.block_size mid.block_size k len
+        (unput_here.next_block - s.next_block)
         (making_size disk s given makes k mid was) (omega arith) in
         ⊎_elim
         (λ less.
@@ -137,32 +147,44 @@ module _ {D : Type 0} (disk : Ghosts D) (s : Core D) (given : Given) (makes : Li
       later = omega (arith, un.failed.later, was.change_faults);
     }
 
-    pub unput_left : Left disk s may_go unput_here refusal.DiskFault
-    unput_left = record {
-      same = refl;
-      ids = λ id not. ids_made s.counts mid.counts s.next_block k (s.next_block + k) was.ledger refl id;
-      so = inr unput_failed;
-    }
+    pub unput_left : Left disk s unput_here refusal.DiskFault
+    unput_left = record { same = refl; so = inr unput_failed }
+
+    pub unput_ids : CountsIds s [] unput_here
+    unput_ids = ids_made s unput_here mid.counts k was.ledger (λ id. (λ some. some, λ some. some)) refl
 
   -- ---- all are made, and then a record is added, or not
 
-  pub all_changed : (len : ℕ) (mid new : Core D) → Making disk s (batch_of given makes) n mid
-      → new.next_block ≡ mid.next_block
+  pub all_changed : IsStudio disk s → (told : Result Reply Refusal) (len : ℕ) (mid new : Core D)
+      → Making disk s (batch_of given makes) n mid → new.next_block ≡ mid.next_block
       → Changed disk (Leaving mid.next_block new.next_block)
-      (asks mid.block_size (new.next_block - mid.next_block) len 0) mid.store new.store
+      (asks (with_sound c sound told) (disk.reads mid.store 0) mid.block_size (new.next_block - mid.next_block) len)
+      mid.store new.store
       → Changed disk (LeavesOthers s.next_block new.next_block may_go)
-      (asks s.block_size (new.next_block - s.next_block) len 0) s.store new.store
-  all_changed len mid new making next changed =
+      (asks (with_sound c sound told) (disk.reads s.store 0) s.block_size (new.next_block - s.next_block) len)
+      s.store new.store
+  all_changed is told len mid new making next changed =
       let at_next = making_next disk s given makes n mid making in
+      let one = made_room (size_of s.block_size) n in
+      let two = asks (with_sound c sound told) (disk.reads mid.store 0) mid.block_size
+      (new.next_block - mid.next_block) len in
       let made : (d x : Files) → SameOutside s.next_block n d x → LeavesOthers s.next_block new.next_block may_go d x =
       (λ d x w. others_made s.next_block n new.next_block may_go d x (omega (arith, next, at_next)) most w) in
-      changed_turn made
+      let in_turn = changed_turn {much = together one two} made
       (λ d e x w v. others_then s.next_block new.next_block may_go d e x (made d e w)
       (others_wider mid.next_block new.next_block s.next_block new.next_block NoneGoes may_go e x
       (omega (arith, at_next)) (omega arith) (λ file none. absurd none) v))
-      (within_then s.block_size mid.block_size n len (new.next_block - mid.next_block) (new.next_block - s.next_block)
+      (record { files = omega arith; bytes = omega arith; calls = omega arith }) making.changed changed in
+      changed_told
+      (λ tells. omega (
+        arith,
+        next,
+        at_next,
+        ap files_made (making.changed.reads tells 0 (inl (omega (arith, is.counters.block_least)))),
+      ))
+      (within_then s.block_size mid.block_size n _ _ (new.next_block - mid.next_block) (new.next_block - s.next_block)
       (making_size disk s given makes n mid making) (omega (arith, next)) (omega (arith, next, at_next)))
-      making.changed changed
+      (omega (arith, next, at_next)) in_turn
 
   module _ (store : D) (counts : Counts) (making : Making disk s (batch_of given makes) n
       (record s { store = store; counts = counts; next_block = s.next_block + n }))
@@ -173,13 +195,11 @@ module _ {D : Type 0} (disk : Ghosts D) (s : Core D) (given : Given) (makes : Li
       later = omega (arith, failed.later, making.change_faults);
     }
 
-    pub all_left : Left disk s may_go (stopped_by disk (record s {
-      store = store;
-      counts = counts;
-      next_block = s.next_block + n;
-    }) new) refusal.DiskFault
-    all_left = record {
-      same = refl;
-      ids = λ id not. ids_made s.counts counts s.next_block n (s.next_block + n) making.ledger refl id;
-      so = inr all_failed;
-    }
+    abbrev halted : Core D
+    halted = stopped_by disk (record s { store = store; counts = counts; next_block = s.next_block + n }) new
+
+    pub all_left : Left disk s halted refusal.DiskFault
+    all_left = record { same = refl; so = inr all_failed }
+
+    pub all_ids : CountsIds s [] halted
+    all_ids = ids_made s halted counts n making.ledger (λ id. (λ some. some, λ some. some)) refl

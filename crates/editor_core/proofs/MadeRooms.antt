@@ -1,44 +1,72 @@
 -- What blocks that are made and a record behind them ask of the disk.
-use Rattle.std.proofs.Common.{◌≡◌, sym, subst, ℕ, ◌+◌, ◌*◌, ◌≤◌, arith}
-use Rattle.disk_model.specs.Room.{IsWithin, together}
+use Rattle.std.proofs.Common.{◌≡◌, sym, subst, ℕ, ◌+◌, ◌*◌, ◌≤◌, IsTrue, List, Option, Err, arith}
+use Rattle.pcm_base.specs.declared.command.Call.{Call}
+use Rattle.pcm_base.specs.declared.entry.SoundMove.{SoundMove}
+use Rattle.pcm_base.specs.declared.refusal.Refusal.TheVariants as refusal
+use Rattle.disk_model.specs.Disk.{Files}
+use Rattle.disk_model.specs.Frames.{Changed}
+use Rattle.disk_model.specs.Room.{IsWithin, Room, together}
+use Rattle.disk_model.specs.declared.store.Store.{Ghosts}
 use Rattle.sample_block.specs.Spelling.{size_of}
 use Rattle.editor_core.specs.Makes.{made_room}
-use Rattle.editor_core.specs.Took.{asks}
+use Rattle.editor_core.specs.Took.{Exchange, asks, with_sound}
 
 -- (the bytes over plain numbers, since the terms are long)
-bytes_then : (z n len : ℕ) → n * z + (6 + len + (1 + 0) * z) ≤ 6 + len + (1 + n) * z
-bytes_then z n len = omega arith
+bytes_then : (z n p v : ℕ) → n * z + (p + (0 + v) * z) ≤ p + (n + v) * z
+bytes_then z n p v = omega arith
 
-bytes_some : (z n len : ℕ) → n * z ≤ 6 + len + (1 + n) * z
-bytes_some z n len = omega arith
+bytes_some : (z n p v : ℕ) → n * z ≤ p + (n + v) * z
+bytes_some z n p v = omega arith
 
-bytes_last : (z n len : ℕ) → n * z + 1 * z ≤ 6 + len + (1 + n) * z
-bytes_last z n len = omega arith
+bytes_last : (z n p : ℕ) → n * z + 1 * z ≤ p + (n + 1) * z
+bytes_last z n p = omega arith
 
--- blocks and then a record
-pub within_then : (m m' n len a b : ℕ) → m' ≡ m → a ≡ 0 → b ≡ n
-    → IsWithin (together (made_room (size_of m) n) (asks m' a len 0)) (asks m b len 0)
-within_then m m' n len a b same none all =
+files_last : (n made : ℕ) → n + 1 ≤ made + (n + 1)
+files_last n made = omega arith
+
+-- n blocks and then a record, whose call may begin v more in vain
+pub within_then : (m m' n p v a b : ℕ) → m' ≡ m → a ≡ 0 → b ≡ n
+    → n * size_of m + (p + (a + v) * size_of m') ≤ p + (b + v) * size_of m
+within_then m m' n p v a b same none all =
     let z = size_of m in
-    let base : IsWithin (together (made_room z n) (asks m 0 len 0)) (asks m n len 0) =
-    record { files = omega arith; bytes = bytes_then z n len; calls = omega arith } in
-    let one =
-    subst (λ (k : ℕ). IsWithin (together (made_room z n) (asks k 0 len 0)) (asks m n len 0)) (sym same) base in
-    let two =
-    subst (λ (k : ℕ). IsWithin (together (made_room z n) (asks m' k len 0)) (asks m n len 0)) (sym none) one in
-    subst (λ (k : ℕ). IsWithin (together (made_room z n) (asks m' a len 0)) (asks m k len 0)) (sym all) two
+    let one = subst (λ (k : ℕ). n * z + (p + (0 + v) * size_of k) ≤ p + (n + v) * z) (sym same) (bytes_then z n p v) in
+    let two = subst (λ (k : ℕ). n * z + (p + (k + v) * size_of m') ≤ p + (n + v) * z) (sym none) one in
+    subst (λ (k : ℕ). n * z + (p + (a + v) * size_of m') ≤ p + (k + v) * z) (sym all) two
 
-pub within_some : (m n len b : ℕ) → b ≡ n → IsWithin (made_room (size_of m) n) (asks m b len 0)
-within_some m n len b all =
-    subst (λ (k : ℕ). IsWithin (made_room (size_of m) n) (asks m k len 0)) (sym all)
-    (record { files = omega arith; bytes = bytes_some (size_of m) n len; calls = omega arith })
+pub within_some : (exchange : Exchange) (journal : Option (List ℕ)) (m n len b : ℕ) → b ≡ n
+    → IsWithin (made_room (size_of m) n) (asks exchange journal m b len)
+within_some exchange journal m n len b all =
+    subst (λ (k : ℕ). IsWithin (made_room (size_of m) n) (asks exchange journal m k len)) (sym all)
+    (record { files = omega arith; bytes = bytes_some (size_of m) n _ _; calls = omega arith })
 
-pub within_last : (m m' n len b : ℕ) → m' ≡ m → b ≡ n
-    → IsWithin (together (made_room (size_of m) n) (made_room (size_of m') 1)) (asks m b len 0)
-within_last m m' n len b same all =
+-- the disk broke the call off as the next block was made
+pub within_last : (call : Call) (sound : SoundMove) (journal : Option (List ℕ)) (m m' n len b : ℕ) → m' ≡ m → b ≡ n
+    → IsWithin (together (made_room (size_of m) n) (made_room (size_of m') 1))
+    (asks (with_sound call sound (Err refusal.DiskFault)) journal m b len)
+within_last call sound journal m m' n len b same all =
     let z = size_of m in
-    let base : IsWithin (together (made_room z n) (made_room z 1)) (asks m n len 0) =
-    record { files = omega arith; bytes = bytes_last z n len; calls = omega arith } in
-    let one = subst (λ (k : ℕ). IsWithin (together (made_room z n) (made_room (size_of k) 1)) (asks m n len 0))
-    (sym same) base in
-    subst (λ (k : ℕ). IsWithin (together (made_room z n) (made_room (size_of m') 1)) (asks m k len 0)) (sym all) one
+    let exchange = with_sound call sound (Err refusal.DiskFault) in
+    let base : IsWithin (together (made_room z n) (made_room z 1)) (asks exchange journal m n len) =
+    record { files = files_last n _; bytes = bytes_last z n _; calls = omega arith } in
+    let one = subst (λ (k : ℕ). IsWithin (together (made_room z n) (made_room (size_of k) 1))
+    (asks exchange journal m n len)) (sym same) base in
+    subst (λ (k : ℕ). IsWithin (together (made_room z n) (made_room (size_of m') 1)) (asks exchange journal m k len))
+    (sym all) one
+
+-- the same said by more, where a disk that tells its bytes says how many files are made
+pub changed_told : {D : Type 0} {disk : Ghosts D} {step : Files → Files → Type 0} {less more : Room} {old new : D}
+    → (IsTrue (disk.tells old) → less.files ≤ more.files) → less.bytes ≤ more.bytes → less.calls ≤ more.calls
+    → Changed disk step less old new → Changed disk step more old new
+changed_told files bytes calls f = record {
+  tells = f.tells;
+  model = f.model;
+  reads = f.reads;
+  images = f.images;
+  later = f.later;
+  files = λ told. omega (arith, files told, f.files told);
+  bytes = omega (arith, bytes, f.bytes);
+  calls = omega (arith, calls, f.calls);
+  room = f.room;
+  spent = f.spent;
+  unfailing = f.unfailing;
+}

@@ -141,6 +141,7 @@ module _ {D : Type 0} (disk : Ghosts D) (s : Core D) (is : IsStudio disk s) wher
             pin_least = is.counters.pin_least;
             pin_most = is.counters.pin_most;
             commit_most = is.counters.commit_most;
+            end_least = is.counters.end_least;
             end_most = is.counters.end_most;
           };
           few_points = is.few_points;

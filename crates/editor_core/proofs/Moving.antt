@@ -38,6 +38,7 @@ use Rattle.editor_core.proofs.Images.{Covers}
 use Rattle.editor_core.proofs.Lists.{all_left, all_drop, all_each, all_joined, all_so}
 use Rattle.editor_core.proofs.Pushes.{untagged, times_split}
 use Rattle.editor_core.proofs.Spaces.{IsCommitCall, tested}
+use Rattle.editor_core.proofs.Removing.{commit_frees}
 use Rattle.editor_core.proofs.Staying.{none_made, refuses}
 use Rattle.editor_core.proofs.Times.{named_append}
 
@@ -121,6 +122,7 @@ module _ {D : Type 0} (disk : Ghosts D) (s : Core D) (is : IsStudio disk s) wher
     points = points_later;
     depth = refl;
     few = is.few_points;
+    says = tt;
     model = λ held. refl;
     needs = λ held. (refl, refl);
   }
@@ -149,6 +151,7 @@ module _ {D : Type 0} (disk : Ghosts D) (s : Core D) (is : IsStudio disk s) wher
     points = points_later;
     depth = refl;
     few = is.few_points;
+    says = tt;
     model = λ held. refl;
     needs = λ held. (refl, refl);
   }
@@ -184,6 +187,7 @@ module _ {D : Type 0} (disk : Ghosts D) (s : Core D) (is : IsStudio disk s) wher
         (IsSoundTagged s.block_size s.next_block s.next_track (s.commit_number + 1)) n s.history.points points_later;
     depth = refl;
     few = omega (arith, is.few_points, length-drop n s.history.points);
+    says = tt;
     model = λ held.
         let means = meant_purged (sources_of (disk.reads s.store)) s.history n in
         λ i. record (studio_of disk s).state { history = sym means i; commit = s.commit_number + 1 };
@@ -267,7 +271,7 @@ pub tested_out : {D : Type 0} (disk : Ghosts D) (s : Core D) (c : Call) (tracks 
 tested_out disk s c tracks len own why is fewer call needs is_own h =
     let by = ap (λ (o : Option Refusal). (stop_of s.stopped) otherwise o otherwise
     (no_room s.next_track tracks) otherwise (no_room s.commit_number 1)) (sym is_own) ∙ h in
-    refuses disk s c silent why is fewer refl len 0 needs
+    refuses disk s c silent why is fewer (commit_frees disk s c (Err why) s call.one) refl len 0 needs
     (tested (studio_of disk s) c silent tracks call 0 len is.counters.pin_most why
     (omega (arith, is.counters.block_most)) by)
 

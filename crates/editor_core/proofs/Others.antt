@@ -1,18 +1,14 @@
 -- What a call leaves of other files, by what each of its parts leaves.
 use Rattle.std.proofs.Common.{◌≡◌, ◌≢◌, ◌⊎◌, inl, inr, ⊎_elim, refl, sym, ◌∙◌, subst, ℕ, ◌+◌, ◌^◌, ◌≤◌, ◌<◌, IsSome}
-use Rattle.std.proofs.Common.{IsTrue, None, arith}
+use Rattle.std.proofs.Common.{None, arith}
 use Rattle.std.proofs.lemmas.Bool.{cases_eq, cases_lt}
 use Rattle.pcm_base.specs.declared.command.Call.{Call}
 use Rattle.pcm_base.specs.declared.command.Call.TheVariants.{Line}
 use Rattle.pcm_base.specs.declared.command.Command.TheVariants.{Reclaim}
 use Rattle.disk_model.specs.Disk.{Files, RemoveStep, SameElsewhere}
-use Rattle.disk_model.specs.Frames.{Changed}
-use Rattle.disk_model.specs.Room.{Room}
 use Rattle.disk_model.specs.declared.store.Store.{Ghosts}
-use Rattle.disk_model.proofs.Frames.{Fewer}
-use Rattle.disk_model.proofs.Moments.{follows_nothing, in_turn}
 use Rattle.editor_core.specs.Core.{Core}
-use Rattle.editor_core.specs.Left.{IsBegun, KeepsForeign, LeavesForeign, LeavesOthers, MayRemove}
+use Rattle.editor_core.specs.Left.{IsBegun, LeavesForeign, LeavesOthers, MayRemove}
 use Rattle.editor_core.specs.Made.{SameOutside}
 use Rattle.editor_core.specs.Studios.{IsStudio}
 
@@ -101,7 +97,7 @@ removed_block disk s is (Line (Reclaim limit)) file free =
     (given.0, omega (arith, given.1, is.counters.block_most))
 removed_block disk s is call file free = absurd free
 
-foreign_left : (first last : ℕ) (MayGo : ℕ → Type 0) (d c : Files) → 16 ≤ first
+pub foreign_left : (first last : ℕ) (MayGo : ℕ → Type 0) (d c : Files) → 16 ≤ first
     → ((file : ℕ) → MayGo file → (16 ≤ file) × (file < 2 ^ 62))
     → LeavesOthers first last MayGo d c → LeavesForeign d c
 foreign_left first last MayGo d c least goes step = record {
@@ -111,33 +107,16 @@ foreign_left first last MayGo d c least goes step = record {
       (step.others file other (λ begun. apart (omega (arith, least, begun.least), begun.block)));
 }
 
-foreign_then : (d e c : Files) → LeavesForeign d e → LeavesForeign e c → LeavesForeign d c
+pub foreign_then : (d e c : Files) → LeavesForeign d e → LeavesForeign e c → LeavesForeign d c
 foreign_then d e c one two =
     record { foreign = λ file other apart. two.foreign file other apart ∙ one.foreign file other apart }
 
-pub foreign_none : {D : Type 0} (disk : Ghosts D) (store : D) → Fewer disk store → KeepsForeign disk store store
-foreign_none disk store fewer = record {
-  tells = refl;
-  reads = λ told. record { foreign = λ file other apart. refl };
-  images = follows_nothing (λ c. record { foreign = λ file other apart. refl }) fewer;
-}
+pub foreign_same : (c : Files) → LeavesForeign c c
+foreign_same c = record { foreign = λ file other apart. refl }
 
--- one call more
-pub foreign_more : {D : Type 0} (disk : Ghosts D) (first : D) (s new : Core D) (call : Call) (much : Room)
-    → IsStudio disk s
-    → KeepsForeign disk first s.store
-    → Changed disk (LeavesOthers s.next_block new.next_block (MayRemove call s.counts)) much s.store new.store
-    → KeepsForeign disk first new.store
-foreign_more disk first s new call much is was changed =
-    let one : (d c : Files) → LeavesOthers s.next_block new.next_block (MayRemove call s.counts) d c
-    → LeavesForeign d c =
-    (λ d c step.
-    foreign_left s.next_block new.next_block
-    (MayRemove call s.counts) d c is.counters.block_least (removed_block disk s is call) step) in
-    record {
-      tells = changed.tells ∙ was.tells;
-      reads = λ told.
-          foreign_then (disk.reads first) (disk.reads s.store) (disk.reads new.store) (was.reads told)
-          (one (disk.reads s.store) (disk.reads new.store) (changed.reads (subst IsTrue (sym was.tells) told)));
-      images = in_turn (λ d c step. step) (λ d e c a b. foreign_then d e c a (one e c b)) was.images changed.images;
-    }
+-- what a call leaves, said of all files of others
+pub foreign_of : {D : Type 0} (disk : Ghosts D) (s new : Core D) (call : Call) → IsStudio disk s → (d c : Files)
+    → LeavesOthers s.next_block new.next_block (MayRemove call s.counts) d c → LeavesForeign d c
+foreign_of disk s new call is d c step =
+    foreign_left s.next_block new.next_block (MayRemove call s.counts) d c is.counters.block_least
+    (removed_block disk s is call) step

@@ -32,6 +32,7 @@ use Rattle.editor_core.specs.Studios.{studio_by, studio_of}
 use Rattle.editor_core.specs.Took.{Took, quietly, silent}
 use Rattle.editor_core.proofs.Editing.{current_sound}
 use Rattle.editor_core.proofs.Spaces.{early}
+use Rattle.editor_core.proofs.Removing.{commit_frees, commit_removes_none}
 use Rattle.editor_core.proofs.Staying.{refuses, wants}
 use Rattle.editor_core.proofs.Tracks.{current_is}
 use Rattle.editor_core.proofs.PasteLaws.{line_tests, line_tests_are}
@@ -117,7 +118,8 @@ module _ {D : Type 0} (disk : Ghosts D) (s : Core D) (is : IsStudio disk s) (e :
       let own = own_is (samples_on (disk.reads s.store)) in
       let first : ((stop_of s.stopped) otherwise (call_tests (outside t silent) t.state line)) ≡ Some why =
       (λ i. (stop_of s.stopped) otherwise (own i)) ∙ h in
-      refuses disk s line silent why is fewer refl 0 0 (λ held. call.needs t.rate t 0 0 (omega arith, omega arith))
+      refuses disk s line silent why is fewer (commit_frees disk s line (Err why) s call.commit.one) refl 0 0
+      (λ held. call.needs t.rate t 0 0 (omega arith, omega arith))
       (early t line silent 0 call.commit 0 0 why first)
 
   pub paste_stopped : (faults : ℕ) → Fewer disk s.store → s.stopped ≡ Some faults
@@ -131,6 +133,6 @@ module _ {D : Type 0} (disk : Ghosts D) (s : Core D) (is : IsStudio disk s) (e :
       (λ own. early_refused why fewer ((λ i. (stop_of (going i)) otherwise refused_by) ∙ own))
       (λ memory.
       subst (λ (r : Refusal). Took disk s (quietly line (Err r)) s) (sym memory)
-      (wants disk s line silent is fewer refl 0
+      (wants disk s line silent is fewer (commit_removes_none line (paste_call e id at).commit.one) refl 0
       (λ held. (0, (paste_call e id at).needs t.rate t 0 0 (omega arith, omega arith)))))
       not

@@ -75,7 +75,11 @@ module _ {D : Type 0} (disk : Ghosts D) (s : Core D) (pin from count len n : ℕ
     rests = took.rests;
     len = took.len;
     needs = took.needs;
+    records = took.records;
     changed = took.changed;
+    frees = took.frees;
+    ids = took.ids;
+    untouched = tt;
     stops = took.stops;
     left = tt;
   }

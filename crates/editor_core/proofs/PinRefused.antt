@@ -71,7 +71,11 @@ module _ {D : Type 0} (disk : Ghosts D) (s : Core D) (pin from count : ℕ) wher
       rests = took.rests;
       len = took.len;
       needs = took.needs;
+      records = took.records;
       changed = took.changed;
+      frees = took.frees;
+      ids = took.ids;
+      untouched = took.untouched;
       stops = took.stops;
       left = took.left;
     }
@@ -138,7 +142,11 @@ module _ {D : Type 0} (disk : Ghosts D) (s : Core D) (pin from count : ℕ) wher
       rests = took.rests;
       len = took.len;
       needs = took.needs;
+      records = took.records;
       changed = took.changed;
+      frees = took.frees;
+      ids = took.ids;
+      untouched = took.untouched;
       stops = took.stops;
       left = took.left;
     }

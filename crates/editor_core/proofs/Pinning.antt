@@ -116,7 +116,7 @@ module _ {D : Type 0} (disk : Ghosts D) (s : Core D) (is : IsStudio disk s) (few
     pinned =
         let passed = quiet_passes t Keep pin_quiet (room_of disk s Keep is) (ap stop_of going) refl
         (fits s.next_pin 1 (omega (arith, room))) in
-        renamed_took disk s is s.clipboard pins (s.next_pin + 1) counts pin_renames Keep pin_quiet
+        renamed_took disk s is s.clipboard pins (s.next_pin + 1) counts pin_renames Keep pin_quiet tt
         (Pinned s.next_pin) fewer (λ some. absurd (stopped_not s.stopped some going))
         (λ _. carried t Keep pin_quiet (room_of disk s Keep is) (Pinned s.next_pin)
         (studio_of disk new) passed refl pin_state)
@@ -126,13 +126,13 @@ module _ {D : Type 0} (disk : Ghosts D) (s : Core D) (is : IsStudio disk s) (few
       → Took disk s (quietly Keep (Err (refusal.SpaceSpent (2 ^ 62) 1))) s
   pin_spent going most =
       let pin = spends s.next_pin 1 (omega (arith, most)) ∙ (λ i. Some (refusal.SpaceSpent (most i) 1)) in
-      refused_by disk s Keep pin_quiet is fewer (refusal.SpaceSpent (2 ^ 62) 1)
+      refused_by disk s Keep pin_quiet tt is fewer (refusal.SpaceSpent (2 ^ 62) 1)
       (pins_spent t Keep pin_quiet (room_of disk s Keep is) (refusal.SpaceSpent (2 ^ 62) 1) (ap stop_of going) refl pin)
 
   pub pin_stopped : (faults : ℕ) → s.stopped ≡ Some faults → Took disk s (quietly Keep (Err (refusal.Stopped faults))) s
-  pin_stopped faults stopped = refused_stopped disk s Keep pin_quiet is fewer faults refl stopped
+  pin_stopped faults stopped = refused_stopped disk s Keep pin_quiet tt is fewer faults refl stopped
 
   -- there was no memory, and the studio is as it was
   pub pin_wanting : (same : Core D) → same ≡ s → Took disk s (quietly Keep (Err refusal.NoMemory)) same
   pin_wanting same e = subst (λ (z : Core D). Took disk s (quietly Keep (Err refusal.NoMemory)) z) (sym e)
-      (refused_wanting disk s Keep pin_quiet is fewer)
+      (refused_wanting disk s Keep pin_quiet tt is fewer)

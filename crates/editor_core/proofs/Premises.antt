@@ -1,6 +1,6 @@
 -- What one call does, by another premise than that the disk holds the studio: where blocks are made before the call's
 -- record, that the disk held it before the first of them.
-use Rattle.std.proofs.Common.{◌≡◌, ℕ, ◌-◌, None, IsSome, Result, IfErr, OnErr, arith}
+use Rattle.std.proofs.Common.{◌≡◌, ℕ, ◌-◌, [], None, IsSome, Result, IfErr, OnErr, arith}
 use Rattle.pcm_base.specs.declared.answer.Reply.{Reply}
 use Rattle.pcm_base.specs.declared.command.Call.{Call}
 use Rattle.pcm_base.specs.declared.entry.SoundMove.{SoundMove}
@@ -13,10 +13,12 @@ use Rattle.disk_model.proofs.Frames.{changed_wider}
 use Rattle.project_journal.specs.Gate.{EachNow, EachSince}
 use Rattle.project_state.specs.Kept.{Keeps}
 use Rattle.editor_core.specs.Core.{Core}
-use Rattle.editor_core.specs.Left.{Left, MayRemove, Stops}
+use Rattle.editor_core.specs.Records.{Records}
+use Rattle.editor_core.specs.Left.{CountsIds, Left, MayRemove, Stops, Untouched}
 use Rattle.editor_core.specs.Studios.{IsHeld, IsStudio, shown, studio_of}
 use Rattle.editor_core.specs.Took.{KeepsOneOf, Took, asks, number_behind, with_sound}
 use Rattle.editor_core.proofs.Others.{Leaving, others_more}
+use Rattle.editor_core.proofs.Removing.{RemovesNone, frees_none}
 
 -- as `Took` of a call that removes no file, where `Has` stands for that the disk holds the studio; but for what is left
 -- of it
@@ -34,14 +36,17 @@ pub record TookWhere {D : Type 0} (Has : Type 0) (disk : Ghosts D) (old : Core D
   pub rests : IsSome old.stopped → new ≡ record old { pins = new.pins; counts = new.counts }
   pub len : ℕ
   pub needs : Has → (blocks : ℕ) × Needs (outside (studio_of disk old) sound) (studio_of disk old) call blocks len
+  pub records : Records told new len
   pub changed : Changed disk (Leaving old.next_block new.next_block)
-      (asks old.block_size (new.next_block - old.next_block) len 0) old.store new.store
+      (asks (with_sound call sound told) (disk.reads old.store 0) old.block_size (new.next_block - old.next_block) len)
+      old.store new.store
 
 pub took_so : {D : Type 0} (disk : Ghosts D) (old : Core D) (call : Call) (sound : SoundMove)
     (told : Result Reply Refusal) (new : Core D) → TookWhere (IsHeld disk old) disk old call sound told new
-    → Stops disk old told new → IfErr told (Left disk old (MayRemove call old.counts) new)
+    → RemovesNone call → CountsIds old [] new → Untouched disk old told new
+    → Stops disk old told new → IfErr told (Left disk old new)
     → Took disk old (with_sound call sound told) new
-took_so disk old call sound told new took stops left = record {
+took_so disk old call sound told new took none ids untouched stops left = record {
   studio = took.studio;
   held = took.held;
   step = took.step;
@@ -52,9 +57,13 @@ took_so disk old call sound told new took stops left = record {
   rests = took.rests;
   len = took.len;
   needs = took.needs;
+  records = took.records;
   changed =
       changed_wider (others_more old.next_block new.next_block (MayRemove call old.counts))
       (record { files = omega arith; bytes = omega arith; calls = omega arith }) took.changed;
+  frees = frees_none disk old call told new none;
+  ids = ids;
+  untouched = untouched;
   stops = stops;
   left = left;
 }

@@ -20,6 +20,7 @@ use Rattle.editor_core.specs.Studios.{IsHeld, IsStudio, studio_of}
 use Rattle.editor_core.specs.Took.{Took, quietly, silent}
 use Rattle.editor_core.proofs.Images.{keeps_now}
 use Rattle.editor_core.proofs.Others.{others_none}
+use Rattle.editor_core.proofs.Removing.{RemovesNone, frees_none, ids_same, no_record}
 use Rattle.editor_core.proofs.Spaces.{fits}
 use Rattle.editor_core.proofs.Staying.{refuses, wants}
 
@@ -128,15 +129,17 @@ room_of disk s c is = record {
   end = is.counters.end_most;
 }
 
-module _ {D : Type 0} (disk : Ghosts D) (s : Core D) (c : Call) (quiet : IsQuiet c) (is : IsStudio disk s)
-    (fewer : Fewer disk s.store) where
+module _ {D : Type 0} (disk : Ghosts D) (s : Core D) (c : Call) (quiet : IsQuiet c) (none : RemovesNone c)
+    (is : IsStudio disk s) (fewer : Fewer disk s.store) where
   abbrev t : model.Studio
   t = studio_of disk s
 
   -- refused
   pub refused_by : (why : Refusal) → refusal_of (outside t silent) t c 0 0 ≡ Some why
       → Took disk s (quietly c (Err why)) s
-  refused_by why first = refuses disk s c silent why is fewer refl 0 0 (λ held. quiet.needs t) first
+  refused_by why first =
+      refuses disk s c silent why is fewer (frees_none disk s c (Err why) s none) refl 0 0 (λ held. quiet.needs t)
+      first
 
   -- it had stopped before
   pub refused_stopped : (faults : ℕ) → stop_test s.stopped c ≡ stop_of s.stopped → s.stopped ≡ Some faults
@@ -150,7 +153,7 @@ module _ {D : Type 0} (disk : Ghosts D) (s : Core D) (c : Call) (quiet : IsQuiet
 
   -- for want of memory
   pub refused_wanting : Took disk s (quietly c (Err refusal.NoMemory)) s
-  refused_wanting = wants disk s c silent is fewer refl 0 (λ held. (0, quiet.needs t))
+  refused_wanting = wants disk s c silent is fewer none refl 0 (λ held. (0, quiet.needs t))
 
   -- carried out, with nothing changed
   pub stays_answered : (r : Reply) → (IsHeld disk s → CarriesOut t c silent r t) → Took disk s (quietly c (Ok r)) s
@@ -165,7 +168,11 @@ module _ {D : Type 0} (disk : Ghosts D) (s : Core D) (c : Call) (quiet : IsQuiet
     rests = λ some. refl;
     len = 0;
     needs = λ held. (0, quiet.needs t);
+    records = no_record (Ok r) s;
     changed = changed_none s.store (others_none s.next_block s.next_block (MayRemove c s.counts)) fewer;
+    frees = frees_none disk s c (Ok r) s none;
+    ids = ids_same s s refl refl;
+    untouched = tt;
     stops = inl (refl, refl);
     left = tt;
   }

@@ -1,8 +1,9 @@
 -- What a reclaim answers.
-use Rattle.std.proofs.Common.{◌≡◌, ◌≢◌, ◌↔◌, ◌⊎◌, inl, inr, ⊎_elim, refl, sym, ap, ◌∙◌, subst, ℕ, ◌+◌, ◌≤◌, ◌<◌, IsTrue}
-use Rattle.std.proofs.Common.{IsSome, List, [], length, Option, Some, None, Ok, Err, arith}
+use Rattle.std.proofs.Common.{◌≡◌, ◌≢◌, ◌⊎◌, inl, inr, ⊎_elim, refl, sym, ap, ◌∙◌, subst, ℕ, ◌+◌, ◌≤◌, IsTrue}
+use Rattle.std.proofs.Common.{IsSome, List, [], length, Option, Some, None, Result, Ok, Err, arith}
 use Rattle.std.specs.Prelude.{IfSome}
 use Rattle.std.proofs.lemmas.Bool.{cases_eq}
+use Rattle.pcm_base.specs.declared.answer.Reply.{Reply}
 use Rattle.pcm_base.specs.declared.answer.Reply.TheVariants.{Freed}
 use Rattle.pcm_base.specs.declared.command.Call.{Call}
 use Rattle.pcm_base.specs.declared.command.Call.TheVariants.{Line}
@@ -22,19 +23,22 @@ use Rattle.project_journal.specs.Gate.{EachSince}
 use Rattle.project_state.specs.Kept.{Keeps}
 use Rattle.editor_core.specs.Adding.{HasFailed, stopped_by}
 use Rattle.editor_core.specs.Core.{Core}
-use Rattle.editor_core.specs.Frees.{Drops, RemovesPart, IsUnnamed, Reclaims}
+use Rattle.editor_core.specs.Frees.{Reclaims}
+use Rattle.editor_core.specs.Removals.{Drops, FreesUnnamed, IsUnnamed, RemovesPart}
 use Rattle.editor_core.specs.Left.{LeavesOthers, MayRemove}
 use Rattle.editor_core.specs.Occurrences.{times_named}
 use Rattle.editor_core.specs.Studios.{IsHeld, IsStudio, shown, studio_of, named_blocks}
+use Rattle.editor_core.specs.Took.{silent}
 use Rattle.editor_core.proofs.Freeing.{same_meaning, keeps_since, halted_held, halted_studio}
 use Rattle.editor_core.proofs.Gone.{forgets_none, removes_part, part_none}
 use Rattle.editor_core.proofs.Images.{keeps_now}
-use Rattle.editor_core.proofs.Quiet.{IsQuiet, quiet_passes, carried, room_of, refused_stopped}
+use Rattle.editor_core.proofs.Quiet.{IsQuiet, quiet_passes, carried, room_of, stopped_first}
 use Rattle.editor_core.proofs.Others.{others_removed, others_then}
 use Rattle.editor_core.proofs.Reclaiming.{FilesFreed, Freeing, first_free, goes, spared, free_unnamed, unnamed_free}
 use Rattle.editor_core.proofs.Reclaiming.{only_named}
+use Rattle.editor_core.proofs.Removing.{ids_freed, no_record, off_untouched}
 use Rattle.editor_core.proofs.Spaces.{fits}
-use Rattle.editor_core.proofs.Staying.{stopped_not}
+use Rattle.editor_core.proofs.Staying.{refuses, stopped_not}
 
 some_none : {A : Type 0} (o : Option A) (x : A) → o ≡ Some x → o ≡ None → ⊥
 some_none None x e f = absurd (cc e)
@@ -79,31 +83,37 @@ module _ {D : Type 0} (disk : Ghosts D) (old : Core D) (limit : Option ℕ) wher
           rests = λ some. absurd (stopped_not old.stopped some was.going);
           len = 0;
           needs = λ held. (0, quiet.needs t);
+          records = no_record (Ok (Freed (length ids))) new;
           changed = changed_wider
               (λ d c step. subst (λ (n : ℕ). LeavesOthers old.next_block n (MayRemove call old.counts) d c)
               (sym next) step)
               (record { files = omega arith; bytes = omega arith; calls = omega arith }) was.changed;
+          frees = record {
+            count = refl;
+            within = within;
+            all = λ held.
+                let d = (was.held held).durable going in
+                ⊎_elim inl (λ none. inr (λ id un. none id (unnamed_free disk new was.studio d id un))) all;
+            rising = was.counts.rising;
+            spares = λ id one. spared disk old is id (was.counts.free id one);
+            unnamed = λ _ held id one. free_unnamed disk old is (held.durable was.going) id (was.counts.free id one);
+            least = λ _ held id other one un.
+                was.counts.least id other one
+                (unnamed_free disk new was.studio ((was.held held).durable going) other un);
+            done = was.files;
+            part = λ told. tt;
+            for_good = was.for_good;
+            only = λ unlimited held.
+                ⊎_elim (λ some. absurd (some_none limit (length ids) some unlimited))
+                (only_named disk new was.studio ((was.held held).durable going)) all;
+            fields = was.fields ∙ (λ i. record old { store = new.store; counts = new.counts; stopped = sym stop i });
+            why = tt;
+          };
+          ids = ids_freed old new new.counts ids was.counts refl next;
+          untouched = tt;
           stops = inl (stop, was.change_faults);
           left = tt;
         };
-        count = refl;
-        within = within;
-        all = λ held.
-            let d = (was.held held).durable going in
-            ⊎_elim inl (λ none. inr (λ id un. none id (unnamed_free disk new was.studio d id un))) all;
-        rising = was.counts.rising;
-        spares = λ id one. spared disk old is id (was.counts.free id one);
-        unnamed = λ _ held id one. free_unnamed disk old is (held.durable was.going) id (was.counts.free id one);
-        least = λ _ held id other one un.
-            was.counts.least id other one (unnamed_free disk new was.studio ((was.held held).durable going) other un);
-        done = was.files;
-        part = λ told. tt;
-        for_good = was.for_good;
-        only = λ unlimited held.
-            ⊎_elim (λ some. absurd (some_none limit (length ids) some unlimited))
-            (only_named disk new was.studio ((was.held held).durable going)) all;
-        fields = was.fields ∙ (λ i. record old { store = new.store; counts = new.counts; stopped = sym stop i });
-        why = tt;
       }
 
   -- a removal failed
@@ -198,12 +208,38 @@ module _ {D : Type 0} (disk : Ghosts D) (old : Core D) (limit : Option ℕ) wher
           rests = λ some. absurd (stopped_not old.stopped some was.going);
           len = 0;
           needs = λ held. (0, quiet.needs t);
+          records = no_record (Err refusal.DiskFault) new;
           changed = changed_turn (λ d c step. at_new d c step)
               (λ d e c one two.
               at_new d c (others_then old.next_block old.next_block (MayRemove call old.counts) d e c one
               (others_removed old.next_block old.next_block (MayRemove call old.counts) id e c
               (first_free disk old mid ids id was first) two)))
               (record { files = omega arith; bytes = omega arith; calls = omega arith }) was.changed drops.changed;
+          frees = record {
+            count = tt;
+            within = within;
+            all = λ held. tt;
+            rising = was.counts.rising;
+            spares = λ x one. spared disk old was.first x (was.counts.free x one);
+            unnamed = λ _ held x one.
+                free_unnamed disk old was.first (held.durable was.going) x (was.counts.free x one);
+            least = λ _ held x other one un.
+                was.counts.least x other one
+                (unnamed_free disk mid is ((was.held held).durable going) other
+                (earlier at (drops.changed.reads (to_mid held.tells)) other un));
+            done = λ told. tt;
+            part = λ told.
+                subst (λ (k : Counts). RemovesPart k (disk.reads old.store) (disk.reads new.store) ids) (sym counts)
+                (removes_part mid.counts (disk.reads old.store) (disk.reads mid.store) (disk.reads new.store) ids id
+                (was.files told) (drops.changed.reads (to_mid told)) first);
+            for_good = λ told. tt;
+            only = λ unlimited held. tt;
+            fields = at ∙ (λ i. record (was.fields i) { store = new.store; stopped = Some halt })
+                ∙ (λ i. record old { store = new.store; counts = sym counts i; stopped = sym stop i });
+            why = inl refl;
+          };
+          ids = ids_freed old new mid.counts ids was.counts counts next;
+          untouched = off_untouched disk old.store new.store refusal.DiskFault refl;
           stops = inr (stop, failed, refl);
           left = record {
             same = at ∙ (λ i. record (was.fields i) { store = new.store; stopped = Some halt })
@@ -213,40 +249,11 @@ module _ {D : Type 0} (disk : Ghosts D) (old : Core D) (limit : Option ℕ) wher
                   next_block = sym next i;
                   stopped = sym stop i;
                 });
-            ids = λ x not. ids_less x next (subst (λ (k : Counts). k x ≡ old.counts x) (sym counts)
-                (was.counts.others x (λ one. not (was.counts.free x one))));
             so = inr failed;
           };
         };
-        count = tt;
-        within = within;
-        all = λ held. tt;
-        rising = was.counts.rising;
-        spares = λ x one. spared disk old was.first x (was.counts.free x one);
-        unnamed = λ _ held x one. free_unnamed disk old was.first (held.durable was.going) x (was.counts.free x one);
-        least = λ _ held x other one un.
-            was.counts.least x other one
-            (unnamed_free disk mid is ((was.held held).durable going) other
-            (earlier at (drops.changed.reads (to_mid held.tells)) other un));
-        done = λ told. tt;
-        part =
-            λ told. subst (λ (k : Counts). RemovesPart k (disk.reads old.store) (disk.reads new.store) ids) (sym counts)
-            (removes_part mid.counts (disk.reads old.store) (disk.reads mid.store) (disk.reads new.store) ids id
-            (was.files told) (drops.changed.reads (to_mid told)) first);
-        for_good = λ told. tt;
-        only = λ unlimited held. tt;
-        fields = at ∙ (λ i. record (was.fields i) { store = new.store; stopped = Some halt })
-            ∙ (λ i. record old { store = new.store; counts = sym counts i; stopped = sym stop i });
-        why = inl refl;
       }
     where
-      ids_less : (x : ℕ) → new.next_block ≡ old.next_block → new.counts x ≡ old.counts x
-          → IsSome (new.counts x) ↔ (IsSome (old.counts x) ⊎ ((old.next_block ≤ x) × (x < new.next_block)))
-      ids_less x next same = (
-        λ some. inl (subst IsSome same some),
-        λ cases. ⊎_elim (λ some. subst IsSome (sym same) some) (λ at. absurd (omega (arith, at.0, at.1, next))) cases,
-      )
-
       there_still : (a b : Option (List ℕ)) → (b ≡ a) ⊎ (b ≡ None) → IsSome b → IsSome a
       there_still a b (inl same) some = subst IsSome same some
       there_still a None (inr none) some = absurd (cc some)
@@ -272,23 +279,28 @@ module _ {D : Type 0} (disk : Ghosts D) (old : Core D) (limit : Option ℕ) wher
   -- it had stopped before
   pub reclaim_stopped : (faults : ℕ) → old.stopped ≡ Some faults → IsStudio disk old → Fewer disk old.store
       → Reclaims disk old limit (Err (refusal.Stopped faults)) old
-  reclaim_stopped faults stopped is fewer = record {
-    ids = [];
-    took = refused_stopped disk old call quiet is fewer faults refl stopped;
-    count = tt;
-    within = least_limit limit;
-    all = λ held. tt;
-    rising = (forgets_none old.counts).rising;
-    spares = λ id one. spared disk old is id ((forgets_none old.counts).free id one);
-    unnamed = λ going held id one. absurd (no going);
-    least = λ going held id other one un. absurd (no going);
-    done = λ told. tt;
-    part = λ told. part_none old.counts (disk.reads old.store);
-    for_good = λ told. tt;
-    only = λ unlimited held. tt;
-    fields = refl;
-    why = inr (faults, refl);
-  }
+  reclaim_stopped faults stopped is fewer =
+      let told : Result Reply Refusal = Err (refusal.Stopped faults) in
+      let frees : FreesUnnamed disk old limit told [] old = record {
+        count = tt;
+        within = least_limit limit;
+        all = λ held. tt;
+        rising = (forgets_none old.counts).rising;
+        spares = λ id one. spared disk old is id ((forgets_none old.counts).free id one);
+        unnamed = λ going held id one. absurd (no going);
+        least = λ going held id other one un. absurd (no going);
+        done = λ told. tt;
+        part = λ told. part_none old.counts (disk.reads old.store);
+        for_good = λ told. tt;
+        only = λ unlimited held. tt;
+        fields = refl;
+        why = inr (faults, refl);
+      } in record {
+        ids = [];
+        took = refuses disk old call silent (refusal.Stopped faults) is fewer frees refl 0 0
+            (λ held. quiet.needs (studio_of disk old))
+            (stopped_first (studio_of disk old) call 0 0 faults refl stopped);
+      }
     where
       no : old.stopped ≡ None → ⊥
       no going = some_none old.stopped faults stopped going

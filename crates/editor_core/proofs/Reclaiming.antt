@@ -14,7 +14,7 @@ use Rattle.block_ledger.specs.Counts.{IsFirstFree, occurrences}
 use Rattle.project_journal.specs.Gate.{EachNow, EachSince}
 use Rattle.project_state.specs.Kept.{Keeps}
 use Rattle.editor_core.specs.Core.{Core}
-use Rattle.editor_core.specs.Frees.{Drops, AreGone, HasOnlyNamed, Forgets, Removes, IsUnnamed}
+use Rattle.editor_core.specs.Removals.{Drops, AreGone, HasOnlyNamed, Forgets, Removes, IsUnnamed}
 use Rattle.editor_core.specs.Left.{LeavesOthers}
 use Rattle.editor_core.specs.Occurrences.{times_named}
 use Rattle.editor_core.specs.Studios.{IsDurable, IsHeld, IsStudio, shown, studio_of, named_blocks}

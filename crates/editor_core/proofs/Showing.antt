@@ -84,18 +84,18 @@ module _ {D : Type 0} (disk : Ghosts D) (s : Core D) (is : IsStudio disk s) (id 
 
   pub show_stopped : (faults : ℕ) → s.stopped ≡ Some faults → Took disk s (quietly show (Err (refusal.Stopped faults)))
       s
-  show_stopped faults stopped = refused_stopped disk s show show_quiet is fewer faults refl stopped
+  show_stopped faults stopped = refused_stopped disk s show show_quiet tt is fewer faults refl stopped
 
   pub show_lacks : (why : Refusal) → s.stopped ≡ None → lacks id (track_of id ts) ≡ Some why
       → Took disk s (quietly show (Err why)) s
   show_lacks why going lack =
-      refused_own disk s show show_quiet is fewer why (ap stop_of going)
+      refused_own disk s show show_quiet tt is fewer why (ap stop_of going)
       (show_tests ∙ (λ i. (lack i) otherwise (bad_view from to)))
 
   module _ (layout : List Clip) (has : HasLayout id ts layout) (going : s.stopped ≡ None) where
     pub show_beyond : (why : Refusal) → bad_view from to ≡ Some why → Took disk s (quietly show (Err why)) s
     show_beyond why bad =
-        refused_own disk s show show_quiet is fewer why (ap stop_of going)
+        refused_own disk s show show_quiet tt is fewer why (ap stop_of going)
         (show_tests ∙ (λ i. (track_there disk s is id layout has i) otherwise (bad i)))
 
     module _ (store : D) (kept : Kept disk s.store store) where
@@ -109,7 +109,7 @@ module _ {D : Type 0} (disk : Ghosts D) (s : Core D) (is : IsStudio disk s) (id 
           show_tests ∙ (λ i. (track_there disk s is id layout has i) otherwise (good i)) in
           let passed = quiet_passes t show show_quiet room (ap stop_of going) own
           (fits s.next_pin 0 (omega (arith, is.counters.pin_most))) in
-          looked_ok disk s is store kept show show_quiet going (reply.Cells cells) faults
+          looked_ok disk s is store kept show show_quiet tt going (reply.Cells cells) faults
           (λ held. carried t show show_quiet room (reply.Cells cells) t passed
           (ap reply.Cells (seen held ∙ ap (part from to) (cells_are layout has))) refl)
 
@@ -117,7 +117,7 @@ module _ {D : Type 0} (disk : Ghosts D) (s : Core D) (is : IsStudio disk s) (id 
           → (IsTrue (disk.tells s.store) → IsFaultIn (disk.reads s.store) (layout_blocks layout) why)
           → Took disk s (quietly show (Err (reason_of why))) (record s { store = store })
       show_failed why counted damaged =
-          looked_failed disk s is store kept show show_quiet going refl why counted
+          looked_failed disk s is store kept show show_quiet tt going refl why counted
           (λ told. reason_damaged (disk.reads s.store) (named_blocks s) why (fault_among (disk.reads s.store)
           (named_blocks s) (layout_blocks layout) why (layout_named disk s is id layout has) (damaged told)))
 
@@ -132,7 +132,7 @@ module _ {D : Type 0} (disk : Ghosts D) (s : Core D) (is : IsStudio disk s) (id 
 
     pub scan_stopped : (faults : ℕ) → s.stopped ≡ Some faults
         → Took disk s (quietly scan (Err (refusal.Stopped faults))) s
-    scan_stopped faults stopped = refused_stopped disk s scan scan_quiet is fewer faults refl stopped
+    scan_stopped faults stopped = refused_stopped disk s scan scan_quiet tt is fewer faults refl stopped
 
     abbrev beyond : ℕ → Option Refusal
     beyond len = bad_range from to len
@@ -148,7 +148,7 @@ module _ {D : Type 0} (disk : Ghosts D) (s : Core D) (is : IsStudio disk s) (id 
     pub scan_lacks : (why : Refusal) → s.stopped ≡ None → lacks id (track_of id ts) ≡ Some why
         → Took disk s (quietly scan (Err why)) s
     scan_lacks why going lack =
-        refused_own disk s scan scan_quiet is fewer why (ap stop_of going)
+        refused_own disk s scan scan_quiet tt is fewer why (ap stop_of going)
         (scan_tests ∙ (λ i. ((lack i) otherwise (beyond (length (cells_at id (current t.state))))) otherwise uneven))
 
     module _ (layout : List Clip) (has : HasLayout id ts layout) (going : s.stopped ≡ None) (store : D)
@@ -167,7 +167,7 @@ module _ {D : Type 0} (disk : Ghosts D) (s : Core D) (is : IsStudio disk s) (id 
           let room = room_of disk s scan is in
           let passed = quiet_passes t scan scan_quiet room (ap stop_of going) (tests_are ∙ good)
           (fits s.next_pin 0 (omega (arith, is.counters.pin_most))) in
-          looked_ok disk s is store kept scan scan_quiet going (reply.Columns found) faults
+          looked_ok disk s is store kept scan scan_quiet tt going (reply.Columns found) faults
           (λ held. carried t scan scan_quiet room (reply.Columns found) t passed
           (ap reply.Columns (seen held ∙ ap (columns_of from to columns) (cells_are layout has))) refl)
 
@@ -176,11 +176,11 @@ module _ {D : Type 0} (disk : Ghosts D) (s : Core D) (is : IsStudio disk s) (id 
           → (IsTrue (disk.tells s.store) → IsDamagedIn (disk.reads s.store) (named_blocks s) why)
           → Took disk s (quietly scan (Err why)) (record s { store = store })
       of_reads refusal.NoMemory reads counted damaged =
-          looked_wanting disk s is store kept scan scan_quiet going counted
+          looked_wanting disk s is store kept scan scan_quiet tt going counted
       of_reads refusal.DiskFault reads counted damaged =
-          looked_failed disk s is store kept scan scan_quiet going refl fault.DiskFault counted damaged
+          looked_failed disk s is store kept scan scan_quiet tt going refl fault.DiskFault counted damaged
       of_reads (refusal.Damaged file at want have) reads counted damaged =
-          looked_failed disk s is store kept scan scan_quiet going refl
+          looked_failed disk s is store kept scan scan_quiet tt going refl
           (fault.Damaged file (record { at = at; want = want; have = have })) counted damaged
       of_reads why reads counted damaged = absurd reads
 
@@ -193,7 +193,7 @@ module _ {D : Type 0} (disk : Ghosts D) (s : Core D) (is : IsStudio disk s) (id 
           let len = end_of 0 layout in
           let faults = by_test (not (nat_lt from to && nat_le to len)) (columns == 0 || nat_lt 4096 columns || nat_lt
           (to - from) columns) why (disk.read_fault_count s.store) (disk.read_fault_count store) test counted in
-          looked_own disk s is store kept scan scan_quiet going why
+          looked_own disk s is store kept scan scan_quiet tt going why
           (plain_by (call_tests (outside t silent) t.state scan) why (own (outside t silent) t.state scan)
           (tests_are ∙ test)) faults (λ held. own_first t scan 0 0 why (ap stop_of going) (tests_are ∙ test))
       scan_failed why (inr read) counted damaged =

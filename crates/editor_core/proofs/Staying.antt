@@ -1,5 +1,7 @@
 -- A call that is refused before the disk is asked, and what a record asks of it.
-use Rattle.std.proofs.Common.{◌≡◌, inl, inr, refl, sym, ℕ, List, [], Option, Some, None, IsSome, Err, arith}
+use Rattle.std.proofs.Common.{◌≡◌, inl, inr, refl, sym, ap, ◌∙◌, ℕ, ◌+◌, List, [], Option, Some, None, IsSome, Err, arith}
+use Rattle.std.proofs.Common.{if◌then◌else◌, ◌==◌}
+use Rattle.std.proofs.lemmas.Bool.{true≢false}
 use Rattle.std.proofs.lemmas.Option.{none-some}
 use Rattle.std.specs.List.{AllByRecursion}
 use Rattle.pcm_base.specs.declared.block.BlockRef.{BlockRef}
@@ -7,22 +9,24 @@ use Rattle.pcm_base.specs.declared.command.Call.{Call}
 use Rattle.pcm_base.specs.declared.entry.SoundMove.{SoundMove}
 use Rattle.pcm_base.specs.declared.refusal.Refusal.{Refusal}
 use Rattle.pcm_base.specs.declared.refusal.Refusal.TheVariants as refusal
-use Rattle.pcm_base.specs.Counters.{Needs}
+use Rattle.pcm_base.specs.Counters.{Needs, commits_of, places_of}
 use Rattle.pcm_base.specs.Run.{Answers, outside, refusal_of}
 use Rattle.disk_model.specs.Room.{IsWithin}
 use Rattle.disk_model.specs.declared.store.Store.{Ghosts}
-use Rattle.disk_model.proofs.Frames.{Fewer, changed_none}
+use Rattle.disk_model.proofs.Frames.{Fewer, changed_none, kept_none}
 use Rattle.sample_block.specs.Sources.{AllWhole}
 use Rattle.project_journal.specs.Gate.{EachNow}
-use Rattle.editor_core.specs.Adding.{record_room}
+use Rattle.project_journal.specs.Rooms.{append_room}
 use Rattle.editor_core.specs.Core.{Core}
 use Rattle.editor_core.specs.Left.{MayRemove}
+use Rattle.editor_core.specs.Removals.{Frees}
 use Rattle.editor_core.specs.Studios.{IsGiven, IsHeld, IsStudio, SameBlocks, studio_of}
-use Rattle.editor_core.specs.Took.{Took, asks, with_sound}
+use Rattle.editor_core.specs.Took.{Exchange, Took, asks, with_sound}
 use Rattle.editor_core.proofs.Images.{keeps_now}
-use Rattle.editor_core.proofs.Leaving.{IsPlain, left_plain}
+use Rattle.editor_core.proofs.Leaving.{IsPlain, left_plain, plain_not}
 use Rattle.editor_core.proofs.Others.{others_none}
 use Rattle.editor_core.proofs.PlainTests.{plain_refusal}
+use Rattle.editor_core.proofs.Removing.{RemovesNone, frees_none, ids_same}
 
 pub some_none : {A : Type 0} (x : A) → Some x ≡ None → ⊥
 some_none x e = none-some x (sym e)
@@ -31,9 +35,13 @@ pub stopped_not : (o : Option ℕ) → IsSome o → o ≡ None → ⊥
 stopped_not None some none = cc
 stopped_not (Some n) some none = some_none n none
 
--- a record asks no more than a call may
-pub record_within : (m blocks len removed : ℕ) → IsWithin (record_room len) (asks m blocks len removed)
-record_within m blocks len removed = record { files = omega arith; bytes = omega arith; calls = omega arith }
+-- a record asks no more than a commit may
+pub record_within : (exchange : Exchange) (journal : Option (List ℕ)) (m blocks len : ℕ)
+    → commits_of exchange.call ≡ 1
+    → IsWithin (append_room journal len) (asks exchange journal m blocks len)
+record_within exchange journal m blocks len one =
+    let places : places_of exchange.call len ≡ 6 + len = ap (λ (k : ℕ). if k == 0 then 0 else 6 + len) one in
+    record { files = omega arith; bytes = omega (arith, places); calls = omega arith }
 
 -- Blocks that were made for a commit: where `Has`, each is on the disk, in each image.
 pub record HasMade {D : Type 0} (Has : Type 0) (disk : Ghosts D) (s : Core D) (made : List BlockRef) : Type 0 where
@@ -50,7 +58,8 @@ MayNeed disk s call sound len =
     IsHeld disk s → (blocks : ℕ) × Needs (outside (studio_of disk s) sound) (studio_of disk s) call blocks len
 
 module _ {D : Type 0} (disk : Ghosts D) (s : Core D) (call : Call) (sound : SoundMove) (why : Refusal)
-    (is : IsStudio disk s) (fewer : Fewer disk s.store) (quiet : sound.after ≡ sound.before) (len : ℕ) where
+    (is : IsStudio disk s) (fewer : Fewer disk s.store) (frees : Frees disk s call (Err why) [] s)
+    (quiet : sound.after ≡ sound.before) (len : ℕ) where
   -- a refusal that asked nothing of the disk
   pub stays : IsPlain why → MayNeed disk s call sound len
       → (IsHeld disk s → Answers (studio_of disk s) call sound (Err why) (studio_of disk s))
@@ -66,9 +75,13 @@ module _ {D : Type 0} (disk : Ghosts D) (s : Core D) (call : Call) (sound : Soun
     rests = λ some. refl;
     len = len;
     needs = needs;
+    records = λ off. absurd (true≢false (sym off ∙ plain_not why plain));
     changed = changed_none s.store (others_none s.next_block s.next_block (MayRemove call s.counts)) fewer;
+    frees = frees;
+    ids = ids_same s s refl refl;
+    untouched = λ device. kept_none s.store fewer;
     stops = inl (refl, refl);
-    left = left_plain disk s (MayRemove call s.counts) s.store why plain;
+    left = left_plain disk s s.store why plain;
   }
 
   -- by a test
@@ -90,8 +103,9 @@ module _ {D : Type 0} (disk : Ghosts D) (s : Core D) (call : Call) (sound : Soun
 
 -- for want of memory
 pub wants : {D : Type 0} (disk : Ghosts D) (s : Core D) (call : Call) (sound : SoundMove) → IsStudio disk s
-    → Fewer disk s.store → sound.after ≡ sound.before → (len : ℕ) → MayNeed disk s call sound len
+    → Fewer disk s.store → RemovesNone call → sound.after ≡ sound.before → (len : ℕ) → MayNeed disk s call sound len
     → Took disk s (with_sound call sound (Err refusal.NoMemory)) s
-wants disk s call sound is fewer quiet len needs =
-    stays disk s call sound refusal.NoMemory is fewer quiet len tt needs
+wants disk s call sound is fewer none quiet len needs =
+    stays disk s call sound refusal.NoMemory is fewer (frees_none disk s call (Err refusal.NoMemory) s none) quiet len
+    tt needs
     (λ held. inr (record { same = refl; quiet = quiet }))

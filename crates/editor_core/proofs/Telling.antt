@@ -43,10 +43,10 @@ module _ {D : Type 0} (disk : Ghosts D) (s : Core D) (is : IsStudio disk s) (few
 
   pub tell_stopped : (faults : ℕ) → s.stopped ≡ Some faults → Took disk s (quietly tell (Err (refusal.Stopped faults)))
       s
-  tell_stopped faults stopped = refused_stopped disk s tell tell_quiet is fewer faults refl stopped
+  tell_stopped faults stopped = refused_stopped disk s tell tell_quiet tt is fewer faults refl stopped
 
   pub tell_wanting : Took disk s (quietly tell (Err refusal.NoMemory)) s
-  tell_wanting = refused_wanting disk s tell tell_quiet is fewer
+  tell_wanting = refused_wanting disk s tell tell_quiet tt is fewer
 
   pub told_of : (lines : List TrackLine)
       → s.stopped ≡ None → ((src : Sources) → lines ≡ map line_of_track (meant src (current_tracks s.history)))
@@ -56,6 +56,6 @@ module _ {D : Type 0} (disk : Ghosts D) (s : Core D) (is : IsStudio disk s) (few
       let room = room_of disk s tell is in
       let passed = quiet_passes t tell tell_quiet room (ap stop_of going) refl
       (fits s.next_pin 0 (omega (arith, is.counters.pin_most))) in
-      stays_answered disk s tell tell_quiet is fewer (reply.Tracks lines)
+      stays_answered disk s tell tell_quiet tt is fewer (reply.Tracks lines)
       (λ _. carried t tell tell_quiet room (reply.Tracks lines) t passed
       (ap reply.Tracks (all src ∙ ap (λ (p : Project). map line_of_track p) (sym (current_meant disk s is)))) refl)

@@ -38,6 +38,7 @@ use Rattle.editor_core.specs.TrackEdits.{IsTrackCall, IsTrackPlan, NoTrackPlan, 
 use Rattle.editor_core.proofs.Currents.{cells_meant}
 use Rattle.editor_core.proofs.Editing.{current_sound}
 use Rattle.editor_core.proofs.Spaces.{early}
+use Rattle.editor_core.proofs.Removing.{commit_frees, commit_removes_none}
 use Rattle.editor_core.proofs.Staying.{refuses, wants}
 use Rattle.editor_core.proofs.TrackPlans.{point_means}
 use Rattle.editor_core.proofs.Tracks.{current_is, lacks_is, sound_of}
@@ -98,7 +99,8 @@ module _ {D : Type 0} (disk : Ghosts D) (s : Core D) (is : IsStudio disk s) (c :
       let own = own_is (samples_on (disk.reads s.store)) in
       let first : ((stop_of s.stopped) otherwise (call_tests (outside t sound) t.state c)) ≡ Some why =
       (λ i. (stop_of s.stopped) otherwise (own i)) ∙ h in
-      refuses disk s c sound why is fewer line.call.commit.quiet 0 0
+      refuses disk s c sound why is fewer (commit_frees disk s c (Err why) s line.call.commit.one)
+      line.call.commit.quiet 0 0
       (λ held. line.call.needs t.rate t 0 0 (omega arith, omega arith))
       (early t c sound 0 line.call.commit 0 0 why first)
 
@@ -113,7 +115,7 @@ module _ {D : Type 0} (disk : Ghosts D) (s : Core D) (is : IsStudio disk s) (c :
       (λ own. early_refused why fewer ((λ i. (stop_of (going i)) otherwise (track_refusal id e.test found)) ∙ own))
       (λ memory.
       subst (λ (r : Refusal). Took disk s (with_sound c sound (Err r)) s) (sym memory)
-      (wants disk s c sound is fewer line.call.commit.quiet 0
+      (wants disk s c sound is fewer (commit_removes_none c line.call.commit.one) line.call.commit.quiet 0
       (λ held. (0, line.call.needs t.rate t 0 0 (omega arith, omega arith)))))
       not
 

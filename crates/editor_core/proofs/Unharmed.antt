@@ -1,5 +1,4 @@
 -- No file is told to be damaged, where the disk held the studio.
-use Rattle.std.proofs.Common.{ℕ}
 use Rattle.pcm_base.specs.declared.refusal.Refusal.{Refusal}
 use Rattle.pcm_base.specs.declared.refusal.Refusal.TheVariants as refusal
 use Rattle.disk_model.specs.declared.store.Store.{Ghosts}
@@ -10,9 +9,9 @@ use Rattle.editor_core.specs.Left.{Left}
 use Rattle.editor_core.specs.Studios.{IsHeld, named_blocks}
 
 -- what is told of the disk is so, and each block that the studio names is whole
-pub held_undamaged : {D : Type 0} (disk : Ghosts D) (old new : Core D) (MayGo : ℕ → Type 0) (why : Refusal)
-    → IsHeld disk old → Left disk old MayGo new why → IsUndamaged why
-held_undamaged disk old new MayGo (refusal.Damaged file at want have) held left =
+pub held_undamaged : {D : Type 0} (disk : Ghosts D) (old new : Core D) (why : Refusal)
+    → IsHeld disk old → Left disk old new why → IsUndamaged why
+held_undamaged disk old new (refusal.Damaged file at want have) held left =
     whole_undamaged (disk.reads old.store) (named_blocks old) (refusal.Damaged file at want have) held.whole
     (left.so held.tells)
-held_undamaged disk old new MayGo why held left = tt
+held_undamaged disk old new why held left = tt

@@ -181,7 +181,7 @@ module _ {D : Type 0} (disk : Ghosts D) (s : Core D) (is : IsStudio disk s) (num
           let pin_room = fits s.next_pin 0 (omega (arith, is.counters.pin_most)) in
           let passed = quiet_passes t (Unpin number) unpin_quiet (room_of disk s (Unpin number) is) refl
           (has_own pin.point held_there) pin_room in
-          renamed_took disk s is s.clipboard pins s.next_pin counts unpin_renames (Unpin number) unpin_quiet Done fewer
+          renamed_took disk s is s.clipboard pins s.next_pin counts unpin_renames (Unpin number) unpin_quiet tt Done fewer
           (λ some. refl)
           (λ _. carried t (Unpin number) unpin_quiet (room_of disk s (Unpin number) is) Done
           (studio_of disk new) passed refl unpin_state)
@@ -189,4 +189,4 @@ module _ {D : Type 0} (disk : Ghosts D) (s : Core D) (is : IsStudio disk s) (num
   pub unpin_lacks : Fewer disk s.store → LacksPin number s.pins
       → Took disk s (quietly (Unpin number) (Err (refusal.NoPin number))) s
   unpin_lacks fewer lacks =
-      refused_own disk s (Unpin number) unpin_quiet is fewer (refusal.NoPin number) refl (lacks_own lacks)
+      refused_own disk s (Unpin number) unpin_quiet tt is fewer (refusal.NoPin number) refl (lacks_own lacks)

@@ -19,6 +19,7 @@ use Rattle.editor_core.specs.Edits.{IsEdit, IsPlanned, NotPrepared, TaggedEdit}
 use Rattle.editor_core.specs.Studios.{IsStudio, studio_of}
 use Rattle.editor_core.specs.Took.{Took, with_sound}
 use Rattle.editor_core.proofs.EditLaws.{edit_needs, edit_own}
+use Rattle.editor_core.proofs.Removing.{commit_frees, commit_removes_none}
 use Rattle.editor_core.proofs.Spaces.{counter_spent, exceeded}
 use Rattle.editor_core.proofs.Staying.{refuses, wants}
 
@@ -63,9 +64,11 @@ module _ {D : Type 0} (disk : Ghosts D) (s : Core D) (is : IsStudio disk s) (goi
       let commit = edit.call.commit in
       let own = edit_own disk s is going e plan c sound edit in
       let test =
-      refuses disk s c sound why is (fewer s.store) commit.quiet (length body) n (λ held. need n (omega arith)) in
+      refuses disk s c sound why is (fewer s.store) (commit_frees disk s c (Err why) s commit.one) commit.quiet
+      (length body) n (λ held. need n (omega arith)) in
       let memory : Took disk s (with_sound c sound (Err refusal.NoMemory)) s =
-      wants disk s c sound is (fewer s.store) commit.quiet (length body) (λ held. (0, need 0 (omega arith))) in
+      wants disk s c sound is (fewer s.store) (commit_removes_none c commit.one) commit.quiet (length body)
+      (λ held. (0, need 0 (omega arith))) in
       subst (λ (z : Core D). Took disk s (with_sound c sound (Err why)) z) (sym same)
       (⊎_elim
       (λ want. subst (λ (e : Refusal). Took disk s (with_sound c sound (Err e)) s) (sym want) memory)

@@ -11,11 +11,11 @@ use Rattle.pcm_base.specs.declared.refusal.Refusal.{Refusal}
 use Rattle.pcm_base.specs.declared.refusal.Refusal.TheVariants as refusal
 use Rattle.disk_model.specs.Disk.{SameElsewhere}
 use Rattle.disk_model.specs.Frames.{Changed}
-use Rattle.disk_model.specs.Room.{Room}
 use Rattle.disk_model.specs.declared.store.Store.{Ghosts}
 use Rattle.project_journal.specs.Gate.{EachSince}
 use Rattle.project_journal.specs.Header.{version_1}
 use Rattle.project_journal.specs.Journal.{Log, IsAt, HasOneOf, with_body}
+use Rattle.project_journal.specs.Rooms.{append_room}
 use Rattle.project_journal.specs.declared.fault.JournalFault.{JournalFault}
 use Rattle.project_journal.specs.declared.fault.JournalFault.TheVariants as journal
 use Rattle.editor_core.specs.Core.{Core}
@@ -83,10 +83,6 @@ Settles disk old (Err (journal.SpaceSpent have need)) result new = (result ≡ E
     × (new ≡ old)
 Settles disk old (Err fault) result new = (result ≡ Err refusal.NoMemory) × (new ≡ old)
 
--- what a record with a body of so many bytes asks of the disk
-abbrev pub record_room : ℕ → Room
-record_room len = record { files = 1; bytes = 6 + len; calls = 4 }
-
 -- a record added to the journal, or not
 pub record Adds {D R : Type 0} (disk : Ghosts D) (old : Core D) (body : List ℕ) (result : Result R Refusal)
     (new : Core D) : Type 0 where
@@ -95,5 +91,5 @@ pub record Adds {D R : Type 0} (disk : Ghosts D) (old : Core D) (body : List ℕ
       → EachSince disk old.store new.store (HasOneOf version_1 log (with_body log body))
   pub done : (log : Log) → IsTrue (disk.tells old.store) → IsAt version_1 disk old.store old.journal_end log
       → OnOk result (IsAt version_1 disk new.store new.journal_end (with_body log body))
-  pub changed : Changed disk (SameElsewhere 0) (record_room (length body)) old.store new.store
+  pub changed : Changed disk (SameElsewhere 0) (append_room (disk.reads old.store 0) (length body)) old.store new.store
   pub read_faults : disk.read_fault_count new.store ≡ disk.read_fault_count old.store

@@ -12,7 +12,9 @@ use Rattle.disk_model.specs.Frames.{Changed}
 use Rattle.disk_model.specs.declared.store.Store.{Ghosts}
 use Rattle.editor_core.specs.Core.{Core}
 use Rattle.editor_core.specs.Exports.{moved_from}
-use Rattle.editor_core.specs.Left.{Left, LeavesOthers, MayRemove, Stops}
+use Rattle.editor_core.specs.Left.{CountsIds, Left, LeavesOthers, MayRemove, Stops, Untouched}
+use Rattle.editor_core.specs.Records.{Records}
+use Rattle.editor_core.specs.Removals.{Frees}
 use Rattle.editor_core.specs.Studios.{IsStudio}
 use Rattle.editor_core.specs.Took.{Exchange, Took, asks, exchange_of, number_behind, silent}
 
@@ -27,16 +29,20 @@ IsTold call tells = IsSome (name_in call) → IsTrue tells
 
 -- What holds of a call whatever disk and vault tell, and whatever becomes of a sound that it names: the studio is one
 -- still, its commit number is that behind the answer, one that had stopped does nothing but give a pin back, no other
--- file changes, and a refusal leaves what was there.
+-- file changes, no file goes but those that the call frees, and a refusal leaves what was there.
 pub record Lasts {D : Type 0} (disk : Ghosts D) (old : Core D) (exchange : Exchange) (new : Core D) : Type 0 where
   pub studio : IsStudio disk new
   pub number : new.commit_number ≡ number_behind exchange.told exchange.call old.commit_number
   pub rests : IsSome old.stopped → new ≡ record old { pins = new.pins; counts = new.counts }
   pub len : ℕ
+  pub records : Records exchange.told new len
   pub changed : Changed disk (LeavesOthers old.next_block new.next_block (MayRemove exchange.call old.counts))
-      (asks old.block_size (new.next_block - old.next_block) len exchange.removed) old.store new.store
+      (asks exchange (disk.reads old.store 0) old.block_size (new.next_block - old.next_block) len) old.store new.store
+  pub frees : Frees disk old exchange.call exchange.told exchange.removed new
+  pub ids : CountsIds old exchange.removed new
+  pub untouched : Untouched disk old exchange.told new
   pub stops : Stops disk old exchange.told new
-  pub left : IfErr exchange.told (Left disk old (MayRemove exchange.call old.counts) new)
+  pub left : IfErr exchange.told (Left disk old new)
 
 -- The span of a call, or of many: the studio before it and after it, whether a vault tells its bytes, and the vault's
 -- sounds before it and after it.
@@ -47,19 +53,24 @@ pub record Span (D : Type 0) : Type 0 where
   pub old_sounds : Sounds
   pub new_sounds : Sounds
 
+-- a span by its parts
+abbrev pub spanned : {D : Type 0} → Bool → Core D → Core D → Sounds → Sounds → Span D
+spanned tells old new old_sounds new_sounds =
+    record { old = old; new = new; tells = tells; old_sounds = old_sounds; new_sounds = new_sounds }
+
 -- what becomes of the sound that a call names, in its span
 abbrev pub sound_moved : {D : Type 0} → Span D → Option (List ℕ) → SoundMove
 sound_moved span name = move_of name span.old_sounds span.new_sounds
 
 -- a call in its span, and what comes of it
-abbrev pub exchange_over : {D : Type 0} → Span D → Call → Result Reply Refusal → ℕ → Exchange
+abbrev pub exchange_over : {D : Type 0} → Span D → Call → Result Reply Refusal → List ℕ → Exchange
 exchange_over span call told removed = exchange_of call (sound_moved span (name_in call)) told removed
 
 -- One call, over a vault: where the vault tells its bytes it is a step, of which the vault's move is a part.
 pub record TookOver {D : Type 0} (disk : Ghosts D) (span : Span D) (call : Call) (told : Result Reply Refusal)
     : Type 0 where
-  -- how many files of blocks went
-  pub removed : ℕ
+  -- the ids of the blocks whose files went
+  pub removed : List ℕ
   pub took : IsTold call span.tells → Took disk span.old (exchange_over span call told removed) span.new
   pub heard : IsTold call span.tells
       → Heard (name_in call) (sound_moved span (name_in call)) span.old_sounds span.new_sounds

@@ -1,7 +1,7 @@
 -- The mix written to a vault.
 use Rattle.std.specs.Prelude.{◌≡◌, ℕ, Option, Some, List, Result, MatchResult}
 use Rattle.pcm_base.specs.declared.entry.SoundMove.{SoundMove}
-use Rattle.sound_export.specs.Written.{MayBegin}
+use Rattle.wav_pcm.specs.Written.{MayBegin}
 
 -- a sound as a vault has it before a call and after it
 abbrev pub moved_from : Option (List ℕ) → Option (List ℕ) → SoundMove

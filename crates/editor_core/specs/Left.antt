@@ -1,16 +1,19 @@
 -- What a call leaves of all that it is not about, on every store: of other files, and of the studio that refused it.
-use Rattle.std.specs.Prelude.{◌≡◌, ◌↔◌, ◌⊎◌, ℕ, ◌^◌, ◌≤◌, ◌<◌, IsTrue, IsSome, Some, None, Result, Err}
+use Rattle.std.specs.Prelude.{◌≡◌, ◌↔◌, ◌⊎◌, ℕ, ◌^◌, ◌≤◌, ◌<◌, IsTrue, IsSome, Some, None, Result, Err, IfErr, false}
+use Rattle.std.specs.Prelude.{List, Contains}
 use Rattle.pcm_base.specs.declared.command.Call.{Call}
 use Rattle.pcm_base.specs.declared.command.Call.TheVariants.{Line}
 use Rattle.pcm_base.specs.declared.command.Command.TheVariants.{Reclaim}
 use Rattle.pcm_base.specs.declared.refusal.Refusal.{Refusal}
 use Rattle.pcm_base.specs.declared.refusal.Refusal.TheVariants as refusal
-use Rattle.disk_model.specs.Disk.{Files, Follows}
+use Rattle.disk_model.specs.Disk.{Files}
+use Rattle.disk_model.specs.Frames.{Kept}
 use Rattle.disk_model.specs.declared.store.Store.{Ghosts}
 use Rattle.block_ledger.specs.Counts.{Counts}
 use Rattle.envelope_view.specs.Answers.{IsDamagedIn}
 use Rattle.editor_core.specs.Adding.{HasFailed, stopped_by}
 use Rattle.editor_core.specs.Core.{Core}
+use Rattle.editor_core.specs.Exchanges.{is_broken_off}
 use Rattle.editor_core.specs.Makes.{HasMissed}
 use Rattle.editor_core.specs.Studios.{named_blocks}
 
@@ -37,12 +40,6 @@ pub record LeavesOthers (first last : ℕ) (MayGo : ℕ → Type 0) (old new : F
 pub record LeavesForeign (old new : Files) : Type 0 where
   pub foreign : (file : ℕ) → (file ≡ 0 → ⊥) → ((16 ≤ file) × (file < 2 ^ 62) → ⊥) → new file ≡ old file
 
--- the same of what is read, and of each image
-pub record KeepsForeign {D : Type 0} (disk : Ghosts D) (old new : D) : Type 0 where
-  pub tells : disk.tells new ≡ disk.tells old
-  pub reads : IsTrue (disk.tells old) → LeavesForeign (disk.reads old) (disk.reads new)
-  pub images : Follows LeavesForeign (disk.clock old) (disk.clock new) (disk.may_leave old) (disk.may_leave new)
-
 -- ---- the studio
 
 -- It stops where a change of the disk failed, which is told, and nowhere else.
@@ -60,16 +57,24 @@ IsSoOf disk old new (refusal.Damaged file at want have) = IsTrue (disk.tells old
     → IsDamagedIn (disk.reads old.store) (named_blocks old) (refusal.Damaged file at want have)
 IsSoOf disk old new why = Unit {0}
 
+-- The ids that are counted after a call: those that were, and those of the blocks that were made, but for those whose
+-- files were removed.
+abbrev pub CountsIds : {D : Type 0} → Core D → List ℕ → Core D → Type 0
+CountsIds old removed new =
+    (id : ℕ) → IsSome (new.counts id)
+    ↔ ((IsSome (old.counts id) ⊎ ((old.next_block ≤ id) × (id < new.next_block))) × (Contains removed id → ⊥))
+
+-- A refusal that does not come of the disk leaves the disk as it was.
+abbrev pub Untouched : {D R : Type 0} → Ghosts D → Core D → Result R Refusal → Core D → Type 0
+Untouched disk old told new = IfErr told (λ why. is_broken_off why ≡ false → Kept disk old.store new.store)
+
 -- A refusal leaves all as it was but for the disk, that the studio may have stopped, and the ids of blocks that nothing
--- names: those that were made are counted, and those whose files went are not.
-pub record Left {D : Type 0} (disk : Ghosts D) (old : Core D) (MayGo : ℕ → Type 0) (new : Core D)
-    (why : Refusal) : Type 0 where
+-- names.
+pub record Left {D : Type 0} (disk : Ghosts D) (old new : Core D) (why : Refusal) : Type 0 where
   pub same : new ≡ record old {
     store = new.store;
     counts = new.counts;
     next_block = new.next_block;
     stopped = new.stopped;
   }
-  pub ids : (id : ℕ) → (MayGo id → ⊥)
-      → IsSome (new.counts id) ↔ (IsSome (old.counts id) ⊎ ((old.next_block ≤ id) × (id < new.next_block)))
   pub so : IsSoOf disk old new why

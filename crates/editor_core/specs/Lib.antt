@@ -13,6 +13,9 @@ pub mod Parts
 pub mod Points
 pub mod Plain
 pub mod Occurrences
+pub mod Exchanges
+pub mod Removals
+pub mod Records
 pub mod Took
 pub mod Frees
 pub mod Pins

@@ -120,6 +120,7 @@ pub record AreCounters (next_block next_track next_pin commit end : ℕ) : Type 
   pub pin_least : 1 ≤ next_pin
   pub pin_most : next_pin ≤ 2 ^ 62
   pub commit_most : commit ≤ 2 ^ 62
+  pub end_least : 32 ≤ end
   pub end_most : end ≤ 2 ^ 62
 
 -- The records of the disk's journal lead to the studio's history, next track and commit number; a stop leaves each

@@ -1,53 +1,26 @@
 -- What one call of a studio does.
-use Rattle.std.specs.Prelude.{◌≡◌, ◌⊎◌, ℕ, ◌+◌, ◌-◌, ◌*◌, None, IsSome, Result, Ok, Err, IfErr, OnErr}
+use Rattle.std.specs.Prelude.{◌≡◌, ◌⊎◌, ℕ, ◌+◌, ◌-◌, ◌*◌, Option, None, IsSome, Result, Ok, Err, IfErr, OnErr, List, length}
 use Rattle.pcm_base.specs.declared.answer.Reply.{Reply}
 use Rattle.pcm_base.specs.declared.command.Call.{Call}
 use Rattle.pcm_base.specs.declared.entry.SoundMove.{SoundMove}
 use Rattle.pcm_base.specs.declared.refusal.Refusal.{Refusal}
-use Rattle.pcm_base.specs.Counters.{Needs, commits_of}
+use Rattle.pcm_base.specs.Counters.{Needs, commits_of, places_of}
 use Rattle.pcm_base.specs.Run.{outside, Answers, CarriesOut}
 use Rattle.pcm_base.specs.Studio as model
 use Rattle.disk_model.specs.Disk.{Files}
 use Rattle.disk_model.specs.Frames.{Changed}
-use Rattle.disk_model.specs.Room.{Room}
+use Rattle.disk_model.specs.Room.{Room, files_made}
 use Rattle.disk_model.specs.declared.store.Store.{Ghosts}
 use Rattle.sample_block.specs.Spelling.{size_of}
 use Rattle.project_journal.specs.Gate.{EachNow, EachSince}
 use Rattle.project_state.specs.Kept.{Keeps}
 use Rattle.editor_core.specs.Core.{Core}
-use Rattle.editor_core.specs.Left.{LeavesOthers, Left, MayRemove, Stops}
+pub use Rattle.editor_core.specs.Exchanges.{Exchange, exchange_of, freeing, quietly, silent, told_by, with_sound}
+use Rattle.editor_core.specs.Exchanges.{begun_in_vain}
+use Rattle.editor_core.specs.Left.{CountsIds, LeavesOthers, Left, MayRemove, Stops, Untouched}
+use Rattle.editor_core.specs.Records.{Records}
+use Rattle.editor_core.specs.Removals.{Frees}
 use Rattle.editor_core.specs.Studios.{IsHeld, IsStudio, shown, studio_of}
-
--- no sound was named
-abbrev pub silent : SoundMove
-silent = record { before = None; after = None }
-
--- an answer as a reply
-abbrev pub told_by : {A : Type 0} → (A → Reply) → Result A Refusal → Result Reply Refusal
-told_by f (Ok x) = Ok (f x)
-told_by f (Err why) = Err why
-
--- A call, and what comes of it: what becomes of the sound that it names, what is told, and how many files are removed.
-pub record Exchange : Type 0 where
-  pub call : Call
-  pub sound : SoundMove
-  pub told : Result Reply Refusal
-  pub removed : ℕ
-
-abbrev pub exchange_of : Call → SoundMove → Result Reply Refusal → ℕ → Exchange
-exchange_of call sound told removed = record { call = call; sound = sound; told = told; removed = removed }
-
--- that of a call without a sound, with no file removed
-abbrev pub quietly : Call → Result Reply Refusal → Exchange
-quietly call told = exchange_of call silent told 0
-
--- of a call that may name a sound, which moves so
-abbrev pub with_sound : Call → SoundMove → Result Reply Refusal → Exchange
-with_sound call sound told = exchange_of call sound told 0
-
--- and of one without a sound that may remove files
-abbrev pub freeing : Call → Result Reply Refusal → ℕ → Exchange
-freeing call told removed = exchange_of call silent told removed
 
 -- the files keep the studio that the call leads to where nothing refuses it, which is so
 pub record InFlight (t : model.Studio) (call : Call) (sound : SoundMove) (files : Files) : Type 0 where
@@ -64,13 +37,13 @@ abbrev pub number_behind : {R : Type 0} → Result R Refusal → Call → ℕ �
 number_behind (Ok r) call n = n + commits_of call
 number_behind (Err why) call n = n
 
--- what a call asks of the disk that makes so many blocks, a record with a body of this length, and removes so many
--- files: the next block may be begun besides, in vain
-abbrev pub asks : (m blocks len removed : ℕ) → Room
-asks m blocks len removed = record {
-  files = 1 + blocks;
-  bytes = 6 + len + (1 + blocks) * size_of m;
-  calls = 16 + 2 * blocks + 2 * removed;
+-- What a call asks of the disk that makes this many blocks, and a record with a body of this length where it is a
+-- commit: the file of the journal is made where it is absent, and the next block may be begun in vain.
+abbrev pub asks : Exchange → Option (List ℕ) → (m blocks len : ℕ) → Room
+asks exchange journal m blocks len = record {
+  files = files_made journal + (blocks + begun_in_vain exchange.told);
+  bytes = places_of exchange.call len + (blocks + begun_in_vain exchange.told) * size_of m;
+  calls = 16 + 2 * blocks + 2 * length exchange.removed;
 }
 
 -- One call: a step of the model, the images at each moment, and what is asked of the disk.
@@ -97,9 +70,14 @@ pub record Took {D : Type 0} (disk : Ghosts D) (old : Core D) (exchange : Exchan
   pub len : ℕ
   pub needs : IsHeld disk old → (blocks : ℕ)
       × Needs (outside (studio_of disk old) exchange.sound) (studio_of disk old) exchange.call blocks len
+  pub records : Records exchange.told new len
   -- no file goes or comes but the journal and those of blocks, here and in each image
   pub changed : Changed disk (LeavesOthers old.next_block new.next_block (MayRemove exchange.call old.counts))
-      (asks old.block_size (new.next_block - old.next_block) len exchange.removed) old.store new.store
-  -- and what is left of the studio, whatever the disk tells
+      (asks exchange (disk.reads old.store 0) old.block_size (new.next_block - old.next_block) len) old.store new.store
+  -- which files of blocks are removed, and which ids are counted then
+  pub frees : Frees disk old exchange.call exchange.told exchange.removed new
+  pub ids : CountsIds old exchange.removed new
+  -- and what is left of the disk and of the studio, whatever the disk tells
+  pub untouched : Untouched disk old exchange.told new
   pub stops : Stops disk old exchange.told new
-  pub left : IfErr exchange.told (Left disk old (MayRemove exchange.call old.counts) new)
+  pub left : IfErr exchange.told (Left disk old new)

@@ -1,5 +1,5 @@
 // A line of the script, carried out by the call that is its own.
-ghost use Rattle.std.specs.Prelude.{◌≡◌, ℕ, IsSome, None};
+ghost use Rattle.std.specs.Prelude.{◌≡◌, ℕ, List, IsSome, None};
 ghost use Rattle.pcm_base.specs.declared.answer.Reply.TheVariants as reply;
 ghost use Rattle.pcm_base.specs.declared.command.Call.TheVariants.{Line};
 ghost use Rattle.pcm_base.specs.declared.command.Command.TheVariants as command;
@@ -137,7 +137,7 @@ impl<S: Store> Studio<S> {
         requires studio { IsStudio S.Store (core_of self.old) }
         requires in_form { IsInForm command.now }
         requires silent { name_in_line command.now ≡ None }
-        ensures { (removed : ℕ) × Took S.Store (core_of self.old) (freeing (Line command.now) result removed)
+        ensures { (removed : List ℕ) × Took S.Store (core_of self.old) (freeing (Line command.now) result removed)
             (core_of self.new) }
     {
         match command {

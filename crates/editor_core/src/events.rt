@@ -1,5 +1,6 @@
 // A list of events, carried out one after another.
 ghost use Rattle.std.specs.Prelude.{◌≡◌, ◌-◌, ◌++◌, min, OnErr, OnOk, List, Result};
+ghost use Rattle.pcm_base.specs.declared.answer.Answer.{Answer};
 ghost use Rattle.pcm_base.specs.declared.answer.Reply.{Reply};
 ghost use Rattle.pcm_base.specs.declared.answer.Reply.TheVariants as reply;
 ghost use Rattle.pcm_base.specs.declared.command.Call.TheVariants as call;
@@ -15,7 +16,7 @@ use super::apply::done;
 use super::studio::Studio;
 use disk_model::Store;
 use edit_ports::Vault;
-use pcm_base::{Call, Event, Frame, Frames, NoMemory, Refusal, Reply};
+use pcm_base::{Answer, Call, Event, Frame, Frames, NoMemory, Refusal, Reply};
 use std::alloc::Global;
 
 // A reason as a reply.
@@ -66,25 +67,25 @@ fn frames_left(len: u64, from: u64, most: u64) -> usize
 }
 
 impl<S: Store> Studio<S> {
-    /// Carries out a list of events of any actors, in order, and puts a reply to each behind the replies. Whatever an
-    /// event is replied, the next one follows.
+    /// Carries out a list of events of any actors, in order, and appends an answer to each to the answers: the commit
+    /// number after it, and its reply. Whatever an event is answered, the next one follows.
     ///
-    /// It takes the room for the replies first, and then what each event's own call takes. Where there is no room for
-    /// the replies nothing is carried out, and the replies are as they were.
+    /// It takes the room for the answers first, and then what each event's own call takes. Where there is no room for
+    /// the answers nothing is carried out, and the answers are as they were.
     ///
     /// # Errors
     ///
-    /// There is no memory for the replies.
+    /// There is no memory for the answers.
     pub fn run_events<V: Vault>(
         &mut self,
         alloc: Global,
         vault: &mut V,
         events: &[Event],
-        replies: &mut Vec<Reply>,
+        answers: &mut Vec<Answer>,
     ) -> Result<(), NoMemory>
         requires studio { IsStudio S.Store (core_of self.old) }
         requires in_form { AreInForm self.old.commit_number events.now }
-        ensures ran { OnOk result ((told : List Reply) × (replies.new.items ≡ replies.old.items ++ told)
+        ensures ran { OnOk result ((told : List Answer) × (answers.new.items ≡ answers.old.items ++ told)
             × RanOver S.Store (record {
               old = core_of self.old;
               new = core_of self.new;
@@ -93,13 +94,16 @@ impl<S: Store> Studio<S> {
               new_sounds = V.holds vault.new;
             }) events.now told) }
         ensures err { OnErr result ((core_of self.new ≡ core_of self.old) × (vault.new ≡ vault.old)
-            × (replies.new.items ≡ replies.old.items)) }
+            × (answers.new.items ≡ answers.old.items)) }
         ensures tells { V.tells vault.new ≡ V.tells vault.old }
     {
-        replies.reserve(events.len())?;
+        answers.reserve(events.len())?;
         'events: for event in events {
             let reply = self.reply_to_call(alloc, vault, &event.call);
-            replies.push(reply)?;
+            answers.push(Answer {
+                commit: self.commit_number,
+                reply,
+            })?;
         }
         Ok(())
     }

@@ -2,7 +2,8 @@
 ghost use Rattle.std.specs.Prelude.{◌≡◌, ◌≤◌, ◌<◌, ◌^◌, ℕ, Some};
 ghost use Rattle.block_ledger.specs.Entries.{count_of};
 ghost use Rattle.editor_core.specs.Core.{core_of};
-ghost use Rattle.editor_core.specs.Frees.{Drops, Reclaims};
+ghost use Rattle.editor_core.specs.Frees.{Reclaims};
+ghost use Rattle.editor_core.specs.Removals.{Drops};
 ghost use Rattle.editor_core.specs.Studios.{IsStudio};
 
 use super::studio::Studio;

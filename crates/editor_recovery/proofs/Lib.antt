@@ -16,3 +16,4 @@ pub mod CheckAnswers
 pub mod Checked
 pub mod Folding
 pub mod StayingHonest
+mod Refusals

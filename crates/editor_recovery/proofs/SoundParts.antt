@@ -72,6 +72,7 @@ sound_parts files f p is known one named are =
           pin_least = omega arith;
           pin_most = omega arith;
           commit_most = omega (arith, sound.commit_is, are.commit, is.readable.records, is.readable.end);
+          end_least = omega (arith, are.end, is.end, is.readable.records);
           end_most = omega (arith, are.end, is.end, is.readable.end);
         };
         points = recursion_from_All

@@ -1,9 +1,9 @@
 -- What a listing of the files answers.
-use Rattle.std.specs.Prelude.{◌↔◌, ℕ, IsSome, Contains, Result, Ok, Err, List}
+use Rattle.std.specs.Prelude.{◌↔◌, ℕ, IsTrue, IsSome, Contains, Result, Ok, Err, List}
 use Rattle.disk_model.specs.Disk.{Files}
 use Rattle.editor_recovery.specs.declared.fault.OpenFault.{OpenFault}
 use Rattle.editor_recovery.specs.declared.fault.OpenFault.TheVariants as fault
-use Rattle.editor_recovery.specs.Files.{IsFirstForeign, NoForeign}
+use Rattle.editor_recovery.specs.Files.{IsFirstForeign, NoForeign, is_foreign}
 
 -- these are the numbers of the files
 abbrev pub AreFiles : Files → List ℕ → Type 0
@@ -14,6 +14,16 @@ abbrev pub IsRefusal : OpenFault → Type 0
 IsRefusal fault.DiskFault = Unit {0}
 IsRefusal fault.NoMemory = Unit {0}
 IsRefusal _ = ⊥
+
+-- What may refuse an opening, whatever the store tells: never that a project is there, and a foreign file of a foreign
+-- number alone.
+abbrev pub IsOpenRefusal : OpenFault → Type 0
+IsOpenRefusal fault.Absent = Unit {0}
+IsOpenRefusal fault.Exists = ⊥
+IsOpenRefusal (fault.Damaged file at want have) = Unit {0}
+IsOpenRefusal (fault.Foreign file) = IsTrue (is_foreign file)
+IsOpenRefusal fault.DiskFault = Unit {0}
+IsOpenRefusal fault.NoMemory = Unit {0}
 
 -- the first foreign file is told
 abbrev pub TellsForeign : Files → OpenFault → Type 0

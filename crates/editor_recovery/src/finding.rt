@@ -11,7 +11,7 @@ ghost use Rattle.project_state.specs.Kept.{point_blocks, history_blocks};
 ghost use Rattle.disk_model.specs.Frames.{Kept};
 ghost use Rattle.disk_model.specs.Disk.{bytes_of};
 ghost use Rattle.editor_recovery.specs.Bounds.{IsSoundParts};
-ghost use Rattle.editor_recovery.specs.Listing.{AreFiles};
+ghost use Rattle.editor_recovery.specs.Listing.{AreFiles, IsOpenRefusal};
 ghost use Rattle.editor_recovery.specs.Files.{is_foreign, NoForeign};
 ghost use Rattle.editor_recovery.specs.Found.{answer_in};
 ghost use Rattle.editor_recovery.specs.Finding.{FoldsDisk, IsFoldOf, IsSoundFolded, records_fault, TestsMeasured};
@@ -68,6 +68,7 @@ fn unfolded(fault: JournalFault) -> OpenFault
 fn fold_disk<S: Store>(alloc: Global, store: &mut S, reader: Reader) -> Result<Folded, OpenFault>
     requires { IsReading S.Store store.old reader [] }
     ensures folds { FoldsDisk S.Store store.new result }
+    ensures opening { IfErr result IsOpenRefusal }
     ensures sound { IfOk result IsSoundFolded }
     ensures kept { Kept S.Store store.old store.new }
     ensures cause { Causes S.Store store.old store.new result }
@@ -122,6 +123,7 @@ fn test_files<S: Store>(
     ensures one_length { OnOk result (HaveOneLength (history_blocks history.now.history)) }
     ensures named { OnOk result
         (All (λ p. All (λ b. (b.id ≢ 0) × Contains files.now b.id) (point_blocks p.0)) history.now.history.points) }
+    ensures opening { IfErr result IsOpenRefusal }
     ensures kept { Kept S.Store store.old store.new }
     ensures cause { Causes S.Store store.old store.new result }
 {
@@ -174,6 +176,7 @@ fn size_parts<S: Store>(
     ensures opens { (j : Contents) → IsTrue (S.tells store.old) → IsRead (S.reads store.old) j files.now
         → IsFoldOf j folded → Opens (S.reads store.old) (answer_in result) }
     ensures sound { IfOk result IsSoundParts }
+    ensures opening { IfErr result IsOpenRefusal }
     ensures end { IfOk result (λ p. p.journal_end ≡ folded.end) }
     ensures kept { Kept S.Store store.old store.new }
     ensures cause { Causes S.Store store.old store.new result }
@@ -200,6 +203,7 @@ pub(crate) fn find_parts<S: Store>(
         → IfOk result (λ p. (log : Log) → HasLog version_1 log (S.reads store.old)
         → IsAt version_1 S.Store store.new p.journal_end log) }
     ensures sound { IfOk result IsSoundParts }
+    ensures opening { IfErr result IsOpenRefusal }
     ensures kept { Kept S.Store store.old store.new }
     ensures cause { Causes S.Store store.old store.new result }
 {

@@ -6,7 +6,7 @@ ghost use Rattle.disk_model.specs.Frames.{Kept};
 ghost use Rattle.editor_recovery.specs.Files.{is_foreign, IsAbove};
 ghost use Rattle.editor_recovery.specs.Causes.{Causes};
 ghost use Rattle.editor_recovery.specs.Creating.{IsCreateRefusal};
-ghost use Rattle.editor_recovery.specs.Listing.{Lists, AreFiles, IsRefusal};
+ghost use Rattle.editor_recovery.specs.Listing.{AreFiles, IsOpenRefusal, IsRefusal, Lists};
 
 use super::fault::OpenFault;
 use disk_model::{ListFault, Store};
@@ -54,6 +54,7 @@ pub(crate) fn list_files<S: Store>(alloc: Global, store: &mut S) -> Result<Vec<u
     ensures known { IfOk result (λ v. find is_foreign v.items ≡ None) }
     ensures rising { IfOk result (λ v. IsStrictlyIncreasing v.items) }
     ensures refusals { IfErr result IsCreateRefusal }
+    ensures opening { IfErr result IsOpenRefusal }
     ensures kept { Kept S.Store store.old store.new }
     ensures cause { Causes S.Store store.old store.new result }
 {

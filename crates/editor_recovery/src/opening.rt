@@ -16,6 +16,7 @@ ghost use Rattle.editor_recovery.specs.Found.{IsNew, answer_in};
 ghost use Rattle.editor_recovery.specs.Honest.{IsHonest, OpensHonest};
 ghost use Rattle.editor_recovery.specs.Opening.{Opens};
 ghost use Rattle.editor_recovery.specs.Stores.{store_of, answer_of};
+ghost use Rattle.editor_recovery.specs.Listing.{IsOpenRefusal};
 
 use super::fault::OpenFault;
 use super::finding::find_parts;
@@ -31,6 +32,7 @@ fn open_parts<S: Store>(alloc: Global, store: &mut S) -> Result<Parts, OpenFault
         → IfOk result (λ p. (log : Log) → HasLog version_1 log (S.reads store.old)
         → IsAt version_1 S.Store store.new p.journal_end log) }
     ensures sound { IfOk result IsSoundParts }
+    ensures opening { IfErr result IsOpenRefusal }
     ensures durable { OnOk result (IsDurable S.Store store.new 0) }
     ensures cause { Causes S.Store store.old store.new result }
     ensures reads { S.reads store.new ≡ S.reads store.old }
@@ -78,6 +80,8 @@ pub fn open_store<S: Store>(alloc: Global, store: S) -> Result<Studio<S>, (OpenF
     // The journal of the store and of each image ends where the studio says.
     ensures at_rest { IsTrue (S.tells store) → IfOk result (λ s. (log : Log) → HasLog version_1 log (S.reads store)
         → IsAt version_1 S.Store (core_of s).store (core_of s).journal_end log) }
+    // The error names a foreign file only by a foreign number, and never says that a project is there.
+    ensures refusals { IfErr result (λ e. IsOpenRefusal e.0) }
     // Over an honest disk no fault is found, what is found is what each image keeps, and the disk holds the studio.
     ensures honest { IsHonest S.Store store → OpensHonest S.Store store (store_of result) (answer_of result) }
     ensures held { IsHonest S.Store store → IfOk result (λ s. IsHeld S.Store (core_of s)) }

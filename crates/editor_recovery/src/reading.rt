@@ -1,11 +1,11 @@
 // The journal of a disk, and the files beside it.
-ghost use Rattle.std.specs.Prelude.{◌≡◌, [], None, IsTrue, IfOk, OnOk, find};
+ghost use Rattle.std.specs.Prelude.{◌≡◌, [], None, IsTrue, IfOk, OnOk, find, IfErr};
 ghost use Rattle.std.specs.List.Sorted.{IsStrictlyIncreasing};
 ghost use Rattle.project_journal.specs.Gate.{IsDurable};
 ghost use Rattle.project_journal.specs.Reader.{IsReading};
 ghost use Rattle.disk_model.specs.Disk.{StaysStep};
 ghost use Rattle.disk_model.specs.Frames.{Kept, Changed};
-ghost use Rattle.editor_recovery.specs.Listing.{Lists};
+ghost use Rattle.editor_recovery.specs.Listing.{IsOpenRefusal, Lists};
 ghost use Rattle.editor_recovery.specs.Files.{is_foreign};
 ghost use Rattle.editor_recovery.specs.Causes.{Causes};
 ghost use Rattle.editor_recovery.specs.Reading.{ReadsDisk, Refuses};
@@ -23,6 +23,7 @@ fn with_files<S: Store>(alloc: Global, store: &mut S, reader: Reader) -> Result<
     ensures lists { IsTrue (S.tells store.old) → Lists (S.reads store.old) (λ d. d.files.items) result }
     ensures known { IfOk result (λ d. find is_foreign d.files.items ≡ None) }
     ensures rising { IfOk result (λ d. IsStrictlyIncreasing d.files.items) }
+    ensures opening { IfErr result IsOpenRefusal }
     ensures kept { Kept S.Store store.old store.new }
     ensures cause { Causes S.Store store.old store.new result }
 {
@@ -42,6 +43,7 @@ fn refused<S: Store>(
 ) -> Result<Disk, OpenFault>
     ensures refuses { IsTrue (S.tells store.old) → Refuses (S.reads store.old) at want have result }
     ensures none { IfOk result (λ d. ⊥) }
+    ensures opening { IfErr result IsOpenRefusal }
     ensures kept { Kept S.Store store.old store.new }
     ensures cause { Causes S.Store store.old store.new result }
 {
@@ -63,6 +65,7 @@ pub(crate) fn read_disk<S: Store>(alloc: Global, store: &mut S) -> Result<Disk, 
     ensures reading { IfOk result (λ d. IsReading S.Store store.new d.reader []) }
     ensures known { IfOk result (λ d. find is_foreign d.files.items ≡ None) }
     ensures rising { IfOk result (λ d. IsStrictlyIncreasing d.files.items) }
+    ensures opening { IfErr result IsOpenRefusal }
     ensures cause { Causes S.Store store.old store.new result }
     ensures reads_same { S.reads store.new ≡ S.reads store.old }
     ensures durable { OnOk result (IsDurable S.Store store.new 0) }

@@ -1,27 +1,31 @@
 -- One line: nothing refuses it, so it is carried out, or there is no memory for it.
 use Rattle.std.proofs.Common.{◌≡◌, ⊎_elim, ℕ, ◌+◌, ◌-◌, ◌≤◌, IsTrue, None, Err, Ok, Result, IfErr, refl, sym, ap, ◌∙◌}
+use Rattle.std.proofs.Common.{Bool, true, false, if◌then◌else◌, ◌==◌, List, length, Option, Some}
 use Rattle.std.proofs.Common.{subst, arith}
 use Rattle.std.proofs.lemmas.Option.{none-some}
 use Rattle.pcm_base.specs.declared.answer.Reply.{Reply}
+use Rattle.pcm_base.specs.declared.command.Call.{Call}
 use Rattle.pcm_base.specs.declared.command.Call.TheVariants.{Line}
 use Rattle.pcm_base.specs.declared.command.Command.{Command}
 use Rattle.pcm_base.specs.declared.command.Command.TheVariants as command
 use Rattle.pcm_base.specs.declared.refusal.Refusal.{Refusal}
 use Rattle.pcm_base.specs.declared.refusal.Refusal.TheVariants as refusal
 use Rattle.pcm_base.specs.Causes.{Rose}
-use Rattle.pcm_base.specs.Counters.{Needs}
+use Rattle.pcm_base.specs.Counters.{Needs, commits_of, places_of}
+use Rattle.pcm_base.specs.Refusals.{◌otherwise◌}
 use Rattle.pcm_base.specs.Run.{Answers, Breaks, ChangeFailed, DiskFails, ReadFailed, Refuses, may_change}
-use Rattle.pcm_base.specs.Run.{name_in_line, outside, refusal_of}
+use Rattle.pcm_base.specs.Run.{name_in_line, outside, refusal_of, stop_of}
 use Rattle.pcm_base.specs.Studio.{Studio}
 use Rattle.disk_model.specs.Frames.{asked}
-use Rattle.disk_model.specs.Room.{Room, together}
+use Rattle.disk_model.specs.Room.{Room, files_made, together}
 use Rattle.disk_model.specs.declared.store.Store.{Ghosts}
 use Rattle.envelope_view.specs.Answers.{IsUndamaged}
 use Rattle.editor_core.specs.Applied.{EndsAlike}
 use Rattle.editor_core.specs.Core.{Core}
 use Rattle.editor_core.specs.Left.{LeavesOthers, MayRemove}
 use Rattle.editor_core.specs.Studios.{studio_of}
-use Rattle.editor_core.specs.Took.{Took, asks, quietly, silent, told_by}
+use Rattle.editor_core.specs.Exchanges.{begun_in_vain, is_broken_off}
+use Rattle.editor_core.specs.Took.{Exchange, Took, asks, quietly, silent, told_by}
 use Rattle.memory_project.specs.Lines.{Asked, IsOfScript, MayCome, Went, line_room}
 use Rattle.memory_project.specs.Memory.{HasAsked, HasRoom, no_room}
 use Rattle.memory_project.proofs.FreshLemmas.{absent}
@@ -127,15 +131,42 @@ fails_not t u c reads changes reads_now changes_now fails = ⊎_elim
 
 -- ---- the room of a line
 
--- so much is within the room of a line
-line_takes : (m blocks len : ℕ) (more : Room) → m ≡ 512 → blocks ≤ 11 → len ≤ 6872
-    → Takes (asks m blocks len 0) more (together line_room more)
-line_takes m blocks len more size few short =
-    subst (λ (k : ℕ). Takes (asks k blocks len 0) more (together line_room more)) (sym size)
-    (omega (arith, few), omega (arith, few, short), omega (arith, few))
+-- one block at most is begun in vain
+vain_most : (told : Result Reply Refusal) → begun_in_vain told ≤ 1
+vain_most (Ok r) = omega arith
+vain_most (Err why) = either (is_broken_off why)
+  where
+    either : (b : Bool) → (if b then 1 else 0) ≤ 1
+    either true = omega arith
+    either false = omega arith
 
-none_takes : (m blocks len : ℕ) → m ≡ 512 → blocks ≤ 11 → len ≤ 6872 → Takes (asks m blocks len 0) no_room line_room
-none_takes m blocks len size few short = line_takes m blocks len no_room size few short
+places_most : (c : Call) (len : ℕ) → places_of c len ≤ 6 + len
+places_most c len = either (commits_of c == 0)
+  where
+    either : (b : Bool) → (if b then 0 else 6 + len) ≤ 6 + len
+    either true = omega arith
+    either false = omega arith
+
+-- so much is within the room of a line, where the journal is there
+line_takes : (x : Exchange) (journal : Option (List ℕ)) (m blocks len : ℕ) (more : Room) → files_made journal ≡ 0
+    → length x.removed ≡ 0 → m ≡ 512 → blocks ≤ 11 → len ≤ 6872
+    → Takes (asks x journal m blocks len) more (together line_room more)
+line_takes x journal m blocks len more there none size few short =
+    let vain = vain_most x.told in
+    let places = places_most x.call len in
+    subst (λ (k : ℕ). Takes (asks x journal k blocks len) more (together line_room more)) (sym size)
+    (omega (arith, there, vain, few), omega (arith, vain, places, few, short), omega (arith, few, none))
+
+none_takes : (x : Exchange) (journal : Option (List ℕ)) (m blocks len : ℕ) → files_made journal ≡ 0
+    → length x.removed ≡ 0 → m ≡ 512 → blocks ≤ 11 → len ≤ 6872
+    → Takes (asks x journal m blocks len) no_room line_room
+none_takes x journal m blocks len there none size few short =
+    line_takes x journal m blocks len no_room there none size few short
+
+-- nothing refuses it, so the studio goes on
+goes : (stopped : Option ℕ) (rest : Option Refusal) → ((stop_of stopped) otherwise rest) ≡ None → stopped ≡ None
+goes None rest passed = refl
+goes (Some faults) rest passed = absurd (none-some (refusal.Stopped faults) (sym passed))
 
 module _ {D : Type 0} (disk : Ghosts D) (old new : Core D) (c : Command) (may : MayCome disk old c) where
   abbrev t : Studio
@@ -152,27 +183,42 @@ module _ {D : Type 0} (disk : Ghosts D) (old new : Core D) (c : Command) (may : 
     short : took.len ≤ 6872
     short = let w = took.needs may.held in (may.few.most silent w.0 took.len w.1).1
 
+    abbrev exchange : Exchange
+    exchange = quietly (Line c) told
+
+    abbrev journal : Option (List ℕ)
+    journal = disk.reads old.store 0
+
+    abbrev blocks_made : ℕ
+    blocks_made = new.next_block - old.next_block
+
+    there : files_made journal ≡ 0
+    there =
+        let w = took.needs may.held in
+        let going = goes old.stopped _ (may.valid silent w.0 took.len w.1) in
+        ap files_made (may.held.durable going).there.read.1
+
     room_stays : (more : Room) → HasRoom disk old.store (together line_room more) → HasRoom disk new.store more
     room_stays more fits = room_left disk old.store new.store
         (LeavesOthers old.next_block new.next_block (MayRemove (Line c) old.counts))
-        (asks old.block_size (new.next_block - old.next_block) took.len 0) (together line_room more) more took.changed
+        (asks exchange journal old.block_size blocks_made took.len) (together line_room more) more took.changed
         may.held.tells fits
-        (line_takes old.block_size (new.next_block - old.next_block) took.len more may.size few_blocks short)
+        (line_takes exchange journal old.block_size blocks_made took.len more there refl may.size few_blocks short)
 
     asked_stays : HasAsked disk new.store (together (asked disk old.store) line_room)
     asked_stays =
-        let takes = none_takes old.block_size (new.next_block - old.next_block) took.len may.size few_blocks short in
+        let takes = none_takes exchange journal old.block_size blocks_made took.len there refl may.size few_blocks short in
         let a = takes.0 in let b = takes.1 in let d = takes.2 in
         asked_by disk old.store new.store (LeavesOthers old.next_block new.next_block (MayRemove (Line c) old.counts))
-        (asks old.block_size (new.next_block - old.next_block) took.len 0) line_room took.changed may.held.tells
+        (asks exchange journal old.block_size blocks_made took.len) line_room took.changed may.held.tells
         (record { files = omega (arith, a); bytes = omega (arith, b); calls = omega (arith, d) })
 
     faults_none : (disk.read_fault_count new.store ≡ 0) × (disk.change_fault_count new.store ≡ 0)
     faults_none = let left = room_left disk old.store new.store
         (LeavesOthers old.next_block new.next_block (MayRemove (Line c) old.counts))
-        (asks old.block_size (new.next_block - old.next_block) took.len 0) line_room no_room took.changed
+        (asks exchange journal old.block_size blocks_made took.len) line_room no_room took.changed
         may.held.tells may.room
-        (none_takes old.block_size (new.next_block - old.next_block) took.len may.size few_blocks short) in
+        (none_takes exchange journal old.block_size blocks_made took.len there refl may.size few_blocks short) in
         (left.reads, left.changes)
 
   pub line_went : (r : Reply) → Took disk old (quietly (Line c) (Ok r)) new → Went disk old c new

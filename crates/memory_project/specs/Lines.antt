@@ -1,5 +1,5 @@
 -- Lines that nothing refuses, carried out on a disk that has room for them.
-use Rattle.std.specs.Prelude.{◌≡◌, ℕ, ◌*◌, List, [], ◌∷◌, length, Result, IfErr}
+use Rattle.std.specs.Prelude.{◌≡◌, ℕ, ◌+◌, ◌*◌, List, [], ◌∷◌, length, Result, IfErr}
 use Rattle.std.specs.List.{AllByRecursion}
 use Rattle.pcm_base.specs.declared.answer.Reply.{Reply}
 use Rattle.pcm_base.specs.declared.command.Call.TheVariants.{Line}
@@ -12,11 +12,12 @@ use Rattle.pcm_base.specs.Studio.{Studio}
 use Rattle.disk_model.specs.Frames.{asked}
 use Rattle.disk_model.specs.Room.{Room, together}
 use Rattle.disk_model.specs.declared.store.Store.{Ghosts}
+use Rattle.sample_block.specs.Spelling.{size_of}
 use Rattle.envelope_view.specs.Answers.{IsUndamaged}
 use Rattle.editor_core.specs.Applied.{EndsAlike}
 use Rattle.editor_core.specs.Core.{Core}
 use Rattle.editor_core.specs.Studios.{IsHeld, IsStudio, studio_of}
-use Rattle.editor_core.specs.Took.{Took, asks, quietly, silent}
+use Rattle.editor_core.specs.Took.{Took, quietly, silent}
 use Rattle.script_gen.specs.Room.{EachNeedsAtMost, NeedsAtMost}
 use Rattle.script_gen.specs.Validity.{AreValid, IsValid}
 use Rattle.memory_project.specs.Memory.{HasAsked, HasRoom, no_room}
@@ -40,7 +41,7 @@ IsOfScript _ = ⊥
 
 -- what it may ask of the disk: 11 blocks and one that is begun in vain, and its record
 abbrev pub line_room : Room
-line_room = asks 512 11 6872 0
+line_room = record { files = 12; bytes = 6878 + 12 * size_of 512; calls = 38 }
 
 -- A line was asked, by the call that is its own.
 pub record Asked {D : Type 0} (disk : Ghosts D) (old : Core D) (c : Command) (answer : Result (Unit {0}) Refusal)

@@ -8,7 +8,8 @@
 #![tactic(auto)]
 
 mod frames;
+mod squares;
 mod stretch;
 
-pub use frames::{fill_long, fill_short, frame, frames256, frames65536};
+pub use frames::{fill_long, frame, frames256, frames65536};
 pub use stretch::{NOTHING, Summary, all_fit, join, of};

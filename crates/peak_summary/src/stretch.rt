@@ -1,7 +1,9 @@
 // The summary of a stretch of samples, and of two that follow one another.
-ghost use Rattle.std.specs.Prelude.{◌≡◌, ◌≤◌, ◌^◌, ◌+◌, ◌++◌, length, List, ℤ, fold, sum_by};
+ghost use Rattle.std.specs.Prelude.{◌≡◌, ◌≤◌, ◌^◌, ◌+◌, ◌++◌, length, List, ℤ, fold};
 ghost use Rattle.std.specs.Int.{int_min, int_max};
-ghost use Rattle.peak_summary.specs.Peaks.{summary_of, scanned, joined, AreSamples, square as square_of};
+ghost use Rattle.peak_summary.specs.Peaks.{summary_of, scanned, joined, AreSamples};
+
+use super::squares::sum_of_squares;
 
 /// What is known of a stretch of samples. A summary of nothing has the count 0.
 #[derive(Clone, Copy, Debug, PartialEq, Eq)]
@@ -24,22 +26,13 @@ pub const NOTHING: Summary = Summary {
     count: 0,
 };
 
-/// Each of them fits 16 bits, which their type says and a contract has to be told. It compiles to nothing.
+/// Each of them fits 16 bits, which their type says and a contract does not know by itself. It compiles to nothing.
 pub fn all_fit(samples: &[i16])
     ensures { AreSamples samples.now }
 {
     for s in samples {
         let _sample = *s;
     }
-}
-
-/// The square of a sample. A signed product, two of which a processor takes and adds in one step.
-fn square(sample: i16) -> u32
-    ensures value { result ≡ square_of sample }
-    ensures bound { result ≤ 2 ^ 30 }
-{
-    let wide = i32::from(sample);
-    (wide * wide).cast_unsigned()
 }
 
 /// The least and the greatest of the samples and a first one.
@@ -54,22 +47,6 @@ fn extremes(first: i16, samples: &[i16]) -> (i16, i16)
         max = max.max(*s);
     }
     (min, max)
-}
-
-/// The sum of the squares. Two at a time, since the sum of two fits 32 bits.
-fn sum_of_squares(samples: &[i16]) -> u64
-    requires { length samples.now ≤ 2 ^ 32 }
-    ensures { result ≡ sum_by square_of samples.now }
-{
-    let mut sum = 0u64;
-    for i in 0..samples.len() / 2 {
-        let two = square(samples[2 * i]) + square(samples[2 * i + 1]);
-        sum += u64::from(two);
-    }
-    if samples.len() % 2 == 1 {
-        sum += u64::from(square(samples[samples.len() - 1]));
-    }
-    sum
 }
 
 // As `of`, whose other clause is a law on what this one says.

@@ -67,7 +67,7 @@ fn two_clips(alloc: Global) -> Result<Layout, NoMemory> {
             blocks: Sequence::new(vec![in alloc; third]?),
         },
     ]?;
-    Ok(Layout::from_clips(clips))
+    Layout::from_clips(clips)
 }
 
 pub(crate) fn is_written(alloc: Global, body: &Body, bytes: &[u8]) -> Result<bool, NoMemory> {

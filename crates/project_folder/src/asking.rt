@@ -1,6 +1,7 @@
 // What tests ask of a store over a folder whose calls are watched, step by step.
 use crate::FolderStore;
-use crate::watched::{Call, Watch, watch_files};
+use crate::watch::{Call, Watch};
+use crate::watched::watch_files;
 use disk_model::{ListFault, Store};
 use std::alloc::{AllocError, Global};
 use std::io::ErrorKind;
@@ -43,7 +44,11 @@ pub(crate) enum Step {
     GrowthFails,
     /// The files can't be listed.
     ListFails,
-    /// So many calls failed, and so many of those that change the disk.
+    /// The files are those from the one to before the other.
+    Lists(u64, u64),
+    /// No more than this many files and folders are open at once.
+    MostOpen(u32),
+    /// How many calls failed, and how many of those that change the disk.
     Faults(u64, u64),
     /// Calls of the system of this kind fail, behind so many that are served.
     FailAt(Call, u32),
@@ -91,6 +96,21 @@ fn list_fails<S: Store>(store: &mut S, alloc: Global) -> bool {
     store.files(&mut Vec::new(alloc)) == Err(ListFault::Failed)
 }
 
+fn lists<S: Store>(store: &mut S, alloc: Global, first: u64, end: u64) -> bool {
+    let mut listed = Vec::new(alloc);
+    let mut wanted = first;
+    if store.files(&mut listed) != Ok(()) {
+        return false;
+    }
+    for file in &listed {
+        if *file != wanted || wanted >= end {
+            return false;
+        }
+        wanted += 1;
+    }
+    wanted == end
+}
+
 // Whether a watched store answers the step so.
 fn answers<S: Store>(store: &mut S, watch: &Watch, alloc: Global, step: Step) -> bool {
     match step {
@@ -104,6 +124,7 @@ fn answers<S: Store>(store: &mut S, watch: &Watch, alloc: Global, step: Step) ->
         Step::All(asked, first, end) => return (first..end).all(|file| ask(store, asked, file)),
         Step::GrowthFails => return store.write_at(16, 9, b"").is_err(),
         Step::ListFails => return list_fails(store, alloc),
+        Step::Lists(first, end) => return lists(store, alloc, first, end),
         Step::Faults(all, changes) => {
             return store.faults() == all && store.change_faults() == changes;
         }
@@ -112,6 +133,7 @@ fn answers<S: Store>(store: &mut S, watch: &Watch, alloc: Global, step: Step) ->
         Step::FailAs(kind) => watch.kind.set(kind),
         Step::ServeAll => watch.fails.set(None),
         Step::Most(count) => watch.most.set(count),
+        Step::MostOpen(count) => watch.most_open.set(count),
         Step::Length(length) => watch.told.set(Some(length)),
     }
     true

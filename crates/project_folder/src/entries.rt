@@ -1,13 +1,13 @@
 // The entries of a folder, and of the folders that it lies in: which of them may not be on the disk yet.
-ghost use Rattle.std.specs.Prelude.{◌≡◌, true, false, OnOk};
+ghost use Rattle.std.specs.Prelude.{◌≡◌, true, false, IfOk, OnOk, IsSome, IsTrue};
 ghost use Rattle.project_folder.specs.Entries.{waits_of};
 
 use crate::paths::with_slash;
 use crate::plain::{absent_is_none, make_folder};
+use crate::syncing::SyncFiles;
 use pcm_base::Failed;
 use std::alloc::{AllocError, Global};
 use std::fs::{self, OpenFile};
-use std::io::ErrorKind;
 use std::rt::Files;
 
 /// Of file 0, of all other files and of the folders above, whether an entry waits for a sync: it was made or removed
@@ -17,7 +17,8 @@ use std::rt::Files;
 pub(crate) struct Entries<F> {
     home: String,
     above: String,
-    folder: Option<F>,
+    // Locked while it is open.
+    pub(crate) folder: Option<F>,
     pub(crate) first_waits: bool,
     pub(crate) others_wait: bool,
     above_waits: bool,
@@ -46,7 +47,8 @@ impl<F: OpenFile + Drop> Entries<F> {
 
     // Notes that the file is made or removed.
     pub(crate) fn note(&mut self, file: u64)
-        ensures { waits_of file self.new.first_waits self.new.others_wait ≡ true }
+        ensures waits { waits_of file self.new.first_waits self.new.others_wait ≡ true }
+        ensures folder { self.new.folder ≡ self.old.folder }
     {
         if file == 0 {
             self.first_waits = true;
@@ -66,10 +68,47 @@ impl<F: OpenFile + Drop> Entries<F> {
         }
     }
 
+    // Has the folder at the path open and locked, where it is there, and says whether it is.
+    pub(crate) fn hold<R: Files<File = F>, W: SyncFiles<F>>(
+        &mut self,
+        files: &R,
+        how: &W,
+        path: &str,
+    ) -> Result<bool, Failed>
+        ensures { IfOk result (λ is_there. IsTrue is_there → IsSome self.new.folder) }
+    {
+        if self.folder.is_none() {
+            if let Some(folder) = absent_is_none(fs::open(files, path))? {
+                how.lock(&folder)?;
+                self.folder = Some(folder);
+            }
+        }
+        Ok(self.folder.is_some())
+    }
+
+    // Has the folder at the path open and locked, and makes it where it is absent.
+    pub(crate) fn hold_or_make<R: Files<File = F>, W: SyncFiles<F>>(
+        &mut self,
+        files: &R,
+        how: &W,
+        path: &str,
+    ) -> Result<(), Failed>
+        ensures { OnOk result (IsSome self.new.folder) }
+    {
+        if self.hold(files, how, path)? {
+            return Ok(());
+        }
+        self.make(files, path)?;
+        if self.hold(files, how, path)? {
+            Ok(())
+        } else {
+            Err(Failed)
+        }
+    }
+
     // Makes the folder at the path, and the one that it lies in, where they are absent.
-    pub(crate) fn make<R: Files>(&mut self, files: &R, path: &str) -> Result<(), Failed> {
+    fn make<R: Files>(&mut self, files: &R, path: &str) -> Result<(), Failed> {
         self.above_waits = true;
-        self.folder = None;
         if make_folder(files, self.home.as_str())? {
             self.has_changed_above = true;
         }
@@ -79,55 +118,45 @@ impl<F: OpenFile + Drop> Entries<F> {
         Ok(())
     }
 
-    // Waits until all entries are on the disk. Where the folder at the path is absent there are none.
-    pub(crate) fn sync<R: Files<File = F>>(&mut self, files: &R, path: &str) -> Result<(), Failed>
+    // Waits until all entries are on the disk. Where the folder is absent, and so not held, there are none.
+    pub(crate) fn sync<R: Files<File = F>>(&mut self, files: &R) -> Result<(), Failed>
         ensures first { OnOk result (self.new.first_waits ≡ false) }
         ensures others { OnOk result (self.new.others_wait ≡ false) }
+        ensures folder { self.new.folder ≡ self.old.folder }
     {
-        if self.folder.is_none() {
-            self.folder = absent_is_none(fs::open(files, path))?;
-        }
-        if self.folder.is_some() {
-            self.sync_all(files)?;
+        if let Some(folder) = &self.folder {
+            if folder.sync_all().is_err() {
+                return Err(Failed);
+            }
+            self.sync_above(files)?;
         }
         self.first_waits = false;
         self.others_wait = false;
         Ok(())
     }
 
-    // Waits for the open folder and, the first time, for those above.
-    fn sync_all<R: Files<File = F>>(&mut self, files: &R) -> Result<(), Failed> {
-        let Some(folder) = &self.folder else {
-            return Err(Failed);
-        };
-        if folder.sync_all().is_err() {
-            return Err(Failed);
-        }
+    // Waits the first time for the folders above.
+    fn sync_above<R: Files<File = F>>(&mut self, files: &R) -> Result<(), Failed>
+        ensures { self.new.folder ≡ self.old.folder }
+    {
         if self.above_waits {
-            sync_above(files, self.home.as_str(), self.has_changed_home)?;
-            sync_above(files, self.above.as_str(), self.has_changed_above)?;
+            sync_if_changed(files, self.home.as_str(), self.has_changed_home)?;
+            sync_if_changed(files, self.above.as_str(), self.has_changed_above)?;
             self.above_waits = false;
         }
         Ok(())
     }
 }
 
-// Waits for a folder above. One that may not be opened is passed over where this program has changed nothing in it.
-fn sync_above<R: Files>(files: &R, path: &str, is_changed: bool) -> Result<(), Failed> {
-    match fs::open(files, path) {
-        Ok(folder) => {
-            if folder.sync_all().is_ok() {
-                Ok(())
-            } else {
-                Err(Failed)
-            }
-        }
-        Err(error) => {
-            if error.kind() == ErrorKind::PermissionDenied && !is_changed {
-                Ok(())
-            } else {
-                Err(Failed)
-            }
-        }
+// Waits for a folder above. One that can't be waited for is passed over where this program has made nothing in it.
+fn sync_if_changed<R: Files>(files: &R, path: &str, is_changed: bool) -> Result<(), Failed> {
+    let is_synced = match fs::open(files, path) {
+        Ok(folder) => folder.sync_all().is_ok(),
+        Err(_) => false,
+    };
+    if is_synced || !is_changed {
+        Ok(())
+    } else {
+        Err(Failed)
     }
 }

@@ -3,7 +3,7 @@ ghost use Rattle.std.specs.Prelude.{◌≡◌, ◌≤◌, ◌<◌, length, None,
 ghost use Rattle.edit_ports.specs.Mem.{counted};
 
 use crate::paths::with_slash;
-use crate::plain::{Made, has_stream, make_new};
+use crate::plain::{Opened, has_stream, open_at};
 use edit_ports::Sink;
 use pcm_base::Failed;
 use std::alloc::{AllocError, Global};
@@ -26,7 +26,7 @@ pub struct FileSink<R: Files> {
 // Makes the file at the path, or empties it.
 fn open_empty<R: Files>(files: &R, path: &str) -> Result<R::File, Failed> {
     let mut how = OpenOptions::new();
-    if let Made::New(file) = make_new(files, how.write(true).create_new(true), path)? {
+    if let Opened::Open(file) = open_at(files, how.write(true).create_new(true), path)? {
         return Ok(file);
     }
     if !has_stream(files, path)? {

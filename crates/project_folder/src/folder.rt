@@ -1,12 +1,13 @@
 // The numbered files of a folder, by calls of the system. No fault is counted here.
-ghost use Rattle.std.specs.Prelude.{◌≡◌, ◌≤◌, ◌^◌, ◌+◌, true, false, IfOk, OnOk, OnErr, IfSome, length};
+ghost use Rattle.std.specs.Prelude.{◌≡◌, ◌≤◌, ◌^◌, ◌+◌, true, false, IfOk, OnOk, OnErr, IfSome, IsSome, length};
 ghost use Rattle.project_folder.specs.Entries.{waits_of};
+ghost use Rattle.project_folder.specs.Unsynced.{IsSynced};
 
 use crate::entries::Entries;
 use crate::open_files::{Handle, OpenFiles};
 use crate::paths::Paths;
 use crate::plain::{
-    Made, absent_is_none, length_at, make_new, open_plain, plain_length, read_full, write_full,
+    Opened, absent_is_none, length_at, open_at, plain_length, read_full, write_full,
 };
 use crate::syncing::SyncFiles;
 use pcm_base::Failed;
@@ -15,33 +16,38 @@ use std::fs::{self, OpenFile, OpenOptions};
 use std::os::unix::fs::FileExt;
 use std::rt::Files;
 
-/// File n is `project/n` of a folder, with n in decimal.
+/// File n is `project/n` of a folder, with n in decimal. The folder `project` is locked from the first change or sync
+/// on, if it is there.
 #[derive(Drop)]
 pub(crate) struct Folder<R: Files, W> {
     pub(crate) files: R,
     how: W,
     pub(crate) paths: Paths,
-    open: OpenFiles<R::File>,
-    entries: Entries<R::File>,
+    pub(crate) open_files: OpenFiles<R::File>,
+    pub(crate) entries: Entries<R::File>,
     // Whether the write that came last met an absent file.
     met_absent: bool,
     // Whether a sync has failed. The system may tell a write that was lost once alone, so no later sync can be trusted.
     is_lost: bool,
 }
 
-impl<R: Files + Drop, W: SyncFiles<R::File> + Drop> Folder<R, W> {
-    // Nothing is opened yet.
+impl<R: Files + Drop, W: SyncFiles<R::File> + Drop> Folder<R, W>
+where
+    R::File: FileExt,
+{
+    // Nothing is opened yet. So many files are kept open at most that were written.
     pub(crate) fn new(
         files: R,
         how: W,
         alloc: Global,
         home: &str,
+        most: usize,
     ) -> Result<Folder<R, W>, AllocError> {
         Ok(Folder {
             files,
             how,
             paths: Paths::new(alloc, home, "project")?,
-            open: OpenFiles::new(alloc)?,
+            open_files: OpenFiles::new(alloc, most)?,
             entries: Entries::new(alloc, home)?,
             met_absent: false,
             is_lost: false,
@@ -53,75 +59,98 @@ impl<R: Files + Drop, W: SyncFiles<R::File> + Drop> Folder<R, W> {
         self.met_absent
     }
 
+    // Notes that a sync has failed. The system may take what was written for synced from now on, so that the next
+    // program would read it and find it synced; so it is written again.
+    fn lose(&mut self) -> Failed
+        ensures lost { self.new.is_lost ≡ true }
+        ensures entries { self.new.entries ≡ self.old.entries }
+    {
+        self.is_lost = true;
+        self.open_files.write_again();
+        Failed
+    }
+
+    // Opens the file, or makes it, as the options say. Where that fails others may take up all descriptors: it is tried
+    // once more when they are synced and closed. By then it may be there, made by the call that failed.
+    fn open_as(&mut self, how: &OpenOptions, file: u64) -> Result<Opened<R::File>, Failed>
+        ensures { self.new.entries.folder ≡ self.old.entries.folder }
+    {
+        if let Ok(opened) = open_at(&self.files, how, self.paths.numbered(file)?) {
+            return Ok(opened);
+        }
+        match self.open_files.close_all(&self.how) {
+            Ok(false) => Err(Failed),
+            Ok(true) => {
+                self.entries.note(file);
+                open_at(&self.files, how, self.paths.numbered(file)?)
+            }
+            Err(_) => Err(self.lose()),
+        }
+    }
+
+    // Opens the plain file, or answers None where it is absent.
+    fn open_plain(&mut self, how: &OpenOptions, file: u64) -> Result<Option<R::File>, Failed>
+        ensures { self.new.entries.folder ≡ self.old.entries.folder }
+    {
+        if length_at(&self.files, self.paths.numbered(file)?)?.is_none() {
+            return Ok(None);
+        }
+        match self.open_as(how, file)? {
+            Opened::Open(inner) => Ok(Some(inner)),
+            _ => Ok(None),
+        }
+    }
+
     // Opens the file to be read, where it is there and not open.
     fn open_to_read(&mut self, file: u64) -> Result<(), Failed> {
-        if self.open.get(file).is_some() {
+        if self.open_files.get(file).is_some() {
             return Ok(());
         }
-        let path = self.paths.numbered(file)?;
-        if let Some(inner) = open_plain(&self.files, OpenOptions::new().read(true), path)? {
-            self.open.keep(Handle {
-                file,
-                inner,
-                is_writable: false,
-            });
+        match self.open_plain(OpenOptions::new().read(true), file)? {
+            Some(inner) => self.open_files.keep(Handle::new(file, inner, false)),
+            None => Ok(()),
         }
-        Ok(())
     }
 
     // Makes the file, or opens it to be written where it is there. Where its making failed it may be there too.
-    fn make_or_open(&mut self, file: u64) -> Result<R::File, Failed> {
-        let path = self.paths.numbered(file)?;
+    fn make_or_open(&mut self, file: u64) -> Result<R::File, Failed>
+        ensures { self.new.entries.folder ≡ self.old.entries.folder }
+    {
         let mut how = OpenOptions::new();
         let how = how.read(true).write(true);
-        let made = make_new(&self.files, how.create_new(true), path);
-        if let Ok(Made::There) = made {
-            let found = open_plain(&self.files, how.create_new(false), path)?;
+        let made = self.open_as(how.create_new(true), file);
+        if let Ok(Opened::There) = made {
+            let found = self.open_plain(how.create_new(false), file)?;
             return found.ok_or(Failed);
         }
         self.met_absent = true;
         self.entries.note(file);
         match made? {
-            Made::New(inner) => Ok(inner),
-            _ => self.make_in_new_folder(file),
-        }
-    }
-
-    fn make_in_new_folder(&mut self, file: u64) -> Result<R::File, Failed> {
-        self.entries.make(&self.files, self.paths.folder())?;
-        let path = self.paths.numbered(file)?;
-        let mut how = OpenOptions::new();
-        match make_new(
-            &self.files,
-            how.read(true).write(true).create_new(true),
-            path,
-        )? {
-            Made::New(inner) => Ok(inner),
+            Opened::Open(inner) => Ok(inner),
             _ => Err(Failed),
         }
     }
 
-    // Has the file open to be written, up to its sync.
-    fn open_to_write(&mut self, file: u64) -> Result<(), Failed> {
-        let handle = match self.open.take(file) {
+    // Has the file open, so that `count` bytes can be written at a place, up to its sync.
+    fn open_to_write(&mut self, file: u64, at: u64, count: usize) -> Result<(), Failed>
+        requires { at + count ≤ 2 ^ 62 }
+        ensures { self.new.entries.folder ≡ self.old.entries.folder }
+    {
+        let mut handle = match self.open_files.take(file) {
             Some(handle) if handle.is_writable => handle,
-            _ => Handle {
-                file,
-                inner: self.make_or_open(file)?,
-                is_writable: true,
-            },
+            _ => Handle::new(file, self.make_or_open(file)?, true),
         };
-        if self.open.keep_written(handle, &self.how).is_err() {
-            self.is_lost = true;
-            return Err(Failed);
+        handle.unsynced = handle.unsynced.widen(at, count);
+        match self.open_files.keep_waiting(handle, &self.how) {
+            Ok(()) => Ok(()),
+            Err(_) => Err(self.lose()),
         }
-        Ok(())
     }
 
     pub(crate) fn size(&mut self, file: u64) -> Result<Option<u64>, Failed>
         ensures bound { IfOk result (λ n. IfSome n (λ n. n ≤ 2 ^ 62)) }
     {
-        if let Some(handle) = self.open.get(file) {
+        if let Some(handle) = self.open_files.get(file) {
             let Ok(metadata) = handle.inner.metadata() else {
                 return Err(Failed);
             };
@@ -131,25 +160,25 @@ impl<R: Files + Drop, W: SyncFiles<R::File> + Drop> Folder<R, W> {
     }
 
     pub(crate) fn read_at(&mut self, file: u64, at: u64, buf: &mut [u8]) -> Result<usize, Failed>
-    where
-        R::File: FileExt,
         requires { at + length buf.old ≤ 2 ^ 62 }
         ensures within { IfOk result (λ n. n ≤ length buf.old) }
     {
         self.open_to_read(file)?;
-        match self.open.get(file) {
+        match self.open_files.get(file) {
             Some(handle) => read_full(&handle.inner, at, buf),
             None => Ok(0),
         }
     }
 
     pub(crate) fn write_at(&mut self, file: u64, at: u64, bytes: &[u8]) -> Result<(), Failed>
-    where
-        R::File: FileExt,
+        requires { at + length bytes.now ≤ 2 ^ 62 }
+        ensures held { OnOk result (IsSome self.new.entries.folder) }
     {
         self.met_absent = false;
-        self.open_to_write(file)?;
-        match self.open.get(file) {
+        self.entries
+            .hold_or_make(&self.files, &self.how, self.paths.folder())?;
+        self.open_to_write(file, at, bytes.len())?;
+        match self.open_files.get(file) {
             Some(handle) => write_full(&handle.inner, at, bytes),
             None => Err(Failed),
         }
@@ -157,6 +186,7 @@ impl<R: Files + Drop, W: SyncFiles<R::File> + Drop> Folder<R, W> {
 
     // Waits until the file is on the disk, and the folder too where the file's entry may not be there yet.
     pub(crate) fn sync(&mut self, file: u64) -> Result<(), Failed>
+        ensures data { OnOk result (IsSynced file self.new.open_files.first self.new.open_files.waiting.items) }
         ensures settled { OnOk result (
             waits_of file self.new.entries.first_waits self.new.entries.others_wait ≡ false) }
         ensures trusted { OnOk result (self.old.is_lost ≡ false) }
@@ -165,27 +195,34 @@ impl<R: Files + Drop, W: SyncFiles<R::File> + Drop> Folder<R, W> {
         if self.is_lost {
             return Err(Failed);
         }
-        if self.sync_file(file).is_err() {
-            self.is_lost = true;
-            return Err(Failed);
+        match self.sync_all(file) {
+            Ok(()) => Ok(()),
+            Err(_) => Err(self.lose()),
         }
+    }
+
+    // Waits for what the file holds, if it is there, and for its entry.
+    fn sync_all(&mut self, file: u64) -> Result<(), Failed>
+        ensures data { OnOk result (IsSynced file self.new.open_files.first self.new.open_files.waiting.items) }
+        ensures settled { OnOk result (
+            waits_of file self.new.entries.first_waits self.new.entries.others_wait ≡ false) }
+    {
+        let _ = self
+            .entries
+            .hold(&self.files, &self.how, self.paths.folder())?;
+        self.open_to_read(file)?;
+        self.open_files.sync(file, &self.how)?;
         if self.entries.waits(file) {
-            if self.entries.sync(&self.files, self.paths.folder()).is_err() {
-                self.is_lost = true;
-                return Err(Failed);
-            }
+            self.entries.sync(&self.files)?;
         }
         Ok(())
     }
 
-    // Waits until what the file holds is on the disk. It may be absent.
-    fn sync_file(&mut self, file: u64) -> Result<(), Failed> {
-        self.open_to_read(file)?;
-        self.open.sync(file, &self.how)
-    }
-
     pub(crate) fn remove(&mut self, file: u64) -> Result<(), Failed> {
-        let _ = self.open.take(file);
+        let _ = self
+            .entries
+            .hold(&self.files, &self.how, self.paths.folder())?;
+        let _ = self.open_files.take(file);
         let path = self.paths.numbered(file)?;
         if length_at(&self.files, path)?.is_none() {
             return Ok(());

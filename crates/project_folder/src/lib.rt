@@ -9,11 +9,15 @@
 #[cfg(test)]
 mod asking;
 mod counts;
+#[cfg(test)]
+mod drawn_tests;
 mod entries;
 #[cfg(test)]
 mod fault_tests;
 mod file_sink;
 mod file_source;
+#[cfg(test)]
+mod flags;
 mod folder;
 mod listing;
 mod names;
@@ -25,6 +29,7 @@ mod port_fault_tests;
 #[cfg(test)]
 mod port_tests;
 mod sounds;
+mod span;
 mod store;
 #[cfg(test)]
 mod sync_tests;
@@ -32,6 +37,8 @@ mod syncing;
 #[cfg(test)]
 mod tests;
 mod vault;
+#[cfg(test)]
+mod watch;
 #[cfg(test)]
 mod watched;
 

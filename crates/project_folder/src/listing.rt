@@ -11,6 +11,7 @@ use itoa::Buffer;
 use pcm_base::Failed;
 use std::fs;
 use std::io::Read;
+use std::os::unix::fs::FileExt;
 use std::rt::Files;
 
 /// How many bytes of names are read at once.
@@ -93,6 +94,8 @@ pub(crate) fn list_numbers<R: Files + Drop, W: SyncFiles<R::File> + Drop>(
     folder: &mut Folder<R, W>,
     out: &mut Vec<u64>,
 ) -> Result<(), ListFault>
+where
+    R::File: FileExt,
     ensures rising { OnOk result (IsStrictlyIncreasing out.new.items) }
 {
     out.clear();

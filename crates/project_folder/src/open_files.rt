@@ -1,13 +1,22 @@
 // The files that are kept open.
-ghost use Rattle.std.specs.Prelude.{◌≡◌, ◌<◌, ◌≤◌, IfSome, OnOk, vec_len};
+ghost use Rattle.std.specs.Prelude.{◌≡◌, ◌≢◌, ◌<◌, [], IfSome, IfNone, OnOk, All, length};
+ghost use Rattle.project_folder.specs.Unsynced.{IsEmpty, IsSynced};
 
+use crate::span::Span;
 use crate::syncing::SyncFiles;
 use pcm_base::Failed;
 use std::alloc::{AllocError, Global};
 use std::fs::OpenFile;
+use std::os::unix::fs::FileExt;
 
-/// How many files besides file 0 are kept open that were written and not asked to be synced since.
-const WRITTEN_FILES: usize = 512;
+/// How many files besides file 0 are kept open at most that were written and not asked to be synced since.
+pub(crate) const WRITTEN_FILES: usize = 512;
+
+/// How many more are kept open at most, which were read or synced: as many as a project has tracks.
+const READ_FILES: usize = 64;
+
+/// How many of either kind are kept at least, also where the system grants few descriptors.
+const FEWEST_FILES: usize = 8;
 
 /// An open file of a store by its number.
 #[derive(Drop)]
@@ -16,88 +25,142 @@ pub struct Handle<F> {
     pub(crate) inner: F,
     // Whether it was opened to be written too.
     pub(crate) is_writable: bool,
+    // What was written through it and not synced since.
+    pub(crate) unsynced: Span,
 }
 
-/// File 0 once it was used, the other file that was read or synced last, and the other files that were written and not
-/// asked to be synced since, the one written first in front.
+/// File 0 once it was used, and other files: those that were written up to their sync, and some that were read or
+/// synced last. In each list the file that came first is in front.
 ///
 /// What was written stays open up to its sync, since the system surely tells a write that was lost behind the call only
 /// to those who had the file open then. The first file that is asked to be synced has all of them synced with it, and
 /// so they are where there are too many. A caller can't tell this from a disk that is quick.
 #[derive(Drop)]
 pub(crate) struct OpenFiles<F> {
-    first: Option<Handle<F>>,
-    last: Option<Handle<F>>,
-    written: Vec<Handle<F>>,
-    // How many of those that were written, from the front on, are synced.
-    synced: usize,
-    ghost within: { synced ≤ vec_len written },
+    pub(crate) first: Option<Handle<F>>,
+    // Written and not synced since.
+    pub(crate) waiting: Vec<Handle<F>>,
+    // Written, synced with another file, and not asked to be synced since.
+    synced: Vec<Handle<F>>,
+    // Read, or synced as was asked.
+    read: Vec<Handle<F>>,
+    // How many of the written ones are kept, and how many of the others, if that is fewer than READ_FILES.
+    most: usize,
+}
+
+impl<F> Handle<F> {
+    // A file that was just opened.
+    pub(crate) fn new(file: u64, inner: F, is_writable: bool) -> Handle<F> {
+        Handle {
+            file,
+            inner,
+            is_writable,
+            unsynced: Span::none(),
+        }
+    }
+}
+
+impl<F: OpenFile> Handle<F> {
+    // Waits until what the file holds is on the disk.
+    fn sync(&mut self) -> Result<(), Failed>
+        ensures { OnOk result (IsEmpty self.new.unsynced) }
+    {
+        if self.inner.sync_data().is_err() {
+            return Err(Failed);
+        }
+        self.unsynced = Span::none();
+        Ok(())
+    }
+}
+
+// Where the file stands among these.
+fn place_in<F>(handles: &[Handle<F>], file: u64) -> Option<usize>
+    ensures inside { IfSome result (λ place. place < length handles.now) }
+    ensures none { IfNone result (All (λ handle. handle.file ≢ file) handles.now) }
+{
+    for place in 0..handles.len() {
+        if handles[place].file == file {
+            return Some(place);
+        }
+    }
+    None
+}
+
+// Takes the file out, if it is one of these.
+fn take_from<F>(handles: &mut Vec<Handle<F>>, file: u64) -> Option<Handle<F>> {
+    let place = place_in(handles.as_slice(), file)?;
+    Some(handles.remove(place))
+}
+
+// Closes the file that came first.
+fn close_first<F: Drop>(handles: &mut Vec<Handle<F>>) {
+    if !handles.is_empty() {
+        let _ = handles.remove(0);
+    }
+}
+
+fn add<F: Drop>(handles: &mut Vec<Handle<F>>, handle: Handle<F>) -> Result<(), Failed> {
+    match handles.push(handle) {
+        Ok(()) => Ok(()),
+        Err(_) => Err(Failed),
+    }
 }
 
 impl<F: OpenFile + Drop> OpenFiles<F> {
-    // None is open yet.
-    pub(crate) fn new(alloc: Global) -> Result<OpenFiles<F>, AllocError> {
+    // None is open yet. So many that were written are kept at most.
+    pub(crate) fn new(alloc: Global, most: usize) -> Result<OpenFiles<F>, AllocError> {
         Ok(OpenFiles {
             first: None,
-            last: None,
-            written: Vec::with_capacity(alloc, WRITTEN_FILES)?,
-            synced: 0,
+            waiting: Vec::with_capacity(alloc, most)?,
+            synced: Vec::with_capacity(alloc, most)?,
+            read: Vec::with_capacity(alloc, READ_FILES)?,
+            most,
         })
-    }
-
-    // Where the file stands among those that were written.
-    fn place_of(&self, file: u64) -> Option<usize>
-        ensures inside { IfSome result (λ place. place < vec_len self.now.written) }
-    {
-        (0..self.written.len()).find(|place| self.written[*place].file == file)
     }
 
     // The open file of this number.
     pub(crate) fn get(&self, file: u64) -> Option<&Handle<F>> {
-        if let Some(place) = self.place_of(file) {
-            return self.written.get(place);
+        if file == 0 {
+            return self.first.as_ref();
         }
-        let handle = if file == 0 { &self.first } else { &self.last };
-        match handle {
-            Some(handle) if handle.file == file => Some(handle),
-            _ => None,
+        for handles in [&self.waiting, &self.synced, &self.read] {
+            if let Some(place) = place_in(handles.as_slice(), file) {
+                return handles.get(place);
+            }
         }
+        None
     }
 
     // Takes the open file of this number out.
     pub(crate) fn take(&mut self, file: u64) -> Option<Handle<F>> {
-        if let Some(place) = self.place_of(file) {
-            return Some(self.take_written(place));
-        }
         if file == 0 {
             return self.first.take();
         }
-        match &self.last {
-            Some(handle) if handle.file == file => self.last.take(),
-            _ => None,
+        if let Some(handle) = take_from(&mut self.waiting, file) {
+            return Some(handle);
         }
-    }
-
-    fn take_written(&mut self, place: usize) -> Handle<F>
-        requires { place < vec_len self.old.written }
-    {
-        if place < self.synced {
-            self.synced -= 1;
+        if let Some(handle) = take_from(&mut self.synced, file) {
+            return Some(handle);
         }
-        self.written.remove(place)
+        take_from(&mut self.read, file)
     }
 
     // Keeps a file open that has nothing to be synced. Another one may be closed for it.
-    pub(crate) fn keep(&mut self, handle: Handle<F>) {
+    pub(crate) fn keep(&mut self, handle: Handle<F>) -> Result<(), Failed>
+        ensures waiting { self.new.waiting ≡ self.old.waiting }
+    {
         if handle.file == 0 {
             self.first = Some(handle);
-        } else {
-            self.last = Some(handle);
+            return Ok(());
         }
+        if self.read.len() >= READ_FILES.min(self.most) {
+            close_first(&mut self.read);
+        }
+        add(&mut self.read, handle)
     }
 
     // Keeps a file open up to its sync. Where there are too many such files all are synced, and the first is closed.
-    pub(crate) fn keep_written<W: SyncFiles<F>>(
+    pub(crate) fn keep_waiting<W: SyncFiles<F>>(
         &mut self,
         handle: Handle<F>,
         how: &W,
@@ -106,55 +169,83 @@ impl<F: OpenFile + Drop> OpenFiles<F> {
             self.first = Some(handle);
             return Ok(());
         }
-        if self.written.len() >= WRITTEN_FILES {
-            if self.synced == 0 {
-                self.sync_written(how)?;
+        if self.waiting.len() >= self.most.saturating_sub(self.synced.len()) {
+            if self.synced.is_empty() {
+                self.sync_waiting(how)?;
             }
-            self.close_first();
+            close_first(&mut self.synced);
         }
-        match self.written.push(handle) {
+        add(&mut self.waiting, handle)
+    }
+
+    // Waits until what the file holds is on the disk, if it is open.
+    pub(crate) fn sync<W: SyncFiles<F>>(&mut self, file: u64, how: &W) -> Result<(), Failed>
+        ensures { OnOk result (IsSynced file self.new.first self.new.waiting.items) }
+    {
+        if file == 0 {
+            return self.sync_first();
+        }
+        if place_in(self.waiting.as_slice(), file).is_some() {
+            self.sync_waiting(how)?;
+        }
+        if let Some(handle) = take_from(&mut self.synced, file) {
+            return self.keep(handle);
+        }
+        // It was not written here: an earlier program may have written it.
+        match place_in(self.read.as_slice(), file) {
+            Some(place) if self.read[place].inner.sync_data().is_err() => Err(Failed),
+            _ => Ok(()),
+        }
+    }
+
+    fn sync_first(&mut self) -> Result<(), Failed>
+        ensures waiting { self.new.waiting ≡ self.old.waiting }
+        ensures first { OnOk result (IfSome self.new.first (λ handle. IsEmpty handle.unsynced)) }
+    {
+        match &mut self.first {
+            Some(handle) => handle.sync(),
+            None => Ok(()),
+        }
+    }
+
+    // Waits for all files that were written, but for file 0.
+    fn sync_waiting<W: SyncFiles<F>>(&mut self, how: &W) -> Result<(), Failed>
+        ensures { OnOk result (self.new.waiting.items ≡ []) }
+    {
+        how.sync_files(self.waiting.as_slice())?;
+        for handle in self.waiting.iter_mut() {
+            handle.unsynced = Span::none();
+        }
+        match self.synced.append(&mut self.waiting) {
             Ok(()) => Ok(()),
             Err(_) => Err(Failed),
         }
     }
 
-    // Waits until what the file holds is on the disk, if it is open.
-    pub(crate) fn sync<W: SyncFiles<F>>(&mut self, file: u64, how: &W) -> Result<(), Failed> {
-        let Some(place) = self.place_of(file) else {
-            return self.sync_again(file);
-        };
-        if place >= self.synced {
-            self.sync_written(how)?;
-        }
-        if let Some(handle) = self.take(file) {
-            self.keep(handle);
-        }
-        Ok(())
-    }
-
-    // Waits for file 0, or for one that was not written here, if it is open: an earlier program may have written it.
-    fn sync_again(&self, file: u64) -> Result<(), Failed> {
-        match self.get(file) {
-            Some(handle) if handle.inner.sync_data().is_err() => Err(Failed),
-            _ => Ok(()),
-        }
-    }
-
-    // Closes the file that was written first.
-    fn close_first(&mut self) {
-        if !self.written.is_empty() {
-            let _ = self.take_written(0);
-        }
-    }
-
-    // Waits for all files that were written.
-    fn sync_written<W: SyncFiles<F>>(&mut self, how: &W) -> Result<(), Failed>
-        ensures all { OnOk result (self.new.synced ≡ vec_len self.new.written) }
-        ensures kept { self.new.written ≡ self.old.written }
+    // Writes again what was written and not synced, as the files read.
+    pub(crate) fn write_again(&self)
+    where
+        F: FileExt,
     {
-        let (_, waiting) = self.written.split_at(self.synced);
-        how.sync_files(waiting)?;
-        self.synced = self.written.len();
-        Ok(())
+        for handle in &self.first {
+            handle.unsynced.write_again(&handle.inner);
+        }
+        for handle in &self.waiting {
+            handle.unsynced.write_again(&handle.inner);
+        }
+    }
+
+    // Closes all files, once they are synced, and says whether there were any. From then on no more than a quarter of their
+    // number is kept of those that are written, and of the others, so that half of the descriptors stay free.
+    pub(crate) fn close_all<W: SyncFiles<F>>(&mut self, how: &W) -> Result<bool, Failed> {
+        self.sync_waiting(how)?;
+        self.sync_first()?;
+        let count = self.synced.len().saturating_add(self.read.len());
+        let is_any = count > 0 || self.first.is_some();
+        self.most = self.most.min((count / 4).max(FEWEST_FILES));
+        self.first = None;
+        self.synced.clear();
+        self.read.clear();
+        Ok(is_any)
     }
 }

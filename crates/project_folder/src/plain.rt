@@ -1,5 +1,5 @@
 // Plain files by their paths: how they are told from what else may stand there, opened, made, read and written.
-ghost use Rattle.std.specs.Prelude.{◌≡◌, ◌≤◌, ◌^◌, ◌+◌, IfOk, OnOk, IfSome, IsTrue, length};
+ghost use Rattle.std.specs.Prelude.{◌≡◌, ◌<◌, ◌≤◌, ◌^◌, ◌+◌, IfOk, OnOk, IfSome, IfNone, IsTrue, length};
 ghost use Rattle.std.specs.Fs.{file_type, metadata_len, IsDir, IsFile, IsSymlink};
 
 use pcm_base::Failed;
@@ -11,15 +11,15 @@ use std::rt::Files;
 /// How many bytes a file has at most.
 const LONGEST: u64 = 1 << 62;
 
-/// What the making of a file has come to.
+/// What the opening of a file, or the making of a new one, has come to.
 #[derive(Drop)]
-pub(crate) enum Made<F> {
-    /// It is there now, and empty.
-    New(F),
-    /// Something stands at its path already.
+pub(crate) enum Opened<F> {
+    /// It is open.
+    Open(F),
+    /// Something stands already where it is to be made.
     There,
-    /// Its folder is absent.
-    NoFolder,
+    /// It is absent, or the folder in which it is to be made.
+    Absent,
 }
 
 // How many bytes a plain file has. What is no plain file, or is longer than 2^62 bytes, is refused.
@@ -72,17 +72,17 @@ pub(crate) fn open_plain<R: Files>(
     }
 }
 
-// Makes an empty file, where nothing stands at the path. The options ask for a new file, and so follow no link.
-pub(crate) fn make_new<R: Files>(
+// Opens a file as the options say, or makes it, where they ask for a new one: that follows no link.
+pub(crate) fn open_at<R: Files>(
     files: &R,
     how: &OpenOptions,
     path: &str,
-) -> Result<Made<R::File>, Failed> {
+) -> Result<Opened<R::File>, Failed> {
     match how.open(files, path) {
-        Ok(file) => Ok(Made::New(file)),
+        Ok(file) => Ok(Opened::Open(file)),
         Err(error) => match error.kind() {
-            ErrorKind::AlreadyExists => Ok(Made::There),
-            ErrorKind::NotFound => Ok(Made::NoFolder),
+            ErrorKind::AlreadyExists => Ok(Opened::There),
+            ErrorKind::NotFound => Ok(Opened::Absent),
             _ => Err(Failed),
         },
     }
@@ -155,11 +155,24 @@ fn reach<F: OpenFile>(file: &F, length: u64) -> Result<(), Failed> {
     let Ok(metadata) = file.metadata() else {
         return Err(Failed);
     };
-    if metadata.len() >= length {
+    let Some(length) = longer(&metadata, length) else {
         return Ok(());
-    }
+    };
     match file.set_len(length) {
         Ok(()) => Ok(()),
         Err(_) => Err(Failed),
+    }
+}
+
+// The length, where the file is shorter.
+fn longer(metadata: &Metadata, length: u64) -> Option<u64>
+    ensures grows { IfSome result (λ n. metadata_len metadata.now < n) }
+    ensures length { IfSome result (λ n. n ≡ length) }
+    ensures enough { IfNone result (length ≤ metadata_len metadata.now) }
+{
+    if metadata.len() < length {
+        Some(length)
+    } else {
+        None
     }
 }

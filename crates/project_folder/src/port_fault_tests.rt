@@ -1,5 +1,6 @@
 // Each kind of call of the system fails once below each call of a vault, a source or a sink that makes it.
-use crate::watched::{Call, watch_files};
+use crate::watch::Call;
+use crate::watched::watch_files;
 use crate::{FileSink, FileSource, FolderVault};
 use edit_ports::{Sink, Source, Vault};
 use std::alloc::AllocError;

@@ -34,7 +34,7 @@ fn does<V: Vault>(vault: &mut V, call: OnSound) -> bool {
     }
 }
 
-const ON_SOUNDS: [OnSound; 11] = [
+const ON_SOUNDS: [OnSound; 20] = [
     OnSound::Size("a.wav", None),
     OnSound::Read("a.wav", 0, b""),
     OnSound::Append("a.wav", b"abc"),
@@ -46,6 +46,16 @@ const ON_SOUNDS: [OnSound; 11] = [
     OnSound::Start("a.wav"),
     OnSound::Append("a.wav", b"f"),
     OnSound::Size("a.wav", Some(1)),
+    // One that is open to be written, then another that was opened to be read, then one that was read is written.
+    OnSound::Read("b.wav", 0, b""),
+    OnSound::Append("b.wav", b"gh"),
+    OnSound::Read("a.wav", 0, b"f"),
+    OnSound::Start("a.wav"),
+    OnSound::Append("a.wav", b"i"),
+    OnSound::Read("b.wav", 1, b"h"),
+    OnSound::Start("b.wav"),
+    OnSound::Read("a.wav", 0, b"i"),
+    OnSound::Size("b.wav", Some(0)),
 ];
 
 #[test]

@@ -1,10 +1,10 @@
 // The sounds of a folder, by calls of the system. No fault is counted here.
-ghost use Rattle.std.specs.Prelude.{◌≤◌, length, IfOk, OnOk};
+ghost use Rattle.std.specs.Prelude.{◌≡◌, ◌≤◌, true, length, IfOk, IfSome, OnOk, IsSome, IsSomeAnd, IsTrue};
 ghost use Rattle.pcm_base.specs.Form.{IsName};
 
 use crate::names::is_name;
 use crate::paths::{Paths, with_slash};
-use crate::plain::{Made, length_at, make_folder, make_new, open_plain, plain_length, read_full};
+use crate::plain::{Opened, length_at, make_folder, open_at, open_plain, plain_length, read_full};
 use pcm_base::Failed;
 use std::alloc::{AllocError, Global};
 use std::fs::{OpenFile, OpenOptions};
@@ -15,14 +15,21 @@ use std::rt::Files;
 /// No sound has a byte so far from its start.
 const FARTHEST: u64 = 1 << 62;
 
+/// The open file of a sound.
+#[derive(Drop)]
+struct Sound<F> {
+    inner: F,
+    // Whether it was opened to be written at its end too.
+    is_writable: bool,
+}
+
 /// The sound of a name is `sounds/NAME` of a folder. The one that was used last stays open.
 #[derive(Drop)]
 pub(crate) struct Sounds<R: Files> {
     files: R,
     home: String,
     paths: Paths,
-    open: Option<R::File>,
-    is_writable: bool,
+    sound: Option<Sound<R::File>>,
 }
 
 // Options by which what is written goes to the file's end.
@@ -39,14 +46,19 @@ impl<R: Files + Drop> Sounds<R> {
             files,
             home: with_slash(alloc, home)?,
             paths: Paths::new(alloc, home, "sounds")?,
-            open: None,
-            is_writable: false,
+            sound: None,
         })
     }
 
     // Whether the open file is the sound, and may be written where that is asked for.
-    fn has_open(&self, name: &str, writes: bool) -> bool {
-        self.open.is_some() && self.paths.is_at(name) && (self.is_writable || !writes)
+    fn has_open(&self, name: &str, writes: bool) -> bool
+        ensures there { IsTrue result → IsSome self.now.sound }
+        ensures writes { IsTrue result → IsTrue writes → IfSome self.now.sound (λ sound. sound.is_writable ≡ true) }
+    {
+        match &self.sound {
+            Some(sound) => self.paths.is_at(name) && (sound.is_writable || !writes),
+            None => false,
+        }
     }
 
     pub(crate) fn size(&mut self, name: &str) -> Result<Option<u64>, Failed>
@@ -56,14 +68,14 @@ impl<R: Files + Drop> Sounds<R> {
             return Err(Failed);
         }
         if self.has_open(name, false) {
-            if let Some(file) = &self.open {
-                let Ok(metadata) = file.metadata() else {
+            if let Some(sound) = &self.sound {
+                let Ok(metadata) = sound.inner.metadata() else {
                     return Err(Failed);
                 };
                 return Ok(Some(plain_length(&metadata)?));
             }
         }
-        self.open = None;
+        self.sound = None;
         length_at(&self.files, self.paths.named(name)?)
     }
 
@@ -77,23 +89,28 @@ impl<R: Files + Drop> Sounds<R> {
             return Err(Failed);
         }
         if !self.has_open(name, false) {
-            self.open = None;
-            self.is_writable = false;
+            self.sound = None;
             let path = self.paths.named(name)?;
-            self.open = open_plain(&self.files, OpenOptions::new().read(true), path)?;
+            if let Some(inner) = open_plain(&self.files, OpenOptions::new().read(true), path)? {
+                self.sound = Some(Sound {
+                    inner,
+                    is_writable: false,
+                });
+            }
         }
-        let Some(file) = &self.open else {
+        let Some(sound) = &self.sound else {
             return Ok(0);
         };
         if at > FARTHEST || buf.len() as u64 > FARTHEST {
             return Ok(0);
         }
-        read_full(file, at, buf)
+        read_full(&sound.inner, at, buf)
     }
 
     // Has the sound open to be written at its end, and makes it where it is absent.
     fn open_to_append(&mut self, name: &str) -> Result<(), Failed>
         ensures named { OnOk result (IsName name.now) }
+        ensures writable { OnOk result (IsSomeAnd self.new.sound (λ sound. sound.is_writable ≡ true)) }
     {
         if !is_name(name.as_bytes()) {
             return Err(Failed);
@@ -101,13 +118,16 @@ impl<R: Files + Drop> Sounds<R> {
         if self.has_open(name, true) {
             return Ok(());
         }
-        self.open = None;
-        self.is_writable = true;
+        self.sound = None;
         let path = self.paths.named(name)?;
-        self.open = open_plain(&self.files, &appending(), path)?;
-        if self.open.is_none() {
-            self.open = Some(self.make(name)?);
-        }
+        let inner = match open_plain(&self.files, &appending(), path)? {
+            Some(inner) => inner,
+            None => self.make(name)?,
+        };
+        self.sound = Some(Sound {
+            inner,
+            is_writable: true,
+        });
         Ok(())
     }
 
@@ -115,13 +135,13 @@ impl<R: Files + Drop> Sounds<R> {
         let mut how = appending();
         let how = how.create_new(true);
         let path = self.paths.named(name)?;
-        if let Made::New(file) = make_new(&self.files, how, path)? {
+        if let Opened::Open(file) = open_at(&self.files, how, path)? {
             return Ok(file);
         }
         let _ = make_folder(&self.files, self.home.as_str())?;
         let _ = make_folder(&self.files, self.paths.folder())?;
-        match make_new(&self.files, how, self.paths.named(name)?)? {
-            Made::New(file) => Ok(file),
+        match open_at(&self.files, how, self.paths.named(name)?)? {
+            Opened::Open(file) => Ok(file),
             _ => Err(Failed),
         }
     }
@@ -130,10 +150,10 @@ impl<R: Files + Drop> Sounds<R> {
         ensures named { OnOk result (IsName name.now) }
     {
         self.open_to_append(name)?;
-        let Some(file) = &self.open else {
+        let Some(sound) = &self.sound else {
             return Err(Failed);
         };
-        match file.set_len(0) {
+        match sound.inner.set_len(0) {
             Ok(()) => Ok(()),
             Err(_) => Err(Failed),
         }
@@ -143,10 +163,10 @@ impl<R: Files + Drop> Sounds<R> {
         ensures named { OnOk result (IsName name.now) }
     {
         self.open_to_append(name)?;
-        let Some(file) = &mut self.open else {
+        let Some(sound) = &mut self.sound else {
             return Err(Failed);
         };
-        match file.write_all(bytes) {
+        match sound.inner.write_all(bytes) {
             Ok(()) => Ok(()),
             Err(_) => Err(Failed),
         }

@@ -6,6 +6,7 @@ ghost use Rattle.project_folder.specs.Counts.{no_counts};
 use crate::counts::Counts;
 use crate::folder::Folder;
 use crate::listing::list_numbers;
+use crate::open_files::WRITTEN_FILES;
 use crate::syncing::{OneByOne, SideBySide, SyncFiles};
 use disk_model::{ListFault, Store};
 use pcm_base::Failed;
@@ -26,7 +27,10 @@ pub struct FolderStore<R: Files, W> {
     counts: Counts,
 }
 
-impl<R: Files + Drop> FolderStore<R, OneByOne> {
+impl<R: Files + Drop> FolderStore<R, OneByOne>
+where
+    R::File: FileExt,
+{
     /// The files of the project in the folder `home`; an empty name is the current folder. Nothing is opened yet.
     ///
     /// # Errors
@@ -34,7 +38,7 @@ impl<R: Files + Drop> FolderStore<R, OneByOne> {
     pub fn new(files: R, alloc: Global, home: &str) -> Result<FolderStore<R, OneByOne>, AllocError>
         ensures { IfOk result (λ store. store.counts ≡ no_counts) }
     {
-        FolderStore::over(files, OneByOne, alloc, home)
+        FolderStore::over(files, OneByOne, alloc, home, WRITTEN_FILES)
     }
 }
 
@@ -51,16 +55,27 @@ impl<R: Files<File = File> + Drop, T: Threads + Drop> FolderStore<R, SideBySide<
     ) -> Result<FolderStore<R, SideBySide<T>>, AllocError>
         ensures { IfOk result (λ store. store.counts ≡ no_counts) }
     {
-        FolderStore::over(files, SideBySide::new(threads), alloc, home)
+        let how = SideBySide::new(threads);
+        FolderStore::over(files, how, alloc, home, WRITTEN_FILES)
     }
 }
 
-impl<R: Files + Drop, W: SyncFiles<R::File> + Drop> FolderStore<R, W> {
-    fn over(files: R, how: W, alloc: Global, home: &str) -> Result<FolderStore<R, W>, AllocError>
+impl<R: Files + Drop, W: SyncFiles<R::File> + Drop> FolderStore<R, W>
+where
+    R::File: FileExt,
+{
+    // So many files that were written are kept open at most.
+    pub(crate) fn over(
+        files: R,
+        how: W,
+        alloc: Global,
+        home: &str,
+        most: usize,
+    ) -> Result<FolderStore<R, W>, AllocError>
         ensures { IfOk result (λ store. store.counts ≡ no_counts) }
     {
         Ok(FolderStore {
-            folder: Folder::new(files, how, alloc, home)?,
+            folder: Folder::new(files, how, alloc, home, most)?,
             counts: Counts::new(),
         })
     }

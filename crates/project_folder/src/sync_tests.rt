@@ -1,4 +1,5 @@
-// Files that are waited for side by side.
+// Files that are waited for side by side, and folders that are locked.
+use crate::asking::{Asked, ask};
 use crate::open_files::Handle;
 use crate::{FolderStore, SideBySide, SyncFiles};
 use disk_model::Store;
@@ -11,11 +12,7 @@ const NO_DISK: &str = "/dev/null";
 
 fn handle_of(rt: HostRuntime, path: &str) -> Result<Handle<File>, Failed> {
     match OpenOptions::new().read(true).open(&rt, path) {
-        Ok(inner) => Ok(Handle {
-            file: 16,
-            inner,
-            is_writable: false,
-        }),
+        Ok(inner) => Ok(Handle::new(16, inner, false)),
         Err(_) => Err(Failed),
     }
 }
@@ -82,6 +79,23 @@ fn files_are_kept_whichever_way_they_are_waited_for(rt: HostRuntime) -> Result<(
     let _ = fs::remove_dir_all(&rt, home);
     let mut store = FolderStore::side_by_side(rt, rt, rt.alloc(), home)?;
     assert!(rt; are_kept(&mut store) && store.faults() == 0);
+    let _ = fs::remove_dir_all(&rt, home);
+    Ok(())
+}
+
+#[test]
+fn a_folder_has_one_store_at_a_time(rt: HostRuntime) -> Result<(), AllocError> {
+    let home = "folder-locked";
+    let _ = fs::remove_dir_all(&rt, home);
+    let mut first = FolderStore::side_by_side(rt, rt, rt.alloc(), home)?;
+    let mut second = FolderStore::side_by_side(rt, rt, rt.alloc(), home)?;
+    assert!(rt; ask(&mut first, Asked::Write, 16));
+    for asked in [Asked::Write, Asked::Sync, Asked::Remove] {
+        assert!(rt; !ask(&mut second, asked, 16) && ask(&mut first, Asked::Sync, 16));
+    }
+    assert!(rt; second.change_faults() == 3 && second.size(16) == Ok(Some(4)));
+    drop(first);
+    assert!(rt; ask(&mut second, Asked::Write, 16));
     let _ = fs::remove_dir_all(&rt, home);
     Ok(())
 }

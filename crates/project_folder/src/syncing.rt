@@ -1,13 +1,13 @@
-// How several files are waited for.
+// How several files are waited for, and how a folder is locked.
 use crate::open_files::Handle;
 use pcm_base::Failed;
-use std::fs::{File, OpenFile};
+use std::fs::{File, OpenFile, TryLockError};
 use std::thread::{Threads, join};
 
 /// How many threads wait at once: behind more than these one sync hardly gets quicker for another.
 const THREADS: usize = 16;
 
-/// Waits until what each of several open files holds is on the disk.
+/// Waits until what each of several open files holds is on the disk, and locks a folder.
 ///
 /// A file system mostly puts files on its disk that are waited for at the same time for the price of a few.
 pub trait SyncFiles<F> {
@@ -16,9 +16,15 @@ pub trait SyncFiles<F> {
     /// # Errors
     /// The system failed to put one of them on the disk. What the others came to isn't told.
     fn sync_files(&self, files: &[Handle<F>]) -> Result<(), Failed>;
+
+    /// Locks an open folder until it is closed. A file system that has no locks is used without.
+    ///
+    /// # Errors
+    /// It is locked through another handle, of this program or of another one.
+    fn lock(&self, folder: &F) -> Result<(), Failed>;
 }
 
-/// Waits for one file behind the other.
+/// Waits for one file after the other, and locks nothing.
 #[derive(Drop)]
 pub struct OneByOne;
 
@@ -40,12 +46,23 @@ impl<F: OpenFile> SyncFiles<F> for OneByOne {
     fn sync_files(&self, files: &[Handle<F>]) -> Result<(), Failed> {
         sync_each(files)
     }
+
+    fn lock(&self, _folder: &F) -> Result<(), Failed> {
+        Ok(())
+    }
 }
 
 // The files are the system's own: a thread can't be given a file of a type that is known to the caller alone.
 impl<T: Threads> SyncFiles<File> for SideBySide<T> {
     fn sync_files(&self, files: &[Handle<File>]) -> Result<(), Failed> {
         sync_parts(&self.threads, files, files.len().div_ceil(THREADS))
+    }
+
+    fn lock(&self, folder: &File) -> Result<(), Failed> {
+        match folder.try_lock() {
+            Err(TryLockError::WouldBlock) => Err(Failed),
+            _ => Ok(()),
+        }
     }
 }
 

@@ -1,16 +1,18 @@
 // The real folder: each test has one of its own, and removes it.
 use crate::FolderStore;
 use crate::asking::{Asked, Step, first_other};
+use crate::watch::Call;
 use disk_model::Store;
 use std::alloc::AllocError;
 use std::fs;
 use std::os::unix::fs::symlink;
 
-const KEPT: [Step; 17] = [
+const KEPT: [Step; 18] = [
     Step::Size(16, None),
     Step::Write(16, 3, b"abc"),
     Step::Write(0, 5, b""),
     Step::Write(16, 1, b"x"),
+    Step::Write(16, 2, b""),
     Step::Size(16, Some(6)),
     Step::Size(0, Some(5)),
     Step::Read(16, 1, b"x\0abc"),
@@ -153,21 +155,31 @@ const CALLS: [Step; 34] = [
     Step::Counts([0, 2, 0, 0, 1, 1]),
     Step::Write(18, 3, b"p"),
     Step::Done(Asked::Sync, 18),
-    Step::Counts([2, 1, 1, 1, 0, 0]),
+    Step::Counts([0, 0, 1, 1, 0, 0]),
     Step::Faults(0, 0),
 ];
 
 // 512 files are kept open up to their sync. One more has all of them synced. The first of them is then
-// opened and synced anew, and the last one synced. The folder is synced by the first sync, with the two above it.
+// opened and synced anew, and the last one synced. The folder is opened by the first write, which makes it, and synced
+// by the first sync, with the two above it.
 const MANY: [Step; 8] = [
     Step::All(Asked::Write, 16, 528),
-    Step::Counts([513, 0, 512, 0, 0, 0]),
+    Step::Counts([514, 0, 512, 0, 0, 0]),
     Step::Done(Asked::Write, 528),
     Step::Counts([1, 0, 1, 512, 0, 0]),
     Step::All(Asked::Sync, 16, 529),
-    Step::Counts([4, 1, 0, 2, 3, 0]),
+    Step::Counts([3, 1, 0, 2, 3, 0]),
     Step::All(Asked::Read, 16, 529),
     Step::Faults(0, 0),
+];
+
+// 64 files that were read stay open.
+const READ: [Step; 5] = [
+    Step::All(Asked::Read, 16, 80),
+    Step::Counts([64, 64, 0, 0, 0, 0]),
+    Step::All(Asked::Read, 16, 80),
+    Step::Counts([0, 0, 0, 0, 0, 0]),
+    Step::All(Asked::Read, 80, 90),
 ];
 
 #[test]
@@ -179,7 +191,32 @@ fn calls_are_as_few_as_the_disk_asks(rt: HostRuntime) -> Result<(), AllocError> 
         let _ = fs::remove_dir_all(&rt, home);
         let other = first_other(rt, home, steps)?;
         assert!(rt; other.is_none(), "{home} {other:?}");
-        let _ = fs::remove_dir_all(&rt, home);
     }
+    let other = first_other(rt, "folder-many", &READ)?;
+    assert!(rt; other.is_none(), "{other:?}");
+    let _ = fs::remove_dir_all(&rt, "folder-calls");
+    let _ = fs::remove_dir_all(&rt, "folder-many");
+    Ok(())
+}
+
+// The system gives the names of 600 files in several reads, and the second of them, or a later one, may fail.
+const LISTED: [Step; 9] = [
+    Step::All(Asked::Write, 16, 616),
+    Step::Lists(16, 616),
+    Step::FailAt(Call::Read, 1),
+    Step::ListFails,
+    Step::FailAt(Call::Read, 3),
+    Step::ListFails,
+    Step::Faults(2, 0),
+    Step::ServeAll,
+    Step::Lists(16, 616),
+];
+
+#[test]
+fn many_files_are_listed_whole(rt: HostRuntime) -> Result<(), AllocError> {
+    let _ = fs::remove_dir_all(&rt, "folder-listed");
+    let other = first_other(rt, "folder-listed", &LISTED)?;
+    assert!(rt; other.is_none(), "{other:?}");
+    let _ = fs::remove_dir_all(&rt, "folder-listed");
     Ok(())
 }

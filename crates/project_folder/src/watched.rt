@@ -1,118 +1,12 @@
 // Files of the system that are counted, and that fail where a test wants it.
-ghost use Rattle.std.specs.Prelude.{◌<◌, IfSome};
-
+use crate::flags::{Place, place_at};
+use crate::watch::{Call, Watch};
 use std::alloc::AllocError;
-use std::cell::Cell;
 use std::fs::{self, FileTimes, Metadata, OpenFile, OpenOptions};
-use std::io::{self, ErrorKind, Read, Seek, SeekFrom, Write};
+use std::io::{self, Read, Seek, SeekFrom, Write};
 use std::os::unix::fs::FileExt;
 use std::rc::Rc;
 use std::rt::Files;
-
-/// A kind of call of the system.
-#[derive(Clone, Copy, Debug, PartialEq, Eq)]
-pub(crate) enum Call {
-    /// A file or a folder is opened, or a file is made.
-    Open,
-    /// What stands at a path, or how long an open file is, is asked.
-    Look,
-    /// A folder is opened to be listed.
-    List,
-    /// Bytes or names are read.
-    Read,
-    /// Bytes are written.
-    Write,
-    /// An open file is made longer or shorter.
-    Resize,
-    /// A file is synced.
-    SyncFile,
-    /// A folder is synced.
-    SyncFolder,
-    /// A file is removed.
-    Remove,
-    /// A folder is made.
-    MakeFolder,
-}
-
-/// What a test wants of the calls, and what was counted.
-#[derive(Drop)]
-pub(crate) struct Watch {
-    /// Calls of this kind fail.
-    pub(crate) fails: Cell<Option<Call>>,
-    // How many of them are served before.
-    served: Cell<u32>,
-    /// How they fail.
-    pub(crate) kind: Cell<ErrorKind>,
-    /// How many bytes a read or a write moves at most.
-    pub(crate) most: Cell<usize>,
-    /// How long each file is told to be, in place of what it is.
-    pub(crate) told: Cell<Option<u64>>,
-    /// How many calls there were: openings, looks, writes, syncs of files and of folders, and removals.
-    counted: Cell<[u32; 6]>,
-}
-
-impl Watch {
-    fn new() -> Watch {
-        Watch {
-            fails: Cell::new(None),
-            served: Cell::new(0),
-            kind: Cell::new(ErrorKind::Other),
-            most: Cell::new(4096),
-            told: Cell::new(None),
-            counted: Cell::new([0; 6]),
-        }
-    }
-
-    /// From now on calls of this kind fail, behind so many that are served.
-    pub(crate) fn fail(&self, call: Call, served: u32) {
-        self.fails.set(Some(call));
-        self.served.set(served);
-    }
-
-    /// What was counted since this was asked last.
-    pub(crate) fn count(&self) -> [u32; 6] {
-        self.counted.replace([0; 6])
-    }
-
-    // Counts a call, and fails where that is wanted.
-    fn meet(&self, call: Call) -> io::Result<()> {
-        if let Some(place) = place_of(call) {
-            let mut counted = self.counted.get();
-            counted[place] = counted[place].saturating_add(1);
-            self.counted.set(counted);
-        }
-        if self.fails.get() != Some(call) {
-            return Ok(());
-        }
-        if self.served.get() > 0 {
-            self.served.set(self.served.get().saturating_sub(1));
-            return Ok(());
-        }
-        Err(io::Error::from(self.kind.get()))
-    }
-
-    fn tell(&self, metadata: Metadata) -> Metadata {
-        match self.told.get() {
-            Some(length) => Metadata::of_file(length),
-            None => metadata,
-        }
-    }
-}
-
-// Where the calls of a kind are counted.
-fn place_of(call: Call) -> Option<usize>
-    ensures { IfSome result (λ place. place < 6) }
-{
-    match call {
-        Call::Open => Some(0),
-        Call::Look => Some(1),
-        Call::Write => Some(2),
-        Call::SyncFile => Some(3),
-        Call::SyncFolder => Some(4),
-        Call::Remove => Some(5),
-        _ => None,
-    }
-}
 
 /// A runtime whose calls on files are watched.
 #[derive(Drop)]
@@ -122,10 +16,36 @@ pub(crate) struct Watched<R> {
 }
 
 /// An open file, or an open folder, whose calls are watched.
-#[derive(Drop)]
 pub(crate) struct WatchedFile<F> {
     inner: F,
+    place: Place,
     watch: Rc<Watch>,
+}
+
+impl<F: Drop> Drop for WatchedFile<F> {
+    fn drop(self) {
+        let WatchedFile {
+            inner: _,
+            place: _,
+            watch,
+        } = self;
+        watch.open.set(watch.open.get().saturating_sub(1));
+    }
+}
+
+/// The names of an open folder, whose reads are watched.
+#[derive(Drop)]
+pub(crate) struct WatchedNames<D> {
+    inner: D,
+    watch: Rc<Watch>,
+}
+
+impl<D: Read> Read for WatchedNames<D> {
+    fn read(&mut self, buf: &mut [u8]) -> io::Result<usize> {
+        self.watch.meet(Call::Read)?;
+        let most = self.watch.most.get().min(buf.len());
+        self.inner.read(&mut buf[..most])
+    }
 }
 
 /// The files of the system, and the watch over them.
@@ -175,6 +95,7 @@ impl<F: FileExt> FileExt for WatchedFile<F> {
 
     fn write_at(&self, buf: &[u8], offset: u64) -> io::Result<usize> {
         self.watch.meet(Call::Write)?;
+        self.watch.flags.write(self.place);
         let most = self.watch.most.get().min(buf.len());
         self.inner.write_at(&buf[..most], offset)
     }
@@ -188,38 +109,49 @@ impl<F: OpenFile> OpenFile for WatchedFile<F> {
 
     fn set_len(&self, size: u64) -> io::Result<()> {
         self.watch.meet(Call::Resize)?;
+        self.watch.flags.write(self.place);
         self.inner.set_len(size)
     }
 
     fn sync_all(&self) -> io::Result<()> {
         self.watch.meet(Call::SyncFolder)?;
-        self.inner.sync_all()
+        self.inner.sync_all()?;
+        self.watch.flags.sync(self.place);
+        Ok(())
     }
 
     fn sync_data(&self) -> io::Result<()> {
         self.watch.meet(Call::SyncFile)?;
-        self.inner.sync_data()
+        self.inner.sync_data()?;
+        self.watch.flags.sync(self.place);
+        Ok(())
     }
 }
 
 impl<R: Files> Files for Watched<R> {
     type File = WatchedFile<R::File>;
 
-    type Dir = WatchedFile<R::Dir>;
+    type Dir = WatchedNames<R::Dir>;
 
     fn open_file(&self, how: &OpenOptions, path: &str) -> io::Result<WatchedFile<R::File>> {
-        self.watch.meet(Call::Open)?;
+        self.watch.meet_opening()?;
         let inner = self.inner.open_file(how, path)?;
+        let place = place_at(path);
+        if how.asks_create_new() {
+            self.watch.flags.make_or_remove(place);
+        }
+        self.watch.open.set(self.watch.open.get().saturating_add(1));
         Ok(WatchedFile {
             inner,
+            place,
             watch: self.watch.clone()?,
         })
     }
 
-    fn open_dir(&self, path: &str) -> io::Result<WatchedFile<R::Dir>> {
+    fn open_dir(&self, path: &str) -> io::Result<WatchedNames<R::Dir>> {
         self.watch.meet(Call::List)?;
         let inner = self.inner.open_dir(path)?;
-        Ok(WatchedFile {
+        Ok(WatchedNames {
             inner,
             watch: self.watch.clone()?,
         })
@@ -245,6 +177,7 @@ impl<R: Files> Files for Watched<R> {
 
     fn remove_file(&self, path: &str) -> io::Result<()> {
         self.watch.meet(Call::Remove)?;
+        self.watch.flags.make_or_remove(place_at(path));
         self.inner.remove_file(path)
     }
 

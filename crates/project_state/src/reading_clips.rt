@@ -115,5 +115,5 @@ pub(crate) fn read_clips(
         from = clip.start + clip.blocks.len() + 1;
         clips.push(clip)?;
     }
-    Ok(Layout::from_clips(clips))
+    Ok(Layout::from_clips(clips)?)
 }

@@ -26,7 +26,7 @@ abbrev pub samples_in : List ℕ → ℕ → ℕ → List ℤ
 samples_in bytes at zero = []
 samples_in bytes at (suc n) = cast_signed w16 (number_at bytes at 2) ∷ samples_in bytes (at + 2) n
 
--- the frame in the 12 bytes from a place on, of so many samples
+-- the frame in the 12 bytes from a place on, of `count` samples
 abbrev pub frame_in : List ℕ → ℕ → ℕ → Summary
 frame_in bytes at count = record {
   min = cast_signed w16 (number_at bytes at 2);
@@ -35,7 +35,7 @@ frame_in bytes at count = record {
   count = count;
 }
 
--- the size, told at 0
+-- the size, reported at 0
 abbrev pub size_difference : ℕ → List ℕ → Option Damaged → Option Damaged
 size_difference n bytes found =
     if length bytes == size_of n then found else Some (record { at = 0; want = size_of n; have = length bytes })
@@ -53,3 +53,8 @@ abbrev pub Gives : Result Block BadBlock → (Option Damaged) × (List ℤ) → 
 Gives (Ok b) (found, xs) = (found ≡ None) × (b.samples ≡ xs)
 Gives (Err bad.NoMemory) (found, xs) = Unit {0}
 Gives (Err (bad.Damaged fault)) (found, xs) = found ≡ Some fault
+
+-- a reading was refused with the fault that was found, unless memory ran out
+abbrev pub IsFoundAs : Option Damaged → BadBlock → Type 0
+IsFoundAs found bad.NoMemory = Unit {0}
+IsFoundAs found (bad.Damaged fault) = found ≡ Some fault

@@ -6,7 +6,7 @@ use Rattle.byteorder.specs.Endian.{little_bytes}
 use Rattle.peak_summary.specs.Peaks.{AreSamples, frames_of, frame_count}
 use Rattle.peak_summary.specs.declared.stretch.Summary.{Summary}
 
--- a number of so many bytes, the lowest of them first
+-- a number of `width` bytes, the lowest of them first
 pub record Field : Type 0 where
   pub width : ℕ
   pub value : ℕ
@@ -20,6 +20,9 @@ field_bytes f = little_bytes f.width f.value
 -- two's complement
 abbrev pub sample_field : ℤ → Field
 sample_field s = number 2 (cast_unsigned w16 s)
+
+abbrev pub sample_bytes : ℤ → List ℕ
+sample_bytes s = field_bytes (sample_field s)
 
 abbrev pub frame_fields : Summary → List Field
 frame_fields f = sample_field f.min ∷ sample_field f.max ∷ number 8 f.squares ∷ []

@@ -1,38 +1,16 @@
 // A whole block file is compared, in no memory but the stack's.
-ghost use Rattle.std.specs.Prelude.{◌≡◌, ◌≤◌, ◌<◌, ◌+◌, ◌*◌, ◌++◌, length, ℤ, List, IsOk, OnOk};
-ghost use Rattle.peak_summary.specs.Peaks.{frame_count, frame_of, frames_of};
+ghost use Rattle.std.specs.Prelude.{◌≡◌, ◌≤◌, ◌+◌, ◌*◌, ◌++◌, length, ℤ, List, IsOk, OnOk};
+ghost use Rattle.peak_summary.specs.Peaks.{frame_count, frames_of};
 ghost use Rattle.sample_block.specs.Faults.{difference, damage_of, samples_in, Tells};
 ghost use Rattle.sample_block.specs.Spelling.{level_fields, size_of, IsSpelled, IsBlock};
 
 use super::damage::Damaged;
 use super::levels::{MAX_LONG_FRAMES, MAX_SHORT_FRAMES};
 use super::reading::{check_both, check_front};
-use byteorder::{ByteOrder, LittleEndian};
-use peak_summary::{NOTHING, Summary, fill_long, of};
+use super::samples::short_frame;
+use peak_summary::{NOTHING, Summary, fill_long};
 
-/// The samples from a place on.
-fn read_samples(bytes: &[u8], at: usize, out: &mut [i16])
-    requires { at + 2 * length out.old ≤ length bytes.now }
-    ensures { out.new ≡ samples_in bytes.now at (length out.old) }
-{
-    LittleEndian::read_i16_into(&bytes[at..at + 2 * out.len()], out);
-}
-
-/// The summary of the samples of frame `i` of 256, in a file of so many samples.
-fn short_frame(bytes: &[u8], len: usize, i: usize) -> Summary
-    requires few { len ≤ 262144 }
-    requires whole { 16 + 2 * len ≤ length bytes.now }
-    requires within { i < frame_count 256 len }
-    ensures { result ≡ frame_of 256 (samples_in bytes.now 16 len) i }
-{
-    let mut samples = [0i16; 256];
-    let count = (len - 256 * i).min(256);
-    let samples = &mut samples[..count];
-    read_samples(bytes, 16 + 512 * i, samples);
-    of(samples)
-}
-
-/// The frames of 256 samples, of a file of so many.
+/// The frames of 256 samples, of a file of `len`.
 fn short_frames(bytes: &[u8], len: usize, out: &mut [Summary])
     requires few { len ≤ 262144 }
     requires whole { 16 + 2 * len ≤ length bytes.now }
@@ -44,7 +22,7 @@ fn short_frames(bytes: &[u8], len: usize, out: &mut [Summary])
     }
 }
 
-/// Both levels of frames, of a file of so many samples.
+/// Both levels of frames, of a file of `len` samples.
 fn measure_file(bytes: &[u8], len: usize, short: &mut [Summary], long: &mut [Summary])
     requires few { len ≤ 262144 }
     requires whole { 16 + 2 * len ≤ length bytes.now }
@@ -57,7 +35,7 @@ fn measure_file(bytes: &[u8], len: usize, short: &mut [Summary], long: &mut [Sum
     fill_long(short, long);
 }
 
-/// The frames of a file of so many samples.
+/// The frames of a file of `len` samples.
 fn check_levels(bytes: &[u8], len: usize) -> Result<(), Damaged>
     requires few { len ≤ 262144 }
     requires size { length bytes.now ≡ size_of len }
@@ -84,7 +62,7 @@ fn compare(bytes: &[u8], id: u64, len: u32) -> Result<(), Damaged>
 }
 
 /// Whether these bytes are the file of the block with this id, from 16 to below 2^62, and `len` samples, 1 to 262,144,
-/// and else the first that differs, as [`decode`](super::decode) tells it. It takes no memory.
+/// and else the first that differs, as [`decode`](super::decode) reports it. It takes no memory.
 pub fn check(bytes: &[u8], id: u64, len: u32) -> Result<(), Damaged>
     requires { IsBlock id len }
     ensures exact { Tells result (damage_of id len bytes.now) }

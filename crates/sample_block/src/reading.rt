@@ -1,19 +1,21 @@
 // A block from bytes, whole or a field of it.
-ghost use Rattle.std.specs.Prelude.{◌≡◌, ◌≤◌, ◌<◌, ◌^◌, ◌+◌, ◌*◌, ◌∷◌, ◌++◌, ◌≢◌, [], length, ℤ, List, IfOk, OnOk};
+ghost use Rattle.std.specs.Prelude.{◌≡◌, ◌≤◌, ◌+◌, ◌*◌, ◌∷◌, ◌++◌, [], length, ℤ, List, None, IfOk, IfErr, OnOk};
 ghost use Rattle.std.specs.Int.{w16, cast_signed};
 ghost use Rattle.sample_block.specs.Faults.{number_at, difference, size_difference, damage_of, samples_in, Tells};
-ghost use Rattle.sample_block.specs.Faults.{Gives};
+ghost use Rattle.sample_block.specs.Faults.{Gives, IsFoundAs};
+ghost use Rattle.peak_summary.specs.Peaks.{frame_count, frames_of};
 ghost use Rattle.sample_block.specs.Spelling.{header_fields, sample_field, frame_fields, level_fields, number, size_of};
 ghost use Rattle.sample_block.specs.Spelling.{IsSpelled, IsBlock};
 ghost use Rattle.std.specs.List.{flat_map};
 
 use super::block::{Block, Header};
 use super::damage::{BadBlock, Damaged};
-use super::levels::{MAX_LONG_FRAMES, MAX_SHORT_FRAMES, measure};
+use super::levels::{MAX_LONG_FRAMES, MAX_SHORT_FRAMES};
+use super::samples::take_frame;
 use super::writing::file_size;
 use byteorder::{ByteOrder, LittleEndian};
 use pcm_base::Samples;
-use peak_summary::{NOTHING, Summary};
+use peak_summary::{NOTHING, Summary, all_fit, fill_long};
 use std::alloc::{AllocError, Global};
 
 /// The header, from the first 16 bytes of a file.
@@ -38,7 +40,7 @@ pub fn sample_at(bytes: &[u8], i: u32) -> i16
     LittleEndian::read_i16(&bytes[2 * i as usize..])
 }
 
-/// Frame `i` of bytes that begin with a frame: 12 bytes each. A file does not tell how many samples a frame has, so
+/// Frame `i` of bytes that begin with a frame: 12 bytes each. A file does not say how many samples a frame has, so
 /// the caller does.
 pub fn frame_at(bytes: &[u8], i: u32, count: u64) -> Summary
     requires { 12 * i + 12 ≤ length bytes.now }
@@ -170,30 +172,71 @@ pub(crate) fn check_both(
     Ok(())
 }
 
-/// The samples from place 16 on.
-fn samples_of(alloc: Global, bytes: &[u8], count: usize) -> Result<Vec<i16>, AllocError>
-    requires { 16 + 2 * count ≤ length bytes.now }
-    ensures { IfOk result (λ v. v.items ≡ samples_in bytes.now 16 count) }
+/// The samples from place 16 on, and their frames of 256. Those of a frame are read and then summed, while they are
+/// near.
+fn take_samples(
+    alloc: Global,
+    bytes: &[u8],
+    len: usize,
+    short: &mut [Summary],
+) -> Result<Vec<i16>, AllocError>
+    requires few { len ≤ 262144 }
+    requires whole { 16 + 2 * len ≤ length bytes.now }
+    requires count { length short.old ≡ frame_count 256 len }
+    ensures samples { IfOk result (λ v. v.items ≡ samples_in bytes.now 16 len) }
+    ensures short { OnOk result (short.new ≡ frames_of 256 (samples_in bytes.now 16 len)) }
 {
-    let mut out = Vec::new(alloc);
-    out.resize_with(count, || 0i16)?;
-    LittleEndian::read_i16_into(&bytes[16..16 + 2 * count], out.as_mut_slice());
+    let mut out = Vec::with_capacity(alloc, len)?;
+    for i in 0..short.len() {
+        short[i] = take_frame(bytes, len, i, &mut out)?;
+    }
     Ok(out)
 }
 
-/// The frames of a file whose samples are these.
-fn check_frames(bytes: &[u8], samples: &[i16]) -> Result<(), Damaged>
-    requires few { length samples.now ≤ 262144 }
-    requires size { length bytes.now ≡ size_of (length samples.now) }
-    ensures { Tells result (difference bytes.now (16 + 2 * length samples.now)
-        (level_fields 256 samples.now ++ level_fields 65536 samples.now)) }
+/// The samples of a file, and their frames of both levels.
+fn take_measured(
+    alloc: Global,
+    bytes: &[u8],
+    len: usize,
+    short: &mut [Summary],
+    long: &mut [Summary],
+) -> Result<Vec<i16>, AllocError>
+    requires few { len ≤ 262144 }
+    requires whole { 16 + 2 * len ≤ length bytes.now }
+    requires short { length short.old ≡ frame_count 256 len }
+    requires long { length long.old ≡ frame_count 65536 len }
+    ensures samples { IfOk result (λ v. v.items ≡ samples_in bytes.now 16 len) }
+    ensures short { OnOk result (short.new ≡ frames_of 256 (samples_in bytes.now 16 len)) }
+    ensures long { OnOk result (long.new ≡ frames_of 65536 (samples_in bytes.now 16 len)) }
+{
+    let samples = take_samples(alloc, bytes, len, short)?;
+    all_fit(&samples);
+    fill_long(short, long);
+    Ok(samples)
+}
+
+/// The samples of a file whose size and header are right, where its frames are those of the samples.
+fn take_checked(alloc: Global, bytes: &[u8], len: usize) -> Result<Vec<i16>, BadBlock>
+    requires few { len ≤ 262144 }
+    requires size { length bytes.now ≡ size_of len }
+    ensures samples { IfOk result (λ v. v.items ≡ samples_in bytes.now 16 len) }
+    ensures none { OnOk result (difference bytes.now (16 + 2 * len) (level_fields 256
+        (samples_in bytes.now 16 len) ++ level_fields 65536 (samples_in bytes.now 16 len)) ≡ None) }
+    ensures fault { IfErr result (IsFoundAs (difference bytes.now (16 + 2 * len) (level_fields 256
+        (samples_in bytes.now 16 len) ++ level_fields 65536 (samples_in bytes.now 16 len)))) }
 {
     let mut short = [NOTHING; MAX_SHORT_FRAMES];
     let mut long = [NOTHING; MAX_LONG_FRAMES];
-    let short = &mut short[..samples.len().div_ceil(256)];
-    let long = &mut long[..samples.len().div_ceil(65536)];
-    measure(samples, short, long);
-    check_both(bytes, 16 + 2 * samples.len(), short, long)
+    let short = &mut short[..len.div_ceil(256)];
+    let long = &mut long[..len.div_ceil(65536)];
+    let samples = match take_measured(alloc, bytes, len, short, long) {
+        Ok(samples) => samples,
+        Err(_) => return Err(BadBlock::NoMemory),
+    };
+    match check_both(bytes, 16 + 2 * len, short, long) {
+        Ok(()) => Ok(samples),
+        Err(fault) => Err(BadBlock::Damaged { fault }),
+    }
 }
 
 /// The size of the file and its first 16 bytes.
@@ -222,13 +265,10 @@ fn read(alloc: Global, bytes: &[u8], id: u64, len: u32) -> Result<Block, BadBloc
     if let Err(fault) = check_front(bytes, id, len) {
         return Err(BadBlock::Damaged { fault });
     }
-    let samples = match samples_of(alloc, bytes, len as usize) {
+    let samples = match take_checked(alloc, bytes, len as usize) {
         Ok(samples) => samples,
-        Err(_) => return Err(BadBlock::NoMemory),
+        Err(bad) => return Err(bad),
     };
-    if let Err(fault) = check_frames(bytes, &samples) {
-        return Err(BadBlock::Damaged { fault });
-    }
     Ok(Block {
         id,
         samples: Samples::new(samples),
@@ -236,7 +276,7 @@ fn read(alloc: Global, bytes: &[u8], id: u64, len: u32) -> Result<Block, BadBloc
 }
 
 /// Reads the file of the block with this id, from 16 to below 2^62, and `len` samples, 1 to 262,144. Ok comes exactly
-/// for its one spelling, unless memory runs out. Else the first that differs is told: the size of the file, at 0,
+/// for its one spelling, unless memory runs out. Else the first that differs is reported: the size of the file, at 0,
 /// then magic, id, count and the fields of the frames, in the order of the file.
 pub fn decode(alloc: Global, bytes: &[u8], id: u64, len: u32) -> Result<Block, BadBlock>
     requires { IsBlock id len }

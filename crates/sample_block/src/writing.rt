@@ -1,15 +1,16 @@
 // The one spelling of a block.
-ghost use Rattle.std.specs.Prelude.{◌≡◌, ◌≤◌, ◌<◌, ◌^◌, ◌+◌, ◌*◌, ◌++◌, length, drop, vec_capacity, vec_len, IsOk};
+ghost use Rattle.std.specs.Prelude.{◌≡◌, ◌≤◌, ◌<◌, ◌^◌, ◌+◌, ◌-◌, ◌*◌, ◌++◌, length, min, take, drop, vec_capacity};
+ghost use Rattle.std.specs.Prelude.{vec_len, IsOk};
 ghost use Rattle.std.specs.Prelude.{OnOk, OnErr};
 ghost use Rattle.std.specs.List.{flat_map};
-ghost use Rattle.peak_summary.specs.Peaks.{frame_count};
+ghost use Rattle.peak_summary.specs.Peaks.{frame_count, frames_of};
 ghost use Rattle.sample_block.specs.Spelling.{IsBlock, IsSpelled, spelling, size_of, field_bytes, frame_fields};
-ghost use Rattle.sample_block.specs.Spelling.{header_fields, body_fields, level_fields};
+ghost use Rattle.sample_block.specs.Spelling.{header_fields, body_fields, sample_bytes};
 
-use super::levels::{MAX_LONG_FRAMES, MAX_SHORT_FRAMES, measure};
+use super::levels::{MAX_LONG_FRAMES, MAX_SHORT_FRAMES};
 use byteorder::{ByteOrder, LittleEndian};
 use pcm_base::NoMemory;
-use peak_summary::{NOTHING, Summary, all_fit};
+use peak_summary::{NOTHING, Summary, all_fit, fill_long, of};
 
 /// The size in bytes of the file of a block of `count` samples, at most 262,144.
 pub fn file_size(count: usize) -> usize
@@ -60,19 +61,44 @@ fn write_both(short: &[Summary], long: &[Summary], out: &mut [u8])
     write_level(long, &mut out[at..]);
 }
 
-/// Both levels of these samples.
-fn write_levels(samples: &[i16], out: &mut [u8])
-    requires few { length samples.now ≤ 262144 }
-    requires room { length out.old
-        ≡ 12 * (frame_count 256 (length samples.now) + frame_count 65536 (length samples.now)) }
-    ensures { out.new ≡ flat_map field_bytes (level_fields 256 samples.now ++ level_fields 65536 samples.now) }
+/// The samples of frame `i` of 256, or the fewer that there are.
+fn frame_samples(samples: &[i16], i: usize) -> &[i16]
+    requires { 256 * i ≤ length samples.now }
+    ensures value { result.now ≡ take 256 (drop (256 * i) samples.now) }
+    ensures count { length result.now ≡ min 256 (length samples.now - 256 * i) }
 {
-    let mut short = [NOTHING; MAX_SHORT_FRAMES];
-    let mut long = [NOTHING; MAX_LONG_FRAMES];
-    let short = &mut short[..samples.len().div_ceil(256)];
-    let long = &mut long[..samples.len().div_ceil(65536)];
-    measure(samples, short, long);
-    write_both(short, long, out);
+    let count = (samples.len() - 256 * i).min(256);
+    &samples[256 * i..256 * i + count]
+}
+
+/// The samples, and their frames of 256. Those of a frame are written and then summed, while they are near.
+fn write_samples(samples: &[i16], out: &mut [u8], short: &mut [Summary])
+    requires few { length samples.now ≤ 262144 }
+    requires room { length out.old ≡ 2 * length samples.now }
+    requires count { length short.old ≡ frame_count 256 (length samples.now) }
+    ensures written { out.new ≡ flat_map sample_bytes samples.now }
+    ensures short { short.new ≡ frames_of 256 samples.now }
+{
+    for i in 0..short.len() {
+        let part = frame_samples(samples, i);
+        LittleEndian::write_i16_into(part, &mut out[512 * i..512 * i + 2 * part.len()]);
+        short[i] = of(part);
+    }
+}
+
+/// The samples, and their frames of both levels.
+fn write_measured(samples: &[i16], out: &mut [u8], short: &mut [Summary], long: &mut [Summary])
+    requires few { length samples.now ≤ 262144 }
+    requires room { length out.old ≡ 2 * length samples.now }
+    requires short { length short.old ≡ frame_count 256 (length samples.now) }
+    requires long { length long.old ≡ frame_count 65536 (length samples.now) }
+    ensures written { out.new ≡ flat_map sample_bytes samples.now }
+    ensures short { short.new ≡ frames_of 256 samples.now }
+    ensures long { long.new ≡ frames_of 65536 samples.now }
+{
+    all_fit(samples);
+    write_samples(samples, out, short);
+    fill_long(short, long);
 }
 
 /// What follows the header: the samples and both levels.
@@ -81,9 +107,13 @@ fn write_body(samples: &[i16], out: &mut [u8])
     requires room { length out.old + 16 ≡ size_of (length samples.now) }
     ensures { out.new ≡ flat_map field_bytes (body_fields samples.now) }
 {
+    let mut short = [NOTHING; MAX_SHORT_FRAMES];
+    let mut long = [NOTHING; MAX_LONG_FRAMES];
+    let short = &mut short[..samples.len().div_ceil(256)];
+    let long = &mut long[..samples.len().div_ceil(65536)];
     let at = 2 * samples.len();
-    LittleEndian::write_i16_into(samples, &mut out[..at]);
-    write_levels(samples, &mut out[at..]);
+    write_measured(samples, &mut out[..at], short, long);
+    write_both(short, long, &mut out[at..]);
 }
 
 /// The whole file.

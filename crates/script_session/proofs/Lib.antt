@@ -1,5 +1,6 @@
 pub mod AddedLemmas
 pub mod ServedLemmas
+pub mod SpentLemmas
 pub mod CutLemmas
 pub mod GoingLemmas
 pub mod PieceLemmas

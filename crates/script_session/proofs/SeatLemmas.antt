@@ -24,7 +24,7 @@ use Rattle.studio_seats.specs.declared.held.Held.{Held}
 use Rattle.studio_seats.specs.Deeds.{commits, deed, number_after}
 use Rattle.studio_seats.specs.Desks.{Says, Spends, Turned, asked, spent, views}
 use Rattle.studio_seats.specs.Stands.{origin}
-use Rattle.studio_seats.proofs.Turns.{number_on, said_number}
+use Rattle.studio_seats.proofs.Turns.{number_on, said_number, turned_number}
 use Rattle.script_session.specs.Place.{CountsFaults, Enters, place_of, with_number}
 use Rattle.script_session.specs.Session.{Turn}
 
@@ -33,7 +33,7 @@ module _ {D V : Type 0} (disk : Ghosts D) (vaults : vault.Ghosts V) (start : Cor
   number_at : (v w : View (Held D V) Deed) (c : Call) (what : Result Reply Refusal) (sound : SoundMove) (at : ℕ)
       (h : Turned (origin disk vaults start) (asked c what sound) at (views v w))
       → at ≡ number_after start.commit_number ((v.seen ++ h.between) ++ deed v.number c what sound ∷ [])
-  number_at v w c what sound at h = h.number ∙ h.stands.number
+  number_at v w c what sound at h = h.number ∙ turned_number h
 
   -- is no lower than one that was told before
   number_up : (v w : View (Held D V) Deed) (c : Call) (what : Result Reply Refusal) (sound : SoundMove) (at last : ℕ)
@@ -92,6 +92,7 @@ module _ {D V : Type 0} (disk : Ghosts D) (vaults : vault.Ghosts V) (start : Cor
         let list : numbers' ≡ with_number (commits what (Line c)) numbers n =
         listed ∙ ap (λ (m : ℕ). with_number (commits what (Line c)) numbers m) is in
         record {
+          unspent = h.unspent;
           between = h.between;
           by_others = h.by_others;
           what = what;

@@ -16,7 +16,8 @@ use Rattle.editor_core.specs.Imports.{IsNoVault}
 use Rattle.studio_seats.specs.declared.deed.Deed.{Deed}
 use Rattle.studio_seats.specs.Faults.{IsServed}
 use Rattle.studio_seats.specs.Merge.{by_seat, deeds_of}
-use Rattle.studio_seats.specs.Stands.{IsUnharmed, StandsFor, origin}
+use Rattle.studio_seats.specs.Leads.{IsUnharmed}
+use Rattle.studio_seats.specs.Stands.{StandsFor, origin}
 use Rattle.studio_seats.proofs.FaultLemmas.{desks_serve}
 use Rattle.script_session.specs.Added.{Adds, SparesVault}
 use Rattle.script_session.specs.Change.{change}
@@ -58,7 +59,7 @@ pub fair_added : {D V : Type 0} (disk : Ghosts D) (vaults : vault.Ghosts V) (lin
     (answers : List Answer) (p q : Place)
     (start now : Core D) (later : List Deed) (adds : Adds p q lines answers)
     → StandsFor (origin disk vaults start) now (q.seen ++ later)
-    → IsUndisturbed (origin disk vaults start) now (change p.faults q.faults)
+    → IsUndisturbed (origin disk vaults start) now (q.seen ++ later) (change p.faults q.faults)
     → Each TellsNoDevice (deeds_of (by_seat p.seat) adds.added)
 fair_added disk vaults lines answers p q start now later adds stands quiet =
     let all = desks_serve disk vaults start now (q.seen ++ later) stands quiet.told quiet.held quiet.going quiet.calm in

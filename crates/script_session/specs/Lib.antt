@@ -5,4 +5,5 @@ pub mod Place
 pub mod Session
 pub mod Added
 pub mod Served
+pub mod Spent
 pub mod Progress

@@ -1,5 +1,5 @@
 -- Where a script stands at a desk.
-use Rattle.std.specs.Prelude.{◌≡◌, ℕ, if◌then◌else◌, Bool, List, [], ◌∷◌, ◌++◌, Option, Some, None, Result}
+use Rattle.std.specs.Prelude.{◌≡◌, ℕ, if◌then◌else◌, Bool, false, List, [], ◌∷◌, ◌++◌, Option, Some, None, Result}
 use Rattle.pcm_base.specs.declared.answer.Reply.{Reply}
 use Rattle.pcm_base.specs.declared.command.Call.TheVariants.{Line}
 use Rattle.pcm_base.specs.declared.command.Command.{Command}
@@ -70,9 +70,10 @@ abbrev pub CountsFaults : Option (List ℕ) → Result Reply Refusal → ℕ →
 CountsFaults None what old new = new ≡ old
 CountsFaults (Some name) what old new = VaultCounted what old new
 
--- A turn was taken: behind what was seen stand deeds of others, and then this one. Of the sounds none changed but the
--- one that the line names.
+-- A turn was left and was taken: after what was seen stand deeds of others, and then this one. Of the sounds none
+-- changed but the one that the line names.
 pub record Enters (p : Place) (c : Command) (r : Reply) (q : Place) : Type 0 where
+  pub unspent : p.used_up ≡ false
   pub between : List Deed
   pub by_others : ByOthers actor_of (p.seat ∷ []) between
   pub what : Result Reply Refusal

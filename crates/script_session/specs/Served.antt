@@ -12,7 +12,7 @@ use Rattle.editor_core.specs.Studios.{IsHeld, studio_of}
 use Rattle.studio_seats.specs.declared.deed.Deed.{Deed}
 use Rattle.studio_seats.specs.Faults.{IsCalm}
 use Rattle.studio_seats.specs.Merge.{by_seat, deeds_of}
-use Rattle.studio_seats.specs.Stands.{AllTell, Origin, StandsFor, origin}
+use Rattle.studio_seats.specs.Stands.{AreTold, Origin, StandsFor, origin}
 use Rattle.script_session.specs.Added.{OfLines}
 use Rattle.script_session.specs.Change.{Change, change}
 use Rattle.script_session.specs.Place.{Place}
@@ -29,10 +29,11 @@ IsOfNoDevice why = Unit {0}
 abbrev pub TellsNoDevice : Deed → Type 0
 TellsNoDevice d = IfErr d.what IsOfNoDevice
 
--- Vaults tell their bytes, the disk held a studio that goes on, and no count of faults rose, of the store or of the
--- vault that the script had.
-pub record IsUndisturbed {D V : Type 0} (o : Origin D V) (now : Core D) (vault_faults : Change ℕ) : Type 0 where
-  pub told : AllTell o.vaults
+-- Vaults report their bytes where a deed names a sound, the disk held a studio that goes on, and no count of faults rose,
+-- of the store or of the vault that the script had.
+pub record IsUndisturbed {D V : Type 0} (o : Origin D V) (now : Core D) (deeds : List Deed) (vault_faults : Change ℕ)
+    : Type 0 where
+  pub told : AreTold o.vaults deeds
   pub held : IsHeld o.disk o.start
   pub going : o.start.stopped ≡ None
   pub calm : IsCalm (studio_of o.disk o.start) (studio_of o.disk now)
@@ -48,4 +49,5 @@ pub record Serves (p q : Place) (lines : List (List ℕ)) (answers : List Answer
 abbrev pub SessionsServe : {D V : Type 0} → Ghosts D → vault.Ghosts V → Type 0
 SessionsServe {D} disk vaults = (lines : List (List ℕ)) (answers : List Answer) (p q : Place) (start now : Core D)
     (later : List Deed) → Session p lines answers q → StandsFor (origin disk vaults start) now (q.seen ++ later)
-    → IsUndisturbed (origin disk vaults start) now (change p.faults q.faults) → Serves p q lines answers
+    → IsUndisturbed (origin disk vaults start) now (q.seen ++ later) (change p.faults q.faults)
+    → Serves p q lines answers

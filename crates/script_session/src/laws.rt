@@ -1,6 +1,7 @@
 // What follows of sessions. These functions do nothing: their contracts are the laws.
 ghost use Rattle.script_session.specs.Added.{SessionsAdd};
 ghost use Rattle.script_session.specs.Served.{SessionsServe};
+ghost use Rattle.script_session.specs.Spent.{SessionsSpend};
 
 use disk_model::Store;
 use edit_ports::Vault;
@@ -10,6 +11,11 @@ use edit_ports::Vault;
 /// that names a sound tells that it failed.
 pub fn sessions_add()
     ensures { SessionsAdd }
+{}
+
+/// If no deed was refused because no turn was left, as none of a run is, an answer is Spent only after the seat found it.
+pub fn sessions_spend()
+    ensures { SessionsSpend }
 {}
 
 /// What a script tells, whoever else is at its desk: where vaults tell their bytes, the disk held a studio that goes

@@ -14,7 +14,7 @@ mod stop;
 
 pub use answer::Session;
 pub use editor::Editor;
-pub use laws::{sessions_add, sessions_are_served};
+pub use laws::{sessions_add, sessions_are_served, sessions_spend};
 pub use line::LineBuffer;
 pub use read::read_script;
 pub use seat::DeskEditor;

@@ -21,7 +21,7 @@ use Rattle.studio_seats.specs.Pins.{is_made}
 use Rattle.studio_seats.specs.Stands.{origin}
 use Rattle.studio_seats.proofs.FrameLemmas.{made_on}
 use Rattle.studio_seats.proofs.Grown.{entries_append, number_append}
-use Rattle.studio_seats.proofs.Turns.{number_on}
+use Rattle.studio_seats.proofs.Turns.{number_on, turned_number}
 use Rattle.seat_examples.specs.declared.session.Session.{Session}
 use Rattle.seat_examples.specs.Jobs.{IsReady}
 
@@ -55,7 +55,7 @@ module _ {D V A : Type 0} (disk : Ghosts D) (vaults : vault.Ghosts V) (start : C
       let d = deed v.number call (Ok (f x)) sound in
       let before = number_after start.commit_number (v.seen ++ h.between) in
       let cut = number_append start.commit_number (v.seen ++ h.between) (d ∷ []) in
-      let leads : at ≡ number_after before (d ∷ []) = h.number ∙ h.stands.number ∙ cut in
+      let leads : at ≡ number_after before (d ∷ []) = h.number ∙ turned_number h ∙ cut in
       let commits = eq-eqb (commits_of call) 1 commit in
       let one : number_after before (d ∷ []) ≡ before + 1 = ap (λ (b : Bool). raised b before) commits in
       omega (arith, leads, one)

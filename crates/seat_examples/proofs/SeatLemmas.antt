@@ -40,6 +40,7 @@ module _ {D V : Type 0} where
     number = h.number;
     away = h.away;
     mine = h.mine;
+    used_up = h.used_up;
   }
 
   -- a seat that went on is the one that it was

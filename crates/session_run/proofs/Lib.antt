@@ -3,3 +3,17 @@ pub mod ProjectLemmas
 pub mod StreamLemmas
 pub mod SurviveLemmas
 pub mod TryLemmas
+pub mod FourLemmas
+pub mod EntryLemmas
+pub mod AnsweredLemmas
+pub mod PrintedLemmas
+pub mod SideEntries
+pub mod SpentLemmas
+pub mod SessionLemmas
+pub mod PieceEntries
+pub mod RecordLemmas
+pub mod PlayLemmas
+pub mod SeatEntries
+pub mod PromiseLemmas
+pub mod Promised
+pub mod CallPromise

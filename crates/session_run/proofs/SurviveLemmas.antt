@@ -1,26 +1,66 @@
 -- What a stop may leave of a script that ran.
-use Rattle.std.proofs.Common.{◌⊎◌, inl, inr, ⊎_elim, List, sym, subst}
+use Rattle.std.proofs.Common.{◌≡◌, ◌⊎◌, inl, inr, ⊎_elim, List, None, sym, subst}
+use Rattle.std.specs.Prelude.{IsSome}
 use Rattle.disk_model.specs.Disk.{Files}
 use Rattle.disk_model.specs.declared.store.Store.{Ghosts}
 use Rattle.edit_ports.specs.declared.vault.Vault as vault
+use Rattle.project_journal.specs.Gate.{EachNow, EachSince}
+use Rattle.project_state.specs.Kept as kept
+use Rattle.project_state.specs.Kept.{Keeps}
 use Rattle.editor_core.specs.Core.{Core}
 use Rattle.editor_core.specs.Events.{KeepsPrefix}
-use Rattle.editor_core.specs.Studios.{IsHeld, studio_of}
+use Rattle.editor_core.specs.Studios.{IsHeld, shown, studio_of}
 use Rattle.editor_recovery.specs.Honest.{IsHonest}
 use Rattle.studio_seats.specs.declared.deed.Deed.{Deed}
 use Rattle.studio_seats.specs.Deeds.{entries_of}
-use Rattle.studio_seats.specs.Stands.{AllTell, StandsFor, origin}
-use Rattle.script_session.specs.Change.{change}
-use Rattle.desk_session.specs.Lent.{Kinds}
+use Rattle.studio_seats.specs.Leads.{DeedsAsk, Leads, StopsInFlight}
+use Rattle.studio_seats.specs.Stands.{AllTell, AreTold, StandsFor, origin}
+use Rattle.studio_seats.proofs.Grown.{all_told, leads}
+use Rattle.script_session.specs.Change.{Change, change}
 use Rattle.session_run.specs.Opening.{OpensTo}
-use Rattle.session_run.specs.Runs.{RunsSurvive, Survives}
 
-module _ {D V : Type 0} (disk : Ghosts D) (vaults : vault.Ghosts V) (store : D) (start final : Core D)
+-- the disk keeps the project that was opened
+pub opened_keeps : {D : Type 0} (disk : Ghosts D) (store : D) (start : Core D) → OpensTo disk store start
+    → IsHonest disk store → Keeps (disk.reads store) (shown (studio_of disk start))
+opened_keeps disk store start opens honest =
+    subst (λ (z : kept.Opened). Keeps (disk.reads store) z) (sym shown_is) (opens.looks.honest honest).keeps
+  where
+    shown_is : shown (studio_of disk start)
+        ≡ kept.opened (opens.looks.honest honest).log (opens.looks.honest honest).kept (disk.reads store)
+    shown_is =
+        let log = (opens.looks.honest honest).log in
+        let there = (opens.looks.honest honest).kept in
+        let found = (opens.looks.honest honest).found in
+        λ i. kept.opened
+        (record log { rate = found.rate i; block_size = found.block_size i })
+        (record there { history = found.history i; next_track = found.next_track i; commit = found.commit i })
+        (opens.looks.reads i)
+
+-- At any moment each image, but one that the store could leave before, has the project after some of the first deeds,
+-- the one in flight counted last. At the end it has the project after all of them. Where one of them stopped the studio,
+-- that one may be in flight.
+pub record Survives {D : Type 0} (disk : Ghosts D) (store : D) (core : Change (Core D)) (deeds : List Deed)
+    : Type 0 where
+  pub any_moment : EachSince disk store core.now.store (λ c. disk.may_leave store (disk.clock store) c
+      ⊎ KeepsPrefix (studio_of disk core.before) (entries_of deeds) c)
+  pub going : core.now.stopped ≡ None
+      → EachNow disk core.now.store (λ c. Keeps c (shown (studio_of disk core.now)))
+  pub stopped : IsSome core.now.stopped → EachNow disk core.now.store (λ c.
+      Keeps c (shown (studio_of disk core.now)) ⊎ StopsInFlight (studio_of disk core.before) (entries_of deeds) c)
+
+module _ {D V : Type 0} (disk : Ghosts D) (vaults : vault.Ghosts V) (ask : DeedsAsk disk vaults)
+    (store : D) (start final : Core D)
     (deeds : List Deed)
     (opens : OpensTo disk store start) (stands : StandsFor (origin disk vaults start) final deeds)
     (honest : IsHonest disk store) (told : AllTell vaults) where
   held : IsHeld disk start
   held = opens.held honest
+
+  tell : AreTold vaults deeds
+  tell = all_told vaults deeds told
+
+  led : Leads (origin disk vaults start) final deeds
+  led = leads (origin disk vaults start) final deeds stands
 
   -- an image of the opening is one that the store could already leave
   opening : (c : Files) → disk.may_leave start.store (disk.clock store) c → disk.may_leave store (disk.clock store) c
@@ -33,16 +73,12 @@ module _ {D V : Type 0} (disk : Ghosts D) (vaults : vault.Ghosts V) (store : D) 
   any_moment c h = ⊎_elim
       (λ (x : disk.may_leave start.store (disk.clock store) c). inl (opening c x))
       (λ (y : disk.may_leave final.store (disk.clock start.store) c).
-      inr (stands.any_moment told opens.fresh.stopped held c y))
-      (stands.others.images.added (disk.clock store) c opens.looks.changed.images.later h)
+      inr (led.any_moment tell opens.fresh.stopped held c y))
+      ((ask start final deeds stands).images.added (disk.clock store) c opens.looks.changed.images.later h)
 
   pub survives : Survives disk store (change start final) deeds
   survives = record {
     any_moment = any_moment;
-    going = λ going. stands.going told going held;
-    stopped = λ stopped. stands.stopped told opens.fresh.stopped stopped held;
+    going = λ going. led.going tell going held;
+    stopped = λ stopped. led.stopped tell opens.fresh.stopped stopped held;
   }
-
-pub runs_survive : {D V M P : Type 0} (k : Kinds D V M P) → RunsSurvive k
-runs_survive {D} {V} {M} {P} k store core j opens ran honest told =
-    survives k.disk k.vaults store core.before core.now ran.session.deeds opens ran.session.stands honest told

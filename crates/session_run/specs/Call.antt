@@ -1,8 +1,10 @@
 -- What the call of the program does.
-use Rattle.std.specs.Prelude.{◌≡◌, ◌⊎◌, ◌||◌, Bool, IsTrue, List, Option, Some, None, if◌then◌else◌, nat_lt}
+use Rattle.std.specs.Prelude.{◌≡◌, ◌⊎◌, ℕ, ◌||◌, Bool, true, IsTrue, List, Option, Some, None, if◌then◌else◌}
+use Rattle.std.specs.Prelude.{nat_lt}
 use Rattle.disk_model.specs.declared.store.Store.{Ghosts}
 use Rattle.edit_ports.specs.declared.sink.Sink as sink
 use Rattle.edit_ports.specs.declared.source.Source as source
+use Rattle.pcm_base.specs.Causes.{Rose}
 use Rattle.pcm_base.specs.Studio.{fault_sum}
 use Rattle.call_words.specs.declared.asked.Words.{Words}
 use Rattle.call_words.specs.declared.asked.Words.TheVariants as words
@@ -10,6 +12,9 @@ use Rattle.call_words.specs.Words.{is_new, words_of}
 use Rattle.call_words.specs.Texts.{Text}
 use Rattle.script_text.specs.declared.call_fault.CallFault.{CallFault}
 use Rattle.script_text.specs.declared.call_fault.CallFault.TheVariants as call
+use Rattle.editor_recovery.specs.Honest.{IsHonest}
+use Rattle.script_session.specs.Change.{change}
+use Rattle.studio_seats.specs.Stands.{AllTell}
 use Rattle.desk_session.specs.Lent.{Kinds, kinds}
 use Rattle.session_run.specs.declared.counts.FaultCounts.{FaultCounts}
 use Rattle.session_run.specs.declared.ending.Done.{Done}
@@ -19,7 +24,8 @@ use Rattle.session_run.specs.Ports.{Handed, Idle, Ports, SameVault, job}
 use Rattle.session_run.specs.Projects.{Checks, Lists, Makes}
 use Rattle.session_run.specs.Refused.{IsRefused}
 use Rattle.session_run.specs.Runs.{Runs}
-use Rattle.session_run.specs.Streams.{Streams, Unread}
+use Rattle.session_run.specs.Promise.{Met, Promise}
+use Rattle.session_run.specs.Streams.{Streams, Unread, input, output}
 use Rattle.session_run.specs.Tries.{Tries}
 
 -- nothing was opened, and the store comes back as it was
@@ -75,6 +81,25 @@ abbrev pub any_rose : FaultCounts → FaultCounts → Bool
 any_rose old new = nat_lt old.script new.script || (nat_lt old.out new.out || (nat_lt old.store new.store
     || (nat_lt old.vault new.vault || (nat_lt old.mic new.mic || nat_lt old.speaker new.speaker))))
 
+-- a count of one device rose, or stands at its type's end
+abbrev pub OneRose : FaultCounts → FaultCounts → Type 0
+OneRose old new = Rose old.script new.script ⊎ Rose old.out new.out ⊎ Rose old.store new.store
+    ⊎ Rose old.vault new.vault ⊎ Rose old.mic new.mic ⊎ Rose old.speaker new.speaker
+
+-- the script ran on a project in memory, whose disk may have failed too
+abbrev pub IsTry : Option Words → Type 0
+IsTry None = ⊥
+IsTry (Some (words.New project)) = ⊥
+IsTry (Some (words.Run records plays)) = ⊥
+IsTry (Some words.Try) = Unit {0}
+IsTry (Some words.List) = ⊥
+IsTry (Some words.Check) = ⊥
+IsTry (Some (words.Gen number lines)) = ⊥
+
+-- the status 4 comes only where a device failed, or for `try`
+abbrev pub HasCause : Option Words → FaultCounts → FaultCounts → ℕ → Type 0
+HasCause words old new status = status ≡ 4 → OneRose old new ⊎ IsTry words
+
 -- What the call leaves, by what the words left of the store, and whether a count of faults rose.
 pub record EndsAs {D M P : Type 0} (rose : Bool) (done : Done D) (ending : Ending D M P) : Type 0 where
   pub status : ending.status ≡ (if rose then 4 else done.status)
@@ -85,3 +110,28 @@ pub record EndsAs {D M P : Type 0} (rose : Bool) (done : Done D) (ending : Endin
   pub record_is : ending.record_commit ≡ done.record_commit
   pub script : ending.script_commits ≡ done.commits
   pub pieces : ending.piece_commits ≡ done.pieces
+
+-- what a call of the word `run` met and left
+abbrev pub met_of : {D V M P : Type 0} → Kinds D V M P → Handed D V M P → Bool → Bool → Ending D M P → Met D
+met_of k h records plays e = record {
+  records = records;
+  plays = plays;
+  store = change h.store e.store;
+  script = h.ports.streams.source;
+  out = h.ports.streams.sink;
+  mic = input k.mics h.ports.mic;
+  speaker = output k.speakers h.ports.speaker;
+  sounds = change (k.vaults.holds h.ports.vault.before) (k.vaults.holds h.ports.vault.now);
+  vault_faults = change (k.vaults.fault_count h.ports.vault.before) (k.vaults.fault_count h.ports.vault.now);
+  first_commit = e.first_commit;
+  last_commit = e.last_commit;
+  record_commit = e.record_commit;
+  script_commits = e.script_commits;
+  piece_commits = e.piece_commits;
+}
+
+-- The promise is kept by each call of the word `run` that opened a project, where the disk was honest as it was handed
+-- in and vaults report their bytes.
+abbrev pub Promises : {D V M P : Type 0} → Kinds D V M P → List Text → Handed D V M P → Ending D M P → Type 0
+Promises k texts h e = (records plays : Bool) → words_of texts ≡ Some (words.Run records plays) → e.opened ≡ true
+    → IsHonest k.disk h.store → AllTell k.vaults → Promise k.disk (met_of k h records plays e)

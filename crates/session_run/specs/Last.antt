@@ -96,12 +96,13 @@ status_of stop.Limit fault refused = if fault then 4 else 6
 status_of stop.SourceFault fault refused = 4
 status_of stop.OutFault fault refused = 4
 
--- behind the answers the last lines were written; after a fault of the output nothing more is
+-- After the answers the last lines were written. After a fault of the output nothing more was, and its count of faults
+-- is the one that it had then.
 abbrev pub WritesEnd : Stop → Output → List ℕ → Type 0
 WritesEnd stop.End sink text = PrintsFrom sink text
 WritesEnd stop.Limit sink text = PrintsFrom sink text
 WritesEnd stop.SourceFault sink text = PrintsFrom sink text
-WritesEnd stop.OutFault sink text = sink.written.now ≡ sink.written.before
+WritesEnd stop.OutFault sink text = (sink.written.now ≡ sink.written.before) × (sink.faults.now ≡ sink.faults.before)
 
 -- the commit number of the recording's track
 abbrev pub record_commit : Option (Result ℕ Refusal) → Option ℕ

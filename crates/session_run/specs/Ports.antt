@@ -1,9 +1,11 @@
 -- What a call is handed.
 use Rattle.std.specs.Prelude.{◌≡◌, ℕ, List, Option}
 use Rattle.script_session.specs.Change.{Change, change}
+use Rattle.edit_ports.specs.declared.sink.Sink as sink
+use Rattle.edit_ports.specs.declared.source.Source as source
 use Rattle.desk_session.specs.declared.opening.Beside.{Beside}
 use Rattle.desk_session.specs.Lent.{Lent}
-use Rattle.session_run.specs.Streams.{Streams}
+use Rattle.session_run.specs.Streams.{Streams, streams}
 
 -- Besides its store, before and after: the vault, the microphone, the speaker and the streams.
 pub record Ports (V M P : Type 0) : Type 0 where
@@ -16,6 +18,14 @@ pub record Ports (V M P : Type 0) : Type 0 where
 pub record Handed (D V M P : Type 0) : Type 0 where
   pub store : D
   pub ports : Ports V M P
+
+-- what a call is handed, by what the types of its streams report
+abbrev pub handed : {A O D V M P : Type 0} → source.Ghosts A → sink.Ghosts O → Change A → Change O → D → Change V
+    → Change M → Change P → Handed D V M P
+handed sources sinks script out store sounds mic speaker = record {
+  store = store;
+  ports = record { vault = sounds; mic = mic; speaker = speaker; streams = streams sources sinks script out };
+}
 
 -- with what a script is run, and what is asked for beside it
 pub record Job (V M P : Type 0) : Type 0 where

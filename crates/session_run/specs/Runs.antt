@@ -1,18 +1,9 @@
 -- A script on the project of a store, and beside it a recording and a playback.
-use Rattle.std.specs.Prelude.{◌≡◌, ◌⊎◌, ℕ, ◌||◌, true, List, Option, Err, IsSome, None, is_some}
-use Rattle.disk_model.specs.declared.store.Store.{Ghosts}
+use Rattle.std.specs.Prelude.{◌≡◌, ◌⊎◌, ℕ, ◌||◌, true, List, Option, Err, is_some}
 use Rattle.editor_core.specs.Core.{Core}
-use Rattle.editor_core.specs.Events.{KeepsPrefix}
-use Rattle.editor_core.specs.Studios.{shown, studio_of}
 use Rattle.editor_recovery.specs.declared.fault.OpenFault.{OpenFault}
-use Rattle.editor_recovery.specs.Honest.{IsHonest}
-use Rattle.project_journal.specs.Gate.{EachNow, EachSince}
-use Rattle.project_state.specs.Kept.{Keeps}
 use Rattle.script_text.specs.declared.call_fault.CallFault.TheVariants as call
 use Rattle.script_text.specs.Last.{last_text}
-use Rattle.studio_seats.specs.declared.deed.Deed.{Deed}
-use Rattle.studio_seats.specs.Deeds.{entries_of}
-use Rattle.studio_seats.specs.Stands.{AllTell, StopsInFlight}
 use Rattle.script_session.specs.Change.{Change, change}
 use Rattle.script_session.specs.Progress.{IsCauseOf}
 use Rattle.desk_session.specs.Lent.{Kinds, Outcome}
@@ -76,22 +67,3 @@ Runs {D} k store j done = ((start : Core D) × OpensTo k.disk store start × Run
     ⊎ ((fault : OpenFault) × Looks k.disk store done.store (Err fault)
     × IsRefused (call_fault_of fault) j.ports.streams done × Unread j.ports.streams × Idle j.ports
     × SameVault j.ports)
-
--- What a stop may leave of a script that ran on a project of a disk that was honest, where vaults tell their bytes. At
--- any moment each image, but one that the store could already leave, has the project behind some of the first deeds,
--- the one in flight counted last. At the end it has that behind all of them; where one of them stopped the studio, that
--- one may be in flight.
-pub record Survives {D : Type 0} (disk : Ghosts D) (store : D) (core : Change (Core D)) (deeds : List Deed)
-    : Type 0 where
-  pub any_moment : EachSince disk store core.now.store (λ c. disk.may_leave store (disk.clock store) c
-      ⊎ KeepsPrefix (studio_of disk core.before) (entries_of deeds) c)
-  pub going : core.now.stopped ≡ None
-      → EachNow disk core.now.store (λ c. Keeps c (shown (studio_of disk core.now)))
-  pub stopped : IsSome core.now.stopped → EachNow disk core.now.store (λ c.
-      Keeps c (shown (studio_of disk core.now)) ⊎ StopsInFlight (studio_of disk core.before) (entries_of deeds) c)
-
--- It is so of each run.
-abbrev pub RunsSurvive : {D V M P : Type 0} → Kinds D V M P → Type 0
-RunsSurvive {D} {V} {M} {P} k = (store : D) (core : Change (Core D)) (j : Job V M P)
-    → OpensTo k.disk store core.before → (ran : RunsOn k core j) → IsHonest k.disk store → AllTell k.vaults
-    → Survives k.disk store core ran.session.deeds

@@ -40,9 +40,16 @@ streams sources sinks script out = record { source = input sources script; sink 
 abbrev pub from_sink : {O : Type 0} → sink.Ghosts O → Streams → Change O → Streams
 from_sink sinks s out = record s { sink = output sinks out }
 
+-- a device that was not used
+abbrev pub IsIdleInput : Input → Type 0
+IsIdleInput mic = (mic.left.now ≡ mic.left.before) × (mic.faults.now ≡ mic.faults.before)
+
+abbrev pub IsIdleOutput : Output → Type 0
+IsIdleOutput speaker = (speaker.written.now ≡ speaker.written.before) × (speaker.faults.now ≡ speaker.faults.before)
+
 -- the source was not read
 abbrev pub Unread : Streams → Type 0
-Unread s = (s.source.left.now ≡ s.source.left.before) × (s.source.faults.now ≡ s.source.faults.before)
+Unread s = IsIdleInput s.source
 
 -- a text was written: all of it where the count of faults did not rise, and else a part of it from its front
 abbrev pub PrintsFrom : Output → List ℕ → Type 0

@@ -14,6 +14,7 @@ pub struct Ending<S, M, P> {
     pub status: u8,
     /// Whether a project was opened and no line `refused ..` was due.
     pub opened: bool,
+    /// Store, microphone and speaker, as they are after the call.
     pub store: S,
     pub mic: M,
     pub speaker: P,

@@ -2,9 +2,10 @@
 ghost use Rattle.std.specs.Prelude.{◌≡◌, if◌then◌else◌, map, string_bytes};
 ghost use Rattle.script_session.specs.Change.{change};
 ghost use Rattle.desk_session.specs.Lent.{Kinds, kinds};
-ghost use Rattle.session_run.specs.Call.{Does, EndsAs, any_rose, counts};
+ghost use Rattle.call_words.specs.Words.{words_of};
+ghost use Rattle.session_run.specs.Call.{Does, EndsAs, HasCause, Promises, any_rose, counts};
 ghost use Rattle.session_run.specs.declared.ending.Done.{Done};
-ghost use Rattle.session_run.specs.Streams.{streams};
+ghost use Rattle.session_run.specs.Ports.{handed};
 
 use super::counts::count_faults;
 use super::ending::{Done, Ending};
@@ -21,6 +22,7 @@ use script_text::CallFault;
 use std::alloc::Global;
 use std::sync::Wait;
 use std::thread::Threads;
+use studio_seats::deeds_ask;
 
 // Does what the words ask for.
 fn carry_out<R, A, O, S, V, M, P, G>(
@@ -46,16 +48,8 @@ where
     G: Gate + Sync,
     ensures { Does (record { ram = ⟦<RamStore as Store>⟧; kinds = kinds S.Store V.Vault M.Source P.Sink })
         (map string_bytes words.now)
-        (record {
-          store = store;
-          ports = record {
-            vault = change vault.old vault.new;
-            mic = change mic.old mic.new;
-            speaker = change speaker.old speaker.new;
-            streams = streams A.Source O.Sink (change script.old script.new) (change out.old out.new);
-          };
-        })
-        result }
+        (handed A.Source O.Sink (change script.old script.new) (change out.old out.new) store
+        (change vault.old vault.new) (change mic.old mic.new) (change speaker.old speaker.new)) result }
 {
     match read_words(alloc, words) {
         Ok(Words::New(project)) => make_project(alloc, out, store, project),
@@ -81,7 +75,9 @@ fn status_of(rose: bool, status: u8) -> u8
     if rose { 4 } else { status }
 }
 
-/// Does what the words ask for.
+/// Does what the words ask for. It reads `script`, writes the answers to `out`, and keeps the sounds in `vault`. It uses
+/// microphone and speaker only if they are asked for. They return in the [`Ending`], with the store. It waits for its
+/// threads.
 pub fn studio_call<R, A, O, S, V, M, P, G>(
     rt: &R,
     alloc: Global,
@@ -105,32 +101,24 @@ where
     G: Gate + Sync,
     ensures does { let k : Kinds S V M P = kinds S.Store V.Vault M.Source P.Sink in
         (done : Done S) × Does (record { ram = ⟦<RamStore as Store>⟧; kinds = k }) (map string_bytes words.now)
-        (record {
-          store = store;
-          ports = record {
-            vault = change vault.old vault.new;
-            mic = change mic result.mic;
-            speaker = change speaker result.speaker;
-            streams = streams A.Source O.Sink (change script.old script.new) (change out.old out.new);
-          };
-        })
-        done
+        (handed A.Source O.Sink (change script.old script.new) (change out.old out.new) store
+        (change vault.old vault.new) (change mic result.mic) (change speaker result.speaker)) done
         × EndsAs (any_rose
         (counts A.Source O.Sink k script.old out.old store vault.old mic speaker)
         (counts A.Source O.Sink k script.new out.new result.store vault.new result.mic result.speaker))
         done result }
+    ensures promise { let k : Kinds S V M P = kinds S.Store V.Vault M.Source P.Sink in
+        Promises k (map string_bytes words.now)
+        (handed A.Source O.Sink (change script.old script.new) (change out.old out.new) store
+        (change vault.old vault.new) (change mic result.mic) (change speaker result.speaker)) result }
+    ensures only { let k : Kinds S V M P = kinds S.Store V.Vault M.Source P.Sink in
+        HasCause (words_of (map string_bytes words.now))
+        (counts A.Source O.Sink k script.old out.old store vault.old mic speaker)
+        (counts A.Source O.Sink k script.new out.new result.store vault.new result.mic result.speaker)
+        result.status }
 {
     let before = count_faults(script, out, &store, vault, &mic, &speaker);
-    let Done {
-        status,
-        opened,
-        store,
-        first_commit,
-        last_commit,
-        record_commit,
-        commits,
-        pieces,
-    } = carry_out(
+    let done = carry_out(
         rt,
         alloc,
         words,
@@ -142,17 +130,19 @@ where
         &mut speaker,
         gate,
     );
-    let now = count_faults(script, out, &store, vault, &mic, &speaker);
+    let now = count_faults(script, out, &done.store, vault, &mic, &speaker);
+    // It compiles to nothing: what the deeds of a desk ask of a store, for the proof.
+    deeds_ask::<S, V>();
     Ending {
-        status: status_of(before.any_rose(&now), status),
-        opened,
-        store,
+        status: status_of(before.any_rose(&now), done.status),
+        opened: done.opened,
+        store: done.store,
         mic,
         speaker,
-        first_commit,
-        last_commit,
-        record_commit,
-        script_commits: commits,
-        piece_commits: pieces,
+        first_commit: done.first_commit,
+        last_commit: done.last_commit,
+        record_commit: done.record_commit,
+        script_commits: done.commits,
+        piece_commits: done.pieces,
     }
 }

@@ -17,8 +17,8 @@ use std::alloc::Global;
 use std::sync::Wait;
 use std::thread::Threads;
 
-// The project of a script that is tried, with its room.
-fn tried_project() -> FreshProject
+/// The project of a script that is tried, with its room.
+pub fn tried_project() -> FreshProject
     ensures { result ≡ tried_project }
 {
     FreshProject {

@@ -1,5 +1,5 @@
 -- What is written of a mix.
-use Rattle.std.specs.Prelude.{◌≡◌, ◌⊎◌, ◌<◌, ◌≤◌, ◌+◌, ◌*◌, ℕ, List, length, take, Option, Some, Result, MatchResult}
+use Rattle.std.specs.Prelude.{◌≡◌, ◌<◌, ◌≤◌, ◌+◌, ◌*◌, ℕ, List, Result, MatchResult}
 use Rattle.disk_model.specs.Disk.{Files}
 use Rattle.pcm_base.specs.Causes.{Rose}
 use Rattle.pcm_base.specs.declared.block.BlockRef.{BlockRef}
@@ -12,17 +12,13 @@ use Rattle.wav_pcm.specs.Wavs.{FitsFile}
 use Rattle.sound_export.specs.declared.fault.ExportFault.{ExportFault}
 use Rattle.sound_export.specs.declared.fault.ExportFault.TheVariants.{TooLong, Block, VaultFault}
 
--- a sound is as it was, or holds a text's first bytes
-abbrev pub MayBegin : List ℕ → Option (List ℕ) → Option (List ℕ) → Type 0
-MayBegin text old new = (new ≡ old) ⊎ ((count : ℕ) × (count ≤ length text) × (new ≡ Some (take count text)))
-
 -- the disk or the vault was at fault
 abbrev pub IsOfDevice : ExportFault → Type 0
 IsOfDevice (TooLong frames) = ⊥
 IsOfDevice (Block why) = Unit {0}
 IsOfDevice VaultFault = Unit {0}
 
--- TooLong comes for a mix whose frames do not fit a file, and tells how many they are; any other fault for one that
+-- TooLong comes for a mix whose frames do not fit a file, and says how many they are; any other fault for one that
 -- fits
 abbrev pub IsLengthFault : ℕ → ExportFault → Type 0
 IsLengthFault len (TooLong frames) = (frames ≡ len) × (4294967295 < 36 + 4 * len)

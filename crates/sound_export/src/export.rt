@@ -1,49 +1,24 @@
 // A mix is written to a vault.
-ghost use Rattle.std.specs.Prelude.{◌≡◌, ◌≤◌, ◌<◌, ◌+◌, ◌*◌, ◌^◌, ◌++◌, ℕ, length, Some, IsTrue, OnOk, OnErr, IfOk};
-ghost use Rattle.std.specs.Prelude.{IfErr, Err};
+ghost use Rattle.std.specs.Prelude.{◌≡◌, ◌≤◌, ◌<◌, ◌+◌, ◌*◌, ◌^◌, length, Some, Err, IsTrue, OnOk, OnErr, IfOk, IfErr};
 ghost use Rattle.disk_model.specs.Frames.{Kept};
-ghost use Rattle.pcm_base.specs.Causes.{HasCause};
 ghost use Rattle.pcm_base.specs.Mix.{mix_of};
 ghost use Rattle.pcm_base.specs.Wave.{wav_text};
 ghost use Rattle.pcm_base.specs.Outside.{SameElsewhere};
 ghost use Rattle.project_state.specs.Kept.{meant, point_blocks};
 ghost use Rattle.sample_block.specs.Sources.{sources_of, AllNamed, AllWhole};
-ghost use Rattle.wav_pcm.specs.Wavs.{FitsFile, wav_head};
+ghost use Rattle.wav_pcm.specs.Written.{MayBegin};
 ghost use Rattle.mix_view.specs.Tracks.{mix_length_of, stored_mix};
 ghost use Rattle.sound_export.specs.declared.fault.ExportFault.TheVariants as fault;
-ghost use Rattle.sound_export.specs.Written.{MayBegin, IsLengthFault, IsBlockFault, IsNoDamage, ExportCounted};
+ghost use Rattle.sound_export.specs.Written.{IsLengthFault, IsBlockFault, IsNoDamage, ExportCounted};
 
 use super::fault::ExportFault;
 use super::stretch::append_mix;
 use disk_model::Store;
 use edit_ports::Vault;
 use mix_view::mix_len;
-use pcm_base::{Cell, Failed, Frame};
+use pcm_base::{Cell, Frame};
 use project_state::Point;
-use wav_pcm::{MAX_FRAMES, write_head};
-
-/// Makes the sound hold what stands before so many frames.
-fn start_sound<V: Vault>(
-    vault: &mut V,
-    name: &str,
-    count: u32,
-    rate: u32,
-    bytes: &mut [u8],
-) -> Result<(), Failed>
-    requires room { 44 ≤ length bytes.old }
-    requires few { FitsFile count }
-    ensures started { IsTrue (V.tells vault.old)
-        → OnOk result (V.holds vault.new name.now ≡ Some (wav_head count rate)) }
-    ensures failed { IsTrue (V.tells vault.old)
-        → OnErr result (MayBegin (wav_head count rate) (V.holds vault.old name.now) (V.holds vault.new name.now)) }
-    ensures others { IsTrue (V.tells vault.old) → SameElsewhere name.now (V.holds vault.old) (V.holds vault.new) }
-    ensures tells { V.tells vault.new ≡ V.tells vault.old }
-    ensures cause { HasCause (V.fault_count vault.old) (V.fault_count vault.new) result }
-{
-    write_head(count, rate, &mut bytes[..44]);
-    vault.start(name)?;
-    vault.append(name, &bytes[..44])
-}
+use wav_pcm::{MAX_FRAMES, write_start};
 
 /// Writes the mix of a point's tracks to a vault as a WAV file, and answers how many bytes it has. The length is tested
 /// before anything is written. Then the header is written, and frames are read, mixed and appended a stretch at a
@@ -92,7 +67,7 @@ pub fn write_mix<S: Store, V: Vault>(
     if len > MAX_FRAMES as u64 {
         return Err(ExportFault::TooLong { frames: len });
     }
-    start_sound(vault, name, len as u32, rate, bytes)?;
+    write_start(vault, name, len as u32, rate, bytes)?;
     append_mix(store, vault, name, point, len, cells, frames, bytes)?;
     Ok(44 + 4 * len)
 }

@@ -3,7 +3,6 @@ ghost use Rattle.std.specs.Prelude.{◌≡◌, ◌≤◌, ◌<◌, ◌+◌, ◌-
 ghost use Rattle.std.specs.Prelude.{OnOk, OnErr, IfOk, IfErr};
 ghost use Rattle.disk_model.specs.Frames.{Kept};
 ghost use Rattle.pcm_base.specs.Pieces.{Sources};
-ghost use Rattle.pcm_base.specs.Causes.{HasCause};
 ghost use Rattle.pcm_base.specs.Mix.{mix_length};
 ghost use Rattle.pcm_base.specs.Outside.{SameElsewhere};
 ghost use Rattle.edit_ports.specs.Sounds.{sound_bytes, MayHaveGrown};
@@ -18,32 +17,9 @@ use super::fault::ExportFault;
 use disk_model::Store;
 use edit_ports::Vault;
 use mix_view::MixReader;
-use pcm_base::{Cell, Failed, Frame};
+use pcm_base::{Cell, Frame};
 use project_state::Point;
-use wav_pcm::write_frames;
-
-/// Appends frames to a sound.
-fn append_frames<V: Vault>(
-    vault: &mut V,
-    name: &str,
-    frames: &[Frame],
-    bytes: &mut [u8],
-) -> Result<(), Failed>
-    requires room { 4 * length frames.now ≤ length bytes.old }
-    ensures appended { IsTrue (V.tells vault.old)
-        → OnOk result (V.holds vault.new name.now ≡ Some (sound_bytes (V.holds vault.old name.now)
-        ++ frame_bytes frames.now)) }
-    ensures failed { IsTrue (V.tells vault.old)
-        → OnErr result (MayHaveGrown (frame_bytes frames.now) (V.holds vault.old name.now)
-        (V.holds vault.new name.now)) }
-    ensures others { IsTrue (V.tells vault.old) → SameElsewhere name.now (V.holds vault.old) (V.holds vault.new) }
-    ensures tells { V.tells vault.new ≡ V.tells vault.old }
-    ensures cause { HasCause (V.fault_count vault.old) (V.fault_count vault.new) result }
-{
-    let room = 4 * frames.len();
-    write_frames(frames, &mut bytes[..room]);
-    vault.append(name, &bytes[..room])
-}
+use wav_pcm::append_piece;
 
 /// Appends the next frames of a mix, as many as are left and as fit, and answers how many.
 fn append_stretch<'a, S: Store, V: Vault>(
@@ -82,7 +58,7 @@ fn append_stretch<'a, S: Store, V: Vault>(
         (V.fault_count vault.old) (V.fault_count vault.new) }
 {
     let count = reader.read(store, cells, frames)?;
-    append_frames(vault, name, &frames[..count], bytes)?;
+    append_piece(vault, name, &frames[..count], bytes)?;
     Ok(count)
 }
 

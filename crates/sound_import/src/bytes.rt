@@ -1,8 +1,10 @@
 // The bytes of a sound of a vault.
-ghost use Rattle.std.specs.Prelude.{◌≡◌, ℕ, length, take, min, IsTrue, IfOk, IfErr, Some};
+ghost use Rattle.std.specs.Prelude.{◌≡◌, ◌<◌, ℕ, length, take, min, IsTrue, IfOk, IfErr, Some};
 ghost use Rattle.pcm_base.specs.Causes.{HasCause};
+ghost use Rattle.pcm_base.specs.declared.wav.WavFault.TheVariants.{Truncated};
 ghost use Rattle.edit_ports.specs.Sounds.{sound_bytes};
 ghost use Rattle.sound_import.specs.Imported.{IsRefused, ImportCounted};
+ghost use Rattle.sound_import.specs.declared.fault.ImportFault.TheVariants.{BadWav};
 
 use super::fault::ImportFault;
 use edit_ports::Vault;
@@ -40,6 +42,7 @@ pub(crate) fn read_whole<V: Vault>(
         → IfOk result (λ bytes. V.holds vault.old name.now ≡ Some bytes.items) }
     ensures refused { (rate : ℕ) → IsTrue (V.tells vault.old)
         → IfErr result (IsRefused (V.holds vault.old name.now) rate) }
+    ensures short { (want have : ℕ) → IfErr result (λ why. why ≡ BadWav (Truncated want have) → have < want) }
     ensures same { V.holds vault.new ≡ V.holds vault.old }
     ensures tells { V.tells vault.new ≡ V.tells vault.old }
     ensures faults { ImportCounted result (V.fault_count vault.old) (V.fault_count vault.new) }

@@ -53,8 +53,8 @@ fn take_folder(alloc: Global, words: &mut Vec<String>) -> Result<String, AllocEr
     }
 }
 
-/// Stands in the place of a standard stream that is closed.
-const NO_STREAM: &str = "/dev/null";
+/// Stands in the place of a standard stream that is closed: a folder, which can't be read or written as a stream.
+const NO_STREAM: &str = "/";
 
 fn main(rt: HostRuntime) -> ExitCode {
     let alloc = rt.alloc();

@@ -21,6 +21,8 @@ use Rattle.editor_core.specs.Studios.{studio_of}
 use Rattle.studio_seats.specs.declared.deed.Deed.{Deed}
 use Rattle.studio_seats.specs.Deeds.{entries_of}
 use Rattle.studio_seats.specs.Faults.{AreServed, DesksServe, IsCalm, IsServed, Serves}
+use Rattle.studio_seats.specs.Stands.{origin}
+use Rattle.studio_seats.proofs.Grown.{leads}
 use Rattle.studio_seats.proofs.TestFaults.{Tells, served_test, tested}
 
 -- ---- one step
@@ -98,7 +100,8 @@ went t u c sound (Ok r) h =
     still t u c (Ok r) (ap (λ (z : model.Studio). z.read_faults) h.is) (ap (λ (z : model.Studio). z.change_faults) h.is)
     (λ going. ap (λ (z : model.Studio). z.stopped) h.is ∙ going) (λ going. tt)
 went t u c sound (Err why) (inl h) = same t u c (Err why) h.same
-    (λ going. served_test c why (subst Tells h.first (tested (outside t sound) t c h.blocks h.len going)))
+    (λ going. served_test t.stopped c why going
+    (subst (Tells t.stopped) h.first (tested (outside t sound) t c h.blocks h.len)))
 went t u c sound (Err why) (inr h) = broken t u c sound why h
 
 -- ---- a run
@@ -156,6 +159,7 @@ deeds_served (d ∷ ds) served = (deed_served d.call d.what served.0, deeds_serv
 
 pub desks_serve : {D V : Type 0} (disk : Ghosts D) (vaults : vault.Ghosts V) → DesksServe disk vaults
 desks_serve disk vaults start now deeds stands told held is calm =
-    let serves = faults_are_counted (studio_of disk start) (studio_of disk now) (entries_of deeds)
-    (stands.run told held) is calm in
-    record { going = serves.going; served = deeds_served deeds serves.served; unharmed = stands.whole told held }
+    let led = leads (origin disk vaults start) now deeds stands in
+    let serves = faults_are_counted (studio_of disk start) (studio_of disk now) (entries_of deeds) (led.run told held)
+    is calm in
+    record { going = serves.going; served = deeds_served deeds serves.served; unharmed = led.whole told held }

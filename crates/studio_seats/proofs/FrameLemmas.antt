@@ -26,7 +26,7 @@ use Rattle.studio_seats.specs.Desks.{Says, Spends, Turned, asked, views}
 use Rattle.studio_seats.specs.Pins.{after_entry, is_made, makes_pin, pin_frames}
 use Rattle.studio_seats.specs.Shows.{IsMixOf}
 use Rattle.studio_seats.specs.Stands.{origin}
-use Rattle.studio_seats.proofs.Grown.{entries_append}
+use Rattle.studio_seats.proofs.Grown.{all_told, entries_append, leads}
 use Rattle.studio_seats.proofs.PinLemmas.{frames_on, read_frames, run_shows}
 
 none_made : IsTrue false → ⊥
@@ -152,14 +152,16 @@ module _ {D V : Type 0} (disk : Ghosts D) (vaults : vault.Ghosts V) (start : Cor
 
   gives_at : (what : Result ℕ Refusal) (at : ℕ) → Reads what at → IfOk what Given
   gives_at (Ok count) at h = λ all shows.
-      let step = (h.does.took (λ some. shows.told)).step (h.stood.held shows.told shows.held) in
+      let led = leads (origin disk vaults start) h.before (v.seen ++ h.between) h.stood in
+      let told = all_told vaults (v.seen ++ h.between) shows.told in
+      let step = (h.does.took (λ some. shows.told)).step (led.held told shows.held) in
       let frames : pin_frames t.rate t.state (entries_of (v.seen ++ h.between)) pin ≡ Some all =
       ap (λ (es : List Entry). pin_frames t.rate t.state es pin) (entries_append v.seen h.between)
       ∙ frames_on t.rate t.state (entries_of v.seen) (entries_of h.between) pin all shows.frames in
       read_frames (studio_of disk h.before) (studio_of disk h.after) pin from (length old) silent
       (take count new) all step
       (run_shows pin t (studio_of disk h.before) (entries_of (v.seen ++ h.between)) all
-      (h.stood.run shows.told shows.held) frames)
+      (led.run told shows.held) frames)
   gives_at (Err why) at h = tt
 
   -- which are those that it gives

@@ -2,34 +2,39 @@
 use Rattle.std.proofs.Common.{◌≡◌, ◌⊎◌, inl, inr, ⊎_elim, refl, sym, ap, ◌∙◌, subst, ℕ, ◌-◌, IsSome, Option, Some, None}
 use Rattle.std.proofs.Common.{List, [], ◌∷◌, ◌++◌, append_assoc, Result, Ok, Err}
 use Rattle.std.specs.Prelude.{IfErr}
+use Rattle.std.proofs.lemmas.List.{append-nil}
 use Rattle.pcm_base.specs.declared.answer.Reply.{Reply}
+use Rattle.pcm_base.specs.declared.answer.Reply.TheVariants.{Refused}
 use Rattle.pcm_base.specs.declared.command.Call.{Call}
 use Rattle.pcm_base.specs.declared.entry.Entry.{Entry}
 use Rattle.pcm_base.specs.declared.refusal.Refusal.{Refusal}
 use Rattle.pcm_base.specs.declared.refusal.Refusal.TheVariants as refusal
-use Rattle.pcm_base.specs.Run.{Run, Step}
+use Rattle.pcm_base.specs.Run.{Run, Step, name_in}
 use Rattle.pcm_base.specs.Studio as model
 use Rattle.disk_model.specs.Disk.{Files}
-use Rattle.disk_model.specs.MomentLaws.{upto_refl}
+use Rattle.disk_model.specs.MomentLaws.{upto_refl, upto_trans}
 use Rattle.disk_model.specs.declared.store.Store.{Ghosts}
-use Rattle.disk_model.proofs.Frames.{Fewer, kept_none}
 use Rattle.disk_model.proofs.Moments.{each_on}
 use Rattle.project_journal.specs.Gate.{EachNow, EachSince}
 use Rattle.project_state.specs.Kept.{Keeps}
+use Rattle.editor_core.specs.Applied.{reply_of}
 use Rattle.editor_core.specs.Core.{Core}
-use Rattle.editor_core.specs.Events.{KeepsPrefix, NextInFlight}
-use Rattle.editor_core.specs.Left.{Left, MayRemove}
+use Rattle.editor_core.specs.Events.{KeepsPrefix}
 use Rattle.editor_core.specs.Studios.{IsHeld, IsStudio, shown, studio_of}
-use Rattle.editor_core.specs.Took.{Took, asks, exchange_of, freeing, silent}
+use Rattle.editor_core.specs.Left.{Left, Stops}
+use Rattle.editor_core.specs.Took.{Took, exchange_of, freeing, silent}
 use Rattle.editor_core.proofs.Applying.{lasts_took}
-use Rattle.editor_core.proofs.Others.{foreign_more, foreign_none}
-use Rattle.editor_core.proofs.Rests.{rests_keeps}
+use Rattle.editor_core.proofs.Entries.{flies, prefix_more, run_more, step_of}
+use Rattle.editor_core.proofs.Images.{keeps_now}
 use Rattle.editor_core.proofs.Unharmed.{held_undamaged}
-use Rattle.pin_turn.proofs.Sums.{Each-append}
+use Rattle.edit_ports.specs.declared.vault.Vault as vault
+use Rattle.pin_turn.proofs.Sums.{Each-append, Each-left, Each-right}
 use Rattle.studio_seats.specs.declared.deed.Deed.{Deed}
 use Rattle.studio_seats.specs.Deeds.{deed, entry_of, entries_of, is_commit, number_after, raised}
-use Rattle.studio_seats.specs.Stands.{AllTell, Does, IsUnharmed, Origin, StandsFor, StopsInFlight}
-use Rattle.studio_seats.proofs.Refused.{number_raised, step_of, stopped_not, stopped_shown}
+use Rattle.studio_seats.specs.Leads.{HadTurn, IsUnharmed, Leads, StopsInFlight}
+use Rattle.studio_seats.specs.Stands.{AllTell, AreTold, Chain, Does, Origin, StandsFor}
+use Rattle.studio_seats.proofs.Refused.{number_raised, stopped_not, stopped_shown}
+use Rattle.studio_seats.proofs.TestFaults.{had_turn}
 
 -- ---- lists
 
@@ -41,28 +46,12 @@ pub number_append : (n : ℕ) (ds es : List Deed) → number_after n (ds ++ es) 
 number_append n [] es = refl
 number_append n (d ∷ ds) es = number_append (raised (is_commit d) n) ds es
 
+-- where all vaults tell, they do for each deed
+pub all_told : {V : Type 0} (vaults : vault.Ghosts V) (deeds : List Deed) → AllTell vaults → AreTold vaults deeds
+all_told vaults [] tell = tt
+all_told vaults (d ∷ ds) tell = (λ some. tell, all_told vaults ds tell)
+
 -- ---- one entry more
-
-run_more : (t s u : model.Studio) (es : List Entry) (e : Entry) → Run t es s → Step s e.call e.sound e.reply u
-    → Run t (es ++ e ∷ []) u
-run_more t s u [] e run step = (u, subst (λ (z : model.Studio). Step z e.call e.sound e.reply u) run step, refl)
-run_more t s u (x ∷ xs) e run step = (run.0, run.1, run_more run.0 s u xs e run.2 step)
-
-next_more : (u : model.Studio) (es : List Entry) (e : Entry) (c : Files) → NextInFlight u es c
-    → NextInFlight u (es ++ e ∷ []) c
-next_more u [] e c h = absurd h
-next_more u (x ∷ xs) e c h = h
-
-prefix_more : (t : model.Studio) (es : List Entry) (e : Entry) (c : Files) → KeepsPrefix t es c
-    → KeepsPrefix t (es ++ e ∷ []) c
-prefix_more t es e c h = record {
-  front = h.front;
-  back = h.back ++ e ∷ [];
-  cut = ap (λ (z : List Entry). z ++ e ∷ []) h.cut ∙ append_assoc h.front h.back (e ∷ []);
-  reached = h.reached;
-  run = h.run;
-  keeps = ⊎_elim (λ kept. inl kept) (λ flies. inr (next_more h.reached h.back e c flies)) h.keeps;
-}
 
 flight_more : (t : model.Studio) (es : List Entry) (e : Entry) (c : Files) → StopsInFlight t es c
     → StopsInFlight t (es ++ e ∷ []) c
@@ -77,34 +66,42 @@ flight_more t es e c h = record {
   next = h.next;
   step = h.step;
   stops = h.stops;
+  fault = h.fault;
   flight = h.flight;
 }
 
--- ---- a call makes the list longer
+-- ---- one deed
 
 -- a call that names no sound
 pub does_silent : {D : Type 0} {actor : ℕ} (disk : Ghosts D) (told : Type 0) (old : Core D) (call : Call)
-    (what : Result Reply Refusal) (removed : ℕ) (new : Core D)
+    (what : Result Reply Refusal) (removed : List ℕ) (new : Core D)
     → Took disk old (freeing call what removed) new → Does disk told old (deed actor call what silent) new
 does_silent disk told old call what removed new took =
     record { removed = removed; took = λ may. took; lasts = lasts_took disk old (freeing call what removed) new took }
 
 -- where the disk held the studio, no call tells a damaged file
-unharmed : {D : Type 0} (disk : Ghosts D) (old new : Core D) (call : Call) (what : Result Reply Refusal)
-    → IsHeld disk old
-    → IfErr what (Left disk old (MayRemove call old.counts) new) → IfErr what IsUnharmed
-unharmed disk old new call (Ok r) held left = tt
-unharmed disk old new call (Err (refusal.Damaged file at want have)) held left =
-    absurd (held_undamaged disk old new (MayRemove call old.counts) (refusal.Damaged file at want have) held left)
-unharmed disk old new call (Err why) held left = tt
+unharmed : {D : Type 0} (disk : Ghosts D) (old new : Core D) (what : Result Reply Refusal) → IsHeld disk old
+    → IfErr what (Left disk old new) → IfErr what IsUnharmed
+unharmed disk old new (Ok r) held left = tt
+unharmed disk old new (Err (refusal.Damaged file at want have)) held left =
+    absurd (held_undamaged disk old new (refusal.Damaged file at want have) held left)
+unharmed disk old new (Err why) held left = tt
 
-module _ {D V : Type 0} (o : Origin D V) (old new : Core D) (deeds : List Deed) (was : StandsFor o old deeds) (d : Deed)
+-- a call that stopped the studio told that the disk failed
+failed : {D : Type 0} (disk : Ghosts D) (old new : Core D) (what : Result Reply Refusal) → old.stopped ≡ None
+    → IsSome new.stopped → Stops disk old what new → reply_of what ≡ Refused refusal.DiskFault
+failed disk old new what still some (inl same) = absurd (stopped_not new.stopped some (same.0 ∙ still))
+failed disk old new what still some (inr stops) = ap reply_of stops.2
+
+-- ---- what follows of one deed more
+
+module _ {D V : Type 0} (o : Origin D V) (old new : Core D) (deeds : List Deed) (was : Leads o old deeds) (d : Deed)
     (does : Does o.disk (AllTell o.vaults) old d new) where
   abbrev disk : Ghosts D
   disk = o.disk
 
   abbrev told : Type 0
-  told = AllTell o.vaults
+  told = AreTold o.vaults (deeds ++ d ∷ [])
 
   abbrev start : Core D
   start = o.start
@@ -115,18 +112,21 @@ module _ {D V : Type 0} (o : Origin D V) (old new : Core D) (deeds : List Deed) 
   abbrev all : List Entry
   all = entries_of deeds ++ entry_of d ∷ []
 
+  before : told → AreTold o.vaults deeds
+  before tell = Each-left (λ (z : Deed). IsSome (name_in z.call) → AllTell o.vaults) deeds (d ∷ []) tell
+
   took : told → Took disk old (exchange_of d.call d.sound d.what does.removed) new
-  took tell = does.took (λ some. tell)
+  took tell = does.took (Each-right (λ (z : Deed). IsSome (name_in z.call) → AllTell o.vaults) deeds (d ∷ []) tell).0
 
   step : told → IsHeld disk start → Step (studio_of disk old) d.call d.sound (entry_of d).reply (studio_of disk new)
   step tell held =
-      step_of (studio_of disk old) (studio_of disk new) d.call d.sound d.what ((took tell).step (was.held tell held))
+      step_of (studio_of disk old) (studio_of disk new) d.call d.sound d.what ((took tell).step (was.held (before tell) held))
 
   -- ---- at any moment
 
   first : told → start.stopped ≡ None → IsHeld disk start → EachSince disk start.store old.store (KeepsPrefix t all)
   first tell going held c since =
-      prefix_more t (entries_of deeds) (entry_of d) c (was.any_moment tell going held c since)
+      prefix_more t (entries_of deeds) (entry_of d) c (was.any_moment (before tell) going held c since)
 
   -- while the call is under way
   second : told → old.stopped ≡ None → IsHeld disk start → EachSince disk old.store new.store (KeepsPrefix t all)
@@ -135,15 +135,16 @@ module _ {D V : Type 0} (o : Origin D V) (old new : Core D) (deeds : List Deed) 
     back = entry_of d ∷ [];
     cut = refl;
     reached = studio_of disk old;
-    run = was.run tell held;
-    keeps = (took tell).any_moment still (was.held tell held) c since;
+    run = was.run (before tell) held;
+    keeps = flies disk old new (exchange_of d.call d.sound d.what does.removed) (took tell) still
+        (was.held (before tell) held) c since;
   }
 
   -- a studio that had stopped asks nothing more of the disk
   stays : (o : Option ℕ) → old.stopped ≡ o → told → start.stopped ≡ None → IsHeld disk start
       → EachSince disk start.store new.store (KeepsPrefix t all)
   stays None still tell going held =
-      each_on (KeepsPrefix t all) (disk.clock start.store) (took tell).changed.images was.others.images.later
+      each_on (KeepsPrefix t all) (disk.clock start.store) (took tell).changed.images was.later
       (first tell going held) (second tell still held)
   stays (Some faults) stopped tell going held =
       let same = does.lasts.rests (subst IsSome (sym stopped) refl) in
@@ -161,7 +162,7 @@ module _ {D V : Type 0} (o : Origin D V) (old new : Core D) (deeds : List Deed) 
       let images = (took tell).changed.images in
       let since = images.fewer (disk.clock old.store) (disk.clock new.store) c images.later (upto_refl _) now in
       let same = stopped_shown (studio_of disk old) (studio_of disk new) d.call d.sound d.what
-      ((took tell).step (was.held tell held)) still some in
+      ((took tell).step (was.held (before tell) held)) still some in
       ⊎_elim
       (λ kept. inl (subst (λ (z : _). Keeps c z) (sym same) kept))
       (λ flight. inr record {
@@ -170,21 +171,22 @@ module _ {D V : Type 0} (o : Origin D V) (old new : Core D) (deeds : List Deed) 
         back = [];
         cut = refl;
         reached = studio_of disk old;
-        run = was.run tell held;
+        run = was.run (before tell) held;
         going = still;
         next = studio_of disk new;
         step = step tell held;
         stops = some;
+        fault = failed disk old new d.what still some (took tell).stops;
         flight = flight;
       })
-      ((took tell).any_moment still (was.held tell held) c since)
+      ((took tell).any_moment still (was.held (before tell) held) c since)
 
   -- an earlier one did
   stopped_still : told → start.stopped ≡ None → IsSome old.stopped → IsHeld disk start
       → EachNow disk old.store (Ends old)
   stopped_still tell going some held c now =
       ⊎_elim (λ kept. inl kept) (λ flight. inr (flight_more t (entries_of deeds) (entry_of d) c flight))
-      (was.stopped tell going some held c now)
+      (was.stopped (before tell) going some held c now)
 
   ends : (o : Option ℕ) → old.stopped ≡ o → told → start.stopped ≡ None → IsSome new.stopped → IsHeld disk start
       → EachNow disk new.store (Ends new)
@@ -199,48 +201,65 @@ module _ {D V : Type 0} (o : Origin D V) (old new : Core D) (deeds : List Deed) 
 
   -- ---- all of it
 
-  pub extends : StandsFor o new (deeds ++ d ∷ [])
-  extends = record {
+  led_on : Leads o new (deeds ++ d ∷ [])
+  led_on = record {
     studio = does.lasts.studio;
     number = does.lasts.number ∙ number_raised d.what d.call old.commit_number ∙ ap (raised (is_commit d)) was.number
         ∙ sym (number_append start.commit_number deeds (d ∷ []));
-    held = λ tell held. (took tell).held (was.held tell held);
+    later = upto_trans (disk.clock start.store) (disk.clock old.store) (disk.clock new.store) was.later
+        does.lasts.changed.images.later;
+    held = λ tell held. (took tell).held (was.held (before tell) held);
     run = λ tell held. subst (λ (es : List Entry). Run t es (studio_of disk new)) (sym more)
-        (run_more t (studio_of disk old) (studio_of disk new) (entries_of deeds) (entry_of d) (was.run tell held)
-        (step tell held));
-    whole = λ tell held. Each-append (λ (z : Deed). IfErr z.what IsUnharmed) deeds (d ∷ []) (was.whole tell held)
-        (unharmed disk old new d.call d.what (was.held tell held) does.lasts.left, tt);
+        (run_more t (studio_of disk old) (studio_of disk new) (entries_of deeds) (entry_of d)
+        (was.run (before tell) held) (step tell held));
+    whole = λ tell held. Each-append (λ (z : Deed). IfErr z.what IsUnharmed) deeds (d ∷ [])
+        (was.whole (before tell) held)
+        (unharmed disk old new d.what (was.held (before tell) held) does.lasts.left, tt);
+    turns = λ tell held. Each-append HadTurn deeds (d ∷ []) (was.turns (before tell) held) (
+      had_turn (studio_of disk old) (studio_of disk new) d.call d.sound d.what
+          ((took tell).step (was.held (before tell) held)),
+      tt,
+    );
     any_moment = λ tell going held. subst (λ (es : List Entry). EachSince disk start.store new.store (KeepsPrefix t es))
         (sym more) (stays old.stopped refl tell going held);
-    going = λ tell still held. (took tell).now still (was.held tell held);
+    going = λ tell still held. (took tell).now still (was.held (before tell) held);
     stopped = λ tell going some held. subst (λ (es : List Entry).
         EachNow disk new.store (λ c. Keeps c (shown (studio_of disk new)) ⊎ StopsInFlight t es c)) (sym more)
         (ends old.stopped refl tell going some held);
-    others = foreign_more disk start.store old new d.call
-        (asks old.block_size (new.next_block - old.next_block) does.lasts.len does.removed) was.studio was.others
-        does.lasts.changed;
   }
 
--- a studio stands for nothing from itself on
-pub begins : {D V : Type 0} (o : Origin D V) → IsStudio o.disk o.start → Fewer o.disk o.start.store
-    → StandsFor o o.start []
-begins o is fewer = record {
+-- no deed leads nowhere
+led_none : {D V : Type 0} (o : Origin D V) → IsStudio o.disk o.start → Leads o o.start []
+led_none o is = record {
   studio = is;
   number = refl;
+  later = upto_refl (o.disk.clock o.start.store);
   held = λ tell held. held;
   run = λ tell held. refl;
   whole = λ tell held. tt;
+  turns = λ tell held. tt;
   any_moment = λ tell going held c since. record {
     front = [];
     back = [];
     cut = refl;
     reached = studio_of o.disk o.start;
     run = refl;
-    keeps = inl
-        (rests_keeps o.disk o.start is o.start.store (kept_none o.start.store fewer) going held c since);
+    keeps = inl (keeps_now o.disk o.start going held c since);
   };
-  going = λ tell still held c now.
-      rests_keeps o.disk o.start is o.start.store (kept_none o.start.store fewer) still held c now;
+  going = λ tell still held c now. keeps_now o.disk o.start still held c now;
   stopped = λ tell going some held c now. absurd (stopped_not o.start.stopped some going);
-  others = foreign_none o.disk o.start.store fewer;
 }
+
+-- the deeds after some
+led_by : {D V : Type 0} (o : Origin D V) (old : Core D) (front back : List Deed) (new : Core D) → Leads o old front
+    → Chain o.disk o.vaults old back new → Leads o new (front ++ back)
+led_by {D} o old front [] new was is =
+    subst (λ (z : Core D × List Deed). Leads o z.0 z.1) (λ i. (sym is i, sym (append-nil front) i)) was
+led_by o old front (d ∷ back) new was chain =
+    subst (Leads o new) (append_assoc front (d ∷ []) back)
+    (led_by o chain.0 (front ++ d ∷ []) back new (led_on o old chain.0 front was d chain.1) chain.2)
+
+-- what follows of the deeds for which a studio stands
+pub leads : {D V : Type 0} (o : Origin D V) (now : Core D) (deeds : List Deed) → StandsFor o now deeds
+    → Leads o now deeds
+leads o now deeds stands = led_by o o.start [] deeds now (led_none o stands.began) stands.chain

@@ -1,6 +1,9 @@
 -- The lemmas, lowest first.
 pub mod Refused
+pub mod TestFaults
+pub mod Chains
 pub mod Grown
+pub mod AskLemmas
 pub mod Turns
 pub mod Lines
 pub mod PinSteps
@@ -8,6 +11,6 @@ pub mod PinLemmas
 pub mod FrameLemmas
 pub mod PieceLemmas
 pub mod MergeLemmas
-pub mod TestFaults
 pub mod FaultLemmas
 pub mod OnwardLemmas
+pub mod WorkLemmas

@@ -56,12 +56,12 @@ pub asks_others : (fits : Call → Type 0) (seat : ℕ) (more : List Deed) → B
 asks_others fits seat [] h = tt
 asks_others fits seat (e ∷ es) h = ((λ is. absurd (not_own seat e.actor h.0 is)), asks_others fits seat es h.1)
 
-one_place : (seat k : ℕ) (c : Call) (what : Result Reply Refusal) (sound : SoundMove)
+pub one_place : (seat k : ℕ) (c : Call) (what : Result Reply Refusal) (sound : SoundMove)
     → places_of (by_seat seat) k (deed seat c what sound ∷ []) ≡ k ∷ []
 one_place seat k c what sound = ap (λ (b : Bool). (if b then k ∷ [] else []) ++ []) (eq-eqb seat seat refl)
 
 module _ {D V : Type 0} (fits : Call → Type 0) where
-  pub onward_self : (v : View (Held D V) Deed) → Onward fits v v
+  abbrev pub onward_self : (v : View (Held D V) Deed) → Onward fits v v
   onward_self v = record {
     added = [];
     seen = sym (append-nil v.seen);
@@ -69,9 +69,10 @@ module _ {D V : Type 0} (fits : Call → Type 0) where
     number = refl;
     away = refl;
     mine = sym (append-nil v.mine);
+    used_up = λ used. used;
   }
 
-  pub onward_on : (u v w : View (Held D V) Deed) → Onward fits u v → Onward fits v w → Onward fits u w
+  abbrev pub onward_on : (u v w : View (Held D V) Deed) → Onward fits u v → Onward fits v w → Onward fits u w
   onward_on u v w h k = record {
     added = h.added ++ k.added;
     seen = k.seen ∙ (ap (λ (l : List Deed). l ++ k.added) h.seen ∙ append_assoc u.seen h.added k.added);
@@ -87,36 +88,50 @@ module _ {D V : Type 0} (fits : Call → Type 0) where
         k.mine ∙ (λ i. h.mine i ++ later i) ∙ append_assoc u.mine (places_of (by_seat u.number) (length u.seen) h.added)
         (places_of (by_seat u.number) (length u.seen + length h.added) k.added)
         ∙ ap (λ (l : List ℕ). u.mine ++ l) (sym (places_append (by_seat u.number) (length u.seen) h.added k.added));
+    used_up = λ used. k.used_up (h.used_up used);
   }
 
-  -- one turn
-  pub onward_turn : {A : Type 0} (disk : Ghosts D) (vaults : vault.Ghosts V) (start : Core D)
-      (v w : View (Held D V) Deed) (c : Call) (what : Result Reply Refusal) (sound : SoundMove) (said : Said A)
-      → fits c → Says (origin disk vaults start) (asked c what sound) said (views v w) → Onward fits v w
-  onward_turn {A} disk vaults start v w c what sound said fit h = ⊎_elim
-      (λ (x : Turned (origin disk vaults start) (asked c what sound) said.at (views v w)).
-      let e : Deed = deed v.number c what sound in
-      record {
-        added = x.between ++ e ∷ [];
-        seen = ap (λ (z : View (Held D V) Deed). z.seen) x.view ∙ append_assoc v.seen x.between (e ∷ []);
-        asks = each_append (λ e. e.actor ≡ v.number → fits e.call) x.between (e ∷ [])
-            (asks_others fits v.number x.between x.by_others) ((λ is. fit), tt);
-        number = ap (λ (z : View (Held D V) Deed). z.number) x.view;
-        away = ap (λ (z : View (Held D V) Deed). z.away) x.view;
-        mine =
-            let k = length v.seen in
-            let at : length (v.seen ++ x.between) ≡ k + length x.between = length-append v.seen x.between in
-            ap (λ (z : View (Held D V) Deed). z.mine) x.view ∙ ap (λ (l : List ℕ). v.mine ++ l)
-            (ap (λ (n : ℕ). n ∷ []) at
-            ∙ sym (places_append (by_seat v.number) k x.between (e ∷ []) ∙ (λ i. places_others v.number k x.between
-            x.by_others i ++ one_place v.number (k + length x.between) c what sound i)));
-      })
-      (λ (x : Spends v said w). record {
-        added = [];
-        seen = ap (λ (z : View (Held D V) Deed). z.seen) x.view ∙ sym (append-nil v.seen);
-        asks = tt;
-        number = ap (λ (z : View (Held D V) Deed). z.number) x.view;
-        away = ap (λ (z : View (Held D V) Deed). z.away) x.view;
-        mine = ap (λ (z : View (Held D V) Deed). z.mine) x.view ∙ sym (append-nil v.mine);
-      })
-      h
+  module _ (disk : Ghosts D) (vaults : vault.Ghosts V) (start : Core D) (v w : View (Held D V) Deed) (c : Call)
+      (what : Result Reply Refusal) (sound : SoundMove) where
+    -- a turn was taken
+    abbrev pub onward_taken : (at : ℕ) → fits c → Turned (origin disk vaults start) (asked c what sound) at (views v w)
+        → Onward fits v w
+    onward_taken at fit x =
+        let e : Deed = deed v.number c what sound in
+        record {
+          added = x.between ++ e ∷ [];
+          seen = ap (λ (z : View (Held D V) Deed). z.seen) x.view ∙ append_assoc v.seen x.between (e ∷ []);
+          asks = each_append (λ e. e.actor ≡ v.number → fits e.call) x.between (e ∷ [])
+              (asks_others fits v.number x.between x.by_others) ((λ is. fit), tt);
+          number = ap (λ (z : View (Held D V) Deed). z.number) x.view;
+          away = ap (λ (z : View (Held D V) Deed). z.away) x.view;
+          mine =
+              let k = length v.seen in
+              let at : length (v.seen ++ x.between) ≡ k + length x.between = length-append v.seen x.between in
+              ap (λ (z : View (Held D V) Deed). z.mine) x.view ∙ ap (λ (l : List ℕ). v.mine ++ l)
+              (ap (λ (n : ℕ). n ∷ []) at
+              ∙ sym (places_append (by_seat v.number) k x.between (e ∷ []) ∙ (λ i. places_others v.number k x.between
+              x.by_others i ++ one_place v.number (k + length x.between) c what sound i)));
+          used_up = λ used. ap (λ (z : View (Held D V) Deed). z.used_up) x.view ∙ used;
+        }
+
+    -- none was left
+    abbrev pub onward_spent : w ≡ record v { used_up = true } → Onward fits v w
+    onward_spent is = record {
+      added = [];
+      seen = ap (λ (z : View (Held D V) Deed). z.seen) is ∙ sym (append-nil v.seen);
+      asks = tt;
+      number = ap (λ (z : View (Held D V) Deed). z.number) is;
+      away = ap (λ (z : View (Held D V) Deed). z.away) is;
+      mine = ap (λ (z : View (Held D V) Deed). z.mine) is ∙ sym (append-nil v.mine);
+      used_up = λ used. ap (λ (z : View (Held D V) Deed). z.used_up) is;
+    }
+
+    -- one call
+    pub onward_turn : {A : Type 0} (said : Said A) → fits c
+        → Says (origin disk vaults start) (asked c what sound) said (views v w) → Onward fits v w
+    onward_turn said fit h = ⊎_elim
+        (λ (x : Turned (origin disk vaults start) (asked c what sound) said.at (views v w)).
+        onward_taken said.at fit x)
+        (λ (x : Spends v said w). onward_spent x.view)
+        h

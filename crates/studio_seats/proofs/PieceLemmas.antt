@@ -20,7 +20,7 @@ use Rattle.studio_seats.specs.Desks.{Says, Spends, Turned, asked, views}
 use Rattle.studio_seats.specs.Pieces.{piece_by, piece_in, pieces_by}
 use Rattle.studio_seats.specs.Stands.{origin}
 use Rattle.studio_seats.proofs.Grown.{number_append}
-use Rattle.studio_seats.proofs.Turns.{number_on}
+use Rattle.studio_seats.proofs.Turns.{number_on, turned_number}
 
 ok_of : {A B : Type 0} (P : A → Type 0) (Q : B → Type 0) (r : Result A B) → MatchResult r P Q → IfOk r P
 ok_of P Q (Ok x) h = h
@@ -111,7 +111,7 @@ module _ {D V : Type 0} (disk : Ghosts D) (vaults : vault.Ghosts V) (start : Cor
   taken (Ok number) at h is =
       let d : Deed = deed v.number (Piece track tag samples) (Ok Done) silent in
       let counts : at ≡ number_after start.commit_number (v.seen ++ h.between) + 1 =
-      h.number ∙ h.stands.number ∙ number_append start.commit_number (v.seen ++ h.between) (d ∷ []) in
+      h.number ∙ turned_number h ∙ number_append start.commit_number (v.seen ++ h.between) (d ∷ []) in
       ap Pieces h.view ∙ (one_turn track tag v.number start.commit_number v.seen h.between d h.by_others
       ∙ ap (λ (l : List (List ℤ × ℕ)). pieces_by track tag v.number start.commit_number v.seen ++ l)
       (piece_taken v.number (number_after start.commit_number (v.seen ++ h.between)) track tag samples

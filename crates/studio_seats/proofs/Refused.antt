@@ -11,12 +11,8 @@ use Rattle.pcm_base.specs.declared.entry.SoundMove.{SoundMove}
 use Rattle.pcm_base.specs.declared.refusal.Refusal.{Refusal}
 use Rattle.pcm_base.specs.declared.refusal.Refusal.TheVariants as refusal
 use Rattle.pcm_base.specs.Counters.{commits_needed, commits_of}
-use Rattle.pcm_base.specs.Outside.{Outside}
-use Rattle.pcm_base.specs.Run.{Answers, Breaks, Step, outside, result_of}
-use Rattle.pcm_base.specs.State.{State}
-use Rattle.pcm_base.specs.Step.{MayAnswer, MayReply}
+use Rattle.pcm_base.specs.Run.{Answers, Breaks}
 use Rattle.pcm_base.specs.Studio as model
-use Rattle.editor_core.specs.Applied.{reply_of}
 use Rattle.editor_core.specs.Studios.{shown}
 use Rattle.editor_core.specs.Took.{number_behind}
 use Rattle.studio_seats.specs.Deeds.{commits, raised}
@@ -24,56 +20,6 @@ use Rattle.studio_seats.specs.Deeds.{commits, raised}
 pub stopped_not : (o : Option ℕ) → IsSome o → o ≡ None → ⊥
 stopped_not None some none = cc
 stopped_not (Some n) some none = none-some n (sym none)
-
--- ---- no call is answered by a refusal as its reply
-
-answered : (r said : Reply) → r ≡ said → result_of said ≡ Ok said → result_of r ≡ Ok r
-answered r said is ok = subst (λ (z : Reply). result_of z ≡ Ok z) (sym is) ok
-
-line_answered : (out : Outside) (s : State) (c : Command) (r : Reply) → MayReply out s c r → result_of r ≡ Ok r
-line_answered out s command.Track r h = answered r _ h refl
-line_answered out s (command.Drop id) r h = answered r _ h refl
-line_answered out s (command.Level id gain) r h = answered r _ h refl
-line_answered out s (command.Side id side) r h = answered r _ h refl
-line_answered out s (command.Mute id mute) r h = answered r _ h refl
-line_answered out s (command.Put id at samples) r h = answered r _ h refl
-line_answered out s (command.Ramp id at n start step) r h = answered r _ h refl
-line_answered out s (command.Delete id from to) r h = answered r _ h refl
-line_answered out s (command.SplitDelete id from to) r h = answered r _ h refl
-line_answered out s (command.Silence id from to) r h = answered r _ h refl
-line_answered out s (command.Trim id from to) r h = answered r _ h refl
-line_answered out s (command.Gain id from to gain) r h = answered r _ h refl
-line_answered out s (command.Cut id n from to) r h = answered r _ h refl
-line_answered out s (command.SplitCut id n from to) r h = answered r _ h refl
-line_answered out s (command.Copy id n from to) r h = answered r _ h refl
-line_answered out s (command.Paste id at) r h = answered r _ h refl
-line_answered out s (command.PasteOver id at) r h = answered r _ h refl
-line_answered out s command.Undo r h = answered r _ h refl
-line_answered out s command.Redo r h = answered r _ h refl
-line_answered out s (command.Purge n) r h = answered r _ h refl
-line_answered out s (command.Show id from to) r h = answered r _ h refl
-line_answered out s (command.Mix from to) r h = answered r _ h refl
-line_answered out s (command.Envelope id from to columns) r h = answered r _ h refl
-line_answered out s command.Tracks r h = answered r _ h refl
-line_answered out s (command.Reclaim limit) r h = answered r _ h.1 refl
-line_answered out s (command.Import name) r h = answered r _ h refl
-line_answered out s (command.Export name) r h = answered r _ h refl
-
-call_answered : (out : Outside) (s : State) (c : Call) (r : Reply) → MayAnswer out s c r → result_of r ≡ Ok r
-call_answered out s (call.Line c) r h = line_answered out s c r h
-call_answered out s (call.Piece track tag samples) r h = answered r _ h refl
-call_answered out s call.Pin r h = answered r _ h refl
-call_answered out s (call.PinLen pin) r h = answered r _ h.2 refl
-call_answered out s (call.ReadPin pin from count) r h = answered r _ h.2 refl
-call_answered out s (call.Unpin pin) r h = answered r _ h refl
-
--- what a call answers is a step of a run
-pub step_of : (t u : model.Studio) (c : Call) (sound : SoundMove) (what : Result Reply Refusal)
-    → Answers t c sound what u → Step t c sound (reply_of what) u
-step_of t u c sound (Err why) h = h
-step_of t u c sound (Ok r) h =
-    subst (λ (z : Result Reply Refusal). Answers t c sound z u)
-    (sym (call_answered (outside t sound) t.state c r h.answers)) h
 
 -- ---- a refusal leaves all that a script can see
 

@@ -1,11 +1,14 @@
--- What a test may tell: of no device.
-use Rattle.std.proofs.Common.{◌≡◌, refl, ℕ, ◌+◌, ◌-◌, ◌^◌, ◌==◌, nat_lt, nat_le}
+-- What a test may tell: of no device, and of no turn.
+use Rattle.std.proofs.Common.{◌≡◌, inl, inr, refl, sym, ap, ◌∙◌, subst, ℕ, ◌+◌, ◌-◌, ◌^◌, ◌==◌, nat_lt, nat_le}
 use Rattle.std.proofs.Common.{◌&&◌, ◌||◌, not, Bool, true, false, Option, Some, None, is_none, List, [], ◌∷◌}
-use Rattle.std.proofs.Common.{length, map, take, Result, Ok, Err}
+use Rattle.std.proofs.Common.{IsSome, length, map, take, Result, Ok, Err}
+use Rattle.pcm_base.specs.declared.answer.Reply.{Reply}
+use Rattle.pcm_base.specs.declared.answer.Reply.TheVariants.{Refused}
 use Rattle.pcm_base.specs.declared.command.Call.{Call}
 use Rattle.pcm_base.specs.declared.command.Call.TheVariants as call
 use Rattle.pcm_base.specs.declared.command.Command.{Command}
 use Rattle.pcm_base.specs.declared.command.Command.TheVariants as command
+use Rattle.pcm_base.specs.declared.entry.SoundMove.{SoundMove}
 use Rattle.pcm_base.specs.declared.refusal.Refusal.{Refusal}
 use Rattle.pcm_base.specs.declared.refusal.Refusal.TheVariants as refusal
 use Rattle.pcm_base.specs.declared.wav.WavFault.{WavFault}
@@ -16,164 +19,190 @@ use Rattle.pcm_base.specs.Refusals.{◌otherwise◌, bad_columns, bad_range, bad
 use Rattle.pcm_base.specs.Refusals.{covered_length, empty_clipboard, file_tests, import_tests, insert_tests}
 use Rattle.pcm_base.specs.Refusals.{inserted_length, length_limit, no_pin, no_track, own_tests, paste_tests}
 use Rattle.pcm_base.specs.Refusals.{pasted_lengths, range_tests, refused_if, run_tests, too_narrow, track_limit}
-use Rattle.pcm_base.specs.Run.{refusal_of}
-use Rattle.pcm_base.specs.Run.{stop_test}
+use Rattle.pcm_base.specs.Run.{Answers, outside, refusal_of, result_of, stop_test}
 use Rattle.pcm_base.specs.State.{State, clip_of, current}
 use Rattle.pcm_base.specs.Studio as model
 use Rattle.pcm_base.specs.Wave.{Sound, wav_of}
+use Rattle.editor_core.specs.Applied.{reply_of}
+use Rattle.editor_core.proofs.Entries.{plain, plain_result}
+use Rattle.studio_seats.specs.Desks.{spent}
 use Rattle.studio_seats.specs.Faults.{IsServed}
 use Rattle.studio_seats.proofs.Refused.{stopped_not}
 
 -- ---- what a test may tell
 
--- no test tells of a device, nor that the studio had stopped
-abbrev pub IsOfTest : Refusal → Type 0
-IsOfTest refusal.DiskFault = ⊥
-IsOfTest (refusal.Stopped faults) = ⊥
-IsOfTest refusal.VaultFault = ⊥
-IsOfTest why = Unit {0}
+-- no test tells of a device, or of a turn, and that the studio had stopped only where it had
+abbrev pub IsOfTest : Option ℕ → Refusal → Type 0
+IsOfTest stopped refusal.DiskFault = ⊥
+IsOfTest stopped refusal.VaultFault = ⊥
+IsOfTest stopped (refusal.Spent turns) = ⊥
+IsOfTest stopped (refusal.Stopped faults) = IsSome stopped
+IsOfTest stopped why = Unit {0}
 
-abbrev pub Tells : Option Refusal → Type 0
-Tells None = Unit {0}
-Tells (Some why) = IsOfTest why
+abbrev pub Tells : Option ℕ → Option Refusal → Type 0
+Tells stopped None = Unit {0}
+Tells stopped (Some why) = IsOfTest stopped why
 
-either : (a b : Option Refusal) → Tells a → Tells b → Tells (a otherwise b)
-either None b x y = y
-either (Some why) b x y = x
+module _ (stopped : Option ℕ) where
+  either : (a b : Option Refusal) → Tells stopped a → Tells stopped b → Tells stopped (a otherwise b)
+  either None b x y = y
+  either (Some why) b x y = x
 
-one : (b : Bool) (why : Refusal) → IsOfTest why → Tells (refused_if b why)
-one true why is = is
-one false why is = tt
+  one : (b : Bool) (why : Refusal) → IsOfTest stopped why → Tells stopped (refused_if b why)
+  one true why is = is
+  one false why is = tt
 
-lengths : (lens : List ℕ) → Tells (length_limit lens)
-lengths [] = tt
-lengths (len ∷ lens) =
-    either (refused_if (nat_lt (2 ^ 32) len) (refusal.LengthLimit len)) (length_limit lens) (one _ _ tt) (lengths lens)
+  lengths : (lens : List ℕ) → Tells stopped (length_limit lens)
+  lengths [] = tt
+  lengths (len ∷ lens) =
+      either (refused_if (nat_lt (2 ^ 32) len) (refusal.LengthLimit len)) (length_limit lens) (one _ _ tt) (lengths lens)
 
-room : (have need : ℕ) → Tells (no_room have need)
-room have need = one (nat_lt (2 ^ 62) (have + need)) (refusal.SpaceSpent have need) tt
+  room : (have need : ℕ) → Tells stopped (no_room have need)
+  room have need = one (nat_lt (2 ^ 62) (have + need)) (refusal.SpaceSpent have need) tt
 
-module _ (out : Outside) (s : State) where
-  track : (id : ℕ) → Tells (no_track s id)
-  track id = one _ _ tt
+  module _ (out : Outside) (s : State) where
+    track : (id : ℕ) → Tells stopped (no_track s id)
+    track id = one _ _ tt
 
-  range : (from to len : ℕ) → Tells (bad_range from to len)
-  range from to len = one (not (nat_lt from to && nat_le to len)) refusal.BadRange tt
+    range : (from to len : ℕ) → Tells stopped (bad_range from to len)
+    range from to len = one (not (nat_lt from to && nat_le to len)) refusal.BadRange tt
 
-  insert : (id at n : ℕ) → Tells (insert_tests s id at n)
-  insert id at n =
-      either (no_track s id) _ (track id) (lengths (inserted_length at n (length (cells_at id (current s))) ∷ []))
+    insert : (id at n : ℕ) → Tells stopped (insert_tests s id at n)
+    insert id at n =
+        either (no_track s id) _ (track id) (lengths (inserted_length at n (length (cells_at id (current s))) ∷ []))
 
-  ranged : (id from to : ℕ) → Tells (range_tests s id from to)
-  ranged id from to = either (no_track s id) _ (track id) (range from to (length (cells_at id (current s))))
+    ranged : (id from to : ℕ) → Tells stopped (range_tests s id from to)
+    ranged id from to = either (no_track s id) _ (track id) (range from to (length (cells_at id (current s))))
 
-  narrow : (have need : ℕ) → Tells (too_narrow have need)
-  narrow have need = one (nat_lt have need) (refusal.TooNarrow have need) tt
+    narrow : (have need : ℕ) → Tells stopped (too_narrow have need)
+    narrow have need = one (nat_lt have need) (refusal.TooNarrow have need) tt
 
-  run : (id n from to : ℕ) → Tells (run_tests s id n from to)
-  run id n from to =
-      let here = tracks_from id (current s) in
-      either (no_track s id) _ (track id)
-      (either (too_narrow (length here) n) _ (narrow (length here) n) (range from to (longest (take n here))))
+    run : (id n from to : ℕ) → Tells stopped (run_tests s id n from to)
+    run id n from to =
+        let here = tracks_from id (current s) in
+        either (no_track s id) _ (track id)
+        (either (too_narrow (length here) n) _ (narrow (length here) n) (range from to (longest (take n here))))
 
-  paste : (f : ℕ → ℕ → ℕ) (id : ℕ) → Tells (paste_tests s f id)
-  paste f id =
-      let here = tracks_from id (current s) in
-      let have = length here in
-      let need = length (clip_of s) in
-      either (no_track s id) _ (track id)
-      (either (empty_clipboard s) _ (one (is_none s.clipboard) refusal.EmptyClipboard tt)
-      (either (too_narrow have need) _ (narrow have need) (lengths (pasted_lengths f (clip_of s) here))))
+    paste : (f : ℕ → ℕ → ℕ) (id : ℕ) → Tells stopped (paste_tests s f id)
+    paste f id =
+        let here = tracks_from id (current s) in
+        let have = length here in
+        let need = length (clip_of s) in
+        either (no_track s id) _ (track id)
+        (either (empty_clipboard s) _ (one (is_none s.clipboard) refusal.EmptyClipboard tt)
+        (either (too_narrow have need) _ (narrow have need) (lengths (pasted_lengths f (clip_of s) here))))
 
-  more_tracks : (n : ℕ) → Tells (track_limit s n)
-  more_tracks n = one (nat_lt 64 (length (current s) + n)) refusal.TrackLimit tt
+    more_tracks : (n : ℕ) → Tells stopped (track_limit s n)
+    more_tracks n = one (nat_lt 64 (length (current s) + n)) refusal.TrackLimit tt
 
-  channels : (sound : Sound) → Tells (channel_tests out.rate s sound)
-  channels sound =
-      either (refused_if (not (sound.rate == out.rate)) (refusal.RateDiffers sound.rate out.rate)) _ (one _ _ tt)
-      (either (track_limit s (length sound.channels)) _ (more_tracks (length sound.channels))
-      (lengths (map length sound.channels)))
+    channels : (sound : Sound) → Tells stopped (channel_tests out.rate s sound)
+    channels sound =
+        either (refused_if (not (sound.rate == out.rate)) (refusal.RateDiffers sound.rate out.rate)) _ (one _ _ tt)
+        (either (track_limit s (length sound.channels)) _ (more_tracks (length sound.channels))
+        (lengths (map length sound.channels)))
 
-  wave : (read : Result Sound WavFault) → Tells (file_tests out.rate s read)
-  wave (Ok given) = channels given
-  wave (Err fault) = tt
+    wave : (read : Result Sound WavFault) → Tells stopped (file_tests out.rate s read)
+    wave (Ok given) = channels given
+    wave (Err fault) = tt
 
-  imported : (bytes : Option (List ℕ)) → Tells (import_tests out.rate s bytes)
-  imported None = tt
-  imported (Some bytes) = wave (wav_of bytes)
+    imported : (bytes : Option (List ℕ)) → Tells stopped (import_tests out.rate s bytes)
+    imported None = tt
+    imported (Some bytes) = wave (wav_of bytes)
 
-  columned : (columns len : ℕ) → Tells (bad_columns columns len)
-  columned columns len = one (columns == 0 || nat_lt 4096 columns || nat_lt len columns) refusal.BadColumns tt
+    columned : (columns len : ℕ) → Tells stopped (bad_columns columns len)
+    columned columns len = one (columns == 0 || nat_lt 4096 columns || nat_lt len columns) refusal.BadColumns tt
 
-  line : (c : Command) → Tells (own_tests out s c)
-  line command.Track = more_tracks 1
-  line (command.Drop id) = track id
-  line (command.Level id gain) = track id
-  line (command.Side id side) = track id
-  line (command.Mute id mute) = track id
-  line (command.Put id at samples) = insert id at (length samples)
-  line (command.Ramp id at n start step) = insert id at n
-  line (command.Delete id from to) = ranged id from to
-  line (command.SplitDelete id from to) = ranged id from to
-  line (command.Silence id from to) = ranged id from to
-  line (command.Trim id from to) = ranged id from to
-  line (command.Gain id from to gain) = ranged id from to
-  line (command.Cut id n from to) = run id n from to
-  line (command.SplitCut id n from to) = run id n from to
-  line (command.Copy id n from to) = run id n from to
-  line (command.Paste id at) = paste (inserted_length at) id
-  line (command.PasteOver id at) = paste (covered_length at) id
-  line command.Undo = one _ _ tt
-  line command.Redo = one _ _ tt
-  line (command.Purge n) = range 0 n s.history.cursor
-  line (command.Show id from to) = either (no_track s id) (bad_view from to) (track id) (range from to (from + 4096))
-  line (command.Mix from to) = range from to (from + 4096)
-  line (command.Envelope id from to columns) =
-      either (range_tests s id from to) (bad_columns columns (to - from)) (ranged id from to)
-      (columned columns (to - from))
-  line command.Tracks = tt
-  line (command.Reclaim limit) = tt
-  line (command.Import name) = imported out.sound
-  line (command.Export name) = one _ _ tt
+    line : (c : Command) → Tells stopped (own_tests out s c)
+    line command.Track = more_tracks 1
+    line (command.Drop id) = track id
+    line (command.Level id gain) = track id
+    line (command.Side id side) = track id
+    line (command.Mute id mute) = track id
+    line (command.Put id at samples) = insert id at (length samples)
+    line (command.Ramp id at n start step) = insert id at n
+    line (command.Delete id from to) = ranged id from to
+    line (command.SplitDelete id from to) = ranged id from to
+    line (command.Silence id from to) = ranged id from to
+    line (command.Trim id from to) = ranged id from to
+    line (command.Gain id from to gain) = ranged id from to
+    line (command.Cut id n from to) = run id n from to
+    line (command.SplitCut id n from to) = run id n from to
+    line (command.Copy id n from to) = run id n from to
+    line (command.Paste id at) = paste (inserted_length at) id
+    line (command.PasteOver id at) = paste (covered_length at) id
+    line command.Undo = one _ _ tt
+    line command.Redo = one _ _ tt
+    line (command.Purge n) = range 0 n s.history.cursor
+    line (command.Show id from to) = either (no_track s id) (bad_view from to) (track id) (range from to (from + 4096))
+    line (command.Mix from to) = range from to (from + 4096)
+    line (command.Envelope id from to columns) =
+        either (range_tests s id from to) (bad_columns columns (to - from)) (ranged id from to)
+        (columned columns (to - from))
+    line command.Tracks = tt
+    line (command.Reclaim limit) = tt
+    line (command.Import name) = imported out.sound
+    line (command.Export name) = one _ _ tt
 
-  pin : (n : ℕ) → Tells (no_pin s n)
-  pin n = one (is_none (s.pins n)) (refusal.NoPin n) tt
+    pin : (n : ℕ) → Tells stopped (no_pin s n)
+    pin n = one (is_none (s.pins n)) (refusal.NoPin n) tt
 
-  own : (c : Call) → Tells (call_tests out s c)
-  own (call.Line c) = line c
-  own (call.Piece to tag samples) =
-      either (no_track s to) _ (track to) (lengths ((length (cells_at to (current s)) + length samples) ∷ []))
-  own call.Pin = tt
-  own (call.PinLen n) = pin n
-  own (call.ReadPin n from count) = pin n
-  own (call.Unpin n) = pin n
+    own : (c : Call) → Tells stopped (call_tests out s c)
+    own (call.Line c) = line c
+    own (call.Piece to tag samples) =
+        either (no_track s to) _ (track to) (lengths ((length (cells_at to (current s)) + length samples) ∷ []))
+    own call.Pin = tt
+    own (call.PinLen n) = pin n
+    own (call.ReadPin n from count) = pin n
+    own (call.Unpin n) = pin n
 
-counters : (out : Outside) (t : model.Studio) (c : Call) (blocks len : ℕ) → Tells (counter_tests out t c blocks len)
-counters out t c blocks len =
-    either (no_room t.next_block blocks) _ (room t.next_block blocks)
-    (either (no_room t.state.next_track (tracks_of out c)) _ (room t.state.next_track (tracks_of out c))
-    (either (no_room t.state.commit (commits_of c)) _ (room t.state.commit (commits_of c))
-    (either (no_room t.state.next_pin (pins_of c)) _ (room t.state.next_pin (pins_of c))
-    (room t.journal_end (places_of c len)))))
+  counters : (out : Outside) (t : model.Studio) (c : Call) (blocks len : ℕ) → Tells stopped (counter_tests out t c blocks len)
+  counters out t c blocks len =
+      either (no_room t.next_block blocks) _ (room t.next_block blocks)
+      (either (no_room t.state.next_track (tracks_of out c)) _ (room t.state.next_track (tracks_of out c))
+      (either (no_room t.state.commit (commits_of c)) _ (room t.state.commit (commits_of c))
+      (either (no_room t.state.next_pin (pins_of c)) _ (room t.state.next_pin (pins_of c))
+      (room t.journal_end (places_of c len)))))
 
-pub going : (stopped : Option ℕ) (c : Call) → stopped ≡ None → Tells (stop_test stopped c)
-going None (call.Line c) is = tt
-going None (call.Piece track tag samples) is = tt
-going None call.Pin is = tt
-going None (call.PinLen n) is = tt
-going None (call.ReadPin n from count) is = tt
-going None (call.Unpin n) is = tt
-going (Some n) c is = absurd (stopped_not (Some n) refl is)
+pub going : (stopped : Option ℕ) (c : Call) → Tells stopped (stop_test stopped c)
+going None (call.Line c) = tt
+going None (call.Piece track tag samples) = tt
+going None call.Pin = tt
+going None (call.PinLen n) = tt
+going None (call.ReadPin n from count) = tt
+going None (call.Unpin n) = tt
+going (Some n) (call.Line c) = refl
+going (Some n) (call.Piece track tag samples) = refl
+going (Some n) call.Pin = refl
+going (Some n) (call.PinLen pin) = refl
+going (Some n) (call.ReadPin pin from count) = refl
+going (Some n) (call.Unpin pin) = tt
 
-pub tested : (out : Outside) (t : model.Studio) (c : Call) (blocks len : ℕ) → t.stopped ≡ None
-    → Tells (refusal_of out t c blocks len)
-tested out t c blocks len is =
-    either (stop_test t.stopped c) _ (going t.stopped c is)
-    (either (call_tests out t.state c) _ (own out t.state c)
-    (either (counter_tests out t c blocks len) (record_test len) (counters out t c blocks len) (one _ _ tt)))
+pub tested : (out : Outside) (t : model.Studio) (c : Call) (blocks len : ℕ)
+    → Tells t.stopped (refusal_of out t c blocks len)
+tested out t c blocks len =
+    either t.stopped (stop_test t.stopped c) _ (going t.stopped c)
+    (either t.stopped (call_tests out t.state c) _ (own t.stopped out t.state c)
+    (either t.stopped (counter_tests out t c blocks len) (record_test len) (counters t.stopped out t c blocks len)
+    (one t.stopped _ _ tt)))
 
-pub served_test : (c : Call) (why : Refusal) → IsOfTest why → IsServed c why
-served_test c refusal.DiskFault is = absurd is
-served_test c (refusal.Stopped faults) is = absurd is
-served_test c refusal.VaultFault is = absurd is
-served_test c why is = tt
+pub served_test : (stopped : Option ℕ) (c : Call) (why : Refusal) → stopped ≡ None → IsOfTest stopped why
+    → IsServed c why
+served_test stopped c refusal.DiskFault going is = absurd is
+served_test stopped c (refusal.Stopped faults) going is = absurd (stopped_not stopped is going)
+served_test stopped c refusal.VaultFault going is = absurd is
+served_test stopped c why going is = tt
+
+-- ---- that no turn was left is no answer of a call
+
+spent_never : (t u : model.Studio) (c : Call) (sound : SoundMove) → Answers t c sound (Err spent) u → ⊥
+spent_never t u c sound (inl h) = subst (Tells t.stopped) h.first (tested (outside t sound) t c h.blocks h.len)
+spent_never t u c sound (inr h) = h
+
+pub had_turn : (t u : model.Studio) (c : Call) (sound : SoundMove) (what : Result Reply Refusal)
+    → Answers t c sound what u → reply_of what ≡ Refused spent → ⊥
+had_turn t u c sound (Ok r) h is =
+    let told : Err spent ≡ Ok r = ap result_of (sym is)
+    ∙ plain_result r (plain (outside t sound) t.state c r h.answers) in cc
+had_turn t u c sound (Err why) h is =
+    let same : why ≡ spent = cc in
+    spent_never t u c sound (subst (λ (z : Refusal). Answers t c sound (Err z) u) same h)

@@ -20,10 +20,11 @@ use Rattle.editor_core.specs.Studios.{IsStudio}
 use Rattle.studio_seats.specs.declared.deed.Deed.{Deed}
 use Rattle.studio_seats.specs.declared.held.Held.{Held}
 use Rattle.studio_seats.specs.Deeds.{actor_of, deed, is_commit, number_after, raised}
-use Rattle.studio_seats.specs.Desks.{Says, Spends, Turned, asked, spent, views}
+use Rattle.studio_seats.specs.Desks.{Asked, Says, Spends, Turned, Views, asked, deed_of, spent, views}
 use Rattle.studio_seats.specs.Holding.{HeldFor}
-use Rattle.studio_seats.specs.Stands.{AllTell, Does, origin}
-use Rattle.studio_seats.proofs.Grown.{extends}
+use Rattle.studio_seats.specs.Stands.{AllTell, Does, Origin, origin}
+use Rattle.studio_seats.proofs.Chains.{extends}
+use Rattle.studio_seats.proofs.Grown.{leads}
 
 module _ {D V : Type 0} (disk : Ghosts D) (vaults : vault.Ghosts V) where
   -- the studio of a turn
@@ -33,7 +34,8 @@ module _ {D V : Type 0} (disk : Ghosts D) (vaults : vault.Ghosts V) where
   -- a call may be made of the studio that a turn finds, through a reference
   pub is_studio : (start x y : Held D V) (deeds : List Deed) → HeldFor disk vaults start x deeds → y ≡ x
       → IsStudio disk (core y)
-  is_studio start x y deeds stands is = subst (λ (z : Held D V). IsStudio disk (core z)) (sym is) stands.studio
+  is_studio start x y deeds stands is = subst (λ (z : Held D V). IsStudio disk (core z)) (sym is)
+      (leads (origin disk vaults (core start)) (core x) deeds stands).studio
 
   -- what a call did, shown and left through a reference
   does_at : (s t s' t' : Held D V) (d : Deed) → Does disk (AllTell vaults) (core s') d (core t') → s' ≡ s → t' ≡ t
@@ -163,6 +165,12 @@ pub number_on : (n : ℕ) (ds more : List Deed) → number_after n ds ≤ number
 number_on n [] more = number_grows n more
 number_on n (d ∷ ds) more = number_on (raised (is_commit d) n) ds more
 
+-- the number that a turn tells is that to which the deeds lead
+pub turned_number : {D V : Type 0} {o : Origin D V} {a : Asked} {at : ℕ} {seat : Views D V} (x : Turned o a at seat)
+    → x.after.commit_number ≡ number_after o.start.commit_number
+    ((seat.before.seen ++ x.between) ++ deed_of seat.before.number a ∷ [])
+turned_number {o = o} x = (leads o x.after _ x.stands).number
+
 -- a tag that is no higher than a number to which deeds lead stays so
 pub tag_fits : {D V : Type 0} (disk : Ghosts D) (vaults : vault.Ghosts V) (start x y : Held D V) (tag : ℕ)
     (ds more : List Deed)
@@ -170,7 +178,7 @@ pub tag_fits : {D V : Type 0} (disk : Ghosts D) (vaults : vault.Ghosts V) (start
     → tag ≤ y.studio.commit_number
 tag_fits {D} {V} disk vaults start x y tag ds more low stands is =
     let on = number_on start.studio.commit_number ds more in
-    let at = stands.number in
+    let at = (leads (origin disk vaults (core_of start.studio)) (core_of x.studio) (ds ++ more) stands).number in
     let same : y.studio.commit_number ≡ x.studio.commit_number = ap (λ (z : Held D V). z.studio.commit_number) is in
     omega (arith, low, on, at, same)
 
@@ -193,7 +201,7 @@ pub said_number : {D V A : Type 0} (disk : Ghosts D) (vaults : vault.Ghosts V) (
     → said.at ≤ number_after start.commit_number w.seen
 said_number {D} {V} {A} disk vaults start v w call what sound said h = ⊎_elim
     (λ (x : Turned (origin disk vaults start) (asked call what sound) said.at (views v w)).
-    let same : said.at ≡ number_after start.commit_number w.seen = x.number ∙ x.stands.number
+    let same : said.at ≡ number_after start.commit_number w.seen = x.number ∙ turned_number x
     ∙ sym (ap (λ (z : View (Held D V) Deed). number_after start.commit_number z.seen) x.view) in
     omega (arith, same))
     (λ (x : Spends v said w). let none = x.at in omega (arith, none))

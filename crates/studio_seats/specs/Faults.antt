@@ -13,7 +13,8 @@ use Rattle.edit_ports.specs.declared.vault.Vault as vault
 use Rattle.editor_core.specs.Core.{Core}
 use Rattle.editor_core.specs.Studios.{IsHeld, studio_of}
 use Rattle.studio_seats.specs.declared.deed.Deed.{Deed}
-use Rattle.studio_seats.specs.Stands.{AllTell, IsUnharmed, StandsFor, origin}
+use Rattle.studio_seats.specs.Leads.{IsUnharmed}
+use Rattle.studio_seats.specs.Stands.{AreTold, StandsFor, origin}
 
 -- no count of faults rose, and none stands at its type's end
 pub record IsCalm (t u : model.Studio) : Type 0 where
@@ -40,7 +41,8 @@ pub record Serves (t u : model.Studio) (es : List Entry) : Type 0 where
 abbrev pub FaultsAreCounted : Type 0
 FaultsAreCounted = (t u : model.Studio) (es : List Entry) → Run t es u → t.stopped ≡ None → IsCalm t u → Serves t u es
 
--- The same of the deeds of a desk, where vaults tell and the disk held the start. No file is told to be damaged either.
+-- The same of the deeds of a desk, where the disk held the start and vaults report if a deed names a sound. No deed
+-- reports a damaged file either.
 pub record AllServed {D : Type 0} (now : Core D) (deeds : List Deed) : Type 0 where
   pub going : now.stopped ≡ None
   pub served : Each (λ d. IfErr d.what (IsServed d.call)) deeds
@@ -48,5 +50,5 @@ pub record AllServed {D : Type 0} (now : Core D) (deeds : List Deed) : Type 0 wh
 
 abbrev pub DesksServe : {D V : Type 0} → Ghosts D → vault.Ghosts V → Type 0
 DesksServe {D} disk vaults = (start now : Core D) (deeds : List Deed) → StandsFor (origin disk vaults start) now deeds
-    → AllTell vaults → IsHeld disk start → start.stopped ≡ None → IsCalm (studio_of disk start) (studio_of disk now)
-    → AllServed now deeds
+    → AreTold vaults deeds → IsHeld disk start → start.stopped ≡ None
+    → IsCalm (studio_of disk start) (studio_of disk now) → AllServed now deeds

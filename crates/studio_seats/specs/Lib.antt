@@ -3,6 +3,7 @@ pub mod Deeds
 pub mod Stands
 pub mod Holding
 pub mod Desks
+pub mod Leads
 pub mod Pins
 pub mod PinLaws
 pub mod Shows

@@ -1,5 +1,7 @@
 -- How what a seat knows goes on.
-use Rattle.std.specs.Prelude.{◌≡◌, ℕ, ◌+◌, if◌then◌else◌, ℤ, Bool, List, [], ◌∷◌, ◌++◌, length}
+use Rattle.std.specs.Prelude.{◌≡◌, ◌⊎◌, ℕ, ◌+◌, if◌then◌else◌, ℤ, Bool, true, false, List, [], ◌∷◌, ◌++◌, length}
+use Rattle.std.specs.Prelude.{Option, Some, None, Err, IsOk}
+use Rattle.pcm_base.specs.declared.refusal.Refusal.{Refusal}
 use Rattle.pcm_base.specs.declared.command.Command.{Command}
 use Rattle.pin_turn.specs.declared.view.View.{View}
 use Rattle.pin_turn.specs.Counts.{Each}
@@ -7,7 +9,8 @@ use Rattle.studio_seats.specs.declared.held.Held.{Held}
 use Rattle.pcm_base.specs.declared.command.Call.{Call}
 use Rattle.pcm_base.specs.declared.command.Call.TheVariants.{Line, Piece, ReadPin}
 use Rattle.studio_seats.specs.declared.deed.Deed.{Deed}
-use Rattle.studio_seats.specs.Merge.{by_seat}
+use Rattle.studio_seats.specs.Desks.{spent}
+use Rattle.studio_seats.specs.Merge.{by_seat, deeds_of}
 
 -- the places of the deeds of a kind, where the first of the list stands at place k
 abbrev pub places_of : (Deed → Bool) → ℕ → List Deed → List ℕ
@@ -18,7 +21,8 @@ places_of kind k (d ∷ ds) = (if kind d then k ∷ [] else []) ++ places_of kin
 abbrev pub Asks : (Call → Type 0) → ℕ → List Deed → Type 0
 Asks fits seat ds = Each (λ d. d.actor ≡ seat → fits d.call) ds
 
--- the seat has seen these deeds more, of which its own are its turns and fit
+-- The seat has seen these deeds more, of which its own are its turns and fit. Where it had found that no turn is left,
+-- it still knows.
 pub record Onward {D V : Type 0} (fits : Call → Type 0) (v w : View (Held D V) Deed) : Type 0 where
   pub added : List Deed
   pub seen : w.seen ≡ v.seen ++ added
@@ -26,6 +30,47 @@ pub record Onward {D V : Type 0} (fits : Call → Type 0) (v w : View (Held D V)
   pub number : w.number ≡ v.number
   pub away : w.away ≡ v.away
   pub mine : w.mine ≡ v.mine ++ places_of (by_seat v.number) (length v.seen) added
+  pub used_up : v.used_up ≡ true → w.used_up ≡ true
+
+-- each of these deeds was carried out
+abbrev pub AreDone : List Deed → Type 0
+AreDone ds = Each (λ d. IsOk d.what) ds
+
+-- each but the last was carried out, which was answered by this refusal
+pub record AreDoneTo (why : Refusal) (ds : List Deed) : Type 0 where
+  pub done : List Deed
+  pub last : Deed
+  pub are : ds ≡ done ++ last ∷ []
+  pub each : AreDone done
+  pub refused : last.what ≡ Err why
+
+-- all were carried out, and then no turn was left, as the seat knows
+pub record AreSpent (used_up : Bool) (why : Refusal) (ds : List Deed) : Type 0 where
+  pub each : AreDone ds
+  pub spent_is : why ≡ spent
+  pub found : used_up ≡ true
+
+-- The deeds of a seat that makes no call after a refusal: all were carried out; or the last was refused; or for one
+-- more call no turn was left.
+abbrev pub EndsBy : Bool → Option Refusal → List Deed → Type 0
+EndsBy used_up None ds = AreDone ds
+EndsBy used_up (Some why) ds = AreDoneTo why ds ⊎ AreSpent used_up why ds
+
+-- what a seat knows that takes pieces or gives frames, and the first refusal that it was answered
+pub record Worker (D V : Type 0) : Type 0 where
+  pub view : View (Held D V) Deed
+  pub refused : Option Refusal
+
+-- The seat of a worker went on by calls that fit, each of which is a turn of its own, but for one for which no turn was
+-- left. None of them was refused but the last, where it `failed`.
+pub record WorksOn {D V : Type 0} (fits : Call → Type 0) (failed : Bool) (v w : Worker D V) : Type 0 where
+  pub onward : Onward fits v.view w.view
+  pub unrefused : failed ≡ false → w.refused ≡ v.refused
+  pub ends : v.refused ≡ None
+      → EndsBy w.view.used_up w.refused (deeds_of (by_seat v.view.number) onward.added)
+
+abbrev pub worker : {D V : Type 0} → View (Held D V) Deed → Option Refusal → Worker D V
+worker view refused = record { view = view; refused = refused }
 
 -- a line
 abbrev pub IsLine : Call → Type 0

@@ -26,7 +26,7 @@ pub struct DeskGiver<'a, S: Store, V: Vault> {
 
 impl<'a, S: Store, V: Vault> FrameGiver for DeskGiver<'a, S, V> {
     ghost use Rattle.studio_seats.specs.Desks.{start_at};
-    ghost use Rattle.studio_seats.specs.Onward.{Onward, IsReadOf};
+    ghost use Rattle.studio_seats.specs.Onward.{IsReadOf, WorksOn, worker};
     ghost use Rattle.studio_seats.specs.Shows.{IsMixOf};
     ghost use Rattle.studio_seats.specs.Stands.{origin};
 
@@ -36,9 +36,11 @@ impl<'a, S: Store, V: Vault> FrameGiver for DeskGiver<'a, S, V> {
 
     ghost refused = { λ s. s.refused };
 
-    // It is of the same desk, and its seat went on by turns of its own, all of them reads of this pin.
+    // It is of the same desk, and its seat went on by turns of its own, all of them reads of this pin, and none after
+    // one that was refused.
     ghost follows = { λ first failed s. (s.desk.now ≡ first.desk.now) × (s.pin ≡ first.pin)
-        × Onward (IsReadOf first.pin) (known first.seat) (known s.seat) };
+        × WorksOn (IsReadOf first.pin) failed (worker (known first.seat) first.refused)
+        (worker (known s.seat) s.refused) };
 
     fn give_frames<R: Wait>(&mut self, rt: &R, from: u64, out: &mut [Frame]) -> Said<usize> {
         let said = self.desk.read_pin(rt, &mut self.seat, self.pin, from, out);

@@ -1,10 +1,21 @@
 // What the list of all seats says of each. These functions do nothing: their contracts are the laws.
 ghost use Rattle.studio_seats.specs.Faults.{DesksServe, FaultsAreCounted};
+ghost use Rattle.studio_seats.specs.Leads.{DeedsAsk, DeedsLead};
 ghost use Rattle.studio_seats.specs.Merge.{MergedNumbers, PieceNumbers, OwnOrder};
 ghost use Rattle.studio_seats.specs.PinLaws.{PinsStay};
 
 use disk_model::Store;
 use edit_ports::Vault;
+
+/// Where deeds lead: what a studio stands for after them, the run that they are, and what a stop may leave.
+pub fn deeds_lead<S: Store, V: Vault>()
+    ensures { DeedsLead S.Store V.Vault }
+{}
+
+/// What deeds ask of the disk is at most what each of them may ask, and no file changes that is not the studio's.
+pub fn deeds_ask<S: Store, V: Vault>()
+    ensures { DeedsAsk S.Store V.Vault }
+{}
 
 /// The commits of the opening, of the first seat and of the recorder are together all commits, each once.
 pub fn numbers_are_merged()

@@ -15,7 +15,7 @@ pub use desk::Desk;
 pub use giver::DeskGiver;
 pub use held::{DeskSeat, Held};
 pub use laws::{
-    deeds_are_served, faults_are_counted, numbers_are_merged, pieces_are_chunks, pins_stay,
-    turns_keep_order,
+    deeds_are_served, deeds_ask, deeds_lead, faults_are_counted, numbers_are_merged,
+    pieces_are_chunks, pins_stay, turns_keep_order,
 };
 pub use taker::DeskTaker;

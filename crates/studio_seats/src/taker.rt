@@ -3,7 +3,6 @@ ghost use Rattle.std.specs.Prelude.{◌≡◌, ◌≤◌, None};
 ghost use Rattle.pin_turn.specs.Calls.{known};
 ghost use Rattle.studio_seats.specs.Deeds.{number_after};
 ghost use Rattle.studio_seats.specs.Desks.{IsAt, start_at};
-ghost use Rattle.studio_seats.specs.Onward.{Onward, IsPieceOf};
 
 use super::desk::Desk;
 use super::first::first_of;
@@ -27,7 +26,7 @@ pub struct DeskTaker<'a, S: Store, V: Vault> {
 }
 
 impl<'a, S: Store, V: Vault> PieceTaker for DeskTaker<'a, S, V> {
-    ghost use Rattle.studio_seats.specs.Onward.{Onward, IsPieceOf};
+    ghost use Rattle.studio_seats.specs.Onward.{IsPieceOf, WorksOn, worker};
     ghost use Rattle.studio_seats.specs.Pieces.{pieces_by};
 
     ghost pieces = { λ s. pieces_by s.track s.tag (known s.seat).number (start_at s.desk.now).commit_number
@@ -35,9 +34,11 @@ impl<'a, S: Store, V: Vault> PieceTaker for DeskTaker<'a, S, V> {
 
     ghost refused = { λ s. s.refused };
 
-    // It is of the same desk, and its seat went on by turns of its own, all of them pieces of this recording.
+    // It is of the same desk, and its seat went on by turns of its own, all of them pieces of this recording, and none
+    // after one that was refused.
     ghost follows = { λ first failed s. (s.desk.now ≡ first.desk.now) × (s.track ≡ first.track) × (s.tag ≡ first.tag)
-        × Onward (IsPieceOf first.track first.tag) (known first.seat) (known s.seat) };
+        × WorksOn (IsPieceOf first.track first.tag) failed (worker (known first.seat) first.refused)
+        (worker (known s.seat) s.refused) };
 
     fn take_piece<R: Wait>(&mut self, rt: &R, alloc: Global, chunk: &Chunk) -> Said<u64> {
         let said = self.desk.piece(

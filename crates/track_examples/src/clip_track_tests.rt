@@ -22,7 +22,7 @@ fn three_clips(alloc: Global) -> Result<Layout, NoMemory> {
     let first = clip_of(alloc, 0, BlockRef { id: 16, len: 4 })?;
     let second = clip_of(alloc, 6, BlockRef { id: 17, len: 3 })?;
     let third = clip_of(alloc, 12, BlockRef { id: 18, len: 4 })?;
-    Ok(Layout::from_clips(vec![in alloc; first, second, third]?))
+    Layout::from_clips(vec![in alloc; first, second, third]?)
 }
 
 fn gaps(len: u64) -> Option<Stretch> {

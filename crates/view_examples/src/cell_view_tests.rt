@@ -46,7 +46,7 @@ fn track(alloc: Global) -> Result<Layout, NoMemory>
             blocks: Sequence::new(vec![in alloc; third]?),
         },
     ]?;
-    Ok(Layout::from_clips(clips))
+    Layout::from_clips(clips)
 }
 
 /// The disk of the three blocks. Its calls are counted from the seventh on, and those of these numbers fail.

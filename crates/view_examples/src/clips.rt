@@ -16,5 +16,5 @@ pub(crate) fn of_one_block(alloc: Global, start: u64, block: BlockRef) -> Result
 {
     let blocks = Sequence::new(vec![in alloc; block]?);
     let clip = Clip { start, blocks };
-    Ok(Layout::from_clips(vec![in alloc; clip]?))
+    Layout::from_clips(vec![in alloc; clip]?)
 }

@@ -28,7 +28,7 @@ fn three_clips(alloc: Global) -> Result<Layout, NoMemory>
     let first = clip_of(alloc, 2, BlockRef { id: 16, len: 3 })?;
     let second = clip_of(alloc, 7, BlockRef { id: 17, len: 2 })?;
     let third = clip_of(alloc, 10, BlockRef { id: 18, len: 1 })?;
-    Ok(Layout::from_clips(vec![in alloc; first, second, third]?))
+    Layout::from_clips(vec![in alloc; first, second, third]?)
 }
 
 /// A gap, and two blocks one beside the other.
@@ -39,7 +39,7 @@ fn two_blocks(alloc: Global) -> Result<Layout, NoMemory>
     let second = BlockRef { id: 17, len: 2 };
     let blocks = Sequence::new(vec![in alloc; first, second]?);
     let clip = Clip { start: 1, blocks };
-    Ok(Layout::from_clips(vec![in alloc; clip]?))
+    Layout::from_clips(vec![in alloc; clip]?)
 }
 
 /// A disk on which these calls fail.

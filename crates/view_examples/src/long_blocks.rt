@@ -25,7 +25,7 @@ fn long_clip(alloc: Global) -> Result<Layout, NoMemory>
             len: 66_000,
         },
     )?;
-    Ok(Layout::from_clips(vec![in alloc; clip]?))
+    Layout::from_clips(vec![in alloc; clip]?)
 }
 
 /// A block of ones, but for samples on both sides of the first end of a frame of each level.

@@ -10,4 +10,6 @@ mod sound_export_tests;
 #[cfg(test)]
 mod sound_import_tests;
 #[cfg(test)]
+mod wav_parts_tests;
+#[cfg(test)]
 mod wav_pcm_tests;

@@ -33,7 +33,7 @@ fn project(alloc: Global, start: u64) -> Result<Point, Fail>
     let second = BlockRef { id: 17, len: 1 };
     let blocks = Sequence::new(vec![in alloc; first, second]?);
     let clip = Clip { start, blocks };
-    let layout = Layout::from_clips(vec![in alloc; clip]?);
+    let layout = Layout::from_clips(vec![in alloc; clip]?)?;
     let mut point = Point::new(alloc);
     point.add(Track {
         id: 1,

@@ -16,14 +16,14 @@ pub(crate) struct Data<'a> {
     pub(crate) body: &'a [u8],
 }
 
-fn is_riff(bytes: &[u8]) -> bool
+pub(crate) fn is_riff(bytes: &[u8]) -> bool
     ensures { result ≡ says_riff bytes.now }
 {
     bytes.len() >= 12 && &bytes[..4] == b"RIFF".as_slice() && &bytes[8..12] == b"WAVE".as_slice()
 }
 
-/// The bytes behind a chunk of this size and its pad byte, which may be missing.
-fn behind(bytes: &[u8], size: u32) -> &[u8]
+/// The bytes after a chunk of this size and its pad byte, which may be missing.
+fn after_chunk(bytes: &[u8], size: u32) -> &[u8]
     requires { 8 ≤ length bytes.now }
     ensures { result.now ≡ drop (8 + padded size) bytes.now }
 {
@@ -92,7 +92,7 @@ fn take_data(format: Option<Format>, size: u32, body: &[u8]) -> Result<Data<'_>,
     })
 }
 
-fn end(format: Option<Format>) -> WavFault
+pub(crate) fn end(format: Option<Format>) -> WavFault
     ensures { ended (seen_in format) ≡ Err result }
 {
     match format {
@@ -116,7 +116,7 @@ fn find_chunk(chunks: &[u8]) -> Result<Data<'_>, WavFault>
             Ok(seen) => format = seen,
             Err(fault) => return Err(fault),
         }
-        rest = behind(rest, size);
+        rest = after_chunk(rest, size);
     }
     Err(end(format))
 }

@@ -14,7 +14,7 @@ use std::alloc::{AllocError, Global};
 const PIECE: usize = 1024;
 
 /// The samples of channel `c` of `n`, from frames.
-fn take_channel(body: &[u8], n: usize, c: usize, out: &mut [i16])
+pub(crate) fn take_channel(body: &[u8], n: usize, c: usize, out: &mut [i16])
     requires few { n ≤ 8 }
     requires within { c < n }
     requires size { length out.old ≡ length body.now / (2 * n) }
@@ -39,7 +39,7 @@ fn append_channel(piece: &[u8], n: usize, c: usize, list: &mut Vec<i16>) -> Resu
 }
 
 /// Appends the samples of a piece to the lists, one list for each channel.
-fn append_piece(piece: &[u8], lists: &mut [Vec<i16>]) -> Result<(), AllocError>
+fn append_channels(piece: &[u8], lists: &mut [Vec<i16>]) -> Result<(), AllocError>
     requires few { length lists.old ≤ 8 }
     requires small { length piece.now ≤ 2 * length lists.old * PIECE }
     ensures { OnOk result (HaveGrown piece.now lists.old lists.new) }
@@ -52,7 +52,7 @@ fn append_piece(piece: &[u8], lists: &mut [Vec<i16>]) -> Result<(), AllocError>
 }
 
 /// Appends the samples of frames to the lists, one list for each channel, piece by piece.
-fn append_frames(body: &[u8], lists: &mut [Vec<i16>]) -> Result<(), AllocError>
+fn append_pieces(body: &[u8], lists: &mut [Vec<i16>]) -> Result<(), AllocError>
     requires some { 0 < length lists.old }
     requires few { length lists.old ≤ 8 }
     ensures { OnOk result (HaveGrown body.now lists.old lists.new) }
@@ -60,13 +60,13 @@ fn append_frames(body: &[u8], lists: &mut [Vec<i16>]) -> Result<(), AllocError>
     let size = 2 * lists.len() * PIECE;
     let mut rest = body;
     while rest.len() > size {
-        append_piece(&rest[..size], lists)?;
+        append_channels(&rest[..size], lists)?;
         rest = &rest[size..];
     }
-    append_piece(rest, lists)
+    append_channels(rest, lists)
 }
 
-/// So many empty lists, each with room for so many samples.
+/// `n` empty lists, each with room for `room` samples.
 fn empty_lists(alloc: Global, n: usize, room: usize) -> Result<Vec<Vec<i16>>, AllocError>
     ensures many { IfOk result (λ lists. length lists.items ≡ n) }
     ensures empty { IfOk result (λ lists. All (λ list. list.items ≡ []) lists.items) }
@@ -96,6 +96,6 @@ pub(crate) fn interleaved(alloc: Global, body: &[u8], n: usize) -> Result<Channe
     ensures { IfOk result (λ cs. cs ≡ map (channel_of n body.now) (range_with_len 0 n)) }
 {
     let mut lists = empty_lists(alloc, n, body.len() / (2 * n))?;
-    append_frames(body, lists.as_mut_slice())?;
+    append_pieces(body, lists.as_mut_slice())?;
     channels_of(alloc, lists)
 }

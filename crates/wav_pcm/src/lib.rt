@@ -2,15 +2,20 @@
 //!
 //! The layer above uses two contracts. `read` answers what the grammar of the format says of the bytes, or which of
 //! its ten reasons refuses them (`wav_of`), and `write` gives the one text of frames (`wav_text`), which is read back.
-//! `write_head` and `write_frames` give the same text in parts.
-//! No file is opened here: bytes come and go as slices.
+//! `write_head` and `write_frames` give the same text in parts. `head` and `channel` read a sound of a vault in parts,
+//! and `start_wav` and `append_frames` write one: they say the same of its bytes, and take no memory.
 #![tactic(auto)]
 
 mod bad;
 mod bytes;
+mod channels;
 mod chunks;
+mod fault;
 mod format;
+mod heads;
 mod interleaved;
+mod parts;
+mod pieces;
 mod reading;
 mod shape;
 mod stereo;
@@ -18,6 +23,10 @@ mod wav;
 mod writing;
 
 pub use bad::{BadFrames, BadWav};
+pub use channels::channel;
+pub use fault::SoundFault;
+pub use heads::{WavHead, head};
+pub use pieces::{append_frames, append_piece, start_wav, write_start};
 pub use reading::read;
 pub use wav::{Channels, Wav};
 pub use writing::{MAX_FRAMES, write, write_frames, write_head};

@@ -7,6 +7,7 @@ use super::{Place, Turn};
 use crate::Stands;
 use crate::plays::{Adds, Give, Look, Take};
 use std::sync::Wait;
+use std::thread;
 
 // The word at which no turn is left.
 const END: u64 = 1 << 63;
@@ -53,7 +54,8 @@ impl<T: Stands> Turn<T> {
         self.table.shared.exchange(place, 0, value)
     }
 
-    // Gives the turn back, with the entry that it adds. The last two are for the caller's choice of that entry.
+    // Gives the turn back, with the entry that it adds. Then it yields, so that the thread that was woken runs before the
+    // turn is taken again. The last two parameters are for the caller's choice of that entry.
     pub(super) fn give<J: Adds<T::Entry>, R, F>(
         &self,
         place: &mut Place<T>,
@@ -82,5 +84,6 @@ impl<T: Stands> Turn<T> {
     {
         self.table.shared.store::<Give<J>>(place, 0, word);
         self.table.shared.wake_one(0);
+        thread::yield_now();
     }
 }

@@ -1,11 +1,12 @@
 -- The seats that were split off are taken in again.
 use Rattle.std.proofs.Common.{◌≡◌, ◌∙◌, ap, subst, [], ◌∷◌, ◌++◌, List, ℤ, ℕ}
-use Rattle.std.specs.Prelude.{IsSomeAnd}
+use Rattle.std.specs.Prelude.{is_some}
 use Rattle.pin_turn.specs.Calls.{known}
 use Rattle.pin_turn.specs.declared.view.View.{View}
 use Rattle.studio_seats.specs.declared.deed.Deed.{Deed}
 use Rattle.studio_seats.specs.declared.held.Held.{Held}
 use Rattle.studio_seats.specs.Desks.{start_at}
+use Rattle.studio_seats.specs.Onward.{IsPieceOf}
 use Rattle.studio_seats.specs.Pieces.{pieces_by}
 use Rattle.studio_seats.specs.Shows.{IsMixOf}
 use Rattle.studio_seats.specs.Stands.{origin}
@@ -16,7 +17,8 @@ use Rattle.desk_session.specs.Sounds.{IsPlayed, IsRecorded}
 use Rattle.desk_session.specs.Works.{RanScript}
 use Rattle.desk_session.proofs.RejoinLemmas.{first_join, rejoined, second_join}
 use Rattle.desk_session.proofs.SeatLemmas.{no_piece, player_goes, recorder_goes}
-use Rattle.desk_session.proofs.SideLemmas.{where_both}
+use Rattle.desk_session.proofs.EndLemmas.{ended, played_all}
+use Rattle.desk_session.proofs.SideLemmas.{some_any, some_as, where_both, where_two}
 use Rattle.desk_session.proofs.seats.run_seats.Goals as goal
 
 pub join-requires-clause-away : goal.join-requires-clause-away
@@ -31,9 +33,10 @@ join-requires-clause-away g c =
     (known c.split-player.result) (known w.seats.script) (known w.seats.recorder) (known c.let_go.new.seat)
     one.kept.1 one.new.1 one.number two.kept.1 two.new.1 two.number works.goes
     (recorder_goes o.recording c.args.setting.track _ _
-    (where_both o.recording works.records (λ tag h. h.0) (λ h. h.0)))
-    (player_goes o.pin _ _ _ (where_both o.pin works.plays (λ pin h. h.0) (λ h. h.0))
-    c.let_go.ensures.goes) in
+    (where_both o.recording works.records (λ tag h. h.1.onward) (λ h. h.0)))
+    (player_goes o.pin _ _ _
+    (where_both o.pin works.plays (λ pin h. some_any w.heard h (λ k r. r.0.onward)) (λ h. h.0))
+    (where_both o.pin c.let_go.ensures.goes (λ pin h. h.calls.onward) (λ h. h))) in
     (h.0, h.1)
 
 pub join-requires-2-clause-away : goal.join-requires-2-clause-away
@@ -48,9 +51,10 @@ join-requires-2-clause-away g c =
     (known c.split-player.result) (known w.seats.script) (known w.seats.recorder) (known c.let_go.new.seat)
     one.kept.1 one.new.1 one.number two.kept.1 two.new.1 two.number works.goes
     (recorder_goes o.recording c.args.setting.track _ _
-    (where_both o.recording works.records (λ tag h. h.0) (λ h. h.0)))
-    (player_goes o.pin _ _ _ (where_both o.pin works.plays (λ pin h. h.0) (λ h. h.0))
-    c.let_go.ensures.goes)
+    (where_both o.recording works.records (λ tag h. h.1.onward) (λ h. h.0)))
+    (player_goes o.pin _ _ _
+    (where_both o.pin works.plays (λ pin h. some_any w.heard h (λ k r. r.0.onward)) (λ h. h.0))
+    (where_both o.pin c.let_go.ensures.goes (λ pin h. h.calls.onward) (λ h. h)))
     (known c.join.new.seat) c.join.ensures.kept.1 in
     (h.0, h.1)
 
@@ -68,31 +72,43 @@ returns-clause-sat g c =
     let lent = lent_by g.A.Source g.O.Sink (change c.args.devices c.run_work-worked.result.1) in
     let r = known c.split-recorder.result in
     let p = known c.split-player.result in
+    let apart : r.seen ≡ v.seen = ap (λ z. z.seen) one.new.1 in
     let seen : p.seen ≡ v.seen = ap (λ z. z.seen) two.new.1 ∙ ap (λ z. z.seen) one.kept.1 in
+    let seats = rejoined (record_calls c.args.setting.track o.recording) (play_calls o.pin) v
+    (known c.split-recorder.new.seat) r (known c.split-player.new.seat) p (known w.seats.script)
+    (known w.seats.recorder)
+    (known c.let_go.new.seat) one.kept.1 one.new.1 one.number two.kept.1 two.new.1 two.number
+    works.goes (recorder_goes o.recording c.args.setting.track _ _
+    (where_both o.recording works.records (λ tag h. h.1.onward) (λ h. h.0)))
+    (player_goes o.pin _ _ _
+    (where_both o.pin works.plays (λ pin h. some_any w.heard h (λ k r. r.0.onward)) (λ h. h.0))
+    (where_both o.pin c.let_go.ensures.goes (λ pin h. h.calls.onward) (λ h. h)))
+    (known c.join.new.seat) (known c.join-2.new.seat) c.join.ensures.kept.1 c.join-2.ensures.kept.1
+    c.join.ensures.alike c.join-2.ensures.alike in
     record {
       script = known w.seats.script;
       recorder = known w.seats.recorder;
       player = known c.let_go.new.seat;
-      seats = rejoined (record_calls c.args.setting.track o.recording) (play_calls o.pin) v
-          (known c.split-recorder.new.seat) r (known c.split-player.new.seat) p (known w.seats.script)
-          (known w.seats.recorder)
-          (known c.let_go.new.seat) one.kept.1 one.new.1 one.number two.kept.1 two.new.1 two.number
-          works.goes (recorder_goes o.recording c.args.setting.track _ _
-          (where_both o.recording works.records (λ tag h. h.0) (λ h. h.0)))
-          (player_goes o.pin _ _ _ (where_both o.pin works.plays (λ pin h. h.0) (λ h. h.0))
-          c.let_go.ensures.goes)
-          (known c.join.new.seat) (known c.join-2.new.seat) c.join.ensures.kept.1 c.join-2.ensures.kept.1
-          c.join.ensures.alike c.join-2.ensures.alike;
+      seats = seats;
       ran = subst (λ (q : Knows). RanScript g.V.Vault
           (record { start = start; last = c.args.setting.last; seat = change q (known w.seats.script) }) lent w.told)
           (two.kept.1 ∙ ap (λ (z : Knows). record z { away = z.away ++ p.number ∷ [] }) one.kept.1) works.ran;
       recorded = where_both o.recording works.records
-          (λ tag h. subst (λ (ps : List (List ℤ × ℕ)). IsSomeAnd w.kept (IsRecorded g.M.Source lent.mic (change ps
-          (pieces_by c.args.setting.track tag (known w.seats.recorder).number n (known w.seats.recorder).seen))))
-          (no_piece c.args.setting.track tag n v r one.new.1 one.number.above_makers) h.1)
+          (λ tag h. some_as w.kept h.2 (λ k is. record {
+            told = h.0;
+            is = subst (λ (ps : List (List ℤ × ℕ)). IsRecorded g.M.Source lent.mic (change ps
+                (pieces_by c.args.setting.track tag (known w.seats.recorder).number n (known w.seats.recorder).seen))
+                h.0 k)
+                (no_piece c.args.setting.track tag n v r one.new.1 one.number.above_makers) is;
+            ends = ended (IsPieceOf c.args.setting.track tag) (is_some h.0) v r (known w.seats.recorder) h.0 apart h.1
+                (record_calls c.args.setting.track o.recording) seats.by_recorder.part;
+          }))
           (λ h. (h.1, h.2));
-      played = where_both o.pin works.plays
-          (λ pin h. subst (λ (l : List Deed). IsSomeAnd w.heard (IsPlayed g.P.Sink lent.speaker
-          (IsMixOf (origin g.S.Store g.V.Vault start) l pin))) seen h.1)
-          (λ h. (h.1, h.2));
+      played = where_two o.pin works.plays c.let_go.ensures.goes
+          (λ pin h lets. some_as w.heard h (λ k is. played_all g.P.Sink lent.speaker
+          (IsMixOf (origin g.S.Store g.V.Vault start) v.seen pin) pin n (is_some k.refused) v p (known w.seats.player)
+          (known c.let_go.new.seat) k seen is.0 lets (play_calls o.pin) seats.by_player.part
+          (subst (λ (l : List Deed). IsPlayed g.P.Sink lent.speaker
+          (IsMixOf (origin g.S.Store g.V.Vault start) l pin) k) seen is.1)))
+          (λ h lets. (h.1, h.2));
     }

@@ -1,12 +1,14 @@
 -- What came back follows what was lent.
 use Rattle.std.proofs.Common.{refl, sym, subst, ◌∙◌, ap, Bool}
+use Rattle.std.specs.Prelude.{is_some}
 use Rattle.pin_turn.specs.Calls.{known}
 use Rattle.studio_seats.specs.Desks.{IsAt, start_at}
-use Rattle.studio_seats.specs.Onward.{IsLine, IsPieceOf, IsReadOf, Onward}
+use Rattle.studio_seats.specs.Onward.{IsLine, IsPieceOf, IsReadOf, Onward, WorksOn, worker}
 use Rattle.studio_seats.specs.Pieces.{pieces_by}
 use Rattle.studio_seats.specs.Shows.{IsMixOf}
 use Rattle.studio_seats.specs.Stands.{origin}
 use Rattle.studio_seats.proofs.OnwardLemmas.{onward_self}
+use Rattle.studio_seats.proofs.WorkLemmas.{works_self}
 use Rattle.script_session.specs.declared.stop.Stop.{Stop}
 use Rattle.script_session.specs.Change.{change}
 use Rattle.script_session.specs.Place.{Place, place_of}
@@ -55,19 +57,26 @@ returns-clause-works g c =
           (λ tag h.
           let w = h.0 in
           let a = h.1 in
-          let goes = h.3.taker_goes w.taker
-          (refl, refl, refl, onward_self (IsPieceOf w.taker.track w.taker.tag) (known w.taker.seat)) in
+          let goes = h.3.taker_goes w.taker (
+            refl,
+            refl,
+            refl,
+            works_self (IsPieceOf w.taker.track w.taker.tag)
+                (worker (known w.taker.seat) w.taker.refused),
+          ) in
           let track = h.2.4 in
           let tag_is = h.2.5 in
           let at = goes.0 ∙ h.2.2 in (
-            subst (λ (X : Type 0). X) (λ i. Onward (IsPieceOf (track i) (tag_is i)) (h.2.3 i) (sym h.4.1 i)) goes.3,
+            a.taker.refused,
+            subst (λ (X : Type 0). X) (λ i. WorksOn (IsPieceOf (track i) (tag_is i)) (is_some a.taker.refused)
+                (worker (h.2.3 i) (h.2.6 i)) (worker (sym h.4.1 i) a.taker.refused)) goes.3,
             some_as kept.2 h.4.4
                 (λ k f. subst (λ (X : Type 0). X)
                 (λ i. IsRecorded g.M.Source (change (h.2.1 i) (sym h.4.3 i))
                 (change
                 (pieces_by (track i) (tag_is i) (h.2.3 i).number (start_at (h.2.2 i)).commit_number (h.2.3 i).seen)
                 (pieces_by ((goes.1 ∙ track) i) ((goes.2 ∙ tag_is) i) (sym h.4.1 i).number
-                (start_at (at i)).commit_number (sym h.4.1 i).seen)) k)
+                (start_at (at i)).commit_number (sym h.4.1 i).seen)) a.taker.refused k)
                 (recorded_of g.M.Source _ _ (λ l. l.source.now) (λ l. refl) (λ l. refl) w.mic w.taker a k h.3 f.0 f.1
                 f.2 f.3)),
           ))
@@ -78,16 +87,18 @@ returns-clause-works g c =
           (λ pin h.
           let w = h.0 in
           let a = h.1 in
-          let goes = h.3.giver_goes w.giver (refl, refl, onward_self (IsReadOf w.giver.pin) (known w.giver.seat)) in
-          let pin_is = h.2.4 in (
-            subst (λ (X : Type 0). X) (λ i. Onward (IsReadOf (pin_is i)) (h.2.3 i) (sym h.4.1 i)) goes.2,
-            some_as heard.2 h.4.4
-                (λ k f. subst (λ (X : Type 0). X)
+          let goes = h.3.giver_goes w.giver
+          (refl, refl, works_self (IsReadOf w.giver.pin) (worker (known w.giver.seat) w.giver.refused)) in
+          let pin_is = h.2.4 in
+          some_as heard.2 h.4.4 (λ k f. (
+            subst (λ (X : Type 0). X) (λ i. WorksOn (IsReadOf (pin_is i)) (is_some (sym f.0 i))
+                (worker (h.2.3 i) (h.2.5 i)) (worker (sym h.4.1 i) ((h.3.cause ∙ sym f.0) i))) goes.2,
+            subst (λ (X : Type 0). X)
                 (λ i. IsPlayed g.P.Sink (change (h.2.1 i) (sym h.4.3 i))
                 (IsMixOf (origin g.S.Store g.V.Vault (start_at (h.2.2 i))) (h.2.3 i).seen (pin_is i)) k)
                 (played_of g.P.Sink _ _ (λ l. l.sink.now) (λ l. refl) (λ l. refl) w.giver w.speaker a k h.3 f.0 f.1
-                f.2)),
-          ))
+                f.2),
+          )))
           (λ h. (ap known h.2.0 ∙ h.1.0, h.2.3, h.2.2 ∙ h.1.3));
     }
 
@@ -108,14 +119,23 @@ returns-clause-at g c =
           c.take_script-seat.ensures.at,
       where_any o.recording recorded
           (λ tag h. subst (λ d. IsAt d c.take_recorder-recorder.result.0)
-          ((h.3.taker_goes h.0.taker
-          (refl, refl, refl, onward_self (IsPieceOf h.0.taker.track h.0.taker.tag) (known h.0.taker.seat))).0 ∙ h.2.2)
+          ((h.3.taker_goes h.0.taker (
+            refl,
+            refl,
+            refl,
+            works_self (IsPieceOf h.0.taker.track h.0.taker.tag)
+                (worker (known h.0.taker.seat) h.0.taker.refused),
+          )).0 ∙ h.2.2)
           h.4.0)
           (λ h. subst (λ s. IsAt desk s) (sym h.2.0) h.1.1),
       where_any o.pin played
           (λ pin h. subst (λ d. IsAt d c.take_player-player.result.0)
-          ((h.3.giver_goes h.0.giver (refl, refl, onward_self (IsReadOf h.0.giver.pin) (known h.0.giver.seat))).0
-          ∙ h.2.2) h.4.0)
+          ((h.3.giver_goes h.0.giver (
+            refl,
+            refl,
+            works_self (IsReadOf h.0.giver.pin)
+                (worker (known h.0.giver.seat) h.0.giver.refused),
+          )).0 ∙ h.2.2) h.4.0)
           (λ h. subst (λ s. IsAt desk s) (sym h.2.0) h.1.1),
     )
 

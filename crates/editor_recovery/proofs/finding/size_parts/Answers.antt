@@ -4,6 +4,7 @@ use Rattle.project_state.proofs.KeptBounds.{sound_blocks}
 use Rattle.record_fold.specs.Folds.{kept_of}
 use Rattle.editor_recovery.proofs.Counted.{causes_none, memory_none}
 use Rattle.editor_recovery.proofs.Opens.{parts_result, unsized}
+use Rattle.editor_recovery.proofs.Refusals.{memory_opens}
 use Rattle.editor_recovery.proofs.SoundParts.{sound_result}
 use Rattle.editor_recovery.proofs.finding.size_parts.Goals as goal
 
@@ -33,3 +34,6 @@ pub returns-in-Ok-clause-cause : goal.returns-in-Ok-clause-cause
 returns-in-Ok-clause-cause g c =
     causes_none g.S.Store c.args.store.now c.test_files.new.store c.parts_of.result c.in-Ok.ensures.cause
     (memory_none c.parts_of.result c.parts_of.ensures.memory)
+
+pub returns-in-Ok-clause-opening : goal.returns-in-Ok-clause-opening
+returns-in-Ok-clause-opening g c = memory_opens c.parts_of.result c.parts_of.ensures.memory

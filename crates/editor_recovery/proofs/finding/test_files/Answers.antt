@@ -4,6 +4,7 @@ use Rattle.editor_recovery.proofs.Counted.{causes_none}
 use Rattle.editor_recovery.proofs.Measures.{named_listed, one_length}
 use Rattle.editor_recovery.proofs.Opens.{measured}
 use Rattle.editor_recovery.proofs.Points.{all_blocks}
+use Rattle.editor_recovery.proofs.Refusals.{measured_opens, refusal_opens}
 use Rattle.editor_recovery.proofs.finding.test_files.Goals as goal
 
 pub returns-in-Ok-clause-tests : goal.returns-in-Ok-clause-tests
@@ -24,3 +25,11 @@ pub returns-in-Ok-clause-one_length : goal.returns-in-Ok-clause-one_length
 returns-in-Ok-clause-one_length g c =
     one_length (size_in c.in-Ok.sizes)
     (all_blocks c.args.history.now.history.points) c.test_blocks.result c.test_blocks.ensures.tests
+
+pub returns-in-Ok-clause-opening : goal.returns-in-Ok-clause-opening
+returns-in-Ok-clause-opening g c =
+    measured_opens (size_in c.in-Ok.sizes) (all_blocks c.args.history.now.history.points) c.test_blocks.result
+    c.test_blocks.ensures.tests
+
+pub returns-in-Err-clause-opening : goal.returns-in-Err-clause-opening
+returns-in-Err-clause-opening g c = refusal_opens c.in-Err.fault c.in-Err.ensures.refused

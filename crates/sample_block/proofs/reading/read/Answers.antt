@@ -1,49 +1,35 @@
 -- The first difference of the whole file, from those of its parts.
-use Rattle.std.proofs.Common.{◌≡◌, ◌+◌, ◌*◌, arith, length, ap, ◌∙◌, sym, ℤ, List, ℕ, Option, None, ◌++◌}
-use Rattle.sample_block.specs.Spelling.{size_of, level_fields}
-use Rattle.sample_block.specs.Faults.{difference, samples_in}
-use Rattle.sample_block.specs.declared.damage.Damaged.{Damaged}
+use Rattle.std.proofs.Common.{◌≡◌, ◌+◌, ◌*◌, arith, length, List, ℕ, ◌∙◌, Some, None, Err, ◌++◌}
+use Rattle.sample_block.specs.Spelling.{size_of, level_fields, header_fields}
+use Rattle.sample_block.specs.Faults.{difference, damage_of, samples_in, size_difference, Gives, IsFoundAs}
+use Rattle.sample_block.specs.declared.damage.BadBlock.{BadBlock}
+use Rattle.sample_block.specs.declared.damage.BadBlock.TheVariants as bad
 use Rattle.sample_block.proofs.Numerals.{IsBytes}
-use Rattle.sample_block.proofs.Laws.{front_found, frames_found, length_samples}
+use Rattle.sample_block.proofs.Laws.{front_found, frames_found}
 use Rattle.sample_block.proofs.reading.read.Goals as goal
-
--- the frames of the samples as they were read
-frames_read : (bytes : List ℕ) (xs : List ℤ) (n : ℕ) (r : Option Damaged) → xs ≡ samples_in bytes 16 n
-    → difference bytes (16 + 2 * length xs) (level_fields 256 xs ++ level_fields 65536 xs) ≡ r
-    → difference bytes (16 + 2 * n)
-    (level_fields 256 (samples_in bytes 16 n) ++ level_fields 65536 (samples_in bytes 16 n)) ≡ r
-frames_read bytes xs n r e frames =
-    let len : length xs ≡ n = ap length e ∙ length_samples bytes 16 n in
-    ap (λ (ys : List ℤ). difference bytes (16 + 2 * n) (level_fields 256 ys ++ level_fields 65536 ys)) (sym e)
-    ∙ ap (λ (m : ℕ). difference bytes (16 + 2 * m) (level_fields 256 xs ++ level_fields 65536 xs)) (sym len) ∙ frames
 
 pub returns-in-Err-clause-exact : goal.returns-in-Err-clause-exact
 returns-in-Err-clause-exact c = front_found c.args.id c.args.len c.args.bytes.now _ c.in-Err.ensures.fields
 
-pub check_frames-requires-clause-few : goal.check_frames-requires-clause-few
-check_frames-requires-clause-few c =
-    let len : length c.deref.result.now ≡ c.args.len =
-    ap length (c.deref.ensures.value ∙ c.in-Ok.ensures) ∙ length_samples c.args.bytes.now 16 c.args.len in
-    omega (arith, len, c.requires)
+-- what the frames were refused for is what the whole file is refused for
+refused_for : (id n : ℕ) (bytes : List ℕ) (why : BadBlock) → IsBytes bytes → length bytes ≡ size_of n
+    → size_difference n bytes (difference bytes 0 (header_fields id n)) ≡ None
+    → IsFoundAs (difference bytes (16 + 2 * n)
+    (level_fields 256 (samples_in bytes 16 n) ++ level_fields 65536 (samples_in bytes 16 n))) why
+    → Gives (Err why) (damage_of id n bytes, samples_in bytes 16 n)
+refused_for id n bytes bad.NoMemory fit size front found = tt
+refused_for id n bytes (bad.Damaged fault) fit size front found =
+    frames_found id n bytes (Some fault) fit size front found
 
-pub check_frames-requires-clause-size : goal.check_frames-requires-clause-size
-check_frames-requires-clause-size c =
-    let len : length c.deref.result.now ≡ c.args.len =
-    ap length (c.deref.ensures.value ∙ c.in-Ok.ensures) ∙ length_samples c.args.bytes.now 16 c.args.len in
-    c.in_default.ensures.size ∙ ap size_of (sym len)
-
-pub returns-in-Err-check_frames-clause-exact : goal.returns-in-Err-check_frames-clause-exact
-returns-in-Err-check_frames-clause-exact c =
+pub returns-in-Err-take_checked-clause-exact : goal.returns-in-Err-take_checked-clause-exact
+returns-in-Err-take_checked-clause-exact c =
     let fit : IsBytes c.args.bytes.now = record { below = λ i. omega (arith, c.type_inv.bytes i) } in
-    frames_found c.args.id c.args.len c.args.bytes.now _ fit c.in_default.ensures.size c.in_default.ensures.fields
-    (frames_read c.args.bytes.now c.deref.result.now c.args.len _
-    (c.deref.ensures.value ∙ c.in-Ok.ensures) c.in-Err-check_frames.ensures)
+    refused_for c.args.id c.args.len c.args.bytes.now c.in-Err-take_checked.bad fit c.in_default.ensures.size
+    c.in_default.ensures.fields c.in-Err-take_checked.ensures.fault
 
 pub returns-clause-exact : goal.returns-clause-exact
 returns-clause-exact c =
     let fit : IsBytes c.args.bytes.now = record { below = λ i. omega (arith, c.type_inv.bytes i) } in
     let none = frames_found c.args.id c.args.len c.args.bytes.now None fit c.in_default.ensures.size
-    c.in_default.ensures.fields
-    (frames_read c.args.bytes.now c.deref.result.now c.args.len None
-    (c.deref.ensures.value ∙ c.in-Ok.ensures) c.in_default-check_frames.ensures) in
-    (none, c.new.ensures ∙ c.in-Ok.ensures)
+    c.in_default.ensures.fields c.in-Ok.ensures.none in
+    (none, c.new.ensures ∙ c.in-Ok.ensures.samples)

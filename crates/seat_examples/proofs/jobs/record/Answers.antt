@@ -2,9 +2,10 @@
 use Rattle.std.proofs.Common.{◌≡◌, ◌∙◌, ℕ, [], ◌∷◌, refl, sym, ap, subst, arith, length, length-append}
 use Rattle.pin_turn.specs.Calls.{known}
 use Rattle.studio_seats.specs.Desks.{IsAt, start_at}
-use Rattle.studio_seats.specs.Onward.{IsPieceOf, Onward}
+use Rattle.studio_seats.specs.Onward.{IsPieceOf, Onward, worker}
 use Rattle.studio_seats.specs.Pieces.{pieces_by}
-use Rattle.studio_seats.proofs.OnwardLemmas.{onward_on, onward_self}
+use Rattle.studio_seats.proofs.OnwardLemmas.{onward_on}
+use Rattle.studio_seats.proofs.WorkLemmas.{works_self}
 use Rattle.seat_examples.specs.Jobs.{piece_count}
 use Rattle.seat_examples.proofs.CallLemmas.{told_ok}
 use Rattle.seat_examples.proofs.jobs.record.Goals as goal
@@ -12,7 +13,7 @@ use Rattle.seat_examples.proofs.jobs.record.Goals as goal
 pub returns-in-Err-clause-same : goal.returns-in-Err-clause-same
 returns-in-Err-clause-same g c =
     let s = c.pieces.taker in
-    let on = c.take_piece.ensures.goes s (refl, refl, refl, onward_self (IsPieceOf s.track s.tag) (known s.seat)) in
+    let on = c.take_piece.ensures.goes s (refl, refl, refl, works_self (IsPieceOf s.track s.tag) (worker (known s.seat) s.refused)) in
     subst (λ (d : _). IsAt d c.into_seat.result) (on.0 ∙ c.pieces.invariant.desk) c.into_seat.ensures.at
 
 pub returns-in-Err-clause-goes : goal.returns-in-Err-clause-goes
@@ -21,9 +22,9 @@ returns-in-Err-clause-goes g c =
     let inv = c.pieces.invariant in
     let pieces = IsPieceOf c.args.track c.args.tag in
     let here = known c.take_piece.new.self.seat in
-    let on = c.take_piece.ensures.goes s (refl, refl, refl, onward_self (IsPieceOf s.track s.tag) (known s.seat)) in
+    let on = c.take_piece.ensures.goes s (refl, refl, refl, works_self (IsPieceOf s.track s.tag) (worker (known s.seat) s.refused)) in
     let named : ℕ × ℕ → Type 0 = λ z. Onward (IsPieceOf z.0 z.1) (known s.seat) here in
-    let more = subst named (λ i. (inv.track i, inv.tag i)) on.3 in
+    let more = subst named (λ i. (inv.track i, inv.tag i)) on.3.onward in
     subst (Onward pieces (known c.args.seat)) (sym c.into_seat.ensures.seat)
     (onward_on pieces (known c.args.seat) (known s.seat) here inv.goes more)
 
@@ -34,9 +35,9 @@ pieces-preserved g c =
     let pieces = IsPieceOf c.args.track c.args.tag in
     let there = known s.seat in
     let here = known c.take_piece.new.self.seat in
-    let on = c.take_piece.ensures.goes s (refl, refl, refl, onward_self (IsPieceOf s.track s.tag) there) in
+    let on = c.take_piece.ensures.goes s (refl, refl, refl, works_self (IsPieceOf s.track s.tag) (worker there s.refused)) in
     let named : ℕ × ℕ → Type 0 = λ z. Onward (IsPieceOf z.0 z.1) there here in
-    let more = subst named (λ i. (inv.track i, inv.tag i)) on.3 in
+    let more = subst named (λ i. (inv.track i, inv.tag i)) on.3.onward in
     let desk = on.0 ∙ inv.desk in
     let track = on.1 ∙ inv.track in
     let tag = on.2 ∙ inv.tag in

@@ -1,5 +1,6 @@
 -- The seat that closes the desk is the first, and none is away from it.
 use Rattle.std.proofs.Common.{◌∙◌}
+use Rattle.studio_seats.proofs.Grown.{leads}
 use Rattle.studio_seats.proofs.Turns.{seat_stays}
 use Rattle.seat_examples.proofs.tests.two_threads_at_one_desk.Goals as goal
 
@@ -15,3 +16,6 @@ close-studio-requires g c =
       told.0 ∙ purged.0 ∙ redone.0 ∙ undone.0 ∙ joined.number ∙ first.0,
       told.1 ∙ purged.1 ∙ redone.1 ∙ undone.1 ∙ joined.away ∙ first.1,
     )
+
+pub commits_in-requires : goal.commits_in-requires
+commits_in-requires g c = (leads _ _ _ c.close-studio.ensures.stands).studio

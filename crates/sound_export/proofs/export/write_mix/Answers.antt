@@ -10,10 +10,11 @@ use Rattle.project_state.specs.Kept.{meant, point_blocks}
 use Rattle.cell_view.specs.Stored.{stored_of}
 use Rattle.wav_pcm.specs.Wavs.{wav_head}
 use Rattle.pcm_base.specs.Recordings.{frame_bytes}
-use Rattle.sound_export.specs.Written.{MayBegin}
+use Rattle.wav_pcm.specs.Written.{MayBegin}
 use Rattle.mix_view.specs.Tracks.{mix_length_of}
 use Rattle.mix_view.proofs.TrackLaws.{stored_whole}
-use Rattle.sound_export.proofs.GrowLaws.{begun_more, begun_front, length_mix, whole_text, device_fits, no_damage}
+use Rattle.wav_pcm.proofs.GrowLaws.{begun_more, begun_front}
+use Rattle.sound_export.proofs.GrowLaws.{length_mix, whole_text, device_fits, no_damage}
 use Rattle.sound_export.proofs.export.write_mix.Goals as goal
 
 pub returns-then-len-clause-kept : goal.returns-then-len-clause-kept
@@ -22,20 +23,20 @@ returns-then-len-clause-kept g c = kept_none _ (g.met.S.Store.may_fewer _)
 pub returns-then-len-clause-whole : goal.returns-then-len-clause-whole
 returns-then-len-clause-whole g c = λ whole. stored_whole (g.S.Store.reads c.args.store.now) c.args.point.now whole
 
-pub returns-in_err-start_sound-clause-kept : goal.returns-in_err-start_sound-clause-kept
-returns-in_err-start_sound-clause-kept g c = kept_none _ (g.met.S.Store.may_fewer _)
+pub returns-in_err-write_start-clause-kept : goal.returns-in_err-write_start-clause-kept
+returns-in_err-write_start-clause-kept g c = kept_none _ (g.met.S.Store.may_fewer _)
 
-pub returns-in_err-start_sound-clause-whole : goal.returns-in_err-start_sound-clause-whole
-returns-in_err-start_sound-clause-whole g c =
+pub returns-in_err-write_start-clause-whole : goal.returns-in_err-write_start-clause-whole
+returns-in_err-write_start-clause-whole g c =
     λ whole. stored_whole (g.S.Store.reads c.args.store.now) c.args.point.now whole
 
-pub returns-in_err-start_sound-clause-failed : goal.returns-in_err-start_sound-clause-failed
-returns-in_err-start_sound-clause-failed g c = λ told mine.
+pub returns-in_err-write_start-clause-failed : goal.returns-in_err-write_start-clause-failed
+returns-in_err-write_start-clause-failed g c = λ told mine.
     let src = stored_of (g.S.Store.reads c.args.store.now) in
     let mix : List Frame = mix_of (meant src c.args.point.now) in
     let name = c.args.name.now in
     let old = g.V.Vault.holds c.args.vault.now name in
-    let new = g.V.Vault.holds c.start_sound.new.vault name in
+    let new = g.V.Vault.holds c.write_start.new.vault name in
     let len : c.mix_len-len.result ≡ length mix =
     sym (length_mix (meant src c.args.point.now) ∙ c.mix_len-len.ensures.frames src) in
     let M : List ℕ → Type 0 = λ text. MayBegin text old new in
@@ -43,7 +44,7 @@ returns-in_err-start_sound-clause-failed g c = λ told mine.
     rw p.1
     (subst M (whole_text mix c.args.rate c.mix_len-len.result len)
     (begun_front old new (wav_head c.mix_len-len.result c.args.rate) (frame_bytes mix)
-    (c.in_err-start_sound.ensures.failed told)))
+    (c.in_err-write_start.ensures.failed told)))
 
 pub returns-in_err-append_mix-clause-whole : goal.returns-in_err-append_mix-clause-whole
 returns-in_err-append_mix-clause-whole g c =
@@ -55,18 +56,18 @@ returns-in_err-append_mix-clause-failed g c = λ told mine.
     let mix : List Frame = mix_of (meant src c.args.point.now) in
     let name = c.args.name.now in
     let old = g.V.Vault.holds c.args.vault.now name in
-    let mid = g.V.Vault.holds c.start_sound.new.vault name in
+    let mid = g.V.Vault.holds c.write_start.new.vault name in
     let new = g.V.Vault.holds c.append_mix.new.vault name in
     let len : c.mix_len-len.result ≡ length mix =
     sym (length_mix (meant src c.args.point.now) ∙ c.mix_len-len.ensures.frames src) in
-    let still : IsTrue (g.V.Vault.tells c.start_sound.new.vault) =
-    subst (λ (b : Bool). IsTrue b) (sym c.start_sound.ensures.tells) told in
+    let still : IsTrue (g.V.Vault.tells c.write_start.new.vault) =
+    subst (λ (b : Bool). IsTrue b) (sym c.write_start.ensures.tells) told in
     let M : List ℕ → Type 0 = λ text. MayBegin text old new in
     let p = err_from_is_err_and c.from_residual-in_err-append_mix.result c.from_residual-in_err-append_mix.ensures.1 in
     rw p.1
     (subst M (whole_text mix c.args.rate c.mix_len-len.result len)
     (begun_more old mid new (wav_head c.mix_len-len.result c.args.rate) (frame_bytes mix)
-    (c.in_ok-start_sound.ensures.started told) (c.in_err-append_mix.ensures.failed still mine)))
+    (c.in_ok-write_start.ensures.started told) (c.in_err-append_mix.ensures.failed still mine)))
 
 pub returns-in_err-append_mix-clause-long : goal.returns-in_err-append_mix-clause-long
 returns-in_err-append_mix-clause-long g c =
@@ -91,8 +92,8 @@ returns-clause-written g c = λ told mine.
     let mix : List Frame = mix_of (meant src c.args.point.now) in
     let len : c.mix_len-len.result ≡ length mix =
     sym (length_mix (meant src c.args.point.now) ∙ c.mix_len-len.ensures.frames src) in
-    let still : IsTrue (g.V.Vault.tells c.start_sound.new.vault) =
-    subst (λ (b : Bool). IsTrue b) (sym c.start_sound.ensures.tells) told in
+    let still : IsTrue (g.V.Vault.tells c.write_start.new.vault) =
+    subst (λ (b : Bool). IsTrue b) (sym c.write_start.ensures.tells) told in
     c.in_ok-append_mix.ensures.appended still mine
-    ∙ ap (λ o. Some (sound_bytes o ++ frame_bytes mix)) (c.in_ok-start_sound.ensures.started told)
+    ∙ ap (λ o. Some (sound_bytes o ++ frame_bytes mix)) (c.in_ok-write_start.ensures.started told)
     ∙ ap Some (whole_text mix c.args.rate c.mix_len-len.result len)

@@ -14,7 +14,8 @@ use Rattle.project_state.specs.declared.track.Track.{Track}
 use Rattle.mix_view.specs.Readers.{HasCompared}
 use Rattle.mix_view.specs.Tracks.{mix_length_of, stored_mix}
 use Rattle.pcm_base.specs.Recordings.{frame_bytes}
-use Rattle.sound_export.proofs.GrowLaws.{held_more, held_failed, length_mix}
+use Rattle.wav_pcm.proofs.GrowLaws.{held_more, held_failed}
+use Rattle.sound_export.proofs.GrowLaws.{length_mix}
 use Rattle.sound_export.proofs.stretch.append_mix.Goals as goal
 
 pub stretches-init : goal.stretches-init

@@ -11,7 +11,7 @@ use Rattle.clip_track.proofs.clips.Layout.rest.Goals as goal
 
 pub returns-clause-items : goal.returns-clause-items
 returns-clause-items c = c.rest_from.ensures.items
-    ∙ ap (λ cs. items_after c.args.place (items_from 0 cs)) (c.as_slice.ensures.value ∙ c.self.view_is)
+    ∙ ap (λ cs. items_after c.args.place (items_from 0 cs)) (c.as_slice.ensures ∙ c.self.view_is)
 
 pub returns-clause-cells : goal.returns-clause-cells
 returns-clause-cells c src =

@@ -38,4 +38,4 @@ returns-clause-session g c =
       seat_now = known r.seat;
     })
     (record lent { vault = change o.new.vault lent.vault.now }) out) s.begins.1 c.run_seats-rejoined.ensures.sat)
-    c.close.ensures.stands c.close.ensures.mine)
+    c.close.ensures.stands c.close.ensures.mine c.close.ensures.spent)

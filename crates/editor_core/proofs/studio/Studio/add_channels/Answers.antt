@@ -45,7 +45,7 @@ returns-in_err-counts-clause-lasts g c = λ name sound.
     subst (λ x. Lasts g.S.Store s (with_sound (Line (command.Import name)) sound (told_by (λ (n : ℕ). reply.Done) x)) s)
     (sym (r.1 ∙ ap Err r.2))
     (lasts_idle g.S.Store s c.requires.studio (g.met.S.Store.may_fewer s.store)
-    (Line (command.Import name)) sound refusal.NoMemory tt)
+    (Line (command.Import name)) tt sound refusal.NoMemory tt)
 
 -- ---- a test refuses them
 
@@ -63,7 +63,7 @@ pub returns-in-Some-clause-lasts : goal.returns-in-Some-clause-lasts
 returns-in-Some-clause-lasts g c = λ name sound.
     let s = core_of c.args.self.now in
     lasts_idle g.S.Store s c.requires.studio (g.met.S.Store.may_fewer s.store)
-    (Line (command.Import name)) sound c.in-Some.reason
+    (Line (command.Import name)) tt sound c.in-Some.reason
     (channels_plain (length (current_tracks s.history)) c.as_slice-2.result.now c.in-Some.reason
     (sym c.channels_refusal.ensures ∙ c.in-Some.is))
 
@@ -98,7 +98,7 @@ returns-in_err-samples-clause-lasts g c = λ name sound.
     subst (λ x. Lasts g.S.Store s (with_sound (Line (command.Import name)) sound (told_by (λ (n : ℕ). reply.Done) x)) s)
     (sym (r.1 ∙ ap Err r.2))
     (lasts_idle g.S.Store s c.requires.studio (g.met.S.Store.may_fewer s.store)
-    (Line (command.Import name)) sound refusal.NoMemory tt)
+    (Line (command.Import name)) tt sound refusal.NoMemory tt)
 
 -- ---- there is no plan
 
@@ -126,7 +126,7 @@ returns-in_err-planned-clause-lasts g c = λ name sound.
     subst (λ x. Lasts g.S.Store s (with_sound (Line (command.Import name)) sound (told_by (λ (n : ℕ). reply.Done) x)) s)
     (sym (r.1 ∙ ap Err r.2))
     (lasts_idle g.S.Store s c.requires.studio (g.met.S.Store.may_fewer s.store)
-    (Line (command.Import name)) sound c.in_err-planned.field-0.0
+    (Line (command.Import name)) tt sound c.in_err-planned.field-0.0
     (no_plan_plain s c.as_slice-3.result.now c.in_err-planned.field-0.0
     c.in_err-planned.ensures.err))
 

@@ -26,6 +26,7 @@ use Rattle.editor_core.proofs.Moving.{tested_out}
 use Rattle.editor_core.proofs.NoDamage.{TellsNone, undamaged_test}
 use Rattle.editor_core.proofs.PlainEdits.{own_is, needs_none, names, sound, edit_fails, edit_done}
 use Rattle.editor_core.proofs.PlainLines.{call_by}
+use Rattle.editor_core.proofs.Removing.{commit_removes_none}
 use Rattle.editor_core.proofs.Staying.{wants}
 use Rattle.editor_core.proofs.Times.{Few}
 use Rattle.editor_core.proofs.Undamaged.{adding_tells, refusal_tells}
@@ -51,8 +52,8 @@ returns-in_err-make_room-clause-took g c =
     let s = core_of c.args.self.now in
     let s1 = core_of c.make_room.new.self in
     let line = line_of c.args.edit in
-    let idle = wants g.S.Store s (Line line) silent c.requires.studio (g.met.S.Store.may_fewer s.store) refl 0
-    (λ held. (0, needs_none g.S.Store s c.requires.studio c.args.edit)) in
+    let idle = wants g.S.Store s (Line line) silent c.requires.studio (g.met.S.Store.may_fewer s.store)
+    (commit_removes_none (Line line) (call_by c.args.edit).one) refl 0 (λ held. (0, needs_none g.S.Store s c.requires.studio c.args.edit)) in
     subst (λ r. Took g.S.Store s (quietly (Line line) (told_by (λ (n : ℕ). Done) r)) s1) (sym (p.1 ∙ ap Err p.2))
     (subst (λ (z : Core g.row.S.Denot). Took g.S.Store s (quietly (Line line) (Err refusal.NoMemory)) z)
     (sym c.make_room.ensures.same) idle)
@@ -81,8 +82,8 @@ returns-in_err-point-clause-took g c =
     let s = core_of c.args.self.now in
     let s1 = core_of c.make_room.new.self in
     let line = line_of c.args.edit in
-    let idle = wants g.S.Store s (Line line) silent c.requires.studio (g.met.S.Store.may_fewer s.store) refl 0
-    (λ held. (0, needs_none g.S.Store s c.requires.studio c.args.edit)) in
+    let idle = wants g.S.Store s (Line line) silent c.requires.studio (g.met.S.Store.may_fewer s.store)
+    (commit_removes_none (Line line) (call_by c.args.edit).one) refl 0 (λ held. (0, needs_none g.S.Store s c.requires.studio c.args.edit)) in
     subst (λ r. Took g.S.Store s (quietly (Line line) (told_by (λ (n : ℕ). Done) r)) s1) (sym (p.1 ∙ ap Err p.2))
     (subst (λ (z : Core g.row.S.Denot). Took g.S.Store s (quietly (Line line) (Err refusal.NoMemory)) z)
     (sym c.make_room.ensures.same) idle)

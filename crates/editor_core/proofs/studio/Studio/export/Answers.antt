@@ -13,7 +13,8 @@ use Rattle.sample_block.specs.Sources.{sources_of, AllNamed, AllWhole}
 use Rattle.project_state.specs.declared.track.Track.{Track}
 use Rattle.project_state.specs.Kept.{meant, point_blocks}
 use Rattle.mix_view.specs.Tracks.{mix_length_of}
-use Rattle.sound_export.specs.Written.{IsBlockFault, MayBegin}
+use Rattle.wav_pcm.specs.Written.{MayBegin}
+use Rattle.sound_export.specs.Written.{IsBlockFault}
 use Rattle.envelope_view.specs.Answers.{IsUndamaged}
 use Rattle.editor_core.specs.Applied.{Lasts}
 use Rattle.editor_core.specs.Core.{core_of}
@@ -111,7 +112,7 @@ returns-clause-took g c = λ told.
 pub returns-in-Some-clause-lasts : goal.returns-in-Some-clause-lasts
 returns-in-Some-clause-lasts g c = λ sound.
     lasts_idle g.S.Store (core_of c.args.self.now) c.requires (g.met.S.Store.may_fewer c.args.self.now.store)
-    (Line (command.Export c.args.name.now)) sound (refusal.Stopped c.in-Some.faults) tt
+    (Line (command.Export c.args.name.now)) tt sound (refusal.Stopped c.in-Some.faults) tt
 
 pub returns-in_err-bytes-clause-lasts : goal.returns-in_err-bytes-clause-lasts
 returns-in_err-bytes-clause-lasts g c = λ sound.
@@ -123,7 +124,7 @@ returns-in_err-bytes-clause-lasts g c = λ sound.
     subst (λ r. Lasts g.S.Store s (with_sound call sound (told_by reply.Wrote r))
     (record s { store = c.write_stretches.new.store }))
     (sym (p.1 ∙ ap Err p.2))
-    (lasts_looked g.S.Store s c.requires call sound c.in_default.is c.write_stretches.new.store
+    (lasts_looked g.S.Store s c.requires call tt sound c.in_default.is c.write_stretches.new.store
     c.in_err-bytes.ensures.kept (Err _) refl
     (export_left g.S.Store s c.requires c.args.name.now silent c.in_default.is c.write_stretches.new.store
     c.in_err-bytes.ensures.kept why
@@ -140,5 +141,5 @@ returns-clause-lasts g c = λ sound.
     let s = core_of c.args.self.now in
     let same : s.commit_number ≡ s.commit_number + 0 = omega arith in
     lasts_looked g.S.Store s c.requires
-    (Line (command.Export c.args.name.now)) sound c.in_default.is c.write_stretches.new.store c.in_ok-bytes.ensures.kept
+    (Line (command.Export c.args.name.now)) tt sound c.in_default.is c.write_stretches.new.store c.in_ok-bytes.ensures.kept
     (Ok (reply.Wrote c.in_ok-bytes.bytes)) same tt

@@ -23,7 +23,7 @@ returns-in-Some-clause-took g c = λ told.
 pub returns-in-Some-clause-lasts : goal.returns-in-Some-clause-lasts
 returns-in-Some-clause-lasts g c = λ sound.
     lasts_idle g.S.Store (core_of c.args.self.now) c.requires (g.met.S.Store.may_fewer c.args.self.now.store)
-    (Line (command.Import c.args.name.now)) sound (refusal.Stopped c.in-Some.faults) tt
+    (Line (command.Import c.args.name.now)) tt sound (refusal.Stopped c.in-Some.faults) tt
 
 pub returns-in_err-wav-clause-took : goal.returns-in_err-wav-clause-took
 returns-in_err-wav-clause-took g c = λ told.
@@ -43,7 +43,7 @@ returns-in_err-wav-clause-lasts g c = λ sound.
     let call = Line (command.Import c.args.name.now) in
     let p = err_from_is_err_and c.from_residual.result c.from_residual.ensures.1 in
     subst (λ r. Lasts g.S.Store s (with_sound call sound (told_by (λ _. reply.Done) r)) s) (sym (p.1 ∙ ap Err p.2))
-    (lasts_idle g.S.Store s c.requires (g.met.S.Store.may_fewer s.store) call sound
+    (lasts_idle g.S.Store s c.requires (g.met.S.Store.may_fewer s.store) call tt sound
     (import_refusal c.in_err-wav.field-0.0) (import_plain c.in_err-wav.field-0.0))
 
 pub returns-clause-took : goal.returns-clause-took

@@ -17,7 +17,7 @@ returns-in_err-frames g c =
     let call = Line (command.Mix c.args.from c.args.to) in
     let p = err_from_is_err_and c.from_residual.result c.from_residual.ensures.1 in
     subst (λ r. Took g.S.Store s (quietly call r) s) (sym (p.1 ∙ ap Err p.2))
-    (wants g.S.Store s call silent c.requires (g.met.S.Store.may_fewer s.store) refl 0 (λ held. (0, (refl, refl))))
+    (wants g.S.Store s call silent c.requires (g.met.S.Store.may_fewer s.store) tt refl 0 (λ held. (0, (refl, refl))))
 
 pub returns : goal.returns
 returns g c =

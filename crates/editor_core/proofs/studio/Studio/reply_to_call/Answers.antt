@@ -1,5 +1,5 @@
 -- A line or another call.
-use Rattle.std.proofs.Common.{sym, subst}
+use Rattle.std.proofs.Common.{[], sym, subst}
 use Rattle.pcm_base.specs.declared.command.Call.{Call}
 use Rattle.editor_core.specs.Applied.{TookOver}
 use Rattle.editor_core.specs.Core.{core_of}
@@ -24,7 +24,7 @@ returns-in_default-clause-took g c = (
   c.other_reply.result,
   c.reply_of-in_default.ensures,
   over_silent g.S.Store (core_of c.args.self.now) (g.V.Vault.tells c.args.vault.now)
-      (g.V.Vault.holds c.args.vault.now) c.args.call.now c.other_reply.result 0
+      (g.V.Vault.holds c.args.vault.now) c.args.call.now c.other_reply.result []
       (core_of c.other_reply.new.self)
       (other_none c.args.call.now (other_of c.args.call.now c.in_default.not-Line)) c.other_reply.ensures.took,
 )

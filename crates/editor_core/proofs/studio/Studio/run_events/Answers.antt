@@ -3,6 +3,7 @@ use Rattle.std.proofs.Common.{◌∙◌, refl, sym, ap, subst, List, [], ◌∷�
 use Rattle.std.proofs.Common.{length-append, take, arith}
 use Rattle.std.proofs.lemmas.List.{append-nil}
 use Rattle.std.proofs.lemmas.Option.{slice_get_read}
+use Rattle.pcm_base.specs.declared.answer.Answer.{Answer}
 use Rattle.pcm_base.specs.declared.entry.Event.{Event}
 use Rattle.editor_core.specs.Applied.{reply_of}
 use Rattle.editor_core.specs.Core.{core_of}
@@ -15,10 +16,9 @@ pub events-init : goal.events-init
 events-init g c = record {
   ran = (
     [],
-    c.in_ok-reserve.ensures.items ∙ sym (append-nil c.args.replies.now.items),
-    ran_none g.S.Store (g.V.Vault.tells c.args.vault.now) (g.V.Vault.holds c.args.vault.now)
-        (core_of c.args.self.now) c.requires.studio
-        (g.met.S.Store.may_fewer c.args.self.now.store),
+    c.in_ok-reserve.ensures.items ∙ sym (append-nil c.args.answers.now.items),
+    ran_none g.S.Store g.met.S.Store.may_fewer (g.V.Vault.tells c.args.vault.now)
+        (g.V.Vault.holds c.args.vault.now) (core_of c.args.self.now) c.requires.studio,
   );
   tells = refl;
   room = omega (arith, c.in_ok-reserve.ensures.ok, ap length c.in_ok-reserve.ensures.items);
@@ -42,14 +42,17 @@ events-preserved g c =
     let all = take_item i events e get in
     let over = over_at g.S.Store tells (spanned (g.V.Vault.tells c.events.vault) mid new here after) e.call took.0
     c.events.invariant.tells took.2 in
-    let more = ran_more g.S.Store tells before here after s mid new (take i events) was.0 was.2 e took.0 over in
+    let answer : Answer = record { commit = new.commit_number; reply = reply_of took.0 } in
+    let more = ran_more g.S.Store g.met.S.Store.may_fewer tells before here after s mid new c.requires.studio
+    (take i events) was.0 was.2 e took.0 over in
     record {
       ran = (
-        was.0 ++ reply_of took.0 ∷ [],
-        c.in_ok-push.ensures.items ∙ (λ k. was.1 k ++ took.1 k ∷ [])
-            ∙ append_assoc c.args.replies.now.items was.0 (reply_of took.0 ∷ []),
+        was.0 ++ answer ∷ [],
+        c.in_ok-push.ensures.items
+            ∙ (λ k. was.1 k ++ record { commit = new.commit_number; reply = took.1 k } ∷ [])
+            ∙ append_assoc c.args.answers.now.items was.0 (answer ∷ []),
         subst (λ (es : List Event).
-            RanOver g.S.Store (spanned tells s new before after) es (was.0 ++ reply_of took.0 ∷ [])) (sym all) more,
+            RanOver g.S.Store (spanned tells s new before after) es (was.0 ++ answer ∷ [])) (sym all) more,
       );
       tells = c.reply_to_call-reply.ensures.tells ∙ c.events.invariant.tells;
       room = omega (
@@ -57,7 +60,7 @@ events-preserved g c =
         c.events.invariant.room,
         c.in_ok-push.ensures.capacity,
         ap length c.in_ok-push.ensures.items,
-        length-append c.events.replies.items (c.reply_to_call-reply.result ∷ []),
+        length-append c.events.answers.items (answer ∷ []),
         c.events-test.true,
       );
     }

@@ -1,13 +1,13 @@
 -- The events so far are a run.
 use Rattle.std.proofs.Common.{◌≡◌, ◌+◌, ◌-◌, ◌≤◌, ◌++◌, List, length, take, vec_capacity}
-use Rattle.pcm_base.specs.declared.answer.Reply.{Reply}
+use Rattle.pcm_base.specs.declared.answer.Answer.{Answer}
 use Rattle.editor_core.specs.Core.{core_of}
 use Rattle.editor_core.specs.Events.{RanOver}
 use Rattle.editor_core.proofs.studio.Studio.run_events.Given as goal
 
 abbrev pub invariant-events : goal.invariant-events
 invariant-events g l = record {
-  ran : (told : List Reply) × (l.replies.items ≡ l.fn.replies.items ++ told)
+  ran : (told : List Answer) × (l.answers.items ≡ l.fn.answers.items ++ told)
       × RanOver g.S.Store (record {
         old = core_of l.fn.self;
         new = core_of l.self;
@@ -16,5 +16,5 @@ invariant-events g l = record {
         new_sounds = g.V.Vault.holds l.vault;
       }) (take l.event-index l.events) told;
   tells : g.V.Vault.tells l.vault ≡ g.V.Vault.tells l.fn.vault;
-  room : length l.replies.items + (length l.events - l.event-index) ≤ vec_capacity l.replies;
+  room : length l.answers.items + (length l.events - l.event-index) ≤ vec_capacity l.answers;
 }

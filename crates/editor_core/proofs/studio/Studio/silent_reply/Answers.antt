@@ -1,5 +1,5 @@
 -- Each line is a step by the call that is its own.
-use Rattle.std.proofs.Common.{sym, subst, length, Result}
+use Rattle.std.proofs.Common.{sym, subst, [], Result}
 use Rattle.pcm_base.specs.declared.answer.Reply.{Reply}
 use Rattle.pcm_base.specs.declared.command.Command.{Command}
 use Rattle.pcm_base.specs.declared.command.Command.TheVariants as command
@@ -12,7 +12,7 @@ use Rattle.editor_core.proofs.studio.Studio.silent_reply.Goals as goal
 pub returns-in-Track : goal.returns-in-Track
 returns-in-Track g c =
     let s = core_of c.args.self.now in (
-      0,
+      [],
       subst (λ (k : Command). Took g.S.Store s (quietly (Line k) c.done.result) (core_of c.track.new.self))
           (sym c.in-Track.is)
           (subst (λ (r : Result Reply Refusal). Took g.S.Store s (quietly (Line (command.Track)) r)
@@ -22,7 +22,7 @@ returns-in-Track g c =
 pub returns-in-Drop : goal.returns-in-Drop
 returns-in-Drop g c =
     let s = core_of c.args.self.now in (
-      0,
+      [],
       subst (λ (k : Command). Took g.S.Store s (quietly (Line k) c.done-in-Drop.result) (core_of c.drop.new.self))
           (sym c.in-Drop.is)
           (subst (λ (r : Result Reply Refusal). Took g.S.Store s (quietly (Line (command.Drop c.in-Drop.track)) r)
@@ -32,7 +32,7 @@ returns-in-Drop g c =
 pub returns-in-Level : goal.returns-in-Level
 returns-in-Level g c =
     let s = core_of c.args.self.now in (
-      0,
+      [],
       subst (λ (k : Command). Took g.S.Store s (quietly (Line k) c.done-in-Level.result) (core_of c.level.new.self))
           (sym c.in-Level.is)
           (subst (λ (r : Result Reply Refusal). Took g.S.Store s
@@ -43,7 +43,7 @@ returns-in-Level g c =
 pub returns-in-Side : goal.returns-in-Side
 returns-in-Side g c =
     let s = core_of c.args.self.now in (
-      0,
+      [],
       subst (λ (k : Command). Took g.S.Store s (quietly (Line k) c.done-in-Side.result) (core_of c.side.new.self))
           (sym c.in-Side.is)
           (subst (λ (r : Result Reply Refusal). Took g.S.Store s
@@ -54,7 +54,7 @@ returns-in-Side g c =
 pub returns-in-Mute : goal.returns-in-Mute
 returns-in-Mute g c =
     let s = core_of c.args.self.now in (
-      0,
+      [],
       subst (λ (k : Command). Took g.S.Store s (quietly (Line k) c.done-in-Mute.result) (core_of c.mute.new.self))
           (sym c.in-Mute.is)
           (subst (λ (r : Result Reply Refusal). Took g.S.Store s
@@ -65,7 +65,7 @@ returns-in-Mute g c =
 pub returns-in-Undo : goal.returns-in-Undo
 returns-in-Undo g c =
     let s = core_of c.args.self.now in (
-      0,
+      [],
       subst (λ (k : Command). Took g.S.Store s (quietly (Line k) c.done-in-Undo.result) (core_of c.undo.new.self))
           (sym c.in-Undo.is)
           (subst (λ (r : Result Reply Refusal). Took g.S.Store s (quietly (Line (command.Undo)) r)
@@ -75,7 +75,7 @@ returns-in-Undo g c =
 pub returns-in-Redo : goal.returns-in-Redo
 returns-in-Redo g c =
     let s = core_of c.args.self.now in (
-      0,
+      [],
       subst (λ (k : Command). Took g.S.Store s (quietly (Line k) c.done-in-Redo.result) (core_of c.redo.new.self))
           (sym c.in-Redo.is)
           (subst (λ (r : Result Reply Refusal). Took g.S.Store s (quietly (Line (command.Redo)) r)
@@ -85,7 +85,7 @@ returns-in-Redo g c =
 pub returns-in-Purge : goal.returns-in-Purge
 returns-in-Purge g c =
     let s = core_of c.args.self.now in (
-      0,
+      [],
       subst (λ (k : Command). Took g.S.Store s (quietly (Line k) c.done-in-Purge.result) (core_of c.purge.new.self))
           (sym c.in-Purge.is)
           (subst (λ (r : Result Reply Refusal). Took g.S.Store s (quietly (Line (command.Purge c.in-Purge.count)) r)
@@ -95,7 +95,7 @@ returns-in-Purge g c =
 pub returns-in-Show : goal.returns-in-Show
 returns-in-Show g c =
     let s = core_of c.args.self.now in (
-      0,
+      [],
       subst (λ (k : Command). Took g.S.Store s (quietly (Line k) c.show_reply.result) (core_of c.show_reply.new.self))
           (sym c.in-Show.is)
           (c.show_reply.ensures),
@@ -104,7 +104,7 @@ returns-in-Show g c =
 pub returns-in-Mix : goal.returns-in-Mix
 returns-in-Mix g c =
     let s = core_of c.args.self.now in (
-      0,
+      [],
       subst (λ (k : Command). Took g.S.Store s (quietly (Line k) c.mix_reply.result) (core_of c.mix_reply.new.self))
           (sym c.in-Mix.is)
           (c.mix_reply.ensures),
@@ -113,7 +113,7 @@ returns-in-Mix g c =
 pub returns-in-Envelope : goal.returns-in-Envelope
 returns-in-Envelope g c =
     let s = core_of c.args.self.now in (
-      0,
+      [],
       subst (λ (k : Command). Took g.S.Store s (quietly (Line k) c.envelope_reply.result)
           (core_of c.envelope_reply.new.self)) (sym c.in-Envelope.is)
           (c.envelope_reply.ensures),
@@ -122,7 +122,7 @@ returns-in-Envelope g c =
 pub returns-in-Tracks : goal.returns-in-Tracks
 returns-in-Tracks g c =
     let s = core_of c.args.self.now in (
-      0,
+      [],
       subst (λ (k : Command). Took g.S.Store s (quietly (Line k) c.tracks_reply.result) s) (sym c.in-Tracks.is)
           (c.tracks_reply.ensures),
     )
@@ -130,11 +130,11 @@ returns-in-Tracks g c =
 pub returns-in-Reclaim : goal.returns-in-Reclaim
 returns-in-Reclaim g c =
     let s = core_of c.args.self.now in (
-      (length c.reclaim.ensures.ids),
-      subst (λ (k : Command). Took g.S.Store s (freeing (Line k) c.freed.result (length c.reclaim.ensures.ids))
+      c.reclaim.ensures.ids,
+      subst (λ (k : Command). Took g.S.Store s (freeing (Line k) c.freed.result c.reclaim.ensures.ids)
           (core_of c.reclaim.new.self)) (sym c.in-Reclaim.is)
           (subst (λ (r : Result Reply Refusal). Took g.S.Store s
-          (freeing (Line (command.Reclaim c.in-Reclaim.limit)) r (length c.reclaim.ensures.ids))
+          (freeing (Line (command.Reclaim c.in-Reclaim.limit)) r c.reclaim.ensures.ids)
           (core_of c.reclaim.new.self))
           (sym c.freed.ensures) c.reclaim.ensures.took),
     )

@@ -1,9 +1,8 @@
 -- At the start there is no deed.
-use Rattle.studio_seats.proofs.Grown.{begins}
+use Rattle.studio_seats.proofs.Chains.{begins}
 use Rattle.studio_seats.specs.Stands.{origin}
 use Rattle.editor_core.specs.Core.{core_of}
 use Rattle.studio_seats.proofs.desk.Desk.new.Goals as goal
 
 pub new-requires : goal.new-requires
 new-requires g c = begins (origin g.S.Store g.V.Vault (core_of c.args.studio)) c.requires
-    (g.met.S.Store.may_fewer c.args.studio.store)

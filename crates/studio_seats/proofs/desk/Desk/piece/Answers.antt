@@ -1,5 +1,5 @@
 -- The studio made the call, so the turn made the list longer by its deed.
-use Rattle.std.proofs.Common.{refl}
+use Rattle.std.proofs.Common.{[], refl}
 use Rattle.pcm_base.specs.declared.answer.Reply.TheVariants as reply
 use Rattle.pcm_base.specs.declared.command.Call.TheVariants as call
 use Rattle.pin_turn.specs.Calls.{start_of}
@@ -20,7 +20,7 @@ with-requires-clause-fits g c = fits g.S.Store g.V.Vault _ _ _ _ (call.Piece c.a
       ),
     ))
     (λ s f' x x' called.
-    does_silent g.S.Store _ _ (call.Piece c.args.track c.args.tag c.args.samples.now) _ 0 _ called.called.met.1.0)
+    does_silent g.S.Store _ _ (call.Piece c.args.track c.args.tag c.args.samples.now) _ [] _ called.called.met.1.0)
 
 pub returns-clause-says : goal.returns-clause-says
 returns-clause-says g c = says g.S.Store g.V.Vault _ _ _ _ (call.Piece c.args.track c.args.tag c.args.samples.now)
@@ -28,7 +28,7 @@ returns-clause-says g c = says g.S.Store g.V.Vault _ _ _ _ (call.Piece c.args.tr
     (λ s. told_by (λ _. reply.Done) s.what) silent _ _ _ c.with.ensures.turned c.said_by.ensures
     (λ s x x' called. record {
       does = does_silent g.S.Store _ _ (call.Piece c.args.track c.args.tag c.args.samples.now)
-          _ 0 _ called.called.met.1.0;
+          _ [] _ called.called.met.1.0;
       number = called.called.met.1.1.0;
       what_is = refl;
       sound_is = refl;

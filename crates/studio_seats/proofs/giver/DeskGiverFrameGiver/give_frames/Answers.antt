@@ -1,11 +1,12 @@
 -- A read is one turn of the seat.
-use Rattle.std.proofs.Common.{ℕ, length, ap}
+use Rattle.std.proofs.Common.{ℕ, length, take, ap}
+use Rattle.pcm_base.specs.declared.answer.Reply.TheVariants.{Frames}
 use Rattle.pcm_base.specs.declared.command.Call.TheVariants.{ReadPin}
 use Rattle.pin_turn.specs.Calls.{known}
 use Rattle.studio_seats.specs.Desks.{start_at}
-use Rattle.studio_seats.specs.Onward.{IsReadOf}
+use Rattle.studio_seats.specs.Onward.{IsReadOf, worker}
 use Rattle.studio_seats.proofs.FrameLemmas.{back_frames, gives, same_frames, still_made}
-use Rattle.studio_seats.proofs.OnwardLemmas.{onward_on, onward_turn}
+use Rattle.studio_seats.proofs.WorkLemmas.{works_turn}
 use Rattle.studio_seats.proofs.giver.DeskGiverFrameGiver.give_frames.Goals as goal
 
 pub invariant_of-self : goal.invariant_of-self
@@ -38,11 +39,13 @@ returns-clause-goes g c = λ first h.
     let s = c.args.self.now in (
       h.0,
       h.1,
-      onward_on (IsReadOf first.pin) (known first.seat) (known s.seat) (known c.read_pin-said.new.seat) h.2
-          (onward_turn (IsReadOf first.pin) g.S.Store g.V.Vault (start_at s.desk.now) (known s.seat)
-          (known c.read_pin-said.new.seat) _ _ _ c.read_pin-said.result (
+      works_turn (IsReadOf first.pin) g.S.Store g.V.Vault (start_at s.desk.now)
+          (worker (known first.seat) first.refused) (known s.seat) (known c.read_pin-said.new.seat) s.refused
+          c.first_of-self.result (ReadPin s.pin c.args.from (length c.args.out.now))
+          (λ (n : ℕ). Frames (take n c.read_pin-said.new.out)) (
             c.args.from,
             length c.args.out.now,
             ap (λ (n : ℕ). ReadPin n c.args.from (length c.args.out.now)) h.1,
-          ) c.read_pin-said.ensures.says),
+          ) h.2 c.read_pin-said.result c.read_pin-said.ensures.says c.first_of-self.ensures.unrefused
+          c.first_of-self.ensures.refusal,
     )

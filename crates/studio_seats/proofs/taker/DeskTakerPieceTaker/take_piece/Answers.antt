@@ -1,10 +1,12 @@
 -- A piece is one turn of the seat.
+use Rattle.std.proofs.Common.{ℕ}
+use Rattle.pcm_base.specs.declared.answer.Reply.TheVariants.{Done}
 use Rattle.pcm_base.specs.declared.command.Call.TheVariants.{Piece}
 use Rattle.pin_turn.specs.Calls.{known}
 use Rattle.studio_seats.specs.Desks.{start_at}
-use Rattle.studio_seats.specs.Onward.{IsPieceOf}
-use Rattle.studio_seats.proofs.OnwardLemmas.{onward_on, onward_turn}
+use Rattle.studio_seats.specs.Onward.{IsPieceOf, worker}
 use Rattle.studio_seats.proofs.PieceLemmas.{of_samples, tagged, takes_err, takes_ok}
+use Rattle.studio_seats.proofs.WorkLemmas.{works_turn}
 use Rattle.studio_seats.proofs.taker.DeskTakerPieceTaker.take_piece.Goals as goal
 
 pub invariant_of-self : goal.invariant_of-self
@@ -45,12 +47,13 @@ returns-clause-goes g c = λ first h.
       h.0,
       h.1,
       h.2,
-      onward_on (IsPieceOf first.track first.tag) (known first.seat) (known s.seat) (known c.piece-said.new.seat) h.3
-          (onward_turn (IsPieceOf first.track first.tag) g.S.Store g.V.Vault (start_at s.desk.now) (known s.seat)
-          (known c.piece-said.new.seat) _ _ _ c.piece-said.result (
+      works_turn (IsPieceOf first.track first.tag) g.S.Store g.V.Vault (start_at s.desk.now)
+          (worker (known first.seat) first.refused) (known s.seat) (known c.piece-said.new.seat) s.refused
+          c.first_of-self.result (Piece s.track s.tag c.args.chunk.now.samples) (λ (n : ℕ). Done) (
             c.args.chunk.now.samples,
             (λ i. Piece (h.1 i) (h.2 i) c.args.chunk.now.samples),
-          ) (of_samples g.S.Store g.V.Vault
+          ) h.3 c.piece-said.result (of_samples g.S.Store g.V.Vault
           (start_at s.desk.now) s.track s.tag c.args.chunk.now.samples c.as_slice.result.now (known s.seat)
-          (known c.piece-said.new.seat) c.piece-said.result c.as_slice.ensures.samples c.piece-said.ensures.says)),
+          (known c.piece-said.new.seat) c.piece-said.result c.as_slice.ensures.samples c.piece-said.ensures.says)
+          c.first_of-self.ensures.unrefused c.first_of-self.ensures.refusal,
     )

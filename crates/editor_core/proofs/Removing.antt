@@ -1,0 +1,112 @@
+-- Calls that remove no file, and the ids that are counted after them.
+use Rattle.std.proofs.Common.{◌≡◌, ◌↔◌, ◌⊎◌, ◌∙◌, inl, inr, ⊎_elim, refl, sym, subst, ℕ, ◌+◌, ◌≤◌, ◌<◌, IsSome, List, [], true}
+use Rattle.std.proofs.Common.{Option, Some, None, Result, Ok, Err, false, arith}
+use Rattle.std.specs.Prelude.{Contains}
+use Rattle.std.proofs.lemmas.Bool.{true≢false}
+use Rattle.pcm_base.specs.declared.answer.Reply.{Reply}
+use Rattle.pcm_base.specs.declared.command.Call.{Call}
+use Rattle.pcm_base.specs.declared.command.Call.TheVariants.{Line}
+use Rattle.pcm_base.specs.declared.command.Command.TheVariants.{Reclaim}
+use Rattle.pcm_base.specs.declared.refusal.Refusal.{Refusal}
+use Rattle.pcm_base.specs.Counters.{commits_of}
+use Rattle.disk_model.specs.Frames.{Kept}
+use Rattle.disk_model.specs.declared.store.Store.{Ghosts}
+use Rattle.block_ledger.specs.Counts.{Counts}
+use Rattle.editor_core.specs.Core.{Core}
+use Rattle.editor_core.specs.Exchanges.{is_broken_off}
+use Rattle.editor_core.specs.Left.{CountsIds}
+use Rattle.editor_core.specs.Makes.{AddsFree}
+use Rattle.editor_core.specs.Records.{Records}
+use Rattle.editor_core.specs.Removals.{Forgets, Frees}
+
+-- ---- the files
+
+-- a call that is no reclaim
+abbrev pub RemovesNone : Call → Type 0
+RemovesNone (Line (Reclaim limit)) = ⊥
+RemovesNone call = Unit {0}
+
+pub commit_removes_none : (c : Call) → commits_of c ≡ 1 → RemovesNone c
+commit_removes_none (Line (Reclaim limit)) one = absurd (omega (arith, one))
+commit_removes_none c one = tt
+
+pub frees_none : {D : Type 0} (disk : Ghosts D) (old : Core D) (c : Call) (told : Result Reply Refusal) (new : Core D)
+    → RemovesNone c → Frees disk old c told [] new
+frees_none disk old (Line (Reclaim limit)) told new none = absurd none
+frees_none disk old c told new none = refl
+
+pub commit_frees : {D : Type 0} (disk : Ghosts D) (old : Core D) (c : Call) (told : Result Reply Refusal) (new : Core D)
+    → commits_of c ≡ 1 → Frees disk old c told [] new
+commit_frees disk old c told new one = frees_none disk old c told new (commit_removes_none c one)
+
+-- ---- the disk, where it broke the call off
+
+pub off_untouched : {D : Type 0} (disk : Ghosts D) (old new : D) (why : Refusal) → is_broken_off why ≡ true
+    → is_broken_off why ≡ false → Kept disk old new
+off_untouched disk old new why off plain = absurd (true≢false (sym off ∙ plain))
+
+-- ---- the record
+
+-- none was added
+pub no_record : {D : Type 0} (told : Result Reply Refusal) (new : Core D) → Records told new 0
+no_record (Ok r) new = inl refl
+no_record (Err why) new = λ off. omega arith
+
+-- ---- the ids
+
+none_in : (id : ℕ) → Contains [] id → ⊥
+none_in id h = omega (arith, h.1)
+
+module _ {D : Type 0} (old new : Core D) where
+  -- no file was removed, and n blocks were made
+  pub ids_made : (counts : Counts) (n : ℕ) → AddsFree old.next_block n old.counts counts
+      → ((id : ℕ) → IsSome (new.counts id) ↔ IsSome (counts id)) → new.next_block ≡ old.next_block + n
+      → CountsIds old [] new
+  ids_made counts n adds same next id = (
+    λ some. (to ((adds.ids id).0 ((same id).0 some)), none_in id),
+    λ has. (same id).1 ((adds.ids id).1 (from has.0)),
+  )
+    where
+      to : IsSome (old.counts id) ⊎ ((old.next_block ≤ id) × (id < old.next_block + n))
+          → IsSome (old.counts id) ⊎ ((old.next_block ≤ id) × (id < new.next_block))
+      to (inl some) = inl some
+      to (inr at) = inr (at.0, omega (arith, at.1, next))
+
+      from : IsSome (old.counts id) ⊎ ((old.next_block ≤ id) × (id < new.next_block))
+          → IsSome (old.counts id) ⊎ ((old.next_block ≤ id) × (id < old.next_block + n))
+      from (inl some) = inl some
+      from (inr at) = inr (at.0, omega (arith, at.1, next))
+
+  -- no file was removed, and no block was made
+  pub ids_still : ((id : ℕ) → IsSome (new.counts id) ↔ IsSome (old.counts id)) → new.next_block ≡ old.next_block
+      → CountsIds old [] new
+  ids_still same next id = (
+    λ some. (inl ((same id).0 some), none_in id),
+    λ has. ⊎_elim (λ some. (same id).1 some) (λ at. absurd (omega (arith, at.0, at.1, next))) has.0,
+  )
+
+  -- these files were removed, and no block was made
+  pub ids_freed : (counts : Counts) (ids : List ℕ) → Forgets old.counts counts ids → new.counts ≡ counts
+      → new.next_block ≡ old.next_block → CountsIds old ids new
+  ids_freed counts ids was is next id = (
+    λ some. let here = subst (λ (k : Counts). IsSome (k id)) is some in
+        let spared = λ (one : Contains ids id). some_not (counts id) (was.gone id one) here in
+        (inl (subst IsSome (was.others id spared) here), spared),
+    λ has. subst (λ (k : Counts). IsSome (k id)) (sym is)
+        (subst IsSome (sym (was.others id has.1))
+        (⊎_elim (λ some. some) (λ at. absurd (omega (arith, at.0, at.1, next))) has.0)),
+  )
+    where
+      some_not : (o : Option ℕ) → o ≡ None → IsSome o → ⊥
+      some_not None none some = absurd (cc some)
+      some_not (Some n) none some = absurd (cc none)
+
+-- nothing of the counts and of the next block changed
+pub ids_same : {D : Type 0} (s new : Core D) → new.counts ≡ s.counts → new.next_block ≡ s.next_block
+    → CountsIds s [] new
+ids_same s new counts next = ids_still s new
+    (λ id. (
+      λ some. subst (λ (k : Counts). IsSome (k id)) counts some,
+      λ some. subst (λ (k : Counts). IsSome (k id)) (sym counts) some,
+    ))
+    next

@@ -1,0 +1,28 @@
+-- How long the record of a commit is: it says the studio that the commit leads to.
+use Rattle.std.specs.Prelude.{◌≡◌, ◌⊎◌, ℕ, ◌≤◌, List, length, Result, Ok, Err, true}
+use Rattle.pcm_base.specs.declared.answer.Reply.{Reply}
+use Rattle.pcm_base.specs.declared.refusal.Refusal.{Refusal}
+use Rattle.pcm_base.specs.History.{History}
+use Rattle.pcm_base.specs.Sizes.{LONGEST_BODY}
+use Rattle.project_state.specs.declared.body.Body.{Body}
+use Rattle.project_state.specs.declared.body.Body.TheVariants as body
+use Rattle.project_state.specs.declared.track.Track.{Track}
+use Rattle.project_state.specs.Spelling.{spelling}
+use Rattle.editor_core.specs.Core.{Core}
+use Rattle.editor_core.specs.Exchanges.{is_broken_off}
+use Rattle.editor_core.specs.Points.{current_tracks}
+
+-- a body says these next ids and this history: an edit its current point, and a move or a purge nothing more
+abbrev pub Says : (next_block next_track : ℕ) → History (List Track) → Body → Type 0
+Says next_block next_track h (body.Edit tag block track point) =
+    (block ≡ next_block) × (track ≡ next_track) × (point ≡ current_tracks h)
+Says next_block next_track h body.Undo = Unit {0}
+Says next_block next_track h body.Redo = Unit {0}
+Says next_block next_track h (body.Purge n) = Unit {0}
+
+-- The length of the body of the record that a call adds: none, or that of a body that says the studio after it. Where
+-- the disk broke the call off, it is that of a record that a commit may have.
+abbrev pub Records : {D : Type 0} → Result Reply Refusal → Core D → ℕ → Type 0
+Records (Ok r) new len = (len ≡ 0)
+    ⊎ ((b : Body) × (len ≡ length (spelling b)) × Says new.next_block new.next_track new.history b)
+Records (Err why) new len = is_broken_off why ≡ true → len ≤ LONGEST_BODY

@@ -1,0 +1,34 @@
+-- What may refuse an opening, by what its steps tell.
+use Rattle.std.proofs.Common.{◌≡◌, ◌∙◌, refl, sym, ap, subst, ℕ, Bool, true, false, cond, List, [], ◌∷◌, Option, Some, None, Result}
+use Rattle.std.proofs.Common.{Err, IfErr, Ok}
+use Rattle.std.specs.Prelude.{find}
+use Rattle.pcm_base.specs.declared.block.BlockRef.{BlockRef}
+use Rattle.editor_recovery.specs.declared.fault.OpenFault.{OpenFault}
+use Rattle.editor_recovery.specs.declared.fault.OpenFault.TheVariants as fault
+use Rattle.editor_recovery.specs.Finding.{TestsMeasured}
+use Rattle.editor_recovery.specs.Listing.{IsOpenRefusal, IsRefusal}
+
+pub refusal_opens : (e : OpenFault) → IsRefusal e → IsOpenRefusal e
+refusal_opens fault.DiskFault is = tt
+refusal_opens fault.NoMemory is = tt
+refusal_opens e is = absurd is
+
+step : (p : ℕ → Bool) (x n : ℕ) (rest : Option ℕ) → (rest ≡ Some n → p n ≡ true) → (b : Bool) → p x ≡ b
+    → cond b (Some x) rest ≡ Some n → p n ≡ true
+step p x n rest later true same e = ap p (sym cc) ∙ same
+step p x n rest later false same e = later e
+
+pub found_passes : (p : ℕ → Bool) (xs : List ℕ) (n : ℕ) → find p xs ≡ Some n → p n ≡ true
+found_passes p [] n e = absurd cc
+found_passes p (x ∷ xs) n e = step p x n (find p xs) (found_passes p xs n) (p x) refl e
+
+pub measured_opens : {T : Type 0} (sizes : ℕ → ℕ) (blocks : List BlockRef) (r : Result T OpenFault)
+    → TestsMeasured sizes blocks r → IfErr r IsOpenRefusal
+measured_opens sizes blocks (Ok x) is = tt
+measured_opens sizes blocks (Err (fault.Damaged file at want have)) is = tt
+measured_opens sizes blocks (Err fault.NoMemory) is = tt
+measured_opens sizes blocks (Err e) is = absurd is
+
+pub memory_opens : {T : Type 0} (r : Result T OpenFault) → IfErr r (λ e. e ≡ fault.NoMemory) → IfErr r IsOpenRefusal
+memory_opens (Ok x) is = tt
+memory_opens (Err e) is = subst IsOpenRefusal (sym is) tt

@@ -1,0 +1,24 @@
+-- What a session says where no turn is left.
+use Rattle.std.specs.Prelude.{◌≡◌, ◌⊎◌, ℕ, true, List, [], ◌∷◌}
+use Rattle.pcm_base.specs.declared.answer.Answer.{Answer}
+use Rattle.pcm_base.specs.declared.answer.Reply.TheVariants.{Refused}
+use Rattle.pin_turn.specs.Counts.{Each}
+use Rattle.studio_seats.specs.Desks.{spent}
+use Rattle.studio_seats.specs.Leads.{HadTurn}
+use Rattle.script_session.specs.Place.{Place}
+use Rattle.script_session.specs.Session.{Session}
+
+-- one of the answers is Spent
+abbrev pub TellSpent : List Answer → Type 0
+TellSpent [] = ⊥
+TellSpent (a ∷ answers) = (a.reply ≡ Refused spent) ⊎ TellSpent answers
+
+-- A seat that found that no turn is left knows it to the end. If no deed is refused so, as none of a run is, an answer is
+-- Spent only if the seat found it.
+pub record Finds (p q : Place) (answers : List Answer) : Type 0 where
+  pub stays : p.used_up ≡ true → q.used_up ≡ true
+  pub found : Each HadTurn q.seen → TellSpent answers → q.used_up ≡ true
+
+abbrev pub SessionsSpend : Type 0
+SessionsSpend = (lines : List (List ℕ)) (answers : List Answer) (p q : Place) → Session p lines answers q
+    → Finds p q answers

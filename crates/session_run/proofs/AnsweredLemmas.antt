@@ -1,0 +1,156 @@
+-- The lines of a script and their answers, by the entries of a run.
+use Rattle.std.proofs.Common.{◌≡◌, inl, inr, ◌∙◌, refl, sym, ap, subst, ℕ, Bool, true, false, List, [], ◌∷◌, ◌++◌}
+use Rattle.std.proofs.Common.{append_assoc, Result, Ok, Err}
+use Rattle.std.specs.Prelude.{MatchBool}
+use Rattle.pcm_base.specs.declared.answer.Answer.{Answer}
+use Rattle.pcm_base.specs.declared.command.Command.{Command}
+use Rattle.pcm_base.specs.declared.entry.Entry.{Entry}
+use Rattle.pin_turn.specs.Counts.{Each}
+use Rattle.pin_turn.specs.Rule.{ByOthers}
+use Rattle.pin_turn.proofs.Sums.{Each-left, Each-right}
+use Rattle.script_text.specs.Grammar.{is_silent, line_of}
+use Rattle.studio_seats.specs.declared.deed.Deed.{Deed}
+use Rattle.studio_seats.specs.Deeds.{actor_of, entries_of, entry_of, number_after}
+use Rattle.studio_seats.proofs.Grown.{entries_append, number_append}
+use Rattle.script_session.specs.Place.{Enters, Place, line_deed}
+use Rattle.script_session.specs.Session.{Next, Session, Turn}
+use Rattle.script_session.proofs.AddedLemmas.{sessions_add}
+use Rattle.desk_session.proofs.ListLemmas.{same_rest}
+use Rattle.session_run.specs.Answered.{Answered, IsNext, IsUnasked}
+use Rattle.session_run.specs.Entries.{entries_by, last_number}
+use Rattle.session_run.proofs.EntryLemmas.{IsPlain, last_as, none_by}
+
+-- the commit number to which what a place has seen leads
+abbrev number_at : Place → ℕ
+number_at p = number_after p.first p.seen
+
+-- Of the lines from one place to another: the deeds after the first lead to the last and then to those of others.
+pub record Led (p q : Place) (later added : List Deed) : Type 0 where
+  pub script : p.seat ≡ 0
+  pub seen : q.seen ++ later ≡ p.seen ++ added
+  pub by_others : ByOthers actor_of (0 ∷ []) later
+  pub plain : Each IsPlain added
+
+-- from a place that is another one in all that the answers tell
+same_place : (p t : Place) (lines : List (List ℕ)) (answers : List Answer) (added : List Deed)
+    → t.first ≡ p.first → t.seen ≡ p.seen → t.last ≡ p.last
+    → Answered (number_at t) t.last lines answers (entries_of added)
+    → Answered (number_at p) p.last lines answers (entries_of added)
+same_place p t lines answers added first seen last h =
+    subst (λ (z : ℕ × ℕ). Answered z.0 z.1 lines answers (entries_of added))
+    (λ i. (number_after (first i) (seen i), last i)) h
+
+module _ (lines : List (List ℕ)) (q : Place) (later : List Deed)
+    (go : (answers : List Answer) (p : Place) (added : List Deed) → Session p lines answers q → Led p q later added
+    → Answered (number_at p) p.last lines answers (entries_of added)) where
+  abbrev Later : ℕ → ℕ → List Answer → List Entry → Type 0
+  Later m shown more rest = Answered m shown lines more rest
+
+  -- a line that made no entry
+  unasked : (p t : Place) (line : Result Command ℕ) (a : Answer) (answers : List Answer) (added : List Deed)
+      → t.seat ≡ p.seat → t.first ≡ p.first → t.seen ≡ p.seen → t.last ≡ p.last → IsUnasked line a.reply
+      → a.commit ≡ t.last → Session t lines answers q → Led p q later added
+      → IsNext (number_at p) p.last line (a ∷ answers) (entries_of added) Later
+  unasked p t line a answers added seat first seen last reply commit session led = inl (
+    reply,
+    commit ∙ last,
+    same_place p t lines answers added first seen last (go answers t added session (record {
+      script = seat ∙ led.script;
+      seen = led.seen ∙ ap (λ (l : List Deed). l ++ added) (sym seen);
+      by_others = led.by_others;
+      plain = led.plain;
+    })),
+  )
+
+  -- a line that took a turn
+  entered : (p t : Place) (command : Command) (a : Answer) (answers : List Answer) (added : List Deed)
+      → Enters p command a.reply t → a.commit ≡ t.last → Session t lines answers q → Led p q later added
+      → IsNext (number_at p) p.last (Ok command) (a ∷ answers) (entries_of added) Later
+  entered p t command a answers added x commit session led =
+      let d = line_deed p command x.what t.sounds in
+      let more = sessions_add lines answers t q session in
+      let rest = more.added ++ later in
+      let seen_t : t.seen ≡ (p.seen ++ x.between) ++ d ∷ [] = ap (λ (z : Place). z.seen) x.after in
+      let first_t : t.first ≡ p.first = ap (λ (z : Place). z.first) x.after in
+      let last_t : t.last ≡ number_after p.first ((p.seen ++ x.between) ++ d ∷ []) =
+      ap (λ (z : Place). z.last) x.after in
+      let on : q.seen ++ later ≡ t.seen ++ rest =
+      ap (λ (l : List Deed). l ++ later) more.seen ∙ append_assoc t.seen more.added later in
+      let is : added ≡ x.between ++ d ∷ rest = same_rest p.seen added (x.between ++ d ∷ rest) (sym led.seen
+      ∙ (on ∙ (ap (λ (l : List Deed). l ++ rest) seen_t
+      ∙ (append_assoc (p.seen ++ x.between) (d ∷ []) rest ∙ append_assoc p.seen x.between (d ∷ rest))))) in
+      let plain : Each IsPlain (x.between ++ d ∷ rest) = subst (λ (l : List Deed). Each IsPlain l) is led.plain in
+      let front : Each IsPlain (x.between ++ d ∷ []) =
+      Each-left IsPlain (x.between ++ d ∷ []) rest
+      (subst (λ (l : List Deed). Each IsPlain l) (sym (append_assoc x.between (d ∷ []) rest)) plain) in
+      let back : Each IsPlain rest =
+      Each-right IsPlain (x.between ++ d ∷ []) rest
+      (subst (λ (l : List Deed). Each IsPlain l) (sym (append_assoc x.between (d ∷ []) rest)) plain) in
+      let at : a.commit ≡ number_after (number_at p) (x.between ++ d ∷ []) =
+      commit ∙ (last_t ∙ (ap (number_after p.first) (append_assoc p.seen x.between (d ∷ []))
+      ∙ number_append p.first p.seen (x.between ++ d ∷ []))) in
+      let number_t : number_at t ≡ a.commit =
+      (λ i. number_after (first_t i) (seen_t i)) ∙ sym (commit ∙ last_t) in
+      inr (
+        entries_of rest,
+        record {
+          command = command;
+          read = refl;
+          others = entries_of x.between;
+          by_others = none_by 0 x.between (subst (λ (n : ℕ). ByOthers actor_of (n ∷ []) x.between) led.script x.by_others);
+          entry = entry_of d;
+          cut = ap entries_of is ∙ entries_append x.between (d ∷ rest);
+          actor = led.script;
+          call = refl;
+          reply = x.reply;
+          commit = at ∙ (sym (last_as (number_at p) (x.between ++ d ∷ []) front)
+              ∙ ap (last_number (number_at p)) (entries_append x.between (d ∷ [])));
+        },
+        subst (λ (z : ℕ × ℕ). Answered z.0 z.1 lines answers (entries_of rest)) (λ i. (number_t i, sym commit i))
+            (go answers t rest session (record {
+              script = ap (λ (z : Place). z.seat) x.after ∙ led.script;
+              seen = on;
+              by_others = led.by_others;
+              plain = back;
+            })),
+      )
+
+  next : (p : Place) (line : List ℕ) (answers : List Answer) (added : List Deed)
+      → Next p line answers (λ mid more. Session mid lines more q) → Led p q later added
+      → IsNext (number_at p) p.last (line_of line) answers (entries_of added) Later
+  next p line [] added h led = absurd h
+  next p line (a ∷ answers) added (t, (turn, commit), session) led = by (line_of line) turn
+    where
+      by : (r : Result Command ℕ) → Turn p r a.reply t
+          → IsNext (number_at p) p.last r (a ∷ answers) (entries_of added) Later
+      by (Err column) (reply, same) =
+          unasked p t (Err column) a answers added (ap (λ (z : Place). z.seat) same) (ap (λ (z : Place). z.first) same)
+          (ap (λ (z : Place). z.seen) same) (ap (λ (z : Place). z.last) same) reply commit session led
+      by (Ok command) (inl x) = entered p t command a answers added x commit session led
+      by (Ok command) (inr (inl (reply, same))) =
+          unasked p t (Ok command) a answers added (ap (λ (z : Place). z.seat) same) (ap (λ (z : Place). z.first) same)
+          (ap (λ (z : Place). z.seen) same) (ap (λ (z : Place). z.last) same) (inl reply) commit session led
+      by (Ok command) (inr (inr (reply, same))) =
+          unasked p t (Ok command) a answers added (ap (λ (z : Place). z.seat) same) (ap (λ (z : Place). z.first) same)
+          (ap (λ (z : Place). z.seen) same) (ap (λ (z : Place). z.last) same) (inr reply) commit session led
+
+-- the lines have their answers by the entries of the deeds that were added
+pub answered : (lines : List (List ℕ)) (answers : List Answer) (p q : Place) (later added : List Deed)
+    → Session p lines answers q → Led p q later added
+    → Answered (number_at p) p.last lines answers (entries_of added)
+answered [] answers p q later added h led = (
+  h.0,
+  ap (λ (l : List Deed). entries_by 0 (entries_of l)) (sym (same_rest p.seen later added
+      (ap (λ (z : Place). z.seen ++ later) (sym h.1) ∙ led.seen))) ∙ none_by 0 later led.by_others,
+)
+answered (line ∷ lines) answers p q later added h led =
+    by (λ more t rest. answered lines more t q later rest) (is_silent line) h
+  where
+    by : ((more : List Answer) (t : Place) (rest : List Deed) → Session t lines more q → Led t q later rest
+        → Answered (number_at t) t.last lines more (entries_of rest))
+        → (b : Bool) → MatchBool b (Session p lines answers q) (Next p line answers (λ mid more. Session mid lines more q))
+        → MatchBool b (Answered (number_at p) p.last lines answers (entries_of added))
+        (IsNext (number_at p) p.last (line_of line) answers (entries_of added)
+        (λ m shown more rest. Answered m shown lines more rest))
+    by go true session = go answers p added session led
+    by go false turn = next lines q later go p line answers added turn led

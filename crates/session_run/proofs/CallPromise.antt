@@ -1,0 +1,81 @@
+-- The call keeps the promise.
+use Rattle.std.proofs.Common.{◌≡◌, inl, inr, ◌∙◌, refl, sym, subst, ℕ, if◌then◌else◌, Bool, true, false, List, Option}
+use Rattle.editor_recovery.specs.Honest.{IsHonest}
+use Rattle.call_words.specs.declared.asked.Words.{Words}
+use Rattle.call_words.specs.Texts.{Text}
+use Rattle.script_session.specs.Change.{change}
+use Rattle.studio_seats.specs.Leads.{DeedsAsk}
+use Rattle.studio_seats.specs.Stands.{AllTell}
+use Rattle.desk_session.specs.declared.opening.Beside.{Beside}
+use Rattle.desk_session.specs.Lent.{Kinds}
+use Rattle.session_run.specs.declared.ending.Done.{Done}
+use Rattle.session_run.specs.declared.ending.Ending.{Ending}
+use Rattle.session_run.specs.Call.{Does, DoesWords, EndsAs, Promises, World, met_of}
+use Rattle.session_run.specs.Ports.{Handed, job}
+use Rattle.session_run.specs.Promise.{Met, Promise}
+use Rattle.session_run.specs.Runs.{Runs}
+use Rattle.session_run.specs.Streams.{input, output}
+use Rattle.session_run.proofs.Promised.{promised}
+
+-- what the call leaves of what a word left
+pub ended_as : {D M P : Type 0} (rose : Bool) (done : Done D) (status : ℕ) (mic : M) (speaker : P)
+    → status ≡ (if rose then 4 else done.status) → EndsAs rose done (record {
+      status = status;
+      opened = done.opened;
+      store = done.store;
+      mic = mic;
+      speaker = speaker;
+      first_commit = done.first_commit;
+      last_commit = done.last_commit;
+      record_commit = done.record_commit;
+      script_commits = done.commits;
+      piece_commits = done.pieces;
+    })
+ended_as rose done status mic speaker is = record {
+  status = is;
+  opened = refl;
+  store = refl;
+  first = refl;
+  last = refl;
+  record_is = refl;
+  script = refl;
+  pieces = refl;
+}
+
+-- a call that opened nothing
+not_opened : (a b : Bool) → a ≡ b → b ≡ false → a ≡ true → ⊥
+not_opened a b same none is = cc
+
+module _ {D V M P : Type 0} (k : Kinds D V M P) (ask : DeedsAsk k.disk k.vaults) (h : Handed D V M P) (rose : Bool)
+    (done : Done D) (e : Ending D M P) (ends : EndsAs rose done e) (opened : e.opened ≡ true) (honest : IsHonest k.disk h.store)
+    (told : AllTell k.vaults) where
+  pub run_promised : (beside : Beside) → Runs k h.store (job h.ports beside) done
+      → Promise k.disk (met_of k h beside.records beside.plays e)
+  run_promised beside (inl (start, opens, (final, at, inl r))) = subst (λ (m : Met D). Promise k.disk m) (λ i. record {
+    records = beside.records;
+    plays = beside.plays;
+    store = change h.store (sym (ends.store ∙ at) i);
+    script = h.ports.streams.source;
+    out = h.ports.streams.sink;
+    mic = input k.mics h.ports.mic;
+    speaker = output k.speakers h.ports.speaker;
+    sounds = change (k.vaults.holds h.ports.vault.before) (k.vaults.holds h.ports.vault.now);
+    vault_faults = change (k.vaults.fault_count h.ports.vault.before) (k.vaults.fault_count h.ports.vault.now);
+    first_commit = sym (ends.first ∙ r.first) i;
+    last_commit = sym (ends.last ∙ r.last) i;
+    record_commit = sym (ends.record_is ∙ r.record_is) i;
+    script_commits = sym (ends.script ∙ r.commits) i;
+    piece_commits = sym (ends.pieces ∙ r.pieces) i;
+  }) (promised k ask h.store start final (job h.ports beside) opens r.ran honest told)
+  run_promised beside (inl (start, opens, (final, at, inr w))) =
+      absurd (not_opened e.opened done.opened ends.opened w.refused.done_is.opened opened)
+  run_promised beside (inr (f, looks, refusal, unread, idle, vault_)) =
+      absurd (not_opened e.opened done.opened ends.opened refusal.done_is.opened opened)
+
+pub promises : {R D V M P : Type 0} (w : World R D V M P) (ask : DeedsAsk w.kinds.disk w.kinds.vaults)
+    (texts : List Text) (h : Handed D V M P) (rose : Bool) (done : Done D) (e : Ending D M P) → Does w texts h done → EndsAs rose done e → Promises w.kinds texts h e
+promises w ask texts h rose done e (inl does) ends records plays is opened honest told =
+    run_promised w.kinds ask h rose done e ends opened honest told (record { records = records; plays = plays })
+    (subst (λ (said : Option Words). DoesWords w said h done) is does)
+promises w ask texts h rose done e (inr (new, turned, rest)) ends records plays is opened honest told =
+    absurd (not_opened e.opened done.opened ends.opened turned.0.done_is.opened opened)

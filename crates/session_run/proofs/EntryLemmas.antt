@@ -1,0 +1,102 @@
+-- The deeds of a desk as entries of a run.
+use Rattle.std.proofs.Common.{◌≡◌, ◌∙◌, refl, ap, ℕ, ◌+◌, ◌==◌, if◌then◌else◌, Bool, true, false, List, [], ◌∷◌, ◌++◌, length, suc}
+use Rattle.std.proofs.Common.{Result, Ok, Err}
+use Rattle.std.specs.Prelude.{IsOk}
+use Rattle.pcm_base.specs.declared.answer.Reply.{Reply}
+use Rattle.pcm_base.specs.declared.answer.Reply.TheVariants as reply
+use Rattle.pcm_base.specs.declared.entry.Entry.{Entry}
+use Rattle.pcm_base.specs.declared.refusal.Refusal.{Refusal}
+use Rattle.pcm_base.specs.Counters.{commits_of}
+use Rattle.pcm_base.specs.Run.{result_of}
+use Rattle.pin_turn.specs.Counts.{Each}
+use Rattle.pin_turn.specs.Rule.{ByOthers}
+use Rattle.editor_core.specs.Applied.{reply_of}
+use Rattle.script_session.specs.Session.{is_refusal}
+use Rattle.studio_seats.specs.declared.deed.Deed.{Deed}
+use Rattle.studio_seats.specs.Deeds.{actor_of, commits, entries_of, entry_of, is_commit, number_after, raised}
+use Rattle.studio_seats.specs.Merge.{by_seat, deeds_of, number_if, numbers_of}
+use Rattle.studio_seats.proofs.MergeLemmas.{deeds_others}
+use Rattle.session_run.specs.Entries.{entries_by, has_number, last_number, number_of, numbers_by}
+
+-- what a deed was answered is its entry's reply: no reply stands for a refusal
+abbrev pub IsPlain : Deed → Type 0
+IsPlain d = result_of (reply_of d.what) ≡ d.what
+
+pub plain_reply : (r : Reply) → result_of r ≡ Ok r → is_refusal r ≡ false
+plain_reply reply.Done is = refl
+plain_reply reply.Copied is = refl
+plain_reply (reply.Cells cells) is = refl
+plain_reply (reply.Frames frames) is = refl
+plain_reply (reply.Columns columns) is = refl
+plain_reply (reply.Tracks tracks) is = refl
+plain_reply (reply.Freed count) is = refl
+plain_reply (reply.Wrote bytes) is = refl
+plain_reply (reply.Pinned pin) is = refl
+plain_reply (reply.Length frames) is = refl
+plain_reply (reply.Refused why) is = cc
+
+-- what was carried out is no refusal
+pub not_refused : (what : Result Reply Refusal) → IsOk what → result_of (reply_of what) ≡ what
+    → is_refusal (reply_of what) ≡ false
+not_refused (Ok r) ok is = plain_reply r is
+not_refused (Err why) ok is = cc
+
+numbered : (d : Deed) → IsPlain d → has_number (entry_of d) ≡ is_commit d
+numbered d is = by d.what is
+  where
+    by : (what : Result Reply Refusal) → result_of (reply_of what) ≡ what
+        → (if is_refusal (reply_of what) then false else commits_of d.call == 1) ≡ commits what d.call
+    by (Ok r) is = ap (λ (b : Bool). if b then false else commits_of d.call == 1) (plain_reply r is)
+    by (Err why) is = refl
+
+raised_if : (b : Bool) (n : ℕ) → (if b then n + 1 else n) ≡ raised b n
+raised_if true n = refl
+raised_if false n = refl
+
+number_as : (n : ℕ) (d : Deed) → IsPlain d → number_of n (entry_of d) ≡ raised (is_commit d) n
+number_as n d is = ap (λ (b : Bool). if b then n + 1 else n) (numbered d is) ∙ raised_if (is_commit d) n
+
+-- the number to which entries lead is that to which the deeds lead
+pub last_as : (n : ℕ) (ds : List Deed) → Each IsPlain ds → last_number n (entries_of ds) ≡ number_after n ds
+last_as n [] h = refl
+last_as n (d ∷ ds) h =
+    ap (λ (m : ℕ). last_number m (entries_of ds)) (number_as n d h.0) ∙ last_as (raised (is_commit d) n) ds h.1
+
+pub entries_length : (ds : List Deed) → length (entries_of ds) ≡ length ds
+entries_length [] = refl
+entries_length (d ∷ ds) = ap (λ (n : ℕ). suc n) (entries_length ds)
+
+-- the entries of an actor are the deeds of its seat
+pub entries_as : (a : ℕ) (ds : List Deed) → entries_by a (entries_of ds) ≡ entries_of (deeds_of (by_seat a) ds)
+entries_as a [] = refl
+entries_as a (d ∷ ds) = by (entries_as a ds) (a == d.actor)
+  where
+    by : entries_by a (entries_of ds) ≡ entries_of (deeds_of (by_seat a) ds) → (b : Bool)
+        → (if b then entry_of d ∷ [] else []) ++ entries_by a (entries_of ds)
+        ≡ entries_of ((if b then d ∷ [] else []) ++ deeds_of (by_seat a) ds)
+    by later true = ap (λ (l : List Entry). entry_of d ∷ l) later
+    by later false = later
+
+-- and so are the numbers of its commits
+pub numbers_as : (a n : ℕ) (ds : List Deed) → Each IsPlain ds
+    → numbers_by a n (entries_of ds) ≡ numbers_of (by_seat a) n ds
+numbers_as a n [] h = refl
+numbers_as a n (d ∷ ds) h =
+    let m = raised (is_commit d) n in
+    (λ i. one (a == d.actor) i ++ (ap (λ (k : ℕ). numbers_by a k (entries_of ds)) (number_as n d h.0)
+    ∙ numbers_as a m ds h.1) i)
+  where
+    inner : (b : Bool) (x : ℕ) → (if b then x ∷ [] else []) ≡ number_if true b x
+    inner true x = refl
+    inner false x = refl
+
+    one : (b : Bool)
+        → (if b then (if has_number (entry_of d) then number_of n (entry_of d) ∷ [] else []) else [])
+        ≡ number_if b (is_commit d) (raised (is_commit d) n)
+    one true = (λ i. if numbered d h.0 i then number_as n d h.0 i ∷ [] else [])
+        ∙ inner (is_commit d) (raised (is_commit d) n)
+    one false = refl
+
+-- deeds by others are none of its entries
+pub none_by : (a : ℕ) (ds : List Deed) → ByOthers actor_of (a ∷ []) ds → entries_by a (entries_of ds) ≡ []
+none_by a ds h = entries_as a ds ∙ ap entries_of (deeds_others a ds h)

@@ -1,0 +1,111 @@
+-- The entries of a recorder: pieces of one recording, in order.
+use Rattle.std.proofs.Common.{◌≡◌, ◌∙◌, refl, sym, ap, subst, ℕ, ◌==◌, ◌&&◌, ◌≤◌, ℤ, if◌then◌else◌, Bool, true, false}
+use Rattle.std.proofs.Common.{List, [], ◌∷◌, ◌++◌, length, take, Result, Ok, Err, append_assoc, arith}
+use Rattle.std.proofs.Common.{eq-eqb}
+use Rattle.std.specs.Prelude.{IsOk}
+use Rattle.std.proofs.lemmas.List.{append-nil}
+use Rattle.std.specs.List.{zip}
+use Rattle.pcm_base.specs.declared.answer.Reply.{Reply}
+use Rattle.pcm_base.specs.declared.command.Call.{Call}
+use Rattle.pcm_base.specs.declared.command.Call.TheVariants as call
+use Rattle.pcm_base.specs.declared.refusal.Refusal.{Refusal}
+use Rattle.pin_turn.specs.Counts.{Each}
+use Rattle.studio_seats.specs.declared.deed.Deed.{Deed}
+use Rattle.studio_seats.specs.Deeds.{commits, entries_of, entry_of, is_commit, raised}
+use Rattle.studio_seats.specs.Merge.{by_seat, deeds_of}
+use Rattle.studio_seats.specs.Onward.{AreDone, Asks, IsPieceOf}
+use Rattle.studio_seats.specs.Pieces.{piece_by, piece_in, pieces_by}
+use Rattle.desk_session.proofs.PartLemmas.{same_seat}
+use Rattle.session_run.specs.Sides.{ArePieces}
+use Rattle.session_run.proofs.EntryLemmas.{IsPlain, not_refused}
+
+-- the samples of pieces, without their numbers
+abbrev pub samples_in : List (List ℤ × ℕ) → List (List ℤ)
+samples_in [] = []
+samples_in (x ∷ xs) = x.0 ∷ samples_in xs
+
+pub zipped : (chunks : List (List ℤ)) (numbers : List ℕ) → length numbers ≤ length chunks
+    → samples_in (zip (take (length numbers) chunks) numbers) ≡ take (length numbers) chunks
+zipped chunks [] h = refl
+zipped [] (n ∷ ns) h = absurd (omega (arith, h))
+zipped (c ∷ cs) (n ∷ ns) h = ap (λ (l : List (List ℤ)). c ∷ l) (zipped cs ns (omega (arith, h)))
+
+samples_append : (xs ys : List (List ℤ × ℕ)) → samples_in (xs ++ ys) ≡ samples_in xs ++ samples_in ys
+samples_append [] ys = refl
+samples_append (x ∷ xs) ys = ap (λ (l : List (List ℤ)). x.0 ∷ l) (samples_append xs ys)
+
+-- the samples of a piece
+abbrev pub call_samples : Call → List (List ℤ)
+call_samples (call.Line c) = []
+call_samples (call.Piece track tag samples) = samples ∷ []
+call_samples call.Pin = []
+call_samples (call.PinLen pin) = []
+call_samples (call.ReadPin pin from count) = []
+call_samples (call.Unpin pin) = []
+
+-- those of the deeds that were carried out
+abbrev pub done_samples : List Deed → List (List ℤ)
+done_samples [] = []
+done_samples (d ∷ ds) = (if is_commit d then call_samples d.call else []) ++ done_samples ds
+
+module _ (track tag : ℕ) where
+  piece_samples : (c : Call) (n : ℕ) → IsPieceOf track tag c → samples_in (piece_in track tag c n) ≡ call_samples c
+  piece_samples c n (samples, is) =
+      subst (λ (x : Call). samples_in (piece_in track tag x n) ≡ call_samples x) (sym is)
+      (ap (λ (b : Bool). samples_in (if b then (samples, n) ∷ [] else []))
+      (λ i. eq-eqb track track refl i && eq-eqb tag tag refl i))
+
+  one : (d : Deed) (n : ℕ) (b : Bool) → IsPieceOf track tag d.call
+      → samples_in (if b then piece_in track tag d.call n else []) ≡ (if b then call_samples d.call else [])
+  one d n true fit = piece_samples d.call n fit
+  one d n false fit = refl
+
+  -- the pieces of a seat that asks nothing else are those that were carried out, of its own deeds
+  pub own_samples : (seat n : ℕ) (ds : List Deed) → Asks (IsPieceOf track tag) seat ds
+      → samples_in (pieces_by track tag seat n ds) ≡ done_samples (deeds_of (by_seat seat) ds)
+  own_samples seat n [] h = refl
+  own_samples seat n (d ∷ ds) h =
+      samples_append (piece_by track tag seat d m) (pieces_by track tag seat m ds)
+      ∙ (ap (λ (l : List (List ℤ)). samples_in (piece_by track tag seat d m) ++ l) (own_samples seat m ds h.1)
+      ∙ by (seat == d.actor) refl)
+    where
+      m : ℕ
+      m = raised (is_commit d) n
+
+      by : (b : Bool) → (seat == d.actor) ≡ b
+          → samples_in (if b && is_commit d then piece_in track tag d.call (raised (is_commit d) n) else [])
+          ++ done_samples (deeds_of (by_seat seat) ds)
+          ≡ done_samples ((if b then d ∷ [] else []) ++ deeds_of (by_seat seat) ds)
+      by true is = ap (λ (l : List (List ℤ)). l ++ done_samples (deeds_of (by_seat seat) ds))
+          (one d (raised (is_commit d) n) (is_commit d) (h.0 (sym (same_seat seat d.actor is))))
+      by false is = refl
+
+  piece_commits : (d : Deed) → IsPieceOf track tag d.call → IsOk d.what → is_commit d ≡ true
+  piece_commits d (samples, is) ok = by d.what ok
+    where
+      by : (what : Result Reply Refusal) → IsOk what → commits what d.call ≡ true
+      by (Ok r) ok = subst (λ (c : Call). commits (Ok r) c ≡ true) (sym is) refl
+      by (Err why) ok = cc
+
+  -- deeds that were carried out are pieces with their samples
+  pub are_pieces : (ds : List Deed) → Each (λ d. IsPieceOf track tag d.call) ds → AreDone ds → Each IsPlain ds
+      → ArePieces track tag (done_samples ds) (entries_of ds)
+  are_pieces [] fit done plain = refl
+  are_pieces (d ∷ ds) fit done plain =
+      subst (λ (l : List (List ℤ)). ArePieces track tag (l ++ done_samples ds) (entry_of d ∷ entries_of ds))
+      (sym (ap (λ (b : Bool). if b then call_samples d.call else []) (piece_commits d fit.0 done.0)
+      ∙ ap call_samples fit.0.1))
+      (fit.0.1, not_refused d.what done.0 plain.0, are_pieces ds fit.1 done.1 plain.1)
+
+done_append : (xs ys : List Deed) → done_samples (xs ++ ys) ≡ done_samples xs ++ done_samples ys
+done_append [] ys = refl
+done_append (d ∷ ds) ys =
+    ap (λ (l : List (List ℤ)). (if is_commit d then call_samples d.call else []) ++ l) (done_append ds ys)
+    ∙ sym (append_assoc (if is_commit d then call_samples d.call else []) (done_samples ds) (done_samples ys))
+
+-- one that was refused has none
+pub refused_samples : (ds : List Deed) (d : Deed) (why : Refusal) → d.what ≡ Err why
+    → done_samples (ds ++ d ∷ []) ≡ done_samples ds
+refused_samples ds d why is = done_append ds (d ∷ [])
+    ∙ (ap (λ (what : Result Reply Refusal). done_samples ds ++ ((if commits what d.call then call_samples d.call else [])
+    ++ [])) is ∙ append-nil (done_samples ds))

@@ -1,0 +1,91 @@
+-- What is printed: the answers, and then the last lines.
+use Rattle.std.proofs.Common.{◌≡◌, ◌∙◌, sym, ap, subst, ℕ, ◌+◌, List, [], ◌∷◌, ◌++◌, length, take, Option}
+use Rattle.std.proofs.Common.{append_assoc, arith}
+use Rattle.std.specs.Prelude.{flat_map}
+use Rattle.std.proofs.Math.Seq.{take-append-add}
+use Rattle.std.proofs.lemmas.List.{append-nil, length-append, take-append-le}
+use Rattle.std.proofs.lemmas.List.Concat.{flat_map-append}
+use Rattle.pcm_base.specs.declared.answer.Answer.{Answer}
+use Rattle.pcm_base.specs.Causes.{Rose}
+use Rattle.edit_ports.specs.Told.{grown}
+use Rattle.edit_ports.proofs.ToldLaws.{grown-grown}
+use Rattle.script_text.specs.Text.{text_of}
+use Rattle.script_session.specs.declared.stop.Stop.{Stop}
+use Rattle.script_session.specs.declared.stop.Stop.TheVariants as stop
+use Rattle.script_session.specs.Change.{Change, change}
+use Rattle.script_session.specs.Progress.{BreaksOff, IsCauseOf, WritesAnswers, outcome_of}
+use Rattle.session_run.specs.Last.{WritesEnd}
+use Rattle.session_run.specs.Streams.{PrintsFrom}
+
+module _ (before mid now : Option (List ℕ)) (first then_ last : ℕ) (answers : List Answer) (end : List ℕ) where
+  abbrev said : List ℕ
+  said = flat_map text_of answers
+
+  -- the last lines, after all answers
+  both : mid ≡ grown before said → then_ ≡ first
+      → PrintsFrom (record { written = change mid now; faults = change then_ last }) end
+      → PrintsFrom (record { written = change before now; faults = change first last }) (said ++ end)
+  both wrote quiet (part, all) = (
+    (
+      length said + part.0,
+      let within = part.1 in let len = length-append said end in omega (arith, within, len),
+      part.2 ∙ (ap (λ (o : Option (List ℕ)). grown o (take part.0 end)) wrote
+          ∙ (grown-grown before said (take part.0 end)
+          ∙ ap (grown before) (sym (take-append-add said end part.0)))),
+    ),
+    λ (stays : Rose first last → ⊥). all (subst (λ (n : ℕ). Rose n last → ⊥) (sym quiet) stays)
+        ∙ (ap (λ (o : Option (List ℕ)). grown o end) wrote ∙ grown-grown before said end),
+  )
+
+  -- a part of the answers, after a fault
+  broken : BreaksOff before mid answers → now ≡ mid → Rose first last
+      → PrintsFrom (record { written = change before now; faults = change first last }) (said ++ end)
+  broken b same rose =
+      let front = flat_map text_of b.before in
+      let text = text_of b.last in
+      let is : said ≡ front ++ text =
+      ap (flat_map text_of) b.whole ∙ (flat_map-append text_of b.before (b.last ∷ [])
+      ∙ ap (λ (l : List ℕ). front ++ l) (append-nil text)) in
+      let whole : said ++ end ≡ front ++ (text ++ end) =
+      ap (λ (l : List ℕ). l ++ end) is ∙ append_assoc front text end in
+      let within = b.within in
+      let len = length-append front (text ++ end) in
+      let more = length-append text end in
+      let size : length (said ++ end) ≡ length (front ++ (text ++ end)) = ap length whole in (
+        (
+          length front + b.count,
+          omega (arith, within, len, more, size),
+          same ∙ (b.written ∙ ap (grown before) (sym (ap (take (length front + b.count)) whole
+              ∙ (take-append-add front (text ++ end) b.count
+              ∙ ap (λ (l : List ℕ). front ++ l) (take-append-le b.count text end (omega (arith, within))))))),
+        ),
+        λ (stays : Rose first last → ⊥). absurd (stays rose),
+      )
+
+-- whatever stopped the script
+pub printed : (s : Stop) (source : Change ℕ) (before mid now : Option (List ℕ)) (first then_ last : ℕ)
+    (answers : List Answer) (end : List ℕ) → WritesAnswers (outcome_of s) before mid answers
+    → IsCauseOf s source (change first then_)
+    → WritesEnd s (record { written = change mid now; faults = change then_ last }) end
+    → PrintsFrom (record { written = change before now; faults = change first last })
+    (flat_map text_of answers ++ end)
+printed stop.End source before mid now first then_ last answers end wrote cause ended =
+    both before mid now first then_ last answers end wrote cause.1 ended
+printed stop.Limit source before mid now first then_ last answers end wrote cause ended =
+    both before mid now first then_ last answers end wrote cause.1 ended
+printed stop.SourceFault source before mid now first then_ last answers end wrote cause ended =
+    both before mid now first then_ last answers end wrote cause.2 ended
+printed stop.OutFault source before mid now first then_ last answers end wrote cause ended =
+    broken before mid now first then_ last answers end wrote ended.0
+    (subst (λ (n : ℕ). Rose first n) (sym ended.1) cause.2)
+
+-- where the output failed, the answer that breaks off is that of the last line
+pub broke : (s : Stop) (before mid now : Option (List ℕ)) (then_ last : ℕ) (answers : List Answer) (end : List ℕ)
+    → WritesAnswers (outcome_of s) before mid answers
+    → WritesEnd s (record { written = change mid now; faults = change then_ last }) end → s ≡ stop.OutFault
+    → BreaksOff before now answers
+broke stop.End before mid now then_ last answers end wrote ended is = absurd (let clash = is in cc)
+broke stop.Limit before mid now then_ last answers end wrote ended is = absurd (let clash = is in cc)
+broke stop.SourceFault before mid now then_ last answers end wrote ended is = absurd (let clash = is in cc)
+broke stop.OutFault before mid now then_ last answers end wrote ended is =
+    subst (λ (o : Option (List ℕ)). BreaksOff before o answers) (sym ended.0) wrote

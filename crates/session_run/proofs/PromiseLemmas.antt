@@ -1,0 +1,83 @@
+-- The promise, from what a run did.
+use Rattle.std.proofs.Common.{◌≡◌, refl, sym, subst, ℕ, ◌==◌, if◌then◌else◌, List, []}
+use Rattle.pcm_base.specs.Causes.{Rose}
+use Rattle.std.proofs.Common.{◌∷◌, ◌++◌, Result, Ok, Err, Bool, true, false}
+use Rattle.std.specs.Prelude.{◌||◌, IfErr}
+use Rattle.pcm_base.specs.declared.answer.Reply.{Reply}
+use Rattle.pcm_base.specs.declared.command.Call.{Call}
+use Rattle.pcm_base.specs.declared.entry.SoundMove.{SoundMove}
+use Rattle.pcm_base.specs.declared.refusal.Refusal.{Refusal}
+use Rattle.pcm_base.specs.Run.{Answers, outside, result_of}
+use Rattle.pcm_base.specs.Studio as model
+use Rattle.disk_model.specs.declared.store.Store.{Ghosts}
+use Rattle.edit_ports.specs.declared.vault.Vault as vault
+use Rattle.pin_turn.specs.Counts.{Each}
+use Rattle.editor_core.specs.Applied.{reply_of}
+use Rattle.editor_core.specs.Core.{Core}
+use Rattle.editor_core.specs.Studios.{IsHeld, studio_of}
+use Rattle.editor_core.proofs.Entries.{plain, plain_result}
+use Rattle.studio_seats.specs.declared.deed.Deed.{Deed}
+use Rattle.studio_seats.specs.Deeds.{entries_of, entry_of}
+use Rattle.studio_seats.specs.Merge.{by_seat, deeds_of}
+use Rattle.studio_seats.specs.Stands.{AllTell, Chain}
+use Rattle.desk_session.specs.Makers.{Seats, is_by}
+use Rattle.script_session.specs.declared.stop.Stop.{Stop}
+use Rattle.script_session.specs.declared.stop.Stop.TheVariants as stop
+use Rattle.script_session.specs.Change.{Change, change}
+use Rattle.script_session.specs.Progress.{IsCauseOf}
+use Rattle.session_run.specs.Entries as entries
+use Rattle.session_run.specs.Promise.{IsStoppedFor}
+use Rattle.session_run.proofs.EntryLemmas.{IsPlain}
+
+-- what stopped a script, by the output's count at the end
+pub stopped_for : (s : Stop) (source : Change ℕ) (first then_ last : ℕ) → IsCauseOf s source (change first then_)
+    → ((s ≡ stop.OutFault) → last ≡ then_) → IsStoppedFor s source (change first last)
+stopped_for stop.End source first then_ last h same = h.0
+stopped_for stop.Limit source first then_ last h same = h.0
+stopped_for stop.SourceFault source first then_ last h same = h.1
+stopped_for stop.OutFault source first then_ last h same =
+    (h.0, subst (λ (n : ℕ). Rose first n) (sym (same refl)) h.2)
+
+-- ---- the deeds of a studio that a disk holds
+
+plain_of : (t u : model.Studio) (c : Call) (sound : SoundMove) (what : Result Reply Refusal) → Answers t c sound what u
+    → result_of (reply_of what) ≡ what
+plain_of t u c sound (Ok r) h = plain_result r (plain (outside t sound) t.state c r h.answers)
+plain_of t u c sound (Err why) h = refl
+
+-- no reply of theirs stands for a refusal
+pub plain_deeds : {D V : Type 0} (disk : Ghosts D) (vaults : vault.Ghosts V) (old : Core D) (ds : List Deed)
+    (new : Core D) → Chain disk vaults old ds new → AllTell vaults → IsHeld disk old → Each IsPlain ds
+plain_deeds disk vaults old [] new chain told held = tt
+plain_deeds disk vaults old (d ∷ ds) new (mid, does, chain) told held =
+    let took = does.took (λ some. told) in (
+      plain_of (studio_of disk old) (studio_of disk mid) d.call d.sound d.what (took.step held),
+      plain_deeds disk vaults mid ds new chain told (took.held held),
+    )
+
+-- what holds of the answers of deeds holds of the replies of their entries
+pub each_reply : (P : Refusal → Type 0) (ds : List Deed) → Each (λ d. IfErr d.what P) ds → Each IsPlain ds
+    → Each (λ e. IfErr (result_of e.reply) P) (entries_of ds)
+each_reply P [] h plain = tt
+each_reply P (d ∷ ds) h plain =
+    (subst (λ (what : Result Reply Refusal). IfErr what P) (sym plain.0) h.0, each_reply P ds h.1 plain.1)
+
+-- what holds of deeds holds of those of one seat
+pub each_own : (P : Deed → Type 0) (seat : ℕ) (ds : List Deed) → Each P ds → Each P (deeds_of (by_seat seat) ds)
+each_own P seat [] h = tt
+each_own P seat (d ∷ ds) h = by (each_own P seat ds h.1) (seat == d.actor)
+  where
+    by : Each P (deeds_of (by_seat seat) ds) → (b : Bool)
+        → Each P ((if b then d ∷ [] else []) ++ deeds_of (by_seat seat) ds)
+    by later true = (h.0, later)
+    by later false = later
+
+-- each deed of a session is by one of its seats, of which the script's is the first
+pub each_maker : (seats : Seats) → seats.script ≡ 0 → (ds : List Deed) → Each (λ d. is_by seats d ≡ true) ds
+    → Each (λ e. (entries.is_by 0 e || (entries.is_by seats.recorder e || entries.is_by seats.player e)) ≡ true) (entries_of ds)
+each_maker seats first [] h = tt
+each_maker seats first (d ∷ ds) h = (
+  subst (λ (n : ℕ). ((n == d.actor) || (entries.is_by seats.recorder (entry_of d) || entries.is_by seats.player (entry_of d)))
+      ≡ true) first h.0,
+  each_maker seats first ds h.1,
+)

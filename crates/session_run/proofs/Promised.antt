@@ -1,0 +1,298 @@
+-- A run on an honest disk keeps the promise.
+use Rattle.std.proofs.Common.{◌≡◌, ◌≢◌, ◌⊎◌, inl, inr, ⊎_elim, ◌∙◌, refl, sym, ap, subst, ℕ, List, [], ◌++◌, length}
+use Rattle.std.proofs.Common.{Some, None, true, ◌^◌}
+use Rattle.std.specs.Prelude.{IfErr}
+use Rattle.pcm_base.specs.declared.entry.Entry.{Entry}
+use Rattle.pcm_base.specs.Run.{Follows, Run, result_of}
+use Rattle.disk_model.specs.Disk.{Files}
+use Rattle.disk_model.specs.declared.store.Store.{Ghosts}
+use Rattle.pin_turn.specs.Counts.{Each}
+use Rattle.pin_turn.proofs.Sums.{Each-left, Each-right}
+use Rattle.editor_core.specs.Core.{Core}
+use Rattle.editor_core.specs.Events.{KeepsPrefix}
+use Rattle.editor_core.specs.Left.{LeavesForeign}
+use Rattle.editor_core.specs.Studios.{IsHeld, studio_of}
+use Rattle.editor_recovery.specs.Honest.{IsHonest}
+use Rattle.script_session.specs.Change.{change}
+use Rattle.studio_seats.specs.declared.deed.Deed.{Deed}
+use Rattle.studio_seats.specs.Deeds.{entries_of, number_after}
+use Rattle.studio_seats.specs.Leads.{DeedsAsk, HadTurn, IsUnharmed, Leads, StopsInFlight}
+use Rattle.studio_seats.specs.Merge.{any_seat, by_seat, deeds_of, numbers_of}
+use Rattle.studio_seats.specs.Pins.{pin_frames}
+use Rattle.studio_seats.specs.Shows.{IsMixOf}
+use Rattle.studio_seats.specs.Stands.{AllTell, AreTold, origin}
+use Rattle.studio_seats.proofs.Grown.{all_told, entries_append, leads}
+use Rattle.studio_seats.proofs.OnwardLemmas.{each_append}
+use Rattle.desk_session.specs.Lent.{Kinds}
+use Rattle.desk_session.specs.Sessions.{IsSession, place_behind}
+use Rattle.desk_session.specs.Sounds.{piece_numbers}
+use Rattle.script_text.specs.Last.{last_text}
+use Rattle.session_run.specs.Answered.{Answered}
+use Rattle.session_run.specs.Entries.{entries_by, last_number, numbers_by}
+use Rattle.session_run.specs.Last.{play_line, record_commit, record_line}
+use Rattle.session_run.specs.Opening.{OpensTo}
+use Rattle.session_run.specs.Ports.{Job, lent_of}
+use Rattle.session_run.specs.Promise.{Ended, Met, Promise}
+use Rattle.session_run.specs.Runs.{RunsOn}
+use Rattle.session_run.specs.Sides.{PlaysSide, RecordsSide}
+use Rattle.session_run.specs.Streams.{input, output}
+use Rattle.session_run.proofs.AnsweredLemmas.{answered}
+use Rattle.session_run.proofs.FourLemmas.{out_stays}
+use Rattle.session_run.proofs.EntryLemmas.{IsPlain, entries_as, entries_length, last_as, numbers_as}
+use Rattle.session_run.proofs.PrintedLemmas.{broke, printed}
+use Rattle.session_run.proofs.PromiseLemmas.{each_maker, each_own, each_reply, plain_deeds, stopped_for}
+use Rattle.session_run.proofs.SeatEntries.{plays_side, records_side}
+use Rattle.session_run.proofs.SessionLemmas.{found_spent, quiet, recorded}
+use Rattle.session_run.proofs.SideEntries.{asked_as, number_as, pin_actor, pin_side, side_of, track_actor}
+use Rattle.session_run.proofs.SideEntries.{track_side}
+use Rattle.session_run.proofs.SurviveLemmas.{Survives, opened_keeps, survives}
+
+module _ {D V M P : Type 0} (k : Kinds D V M P) (ask : DeedsAsk k.disk k.vaults) (store : D)
+    (start final : Core D) (j : Job V M P)
+    (opens : OpensTo k.disk store start) (ran : RunsOn k (change start final) j) (honest : IsHonest k.disk store)
+    (told : AllTell k.vaults) where
+  abbrev disk : Ghosts D
+  disk = k.disk
+
+  abbrev s : IsSession k start final (lent_of j.ports ran.mid) ran.out
+  s = ran.session
+
+  abbrev n : ℕ
+  n = start.commit_number
+
+  abbrev track : List Deed
+  track = s.made.track_own
+
+  abbrev pin : List Deed
+  pin = s.made.pin_own
+
+  abbrev rest : List Deed
+  rest = s.made.rest
+
+  held : IsHeld disk start
+  held = opens.held honest
+
+  tell : AreTold k.vaults s.deeds
+  tell = all_told k.vaults s.deeds told
+
+  led : Leads (origin disk k.vaults start) final s.deeds
+  led = leads (origin disk k.vaults start) final s.deeds s.stands
+
+  split : s.deeds ≡ (track ++ pin) ++ rest
+  split = s.made.split ∙ ap (λ (l : List Deed). l ++ rest) s.made.opening_is
+
+  abbrev opening_entries : List Entry
+  opening_entries = entries_of track ++ entries_of pin
+
+  entries_are : entries_of s.deeds ≡ opening_entries ++ entries_of rest
+  entries_are = ap entries_of split ∙ (entries_append (track ++ pin) rest
+      ∙ ap (λ (l : List Entry). l ++ entries_of rest) (entries_append track pin))
+
+  plain : Each IsPlain s.deeds
+  plain = plain_deeds disk k.vaults start s.deeds final s.stands.chain told held
+
+  plain_all : Each IsPlain ((track ++ pin) ++ rest)
+  plain_all = subst (λ (l : List Deed). Each IsPlain l) split plain
+
+  plain_opening : Each IsPlain (track ++ pin)
+  plain_opening = Each-left IsPlain (track ++ pin) rest plain_all
+
+  plain_rest : Each IsPlain rest
+  plain_rest = Each-right IsPlain (track ++ pin) rest plain_all
+
+  plain_by : (seat : ℕ) → Each IsPlain (deeds_of (by_seat seat) rest)
+  plain_by seat = each_own IsPlain seat rest plain_rest
+
+  -- the commit number after the opening
+  opened_number : last_number n opening_entries ≡ number_after n s.made.opening
+  opened_number = sym (ap (last_number n) (entries_append track pin))
+      ∙ (last_as n (track ++ pin) plain_opening ∙ sym (ap (number_after n) s.made.opening_is))
+
+  by_first : Each (λ d. d.actor ≡ 0) s.made.opening
+  by_first = subst (λ (l : List Deed). Each (λ d. d.actor ≡ 0) l) (sym s.made.opening_is)
+      (each_append (λ d. d.actor ≡ 0) track pin
+      (track_actor s.spent ran.out.opened.recording track s.made.track_is)
+      (pin_actor s.spent ran.out.opened.pin pin s.made.pin_is))
+
+  apart_recorder : 0 ≢ s.made.seats.recorder
+  apart_recorder is = s.made.apart.script_recorder (s.made.script_seat ∙ is)
+
+  apart_player : 0 ≢ s.made.seats.player
+  apart_player is = s.made.apart.script_player (s.made.script_seat ∙ is)
+
+  abbrev ended : Ended
+  ended = record {
+    stop = ran.out.told.stop;
+    read = s.scripted.read;
+    lines = s.scripted.lines;
+    recording = side_of ran.out.opened.recording;
+    playback = side_of ran.out.opened.pin;
+    recorder = s.made.seats.recorder;
+    player = s.made.seats.player;
+    record_line = record_line start.next_track ran.out.opened.recording ran.out.kept;
+    play_line = play_line ran.out.opened.pin ran.out.heard;
+  }
+
+  abbrev pub met : Met D
+  met = record {
+    records = j.beside.records;
+    plays = j.beside.plays;
+    store = change store final.store;
+    script = j.ports.streams.source;
+    out = j.ports.streams.sink;
+    mic = input k.mics j.ports.mic;
+    speaker = output k.speakers j.ports.speaker;
+    sounds = change (k.vaults.holds j.ports.vault.before) (k.vaults.holds j.ports.vault.now);
+    vault_faults = change (k.vaults.fault_count j.ports.vault.before) (k.vaults.fault_count j.ports.vault.now);
+    first_commit = n;
+    last_commit = final.commit_number;
+    record_commit = record_commit ran.out.opened.recording;
+    script_commits = ran.out.told.commits;
+    piece_commits = piece_numbers ran.out.kept;
+  }
+
+  abbrev images : Survives disk store (change start final) s.deeds
+  images = survives disk k.vaults ask store start final s.deeds opens s.stands honest told
+
+  -- the list of entries, in its parts
+  abbrev all_entries : List Entry
+  all_entries = opening_entries ++ entries_of rest
+
+  had_all : Each HadTurn ((track ++ pin) ++ rest)
+  had_all = subst (λ (l : List Deed). Each HadTurn l) split (led.turns tell held)
+
+  had_track : Each HadTurn track
+  had_track = Each-left HadTurn track pin (Each-left HadTurn (track ++ pin) rest had_all)
+
+  had_pin : Each HadTurn pin
+  had_pin = Each-right HadTurn track pin (Each-left HadTurn (track ++ pin) rest had_all)
+
+  had_split : Each HadTurn (s.made.opening ++ rest)
+  had_split = subst (λ (l : List Deed). Each HadTurn l) s.made.split (led.turns tell held)
+
+  length_is : length s.deeds ≡ length all_entries
+  length_is = sym (entries_length s.deeds) ∙ ap length entries_are
+
+  no_turn : s.spent ≡ true → length all_entries ≡ 2 ^ 62
+  no_turn is = sym length_is ∙ s.turns is
+
+  lines : Answered (last_number n opening_entries) (last_number n opening_entries) s.scripted.lines s.scripted.answers
+      (entries_of rest)
+  lines = subst (λ (m : ℕ). Answered m m s.scripted.lines s.scripted.answers (entries_of rest)) (sym opened_number)
+      (answered s.scripted.lines s.scripted.answers
+      (place_behind n s.made.opening s.scripted.used_up (k.vaults.tells j.ports.vault.before)
+      (k.vaults.holds j.ports.vault.before) (k.vaults.fault_count j.ports.vault.before))
+      s.scripted.last s.scripted.later rest s.scripted.session (record {
+        script = refl;
+        seen = sym s.scripted.seen;
+        by_others = s.scripted.by_others;
+        plain = plain_rest;
+      }))
+
+  had_rest : Each HadTurn rest
+  had_rest = Each-right HadTurn (track ++ pin) rest had_all
+
+  -- no entry found a damaged file
+  unharmed : Each (λ e. IfErr (result_of e.reply) IsUnharmed) all_entries
+  unharmed = subst (λ (l : List Entry). Each (λ e. IfErr (result_of e.reply) IsUnharmed) l) entries_are
+      (each_reply IsUnharmed s.deeds (led.whole tell held) plain)
+
+  -- files that no studio changes
+  foreign : LeavesForeign (disk.reads store) (disk.reads final.store)
+  foreign = subst (λ (files : Files). LeavesForeign files (disk.reads final.store)) opens.looks.reads
+      ((ask start final s.deeds s.stands).reads held.tells)
+
+  pub promised : Promise disk met
+  promised = record {
+    start = studio_of disk start;
+    final = studio_of disk final;
+    track = entries_of track;
+    pin = entries_of pin;
+    entries = entries_of rest;
+    answers = s.scripted.answers;
+    end = ended;
+    began = (start, opens, refl);
+    opened = opened_keeps disk store start opens honest;
+    new = (
+      opens.fresh.stopped,
+      ap (λ (c : _). (studio_of disk (record start { clipboard = c })).state.clipboard) opens.fresh.clipboard,
+      opens.fresh.next_pin,
+    );
+    faults_before = (opens.looks.cause.same_read_faults, opens.looks.cause.same_change_faults);
+    faults_now = (refl, refl);
+    run = subst (λ (l : List Entry). Run (studio_of disk start) l (studio_of disk final)) entries_are
+        (led.run tell held);
+    makers = each_maker s.made.seats s.made.script_seat rest s.made.all;
+    apart = (
+      apart_recorder,
+      apart_player,
+      s.made.apart.recorder_player,
+    );
+    asked = (
+      asked_as ran.out.opened.recording ∙ ran.asked.0,
+      asked_as ran.out.opened.pin ∙ ran.asked.1,
+    );
+    read = s.scripted.bytes;
+    carried = s.scripted.cut;
+    lines = lines;
+    sounds = subst (λ (l : List Entry). Follows (k.vaults.holds j.ports.vault.before) l
+        (k.vaults.holds j.ports.vault.now)) (sym (entries_as 0 rest)) (s.scripted.sounds (told j.ports.vault.before));
+    track_is = track_side s.spent n ran.out.opened.recording track pin s.made.track_is
+        (ap (numbers_of any_seat n) (sym s.made.opening_is) ∙ s.opening_numbers)
+        (Each-left IsPlain track pin plain_opening);
+    pieces = subst (λ (l : List Entry). RecordsSide (side_of ran.out.opened.recording) start.next_track
+        (input k.mics j.ports.mic) ended.record_line (piece_numbers ran.out.kept) l)
+        (sym (entries_as s.made.seats.recorder rest))
+        (records_side s.made.seats.recorder n s.made.opening rest apart_recorder by_first
+        (plain_by s.made.seats.recorder) k.mics j.ports.mic start.next_track s.spent ran.out.opened.recording
+        ran.out.kept (recorded k start final j ran) s.made.pieces);
+    printed = printed ran.out.told.stop j.ports.streams.source.faults j.ports.streams.sink.written.before ran.mid
+        j.ports.streams.sink.written.now j.ports.streams.sink.faults.before ran.faults
+        j.ports.streams.sink.faults.now s.scripted.answers
+        (last_text ended.record_line ended.play_line final.commit_number) s.scripted.written ran.cause ran.ended;
+    broke = broke ran.out.told.stop j.ports.streams.sink.written.before ran.mid j.ports.streams.sink.written.now
+        ran.faults j.ports.streams.sink.faults.now s.scripted.answers
+        (last_text ended.record_line ended.play_line final.commit_number) s.scripted.written ran.ended;
+    stopped = stopped_for ran.out.told.stop j.ports.streams.source.faults j.ports.streams.sink.faults.before
+        ran.faults j.ports.streams.sink.faults.now ran.cause
+        (out_stays ran.out.told.stop _ (last_text ended.record_line ended.play_line final.commit_number) ran.ended);
+    pin_is = pin_side s.spent ran.out.opened.pin pin s.made.pin_is;
+    played = subst (λ (l : List Entry). PlaysSide (length all_entries ≡ 2 ^ 62) (side_of ran.out.opened.pin)
+        (λ number mix. pin_frames start.rate (studio_of disk start).state opening_entries number ≡ Some mix)
+        (output k.speakers j.ports.speaker) ended.play_line l)
+        (sym (entries_as s.made.seats.player rest))
+        (plays_side s.made.seats.player n s.made.opening rest apart_player by_first (plain_by s.made.seats.player)
+        k.speakers j.ports.speaker (length all_entries ≡ 2 ^ 62) s.spent no_turn
+        (IsMixOf (origin disk k.vaults start) s.made.opening)
+        (λ number mix. pin_frames start.rate (studio_of disk start).state opening_entries number ≡ Some mix)
+        ran.out.opened.pin ran.out.heard s.played s.made.reads
+        (λ number mix is. record {
+          told = told;
+          held = held;
+          frames = ap (λ (l : List Entry). pin_frames start.rate (studio_of disk start).state l number)
+              (ap entries_of s.made.opening_is ∙ entries_append track pin) ∙ is;
+        }));
+    first = refl;
+    last = (
+      refl,
+      led.number ∙ (sym (last_as n s.deeds plain) ∙ ap (last_number n) entries_are),
+    );
+    record_is = number_as ran.out.opened.recording;
+    script_numbers = s.scripted.numbers
+        ∙ (sym (numbers_as 0 (number_after n s.made.opening) rest plain_rest)
+        ∙ ap (λ (m : ℕ). numbers_by 0 m (entries_of rest)) (sym opened_number));
+    piece_numbers = s.pieces_are
+        ∙ (sym (numbers_as s.made.seats.recorder (number_after n s.made.opening) rest plain_rest)
+        ∙ ap (λ (m : ℕ). numbers_by s.made.seats.recorder m (entries_of rest)) (sym opened_number));
+    any_moment = λ c since. ⊎_elim (λ there. inl there)
+        (λ kept. inr (subst (λ (l : List Entry). KeepsPrefix (studio_of disk start) l c) entries_are kept))
+        (images.any_moment c since);
+    going = images.going;
+    broken = λ some c now. ⊎_elim (λ kept. inl kept)
+        (λ flight. inr (subst (λ (l : List Entry). StopsInFlight (studio_of disk start) l c) entries_are flight))
+        (images.stopped some c now);
+    foreign = foreign;
+    whole = unharmed;
+    served = quiet k start final j ran tell held opens.fresh.stopped (plain_by 0);
+    turns = λ any. no_turn (found_spent k start final j ran had_split had_track had_pin had_rest any);
+  }

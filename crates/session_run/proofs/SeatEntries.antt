@@ -1,0 +1,122 @@
+-- The recording and the playback of a session, by what was made for them.
+use Rattle.std.proofs.Common.{◌≡◌, ◌≢◌, ◌∙◌, refl, sym, ap, ℕ, ◌==◌, if◌then◌else◌, Bool, true, false}
+use Rattle.std.proofs.Common.{List, [], ◌∷◌, ◌++◌, Option, Some, None, Result, Ok, Err}
+use Rattle.std.specs.Prelude.{IsSomeAnd}
+use Rattle.pcm_base.specs.declared.command.Call.{Call}
+use Rattle.pcm_base.specs.declared.refusal.Refusal.{Refusal}
+use Rattle.pcm_base.specs.declared.sound.Frame.{Frame}
+use Rattle.edit_ports.specs.declared.sink.Sink as sink
+use Rattle.edit_ports.specs.declared.source.Source as source
+use Rattle.pin_turn.specs.Counts.{Each}
+use Rattle.script_session.specs.Change.{Change, change}
+use Rattle.studio_seats.specs.declared.deed.Deed.{Deed}
+use Rattle.studio_seats.specs.Deeds.{entries_of}
+use Rattle.studio_seats.specs.Merge.{by_seat, deeds_of}
+use Rattle.studio_seats.specs.Onward.{Asks, IsPieceOf}
+use Rattle.studio_seats.specs.Pieces.{pieces_by}
+use Rattle.studio_seats.proofs.OnwardLemmas.{each_append}
+use Rattle.studio_seats.proofs.MergeLemmas.{deeds_append}
+use Rattle.desk_session.specs.declared.told.Heard.{Heard}
+use Rattle.desk_session.specs.declared.told.Kept.{Kept}
+use Rattle.desk_session.specs.Opening.{WhereMade, play_calls, record_calls}
+use Rattle.desk_session.specs.Sounds.{Played, Recorded, piece_numbers}
+use Rattle.desk_session.proofs.EndLemmas.{asked_own}
+use Rattle.desk_session.proofs.PartLemmas.{same_seat}
+use Rattle.session_run.specs.Last.{play_line, record_line}
+use Rattle.session_run.specs.Sides.{PlaysSide, RecordsSide}
+use Rattle.session_run.specs.Streams.{input, output}
+use Rattle.session_run.proofs.EntryLemmas.{IsPlain}
+use Rattle.session_run.proofs.PieceEntries.{done_samples, own_samples}
+use Rattle.session_run.proofs.PlayLemmas.{plays}
+use Rattle.session_run.proofs.RecordLemmas.{records}
+use Rattle.session_run.proofs.SideEntries.{side_of}
+
+-- a seat that may ask nothing has no deeds
+none_own : (fits : Call → Type 0) → ((c : Call) → fits c → ⊥) → (seat : ℕ) (ds : List Deed) → Asks fits seat ds
+    → deeds_of (by_seat seat) ds ≡ []
+none_own fits never seat [] h = refl
+none_own fits never seat (d ∷ ds) h = by (none_own fits never seat ds h.1) (seat == d.actor) refl
+  where
+    by : deeds_of (by_seat seat) ds ≡ [] → (b : Bool) → (seat == d.actor) ≡ b
+        → (if b then d ∷ [] else []) ++ deeds_of (by_seat seat) ds ≡ []
+    by later true is = absurd (never d.call (h.0 (sym (same_seat seat d.actor is))))
+    by later false is = later
+
+others_ask : (fits : Call → Type 0) (a seat : ℕ) (ds : List Deed) → a ≢ seat → Each (λ d. d.actor ≡ a) ds
+    → Asks fits seat ds
+others_ask fits a seat [] apart h = tt
+others_ask fits a seat (d ∷ ds) apart h =
+    ((λ is. absurd (apart (sym h.0 ∙ is))), others_ask fits a seat ds apart h.1)
+
+-- the deeds of one seat are none of another's
+others_own : (a seat : ℕ) (ds : List Deed) → a ≢ seat → Each (λ d. d.actor ≡ a) ds → deeds_of (by_seat seat) ds ≡ []
+others_own a seat ds apart h = none_own (λ c. ⊥) (λ c x. x) seat ds (others_ask (λ c. ⊥) a seat ds apart h)
+
+module _ (seat first : ℕ) (opening rest : List Deed) (apart : 0 ≢ seat)
+    (by_first : Each (λ d. d.actor ≡ 0) opening) (plain : Each IsPlain (deeds_of (by_seat seat) rest)) where
+  abbrev own : List Deed
+  own = deeds_of (by_seat seat) rest
+
+  own_is : deeds_of (by_seat seat) (opening ++ rest) ≡ own
+  own_is = deeds_append (by_seat seat) opening rest
+      ∙ ap (λ (l : List Deed). l ++ own) (others_own 0 seat opening apart by_first)
+
+  -- the recording
+  pub records_side : {M : Type 0} (mics : source.Ghosts M) (mic : Change M) (track : ℕ) (used : Bool)
+      (made : Option (Result ℕ Refusal)) (kept : Option Kept)
+      → WhereMade made (λ tag. IsSomeAnd kept
+      (Recorded mics mic (change [] (pieces_by track tag seat first (opening ++ rest))) used own))
+      ((kept ≡ None) × (mic.now ≡ mic.before))
+      → Asks (record_calls track made) seat rest
+      → RecordsSide (side_of made) track (input mics mic) (record_line track made kept) (piece_numbers kept)
+      (entries_of own)
+  records_side mics mic track used None kept h asks = (
+    refl,
+    ap piece_numbers h.0,
+    ap entries_of (none_own (record_calls track None) (λ c x. x) seat rest asks),
+    (ap mics.left h.1, ap mics.fault_count h.1),
+  )
+  records_side mics mic track used (Some (Err why)) kept h asks = (
+    refl,
+    ap piece_numbers h.0,
+    ap entries_of (none_own (record_calls track (Some (Err why))) (λ c x. x) seat rest asks),
+    (ap mics.left h.1, ap mics.fault_count h.1),
+  )
+  records_side mics mic track used (Some (Ok tag)) None h asks = absurd h
+  records_side mics mic track used (Some (Ok tag)) (Some kept) h asks = (
+    _,
+    refl,
+    records mics mic track tag seat first (opening ++ rest) own used kept h
+        (sym (own_samples track tag seat first (opening ++ rest)
+        (each_append (λ d. d.actor ≡ seat → IsPieceOf track tag d.call) opening rest
+        (others_ask (IsPieceOf track tag) 0 seat opening apart by_first) asks)
+        ∙ ap done_samples own_is))
+        (asked_own (IsPieceOf track tag) seat rest asks) plain,
+  )
+
+  -- the playback
+  pub plays_side : {P : Type 0} (speakers : sink.Ghosts P) (speaker : Change P) (NoTurn : Type 0) (used : Bool)
+      (none : used ≡ true → NoTurn)
+      (shows : ℕ → List Frame → Type 0) (Shown : ℕ → List Frame → Type 0)
+      (made : Option (Result ℕ Refusal)) (heard : Option Heard)
+      → WhereMade made (λ pin. IsSomeAnd heard (Played speakers speaker (shows pin) pin used seat own))
+      ((heard ≡ None) × (speaker.now ≡ speaker.before))
+      → Asks (play_calls made) seat rest
+      → ((pin : ℕ) (mix : List Frame) → Shown pin mix → shows pin mix)
+      → PlaysSide NoTurn (side_of made) Shown (output speakers speaker) (play_line made heard) (entries_of own)
+  plays_side speakers speaker NoTurn used none shows Shown None heard h asks shown = (
+    refl,
+    ap entries_of (none_own (play_calls None) (λ c x. x) seat rest asks),
+    (ap speakers.written h.1, ap speakers.fault_count h.1),
+  )
+  plays_side speakers speaker NoTurn used none shows Shown (Some (Err why)) heard h asks shown = (
+    refl,
+    ap entries_of (none_own (play_calls (Some (Err why))) (λ c x. x) seat rest asks),
+    (ap speakers.written h.1, ap speakers.fault_count h.1),
+  )
+  plays_side speakers speaker NoTurn used none shows Shown (Some (Ok pin)) None h asks shown = absurd h
+  plays_side speakers speaker NoTurn used none shows Shown (Some (Ok pin)) (Some heard) h asks shown = (
+    _,
+    refl,
+    λ mix is. plays speakers speaker (shows pin) pin seat NoTurn used none own heard mix h (shown pin mix is) plain,
+  )

@@ -1,0 +1,141 @@
+-- The entries that a session's opening made.
+use Rattle.std.proofs.Common.{◌≡◌, inl, inr, ◌∙◌, refl, sym, ap, subst, ℕ, ◌+◌, Bool, true, false, List, [], ◌∷◌, ◌++◌, Option, Some}
+use Rattle.std.proofs.Common.{None, Result, Ok, Err}
+use Rattle.std.specs.Prelude.{is_some}
+use Rattle.pcm_base.specs.declared.answer.Reply.{Reply}
+use Rattle.pcm_base.specs.declared.answer.Reply.TheVariants as reply
+use Rattle.pcm_base.specs.declared.command.Call.{Call}
+use Rattle.pcm_base.specs.declared.command.Call.TheVariants.{Line, Pin}
+use Rattle.pcm_base.specs.declared.command.Command.TheVariants.{Track}
+use Rattle.pcm_base.specs.declared.refusal.Refusal.{Refusal}
+use Rattle.editor_core.specs.Applied.{reply_of}
+use Rattle.editor_core.specs.Took.{silent}
+use Rattle.pin_turn.specs.Counts.{Each}
+use Rattle.studio_seats.specs.declared.deed.Deed.{Deed}
+use Rattle.studio_seats.specs.Deeds.{deed, entries_of, entry_of, number_after}
+use Rattle.studio_seats.specs.Desks.{spent}
+use Rattle.studio_seats.specs.Leads.{HadTurn}
+use Rattle.studio_seats.specs.Merge.{any_seat, numbers_of}
+use Rattle.script_session.specs.Session.{is_refusal}
+use Rattle.desk_session.specs.Opening.{OwnDeed, PinDeed, TrackDeed, record_commits}
+use Rattle.session_run.specs.Entries.{last_number}
+use Rattle.session_run.specs.Last.{record_commit}
+use Rattle.session_run.specs.Sides.{IsOne, MakesSide, Side, NotAsked, Refused, Made, is_asked, side_number}
+use Rattle.session_run.proofs.EntryLemmas.{IsPlain, last_as, plain_reply}
+
+abbrev pub side_of : Option (Result ℕ Refusal) → Side
+side_of None = NotAsked
+side_of (Some (Ok number)) = Made number
+side_of (Some (Err why)) = Refused why
+
+pub number_as : (made : Option (Result ℕ Refusal)) → record_commit made ≡ side_number (side_of made)
+number_as None = refl
+number_as (Some (Ok number)) = refl
+number_as (Some (Err why)) = refl
+
+pub asked_as : (made : Option (Result ℕ Refusal)) → is_asked (side_of made) ≡ is_some made
+asked_as None = refl
+asked_as (Some (Ok number)) = refl
+asked_as (Some (Err why)) = refl
+
+-- the entry of a call of the first seat
+one_of : (call : Call) (what : Result Reply Refusal) (own : List Deed) → own ≡ deed 0 call what silent ∷ []
+    → IsOne call (reply_of what) (entries_of own)
+one_of call what own is = record {
+  entry = entry_of (deed 0 call what silent);
+  are = ap entries_of is;
+  actor = refl;
+  call_is = refl;
+  reply = refl;
+}
+
+refused_of : (spent_ : Bool) (call : Call) (why : Refusal) (own : List Deed) → OwnDeed spent_ 0 call (Err why) own
+    → (Gives : ℕ → Reply → Type 0) → MakesSide call Gives (Refused why) (entries_of own)
+refused_of spent_ call why own (inl is) Gives = inl (one_of call (Err why) own is)
+refused_of spent_ call why own (inr h) Gives = inr (same (Err why) why spent refl h.0, ap entries_of h.1)
+  where
+    same : (r : Result Reply Refusal) (a b : Refusal) → r ≡ Err a → r ≡ Err b → a ≡ b
+    same r a b one two = cc
+
+-- a call that was carried out is an entry
+made_of : (spent_ : Bool) (call : Call) (r : Reply) (own : List Deed) → OwnDeed spent_ 0 call (Ok r) own
+    → own ≡ deed 0 call (Ok r) silent ∷ []
+made_of spent_ call r own (inl is) = is
+made_of spent_ call r own (inr h) = absurd (no h.0)
+  where
+    no : Ok r ≡ Err spent → ⊥
+    no is = cc
+
+-- the recording's track
+pub track_side : (spent_ : Bool) (n : ℕ) (made : Option (Result ℕ Refusal)) (own more : List Deed)
+    → TrackDeed spent_ 0 made own → numbers_of any_seat n (own ++ more) ≡ record_commits made → Each IsPlain own
+    → MakesSide (Line Track) (λ tag r. (tag ≡ last_number n (entries_of own)) × (is_refusal r ≡ false)) (side_of made)
+    (entries_of own)
+track_side spent_ n None own more h numbers plain = ap entries_of h
+track_side spent_ n (Some (Err why)) own more h numbers plain =
+    refused_of spent_ (Line Track) why own h (λ tag r. (tag ≡ last_number n (entries_of own)) × (is_refusal r ≡ false))
+track_side spent_ n (Some (Ok tag)) own more (r, h) numbers plain =
+    let is = made_of spent_ (Line Track) r own h in
+    let first : (n + 1) ∷ numbers_of any_seat (n + 1) more ≡ tag ∷ [] =
+    sym (ap (λ (l : List Deed). numbers_of any_seat n (l ++ more)) is) ∙ numbers in
+    let number : number_after n own ≡ n + 1 = ap (number_after n) is in (
+      r,
+      (
+        sym (head_inj (n + 1) tag (numbers_of any_seat (n + 1) more) first) ∙ sym (last_as n own plain ∙ number),
+        plain_reply r (subst (λ (l : List Deed). Each IsPlain l) is plain).0,
+      ),
+      one_of (Line Track) (Ok r) own is,
+    )
+  where
+    head_inj : (a b : ℕ) (l : List ℕ) → a ∷ l ≡ b ∷ [] → a ≡ b
+    head_inj a b l is = cc
+
+-- the pin
+pub pin_side : (spent_ : Bool) (made : Option (Result ℕ Refusal)) (own : List Deed) → PinDeed spent_ 0 made own
+    → MakesSide Pin (λ number r. r ≡ reply.Pinned number) (side_of made) (entries_of own)
+pin_side spent_ None own h = ap entries_of h
+pin_side spent_ (Some (Err why)) own h = refused_of spent_ Pin why own h (λ number r. r ≡ reply.Pinned number)
+pin_side spent_ (Some (Ok pin)) own h =
+    let is = made_of spent_ Pin (reply.Pinned pin) own h in
+    (reply.Pinned pin, refl, one_of Pin (Ok (reply.Pinned pin)) own is)
+
+-- a call for which no turn was left was found so
+own_spent : (spent_ : Bool) (call : Call) (own : List Deed) → OwnDeed spent_ 0 call (Err spent) own → Each HadTurn own
+    → spent_ ≡ true
+own_spent spent_ call own (inl is) had =
+    absurd ((subst (λ (l : List Deed). Each HadTurn l) is had).0 refl)
+own_spent spent_ call own (inr h) had = h.2
+
+refused_inj : (made : Option (Result ℕ Refusal)) → side_of made ≡ Refused spent → made ≡ Some (Err spent)
+refused_inj None is = cc
+refused_inj (Some (Ok n)) is = cc
+refused_inj (Some (Err why)) is = cc
+
+pub track_spent : (spent_ : Bool) (made : Option (Result ℕ Refusal)) (own : List Deed) → TrackDeed spent_ 0 made own
+    → Each HadTurn own → side_of made ≡ Refused spent → spent_ ≡ true
+track_spent spent_ made own h had is = own_spent spent_ (Line Track) own
+    (subst (λ (m : Option (Result ℕ Refusal)). TrackDeed spent_ 0 m own) (refused_inj made is) h) had
+
+pub pin_spent : (spent_ : Bool) (made : Option (Result ℕ Refusal)) (own : List Deed) → PinDeed spent_ 0 made own
+    → Each HadTurn own → side_of made ≡ Refused spent → spent_ ≡ true
+pin_spent spent_ made own h had is = own_spent spent_ Pin own
+    (subst (λ (m : Option (Result ℕ Refusal)). PinDeed spent_ 0 m own) (refused_inj made is) h) had
+
+-- ---- whose the opening's deeds are
+
+by_first : (spent_ : Bool) (call : Call) (what : Result Reply Refusal) (own : List Deed) → OwnDeed spent_ 0 call what own
+    → Each (λ d. d.actor ≡ 0) own
+by_first spent_ call what own (inl is) = subst (λ (l : List Deed). Each (λ d. d.actor ≡ 0) l) (sym is) (refl, tt)
+by_first spent_ call what own (inr h) = subst (λ (l : List Deed). Each (λ d. d.actor ≡ 0) l) (sym h.1) tt
+
+pub track_actor : (spent_ : Bool) (made : Option (Result ℕ Refusal)) (own : List Deed) → TrackDeed spent_ 0 made own
+    → Each (λ d. d.actor ≡ 0) own
+track_actor spent_ None own h = subst (λ (l : List Deed). Each (λ d. d.actor ≡ 0) l) (sym h) tt
+track_actor spent_ (Some (Ok tag)) own h = by_first spent_ (Line Track) (Ok h.0) own h.1
+track_actor spent_ (Some (Err why)) own h = by_first spent_ (Line Track) (Err why) own h
+
+pub pin_actor : (spent_ : Bool) (made : Option (Result ℕ Refusal)) (own : List Deed) → PinDeed spent_ 0 made own
+    → Each (λ d. d.actor ≡ 0) own
+pin_actor spent_ None own h = subst (λ (l : List Deed). Each (λ d. d.actor ≡ 0) l) (sym h) tt
+pin_actor spent_ (Some (Ok pin)) own h = by_first spent_ Pin (Ok (reply.Pinned pin)) own h
+pin_actor spent_ (Some (Err why)) own h = by_first spent_ Pin (Err why) own h

@@ -1,0 +1,91 @@
+-- A recording or a playback that found no turn left found so after as many as there are.
+use Rattle.std.proofs.Common.{◌≡◌, ◌⊎◌, inl, inr, ap, subst, ℕ, ℤ, Bool, true, false, List, [], ◌∷◌, Option, Some, None, Result, Ok, Err}
+use Rattle.std.specs.Prelude.{IsSomeAnd}
+use Rattle.pcm_base.specs.declared.refusal.Refusal.{Refusal}
+use Rattle.pcm_base.specs.declared.refusal.Refusal.TheVariants.{NoMemory}
+use Rattle.pcm_base.specs.declared.sound.Frame.{Frame}
+use Rattle.edit_ports.specs.declared.sink.Sink as sink
+use Rattle.edit_ports.specs.declared.source.Source as source
+use Rattle.editor_core.specs.Applied.{reply_of}
+use Rattle.pin_turn.specs.Counts.{Each}
+use Rattle.pin_turn.proofs.Sums.{Each-left, Each-right}
+use Rattle.recorder_work.specs.declared.microphone.MicEnd.{MicEnd}
+use Rattle.recorder_work.specs.declared.microphone.MicEnd.TheVariants as mic_end
+use Rattle.script_text.specs.declared.last.PlayEnd.TheVariants as play
+use Rattle.script_text.specs.declared.last.RecordEnd.TheVariants as rec
+use Rattle.script_session.specs.Change.{Change}
+use Rattle.studio_seats.specs.declared.deed.Deed.{Deed}
+use Rattle.studio_seats.specs.Desks.{spent}
+use Rattle.studio_seats.specs.Leads.{HadTurn}
+use Rattle.studio_seats.specs.Onward.{EndsBy}
+use Rattle.desk_session.specs.declared.told.Heard.{Heard}
+use Rattle.desk_session.specs.declared.told.Kept.{Kept}
+use Rattle.desk_session.specs.Opening.{PinDeed, TrackDeed, WhereMade}
+use Rattle.desk_session.specs.Sounds.{Played, Recorded}
+use Rattle.session_run.specs.Last.{play_end, play_line, record_end, record_line}
+use Rattle.session_run.specs.Sides.{Refused}
+use Rattle.session_run.proofs.SideEntries.{pin_spent, track_spent}
+
+record_refusal : (refused : Option Refusal) (end : MicEnd) (why : Refusal) → record_end refused end ≡ rec.Refused why
+    → refused ≡ Some why
+record_refusal (Some other) end why is = cc
+record_refusal None mic_end.End why is = cc
+record_refusal None mic_end.Fault why is = cc
+record_refusal None mic_end.Limit why is = cc
+
+play_refusal : (refused : Option Refusal) (fault : Bool) (why : Refusal) → play_end refused fault ≡ play.Refused why
+    → refused ≡ Some why
+play_refusal (Some other) fault why is = cc
+play_refusal None true why is = cc
+play_refusal None false why is = cc
+
+-- no deed tells that no turn was left, so the seat knows it
+ends_spent : (used : Bool) (own : List Deed) → EndsBy used (Some spent) own → Each HadTurn own → used ≡ true
+ends_spent used own (inl h) had =
+    absurd ((Each-right HadTurn h.done (h.last ∷ []) (subst (λ (l : List Deed). Each HadTurn l) h.are had)).0
+    (ap reply_of h.refused))
+ends_spent used own (inr h) had = h.found
+
+spent_memory : spent ≡ NoMemory → ⊥
+spent_memory is = cc
+
+pub recording_spent : {M : Type 0} (mics : source.Ghosts M) (mic : Change M)
+    (pieces : ℕ → Change (List (List ℤ × ℕ))) (track : ℕ) (used : Bool) (made : Option (Result ℕ Refusal))
+    (kept : Option Kept) (opening own : List Deed) (else_ : Type 0)
+    → WhereMade made (λ tag. IsSomeAnd kept (Recorded mics mic (pieces tag) used own)) else_
+    → TrackDeed used 0 made opening → Each HadTurn opening → Each HadTurn own
+    → IsSomeAnd (record_line track made kept) (λ line. line.end ≡ rec.Refused spent) → used ≡ true
+recording_spent mics mic pieces track used None kept opening own else_ h opened had_opening had is = absurd is
+recording_spent mics mic pieces track used (Some (Err why)) kept opening own else_ h opened had_opening had is =
+    track_spent used (Some (Err why)) opening opened had_opening (same why spent is)
+  where
+    same : (a b : Refusal) → rec.Refused a ≡ rec.Refused b → Refused a ≡ Refused b
+    same a b is = cc
+recording_spent mics mic pieces track used (Some (Ok tag)) None opening own else_ h opened had_opening had is = absurd h
+recording_spent mics mic pieces track used (Some (Ok tag)) (Some kept) opening own else_ h opened had_opening had is =
+    by ((h.is.takes.some spent (record_refusal kept.refused kept.end spent is)).1)
+  where
+    by : (h.told ≡ Some spent) ⊎ ((spent ≡ NoMemory) × (h.told ≡ None)) → used ≡ true
+    by (inl told) = ends_spent used own (subst (λ (r : Option Refusal). EndsBy used r own) told h.ends) had
+    by (inr memory) = absurd (spent_memory memory.0)
+
+pub playback_spent : {P : Type 0} (speakers : sink.Ghosts P) (speaker : Change P)
+    (shows : ℕ → List Frame → Type 0) (used : Bool) (player : ℕ) (made : Option (Result ℕ Refusal))
+    (heard : Option Heard) (opening own : List Deed) (else_ : Type 0)
+    → WhereMade made (λ pin. IsSomeAnd heard (Played speakers speaker (shows pin) pin used player own)) else_
+    → PinDeed used 0 made opening → Each HadTurn opening → Each HadTurn own
+    → IsSomeAnd (play_line made heard) (λ line. line.end ≡ play.Refused spent) → used ≡ true
+playback_spent speakers speaker shows used player None heard opening own else_ h opened had_opening had is = absurd is
+playback_spent speakers speaker shows used player (Some (Err why)) heard opening own else_ h opened had_opening had is =
+    pin_spent used (Some (Err why)) opening opened had_opening (same why spent is)
+  where
+    same : (a b : Refusal) → play.Refused a ≡ play.Refused b → Refused a ≡ Refused b
+    same a b is = cc
+playback_spent speakers speaker shows used player (Some (Ok pin)) None opening own else_ h opened had_opening had is =
+    absurd h
+playback_spent speakers speaker shows used player (Some (Ok pin)) (Some heard) opening own else_ h opened had_opening
+    had is =
+    ends_spent used h.reads
+    (subst (λ (r : Option Refusal). EndsBy used r h.reads)
+    (play_refusal heard.refused heard.fault spent is) h.ends)
+    (Each-left HadTurn h.reads h.release (subst (λ (l : List Deed). Each HadTurn l) h.own_is had))

@@ -1,0 +1,47 @@
+-- How the lines of a script, their answers and the entries of a run belong together. The script is the actor 0.
+use Rattle.std.specs.Prelude.{◌≡◌, ◌⊎◌, ℕ, List, [], ◌∷◌, ◌++◌, MatchBool, Result, Ok, Err}
+use Rattle.pcm_base.specs.declared.answer.Answer.{Answer}
+use Rattle.pcm_base.specs.declared.answer.Reply.{Reply}
+use Rattle.pcm_base.specs.declared.answer.Reply.TheVariants.{Refused}
+use Rattle.pcm_base.specs.declared.command.Call.TheVariants.{Line}
+use Rattle.pcm_base.specs.declared.command.Command.{Command}
+use Rattle.pcm_base.specs.declared.entry.Entry.{Entry}
+use Rattle.pcm_base.specs.declared.refusal.Refusal.TheVariants.{BadLine, NoMemory}
+use Rattle.script_text.specs.Grammar.{is_silent, line_of}
+use Rattle.studio_seats.specs.Desks.{spent}
+use Rattle.session_run.specs.Entries.{entries_by, last_number}
+
+-- A line without an entry is answered NoMemory, as memory was wanting before its turn. Otherwise it is out of the grammar
+-- and answered BadLine, or it found no turn left.
+abbrev pub IsUnasked : Result Command ℕ → Reply → Type 0
+IsUnasked (Err column) r = (r ≡ Refused (BadLine column)) ⊎ (r ≡ Refused NoMemory)
+IsUnasked (Ok command) r = (r ≡ Refused spent) ⊎ (r ≡ Refused NoMemory)
+
+-- A line's entry is the script's next one. Its answer prints the reply, and the commit number after the entry.
+pub record IsEntered (n : ℕ) (line : Result Command ℕ) (a : Answer) (entries later : List Entry) : Type 0 where
+  pub command : Command
+  pub read : line ≡ Ok command
+  pub others : List Entry
+  pub by_others : entries_by 0 others ≡ []
+  pub entry : Entry
+  pub cut : entries ≡ others ++ entry ∷ later
+  pub actor : entry.actor ≡ 0
+  pub call : entry.call ≡ Line command
+  pub reply : a.reply ≡ entry.reply
+  pub commit : a.commit ≡ last_number n (others ++ entry ∷ [])
+
+-- A line has the first answer, by its entry or without one. Without one the answer prints the number printed last, or
+-- that of the opening. The later lines have the other answers, by what is left of the entries.
+abbrev pub IsNext : ℕ → ℕ → Result Command ℕ → List Answer → List Entry
+    → (ℕ → ℕ → List Answer → List Entry → Type 0) → Type 0
+IsNext n last line [] entries Later = ⊥
+IsNext n last line (a ∷ answers) entries Later =
+    (IsUnasked line a.reply × (a.commit ≡ last) × Later n last answers entries)
+    ⊎ ((later : List Entry) × IsEntered n line a entries later × Later a.commit a.commit answers later)
+
+-- From this commit number on, with that number printed last, the lines have these answers, in order, by these entries.
+-- A silent line has none. What is left of the entries is by others.
+abbrev pub Answered : ℕ → ℕ → List (List ℕ) → List Answer → List Entry → Type 0
+Answered n last [] answers entries = (answers ≡ []) × (entries_by 0 entries ≡ [])
+Answered n last (line ∷ lines) answers entries = MatchBool (is_silent line) (Answered n last lines answers entries)
+    (IsNext n last (line_of line) answers entries (λ m shown more rest. Answered m shown lines more rest))

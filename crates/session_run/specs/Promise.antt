@@ -1,0 +1,162 @@
+-- The promise: what a call of the word `run` does, in the words of the model, the texts and the disk.
+use Rattle.std.specs.Prelude.{◌≡◌, ◌≢◌, ◌⊎◌, ℕ, ◌^◌, ◌||◌, Bool, true, List, ◌++◌, length, Option, Some, None}
+use Rattle.std.specs.Prelude.{false, IsSome, IsSomeAnd, IfErr, flat_map}
+use Rattle.pcm_base.specs.declared.answer.Answer.{Answer}
+use Rattle.pcm_base.specs.declared.answer.Reply.TheVariants as reply
+use Rattle.pcm_base.specs.declared.command.Call.TheVariants.{Line, Pin}
+use Rattle.pcm_base.specs.declared.command.Command.TheVariants.{Track}
+use Rattle.pcm_base.specs.declared.entry.Entry.{Entry}
+use Rattle.pcm_base.specs.Causes.{Rose}
+use Rattle.pcm_base.specs.Outside.{Sounds}
+use Rattle.pcm_base.specs.Run.{Follows, Run, result_of}
+use Rattle.pcm_base.specs.Studio.{Studio}
+use Rattle.disk_model.specs.declared.store.Store.{Ghosts}
+use Rattle.edit_ports.specs.Told.{preceded}
+use Rattle.pin_turn.specs.Counts.{Each}
+use Rattle.project_journal.specs.Gate.{EachNow, EachSince}
+use Rattle.project_state.specs.Kept.{Keeps}
+use Rattle.script_text.specs.declared.last.PlayEnd.TheVariants as play
+use Rattle.script_text.specs.declared.last.PlayLine.{PlayLine}
+use Rattle.script_text.specs.declared.last.RecordEnd.TheVariants as rec
+use Rattle.script_text.specs.declared.last.RecordLine.{RecordLine}
+use Rattle.script_text.specs.Last.{last_text}
+use Rattle.script_text.specs.Text.{text_of}
+use Rattle.editor_core.specs.Core.{Core}
+use Rattle.editor_core.specs.Events.{KeepsPrefix}
+use Rattle.editor_core.specs.Left.{LeavesForeign}
+use Rattle.editor_core.specs.Studios.{shown, studio_of}
+use Rattle.studio_seats.specs.Desks.{spent}
+use Rattle.studio_seats.specs.Faults.{IsCalm}
+use Rattle.studio_seats.specs.Leads.{IsUnharmed, StopsInFlight}
+use Rattle.studio_seats.specs.Pins.{pin_frames}
+use Rattle.script_session.specs.declared.stop.Stop.{Stop}
+use Rattle.script_session.specs.declared.stop.Stop.TheVariants as stop
+use Rattle.script_session.specs.Change.{Change}
+use Rattle.script_session.specs.Progress.{BreaksOff, IsCut}
+use Rattle.script_session.specs.Served.{IsOfNoDevice}
+use Rattle.script_session.specs.Session.{is_refusal}
+use Rattle.script_session.specs.Spent.{TellSpent}
+use Rattle.session_run.specs.Answered.{Answered}
+use Rattle.session_run.specs.Entries.{entries_by, is_by, last_number, numbers_by}
+use Rattle.session_run.specs.Opening.{OpensTo}
+use Rattle.session_run.specs.Sides.{MakesSide, PlaysSide, RecordsSide, Side, is_asked, side_number}
+use Rattle.session_run.specs.Streams.{Input, Output, PrintsFrom}
+
+-- What a call met and what it left, as the types of its devices report them, whether a recording and a playback were
+-- asked for, and the numbers of its Ending.
+pub record Met (D : Type 0) : Type 0 where
+  pub records : Bool
+  pub plays : Bool
+  pub store : Change D
+  pub script : Input
+  pub out : Output
+  pub mic : Input
+  pub speaker : Output
+  pub sounds : Change Sounds
+  pub vault_faults : Change ℕ
+  pub first_commit : ℕ
+  pub last_commit : ℕ
+  pub record_commit : Option ℕ
+  pub script_commits : List ℕ
+  pub piece_commits : List ℕ
+
+-- How a session ended: what stopped its script, the bytes of it that were read, and the lines carried out. And what
+-- became of a recording and of a playback, their actors, and their last lines.
+pub record Ended : Type 0 where
+  pub stop : Stop
+  pub read : List ℕ
+  pub lines : List (List ℕ)
+  pub recording : Side
+  pub playback : Side
+  pub recorder : ℕ
+  pub player : ℕ
+  pub record_line : Option RecordLine
+  pub play_line : Option PlayLine
+
+-- what stopped a script is seen in the counts of its devices
+abbrev pub IsStoppedFor : Stop → Change ℕ → Change ℕ → Type 0
+IsStoppedFor stop.End script out = script.now ≡ script.before
+IsStoppedFor stop.Limit script out = script.now ≡ script.before
+IsStoppedFor stop.SourceFault script out = Rose script.before script.now
+IsStoppedFor stop.OutFault script out = (script.now ≡ script.before) × Rose out.before out.now
+
+-- a studio has the disk's counts of faults
+abbrev pub HasFaults : {D : Type 0} → Ghosts D → D → Studio → Type 0
+HasFaults disk store s =
+    (s.read_faults ≡ disk.read_fault_count store) × (s.change_faults ≡ disk.change_fault_count store)
+
+-- What is promised where the disk is honest (IsHonest of editor_recovery) and the vault of the sounds reports its bytes.
+-- The premises stand at `Promises` in Call.
+pub record Promise {D : Type 0} (disk : Ghosts D) (m : Met D) : Type 0 where
+  -- What nobody but the program sees: the project that was opened, and the studio at the end; the entries of the
+  -- opening's track and pin, and those of the session; the answers, and how the session ended.
+  pub start : Studio
+  pub final : Studio
+  pub track : List Entry
+  pub pin : List Entry
+  pub entries : List Entry
+  pub answers : List Answer
+  pub end : Ended
+  -- the studio is that of the project on the disk, with nothing copied or pinned
+  pub began : (core : Core D) × OpensTo disk m.store.before core × (start ≡ studio_of disk core)
+  pub opened : Keeps (disk.reads m.store.before) (shown start)
+  pub new : (start.stopped ≡ None) × (start.state.clipboard ≡ None) × (start.state.next_pin ≡ 1)
+  -- its counts of faults are the disk's, before and at the end
+  pub faults_before : HasFaults disk m.store.before start
+  pub faults_now : HasFaults disk m.store.now final
+  -- ONE RUN of the plain array editor, by the script, which is the actor 0, the recorder and the player
+  pub run : Run start ((track ++ pin) ++ entries) final
+  pub makers : Each (λ e. (is_by 0 e || (is_by end.recorder e || is_by end.player e)) ≡ true) entries
+  pub apart : (0 ≢ end.recorder) × (0 ≢ end.player) × (end.recorder ≢ end.player)
+  pub asked : (is_asked end.recording ≡ m.records) × (is_asked end.playback ≡ m.plays)
+  -- over the script's LINES, in order, each with its answer
+  pub read : m.script.left.before ≡ preceded end.read m.script.left.now
+  pub carried : IsCut end.stop end.read end.lines m.script.left.now
+  pub lines : Answered (last_number start.state.commit (track ++ pin))
+      (last_number start.state.commit (track ++ pin)) end.lines answers entries
+  pub sounds : Follows m.sounds.before (entries_by 0 entries) m.sounds.now
+  -- and the recorded PIECES, after a track of their own
+  pub track_is : MakesSide (Line Track)
+      (λ tag r. (tag ≡ last_number start.state.commit track) × (is_refusal r ≡ false)) end.recording track
+  pub pieces : RecordsSide end.recording start.state.next_track m.mic end.record_line m.piece_commits
+      (entries_by end.recorder entries)
+  -- the ANSWERS printed, and the last lines; after a fault of the output a part from the front, up to within the answer to
+  -- the last line
+  pub printed : PrintsFrom m.out
+      (flat_map text_of answers ++ last_text end.record_line end.play_line m.last_commit)
+  pub broke : end.stop ≡ stop.OutFault → BreaksOff m.out.written.before m.out.written.now answers
+  pub stopped : IsStoppedFor end.stop m.script.faults m.out.faults
+  -- what was PLAYED is a prefix of the mix that the pin shows
+  pub pin_is : MakesSide Pin (λ number r. r ≡ reply.Pinned number) end.playback pin
+  pub played : PlaysSide (length ((track ++ pin) ++ entries) ≡ 2 ^ 62) end.playback
+      (λ number mix. pin_frames start.rate start.state (track ++ pin) number ≡ Some mix)
+      m.speaker end.play_line (entries_by end.player entries)
+  -- the NUMBERS of the run: the first and the last, and those of the script's commits and of the recorder's
+  pub first : m.first_commit ≡ start.state.commit
+  pub last : (m.last_commit ≡ final.state.commit)
+      × (m.last_commit ≡ last_number m.first_commit ((track ++ pin) ++ entries))
+  pub record_is : m.record_commit ≡ side_number end.recording
+  pub script_numbers : m.script_commits ≡ numbers_by 0 (last_number m.first_commit (track ++ pin)) entries
+  pub piece_numbers : m.piece_commits ≡ numbers_by end.recorder (last_number m.first_commit (track ++ pin)) entries
+  -- WHEREVER THE DISK STOPS, each image that it could not leave before has the project after some of the first entries.
+  -- The one in flight counts as the last.
+  pub any_moment : EachSince disk m.store.before m.store.now (λ c.
+      disk.may_leave m.store.before (disk.clock m.store.before) c
+      ⊎ KeepsPrefix start ((track ++ pin) ++ entries) c)
+  -- At the end it has the project after all entries. Where the disk stopped the studio, the entry broken off may be in
+  -- flight. A disk that stops is one whose calls fail from some call on, and the clause is about each such disk. So
+  -- what a stop leaves holds every entry that was answered before it.
+  pub going : final.stopped ≡ None → EachNow disk m.store.now (λ c. Keeps c (shown final))
+  pub broken : IsSome final.stopped
+      → EachNow disk m.store.now (λ c. Keeps c (shown final) ⊎ StopsInFlight start ((track ++ pin) ++ entries) c)
+  -- Files that are neither the journal nor a block's stay as they are, and no entry found a damaged file.
+  pub foreign : LeavesForeign (disk.reads m.store.before) (disk.reads m.store.now)
+  pub whole : Each (λ e. IfErr (result_of e.reply) IsUnharmed) ((track ++ pin) ++ entries)
+  -- WHERE NO DEVICE FAILED the studio goes on, and no entry of the script has a device's reply
+  pub served : IsCalm start final → (Rose m.vault_faults.before m.vault_faults.now → ⊥)
+      → (final.stopped ≡ None) × Each (λ e. IfErr (result_of e.reply) IsOfNoDevice) (entries_by 0 entries)
+  -- no turn was left, for a line, the recording or the playback, only after as many entries as there are turns
+  pub turns : TellSpent answers
+      ⊎ (IsSomeAnd end.record_line (λ line. line.end ≡ rec.Refused spent)
+      ⊎ IsSomeAnd end.play_line (λ line. line.end ≡ play.Refused spent))
+      → length ((track ++ pin) ++ entries) ≡ 2 ^ 62

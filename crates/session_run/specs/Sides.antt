@@ -1,0 +1,167 @@
+-- What was made for a recording or a playback before the script, and how each ends.
+use Rattle.std.specs.Prelude.{◌≡◌, ◌⊎◌, ℕ, ◌<◌, ◌≤◌, ◌^◌, ◌/◌, ℤ, Bool, true, false, List, [], ◌∷◌, ◌++◌, length, take}
+use Rattle.std.specs.Prelude.{Option, Some, None, sum_by}
+use Rattle.std.specs.Io.KnownBytes.{IsAtEnd}
+use Rattle.pcm_base.specs.declared.answer.Reply.{Reply}
+use Rattle.pcm_base.specs.declared.answer.Reply.TheVariants as reply
+use Rattle.pcm_base.specs.declared.command.Call.{Call}
+use Rattle.pcm_base.specs.declared.command.Call.TheVariants.{Piece, ReadPin, Unpin}
+use Rattle.pcm_base.specs.declared.entry.Entry.{Entry}
+use Rattle.pcm_base.specs.declared.refusal.Refusal.{Refusal}
+use Rattle.pcm_base.specs.declared.refusal.Refusal.TheVariants.{NoMemory}
+use Rattle.pcm_base.specs.declared.sound.Frame.{Frame}
+use Rattle.pcm_base.specs.Causes.{Rose}
+use Rattle.pcm_base.specs.Recordings.{chunks_of, frame_bytes}
+use Rattle.edit_ports.specs.Told.{grown, preceded}
+use Rattle.script_session.specs.Session.{is_refusal}
+use Rattle.script_text.specs.declared.last.PlayEnd.{PlayEnd}
+use Rattle.script_text.specs.declared.last.PlayEnd.TheVariants as play
+use Rattle.script_text.specs.declared.last.PlayLine.{PlayLine}
+use Rattle.script_text.specs.declared.last.RecordEnd.{RecordEnd}
+use Rattle.script_text.specs.declared.last.RecordEnd.TheVariants as rec
+use Rattle.script_text.specs.declared.last.RecordLine.{RecordLine}
+use Rattle.studio_seats.specs.Desks.{spent}
+use Rattle.session_run.specs.Streams.{Input, IsIdleInput, IsIdleOutput, Output}
+
+-- A recording or a playback: it was not asked for, its track or pin was refused, or it was made. The number of a
+-- recording is its track's commit number, and that of a playback is its pin.
+pub data Side : Type 0 where
+  NotAsked : Side
+  Refused : Refusal → Side
+  Made : ℕ → Side
+
+-- whether it was asked for
+abbrev pub is_asked : Side → Bool
+is_asked NotAsked = false
+is_asked (Refused why) = true
+is_asked (Made number) = true
+
+-- the number of one that was made
+abbrev pub side_number : Side → Option ℕ
+side_number NotAsked = None
+side_number (Refused why) = None
+side_number (Made number) = Some number
+
+-- ---- before the script
+
+-- one entry of the script's actor
+pub record IsOne (call : Call) (r : Reply) (es : List Entry) : Type 0 where
+  pub entry : Entry
+  pub are : es ≡ entry ∷ []
+  pub actor : entry.actor ≡ 0
+  pub call_is : entry.call ≡ call
+  pub reply : entry.reply ≡ r
+
+-- the entries that made a side: one, and none where none was asked for or no turn was left
+abbrev pub MakesSide : Call → (ℕ → Reply → Type 0) → Side → List Entry → Type 0
+MakesSide call Gives NotAsked es = es ≡ []
+MakesSide call Gives (Refused why) es = IsOne call (reply.Refused why) es ⊎ ((why ≡ spent) × (es ≡ []))
+MakesSide call Gives (Made number) es = (r : Reply) × Gives number r × IsOne call r es
+
+-- ---- the recording
+
+-- these entries are pieces of a recording with these samples, in order, each carried out
+abbrev pub ArePieces : ℕ → ℕ → List (List ℤ) → List Entry → Type 0
+ArePieces track tag [] es = es ≡ []
+ArePieces track tag (c ∷ cs) [] = ⊥
+ArePieces track tag (c ∷ cs) (e ∷ es) =
+    (e.call ≡ Piece track tag c) × (is_refusal e.reply ≡ false) × ArePieces track tag cs es
+
+-- what ends the reading of the microphone: its end, its fault, or the most that is read of it
+abbrev pub MicWhole : List ℕ → Input → Type 0
+MicWhole bytes mic = (length bytes < 2 ^ 33) × (mic.faults.now ≡ mic.faults.before) × IsAtEnd mic.left.now
+
+abbrev pub MicFails : List ℕ → Input → Type 0
+MicFails bytes mic = (length bytes < 2 ^ 33) × Rose mic.faults.before mic.faults.now
+
+abbrev pub MicLimit : List ℕ → Input → Type 0
+MicLimit bytes mic = (length bytes ≡ 2 ^ 33) × (mic.faults.now ≡ mic.faults.before)
+
+-- by the end of the recording's line; where a piece was refused it is one of the three
+abbrev pub MicEnds : RecordEnd → List ℕ → Input → Type 0
+MicEnds rec.Whole bytes mic = MicWhole bytes mic
+MicEnds rec.Fault bytes mic = MicFails bytes mic
+MicEnds rec.Limit bytes mic = MicLimit bytes mic
+MicEnds (rec.Refused why) bytes mic = MicWhole bytes mic ⊎ (MicFails bytes mic ⊎ MicLimit bytes mic)
+
+-- What refused a piece, after those that were taken: the entry of one more piece says why. Where none was made, no turn
+-- was left, or memory was wanting before it.
+abbrev pub PieceRefused : ℕ → ℕ → RecordEnd → List Entry → Type 0
+PieceRefused track tag (rec.Refused why) es = ((samples : List ℤ) × (e : Entry) × (es ≡ e ∷ [])
+    × (e.call ≡ Piece track tag samples) × (e.reply ≡ reply.Refused why))
+    ⊎ ((es ≡ []) × ((why ≡ spent) ⊎ (why ≡ NoMemory)))
+PieceRefused track tag end es = es ≡ []
+
+-- The bytes that were read of the microphone were cut into chunks. The first of them are the pieces, each once, in
+-- order, and each has a number. They are all of them only where none was refused. Their entries are these, and then that of the piece that was refused.
+pub record Records (track tag : ℕ) (mic : Input) (line : RecordLine) (numbers : List ℕ) (own : List Entry)
+    : Type 0 where
+  pub bytes : List ℕ
+  pub read : mic.left.before ≡ preceded bytes mic.left.now
+  pub ended : MicEnds line.end bytes mic
+  pub within : length numbers ≤ length (chunks_of bytes)
+  pub all : ((why : Refusal) → line.end ≡ rec.Refused why → ⊥) → length numbers ≡ length (chunks_of bytes)
+  pub fewer : (why : Refusal) → line.end ≡ rec.Refused why → length numbers < length (chunks_of bytes)
+  pub taken : List Entry
+  pub last : List Entry
+  pub own_is : own ≡ taken ++ last
+  pub pieces : ArePieces track tag (take (length numbers) (chunks_of bytes)) taken
+  pub refused : PieceRefused track tag line.end last
+  pub track_is : line.track ≡ track
+  pub pieces_are : line.pieces ≡ length numbers
+  pub samples_are : line.samples ≡ sum_by length (take (length numbers) (chunks_of bytes))
+
+-- the recording by its side: its line, the numbers of its pieces, and the entries of its actor
+abbrev pub RecordsSide : Side → ℕ → Input → Option RecordLine → List ℕ → List Entry → Type 0
+RecordsSide NotAsked track mic line numbers own = (line ≡ None) × (numbers ≡ []) × (own ≡ []) × IsIdleInput mic
+RecordsSide (Refused why) track mic line numbers own =
+    (line ≡ Some (record { track = 0; pieces = 0; samples = 0; end = rec.Refused why })) × (numbers ≡ []) × (own ≡ [])
+    × IsIdleInput mic
+RecordsSide (Made tag) track mic line numbers own =
+    (told : RecordLine) × (line ≡ Some told) × Records track tag mic told numbers own
+
+-- ---- the playback
+
+-- these entries read a pin, each carried out
+abbrev pub AreReads : ℕ → List Entry → Type 0
+AreReads pin [] = Unit {0}
+AreReads pin (e ∷ es) =
+    ((from count : ℕ) × (e.call ≡ ReadPin pin from count)) × (is_refusal e.reply ≡ false) × AreReads pin es
+
+-- what refused a read, after those that gave frames: the entry of one more says why, or no turn was left
+abbrev pub ReadRefused : ℕ → PlayEnd → List Entry → Type 0
+ReadRefused pin (play.Refused why) es =
+    ((from count : ℕ) × (e : Entry) × (es ≡ e ∷ []) × (e.call ≡ ReadPin pin from count)
+    × (e.reply ≡ reply.Refused why)) ⊎ ((es ≡ []) × (why ≡ spent))
+ReadRefused pin end es = es ≡ []
+
+-- the pin is released once, at the end, or no turn was left for that
+abbrev pub IsRelease : Type 0 → ℕ → List Entry → Type 0
+IsRelease NoTurn pin es = ((e : Entry) × (es ≡ e ∷ []) × (e.call ≡ Unpin pin)) ⊎ ((es ≡ []) × NoTurn)
+
+-- A prefix of the bytes of the frames that the pin shows was written to the speaker. It is all of them where the line
+-- has no refusal and no fault. The actor of the playback read them, and then released the pin.
+pub record Plays (NoTurn : Type 0) (pin : ℕ) (mix : List Frame) (speaker : Output) (line : PlayLine) (own : List Entry)
+    : Type 0 where
+  pub bytes : ℕ
+  pub within : bytes ≤ length (frame_bytes mix)
+  pub written : speaker.written.now ≡ grown speaker.written.before (take bytes (frame_bytes mix))
+  pub frames_are : line.frames ≡ bytes / 4
+  pub all : line.end ≡ play.Whole → (bytes ≡ length (frame_bytes mix)) × (speaker.faults.now ≡ speaker.faults.before)
+  pub fault : line.end ≡ play.Fault → Rose speaker.faults.before speaker.faults.now
+  pub reads : List Entry
+  pub last : List Entry
+  pub release : List Entry
+  pub own_is : own ≡ (reads ++ last) ++ release
+  pub are : AreReads pin reads
+  pub refused : ReadRefused pin line.end last
+  pub released : IsRelease NoTurn pin release
+
+-- the playback by its side, where the pin shows the frames of a mix
+abbrev pub PlaysSide : Type 0 → Side → (ℕ → List Frame → Type 0) → Output → Option PlayLine → List Entry → Type 0
+PlaysSide NoTurn NotAsked Shows speaker line own = (line ≡ None) × (own ≡ []) × IsIdleOutput speaker
+PlaysSide NoTurn (Refused why) Shows speaker line own =
+    (line ≡ Some (record { frames = 0; end = play.Refused why })) × (own ≡ []) × IsIdleOutput speaker
+PlaysSide NoTurn (Made pin) Shows speaker line own =
+    (told : PlayLine) × (line ≡ Some told)
+    × ((mix : List Frame) → Shows pin mix → Plays NoTurn pin mix speaker told own)

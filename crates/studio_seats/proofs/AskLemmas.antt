@@ -1,0 +1,31 @@
+-- What deeds ask of the disk, one after another.
+use Rattle.std.proofs.Common.{sym, subst, List, [], ◌∷◌}
+use Rattle.disk_model.specs.Frames.{Changed}
+use Rattle.disk_model.specs.Room.{Room}
+use Rattle.disk_model.specs.declared.store.Store.{Ghosts}
+use Rattle.disk_model.proofs.Frames.{Fewer, changed_none, changed_turn}
+use Rattle.disk_model.proofs.Rooms.{within_refl}
+use Rattle.edit_ports.specs.declared.vault.Vault as vault
+use Rattle.editor_core.specs.Core.{Core}
+use Rattle.editor_core.specs.Left.{LeavesForeign}
+use Rattle.editor_core.specs.Studios.{IsStudio}
+use Rattle.editor_core.proofs.Others.{foreign_of, foreign_same, foreign_then}
+use Rattle.studio_seats.specs.declared.deed.Deed.{Deed}
+use Rattle.studio_seats.specs.Leads.{DeedsAsk, chain_asks}
+use Rattle.studio_seats.specs.Stands.{Chain}
+
+module _ {D V : Type 0} (disk : Ghosts D) (vaults : vault.Ghosts V) (fewer : (store : D) → Fewer disk store) where
+  asked : (old : Core D) (ds : List Deed) (new : Core D) (chain : Chain disk vaults old ds new) → IsStudio disk old
+      → Changed disk LeavesForeign (chain_asks disk vaults old ds new chain) old.store new.store
+  asked old [] new chain is =
+      let none : Room = record { files = 0; bytes = 0; calls = 0 } in
+      subst (λ (z : Core D). Changed disk LeavesForeign none old.store z.store) (sym chain)
+      (changed_none old.store foreign_same (fewer old.store))
+  asked old (d ∷ ds) new chain is =
+      let one = foreign_of disk old chain.0 d.call is in
+      changed_turn one (λ e f c step rest. foreign_then e f c (one e f step) rest)
+      (within_refl (chain_asks disk vaults old (d ∷ ds) new chain))
+      chain.1.lasts.changed (asked chain.0 ds new chain.2 chain.1.lasts.studio)
+
+  pub deeds_ask : DeedsAsk disk vaults
+  deeds_ask start now deeds stands = asked start deeds now stands.chain stands.began

@@ -1,0 +1,173 @@
+// Sounds of a vault in memory, read and written in parts, with buffers of several lengths.
+use super::wav_pcm_tests::{LISTED, MONO, TWO, three_channels};
+use edit_ports::{MemVault, Vault};
+use pcm_base::{Frame, Numbers, Refusal, WavFault};
+use std::alloc::Global;
+use std::test::*;
+use wav_pcm::{WavHead, append_frames, channel, head, read, start_wav, write};
+
+/// A vault with this sound, which fails at the calls of these numbers.
+fn vault(alloc: Global, bytes: &[u8], fails: Vec<u64>) -> Result<MemVault, Fail> {
+    let mut vault = MemVault::new(alloc, 4, 100_000, Numbers::new(fails))
+        .ok()
+        .ok_or("no memory")?;
+    vault.place("a.wav", bytes).ok().ok_or("no memory")?;
+    Ok(vault)
+}
+
+/// The sound read in parts is the sound read whole.
+fn is_read(rt: &HostRuntime, bytes: &[u8], room: usize) -> Result<bool, Fail> {
+    if room < 64 {
+        return Ok(false);
+    }
+    let alloc = rt.alloc();
+    let mut vault = vault(alloc, bytes, Vec::new(alloc))?;
+    let mut buf = vec![in alloc; 7u8; room]?;
+    let whole = read(alloc, bytes).ok().ok_or("refused")?;
+    let head = head(&mut vault, "a.wav", &mut buf).ok().ok_or("refused")?;
+    if head.rate != whole.rate || usize::from(head.channels) != whole.channels.as_slice().len() {
+        return Ok(false);
+    }
+    let mut c = 0;
+    for samples in whole.channels.as_slice() {
+        let samples = samples.as_slice();
+        if head.frames != samples.len() as u64 || c >= head.channels {
+            return Ok(false);
+        }
+        let mut out = vec![in alloc; 7i16; samples.len()]?;
+        channel(&mut vault, "a.wav", &head, c, 0, &mut buf, &mut out)
+            .ok()
+            .ok_or("refused")?;
+        if out.as_slice() != samples {
+            return Ok(false);
+        }
+        c += 1;
+    }
+    Ok(true)
+}
+
+#[test]
+fn read_in_parts(rt: HostRuntime) -> Result<(), Fail> {
+    let three = three_channels(rt.alloc(), 40)?;
+    for room in [64, 65, 65_536] {
+        assert!(rt; is_read(&rt, &MONO, room)?);
+        assert!(rt; is_read(&rt, &TWO, room)?);
+        assert!(rt; is_read(&rt, &LISTED, room)?);
+        assert!(rt; is_read(&rt, &three, room)?);
+    }
+    Ok(())
+}
+
+/// What a head is refused with, of these bytes.
+fn refusal(rt: &HostRuntime, bytes: &[u8], name: &str) -> Result<Option<Refusal>, Fail> {
+    let mut vault = vault(rt.alloc(), bytes, Vec::new(rt.alloc()))?;
+    let mut buf = [0u8; 64];
+    Ok(head(&mut vault, name, &mut buf).err())
+}
+
+#[test]
+fn refused(rt: HostRuntime) -> Result<(), Fail> {
+    let cut = WavFault::Truncated { want: 4, have: 3 };
+    assert!(rt; refusal(&rt, &MONO, "b.wav")? == Some(Refusal::NoFile));
+    assert!(rt; refusal(&rt, &MONO[..47], "a.wav")? == Some(Refusal::BadWav { fault: cut }));
+    for (len, fault) in [
+        (0, WavFault::NotRiff),
+        (12, WavFault::NoFmt),
+        (36, WavFault::NoData),
+    ] {
+        assert!(rt; refusal(&rt, &MONO[..len], "a.wav")? == Some(Refusal::BadWav { fault }));
+    }
+    Ok(())
+}
+
+/// A head with more frames than there are: the same two numbers for each buffer.
+#[test]
+fn cut(rt: HostRuntime) -> Result<(), Fail> {
+    let head = WavHead {
+        rate: 8_000,
+        channels: 1,
+        at: 44,
+        frames: 100,
+    };
+    let fault = WavFault::Truncated { want: 200, have: 4 };
+    for room in [64, 65, 65_536] {
+        let mut vault = vault(rt.alloc(), &MONO, Vec::new(rt.alloc()))?;
+        let mut buf = vec![in rt.alloc(); 7u8; room]?;
+        let mut out = [0i16; 100];
+        let got = channel(&mut vault, "a.wav", &head, 0, 0, &mut buf, &mut out).err();
+        assert!(rt; got == Some(Refusal::BadWav { fault }));
+    }
+    Ok(())
+}
+
+/// Frames that rise on the left and fall on the right.
+fn ramp(alloc: Global, from: i16, to: i16) -> Result<Vec<Frame>, Fail> {
+    let mut frames = Vec::new(alloc);
+    for left in from..to {
+        let right = left.wrapping_neg();
+        frames.push(Frame { left, right })?;
+    }
+    Ok(frames)
+}
+
+/// Begins a sound of 100 frames with a buffer of this length.
+fn begin(alloc: Global, vault: &mut MemVault, room: usize) -> Result<(), Fail> {
+    if room < 64 {
+        return Err("no room".into());
+    }
+    let mut buf = vec![in alloc; 7u8; room]?;
+    start_wav(vault, "b.wav", 100, 8_000, &mut buf)
+        .ok()
+        .ok_or("refused")?;
+    Ok(())
+}
+
+/// Appends frames to it.
+fn append(alloc: Global, vault: &mut MemVault, frames: &[Frame], room: usize) -> Result<(), Fail> {
+    if room < 64 {
+        return Err("no room".into());
+    }
+    let mut buf = vec![in alloc; 7u8; room]?;
+    append_frames(vault, "b.wav", frames, &mut buf)
+        .ok()
+        .ok_or("refused")?;
+    Ok(())
+}
+
+#[test]
+fn written_in_parts(rt: HostRuntime) -> Result<(), Fail> {
+    let alloc = rt.alloc();
+    let first = ramp(alloc, 0, 37)?;
+    let rest = ramp(alloc, 37, 100)?;
+    let want = write(alloc, &ramp(alloc, 0, 100)?, 8_000)
+        .ok()
+        .ok_or("refused")?;
+    for room in [64, 65, 65_536] {
+        let mut vault = vault(alloc, &MONO, Vec::new(alloc))?;
+        begin(alloc, &mut vault, room)?;
+        append(alloc, &mut vault, &first, room)?;
+        append(alloc, &mut vault, &rest, room)?;
+        let mut out = vec![in alloc; 7u8; want.len().saturating_add(1)]?;
+        let count = vault.read_at("b.wav", 0, &mut out).ok().ok_or("failed")?;
+        out.truncate(count);
+        assert!(rt; out.as_slice() == want.as_slice());
+    }
+    Ok(())
+}
+
+/// Each call of the vault fails in turn: the size, the four reads of this head, and then none.
+#[test]
+fn each_call_fails(rt: HostRuntime) -> Result<(), Fail> {
+    for call in 1..7u64 {
+        let mut vault = vault(rt.alloc(), &MONO, vec![in rt.alloc(); call]?)?;
+        let mut buf = [0u8; 64];
+        let got = head(&mut vault, "a.wav", &mut buf).err();
+        let want = if call < 6 {
+            Some(Refusal::VaultFault)
+        } else {
+            None
+        };
+        assert!(rt; got == want);
+    }
+    Ok(())
+}

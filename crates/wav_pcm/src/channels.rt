@@ -1,0 +1,171 @@
+// The samples of a channel of a WAV file of a vault, a piece at a time.
+ghost use Rattle.std.specs.Prelude.{◌≡◌, ◌≤◌, ◌<◌, ◌+◌, ◌-◌, ◌*◌, ◌^◌, length, min, IsTrue, IfOk, IfErr, OnOk};
+ghost use Rattle.edit_ports.specs.Sounds.{sound_bytes};
+ghost use Rattle.pcm_base.specs.declared.wav.WavFault.TheVariants as wav;
+ghost use Rattle.wav_pcm.specs.declared.fault.SoundFault.TheVariants as fault;
+ghost use Rattle.wav_pcm.specs.Parts.{SoundCounted, RefusalCounted, IsFor, IsVaultAlone};
+ghost use Rattle.wav_pcm.specs.Heads.{HasShape, IsHeadOf, IsChannelOf, IsCut, SaysChannel, bytes_of, place_of};
+
+use super::fault::SoundFault;
+use super::heads::WavHead;
+use super::interleaved::take_channel;
+use super::parts::read_some;
+use edit_ports::Vault;
+use pcm_base::{Refusal, WavFault};
+
+/// How many bytes a number of frames has.
+fn bytes_in(head: &WavHead, count: u64) -> u64
+    requires shape { HasShape head.now }
+    requires within { count ≤ head.now.frames }
+    ensures value { result ≡ bytes_of head.now count }
+    ensures bound { head.now.at + result < 2 ^ 64 }
+{
+    2 * u64::from(head.channels) * count
+}
+
+/// The place of a frame.
+fn place(head: &WavHead, from: u64) -> u64
+    requires shape { HasShape head.now }
+    requires within { from ≤ head.now.frames }
+    ensures { result ≡ place_of head.now from }
+{
+    head.at + bytes_in(head, from)
+}
+
+/// Reads samples of a channel whose frames fit into `buf`, and answers how many of the bytes are there.
+fn read_piece<V: Vault>(
+    vault: &mut V,
+    name: &str,
+    head: &WavHead,
+    c: u16,
+    from: u64,
+    buf: &mut [u8],
+    out: &mut [i16],
+) -> Result<u64, SoundFault>
+    requires shape { HasShape head.now }
+    requires channel { c < head.now.channels }
+    requires within { from + length out.old ≤ head.now.frames }
+    requires room { bytes_of head.now (length out.old) ≤ length buf.old }
+    ensures read { IsTrue (V.tells vault.old) → IfOk result (λ have. have ≡ bytes_of head.now (length out.old)
+        → IsChannelOf head.now from (sound_bytes (V.holds vault.old name.now)) c out.new) }
+    ensures count { IsTrue (V.tells vault.old) → IfOk result (λ have. have ≡ min (bytes_of head.now (length out.old))
+        (length (sound_bytes (V.holds vault.old name.now)) - place_of head.now from)) }
+    ensures within { IfOk result (λ have. have ≤ bytes_of head.now (length out.old)) }
+    ensures failed { IfErr result (λ why. why ≡ fault.Vault) }
+    ensures same { V.holds vault.new ≡ V.holds vault.old }
+    ensures tells { V.tells vault.new ≡ V.tells vault.old }
+    ensures faults { SoundCounted result (V.fault_count vault.old) (V.fault_count vault.new) }
+{
+    let size = bytes_in(head, out.len() as u64);
+    let piece = &mut buf[..size as usize];
+    match read_some(vault, name, place(head, from), piece) {
+        Ok(have) => {
+            let have = have as u64;
+            if have == size {
+                take_channel(piece, usize::from(head.channels), usize::from(c), out);
+            }
+            Ok(have)
+        }
+        Err(why) => Err(why),
+    }
+}
+
+/// The fault where fewer of the bytes of `all` frames are there: those of the first `done`, and `have` more.
+fn cut(head: &WavHead, all: u64, done: u64, have: u64) -> SoundFault
+    requires shape { HasShape head.now }
+    requires within { all ≤ head.now.frames }
+    requires some { bytes_of head.now done + have < bytes_of head.now all }
+    ensures { result ≡ fault.BadWav (wav.Truncated (bytes_of head.now all) (bytes_of head.now done + have)) }
+{
+    SoundFault::from(WavFault::Truncated {
+        want: bytes_in(head, all),
+        have: bytes_in(head, done) + have,
+    })
+}
+
+/// How many frames fit into a number of bytes.
+fn frames_in(head: &WavHead, room: usize) -> usize
+    requires shape { HasShape head.now }
+    requires room { 64 ≤ room }
+    ensures some { 0 < result }
+    ensures fit { bytes_of head.now result ≤ room }
+{
+    room / (2 * usize::from(head.channels))
+}
+
+// As `channel`, with a reason of this crate, and before what the whole sound says.
+fn read_channel<V: Vault>(
+    vault: &mut V,
+    name: &str,
+    head: &WavHead,
+    c: u16,
+    from: u64,
+    buf: &mut [u8],
+    out: &mut [i16],
+) -> Result<(), SoundFault>
+    requires room { 64 ≤ length buf.old }
+    requires shape { HasShape head.now }
+    requires channel { c < head.now.channels }
+    requires within { from + length out.old ≤ head.now.frames }
+    ensures read { IsTrue (V.tells vault.old) → OnOk result (IsChannelOf head.now from
+        (sound_bytes (V.holds vault.old name.now)) c out.new) }
+    ensures refused { IsTrue (V.tells vault.old) → IfErr result (IsCut head.now from (length out.old)
+        (sound_bytes (V.holds vault.old name.now))) }
+    ensures same { V.holds vault.new ≡ V.holds vault.old }
+    ensures tells { V.tells vault.new ≡ V.tells vault.old }
+    ensures faults { SoundCounted result (V.fault_count vault.old) (V.fault_count vault.new) }
+{
+    let room = frames_in(head, buf.len());
+    let all = out.len();
+    let mut done = 0;
+    'pieces: while done < all {
+        let count = room.min(all - done);
+        let part = &mut out[done..done + count];
+        let have = match read_piece(vault, name, head, c, from + done as u64, buf, part) {
+            Ok(have) => have,
+            Err(why) => return Err(why),
+        };
+        if have < bytes_in(head, count as u64) {
+            return Err(cut(head, all as u64, done as u64, have));
+        }
+        done += count;
+    }
+    Ok(())
+}
+
+/// Reads samples of a channel of a WAV file of a vault into `out`, from frame `from` on, as many as it has places for.
+/// `c` counts from 0, and `buf` has at least 64 bytes. The head says where the samples are. The bytes are read into
+/// `buf` a piece at a time, and where the sound has fewer of the bytes asked for, it is Truncated, for every length of
+/// `buf` with the same two numbers. It takes no memory. Errors: BadWav with Truncated, and VaultFault. After an error
+/// `out` may hold anything.
+pub fn channel<V: Vault>(
+    vault: &mut V,
+    name: &str,
+    head: &WavHead,
+    c: u16,
+    from: u64,
+    buf: &mut [u8],
+    out: &mut [i16],
+) -> Result<(), Refusal>
+    requires room { 64 ≤ length buf.old }
+    requires shape { HasShape head.now }
+    requires channel { c < head.now.channels }
+    requires within { from + length out.old ≤ head.now.frames }
+    ensures read { IsTrue (V.tells vault.old) → OnOk result (IsChannelOf head.now from
+        (sound_bytes (V.holds vault.old name.now)) c out.new) }
+    ensures refused { IsTrue (V.tells vault.old) → IfErr result (IsFor (IsCut head.now from (length out.old)
+        (sound_bytes (V.holds vault.old name.now)))) }
+    // Where the head is that of the sound, no byte is lacking, and these are the samples that its bytes say.
+    ensures sound { IsTrue (V.tells vault.old) → IsHeadOf (V.holds vault.old name.now) head.now
+        → OnOk result (SaysChannel (V.holds vault.old name.now) c from out.new) }
+    ensures whole { IsTrue (V.tells vault.old) → IsHeadOf (V.holds vault.old name.now) head.now
+        → IfErr result (IsFor IsVaultAlone) }
+    ensures same { V.holds vault.new ≡ V.holds vault.old }
+    ensures tells { V.tells vault.new ≡ V.tells vault.old }
+    ensures faults { RefusalCounted result (V.fault_count vault.old) (V.fault_count vault.new) }
+{
+    match read_channel(vault, name, head, c, from, buf, out) {
+        Ok(()) => Ok(()),
+        Err(why) => Err(Refusal::from(why)),
+    }
+}
