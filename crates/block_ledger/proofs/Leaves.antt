@@ -24,7 +24,7 @@ leaves_set es leaves i new lt le match = λ k. ⊎_elim
     ∙ get_or-set_other (map free_of es) i k (free_of new) None ne))
     (cases_eq k i)
 
-free_is : (c : Option ℕ) (x id : ℕ) → free_id x c ≡ Some id → (x ≡ id) × (c ≡ Some 0)
+pub free_is : (c : Option ℕ) (x id : ℕ) → free_id x c ≡ Some id → (x ≡ id) × (c ≡ Some 0)
 free_is None x id is = absurd cc
 free_is (Some zero) x id is = (cc, refl)
 free_is (Some (suc n)) x id is = absurd cc
@@ -40,7 +40,7 @@ free_at (e ∷ es) (suc k) id rising is =
     let no : None ≡ Some 0 = sym (absent_above e.id es id rising.0 (omega (arith, same))) ∙ more in cc) ∙ more
 
 -- and an id of count 0 is at a leaf
-leaf_of : (es : List Entry) (id : ℕ) → count_in es id ≡ Some 0
+pub leaf_of : (es : List Entry) (id : ℕ) → count_in es id ≡ Some 0
     → (k : ℕ) × (k < length es) × (get_or (map free_of es) k None ≡ Some id)
 leaf_of [] id is = absurd cc
 leaf_of (e ∷ es) id is = ⊎_elim

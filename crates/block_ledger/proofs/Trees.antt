@@ -50,7 +50,7 @@ whole_tree leaves nodes size all =
     record { size = size; parents = λ k least most. all k least most (λ same. omega (arith, same, least)) }
 
 -- the lesser of two is one of them, and no greater than either
-one_of_two : (a b : Option ℕ) (x : ℕ) → lesser a b ≡ Some x → (a ≡ Some x) ⊎ (b ≡ Some x)
+pub one_of_two : (a b : Option ℕ) (x : ℕ) → lesser a b ≡ Some x → (a ≡ Some x) ⊎ (b ≡ Some x)
 one_of_two None b x is = inr is
 one_of_two (Some a) None x is = inl is
 one_of_two (Some a) (Some b) x is = ⊎_elim
@@ -87,7 +87,7 @@ found_below leaves nodes tree (suc fuel) k x least most enough is = ⊎_elim
     ))
     (cases_lt k leaves)
 
-halves : (k : ℕ) → (k ≡ 2 * (k / 2)) ⊎ (k ≡ 2 * (k / 2) + 1)
+pub halves : (k : ℕ) → (k ≡ 2 * (k / 2)) ⊎ (k ≡ 2 * (k / 2) + 1)
 halves k = ⊎_elim (λ even. inl (omega (arith, even))) (λ odd. inr (omega (arith, odd))) (cases_lt (k % 2) 1)
 
 -- what a node has is no less than the root's

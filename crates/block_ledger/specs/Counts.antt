@@ -32,6 +32,12 @@ pub record IsFirstFree (counts : Counts) (id : ℕ) : Type 0 where
   pub free : counts id ≡ Some 0
   pub least : (other : ℕ) → counts other ≡ Some 0 → id ≤ other
 
+-- the least id of count 0 from one on
+pub record IsNextFree (counts : Counts) (from id : ℕ) : Type 0 where
+  pub free : counts id ≡ Some 0
+  pub past : from ≤ id
+  pub least : (other : ℕ) → from ≤ other → counts other ≡ Some 0 → id ≤ other
+
 -- an id, where its count is 0
 abbrev pub free_id : ℕ → Option ℕ → Option ℕ
 free_id id None = None

@@ -76,6 +76,12 @@ pub record IsGap (es : List Entry) (id i : ℕ) : Type 0 where
   pub below : (j : ℕ) → j < i → id_at es j < id
   pub above : (j : ℕ) → i ≤ j → j < length es → id < id_at es j
 
+-- the ids of the entries from this place on are those from an id on
+pub record IsFrom (es : List Entry) (from place : ℕ) : Type 0 where
+  pub within : place ≤ length es
+  pub below : (j : ℕ) → j < place → id_at es j < from
+  pub past : (j : ℕ) → place ≤ j → j < length es → from ≤ id_at es j
+
 -- what holds of a ledger's parts
 pub record IsLedger (es : List Entry) (tree : List (Option ℕ)) (capacity : ℕ) : Type 0 where
   pub rising : IsRising es

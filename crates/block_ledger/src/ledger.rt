@@ -5,9 +5,9 @@ ghost use Rattle.std.specs.Prelude.{slice_index_or, vec_capacity};
 ghost use Rattle.std.specs.List.{insert, filter};
 ghost use Rattle.std.specs.List.Sorted.{IsStrictlyIncreasing};
 ghost use Rattle.block_ledger.specs.declared.entry.Entry.{Entry};
-ghost use Rattle.block_ledger.specs.Counts.{AreNamed, IsFirstFree, IsFreshCount, IsNamed, SetsCount, one_less};
-ghost use Rattle.block_ledger.specs.Counts.{one_more};
-ghost use Rattle.block_ledger.specs.Entries.{FollowsIds, IsAt, IsGap, IsLeaves, IsRising, count_of, free_of, id_at};
+ghost use Rattle.block_ledger.specs.Counts.{AreNamed, IsFirstFree, IsFreshCount, IsNamed, IsNextFree, SetsCount};
+ghost use Rattle.block_ledger.specs.Counts.{one_less, one_more};
+ghost use Rattle.block_ledger.specs.Entries.{FollowsIds, IsAt, IsFrom, IsGap, IsLeaves, IsRising, count_of, free_of, id_at};
 ghost use Rattle.block_ledger.specs.Entries.{is_kept, places, with_count};
 
 use super::entry::{Entry, lowered, raised};
@@ -148,6 +148,14 @@ impl Ledger {
         self.free.least()
     }
 
+    /// The least id from `from` on whose count is 0.
+    pub fn next_free(&self, from: u64) -> Option<u64>
+        ensures found { IfSome result (IsNextFree (count_of self.now) from) }
+        ensures none { IfNone result ((id : ℕ) → from ≤ id → count_of self.now id ≡ Some 0 → ⊥) }
+    {
+        self.free.least_from(self.place_from(from))
+    }
+
     /// The ids that occur, rising.
     pub fn all_named(&self) -> Result<Numbers, NoMemory>
         ensures rising { IfOk result IsStrictlyIncreasing }
@@ -186,6 +194,15 @@ impl Ledger {
         match self.entries.get(self.next) {
             Some(entry) if entry.id == id => Ok(self.next),
             _ => self.entries.binary_search_by_key(&id, |entry| entry.id),
+        }
+    }
+
+    // The place of the first entry whose id is `from` or above.
+    fn place_from(&self, from: u64) -> usize
+        ensures { IsFrom self.now.entries from result }
+    {
+        match self.position(from) {
+            Ok(place) | Err(place) => place,
         }
     }
 

@@ -1,6 +1,6 @@
 // The least of many ids, of which some come and go.
 ghost use Rattle.std.specs.Prelude.{◌≡◌, ◌+◌, ◌*◌, ◌^◌, ◌<◌, ◌≤◌, ℕ, None, Some, [], IfOk, IfSome, IsSomeAnd, Contains};
-ghost use Rattle.std.specs.Prelude.{length, replicate, slice_set, slice_index_or};
+ghost use Rattle.std.specs.Prelude.{drop, length, replicate, slice_set, slice_index_or};
 ghost use Rattle.block_ledger.specs.Tree.{lesser};
 
 use std::alloc::{AllocError, Global};
@@ -85,6 +85,23 @@ impl LeastTree {
             return None;
         }
         self.nodes[1]
+    }
+
+    // The least id of the leaves from one on. Nodes of one level cover these leaves, or are looked at on the way up.
+    pub(crate) fn least_from(&self, leaf: usize) -> Option<u64>
+        requires { leaf ≤ length self.now }
+        ensures found { IfSome result (λ id. Contains (drop leaf self.now) (Some id)) }
+        ensures least { (id : ℕ) → Contains (drop leaf self.now) (Some id) → IsSomeAnd result (λ least. least ≤ id) }
+    {
+        let mut least = None;
+        let mut from = self.leaves + leaf;
+        let mut to = 2 * self.leaves;
+        while from < to {
+            least = lesser(least, lesser(self.nodes[from], self.nodes[to - 1]));
+            from = from.div_ceil(2);
+            to /= 2;
+        }
+        least
     }
 }
 

@@ -9,7 +9,7 @@ ghost use Rattle.sample_block.specs.Blocks.{blocks};
 ghost use Rattle.block_store.specs.declared.fault.BlockFault.TheVariants.{DiskFault};
 
 use super::fault::BlockFault;
-use disk_model::{Store, remove_through, sync_file};
+use disk_model::{Store, sync_file};
 use pcm_base::Failed;
 use sample_block::encode;
 
@@ -115,6 +115,35 @@ pub fn put<S: Store>(
     Ok(())
 }
 
+// `remove` with its frame.
+fn remove_file<S: Store>(store: &mut S, id: u64) -> Result<(), Failed>
+    ensures gone { IsTrue (S.tells store.old) → OnOk result (S.reads store.new id ≡ None) }
+    ensures changed { Changed S.Store (RemoveStep id) (record { files = 0; bytes = 0; calls = 1 }) store.old store.new }
+    ensures faults { HasCause (S.change_fault_count store.old) (S.change_fault_count store.new) result }
+    ensures read_faults { S.read_fault_count store.new ≡ S.read_fault_count store.old }
+{
+    store.remove(id)
+}
+
+/// Removes the file of a block, which may be absent, and does not wait until it is gone: `sync_block` does. The id is
+/// from 16 to below 2^62. After an error the file is there as it was, or not.
+pub fn remove_block<S: Store>(store: &mut S, id: u64) -> Result<(), BlockFault>
+    requires low { 16 ≤ id }
+    requires high { id < 2 ^ 62 }
+    ensures gone { IsTrue (S.tells store.old) → OnOk result (S.reads store.new id ≡ None) }
+    // A stop at any moment of the call leaves what it could leave before, or that without this file, and after an error
+    // it is as it was or absent. No room is asked but for the call.
+    ensures changed { Changed S.Store (RemoveStep id) (record { files = 0; bytes = 0; calls = 1 }) store.old store.new }
+    ensures fault { IsOkUnless result DiskFault }
+    ensures faults { HasCause (S.change_fault_count store.old) (S.change_fault_count store.new) result }
+    ensures read_faults { S.read_fault_count store.new ≡ S.read_fault_count store.old }
+{
+    match remove_file(store, id) {
+        Ok(()) => Ok(()),
+        Err(_) => Err(BlockFault::DiskFault),
+    }
+}
+
 /// Removes the file of a block, which may be absent, and waits until it is gone. The id is from 16 to below 2^62. After
 /// an error the file is there as it was, or not.
 pub fn drop_block<S: Store>(store: &mut S, id: u64) -> Result<(), BlockFault>
@@ -131,8 +160,7 @@ pub fn drop_block<S: Store>(store: &mut S, id: u64) -> Result<(), BlockFault>
     ensures faults { HasCause (S.change_fault_count store.old) (S.change_fault_count store.new) result }
     ensures read_faults { S.read_fault_count store.new ≡ S.read_fault_count store.old }
 {
-    match remove_through(store, id) {
-        Ok(()) => Ok(()),
-        Err(_) => Err(BlockFault::DiskFault),
-    }
+    remove_block(store, id)?;
+    sync_block(store, id)?;
+    Ok(())
 }

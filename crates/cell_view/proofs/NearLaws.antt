@@ -1,4 +1,6 @@
 -- A layout from one of its clips on.
+use Rattle.std.specs.Prelude.{Contains}
+use Rattle.std.proofs.lemmas.List.Elements.{Contains-append_right}
 use Rattle.std.proofs.Common.{◌≡◌, ℕ, zero, suc, ◌+◌, ◌-◌, ◌≤◌, ◌<◌, ◌^◌, List, [], ◌∷◌, ◌++◌, length, take, drop, map}
 use Rattle.std.proofs.Common.{min, get_or, refl, sym, ap, subst, ⊎_elim, ◌∙◌, arith, length-append, length-drop}
 use Rattle.std.proofs.Common.{append_assoc}
@@ -15,12 +17,11 @@ use Rattle.pcm_base.specs.Blocks.{blocks_len, block_samples}
 use Rattle.clip_track.specs.declared.clips.Clip.{Clip}
 use Rattle.clip_track.specs.Clips.{AreClips, IsLayout, end_of, clip_end, cells_from, layout_blocks, layout_cells}
 use Rattle.clip_track.proofs.Layouts.{AreClips-next}
-use Rattle.block_store.specs.Reads.{IsFaultIn}
 use Rattle.sample_block.specs.Sources.{AllNamed}
 use Rattle.cell_view.specs.declared.rest.TrackRest.{TrackRest}
 use Rattle.cell_view.specs.Rests.{rest_cells, rest_cell, rest_blocks, IsRest, IsRestOf}
 use Rattle.cell_view.proofs.RestLaws.{cells_at, first_of, length_from}
-use Rattle.cell_view.proofs.SeenLaws.{fault_later, named_front, named_back}
+use Rattle.cell_view.proofs.SeenLaws.{named_front, named_back}
 
 -- clips before others, and those behind
 clips_front : (at : ℕ) (cs ds : List Clip) → AreClips at (cs ++ ds) → AreClips at cs
@@ -148,9 +149,8 @@ module _ (from : ℕ) (front more : List Clip) (c : Clip) (r : TrackRest) (late 
         same_end =
             ap (λ n. end_of n r.clips.now) end ∙ ap (end_of (clip_end c)) clips ∙ sym (end_back 0 front (c ∷ more));
         cells = near_cells is.apart;
-        blocks_fault = λ files why fault.
-            let F : List BlockRef → Type 0 = λ bs. IsFaultIn files bs why in
-            subst F (sym near_blocks) (fault_later files gone (rest_blocks r) why fault);
+        blocks = λ b has. subst (λ (bs : List BlockRef). Contains bs b) (sym near_blocks)
+            (Contains-append_right gone (rest_blocks r) b has);
       }
 
   pub near_of : (cs : List Clip) → front ++ c ∷ more ≡ cs → IsLayout cs → AllNamed (layout_blocks cs)

@@ -1,4 +1,6 @@
 -- Clips and blocks that are passed.
+use Rattle.std.specs.Prelude.{Contains}
+use Rattle.std.proofs.lemmas.List.Elements.{Contains-append_right}
 use Rattle.std.proofs.Common.{◌≡◌, ℕ, ◌+◌, ◌-◌, ◌≤◌, ◌<◌, ⊎_elim, List, [], ◌∷◌, ◌++◌, length, take, drop, map, min}
 use Rattle.std.proofs.Common.{get_or, refl, sym, ap, ap₂, subst, ◌∙◌, arith, length-append, length-drop, append_assoc}
 use Rattle.std.proofs.Common.{append-nil}
@@ -20,14 +22,13 @@ use Rattle.clip_track.specs.Clips.{AreClips, end_of, clip_end, cells_from, layou
 use Rattle.clip_track.proofs.Layouts.{AreClips-next}
 use Rattle.clip_track.specs.Clips.{layout_blocks}
 use Rattle.pcm_base.specs.Edits.{part}
-use Rattle.block_store.specs.Reads.{IsFaultIn}
 use Rattle.sample_block.specs.Sources.{AllNamed}
 use Rattle.cell_view.specs.Seen.{place_in, Puts}
 use Rattle.cell_view.specs.declared.places.View.{View}
 use Rattle.cell_view.specs.declared.rest.TrackRest.{TrackRest}
 use Rattle.cell_view.specs.Rests.{rest_cells, rest_blocks, IsRest, IsRestOf, AreSeen}
 use Rattle.cell_view.proofs.PartLists.{take_front}
-use Rattle.cell_view.proofs.SeenLaws.{fault_later, named_front, named_back}
+use Rattle.cell_view.proofs.SeenLaws.{named_front, named_back}
 
 abbrev pub cells_at : Sources → ℕ → ℕ → ℕ → List BlockRef → List Clip → List Cell
 cells_at src at start end bs cs =
@@ -51,9 +52,8 @@ moved from cs r r' gone xs rest passed size cells same blocks is = record {
       (omega (arith, size src, le, passed)))
       ∙ ap (λ (ys : List Cell). get_or ys (i - r.at) cell.Gap) (sym (cells src))
       ∙ is.cells src i le;
-  blocks_fault = λ files why fault.
-      let F : List BlockRef → Type 0 = λ bs. IsFaultIn files bs why in
-      is.blocks_fault files why (subst F (sym blocks) (fault_later files gone (rest_blocks r') why fault));
+  blocks = λ b has. is.blocks b (subst (λ (bs : List BlockRef). Contains bs b) (sym blocks)
+      (Contains-append_right gone (rest_blocks r') b has));
 }
 
 -- the first of some things, and the others
@@ -173,7 +173,7 @@ rest_later from to cs r le is = record {
   passed = omega (arith, is.passed, le);
   same_end = is.same_end;
   cells = λ src i after. is.cells src i (omega (arith, le, after));
-  blocks_fault = is.blocks_fault;
+  blocks = is.blocks;
 }
 
 -- clips end no earlier than they begin

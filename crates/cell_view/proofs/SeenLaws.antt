@@ -2,7 +2,7 @@
 use Rattle.std.proofs.Common.{◌≡◌, ℕ, zero, suc, ◌+◌, ◌-◌, ◌≤◌, ◌<◌, min, ℤ, pos, get_or, List, [], ◌∷◌, ◌++◌, length}
 use Rattle.std.proofs.Common.{take, Option, Some, sym, ap, ap₂, subst, ◌∙◌, arith, length-append, append_assoc}
 use Rattle.std.proofs.Common.{append-nil, Result, Ok, Err}
-use Rattle.std.specs.Prelude.{replicate, unwrap_or, IfErr, IsOkUnless}
+use Rattle.std.specs.Prelude.{Contains, replicate, unwrap_or, IfErr, IsOkUnless}
 use Rattle.std.proofs.lemmas.List.Elements.{Contains-append_left, Contains-append_right}
 use Rattle.std.proofs.lemmas.Slice.{take-put_mid}
 use Rattle.std.specs.List.{AllByRecursion}
@@ -117,3 +117,7 @@ named_front (b ∷ bs) cs all = (all.0, named_front bs cs all.1)
 pub named_back : (bs cs : List BlockRef) → AllNamed (bs ++ cs) → AllNamed cs
 named_back [] cs all = all
 named_back (b ∷ bs) cs all = named_back bs cs all.1
+
+pub fault_among : (files : Files) (bs more : List BlockRef) (why : BlockFault)
+    → ((b : BlockRef) → Contains bs b → Contains more b) → IsFaultIn files bs why → IsFaultIn files more why
+fault_among files bs more why among is = (is.0, among is.0 is.1, is.2)

@@ -1,8 +1,6 @@
 -- What is left of a track from a place on.
 use Rattle.std.specs.Prelude.{◌≡◌, ℕ, ◌+◌, ◌-◌, ◌≤◌, ◌<◌, ◌^◌, ◌⊎◌, List, [], ◌∷◌, ◌++◌, length, map, replicate}
-use Rattle.std.specs.Prelude.{slice_index_or}
-use Rattle.disk_model.specs.Disk.{Files}
-use Rattle.block_store.specs.declared.fault.BlockFault.{BlockFault}
+use Rattle.std.specs.Prelude.{slice_index_or, Contains}
 use Rattle.pcm_base.specs.declared.block.BlockRef.{BlockRef}
 use Rattle.pcm_base.specs.declared.sound.Cell.{Cell}
 use Rattle.pcm_base.specs.declared.sound.Cell.TheVariants as cell
@@ -11,7 +9,6 @@ use Rattle.pcm_base.specs.Blocks.{blocks_len, block_samples}
 use Rattle.clip_track.specs.declared.clips.Clip.{Clip}
 use Rattle.clip_track.specs.Clips.{AreClips, end_of, cells_from, layout_cells}
 use Rattle.clip_track.specs.Clips.{layout_blocks}
-use Rattle.block_store.specs.Reads.{IsFaultIn}
 use Rattle.sample_block.specs.Sources.{AllNamed}
 use Rattle.cell_view.specs.declared.rest.TrackRest.{TrackRest}
 
@@ -52,8 +49,7 @@ pub record IsRestOf (from : ℕ) (cs : List Clip) (r : TrackRest) : Type 0 where
   pub passed : r.at ≤ from
   pub same_end : end_of r.end r.clips.now ≡ end_of 0 cs
   pub cells : (src : Sources) (i : ℕ) → from ≤ i → rest_cell src r i ≡ slice_index_or (layout_cells src cs) i cell.Gap
-  pub blocks_fault : (files : Files) (why : BlockFault) → IsFaultIn files (rest_blocks r) why
-      → IsFaultIn files (layout_blocks cs) why
+  pub blocks : (b : BlockRef) → Contains (rest_blocks r) b → Contains (layout_blocks cs) b
 
 -- cells that stand at places of a track from one on, gaps past its end
 abbrev pub AreSeen : Sources → ℕ → List Clip → List Cell → Type 0

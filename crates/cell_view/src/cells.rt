@@ -3,6 +3,7 @@ ghost use Rattle.std.specs.Prelude.{◌≡◌, ◌<◌, ◌+◌, ◌-◌, ◌^�
 ghost use Rattle.disk_model.specs.Frames.{Kept};
 ghost use Rattle.sample_block.specs.Sources.{sources_of, AllNamed, AllWhole};
 ghost use Rattle.block_store.specs.declared.fault.BlockFault.TheVariants as fault;
+ghost use Rattle.block_cache.specs.Caches.{IsCacheOf, KeepsCache};
 ghost use Rattle.block_store.specs.Reads.{Counted, IsFaultIn};
 ghost use Rattle.clip_track.specs.Clips.{end_of, layout_blocks, layout_cells};
 ghost use Rattle.cell_view.specs.Stored.{stored_of};
@@ -10,6 +11,7 @@ ghost use Rattle.cell_view.specs.Stored.{stored_of};
 use super::ahead::read_ahead;
 use super::places::{View, place_in};
 use super::rest::rest_at;
+use block_cache::Cache;
 use block_store::BlockFault;
 use clip_track::Layout;
 use disk_model::Store;
@@ -17,16 +19,19 @@ use pcm_base::Cell;
 
 /// Reads the cells of a layout from a place on, gaps included, as many as `out` has room for and the layout has, and
 /// answers how many. The clip of the place is found by halves. Blocks that end by the place are passed without a call
-/// of the store, and none behind the cells seen is looked at. It takes no memory. After an error `out` may have been
-/// written in part.
+/// of the store, and none after the cells seen is looked at. Pages that the cache has are not read again. After an
+/// error `out` may have been written in part.
 pub fn read_cells<S: Store>(
     store: &mut S,
+    cache: &mut Cache,
     layout: &Layout,
     from: u64,
     out: &mut [Cell],
 ) -> Result<usize, BlockFault>
     requires named { AllNamed (layout_blocks layout.now) }
     requires few { from + length out.old < 2 ^ 64 }
+    requires cached { IsTrue (S.tells store.old) → IsCacheOf (S.reads store.old) cache.old }
+    ensures cache { KeepsCache (S.tells store.old) (S.reads store.old) (layout_blocks layout.now) cache.old cache.new }
     ensures count { IfOk result (λ n. n ≡ min (length out.old) (end_of 0 layout.now - from)) }
     // They are what stands in the files of the blocks, and where the disk has all blocks their samples.
     ensures stored { IsTrue (S.tells store.old) → IfOk result (λ n. take n out.new
@@ -49,7 +54,6 @@ pub fn read_cells<S: Store>(
     };
     let count = place_in(view, layout.len());
     let rest = rest_at(layout, from);
-    let mut last = None;
-    read_ahead(store, &mut last, layout, &rest, from, &mut out[..count])?;
+    read_ahead(store, cache, layout, &rest, from, &mut out[..count])?;
     Ok(count)
 }

@@ -10,6 +10,7 @@ use Rattle.pcm_base.specs.Run.{Follows}
 use Rattle.disk_model.specs.declared.store.Store.{Ghosts}
 use Rattle.edit_ports.specs.declared.source.Source as source
 use Rattle.edit_ports.specs.declared.vault.Vault as vault
+use Rattle.player_work.specs.Filled.{reads_to}
 use Rattle.pin_turn.specs.declared.view.View.{View}
 use Rattle.pin_turn.specs.Counts.{Each, once_below, times}
 use Rattle.pin_turn.specs.Rule.{ByOthers}
@@ -21,7 +22,7 @@ use Rattle.studio_seats.specs.Deeds.{actor_of, entries_of, number_after}
 use Rattle.studio_seats.specs.Desks.{IsFirst}
 use Rattle.studio_seats.specs.Merge.{Commits, Numbers, any_seat, by_seat, deeds_of, numbers_of}
 use Rattle.studio_seats.specs.Leads.{HadTurn}
-use Rattle.studio_seats.specs.Onward.{Asks, EndsBy, IsLine, places_of}
+use Rattle.studio_seats.specs.Onward.{Asks, IsLine, places_of}
 use Rattle.studio_seats.specs.Pieces.{pieces_by}
 use Rattle.studio_seats.specs.Stands.{StandsFor, origin}
 use Rattle.studio_seats.specs.Faults.{AllServed}
@@ -45,8 +46,8 @@ use Rattle.desk_session.specs.Opening.{record_commits}
 use Rattle.desk_session.specs.Parts.{NewPart, Parted}
 use Rattle.desk_session.specs.Sat.{Sat}
 use Rattle.desk_session.specs.Sessions.{IsMadeOf, IsScripted, IsSession, place_behind}
-use Rattle.desk_session.specs.Sounds.{IsRecorded, Recorded, piece_numbers}
-use Rattle.desk_session.proofs.EndLemmas.{ends_later}
+use Rattle.desk_session.specs.Sounds.{AreRecorded, IsRecorded, Recorded, piece_numbers}
+use Rattle.desk_session.proofs.EndLemmas.{reads_later, recorded_later}
 use Rattle.desk_session.proofs.ListLemmas as list
 use Rattle.desk_session.proofs.ListLemmas.{all_numbers, same_rest}
 use Rattle.desk_session.proofs.MakerLemmas.{own_deeds}
@@ -297,10 +298,10 @@ module _ {D V M P : Type 0} (k : Kinds D V M P) (start final : Core D) (mid : V)
               (sym (pieces_in start.next_track tag s.recorder.number n w.seen s.recorder.seen s.seats.more_recorder
               s.seats.recorder_is
               (list.made n pieces reads x s.seats (quiet opened.pin) own counts).recorder)) is.is;
-          ends = ends_later s.recorder.used_up w.used_up is.told (deeds_of (by_seat s.recorder.number) rest)
+          own_are = recorded_later s.recorder.used_up w.used_up is.told (deeds_of (by_seat s.recorder.number) rest)
               s.seats.recorder_spent
-              (subst (λ (l : List Deed). EndsBy s.recorder.used_up is.told l)
-              (list.recorder_deeds n pieces reads x s.seats (quiet opened.pin) own counts) is.ends);
+              (subst (λ (l : List Deed). AreRecorded s.recorder.used_up is.told l)
+              (list.recorder_deeds n pieces reads x s.seats (quiet opened.pin) own counts) is.own_are);
         }))
         (λ h. h);
     opening_numbers = opening_numbers;
@@ -312,8 +313,8 @@ module _ {D V M P : Type 0} (k : Kinds D V M P) (start final : Core D) (mid : V)
           reads = is.reads;
           release = is.release;
           own_is = sym (list.player_deeds n pieces reads x s.seats (quiet opened.pin) own counts) ∙ is.own_is;
-          are = is.are;
-          ends = ends_later s.player.used_up w.used_up heard.refused is.reads s.seats.player_spent is.ends;
+          in_order = reads_later s.player.used_up w.used_up pin heard.refused (reads_to heard.refused) is.reads
+              s.seats.player_spent is.in_order;
           what = is.what;
           released = own_later s.player.used_up w.used_up s.player.number (Unpin pin) is.what is.release
               s.seats.player_spent is.released;

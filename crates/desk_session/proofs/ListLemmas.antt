@@ -14,11 +14,12 @@ use Rattle.studio_seats.specs.declared.deed.Deed.{Deed}
 use Rattle.studio_seats.specs.Deeds.{actor_of, commits, is_commit, number_after, raised}
 use Rattle.studio_seats.specs.Merge.{Merged, SplitsIn, any_seat, by_seat, deeds_of, number_if, numbers_of, one_if}
 use Rattle.studio_seats.specs.Onward.{Asks, IsLine, places_of}
+use Rattle.studio_seats.proofs.FreeingLemmas.{same_seat}
 use Rattle.studio_seats.proofs.MergeLemmas.{deeds_append, deeds_others, numbers_append, numbers_others}
 use Rattle.studio_seats.proofs.OnwardLemmas.{asks_others, each_append}
 use Rattle.desk_session.specs.Makers.{Apart, Made, Parts, Seats, is_by}
 use Rattle.desk_session.specs.Parts.{Parted, Rejoined}
-use Rattle.desk_session.proofs.PartLemmas.{parts_made, same_seat}
+use Rattle.desk_session.proofs.PartLemmas.{parts_made}
 
 pub same_rest : (xs a b : List Deed) → xs ++ a ≡ xs ++ b → a ≡ b
 same_rest xs a b e = sym (drop-append_seam xs a) ∙ (ap (drop (length xs)) e ∙ drop-append_seam xs b)
@@ -49,7 +50,7 @@ asked_in fits seat rest added more is asks others = subst (λ (l : List Deed). A
     (each_append (λ e. e.actor ≡ seat → fits e.call) added more asks (asks_others fits seat more others))
 
 -- a call that is no commit makes none
-quiet_deed : (c : Call) (what : Result Reply Refusal) → commits_of c ≡ 0 → commits what c ≡ true → ⊥
+pub quiet_deed : (c : Call) (what : Result Reply Refusal) → commits_of c ≡ 0 → commits what c ≡ true → ⊥
 quiet_deed c (Ok r) none h = no (subst (λ (n : ℕ). (n == 1) ≡ true) none h)
   where
     no : (0 == 1) ≡ true → ⊥

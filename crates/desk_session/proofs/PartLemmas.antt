@@ -1,7 +1,6 @@
 -- What three seats have seen together.
 use Rattle.std.proofs.Common.{◌≡◌, ◌≢◌, ℕ, ◌+◌, ◌<◌, ◌≤◌, ◌==◌, ◌||◌, if◌then◌else◌, Bool, true, false, List, [], ◌∷◌}
 use Rattle.std.proofs.Common.{◌++◌, length, sym, ◌∙◌, ap, subst, refl, arith}
-use Rattle.std.proofs.lemmas.Bool.Decides.{nat_tests}
 use Rattle.std.proofs.lemmas.List.{length-append}
 use Rattle.pin_turn.specs.Counts.{Each, times}
 use Rattle.pin_turn.specs.Rule.{ByOthers}
@@ -10,6 +9,7 @@ use Rattle.studio_seats.specs.declared.deed.Deed.{Deed}
 use Rattle.studio_seats.specs.Deeds.{actor_of}
 use Rattle.studio_seats.specs.Merge.{by_seat}
 use Rattle.studio_seats.specs.Onward.{places_of}
+use Rattle.studio_seats.proofs.FreeingLemmas.{same_seat}
 use Rattle.studio_seats.proofs.OnwardLemmas.{places_append}
 use Rattle.desk_session.specs.Makers.{Apart, Made, Parts, PartsMade, Seats}
 use Rattle.desk_session.proofs.MakerLemmas.{each_has, sum_of, times_if}
@@ -18,9 +18,6 @@ pub places_behind : (kind : Deed → Bool) (xs more : List Deed)
     → places_of kind 0 (xs ++ more) ≡ places_of kind 0 xs ++ places_of kind (length xs) more
 places_behind kind xs more =
     places_append kind 0 xs more ∙ ap (λ (n : ℕ). places_of kind 0 xs ++ places_of kind n more) (omega arith)
-
-pub same_seat : (a b : ℕ) → (a == b) ≡ true → a ≡ b
-same_seat a b h = grind (arith, nat_tests)
 
 no_later : (kind : Deed → Bool) (n k : ℕ) (es : List Deed) → k + length es ≤ n → times n (places_of kind k es) ≡ 0
 no_later kind n k [] h = refl

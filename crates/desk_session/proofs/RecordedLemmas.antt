@@ -1,10 +1,11 @@
 -- The numbers of a recording are those of its commits.
-use Rattle.std.proofs.Common.{◌≡◌, ℕ, ◌<◌, ◌≤◌, ◌==◌, ◌&&◌, ℤ, Bool, true, false, List, [], ◌∷◌, ◌++◌, length, take}
-use Rattle.std.proofs.Common.{Option, Some, None, refl, sym, ◌∙◌, ap, subst, arith, eq-eqb}
+use Rattle.std.proofs.Common.{◌≡◌, inl, inr, ℕ, ◌<◌, ◌≤◌, ◌==◌, ◌&&◌, ℤ, Bool, true, false, List, [], ◌∷◌, ◌++◌}
+use Rattle.std.proofs.Common.{length, take, Option, Some, None, refl, sym, ◌∙◌, ap, subst, arith, eq-eqb}
 use Rattle.std.specs.List.{zip}
 use Rattle.std.proofs.lemmas.List.{append-nil}
 use Rattle.pcm_base.specs.declared.command.Call.{Call}
 use Rattle.pcm_base.specs.declared.refusal.Refusal.{Refusal}
+use Rattle.pcm_base.specs.Counters.{commits_of}
 use Rattle.pin_turn.specs.declared.view.View.{View}
 use Rattle.pin_turn.specs.Counts.{Each}
 use Rattle.pin_turn.specs.Rule.{ByOthers}
@@ -14,12 +15,14 @@ use Rattle.studio_seats.specs.Deeds.{actor_of, is_commit, number_after}
 use Rattle.studio_seats.specs.Merge.{OnlyPieces, by_seat, is_piece, number_if, numbers_in, numbers_of}
 use Rattle.studio_seats.specs.Onward.{Asks, IsPieceOf}
 use Rattle.studio_seats.specs.Pieces.{pieces_by}
+use Rattle.studio_seats.specs.Recording.{RecorderAsks}
+use Rattle.studio_seats.proofs.FreeingLemmas.{same_seat}
 use Rattle.studio_seats.proofs.MergeLemmas.{numbers_append, numbers_others, pieces_are_chunks}
 use Rattle.studio_seats.proofs.OnwardLemmas.{each_append}
 use Rattle.studio_seats.proofs.PieceLemmas.{pieces_append, pieces_others}
 use Rattle.recorder_work.specs.Drained.{Taken, TakerState, Takes}
 use Rattle.desk_session.specs.Parts.{NewPart}
-use Rattle.desk_session.proofs.PartLemmas.{same_seat}
+use Rattle.desk_session.proofs.ListLemmas.{quiet_deed}
 use Rattle.desk_session.proofs.RejoinLemmas.{lower}
 
 no_more : (seat : ℕ) (e : Deed) → e.actor < seat → (b : Bool) → (seat == e.actor) ≡ b → (b && is_commit e) ≡ true → ⊥
@@ -35,14 +38,24 @@ piece_of : (to by : ℕ) (c : Call) → IsPieceOf to by c → is_piece to by c �
 piece_of to by c (samples, is) =
     subst (λ (x : Call). is_piece to by x ≡ true) (sym is) (λ i. eq-eqb to to refl i && eq-eqb by by refl i)
 
+-- a commit of a recorder is a piece
+commit_of : (to by : ℕ) (e : Deed) → RecorderAsks to by e.call → is_commit e ≡ true → is_piece to by e.call ≡ true
+commit_of to by e (inl fit) commit = piece_of to by e.call fit
+commit_of to by e (inr is) commit = absurd (quiet_deed e.call e.what (ap commits_of is) commit)
+
+second : (a b : Bool) → (a && b) ≡ true → b ≡ true
+second true b h = h
+second false b h = cc
+
 own_first : (seat : ℕ) (e : Deed) → (b : Bool) → (seat == e.actor) ≡ b → (b && is_commit e) ≡ true → e.actor ≡ seat
 own_first seat e true is c = sym (same_seat seat e.actor is)
 own_first seat e false is c = cc
 
-only_asked : (to by seat : ℕ) (es : List Deed) → Asks (IsPieceOf to by) seat es → OnlyPieces to by seat es
+only_asked : (to by seat : ℕ) (es : List Deed) → Asks (RecorderAsks to by) seat es → OnlyPieces to by seat es
 only_asked to by seat [] h = tt
 only_asked to by seat (e ∷ es) h = (
-  (λ c. piece_of to by e.call (h.0 (own_first seat e (seat == e.actor) refl c))),
+  (λ c. commit_of to by e (h.0 (own_first seat e (seat == e.actor) refl c))
+      (second (seat == e.actor) (is_commit e) c)),
   only_asked to by seat es h.1,
 )
 
@@ -74,34 +87,35 @@ no_numbers fits never seat n (e ∷ es) h =
     (λ i. none_is seat m e (λ is. never e.call (h.0 is)) (seat == e.actor) refl i
     ++ no_numbers fits never seat m es h.1 i)
 
-module _ {D V : Type 0} (first track tag : ℕ) (v w : View (Held D V) Deed) (h : NewPart (IsPieceOf track tag) v w) where
-  -- it had no piece yet
-  pub no_pieces : pieces_by track tag w.number first v.seen ≡ []
-  no_pieces = pieces_others track tag w.number first v.seen (lower w.number v.seen h.unseen)
+module _ {D V : Type 0} (first track tag : ℕ) (v w : View (Held D V) Deed) (h : NewPart (RecorderAsks track tag) v w)
+  where
+    -- it had no piece yet
+    pub no_pieces : pieces_by track tag w.number first v.seen ≡ []
+    no_pieces = pieces_others track tag w.number first v.seen (lower w.number v.seen h.unseen)
 
-  pub piece_commits : (refused : Option Refusal) (told : Taken) (chunks : List (List ℤ))
-      → Takes [] record { pieces = pieces_by track tag w.number first w.seen; refused = refused } told chunks
-      → told.numbers ≡ numbers_of (by_seat w.number) (number_after first v.seen) h.part.added
-  piece_commits refused told chunks t =
-      let seat = w.number in
-      let numbers = told.numbers in
-      let took : pieces_by track tag seat first w.seen
-      ≡ pieces_by track tag seat first v.seen ++ zip (take (length numbers) chunks) numbers =
-      t.kept ∙ ap (λ (l : List (List ℤ × ℕ)). l ++ zip (take (length numbers) chunks) numbers) (sym no_pieces) in
-      let only : OnlyPieces track tag seat (w.seen ++ []) =
-      subst (λ (l : List Deed). OnlyPieces track tag seat l) (sym (append-nil w.seen ∙ h.part.seen))
-      (each_append (λ e. by_seat seat e && is_commit e ≡ true → is_piece track tag e.call ≡ true) v.seen h.part.added
-      (only_before track tag seat v.seen h.unseen) (only_asked track tag seat h.part.added h.part.asks)) in
-      let k = (pieces_are_chunks track tag seat first v.seen w.seen [] chunks numbers h.unseen took tt only).1 in
-      let own : numbers_of (by_seat seat) first (w.seen ++ [])
-      ≡ numbers_of (by_seat seat) (number_after first v.seen) h.part.added =
-      ap (λ (l : List Deed). numbers_of (by_seat seat) first l) (append-nil w.seen ∙ h.part.seen)
-      ∙ (numbers_append (by_seat seat) first v.seen h.part.added
-      ∙ ap (λ (l : List ℕ). l ++ numbers_of (by_seat seat) (number_after first v.seen) h.part.added)
-      (numbers_others seat first v.seen (lower seat v.seen h.unseen))) in
-      sym (zipped chunks numbers
-      (few [] record { pieces = pieces_by track tag seat first w.seen; refused = refused } told chunks t))
-      ∙ (sym k ∙ own)
+    pub piece_commits : (refused : Option Refusal) (told : Taken) (chunks : List (List ℤ))
+        → Takes [] record { pieces = pieces_by track tag w.number first w.seen; refused = refused } told chunks
+        → told.numbers ≡ numbers_of (by_seat w.number) (number_after first v.seen) h.part.added
+    piece_commits refused told chunks t =
+        let seat = w.number in
+        let numbers = told.numbers in
+        let took : pieces_by track tag seat first w.seen
+        ≡ pieces_by track tag seat first v.seen ++ zip (take (length numbers) chunks) numbers =
+        t.kept ∙ ap (λ (l : List (List ℤ × ℕ)). l ++ zip (take (length numbers) chunks) numbers) (sym no_pieces) in
+        let only : OnlyPieces track tag seat (w.seen ++ []) =
+        subst (λ (l : List Deed). OnlyPieces track tag seat l) (sym (append-nil w.seen ∙ h.part.seen))
+        (each_append (λ e. by_seat seat e && is_commit e ≡ true → is_piece track tag e.call ≡ true) v.seen h.part.added
+        (only_before track tag seat v.seen h.unseen) (only_asked track tag seat h.part.added h.part.asks)) in
+        let k = (pieces_are_chunks track tag seat first v.seen w.seen [] chunks numbers h.unseen took tt only).1 in
+        let own : numbers_of (by_seat seat) first (w.seen ++ [])
+        ≡ numbers_of (by_seat seat) (number_after first v.seen) h.part.added =
+        ap (λ (l : List Deed). numbers_of (by_seat seat) first l) (append-nil w.seen ∙ h.part.seen)
+        ∙ (numbers_append (by_seat seat) first v.seen h.part.added
+        ∙ ap (λ (l : List ℕ). l ++ numbers_of (by_seat seat) (number_after first v.seen) h.part.added)
+        (numbers_others seat first v.seen (lower seat v.seen h.unseen))) in
+        sym (zipped chunks numbers
+        (few [] record { pieces = pieces_by track tag seat first w.seen; refused = refused } told chunks t))
+        ∙ (sym k ∙ own)
 
 -- deeds of others behind what a seat saw add no pieces
 pub pieces_in : (track tag seat first : ℕ) (log seen more : List Deed) → log ≡ seen ++ more

@@ -1,5 +1,5 @@
 -- What each seat of a session asked, by what was opened for it.
-use Rattle.std.proofs.Common.{◌≡◌, inl, inr, ℕ, ◌<◌, List, [], ◌∷◌, Option, Some, None, Result, Ok, Err, sym, ◌∙◌, ap}
+use Rattle.std.proofs.Common.{◌≡◌, inl, inr, ℕ, ◌<◌, List, [], Option, Some, None, Result, Ok, Err, sym, ◌∙◌, ap}
 use Rattle.std.proofs.Common.{subst}
 use Rattle.pcm_base.specs.declared.command.Call.{Call}
 use Rattle.pcm_base.specs.declared.command.Call.TheVariants.{Unpin}
@@ -8,34 +8,18 @@ use Rattle.pin_turn.specs.declared.view.View.{View}
 use Rattle.pin_turn.specs.Counts.{Each}
 use Rattle.studio_seats.specs.declared.deed.Deed.{Deed}
 use Rattle.studio_seats.specs.declared.held.Held.{Held}
-use Rattle.studio_seats.specs.Onward.{Asks, IsPieceOf, IsReadOf, Onward}
+use Rattle.studio_seats.specs.Onward.{IsReadOf, Onward}
 use Rattle.studio_seats.specs.Pieces.{pieces_by}
+use Rattle.studio_seats.specs.Recording.{RecorderAsks}
 use Rattle.studio_seats.proofs.OnwardLemmas.{onward_on, onward_self}
 use Rattle.studio_seats.proofs.PieceLemmas.{pieces_others}
+use Rattle.studio_seats.proofs.WorkLemmas.{onward_as}
 use Rattle.desk_session.specs.Opening.{WhereMade, play_calls, record_calls}
 use Rattle.desk_session.proofs.RejoinLemmas.{lower}
 
-asks_as : (one two : Call → Type 0) → ((c : Call) → one c → two c) → (seat : ℕ) (ds : List Deed) → Asks one seat ds
-    → Asks two seat ds
-asks_as one two f seat [] h = tt
-asks_as one two f seat (d ∷ ds) h = ((λ is. f d.call (h.0 is)), asks_as one two f seat ds h.1)
-
 module _ {D V : Type 0} where
-  -- what fits, fits in other words
-  onward_as : (one two : Call → Type 0) (v w : View (Held D V) Deed) → ((c : Call) → one c → two c) → Onward one v w
-      → Onward two v w
-  onward_as one two v w f h = record {
-    added = h.added;
-    seen = h.seen;
-    asks = asks_as one two f v.number h.added h.asks;
-    number = h.number;
-    away = h.away;
-    mine = h.mine;
-    used_up = h.used_up;
-  }
-
   pub recorder_goes : (made : Option (Result ℕ Refusal)) (track : ℕ) (v w : View (Held D V) Deed)
-      → WhereMade made (λ tag. Onward (IsPieceOf track tag) v w) (w ≡ v) → Onward (record_calls track made) v w
+      → WhereMade made (λ tag. Onward (RecorderAsks track tag) v w) (w ≡ v) → Onward (record_calls track made) v w
   recorder_goes None track v w h =
       subst (λ (z : View (Held D V) Deed). Onward (record_calls track None) v z) (sym h)
       (onward_self (record_calls track None) v)

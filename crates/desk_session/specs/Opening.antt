@@ -15,8 +15,9 @@ use Rattle.studio_seats.specs.declared.held.Held.{Held}
 use Rattle.studio_seats.specs.Deeds.{deed, entries_of, number_after}
 use Rattle.studio_seats.specs.Desks.{spent}
 use Rattle.studio_seats.specs.Merge.{by_seat, deeds_of, numbers_of}
-use Rattle.studio_seats.specs.Onward.{IsPieceOf, IsReadOf, Onward}
+use Rattle.studio_seats.specs.Onward.{IsReadOf, Onward}
 use Rattle.studio_seats.specs.Pins.{is_made}
+use Rattle.studio_seats.specs.Recording.{RecorderAsks}
 use Rattle.desk_session.specs.declared.opening.Opened.{Opened}
 
 -- the seat's own deed of a call that was answered so; it is none where no turn was left, as the seat then knows
@@ -97,9 +98,9 @@ module _ {D V : Type 0} where
     pub numbers : numbers_of (by_seat v.number) (number_after first v.seen) onward.added
         ≡ record_commits opened.recording
 
--- what the recorder's seat asks: pieces of the recording, where there is one
+-- what the recorder's seat asks: pieces of the recording, where there is one, and reclaims
 abbrev pub record_calls : ℕ → Option (Result ℕ Refusal) → Call → Type 0
-record_calls track recording c = WhereMade recording (λ tag. IsPieceOf track tag c) ⊥
+record_calls track recording c = WhereMade recording (λ tag. RecorderAsks track tag c) ⊥
 
 -- what the player's seat asks: reads of the pin, where there is one, and to let it go
 abbrev pub play_calls : Option (Result ℕ Refusal) → Call → Type 0

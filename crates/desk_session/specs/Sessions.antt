@@ -33,7 +33,8 @@ use Rattle.desk_session.specs.Opening.{PinDeed, TrackDeed, WhereMade, play_calls
 use Rattle.desk_session.specs.Sounds.{Played, Recorded, piece_numbers}
 
 -- The deeds of a session, by their makers: the first seat made the opening, and then the lines; a second one made the
--- pieces of the recording, and a third one read the pin and released it. Where one of them made no turn, none was left.
+-- pieces of the recording, and reclaims, and a third one read the pin and released it. Where one of them made no turn,
+-- none was left.
 pub record IsMadeOf (spent : Bool) (track : ℕ) (opened : Opened) (deeds : List Deed) : Type 0 where
   pub seats : Seats
   pub script_seat : seats.script ≡ 0

@@ -1,5 +1,5 @@
 -- What a recording and a playback have done.
-use Rattle.std.specs.Prelude.{◌≡◌, ℕ, ◌/◌, ℤ, Bool, List, [], ◌++◌, length, take, Option, Some, None, Result}
+use Rattle.std.specs.Prelude.{◌≡◌, ◌⊎◌, ℕ, ◌/◌, ℤ, Bool, true, List, [], ◌++◌, length, take, Option, Some, None, Result}
 use Rattle.pcm_base.specs.declared.answer.Reply.{Reply}
 use Rattle.pcm_base.specs.declared.command.Call.TheVariants.{Unpin}
 use Rattle.pcm_base.specs.declared.refusal.Refusal.{Refusal}
@@ -11,10 +11,15 @@ use Rattle.edit_ports.specs.declared.source.Source as source
 use Rattle.recorder_work.specs.Blocks.{mic_state}
 use Rattle.recorder_work.specs.Captured.{IsStoppedBy}
 use Rattle.recorder_work.specs.Drained.{Takes}
+use Rattle.player_work.specs.Filled.{reads_to}
 use Rattle.player_work.specs.Spoken.{Writes, speaker_state}
-use Rattle.pin_turn.specs.Counts.{Each}
 use Rattle.studio_seats.specs.declared.deed.Deed.{Deed}
-use Rattle.studio_seats.specs.Onward.{EndsBy, IsReadOf}
+use Rattle.studio_seats.specs.Deeds.{entries_of}
+use Rattle.studio_seats.specs.Freeing.{AreFreed, unfreed}
+use Rattle.studio_seats.specs.Merge.{deeds_of}
+use Rattle.studio_seats.specs.Onward.{EndsBy}
+use Rattle.studio_seats.specs.Reads.{ReadsTo}
+use Rattle.studio_seats.specs.Recording.{asks_piece}
 use Rattle.script_session.specs.Change.{Change}
 use Rattle.desk_session.specs.declared.told.Heard.{Heard}
 use Rattle.desk_session.specs.declared.told.Kept.{Kept}
@@ -41,23 +46,30 @@ pub record IsPlayed {P : Type 0} (speakers : sink.Ghosts P) (speaker : Change P)
       record { frames = heard.frames; fault = heard.fault } frames
   pub exact : heard.frames ≡ writes.bytes / 4
 
--- The deeds of the recorder's seat end by what the taker was refused: none was asked after that.
+-- The deeds of the recorder's seat: pieces, of which none was asked after one that was refused, and reclaims. At no
+-- time more than 64 pieces stand after the last reclaim, and at the end none does, unless no turn was left.
+pub record AreRecorded (spent : Bool) (told : Option Refusal) (own : List Deed) : Type 0 where
+  pub ends : EndsBy spent told (deeds_of asks_piece own)
+  pub freed : AreFreed 0 (entries_of own)
+  pub freed_last : (unfreed 0 (entries_of own) ≡ 0) ⊎ (spent ≡ true)
+
+-- They end by what the taker was refused.
 pub record Recorded {M : Type 0} (mics : source.Ghosts M) (mic : Change M) (pieces : Change (List (List ℤ × ℕ)))
     (spent : Bool) (own : List Deed) (kept : Kept) : Type 0 where
   pub told : Option Refusal
   pub is : IsRecorded mics mic pieces told kept
-  pub ends : EndsBy spent told own
+  pub own_are : AreRecorded spent told own
 
--- The deeds of the player's seat are the reads, which end by the refusal that is returned, and then one that releases
--- the pin, or none where no turn was left.
+-- The deeds of the player's seat are the reads, and then one that releases the pin, or none where no turn was left. The
+-- reads go through the frames in order, up to one that gave fewer than it asked for, or to the refusal that is
+-- returned.
 pub record Played {P : Type 0} (speakers : sink.Ghosts P) (speaker : Change P) (shows : List Frame → Type 0) (pin : ℕ)
     (spent : Bool) (player : ℕ) (own : List Deed) (heard : Heard) : Type 0 where
   pub is : IsPlayed speakers speaker shows heard
   pub reads : List Deed
   pub release : List Deed
   pub own_is : own ≡ reads ++ release
-  pub are : Each (λ d. IsReadOf pin d.call) reads
-  pub ends : EndsBy spent heard.refused reads
+  pub in_order : ReadsTo spent pin heard.refused (reads_to heard.refused) reads
   pub what : Result Reply Refusal
   pub released : OwnDeed spent player (Unpin pin) what release
 

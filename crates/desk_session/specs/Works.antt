@@ -2,12 +2,15 @@
 use Rattle.std.specs.Prelude.{◌≡◌, ℕ, ℤ, List, [], Option, None, IsSomeAnd, is_some}
 use Rattle.pcm_base.specs.declared.refusal.Refusal.{Refusal}
 use Rattle.edit_ports.specs.declared.vault.Vault as vault
+use Rattle.player_work.specs.Filled.{reads_to}
 use Rattle.pin_turn.specs.declared.view.View.{View}
 use Rattle.editor_core.specs.Core.{Core}
 use Rattle.studio_seats.specs.declared.deed.Deed.{Deed}
 use Rattle.studio_seats.specs.declared.held.Held.{Held}
-use Rattle.studio_seats.specs.Onward.{IsLine, IsPieceOf, IsReadOf, Onward, WorksOn, worker}
+use Rattle.studio_seats.specs.Onward.{IsLine, Onward, worker}
 use Rattle.studio_seats.specs.Pieces.{pieces_by}
+use Rattle.studio_seats.specs.Reads.{ReadsOn}
+use Rattle.studio_seats.specs.Recording.{RecordsOn, recorder}
 use Rattle.studio_seats.specs.Shows.{IsMixOf}
 use Rattle.studio_seats.specs.Stands.{origin}
 use Rattle.script_session.specs.Change.{Change, change}
@@ -59,13 +62,12 @@ pub record Works {D V M P : Type 0} (k : Kinds D V M P) (s : Working D V) (lent 
   pub ran : RanScript k.vaults (record { start = s.start; last = s.last; seat = s.script }) lent out.told
   pub records : WhereMade out.opened.recording
       (λ tag. (told : Option Refusal)
-      × WorksOn (IsPieceOf s.track tag) (is_some told) (worker s.recorder.before None) (worker s.recorder.now told)
+      × RecordsOn s.track tag (is_some told) (recorder s.recorder.before None 0) (recorder s.recorder.now told 0)
       × IsSomeAnd out.kept (IsRecorded k.mics lent.mic
       (change (pieces_seen s tag s.recorder.before) (pieces_seen s tag s.recorder.now)) told))
       ((s.recorder.now ≡ s.recorder.before) × (out.kept ≡ None) × (lent.mic.now ≡ lent.mic.before))
   pub plays : WhereMade out.opened.pin
       (λ pin. IsSomeAnd out.heard (λ heard.
-      WorksOn (IsReadOf pin) (is_some heard.refused) (worker s.player.before None)
-      (worker s.player.now heard.refused)
+      ReadsOn pin (reads_to heard.refused) (worker s.player.before None) (worker s.player.now heard.refused)
       × IsPlayed k.speakers lent.speaker (IsMixOf (origin k.disk k.vaults s.start) s.player.before.seen pin) heard))
       ((s.player.now ≡ s.player.before) × (out.heard ≡ None) × (lent.speaker.now ≡ lent.speaker.before))

@@ -2,6 +2,7 @@
 ghost use Rattle.std.specs.Prelude.{◌≡◌, IsSomeAnd, MatchResult, None, is_some};
 ghost use Rattle.pin_turn.specs.Calls.{known};
 ghost use Rattle.studio_seats.specs.Desks.{IsAt, start_at};
+ghost use Rattle.studio_seats.specs.Recording.{FreesTo};
 ghost use Rattle.desk_session.specs.Opening.{IsTagTo, number_seen};
 ghost use Rattle.desk_session.specs.Sides.{Lends};
 
@@ -11,6 +12,7 @@ use edit_ports::{Source, Vault};
 use pcm_base::Refusal;
 use sound_run::Recorded;
 use sound_session::{LentSource, RecordRing, Recording};
+use std::sync::Wait;
 use studio_seats::{Desk, DeskSeat, DeskTaker};
 
 /// Lends the seat and the microphone to a recording, where there is a track, else they are kept.
@@ -28,7 +30,7 @@ pub fn lend_recorder<'a, 'b, S: Store, V: Vault, M: Source>(
     ensures { Lends recording
         (λ tag w. (w.mic.source.ghost_name ≡ mic.entry.ghost_name) × (w.mic.source.now ≡ mic.old)
         × (w.taker.desk.now ≡ desk.now) × (known w.taker.seat ≡ known seat) × (w.taker.track ≡ track)
-        × (w.taker.tag ≡ tag) × (w.taker.refused ≡ None))
+        × (w.taker.tag ≡ tag) × (w.taker.refused ≡ None) × (w.taker.since ≡ 0))
         (λ r. (known r.0 ≡ known seat) × IsAt desk.now r.0 × (r.1.ghost_name ≡ mic.entry.ghost_name)
         × (r.1.now ≡ mic.old))
         result }
@@ -42,12 +44,14 @@ pub fn lend_recorder<'a, 'b, S: Store, V: Vault, M: Source>(
     }
 }
 
-/// The seat, the microphone, and what was recorded.
-pub fn take_recorder<'a, 'b, S: Store, V: Vault, M: Source>(
+/// The seat, after it freed what its last pieces replaced, the microphone, and what was recorded.
+pub fn take_recorder<'a, 'b, R: Wait, S: Store, V: Vault, M: Source>(
+    rt: &R,
     recorded: Result<Recorded<LentSource<'b, M>, DeskTaker<'a, S, V>>, (DeskSeat<S, V>, &'b mut M)>,
 ) -> (DeskSeat<S, V>, &'b mut M, Option<Kept>)
     ensures { MatchResult recorded.entry
-        (λ d. IsAt d.taker.desk.now result.0 × (known result.0 ≡ known d.taker.seat)
+        (λ d. IsAt d.taker.desk.now result.0
+        × FreesTo d.taker.since (known d.taker.seat) 0 (known result.0)
         × (result.1.ghost_name ≡ d.mic.source.ghost_name) × (result.1.now ≡ d.mic.source.now)
         × IsSomeAnd result.2 (λ k. (k.end ≡ d.end) × (k.numbers ≡ d.numbers) × (k.samples ≡ d.samples)
         × (k.refused ≡ d.refused)))
@@ -70,7 +74,7 @@ pub fn take_recorder<'a, 'b, S: Store, V: Vault, M: Source>(
                 samples,
                 refused,
             };
-            (taker.into_seat(), source, Some(kept))
+            (taker.finish(rt), source, Some(kept))
         }
         Err((seat, mic)) => (seat, mic, None),
     }

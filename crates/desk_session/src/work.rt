@@ -107,7 +107,7 @@ pub fn run_work<
         rt, alloc, &mut lines, script, out, recording, playback, gate,
     );
     let (seat, told, vault) = take_script(lines, stop);
-    let (recorder, mic, kept) = take_recorder(recorded);
+    let (recorder, mic, kept) = take_recorder(rt, recorded);
     let (player, speaker, heard) = take_player(played);
     let seats = Seats {
         script: seat,

@@ -4,7 +4,7 @@ use super::peak_summary_tests::summary;
 use super::sample_block_tests::FILE;
 use block_store::{
     BlockFault, Level, compare_once, drop_block, put, read_compared_frames, read_compared_samples,
-    read_frames, read_samples, sync_block, write_block,
+    read_frames, read_samples, remove_block, sync_block, write_block,
 };
 use disk_model::{RamStore, Store};
 use pcm_base::BlockRef;
@@ -86,6 +86,26 @@ fn written_first_and_then_synced(rt: HostRuntime) -> Result<(), Fail> {
     assert!(rt; synced_size(rt.alloc(), &store, 17)? == None);
     assert!(rt; sync_block(&mut store, 17) == Ok(()));
     assert!(rt; synced_size(rt.alloc(), &store, 17)? == Some(42));
+    Ok(())
+}
+
+// Of two blocks that are removed, the one that is synced first is in no image, while the other's removal is pending.
+#[test]
+fn removed_first_and_then_synced(rt: HostRuntime) -> Result<(), Fail> {
+    let mut store = disk(rt.alloc(), Vec::new(rt.alloc()))?;
+    let mut scratch = Vec::with_capacity(rt.alloc(), 44)?;
+    assert!(rt; put_two(rt.alloc(), &mut store)? == Ok(()));
+    assert!(rt; put(&mut store, 17, &[5], &mut scratch) == Ok(()));
+    assert!(rt; remove_block(&mut store, 16) == Ok(()));
+    assert!(rt; remove_block(&mut store, 17) == Ok(()));
+    assert!(rt; found(&mut store)? == b'-');
+    assert!(rt; synced_size(rt.alloc(), &store, 16)? == Some(44));
+    assert!(rt; sync_block(&mut store, 16) == Ok(()));
+    let left = images(rt.alloc(), &store)?;
+    assert!(rt; left.as_slice() == b"-n-n-n-n-n-n-n-n-n-n".as_slice());
+    assert!(rt; synced_size(rt.alloc(), &store, 17)? == Some(42));
+    assert!(rt; sync_block(&mut store, 17) == Ok(()));
+    assert!(rt; synced_size(rt.alloc(), &store, 17)? == None);
     Ok(())
 }
 

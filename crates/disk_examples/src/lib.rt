@@ -2,6 +2,8 @@
 #![tactic(auto)]
 
 #[cfg(test)]
+mod block_cache_tests;
+#[cfg(test)]
 mod block_checks;
 #[cfg(test)]
 mod block_store_tests;

@@ -119,11 +119,11 @@ fn one_record_byte_by_byte(rt: HostRuntime) -> Result<(), Fail> {
     assert!(rt; store.read_at(0, 0, &mut head) == Ok(33));
     assert!(rt; head.as_slice() == NEW.as_slice());
     let mut scratch = Vec::with_capacity(alloc, 52)?;
-    assert!(rt; append(&mut store, 32, &JOURNAL[37..84], &mut scratch) == Ok(84));
+    assert!(rt; append(&mut store, 0, 32, &JOURNAL[37..84], &mut scratch) == Ok(84));
     assert!(rt; store.size(0) == Ok(Some(85)));
     assert!(rt; store.read_at(0, 0, &mut whole) == Ok(85));
     assert!(rt; whole.as_slice() == JOURNAL.as_slice());
-    assert!(rt; append_small(&mut store, 84, &[2]) == Ok(90));
+    assert!(rt; append_small(&mut store, 0, 84, &[2]) == Ok(90));
     let journal = read_two(alloc, &mut store).ok().ok_or("a journal")?;
     assert!(rt; journal.numbers == (8000, 4, 256));
     assert!(rt; (journal.count, journal.end) == (2, 90));
@@ -203,8 +203,8 @@ fn the_end_of_all_places(rt: HostRuntime) -> Result<(), Fail> {
         have: end - 6,
         need: 7,
     };
-    assert!(rt; append_small(&mut store, end - 6, &[2]) == Err(spent));
-    assert!(rt; append(&mut store, end - 6, &[2], &mut Vec::new(alloc)) == Err(spent));
+    assert!(rt; append_small(&mut store, 0, end - 6, &[2]) == Err(spent));
+    assert!(rt; append(&mut store, 0, end - 6, &[2], &mut Vec::new(alloc)) == Err(spent));
     Ok(())
 }
 
@@ -229,8 +229,8 @@ fn records_of_several_pieces(rt: HostRuntime) -> Result<(), Fail> {
     let short = sevens(alloc, 65_490)?;
     let long = sevens(alloc, 200_000)?;
     assert!(rt; create(&mut store, 8000, 4, 256).is_ok());
-    assert!(rt; append(&mut store, 32, &short, &mut scratch) == Ok(65_527));
-    assert!(rt; append(&mut store, 65_527, &long, &mut scratch) == Ok(265_532));
+    assert!(rt; append(&mut store, 0, 32, &short, &mut scratch) == Ok(65_527));
+    assert!(rt; append(&mut store, 0, 65_527, &long, &mut scratch) == Ok(265_532));
     let two = read_two(alloc, &mut store).ok().ok_or("a journal")?;
     assert!(rt; (two.count, two.end, two.early) == (2, 265_532, None));
     assert!(rt; two.bodies[0].as_slice() == short.as_slice());

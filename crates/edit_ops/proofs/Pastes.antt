@@ -17,8 +17,8 @@ use Rattle.clip_track.proofs.Strips.{length-strip_cells, strip_cells-append, Ite
 use Rattle.clip_track.proofs.Layouts.{ItemsFit-gap}
 use Rattle.clip_track.proofs.RoughStrips.{rough-append, rough_front, rough_back, rough_only_gap, rough_three}
 use Rattle.clip_track.proofs.ShortStrips.{ItemsShort-append, ItemsShort-part, short_gap}
-use Rattle.edit_ops.specs.declared.placing.Placing.{Placing}
-use Rattle.edit_ops.specs.declared.placing.Placing.TheVariants.{Insert, Cover}
+use Rattle.pcm_base.specs.declared.edits.Placing.{Placing}
+use Rattle.pcm_base.specs.declared.edits.Placing.TheVariants.{Insert, Cover}
 use Rattle.edit_ops.specs.Placing.{placed, placed_items}
 use Rattle.edit_ops.specs.Strips.{rest_items, front_items, IsOld, AllOld, IsClip, IsItemFrom, ItemsFrom}
 use Rattle.edit_ops.proofs.StripCells.{cells_front, rest_cells}

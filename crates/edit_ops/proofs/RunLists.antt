@@ -15,7 +15,7 @@ use Rattle.clip_track.specs.Items.{strip_len}
 use Rattle.edit_ops.specs.declared.types.Plan.{Plan}
 use Rattle.edit_ops.specs.Strips.{IsClip}
 use Rattle.edit_ops.specs.Placing.{SumsFit, LengthsFit, placed_length}
-use Rattle.edit_ops.specs.declared.placing.Placing.{Placing}
+use Rattle.pcm_base.specs.declared.edits.Placing.{Placing}
 use Rattle.edit_ops.specs.Plans.{Start}
 use Rattle.edit_ops.specs.Runs.{AllTracksHalfFull, AreClips, IsCopy, AreCopies, IsCut, AreCuts, IsPaste, ArePastes}
 use Rattle.edit_ops.specs.Runs.{start_behind}

@@ -103,7 +103,7 @@ tame_without m old from to xs v t = record {
   );
 }
 
--- a split-delete
+-- a range made gaps
 pub tame_with_gaps : (m : ℕ) (old : List BlockRef) (from to : ℕ) (xs : List Item) → AreItems xs → Tame m old 0 xs
     → Tame m old 2 (with_gaps from to xs)
 tame_with_gaps m old from to xs v t =

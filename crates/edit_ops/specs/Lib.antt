@@ -2,6 +2,5 @@ pub mod Changes
 pub mod LaidClips
 pub mod Placing
 pub mod Plans
-pub mod Removing
 pub mod Runs
 pub mod Strips

@@ -1,26 +1,16 @@
 -- The two ways in which a strip is put into a track.
 use Rattle.std.specs.Prelude.{ℕ, ◌+◌, ◌≤◌, ◌<◌, ◌^◌, List, [], ◌∷◌}
-use Rattle.pcm_base.specs.declared.sound.Cell.{Cell}
-use Rattle.pcm_base.specs.Edits.{inserted, pasted_over}
-use Rattle.pcm_base.specs.Refusals.{inserted_length, covered_length}
+use Rattle.pcm_base.specs.declared.edits.Placing.{Placing}
+use Rattle.pcm_base.specs.declared.edits.Placing.TheVariants.{Insert, Cover}
+pub use Rattle.pcm_base.specs.Edits.{placed}
+pub use Rattle.pcm_base.specs.Refusals.{placed_length}
 use Rattle.clip_track.specs.declared.items.Item.{Item}
 use Rattle.clip_track.specs.declared.clips.Clip.{Clip}
 use Rattle.clip_track.specs.Clips.{end_of}
 use Rattle.clip_track.specs.Items.{strip_len}
 use Rattle.edit_ops.specs.Strips.{with_inserted, with_covered}
-use Rattle.edit_ops.specs.declared.placing.Placing.{Placing}
-use Rattle.edit_ops.specs.declared.placing.Placing.TheVariants.{Insert, Cover}
 
--- the model's edit, by the strip's cells and the track's
-abbrev pub placed : Placing → ℕ → List Cell → List Cell → List Cell
-placed Insert at = inserted at
-placed Cover at = pasted_over at
-
--- what n cells make of a length
-abbrev pub placed_length : Placing → ℕ → ℕ → ℕ → ℕ
-placed_length Insert at = inserted_length at
-placed_length Cover at = covered_length at
-
+-- the items of a track with those of a strip put in
 abbrev pub placed_items : Placing → ℕ → List Item → List Item → List Item
 placed_items Insert at = with_inserted at
 placed_items Cover at = with_covered at

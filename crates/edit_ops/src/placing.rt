@@ -12,30 +12,8 @@ use super::planning::plan_strip;
 use super::strips;
 use super::types::Plan;
 use clip_track::{Layout, Strip};
-use pcm_base::NoMemory;
+use pcm_base::{NoMemory, Placing};
 use std::alloc::Global;
-
-/// What becomes of the cells from the place on.
-#[derive(Clone, Copy, Debug)]
-pub enum Placing {
-    /// They move behind the strip's.
-    Insert,
-    /// The strip's take their place, as many as there are.
-    Cover,
-}
-
-impl Placing {
-    /// What a strip makes of a track's length.
-    pub fn length(self, at: u64, strip: u64, track: u64) -> u64
-        requires { at + strip + track < 2 ^ 64 }
-        ensures { result ≡ placed_length self at strip track }
-    {
-        match self {
-            Placing::Insert => track.max(at) + strip,
-            Placing::Cover => track.max(at + strip),
-        }
-    }
-}
 
 fn strip_of(
     alloc: Global,

@@ -1,24 +1,15 @@
 // The two ways in which a range is taken from a track.
 ghost use Rattle.std.specs.Prelude.{◌≡◌, ◌≤◌, ◌<◌, ◌^◌, length, IfOk};
+ghost use Rattle.pcm_base.specs.Edits.{removed};
 ghost use Rattle.clip_track.specs.Clips.{AllHalfFull};
 ghost use Rattle.edit_ops.specs.Plans.{start_of};
-ghost use Rattle.edit_ops.specs.Removing.{removed};
 ghost use Rattle.edit_ops.specs.Runs.{IsCut};
 
 use super::planner::Planner;
 use super::plans::{plan_with_gaps, plan_without};
 use super::types::Plan;
 use clip_track::Layout;
-use pcm_base::NoMemory;
-
-/// What becomes of the cells of a range that is cut.
-#[derive(Clone, Copy, Debug)]
-pub enum Removing {
-    /// Those behind them move to their place.
-    Delete,
-    /// They become gaps.
-    SplitDelete,
-}
+use pcm_base::{NoMemory, Removing};
 
 /// Without a range of one track, which may end, or begin, beyond it.
 pub fn plan_removal(
@@ -33,7 +24,7 @@ pub fn plan_removal(
     ensures { IfOk result (λ p. IsCut (removed removing from to) (start_of planner) t.now p) }
 {
     match removing {
-        Removing::Delete => Ok(plan_without(planner, t, from, to)?),
-        Removing::SplitDelete => Ok(plan_with_gaps(planner, t, from, to)?),
+        Removing::Close => Ok(plan_without(planner, t, from, to)?),
+        Removing::Leave => Ok(plan_with_gaps(planner, t, from, to)?),
     }
 }

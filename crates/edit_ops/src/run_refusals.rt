@@ -7,10 +7,9 @@ ghost use Rattle.edit_ops.specs.Plans.{Passes};
 ghost use Rattle.edit_ops.specs.Runs as runs;
 ghost use Rattle.pcm_base.specs.Refusals.{too_narrow, length_limit};
 
-use super::placing::Placing;
 use super::refusals::{length, range};
 use clip_track::{Layout, Strip};
-use pcm_base::Refusal;
+use pcm_base::{Placing, Refusal};
 
 /// There are as many tracks as are needed.
 fn wide(have: u64, need: u64) -> Result<(), Refusal>

@@ -2,20 +2,20 @@
 ghost use Rattle.std.specs.Prelude.{◌≡◌, ◌+◌, ◌*◌, ◌≤◌, ◌<◌, ◌^◌, length, take, option_copied, IfOk, IfSome};
 ghost use Rattle.std.specs.Option.{ForSome};
 ghost use Rattle.pcm_base.specs.Edits as edit;
+ghost use Rattle.pcm_base.specs.Edits.{removed};
 ghost use Rattle.pcm_base.specs.Refusals.{inserted_length, covered_length};
 ghost use Rattle.edit_ops.specs.Placing.{placed, placed_length, SumsFit, LengthsFit};
 ghost use Rattle.edit_ops.specs.Plans.{AnswersTest, run_start_of};
-ghost use Rattle.edit_ops.specs.Removing.{removed};
 ghost use Rattle.edit_ops.specs.Runs as runs;
 
-use super::placing::{Placing, plan_placed};
+use super::placing::plan_placed;
 use super::planner::{Planner, RunPlanner};
-use super::removing::{Removing, plan_removal};
+use super::removing::plan_removal;
 use super::run_refusals::{copy_tests, paste_tests};
 use super::strips;
 use super::types::{Plan, Plans, Strips};
 use clip_track::{Layout, Strip};
-use pcm_base::{NoMemory, Refusal};
+use pcm_base::{NoMemory, Placing, Refusal, Removing};
 use std::alloc::Global;
 
 fn copy_one(alloc: Global, t: &Layout, from: u64, to: u64) -> Result<Strip, NoMemory>
@@ -169,7 +169,7 @@ pub fn cut(
         (λ v. runs.AreCuts (edit.deleted from to) (run_start_of planner) (take n (runs.layouts run.now)) v.1) }
     ensures tests { AnswersTest (runs.copy_tests (runs.layouts run.now) n from to) result }
 {
-    cut_range(planner, run, Removing::Delete, n, from, to)
+    cut_range(planner, run, Removing::Close, n, from, to)
 }
 
 /// `copy`, and a split-delete of the range on each of the tracks.
@@ -190,7 +190,7 @@ pub fn split_cut(
         (λ v. runs.AreCuts (edit.split_deleted from to) (run_start_of planner) (take n (runs.layouts run.now)) v.1) }
     ensures tests { AnswersTest (runs.copy_tests (runs.layouts run.now) n from to) result }
 {
-    cut_range(planner, run, Removing::SplitDelete, n, from, to)
+    cut_range(planner, run, Removing::Leave, n, from, to)
 }
 
 /// Each strip put into the track that it goes to: the first into the first track of `run`, and so on.

@@ -1,9 +1,9 @@
 // Where frames come from.
-ghost use Rattle.std.specs.Prelude.{◌≡◌, ◌↔◌, ℕ, ◌+◌, ◌^◌, ◌<◌, ◌≤◌, Bool, false, List, length, take, drop, Option};
-ghost use Rattle.std.specs.Prelude.{is_err, IfOk, IfErr, OnOk};
+ghost use Rattle.std.specs.Prelude.{◌≡◌, ◌↔◌, ℕ, ◌+◌, ◌^◌, ◌<◌, ◌≤◌, List, length, take, drop, Option, IfOk, IfErr};
+ghost use Rattle.std.specs.Prelude.{OnOk};
 ghost use Rattle.pcm_base.specs.declared.refusal.Refusal.{Refusal};
 ghost use Rattle.pcm_base.specs.declared.sound.Frame.{Frame};
-ghost use Rattle.edit_ports.specs.Answers.{first_refusal};
+ghost use Rattle.edit_ports.specs.Answers.{NextAt, Reading, after_read, first_refusal, most_frames};
 
 use pcm_base::{Frame, Said};
 use std::sync::Wait;
@@ -16,9 +16,9 @@ pub trait FrameGiver {
     // The first refusal that was answered, or none.
     ghost refused: { Self → Option Refusal };
 
-    // What has become of the first after some calls, as the giver tells it. Where the Bool is true the last of them
-    // was refused, and no other was. Of a giver behind a refusal no call tells more.
-    ghost follows: { Self → Bool → Self → Type 0 };
+    // What has become of the first after some calls that read its frames from place 0 on, each from where the one
+    // before it ended, and how far they came. After the end, or a refusal, no call says more.
+    ghost follows: { Self → Reading → Self → Type 0 };
 
     /// Gives the frames from the place `from` on into the front of `out`, as many as are there and as fit, and answers
     /// how many. It may wait for a turn, and takes no memory.
@@ -30,5 +30,6 @@ pub trait FrameGiver {
         ensures same { (all : List Frame) → shows self.old all ↔ shows self.new all }
         ensures unrefused { OnOk result.what (refused self.new ≡ refused self.old) }
         ensures refusal { IfErr result.what (λ reason. refused self.new ≡ first_refusal (refused self.old) reason) }
-        ensures goes { (first : Self) → follows first false self.old → follows first (is_err result.what) self.new };
+        ensures goes { (first : Self) → follows first (NextAt from) self.old → 0 < length out.old →
+            length out.old ≤ most_frames → follows first (after_read from (length out.old) result.what) self.new };
 }

@@ -12,6 +12,7 @@ use Rattle.pcm_base.specs.Run.{Heard, name_in, name_in_line}
 use Rattle.disk_model.specs.Frames.{Kept}
 use Rattle.disk_model.specs.declared.store.Store.{Ghosts}
 use Rattle.disk_model.proofs.Frames.{Fewer, changed_kept, changed_none, kept_none}
+use Rattle.block_cache.specs.Caches.{Entries}
 pub use Rattle.editor_core.specs.Applied.{spanned}
 use Rattle.editor_core.specs.Applied.{Lasts, TookOver, move_of, Span, sound_moved}
 use Rattle.editor_core.specs.Core.{Core}
@@ -23,8 +24,9 @@ use Rattle.editor_core.specs.Took.{Exchange, Took, exchange_of, freeing, number_
 use Rattle.editor_core.proofs.Leaving.{IsPlain, left_plain}
 use Rattle.editor_core.proofs.Looking.{looked_studio}
 use Rattle.editor_core.proofs.Others.{others_none}
-use Rattle.editor_core.proofs.Removing.{RemovesNone, frees_none, ids_same, no_record}
+use Rattle.editor_core.proofs.Removing.{RemovesNone, frees_none, ids_same, no_record, none_given}
 use Rattle.editor_core.proofs.Staying.{stopped_not}
+use Rattle.editor_core.proofs.StudioCache.{ReadsNamed}
 
 kept_untouched : {D : Type 0} (disk : Ghosts D) (s new : Core D) (told : Result Reply Refusal)
     → Kept disk s.store new.store → Untouched disk s told new
@@ -40,6 +42,7 @@ module _ {D : Type 0} (disk : Ghosts D) (s : Core D) where
     rests = took.rests;
     len = took.len;
     records = took.records;
+    given = took.given;
     changed = took.changed;
     frees = took.frees;
     ids = took.ids;
@@ -58,6 +61,7 @@ module _ {D : Type 0} (disk : Ghosts D) (s : Core D) where
     rests = λ some. refl;
     len = 0;
     records = no_record (Err why) s;
+    given = tt;
     changed = changed_none s.store (others_none s.next_block s.next_block (MayRemove call s.counts)) fewer;
     frees = frees_none disk s call (Err why) s none;
     ids = ids_same s s refl refl;
@@ -68,20 +72,22 @@ module _ {D : Type 0} (disk : Ghosts D) (s : Core D) where
 
   -- nothing was changed
   pub lasts_looked : (is : IsStudio disk s) (call : Call) → RemovesNone call → (sound : SoundMove) → s.stopped ≡ None
-      → (store : D) (kept : Kept disk s.store store) (told : Result Reply Refusal)
+      → (store : D) (kept : Kept disk s.store store) (cache : Entries) → ReadsNamed disk s cache
+      → (told : Result Reply Refusal)
       → s.commit_number ≡ number_behind told call s.commit_number
-      → IfErr told (Left disk s (record s { store = store }))
-      → Lasts disk s (with_sound call sound told) (record s { store = store })
-  lasts_looked is call none sound going store kept told number left = record {
-    studio = looked_studio disk s is store kept;
+      → IfErr told (Left disk s (record s { store = store; cache = cache }))
+      → Lasts disk s (with_sound call sound told) (record s { store = store; cache = cache })
+  lasts_looked is call none sound going store kept cache keeps told number left = record {
+    studio = looked_studio disk s is store kept cache keeps;
     number = number;
     rests = λ some. absurd (stopped_not s.stopped some going);
     len = 0;
-    records = no_record told (record s { store = store });
+    records = no_record told (record s { store = store; cache = cache });
+    given = none_given told s (record s { store = store; cache = cache }) refl;
     changed = changed_kept (others_none s.next_block s.next_block (MayRemove call s.counts)) kept;
-    frees = frees_none disk s call told (record s { store = store }) none;
-    ids = ids_same s (record s { store = store }) refl refl;
-    untouched = kept_untouched disk s (record s { store = store }) told kept;
+    frees = frees_none disk s call told (record s { store = store; cache = cache }) none;
+    ids = ids_same s (record s { store = store; cache = cache }) refl refl;
+    untouched = kept_untouched disk s (record s { store = store; cache = cache }) told kept;
     stops = inl (refl, kept.same_faults);
     left = left;
   }
@@ -126,30 +132,6 @@ counted_told f (Err why) old new counted = counted
 -- every line but an import and an export names no sound
 pub names_none : (c : Command) → ((name : List ℕ) → c ≡ command.Import name → ⊥)
     → ((name : List ℕ) → c ≡ command.Export name → ⊥) → name_in_line c ≡ None
-names_none command.Track a b = refl
-names_none (command.Drop id) a b = refl
-names_none (command.Level id gain) a b = refl
-names_none (command.Side id side) a b = refl
-names_none (command.Mute id mute) a b = refl
-names_none (command.Put id at samples) a b = refl
-names_none (command.Ramp id at n start step) a b = refl
-names_none (command.Delete id from to) a b = refl
-names_none (command.SplitDelete id from to) a b = refl
-names_none (command.Silence id from to) a b = refl
-names_none (command.Trim id from to) a b = refl
-names_none (command.Gain id from to gain) a b = refl
-names_none (command.Cut id n from to) a b = refl
-names_none (command.SplitCut id n from to) a b = refl
-names_none (command.Copy id n from to) a b = refl
-names_none (command.Paste id at) a b = refl
-names_none (command.PasteOver id at) a b = refl
-names_none command.Undo a b = refl
-names_none command.Redo a b = refl
-names_none (command.Purge n) a b = refl
-names_none (command.Show id from to) a b = refl
-names_none (command.Mix from to) a b = refl
-names_none (command.Envelope id from to columns) a b = refl
-names_none command.Tracks a b = refl
-names_none (command.Reclaim limit) a b = refl
 names_none (command.Import name) a b = absurd (a name refl)
 names_none (command.Export name) a b = absurd (b name refl)
+names_none c a b = refl

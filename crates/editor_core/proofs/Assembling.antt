@@ -16,7 +16,8 @@ use Rattle.project_state.specs.KeptSound.{IsSoundTagged}
 use Rattle.project_state.specs.Sound.{AllClipsGiven, AllGiven, AllSoundTracks}
 use Rattle.project_state.proofs.KeptBounds.{all_append}
 use Rattle.editor_core.specs.Parts.{AreParts, HasParts, assembled}
-use Rattle.editor_core.specs.Studios.{IsGiven, IsHeld, IsStudio, ids_of}
+use Rattle.block_cache.proofs.CarriedLaws.{carried_none}
+use Rattle.editor_core.specs.Studios.{IsGiven, IsHeld, IsStudio, ids_of, is_given}
 use Rattle.editor_core.specs.declared.assembly.Parts.{Parts}
 use Rattle.editor_core.proofs.Lists.{all_joined, all_so}
 
@@ -67,6 +68,7 @@ assembles disk store p are is =
           (points_given p.block_size p.next_block p.next_track p.commit_number h are.points) tt;
       counted = subst (λ (bs : List BlockRef). IsFreshCount (ids_of bs) (count_of p.ledger)) (sym same) are.counted;
       given = are.given;
+      cache = λ going. carried_none disk (is_given p.next_block) store p.pages;
     }
 
 -- where the disk has what they stand for, it has what the studio stands for

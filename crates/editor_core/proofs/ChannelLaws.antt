@@ -18,11 +18,10 @@ use Rattle.envelope_view.specs.Answers.{IsUndamaged}
 use Rattle.project_state.specs.declared.track.Track.{Track}
 use Rattle.project_state.specs.Sound.{AllSoundTracks}
 use Rattle.project_state.specs.Tracks.{AllBelow, AreAbove}
-use Rattle.editor_core.specs.Core.{Core}
-use Rattle.editor_core.specs.Imports.{HasChannels, IsNoVault, NoChannelsPlan, all_of}
+use Rattle.editor_core.specs.Imports.{HasChannels, IsNoVault, all_of}
 use Rattle.editor_core.specs.Imports.{channels_refusal, parts_from, total_of}
-use Rattle.editor_core.proofs.Leaving.{IsPlain}
-use Rattle.editor_core.proofs.PlainTests.{either, lengths, one, plain_by}
+use Rattle.editor_core.proofs.Leaving.{IsPlain, own_plain}
+use Rattle.editor_core.proofs.PlainTests.{either, lengths, one, own_by}
 use Rattle.editor_core.proofs.Without.{above_less}
 
 -- ---- the channels of a sound
@@ -104,25 +103,13 @@ channels_tell tracks counts why is =
     subst TellsBoth is
     (both_tell (refused_if many refusal.TrackLimit) (length_limit counts) (many_tell many) (lengths_tell counts))
 
-pub no_plan_tells_both : {D : Type 0} (s : Core D) (counts : List ℕ) (why : Refusal) → NoChannelsPlan s counts why
-    → IsUndamaged why × IsNoVault why
-no_plan_tells_both s counts refusal.NoMemory not = (tt, tt)
-no_plan_tells_both s counts (refusal.SpaceSpent have need) not = (tt, tt)
-no_plan_tells_both s counts why not = absurd not
-
 pub channels_plain : (tracks : ℕ) (counts : List ℕ) (why : Refusal) → channels_refusal tracks counts ≡ Some why
     → IsPlain why
 channels_plain tracks counts why is =
     let many = nat_lt 64 (tracks + length counts) in
-    plain_by (channels_refusal tracks counts) why
+    own_plain why (own_by (channels_refusal tracks counts) why
     (either (refused_if many refusal.TrackLimit) (length_limit counts) (one many refusal.TrackLimit tt)
-    (lengths counts)) is
-
-pub no_plan_plain : {D : Type 0} (s : Core D) (counts : List ℕ) (why : Refusal) → NoChannelsPlan s counts why
-    → IsPlain why
-no_plan_plain s counts refusal.NoMemory not = tt
-no_plan_plain s counts (refusal.SpaceSpent have need) not = tt
-no_plan_plain s counts why not = absurd not
+    (lengths counts)) is)
 
 -- ---- tracks behind others
 

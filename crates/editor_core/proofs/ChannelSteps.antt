@@ -12,10 +12,9 @@ use Rattle.pcm_base.specs.declared.command.Command.TheVariants as command
 use Rattle.pcm_base.specs.declared.refusal.Refusal.{Refusal}
 use Rattle.pcm_base.specs.declared.refusal.Refusal.TheVariants as refusal
 use Rattle.pcm_base.specs.Cells.{Project}
-use Rattle.pcm_base.specs.Counters.{no_room}
 use Rattle.pcm_base.specs.History.{recorded}
 use Rattle.pcm_base.specs.Pieces.{Sources}
-use Rattle.pcm_base.specs.Refusals.{◌otherwise◌, call_tests}
+use Rattle.pcm_base.specs.Refusals.{call_tests}
 use Rattle.pcm_base.specs.Run.{outside}
 use Rattle.pcm_base.specs.Sizes.{blocks_of_channels}
 use Rattle.pcm_base.specs.State.{State, current}
@@ -33,25 +32,23 @@ use Rattle.project_state.specs.Kept.{history_blocks, meant, meant_history, meant
 use Rattle.project_state.specs.KeptSound.{IsSoundPoint}
 use Rattle.project_state.proofs.KeptBounds.{all_append}
 use Rattle.project_state.proofs.MeantHistories.{meant_recorded}
-use Rattle.sound_import.specs.declared.fault.ImportFault.TheVariants.{NoMemory}
 use Rattle.editor_core.specs.declared.carrying.Planned.{Planned}
 use Rattle.editor_core.specs.declared.growth.Growing.{Growing}
 use Rattle.editor_core.specs.Commits.{IsCommitCall}
 use Rattle.editor_core.specs.Core.{Core}
 use Rattle.editor_core.specs.Edits.{AreAmong, IsEdit, IsPlanned, alone, beside, blocks_with, tagged}
-use Rattle.editor_core.specs.Imports.{AreGrown, HasChannels, IsChannelsPlan, NoChannelsPlan, all_of}
+use Rattle.editor_core.specs.Imports.{AreGrown, HasChannels, IsChannelsPlan, all_of}
 use Rattle.editor_core.specs.Imports.{channels_refusal, left_as, parts_from, total_of}
 use Rattle.editor_core.specs.Points.{current_tracks}
-use Rattle.editor_core.specs.Studios.{IsStudio, clip_blocks, named_blocks, pin_blocks, studio_by, studio_of}
+use Rattle.editor_core.specs.Studios.{IsStudio, clip_blocks, named_blocks, pin_blocks, studio_by}
 use Rattle.editor_core.specs.Took.{Took, with_sound}
 use Rattle.editor_core.proofs.Contained.{among_all, among_itself}
 use Rattle.editor_core.proofs.Editing.{current_below, current_sound, old_names}
-use Rattle.editor_core.proofs.ImportRefused.{import_refused, own_refused}
+use Rattle.editor_core.proofs.ImportRefused.{own_refused}
 use Rattle.editor_core.proofs.ImportTests.{channels_pass}
 use Rattle.editor_core.proofs.Lists.{all_left, all_right}
 use Rattle.editor_core.proofs.MadeStudios.{point_more, refs}
 use Rattle.editor_core.proofs.PlanBlocks.{all_readable, new_from_more}
-use Rattle.editor_core.proofs.Spaces.{counter_spent, spends}
 use Rattle.editor_core.proofs.Staying.{refuses}
 use Rattle.editor_core.proofs.Tracks.{current_is}
 use Rattle.editor_core.proofs.ChannelLaws.{channels_are, parts_are, placed, rising_append, sound_append, tests_are}
@@ -104,23 +101,6 @@ module _ {D : Type 0} (disk : Ghosts D) (s : Core D) (is : IsStudio disk s) (cha
       channels_refused why test =
           own_refused disk s is fewer name sound going why (own_is (sources_of (disk.reads s.store)) ∙ test)
 
-      pub channels_unplanned : channels_refusal (length old) counts ≡ None → (why : Refusal)
-          → NoChannelsPlan s counts why
-          → Took disk s (with_sound call (left_as sound) (Err why)) s
-      channels_unplanned pass refusal.NoMemory spent = import_refused disk s is fewer name sound going NoMemory tt
-      channels_unplanned pass (refusal.SpaceSpent have need) spent =
-          let why : Refusal = refusal.SpaceSpent s.next_block need in
-          let few = blocks_few need
-          (omega (arith, spent.1, length-map channels length, ap (λ (k : ℕ). k / m) (total_lists channels))) in
-          let first = ap (λ (o : Option Refusal). o otherwise (no_room s.next_track (length counts)) otherwise
-          (no_room s.commit_number 1)) (spends s.next_block need spent.2) in
-          subst (λ (k : ℕ). Took disk s (with_sound call (left_as sound) (Err (refusal.SpaceSpent k need)))
-          s) (sym spent.0)
-          (refuses disk s call (left_as sound) why is fewer refl refl 0 need (λ held. (few, omega arith))
-          (counter_spent (studio_of disk s) call (left_as sound) (length counts) commit need 0 is.counters.pin_most
-          going (own_is (sources_of (disk.reads s.store)) ∙ pass) why first))
-      channels_unplanned pass why spent = absurd spent
-
   -- ---- the plan
 
   module _ (pass : channels_refusal (length old) counts ≡ None) where
@@ -167,6 +147,14 @@ module _ {D : Type 0} (disk : Ghosts D) (s : Core D) (is : IsStudio disk s) (cha
           (all_append C (point_blocks old) (point_blocks are.news) (old_names disk s is C was_named)
           (among_all C (refs makes) (point_blocks are.news) are.names mine))
 
+      point_used : AreAmong (point_blocks point) (refs makes)
+      point_used =
+          let C : BlockRef → Type 0 = Contains (point_blocks point) in
+          let both = subst (AllByRecursion C) (flat_map-append (λ (t : Track). layout_blocks t.layout) old are.news)
+          (among_itself (point_blocks point)) in
+          among_all C (point_blocks are.news) (refs makes) are.used
+          (all_right C (point_blocks old) (point_blocks are.news) both)
+
       clip_names : AreAmong every (clip_blocks s.clipboard)
       clip_names =
           all_right (Contains every) (pin_blocks s.pins) (clip_blocks s.clipboard)
@@ -185,6 +173,7 @@ module _ {D : Type 0} (disk : Ghosts D) (s : Core D) (is : IsStudio disk s) (cha
             tag_given = omega arith;
             sound = point_sound;
             names = point_names;
+            used = point_used;
             clip_names = clip_names;
             clip_few = is.few_clips;
             clip_fits = is.clipboard;

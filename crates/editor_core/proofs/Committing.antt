@@ -1,5 +1,5 @@
 -- A commit whose record is not added: the journal is full, the record too long, there is no memory, or the disk fails.
-use Rattle.std.proofs.Common.{◌≡◌, inr, refl, sym, subst, ℕ, ◌+◌, ◌-◌, ◌^◌, ◌≤◌, ◌<◌, IsTrue, List, Option, None, Err}
+use Rattle.std.proofs.Common.{◌≡◌, inr, refl, sym, ap, subst, ℕ, ◌+◌, ◌-◌, ◌^◌, ◌≤◌, ◌<◌, IsTrue, List, Option, None, Err}
 use Rattle.std.proofs.Common.{length, arith}
 use Rattle.pcm_base.specs.declared.block.BlockRef.{BlockRef}
 use Rattle.pcm_base.specs.declared.command.Call.{Call}
@@ -9,15 +9,18 @@ use Rattle.pcm_base.specs.declared.refusal.Refusal.TheVariants as refusal
 use Rattle.pcm_base.specs.History.{History}
 use Rattle.pcm_base.specs.Refusals.{call_tests}
 use Rattle.pcm_base.specs.Run.{outside}
+use Rattle.pcm_base.specs.State.{State}
 use Rattle.disk_model.specs.declared.store.Store.{Ghosts}
 use Rattle.disk_model.proofs.Frames.{Fewer, changed_wider}
 use Rattle.sample_block.specs.Sources.{IsWhole}
 use Rattle.clip_track.specs.declared.items.Item.{Item}
 use Rattle.project_state.specs.declared.body.Body.{Body}
 use Rattle.project_state.specs.declared.track.Track.{Track}
+use Rattle.project_state.specs.Kept.{Kept}
 use Rattle.project_state.specs.Spelling.{spelling}
 use Rattle.editor_core.specs.Adding.{Adds, Exceeds, stopped_by}
 use Rattle.editor_core.specs.Core.{Core}
+use Rattle.editor_core.specs.Spent.{WouldMake, kept_of}
 use Rattle.editor_core.specs.Studios.{IsHeld, IsStudio, named_blocks, studio_by, studio_of}
 use Rattle.editor_core.specs.Took.{Took, with_sound}
 use Rattle.editor_core.proofs.Flights.{IsCommit, IsTested, flight, number_left, whole_still}
@@ -29,6 +32,7 @@ use Rattle.editor_core.proofs.Premises.{TookWhere, took_so}
 use Rattle.editor_core.proofs.Removing.{commit_frees, commit_removes_none, ids_same, off_untouched}
 use Rattle.editor_core.proofs.Sounds.{sources_elsewhere}
 use Rattle.editor_core.proofs.Spaces.{exceeded}
+use Rattle.editor_core.proofs.Spending.{exceeding_needed}
 use Rattle.editor_core.proofs.Staying.{HasMade, record_within, refuses, some_none, stopped_not, wants}
 
 module _ {D : Type 0} {Has : Type 0} {disk : Ghosts D} {s : Core D} {made : List BlockRef} {c : Call}
@@ -124,13 +128,37 @@ module _ {D : Type 0} (disk : Ghosts D) (s : Core D) (made : List BlockRef) (c :
   size = length (spelling body)
 
   -- ---- the journal is full, or the record too long
+  -- what it would have made
+  abbrev would : WouldMake disk s c sound
+  would = record {
+    commit = move.call.one;
+    blocks = 0;
+    body = body;
+    so = inr (
+      refl,
+      record {
+        history = h;
+        next_track = track_then;
+        says = move.says;
+        leads = ap (λ (k : Kept). k.history) (move.leads s.block_size (kept_of s) (record {
+          block_size = refl;
+          history = refl;
+          next_block = omega arith;
+          next_track = refl;
+          commit = refl;
+        }));
+        means = λ held. ap (λ (z : State). z.history) (move.model held);
+      },
+    );
+  }
+
   unfit : (why : Refusal) → Fewer disk s.store → Exceeds s.journal_end size why
       → Took disk s (with_sound c sound (Err why)) s
   unfit why fewer over =
       refuses disk s c sound why is fewer (commit_frees disk s c (Err why) s move.call.one) move.call.quiet size 0
       move.needs
       (exceeded (studio_of disk s) c sound tracks move.call 0 size is.counters.pin_most going own
-      (omega (arith, is.counters.block_most)) ids (number_left tested) why over)
+      (omega (arith, is.counters.block_most)) ids (number_left tested) why over) (exceeding_needed disk s c sound would why over)
 
   -- ---- what a record that was not added leaves
   pub fails : {Q : Type 0} (why : Refusal) (mid : Core D) → Fewer disk s.store
@@ -149,7 +177,7 @@ module _ {D : Type 0} (disk : Ghosts D) (s : Core D) (made : List BlockRef) (c :
   fails refusal.DiskFault mid fewer adds =
       subst (λ (z : Core D). Took disk s (with_sound c sound (Err refusal.DiskFault)) z) (sym adds.fields.0)
       (took_so disk s c sound (Err refusal.DiskFault) (after tested mid adds) (failed tested mid adds)
-      (commit_removes_none c move.call.one) (ids_same s (after tested mid adds) refl refl)
+      (commit_removes_none c move.call.one) (ids_same s (after tested mid adds) refl refl) tt tt
       (off_untouched disk s.store mid.store refusal.DiskFault refl)
       (inr (refl, adds.fields.2, refl)) (left_stopped disk s mid.store adds.fields.2))
   fails why mid fewer adds = absurd adds.fields

@@ -21,8 +21,8 @@ use Rattle.sample_block.specs.Sources.{samples_on}
 use Rattle.project_state.specs.declared.track.Track.{Track}
 use Rattle.project_state.specs.KeptSound.{IsSoundPoint}
 use Rattle.project_state.specs.Tracks.{track_of}
-use Rattle.editor_core.specs.declared.cuts.CutEdit.{CutEdit}
-use Rattle.editor_core.specs.declared.cuts.CutEdit.TheVariants.{Close, Leave}
+use Rattle.pcm_base.specs.declared.edits.Removing.{Removing}
+use Rattle.pcm_base.specs.declared.edits.Removing.TheVariants.{Close, Leave}
 use Rattle.editor_core.specs.declared.copies.RunRange.{RunRange}
 use Rattle.editor_core.specs.Core.{Core}
 use Rattle.editor_core.specs.Cuts.{NoCutPlan, cut_cells, cut_line, cut_refusal}
@@ -36,8 +36,9 @@ use Rattle.editor_core.proofs.Removing.{commit_frees, commit_removes_none}
 use Rattle.editor_core.proofs.Staying.{refuses, wants}
 use Rattle.editor_core.proofs.Tracks.{current_is}
 use Rattle.editor_core.proofs.CutLaws.{run_tests_are}
+use Rattle.editor_core.proofs.Spending.{early_needed}
 
-pub cut_call : (e : CutEdit) (range : RunRange)
+pub cut_call : (e : Removing) (range : RunRange)
     → IsEditCall (Line (cut_line e range)) silent 0 (λ m st. blocks_of_tracks range.count)
 cut_call Close range = record {
   commit = record {
@@ -76,13 +77,13 @@ line_tests id n from to p =
     (refused_if (is_empty (tracks_from id p)) (refusal.NoTrack id)) otherwise (too_narrow (length (tracks_from id p)) n)
     otherwise (bad_range from to (longest (take n (tracks_from id p))))
 
-own_by : (e : CutEdit) (range : RunRange) (out : Outside) (st : State)
+own_by : (e : Removing) (range : RunRange) (out : Outside) (st : State)
     → call_tests out st (Line (cut_line e range))
     ≡ line_tests range.track range.count range.from range.to (current st)
 own_by Close range out st = refl
 own_by Leave range out st = refl
 
-pub after_by : (e : CutEdit) (range : RunRange) (out : Outside) (st : State) → after out st (Line (cut_line e range))
+pub after_by : (e : Removing) (range : RunRange) (out : Outside) (st : State) → after out st (Line (cut_line e range))
     ≡ record st {
       history = edited st.history
           (run_edited range.track (replicate range.count (cut_cells e range.from range.to)) (current st)) 0;
@@ -92,7 +93,7 @@ pub after_by : (e : CutEdit) (range : RunRange) (out : Outside) (st : State) →
 after_by Close range out st = refl
 after_by Leave range out st = refl
 
-module _ {D : Type 0} (disk : Ghosts D) (s : Core D) (is : IsStudio disk s) (e : CutEdit) (range : RunRange)
+module _ {D : Type 0} (disk : Ghosts D) (s : Core D) (is : IsStudio disk s) (e : Removing) (range : RunRange)
     (fewer : Fewer disk s.store) where
   abbrev id : ℕ
   id = range.track
@@ -139,7 +140,7 @@ module _ {D : Type 0} (disk : Ghosts D) (s : Core D) (is : IsStudio disk s) (e :
       (λ i. (stop_of s.stopped) otherwise (own i)) ∙ h in
       refuses disk s line silent why is fewer (commit_frees disk s line (Err why) s call.commit.one) refl 0 0
       (λ held. call.needs t.rate t 0 0 (omega arith, omega arith))
-      (early t line silent 0 call.commit 0 0 why first)
+      (early t line silent 0 call.commit 0 0 why first) (early_needed disk s line silent why first)
 
   pub cut_stopped : (faults : ℕ) → s.stopped ≡ Some faults → Took disk s (quietly line (Err (refusal.Stopped faults))) s
   cut_stopped faults at =

@@ -32,7 +32,7 @@ use Rattle.project_state.specs.KeptSound.{IsSoundPoint}
 use Rattle.project_state.specs.Tracks.{track_of}
 use Rattle.project_state.proofs.MeantHistories.{meant_recorded}
 use Rattle.editor_core.specs.declared.carrying.Planned.{Planned}
-use Rattle.editor_core.specs.declared.cuts.CutEdit.{CutEdit}
+use Rattle.pcm_base.specs.declared.edits.Removing.{Removing}
 use Rattle.editor_core.specs.declared.copies.RunRange.{RunRange}
 use Rattle.editor_core.specs.Copies.{Copies, run_of, strips_blocks}
 use Rattle.editor_core.specs.Core.{Core}
@@ -58,7 +58,7 @@ use Rattle.editor_core.proofs.Tracks.{current_is}
 use Rattle.editor_core.proofs.CutLaws.{cuts_laid, each_so, same_edits, strips_short, there_of}
 use Rattle.editor_core.proofs.CutRefused.{after_by, cut_call, own_is}
 
-module _ {D : Type 0} (disk : Ghosts D) (s : Core D) (is : IsStudio disk s) (e : CutEdit) (range : RunRange)
+module _ {D : Type 0} (disk : Ghosts D) (s : Core D) (is : IsStudio disk s) (e : Removing) (range : RunRange)
     (fewer : Fewer disk s.store) where
   abbrev id : ℕ
   id = range.track

@@ -1,6 +1,7 @@
 -- An edit whose blocks are made: what is left is one commit, and the call from there is the call from the start.
 use Rattle.std.proofs.Common.{◌≡◌, refl, subst, ℕ, ◌+◌, ◌≤◌, Option, None}
 use Rattle.std.proofs.Common.{List, [], length, Result, IfErr, arith}
+use Rattle.std.specs.Prelude.{IfOk}
 use Rattle.pcm_base.specs.declared.answer.Reply.{Reply}
 use Rattle.pcm_base.specs.declared.answer.Reply.TheVariants.{Done}
 use Rattle.pcm_base.specs.declared.command.Call.{Call}
@@ -27,6 +28,7 @@ use Rattle.editor_core.specs.Edits.{history_behind}
 use Rattle.editor_core.specs.Left.{CountsIds, Left, Stops, Untouched}
 use Rattle.editor_core.specs.Made.{batch_of, ids_from}
 use Rattle.editor_core.specs.Makes.{AreSynced, Making}
+use Rattle.editor_core.specs.Spent.{NamesGiven, Needed}
 use Rattle.editor_core.specs.Studios.{IsHeld, IsStudio, studio_of}
 use Rattle.editor_core.specs.Took.{Took, with_sound}
 use Rattle.editor_core.proofs.EditLaws.{edit_needs, edit_own, grown_held, grown_is, grown_made, grown_own, move}
@@ -157,10 +159,11 @@ module _ {D : Type 0} (disk : Ghosts D) (s : Core D) (is : IsStudio disk s) (goi
     pub from_start : (told_as : Result Reply Refusal) (new : Core D)
         → TookWhere (IsHeld disk s) disk mid c sound told_as new
         → new.next_block ≡ mid.next_block → (IsHeld disk s → Answers t c sound told_as (studio_of disk new))
-        → CountsIds s [] new → Untouched disk s told_as new → Stops disk s told_as new
+        → CountsIds s [] new → IfOk told_as (λ r. NamesGiven s new) → IfErr told_as (Needed disk s c sound)
+        → Untouched disk s told_as new → Stops disk s told_as new
         → IfErr told_as (Left disk s new) → Took disk s (with_sound c sound told_as) new
-    from_start told_as new took next step ids untouched stops left =
+    from_start told_as new took next step ids named needed untouched stops left =
         composed disk s is given makes going plan.new prepared.blocks
         (pieces_there disk s is going e plan) c sound mid making
         told_as new took next back (λ held. (length body, carried_out)) step
-        (commit_removes_none c edit.call.commit.one) ids untouched stops left
+        (commit_removes_none c edit.call.commit.one) ids named needed untouched stops left

@@ -1,5 +1,5 @@
 -- An edit that makes blocks, as one step: its record was added, or was not, or nothing was prepared.
-use Rattle.std.proofs.Common.{◌≡◌, ◌↔◌, inl, inr, ⊎_elim, refl, sym, ◌∙◌, subst, ℕ, ◌+◌, IsSome, Option, None}
+use Rattle.std.proofs.Common.{◌≡◌, ◌↔◌, inl, inr, ⊎_elim, refl, sym, ap, ◌∙◌, subst, ℕ, ◌+◌, IsSome, Option, None}
 use Rattle.std.proofs.Common.{List, ◌++◌, length, Ok, Err, arith}
 use Rattle.pcm_base.specs.declared.answer.Reply.TheVariants.{Done}
 use Rattle.pcm_base.specs.declared.command.Call.{Call}
@@ -40,6 +40,9 @@ use Rattle.editor_core.proofs.Premises.{TookWhere}
 use Rattle.editor_core.proofs.Removing.{commit_removes_none, ids_made, off_untouched}
 use Rattle.editor_core.proofs.UnpreparedEdits.{not_prepared}
 use Rattle.editor_core.proofs.EditMade.{from_start, mid_state, mid_tested, need, passes}
+use Rattle.editor_core.proofs.Used.{names_given}
+use Rattle.editor_core.proofs.Recorded.{recorded_current}
+use Rattle.editor_core.specs.Points.{current_tracks}
 
 module _ {D : Type 0} (disk : Ghosts D) (s : Core D) (is : IsStudio disk s) (going : s.stopped ≡ None)
     (e : TaggedEdit) (plan : IsPlanned s e)
@@ -136,7 +139,7 @@ module _ {D : Type 0} (disk : Ghosts D) (s : Core D) (is : IsStudio disk s) (goi
             },
           );
         }))
-        (all_ids disk s given makes prepared.blocks c sound store counts making new.store adds.fields.2)
+        (all_ids disk s given makes prepared.blocks c sound store counts making new.store adds.fields.2) tt tt
         (off_untouched disk s.store new.store refusal.DiskFault refl) (inr (refl, failed_change, refl))
         (all_left disk s given makes prepared.blocks c sound store counts making new.store adds.fields.2))
 
@@ -184,7 +187,9 @@ module _ {D : Type 0} (disk : Ghosts D) (s : Core D) (is : IsStudio disk s) (goi
             answers = edit.call.commit.done t.rate t.state;
             is = done_state held;
             heard = edit.call.commit.heard t.rate t.state;
-          }) (ids_made s done counts n making.ledger files refl) tt (inl (refl, adds.fields.2 ∙ making.change_faults)) tt)
+          }) (ids_made s done counts n making.ledger files refl)
+          (names_given disk s e plan done done_took.studio
+          (ap current_tracks moved ∙ recorded_current s.history point tag is.format.depth_least) refl) tt tt (inl (refl, adds.fields.2 ∙ making.change_faults)) tt)
 
   -- a studio with blocks that were made, by its parts
   made_so : (it : Core D) → Making disk s (batch_of given makes) n it

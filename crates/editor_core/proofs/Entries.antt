@@ -6,16 +6,17 @@ use Rattle.pcm_base.specs.declared.answer.Reply.{Reply}
 use Rattle.pcm_base.specs.declared.answer.Reply.TheVariants as reply
 use Rattle.pcm_base.specs.declared.command.Call.{Call}
 use Rattle.pcm_base.specs.declared.command.Call.TheVariants as call
-use Rattle.pcm_base.specs.declared.command.Command.{Command}
-use Rattle.pcm_base.specs.declared.command.Command.TheVariants as command
 use Rattle.pcm_base.specs.declared.entry.Entry.{Entry}
 use Rattle.pcm_base.specs.declared.entry.SoundMove.{SoundMove}
 use Rattle.pcm_base.specs.declared.refusal.Refusal.{Refusal}
 use Rattle.pcm_base.specs.declared.refusal.Refusal.TheVariants as refusal
 use Rattle.pcm_base.specs.Outside.{Outside}
 use Rattle.pcm_base.specs.Run.{Answers, Run, Step, outside, result_of}
+use Rattle.pcm_base.specs.Shape.{Shape, NewTrack, DropTrack, SetTrack, PutIn, EditRange, CutRun, CopyRun, PasteRun}
+use Rattle.pcm_base.specs.Shape.{MoveTo, Purge, Look, Reclaim, Import, Export, View, Cells, Frames, Columns}
+use Rattle.pcm_base.specs.Shape.{Tracks, shape_of}
 use Rattle.pcm_base.specs.State.{State}
-use Rattle.pcm_base.specs.Step.{MayAnswer, MayReply}
+use Rattle.pcm_base.specs.Step.{MayAnswer, MayReplyBy, seen}
 use Rattle.pcm_base.specs.Studio as model
 use Rattle.disk_model.specs.Disk.{Files}
 use Rattle.disk_model.specs.declared.store.Store.{Ghosts}
@@ -34,37 +35,30 @@ abbrev pub Plain : Reply → Type 0
 Plain (reply.Refused why) = ⊥
 Plain r = Unit {0}
 
-line_plain : (out : Outside) (s : State) (c : Command) (r : Reply) → MayReply out s c r → Plain r
-line_plain out s command.Track r h = subst Plain (sym h) tt
-line_plain out s (command.Drop id) r h = subst Plain (sym h) tt
-line_plain out s (command.Level id gain) r h = subst Plain (sym h) tt
-line_plain out s (command.Side id side) r h = subst Plain (sym h) tt
-line_plain out s (command.Mute id mute) r h = subst Plain (sym h) tt
-line_plain out s (command.Put id at samples) r h = subst Plain (sym h) tt
-line_plain out s (command.Ramp id at n start step) r h = subst Plain (sym h) tt
-line_plain out s (command.Delete id from to) r h = subst Plain (sym h) tt
-line_plain out s (command.SplitDelete id from to) r h = subst Plain (sym h) tt
-line_plain out s (command.Silence id from to) r h = subst Plain (sym h) tt
-line_plain out s (command.Trim id from to) r h = subst Plain (sym h) tt
-line_plain out s (command.Gain id from to gain) r h = subst Plain (sym h) tt
-line_plain out s (command.Cut id n from to) r h = subst Plain (sym h) tt
-line_plain out s (command.SplitCut id n from to) r h = subst Plain (sym h) tt
-line_plain out s (command.Copy id n from to) r h = subst Plain (sym h) tt
-line_plain out s (command.Paste id at) r h = subst Plain (sym h) tt
-line_plain out s (command.PasteOver id at) r h = subst Plain (sym h) tt
-line_plain out s command.Undo r h = subst Plain (sym h) tt
-line_plain out s command.Redo r h = subst Plain (sym h) tt
-line_plain out s (command.Purge n) r h = subst Plain (sym h) tt
-line_plain out s (command.Show id from to) r h = subst Plain (sym h) tt
-line_plain out s (command.Mix from to) r h = subst Plain (sym h) tt
-line_plain out s (command.Envelope id from to columns) r h = subst Plain (sym h) tt
-line_plain out s command.Tracks r h = subst Plain (sym h) tt
-line_plain out s (command.Reclaim limit) r h = subst Plain (sym h.1) tt
-line_plain out s (command.Import name) r h = subst Plain (sym h) tt
-line_plain out s (command.Export name) r h = subst Plain (sym h) tt
+view_plain : (s : State) (view : View) → Plain (seen s view)
+view_plain s (Cells id from to) = tt
+view_plain s (Frames from to) = tt
+view_plain s (Columns id from to columns) = tt
+view_plain s Tracks = tt
+
+line_plain : (out : Outside) (s : State) (shape : Shape) (r : Reply) → MayReplyBy out s shape r → Plain r
+line_plain out s NewTrack r h = subst Plain (sym h) tt
+line_plain out s (DropTrack id) r h = subst Plain (sym h) tt
+line_plain out s (SetTrack id setting) r h = subst Plain (sym h) tt
+line_plain out s (PutIn id at source) r h = subst Plain (sym h) tt
+line_plain out s (EditRange id from to edit) r h = subst Plain (sym h) tt
+line_plain out s (CutRun id n from to removing) r h = subst Plain (sym h) tt
+line_plain out s (CopyRun id n from to) r h = subst Plain (sym h) tt
+line_plain out s (PasteRun id at placing) r h = subst Plain (sym h) tt
+line_plain out s (MoveTo move) r h = subst Plain (sym h) tt
+line_plain out s (Purge n) r h = subst Plain (sym h) tt
+line_plain out s (Look view) r h = subst Plain (sym h) (view_plain s view)
+line_plain out s (Reclaim limit) r h = subst Plain (sym h.1) tt
+line_plain out s (Import name) r h = subst Plain (sym h) tt
+line_plain out s (Export name) r h = subst Plain (sym h) tt
 
 pub plain : (out : Outside) (s : State) (c : Call) (r : Reply) → MayAnswer out s c r → Plain r
-plain out s (call.Line c) r h = line_plain out s c r h
+plain out s (call.Line c) r h = line_plain out s (shape_of c) r h
 plain out s (call.Piece track tag samples) r h = subst Plain (sym h) tt
 plain out s call.Pin r h = subst Plain (sym h) tt
 plain out s (call.PinLen pin) r h = subst Plain (sym h.2) tt

@@ -1,5 +1,5 @@
 -- Events that are carried out one after another are a run.
-use Rattle.std.proofs.Common.{◌≡◌, inl, refl, sym, ap, ◌∙◌, subst, ℕ, ◌+◌, ◌-◌, ◌≤◌, Bool}
+use Rattle.std.proofs.Common.{◌≡◌, inl, refl, sym, ap, ◌∙◌, subst, ℕ, ◌+◌, ◌≤◌, Bool}
 use Rattle.std.proofs.Common.{IsSome, Option, Some, None, List, [], ◌∷◌, ◌++◌, take, slice_get, zero, suc}
 use Rattle.std.proofs.Common.{Result, Ok, Err, arith}
 use Rattle.std.proofs.lemmas.Option.{none-some, same_Some}

@@ -38,6 +38,7 @@ use Rattle.sound_export.specs.Written.{ExportCountedBy, IsBlockFault, IsLengthFa
 use Rattle.sound_export.specs.Written.{refusal_of as reason_of_export}
 use Rattle.sound_export.proofs.GrowLaws.{length_mix}
 use Rattle.envelope_view.specs.Answers.{IsUndamaged}
+use Rattle.block_cache.specs.Caches.{Entries}
 use Rattle.editor_core.specs.Core.{Core}
 use Rattle.editor_core.specs.Left.{IsSoOf, Left}
 use Rattle.editor_core.specs.Points.{current_tracks}
@@ -48,10 +49,12 @@ use Rattle.editor_core.proofs.Images.{keeps_now}
 use Rattle.editor_core.proofs.Leaving.{left_read}
 use Rattle.editor_core.proofs.Looking.{looked, looked_held, looked_studio}
 use Rattle.editor_core.proofs.Others.{NoneGoes, others_none}
-use Rattle.editor_core.proofs.Removing.{ids_same, no_record}
+use Rattle.editor_core.proofs.Removing.{ids_same, no_record, none_given}
 use Rattle.editor_core.proofs.Spaces.{fits}
 use Rattle.editor_core.proofs.Staying.{refuses, stopped_not}
 use Rattle.editor_core.proofs.ExportLengths.{length_text, mix_len_by}
+use Rattle.editor_core.proofs.StudioCache.{ReadsNamed}
+use Rattle.editor_core.specs.Spent.{Needed}
 
 -- a fault where the disk has all blocks shows no damaged file
 abbrev is_disk : BlockFault → Type 0
@@ -99,7 +102,7 @@ module _ {D : Type 0} (disk : Ghosts D) (s : Core D) (is : IsStudio disk s) (nam
       → Took disk s (with_sound call sound (Err (refusal.Stopped faults))) s
   export_stopped fewer quiet faults stopped =
       refuses disk s call sound (refusal.Stopped faults) is fewer refl quiet 0 0 (λ held. (refl, refl))
-      (ap (λ (z : Option Refusal). z otherwise rest) (ap stop_of stopped))
+      (ap (λ (z : Option Refusal). z otherwise rest) (ap stop_of stopped)) tt
     where
       rest : Option Refusal
       rest = (too_long (mix_length (current t.state))) otherwise
@@ -107,9 +110,10 @@ module _ {D : Type 0} (disk : Ghosts D) (s : Core D) (is : IsStudio disk s) (nam
           otherwise (no_room t.state.commit 0) otherwise (no_room t.state.next_pin 0) otherwise
           (no_room t.journal_end 0)) otherwise None
 
-  module _ (going : s.stopped ≡ None) (store : D) (kept : Kept disk s.store store) where
+  module _ (going : s.stopped ≡ None) (store : D) (kept : Kept disk s.store store) (cache : Entries) (keeps :
+      ReadsNamed disk s cache) where
     abbrev here : Core D
-    here = looked disk s is store kept
+    here = looked disk s is store kept cache keeps
 
     -- ---- what it leaves
 
@@ -128,17 +132,19 @@ module _ {D : Type 0} (disk : Ghosts D) (s : Core D) (is : IsStudio disk s) (nam
     done : (bytes : ℕ) → (IsHeld disk s → CarriesOut t call sound (reply.Wrote bytes) (studio_of disk here))
         → Took disk s (with_sound call sound (Ok (reply.Wrote bytes))) here
     done bytes step = record {
-      studio = looked_studio disk s is store kept;
-      held = looked_held disk s is store kept;
+      studio = looked_studio disk s is store kept cache keeps;
+      held = looked_held disk s is store kept cache keeps;
       step = step;
       any_moment = λ on held c since. inl (still held c since);
       refused = λ on held left. tt;
-      now = λ left held. keeps_now disk here left (looked_held disk s is store kept held);
+      now = λ left held. keeps_now disk here left (looked_held disk s is store kept cache keeps held);
       number = omega arith;
       rests = λ some. absurd (stopped_not s.stopped some going);
       len = 0;
       needs = λ held. (0, (refl, refl));
       records = no_record (Ok (reply.Wrote bytes)) here;
+      given = none_given (Ok (reply.Wrote bytes)) s here refl;
+      needed = tt;
       changed = changed_kept (others_none s.next_block s.next_block NoneGoes) kept;
       frees = refl;
       ids = ids_same s here refl refl;
@@ -148,26 +154,28 @@ module _ {D : Type 0} (disk : Ghosts D) (s : Core D) (is : IsStudio disk s) (nam
     }
 
     failed : (why : Refusal)
-        → IsSoOf disk s here why → (IsHeld disk s → Answers t call sound (Err why) (studio_of disk here))
+        → IsSoOf disk s here why → Needed disk s call sound why → (IsHeld disk s → Answers t call sound (Err why) (studio_of disk here))
         → Took disk s (with_sound call sound (Err why)) here
-    failed why so step = record {
-      studio = looked_studio disk s is store kept;
-      held = looked_held disk s is store kept;
+    failed why so needed step = record {
+      studio = looked_studio disk s is store kept cache keeps;
+      held = looked_held disk s is store kept cache keeps;
       step = step;
       any_moment = λ on held c since. inl (still held c since);
       refused = λ on held left c since. still held c since;
-      now = λ left held. keeps_now disk here left (looked_held disk s is store kept held);
+      now = λ left held. keeps_now disk here left (looked_held disk s is store kept cache keeps held);
       number = refl;
       rests = λ some. absurd (stopped_not s.stopped some going);
       len = 0;
       needs = λ held. (0, (refl, refl));
       records = no_record (Err why) here;
+      given = tt;
+      needed = needed;
       changed = changed_kept (others_none s.next_block s.next_block NoneGoes) kept;
       frees = refl;
       ids = ids_same s here refl refl;
       untouched = λ device. kept;
       stops = inl (refl, kept.same_faults);
-      left = left_read disk s store why so;
+      left = left_read disk s store cache why so;
     }
 
     -- ---- carried out
@@ -234,12 +242,12 @@ module _ {D : Type 0} (disk : Ghosts D) (s : Core D) (is : IsStudio disk s) (nam
         → (IsTrue (disk.tells s.store) → IsBlockFault (disk.reads s.store) (named_blocks s) why)
         → Left disk s here (reason_of_export why)
     export_left (TooLong frames) faults faults' counted named =
-        left_read disk s store (refusal.TooLong frames) tt
+        left_read disk s store cache (refusal.TooLong frames) tt
     export_left (Block fault.DiskFault) faults faults' counted named =
-        left_read disk s store refusal.DiskFault (inl (record { rose = counted.0.0; later = counted.0.1 }))
+        left_read disk s store cache refusal.DiskFault (inl (record { rose = counted.0.0; later = counted.0.1 }))
     export_left (Block (fault.Damaged file found)) faults faults' counted named =
-        left_read disk s store (refusal.Damaged file found.at found.want found.have) named
-    export_left VaultFault faults faults' counted named = left_read disk s store refusal.VaultFault tt
+        left_read disk s store cache (refusal.Damaged file found.at found.want found.have) named
+    export_left VaultFault faults faults' counted named = left_read disk s store cache refusal.VaultFault tt
 
     pub export_failed : (why : ExportFault) (len faults faults' : ℕ) → len ≡ length point_mix → IsLengthFault len why
         → ExportCountedBy why (disk.read_fault_count s.store) (disk.read_fault_count store) faults faults'
@@ -248,7 +256,7 @@ module _ {D : Type 0} (disk : Ghosts D) (s : Core D) (is : IsStudio disk s) (nam
         → (IsTrue (disk.tells s.store) → IsBlockFault (disk.reads s.store) (named_blocks s) why)
         → Took disk s (with_sound call sound (Err (reason_of_export why))) here
     export_failed (TooLong frames) len faults faults' long fault counted untouched begun named =
-        failed (refusal.TooLong frames) tt (λ held. inl (record {
+        failed (refusal.TooLong frames) tt tt (λ held. inl (record {
           blocks = 0;
           len = 0;
           needs = (refl, refl);
@@ -265,19 +273,19 @@ module _ {D : Type 0} (disk : Ghosts D) (s : Core D) (is : IsStudio disk s) (nam
           quiet = ⊎_elim (λ of. absurd of) (λ same. same) untouched;
         }))
     export_failed (Block fault.DiskFault) len faults faults' long of counted untouched begun named =
-        failed refusal.DiskFault (inl (record { rose = counted.0.0; later = counted.0.1 })) (λ held. inr (record {
+        failed refusal.DiskFault (inl (record { rose = counted.0.0; later = counted.0.1 })) tt (λ held. inr (record {
           breaks = breaks begun held;
           cause = inl (record { goes_on = going; rose = counted.0.0; later = counted.0.1; changes = kept.same_faults });
         }))
     export_failed (Block (fault.Damaged file found)) len faults faults' long of counted untouched begun named =
-        failed (refusal.Damaged file found.at found.want found.have) named (λ held. inr (record {
+        failed (refusal.Damaged file found.at found.want found.have) named tt (λ held. inr (record {
           breaks = breaks begun held;
           stopped = going;
           reads = counted.0;
           changes = kept.same_faults;
         }))
     export_failed VaultFault len faults faults' long of counted untouched begun named =
-        failed refusal.VaultFault tt (λ held. inr (
+        failed refusal.VaultFault tt tt (λ held. inr (
           refl,
           record {
             breaks = breaks begun held;

@@ -12,7 +12,7 @@ use Rattle.pcm_base.specs.History.{History}
 use Rattle.pcm_base.specs.Outside.{Outside}
 use Rattle.pcm_base.specs.Refusals.{call_tests}
 use Rattle.pcm_base.specs.Run.{CarriesOut, followed, outside, refusal_of}
-use Rattle.pcm_base.specs.Sizes.{LONGEST_BODY}
+use Rattle.pcm_base.specs.declared.limits.TheConstants.{LONGEST_BODY}
 use Rattle.pcm_base.specs.Step.{after}
 use Rattle.pcm_base.specs.Studio as model
 use Rattle.disk_model.specs.MomentLaws.{upto_refl}

@@ -1,69 +1,80 @@
--- The file of a block that nothing names goes, and the studio stays what it was.
-use Rattle.std.proofs.Common.{◌≡◌, ◌≢◌, ◌⊎◌, ◌↔◌, inl, inr, ⊎_elim, refl, sym, ap, ◌∙◌, subst, ℕ, ◌≤◌, eqb, Bool, true}
-use Rattle.std.proofs.Common.{false, IsTrue, IsSome, List, Option, Some, None, arith}
-use Rattle.std.specs.List.{AllByRecursion}
+-- Files of blocks that nothing names go, and the studio stays what it was.
+use Rattle.std.proofs.Common.{◌≡◌, ◌⊎◌, ◌↔◌, inl, inr, ⊎_elim, refl, sym, ap, ◌∙◌, subst, ℕ, ◌<◌, IsTrue, IsSome, List, [], ◌∷◌}
+use Rattle.std.proofs.Common.{Option, Some, None, arith}
+use Rattle.std.specs.Prelude.{Contains}
 use Rattle.std.proofs.lemmas.Bool.{cases_eq}
-use Rattle.std.proofs.lemmas.Bool.Decides.{eqb_tells}
 use Rattle.pcm_base.specs.declared.block.BlockRef.{BlockRef}
-use Rattle.disk_model.specs.Disk.{Files, RemoveStep}
+use Rattle.disk_model.specs.Disk.{Files}
 use Rattle.disk_model.specs.Frames.{Changed}
 use Rattle.disk_model.specs.MomentLaws.{upto_refl}
+use Rattle.disk_model.specs.Room.{Room}
 use Rattle.disk_model.specs.declared.store.Store.{Ghosts}
 use Rattle.sample_block.specs.Sources.{sources_of, IsWhole, AllWhole}
-use Rattle.block_ledger.specs.Counts.{Counts, SetsCount, occurrences}
+use Rattle.block_ledger.specs.Counts.{Counts, occurrences}
+use Rattle.block_ledger.proofs.Times.{times_here, times_other}
 use Rattle.project_journal.specs.Gate.{EachSince}
 use Rattle.project_journal.specs.Header.{version_1}
 use Rattle.project_journal.specs.Journal.{HasLog}
-use Rattle.project_journal.proofs.Kept.{is_at_still, each_since}
+use Rattle.project_journal.proofs.Kept.{SameJournals, is_at_still, each_since}
 use Rattle.project_state.specs.Kept.{Keeps}
+use Rattle.block_cache.specs.Caches.{Entries}
+use Rattle.block_cache.specs.Carried.{HasCache}
 use Rattle.editor_core.specs.Core.{Core}
-use Rattle.editor_core.specs.Removals.{removal_room}
 use Rattle.editor_core.specs.Occurrences.{times_named}
-use Rattle.editor_core.specs.Studios.{IsGiven, SameBlocks, IsDurable, IsHeld, IsStudio, shown, studio_by, studio_of}
-use Rattle.editor_core.specs.Studios.{named_blocks}
-use Rattle.editor_core.proofs.Bounds.{absent}
+use Rattle.editor_core.specs.Passes.{FreesFiles}
+use Rattle.editor_core.specs.Removals.{Forgets, Removes}
+use Rattle.editor_core.specs.Studios.{IsGiven, is_given, SameBlocks, IsDurable, IsHeld, IsStudio, ids_of, shown, studio_by}
+use Rattle.editor_core.specs.Studios.{studio_of, named_blocks}
 use Rattle.editor_core.proofs.Images.{keeps_by, shown_is, covers_kept}
-use Rattle.editor_core.proofs.Lists.{all_so, all_both}
+use Rattle.editor_core.proofs.Lists.{all_both}
 use Rattle.editor_core.proofs.Meanings.{same_studio}
+use Rattle.editor_core.proofs.NextIds.{is_among}
 use Rattle.editor_core.proofs.Sounds.{all_whole, trans_same}
 
--- a list of blocks without this id
-abbrev pub Without : ℕ → List BlockRef → Type 0
-Without id bs = AllByRecursion (λ (b : BlockRef). eqb b.id id ≡ false) bs
-
-true-false : (b : Bool) → b ≡ true → b ≡ false → ⊥
-true-false true a e = absurd (cc e)
-true-false false a e = absurd (cc a)
-
-other_id : (b : BlockRef) (id : ℕ) → eqb b.id id ≡ false → b.id ≢ id
-other_id b id differ e =
-    ⊎_elim (λ same. true-false (eqb b.id id) same.0 differ) (λ other. other.1 e) (eqb_tells b.id id)
-
-pub same_without : (id : ℕ) (bs : List BlockRef) (files other : Files) → Without id bs → RemoveStep id files other
+-- files of ids that come among blocks are the same
+same_named : (bs : List BlockRef) (files other : Files) → ((id : ℕ) → 0 < times_named id bs → other id ≡ files id)
     → SameBlocks bs files other
-same_without id bs files other none step =
-    all_so (λ (b : BlockRef). eqb b.id id ≡ false) (λ b. other b.id ≡ files b.id)
-    (λ b differ. step.others b.id (other_id b id differ)) bs none
+same_named [] files other same = tt
+same_named (b ∷ bs) files other same = (
+  same b.id (omega (arith, times_here b.id b.id (ids_of bs) refl)),
+  same_named bs files other (λ id some. same id (more id some (cases_eq b.id id))),
+)
+  where
+    more : (id : ℕ) → 0 < times_named id bs → (b.id ≡ id) ⊎ (b.id ≡ id → ⊥) → 0 < times_named id (b ∷ bs)
+    more id some = ⊎_elim
+        (λ is. omega (arith, times_here id b.id (ids_of bs) is))
+        (λ other. omega (arith, some, times_other id b.id (ids_of bs) other))
 
-module _ {D : Type 0} (disk : Ghosts D) (s : Core D) (is : IsStudio disk s) (id : ℕ) (free : s.counts id ≡ Some 0)
-    (store : D)
-    (changed : Changed disk (RemoveStep id) removal_room s.store store) where
-  pub nowhere : Without id (named_blocks s)
-  nowhere = absent id (named_blocks s) (sym (is.counted id) ∙ ap occurrences free)
+none_some : (o : Option ℕ) → o ≡ None → IsSome o → ⊥
+none_some None e h = absurd (cc h)
+none_some (Some n) e h = absurd (cc e)
 
-  id_least : 16 ≤ id
-  id_least = (is.given id (ap (λ (o : Option ℕ). some_of o) free)).0
-    where
-      some_of : Option ℕ → Bool
-      some_of None = false
-      some_of (Some n) = true
+none_file : (o : Option (List ℕ)) → o ≡ None → IsSome o → ⊥
+none_file None e h = absurd (cc h)
+none_file (Some n) e h = absurd (cc e)
 
-  not_journal : 0 ≢ id
-  not_journal e = absurd (omega (arith, e, id_least))
+module _ {D : Type 0} (disk : Ghosts D) (s : Core D) (is : IsStudio disk s) (much : Room) (store : D)
+    (changed : Changed disk (FreesFiles s.counts) much s.store store) where
+  -- ---- the files
+
+  named_same : (d c : Files) → FreesFiles s.counts d c → SameBlocks (named_blocks s) d c
+  named_same d c step = same_named (named_blocks s) d c (λ id some. ⊎_elim
+      (λ same. same)
+      (λ gone. absurd (omega (arith, some, is.counted id, ap occurrences gone.0)))
+      (step id))
+
+  -- neither file of a journal is a block's
+  journal_same : (file : ℕ) (d c : Files) → file < 16 → FreesFiles s.counts d c → c file ≡ d file
+  journal_same file d c low step = ⊎_elim
+      (λ same. same)
+      (λ gone. absurd (omega (arith, low, (is.given file (subst IsSome (sym gone.0) refl)).0)))
+      (step file)
+
+  journals_same : (d c : Files) → FreesFiles s.counts d c → SameJournals 0 d c
+  journals_same d c step = (journal_same 0 d c (omega arith) step, journal_same 1 d c (omega arith) step)
 
   same_files : IsTrue (disk.tells s.store) → SameBlocks (named_blocks s) (disk.reads s.store) (disk.reads store)
-  same_files told =
-      same_without id (named_blocks s) (disk.reads s.store) (disk.reads store) nowhere (changed.reads told)
+  same_files told = named_same (disk.reads s.store) (disk.reads store) (changed.reads told)
 
   -- it is whole still
   still_whole : IsHeld disk s → AllWhole (disk.reads store) (named_blocks s)
@@ -84,26 +95,55 @@ module _ {D : Type 0} (disk : Ghosts D) (s : Core D) (is : IsStudio disk s) (id 
       let d = held.durable going in
       let files = disk.reads s.store in
       let from = changed.images.from c since in
-      let same = trans_same files from.0 c (named_blocks s) (d.blocks from.0 from.1)
-      (same_without id (named_blocks s) from.0 c nowhere from.2) in
+      let same = trans_same files from.0 c (named_blocks s) (d.blocks from.0 from.1) (named_same from.0 c from.2) in
       let has : HasLog version_1 d.log c =
-      each_since (λ x y step. step.others 0 not_journal) changed.images d.there c since in
+      each_since {form = version_1} journals_same changed.images d.there c since in
       subst (Keeps c) (shown_is disk s d) (keeps_by d.log d.kept files c has d.told
       (covers_kept disk s d (λ b. c b.id ≡ files b.id) same) (covers_kept disk s d (IsWhole files) held.whole))
 
-  -- ---- the file is gone, and the block forgotten
-  module _ (counts : Counts) (set : SetsCount s.counts counts id None)
-      (gone : IsTrue (disk.tells s.store) → disk.reads store id ≡ None) where
-    abbrev pub less : Core D
-    less = record s { store = store; counts = counts }
+  -- ---- the blocks of some of them are forgotten
+  module _ (cache : Entries) (counts : Counts) (ids : List ℕ) (gone : Forgets s.counts counts ids) where
+    less_counted : (x : ℕ) → Contains ids x ⊎ (Contains ids x → ⊥) → occurrences (counts x)
+        ≡ times_named x (named_blocks s)
+    less_counted x among = ⊎_elim
+        (λ has. ap occurrences (gone.gone x has) ∙ sym (ap occurrences (gone.free x has)))
+        (λ not. ap occurrences (gone.others x not))
+        among ∙ is.counted x
 
-    less_durable : IsDurable disk s → IsTrue (disk.tells s.store) → IsDurable disk less
-    less_durable d told =
-        let files = disk.reads s.store in
-        let step = changed.reads told in record {
+    less_given : (x : ℕ) → IsSome (counts x) → Contains ids x ⊎ (Contains ids x → ⊥) → IsGiven s.next_block x
+    less_given x some among = ⊎_elim
+        (λ has. absurd (none_some (counts x) (gone.gone x has) some))
+        (λ not. is.given x (subst IsSome (gone.others x not) some))
+        among
+
+    -- it goes on
+    abbrev pub less : Core D
+    less = record s { store = store; cache = cache; counts = counts }
+
+    pub less_studio : (s.stopped ≡ None → HasCache disk (is_given s.next_block) store cache) → IsStudio disk less
+    less_studio right = record {
+      format = is.format;
+      counters = is.counters;
+      few_points = is.few_points;
+      few_clips = is.few_clips;
+      points = is.points;
+      pins = is.pins;
+      numbers = is.numbers;
+      clipboard = is.clipboard;
+      ids = is.ids;
+      counted = λ x. less_counted x (is_among ids x);
+      given = λ x some. less_given x some (is_among ids x);
+      cache = right;
+    }
+
+    less_durable : IsTrue (disk.tells s.store) → Removes (disk.reads s.store) (disk.reads store) ids → IsDurable disk s
+        → IsDurable disk less
+    less_durable told removes d =
+        let files = disk.reads s.store in record {
           log = d.log;
           kept = d.kept;
-          there = is_at_still (λ x y one. one.others 0 not_journal) (step.others 0 not_journal) changed.images d.there;
+          there = is_at_still {form = version_1} journals_same
+              (journals_same (disk.reads s.store) (disk.reads store) (changed.reads told)) changed.images d.there;
           told = d.told;
           rate = d.rate;
           block_size = d.block_size;
@@ -116,46 +156,37 @@ module _ {D : Type 0} (disk : Ghosts D) (s : Core D) (is : IsStudio disk s) (id 
               let from = images.from c (images.fewer (disk.clock s.store) (disk.clock store) c images.later
               (upto_refl (disk.clock store)) now) in
               let same = trans_same files from.0 c (named_blocks s) (d.blocks from.0 from.1)
-              (same_without id (named_blocks s) from.0 c nowhere from.2) in
+              (named_same from.0 c from.2) in
               all_both (λ b. c b.id ≡ files b.id) (λ b. disk.reads store b.id ≡ files b.id) (λ b. c b.id
               ≡ disk.reads store b.id) (λ b one two. one ∙ sym two) (named_blocks s) same (same_files told);
-          files = λ x least most. files_are x (d.files x least most) step (cases_eq x id);
+          files = λ x least most. files_are x (d.files x least most) (is_among ids x);
         }
       where
-        none_some : (o : Option ℕ) → o ≡ None → IsSome o → ⊥
-        none_some None e h = absurd (cc h)
-        none_some (Some n) e h = absurd (cc e)
-
-        none_file : (o : Option (List ℕ)) → o ≡ None → IsSome o → ⊥
-        none_file None e h = absurd (cc h)
-        none_file (Some n) e h = absurd (cc e)
-
         files_are : (x : ℕ) → IsSome (s.counts x) ↔ IsSome (disk.reads s.store x)
-            → RemoveStep id (disk.reads s.store) (disk.reads store) → (x ≡ id) ⊎ (x ≢ id)
-            → IsSome (counts x) ↔ IsSome (disk.reads store x)
-        files_are x was step (inl e) = (
-          (λ have. absurd (none_some (counts id) set.here (subst (λ (n : ℕ). IsSome (counts n)) e have))),
-          (λ there. absurd
-              (none_file (disk.reads store id) (gone told) (subst (λ (n : ℕ). IsSome (disk.reads store n)) e there))),
+            → Contains ids x ⊎ (Contains ids x → ⊥) → IsSome (counts x) ↔ IsSome (disk.reads store x)
+        files_are x was (inl has) = (
+          (λ some. absurd (none_some (counts x) (gone.gone x has) some)),
+          (λ there. absurd (none_file (disk.reads store x) (removes.gone x has) there)),
         )
-        files_are x was step (inr ne) = (
-          (λ have. subst IsSome (sym (step.others x ne)) (was.0 (subst IsSome (set.others x ne) have))),
-          (λ there. subst IsSome (sym (set.others x ne)) (was.1 (subst IsSome (step.others x ne) there))),
+        files_are x was (inr not) = (
+          (λ some. subst IsSome (sym (removes.others x not)) (was.0 (subst IsSome (gone.others x not) some))),
+          (λ there. subst IsSome (sym (gone.others x not)) (was.1 (subst IsSome (removes.others x not) there))),
         )
 
-    less_counted : (x : ℕ) → (x ≡ id) ⊎ (x ≢ id) → occurrences (counts x) ≡ times_named x (named_blocks s)
-    less_counted x (inl e) =
-        let none : occurrences (counts x) ≡ 0 = ap (λ (n : ℕ). occurrences (counts n)) e ∙ ap occurrences set.here in
-        let was : occurrences (s.counts x) ≡ 0 = ap (λ (n : ℕ). occurrences (s.counts n)) e ∙ ap occurrences free in
-        none ∙ sym was ∙ is.counted x
-    less_counted x (inr ne) = ap occurrences (set.others x ne) ∙ is.counted x
+    pub less_held : (IsTrue (disk.tells s.store) → Removes (disk.reads s.store) (disk.reads store) ids) → IsHeld disk s
+        → IsHeld disk less
+    less_held removes held = record {
+      tells = still_tells held;
+      whole = still_whole held;
+      durable = λ going. less_durable held.tells (removes held.tells) (held.durable going);
+    }
 
-    less_given : (x : ℕ) → IsSome (counts x) → (x ≡ id) ⊎ (x ≢ id) → IsGiven s.next_block x
-    less_given x some (inl e) = is.given x (subst IsSome (sym (ap s.counts e ∙ free)) refl)
-    less_given x some (inr ne) = is.given x (subst IsSome (set.others x ne) some)
+    -- it has stopped
+    abbrev pub halted : ℕ → Core D
+    halted faults = record s { store = store; cache = cache; counts = counts; stopped = Some faults }
 
-    pub less_studio : IsStudio disk less
-    less_studio = record {
+    pub halted_studio : (faults : ℕ) → IsStudio disk (halted faults)
+    halted_studio faults = record {
       format = is.format;
       counters = is.counters;
       few_points = is.few_points;
@@ -165,39 +196,14 @@ module _ {D : Type 0} (disk : Ghosts D) (s : Core D) (is : IsStudio disk s) (id 
       numbers = is.numbers;
       clipboard = is.clipboard;
       ids = is.ids;
-      counted = λ x. less_counted x (cases_eq x id);
-      given = λ x some. less_given x some (cases_eq x id);
+      counted = λ x. less_counted x (is_among ids x);
+      given = λ x some. less_given x some (is_among ids x);
+      cache = λ going. absurd (cc going);
     }
 
-    pub less_held : IsHeld disk s → IsHeld disk less
-    less_held held = record {
+    pub halted_held : (faults : ℕ) → IsHeld disk s → IsHeld disk (halted faults)
+    halted_held faults held = record {
       tells = still_tells held;
       whole = still_whole held;
-      durable = λ going. less_durable (held.durable going) held.tells;
+      durable = λ still. absurd (cc still);
     }
-
-  -- ---- the disk failed
-  abbrev pub halted : ℕ → Core D
-  halted faults = record s { store = store; stopped = Some faults }
-
-  pub halted_studio : (faults : ℕ) → IsStudio disk (halted faults)
-  halted_studio faults = record {
-    format = is.format;
-    counters = is.counters;
-    few_points = is.few_points;
-    few_clips = is.few_clips;
-    points = is.points;
-    pins = is.pins;
-    numbers = is.numbers;
-    clipboard = is.clipboard;
-    ids = is.ids;
-    counted = is.counted;
-    given = is.given;
-  }
-
-  pub halted_held : (faults : ℕ) → IsHeld disk s → IsHeld disk (halted faults)
-  halted_held faults held = record {
-    tells = still_tells held;
-    whole = still_whole held;
-    durable = λ still. absurd (cc still);
-  }

@@ -1,4 +1,4 @@
--- The parts of a new project on a disk without blocks.
+-- The parts of a new project on a disk without blocks, with one page of each kind.
 use Rattle.std.proofs.Common.{◌≡◌, refl, sym, ap, subst, ℕ, ◌≤◌, IsTrue, List, [], ◌++◌, None, Some, Option, IsSome}
 use Rattle.std.proofs.Common.{arith}
 use Rattle.std.specs.List.{AllByRecursion}
@@ -25,6 +25,7 @@ some_not (Some x) none some = some_none x none
 abbrev pub parts_of : (rate m depth : ℕ) → Stored (List Track) → ledger.Kept → Parts
 parts_of rate m depth h l = record {
   rate = rate;
+  pages = 1;
   block_size = m;
   history = h;
   ledger = l;
@@ -38,6 +39,8 @@ module _ (rate m depth : ℕ) (h : Stored (List Track)) (l : ledger.Kept) (is : 
     (none : (id : ℕ) → ledger.count_of l id ≡ None) where
   pub fresh_parts : IsFormat rate m depth → AreParts (parts_of rate m depth h l)
   fresh_parts format = record {
+    pages_least = omega arith;
+    pages_most = omega arith;
     format = subst (λ (z : History (List Track)). IsFormat rate m z.depth) (sym is) format;
     counters = record {
       block_least = omega arith;

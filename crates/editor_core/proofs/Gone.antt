@@ -24,7 +24,7 @@ earlier : (ids : List ℕ) (id x : ℕ) → Contains ids x → Contains (ids ++ 
 earlier ids id x = Contains-append_left ids (id ∷ []) x
 
 -- one of them or the last
-either : (ids : List ℕ) (id x : ℕ) → Contains (ids ++ id ∷ []) x → Contains ids x ⊎ (id ≡ x)
+pub either : (ids : List ℕ) (id x : ℕ) → Contains (ids ++ id ∷ []) x → Contains ids x ⊎ (id ≡ x)
 either ids id x h = ⊎_elim inl (λ one. inr (one_is id x one)) (Contains-append_cases ids (id ∷ []) x h)
 
 pub long : (ids : List ℕ) (id : ℕ) → length (ids ++ id ∷ []) ≡ length ids + 1
@@ -106,14 +106,11 @@ forgets_more old mid new ids id was first set = record {
 pub removes_none : (files : Files) → Removes files files []
 removes_none files = record { gone = λ id h. absurd (none_in id h); others = λ id not. refl }
 
-gone_same : {A : Type 0} (a b : Option A) → a ≡ None → (b ≡ a) ⊎ (b ≡ None) → b ≡ None
+pub gone_same : {A : Type 0} (a b : Option A) → a ≡ None → (b ≡ a) ⊎ (b ≡ None) → b ≡ None
 gone_same a b none (inl same) = same ∙ none
 gone_same a b none (inr gone) = gone
 
-pub none_gone : (files : Files) → AreGone [] files
-none_gone files id h = absurd (none_in id h)
-
-pub gone_more : (mid new : Files) (ids : List ℕ) (id : ℕ) → AreGone ids mid → RemoveStep id mid new → new id ≡ None
+gone_more : (mid new : Files) (ids : List ℕ) (id : ℕ) → AreGone ids mid → RemoveStep id mid new → new id ≡ None
     → AreGone (ids ++ id ∷ []) new
 gone_more mid new ids id was step gone x h =
     ⊎_elim (λ one. still (cases_eq x id) one) (λ e. subst (λ (n : ℕ). new n ≡ None) e gone) (either ids id x h)
@@ -129,28 +126,6 @@ removes_more old mid new ids id was step gone = record {
   others = λ x not. step.others x (λ e. not (subst (Contains (ids ++ id ∷ [])) (sym e) (here ids id)))
       ∙ was.others x (λ h. not (earlier ids id x h));
 }
-
-pub removes_part : (counts : Counts) (old mid new : Files) (ids : List ℕ) (id : ℕ) → Removes old mid ids
-    → RemoveStep id mid new → IsFirstFree counts id → RemovesPart counts old new ids
-removes_part counts old mid new ids id was step first = record {
-  gone = λ x h. gone x h (cases_eq x id);
-  others = λ x not. others x not (cases_eq x id);
-}
-  where
-    gone : (x : ℕ) → Contains ids x → (x ≡ id) ⊎ (x ≢ id) → new x ≡ None
-    gone x h (inl e) = subst (λ (n : ℕ). new n ≡ None) (sym e)
-        (gone_same (mid id) (new id) (subst (λ (n : ℕ). mid n ≡ None) e (was.gone x h)) step.gone)
-    gone x h (inr ne) = step.others x ne ∙ was.gone x h
-
-    at_last : (x : ℕ) → (Contains ids x → ⊥) → x ≡ id → (new id ≡ mid id) ⊎ (new id ≡ None)
-        → (new x ≡ old x) ⊎ (new x ≡ None) × IsFirstFree counts x
-    at_last x not e (inl same) = inl (ap new e ∙ same ∙ ap mid (sym e) ∙ was.others x not)
-    at_last x not e (inr none) = inr (ap new e ∙ none, subst (IsFirstFree counts) (sym e) first)
-
-    others : (x : ℕ) → (Contains ids x → ⊥) → (x ≡ id) ⊎ (x ≢ id)
-        → (new x ≡ old x) ⊎ (new x ≡ None) × IsFirstFree counts x
-    others x not (inl e) = at_last x not e step.gone
-    others x not (inr ne) = inl (step.others x ne ∙ was.others x not)
 
 pub part_none : (counts : Counts) (files : Files) → RemovesPart counts files files []
 part_none counts files = record { gone = λ id h. absurd (none_in id h); others = λ id not. inl refl }

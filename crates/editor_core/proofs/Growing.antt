@@ -31,12 +31,13 @@ use Rattle.editor_core.specs.Studios.{IsDurable, IsHeld, IsStudio, clip_blocks, 
 use Rattle.editor_core.specs.Studios.{pin_blocks, studio_by, studio_of}
 use Rattle.editor_core.specs.Took.{Took, with_sound}
 use Rattle.editor_core.proofs.Flights.{IsCommit, IsTested, flight, images_still, matches, passes, whole_still}
+use Rattle.editor_core.proofs.StudioCache.{cache_by_record}
 use Rattle.editor_core.proofs.Grown.{LeadsOn, led_studio, named_led}
 use Rattle.editor_core.proofs.Images.{keeps_now}
 use Rattle.editor_core.proofs.Leading.{lead_more}
 use Rattle.editor_core.proofs.Others.{NoneGoes, others_record}
 use Rattle.editor_core.proofs.Premises.{TookWhere, took_so}
-use Rattle.editor_core.proofs.Removing.{commit_removes_none, ids_still}
+use Rattle.editor_core.proofs.Removing.{commit_removes_none, ids_still, none_given}
 use Rattle.editor_core.proofs.Sounds.{sources_elsewhere}
 use Rattle.editor_core.proofs.Staying.{HasMade, record_within, stopped_not}
 
@@ -95,7 +96,7 @@ module _ {D : Type 0} {Has : Type 0} {disk : Ghosts D} {s : Core D} {made : List
     grown_named =
         named_led disk s t.is made h clip track_then on mid.store
         (s.journal_end + 5 + len) end_then (omega arith) h' counts next_track moved
-        tracked counted files
+        tracked counted files (cache_by_record disk s t.is _ mid.store adds.changed)
 
     grown_end : mid.journal_end ≡ s.journal_end + 5 + len
     grown_end = ap (λ (z : Core D). z.journal_end) adds.fields.0
@@ -151,7 +152,7 @@ module _ {D : Type 0} {Has : Type 0} {disk : Ghosts D} {s : Core D} {made : List
     grown_studio =
         led_studio disk s t.is made h clip track_then on mid.store
         (s.journal_end + 5 + len) end_then (omega arith) h' counts next_track moved
-        tracked counted files
+        tracked counted files (cache_by_record disk s t.is _ mid.store adds.changed)
 
     pub grown_state : Has → studio_of disk grown ≡ followed out before c 0 len
     grown_state has =
@@ -243,5 +244,6 @@ module _ {D : Type 0} (disk : Ghosts D) (s : Core D) (made : List BlockRef) (c :
         (took_so disk s c sound (Ok Done) (grown tested q mid adds h' counts next_track moved tracked counted files)
         (grows tested q mid adds h' counts next_track moved tracked counted files)
         (commit_removes_none c move.call.one)
-        (ids_still s (grown tested q mid adds h' counts next_track moved tracked counted files) files refl) tt
+        (ids_still s (grown tested q mid adds h' counts next_track moved tracked counted files) files refl)
+        (none_given (Ok Done) s (grown tested q mid adds h' counts next_track moved tracked counted files) refl) tt tt
         (inl (refl, adds.fields.2)) tt)

@@ -1,5 +1,6 @@
 -- The studio that a commit leads to is one, whatever the disk tells; and so is one that a failed change has stopped.
-use Rattle.std.proofs.Common.{◌≡◌, ◌↔◌, sym, ap, ◌∙◌, subst, ℕ, ◌+◌, ◌^◌, ◌≤◌, ◌<◌, List, ◌++◌, length, Option, IsSome}
+use Rattle.std.proofs.Common.{◌≡◌, ◌↔◌, sym, ap, ◌∙◌, subst, ℕ, ◌+◌, ◌^◌, ◌≤◌, ◌<◌, List, ◌++◌, length, Option, None}
+use Rattle.std.proofs.Common.{IsSome}
 use Rattle.std.proofs.Common.{arith}
 use Rattle.std.specs.List.{AllByRecursion}
 use Rattle.pcm_base.specs.declared.block.BlockRef.{BlockRef}
@@ -13,8 +14,10 @@ use Rattle.project_state.specs.Kept.{history_blocks}
 use Rattle.project_state.specs.KeptSound.{IsSoundPoint, IsSoundTagged}
 use Rattle.project_state.proofs.KeptBounds.{all_append, tagged_more}
 use Rattle.editor_core.specs.Adding.{stopped_by}
+use Rattle.block_cache.specs.Carried.{HasCache}
 use Rattle.editor_core.specs.Core.{Core}
-use Rattle.editor_core.specs.Studios.{IsGiven, IsStudio, MayPaste, clip_blocks, ids_of, named_blocks, pin_blocks}
+use Rattle.editor_core.specs.Studios.{IsGiven, IsStudio, is_given, MayPaste, clip_blocks, ids_of, named_blocks}
+use Rattle.editor_core.specs.Studios.{pin_blocks}
 use Rattle.editor_core.specs.declared.studio.Pin.{Pin}
 use Rattle.editor_core.proofs.Images.{Covers}
 use Rattle.editor_core.proofs.Lists.{all_left, all_right, all_so}
@@ -51,6 +54,7 @@ module _ {D : Type 0} (disk : Ghosts D) (s : Core D) (is : IsStudio disk s) wher
     ids = is.ids;
     counted = is.counted;
     given = is.given;
+    cache = λ going. absurd (cc going);
   }
 
   module _ (made : List BlockRef) (h : History (List Track)) (clip : Option (List (List Item))) (track_then : ℕ)
@@ -73,7 +77,8 @@ module _ {D : Type 0} (disk : Ghosts D) (s : Core D) (is : IsStudio disk s) wher
         (next_track : ℕ)
         (moved : h' ≡ h) (tracked : next_track ≡ track_then)
         (counted : IsFreshCount (ids_of (history_blocks h ++ rest_then)) counts)
-        (files : (id : ℕ) → IsSome (counts id) ↔ IsSome (s.counts id)) where
+        (files : (id : ℕ) → IsSome (counts id) ↔ IsSome (s.counts id))
+        (cached : s.stopped ≡ None → HasCache disk (is_given s.next_block) store s.cache) where
       abbrev pub led : Core D
       led = record s {
         store = store;
@@ -135,4 +140,5 @@ module _ {D : Type 0} (disk : Ghosts D) (s : Core D) (is : IsStudio disk s) wher
             counted id ∙ ap (λ (z : History (List Track)). times id (ids_of (history_blocks z ++ rest_then)))
             (sym moved);
         given = λ id some. is.given id ((files id).0 some);
+        cache = cached;
       }

@@ -29,6 +29,7 @@ use Rattle.envelope_view.proofs.AnswerLaws.{reason_damaged}
 use Rattle.mix_view.specs.Tracks.{mix_length_of}
 use Rattle.project_state.specs.declared.track.Track.{Track}
 use Rattle.project_state.specs.Kept.{meant, point_blocks}
+use Rattle.block_cache.specs.Caches.{Entries}
 use Rattle.editor_core.specs.Core.{Core}
 use Rattle.editor_core.specs.Pins.{LacksPin, MayFind}
 use Rattle.editor_core.specs.Points.{current_tracks}
@@ -42,6 +43,7 @@ use Rattle.editor_core.proofs.Quiet.{IsQuiet, quiet_passes, carried, room_of, re
 use Rattle.editor_core.proofs.Quiet.{stays_answered}
 use Rattle.editor_core.proofs.Spaces.{fits}
 use Rattle.editor_core.proofs.Unpinning.{lacks_own, pin_meant, pin_named, has_own}
+use Rattle.editor_core.proofs.StudioCache.{ReadsNamed}
 
 counted_length : (from n : ℕ) → length (counted_from from n) ≡ n
 counted_length from zero = refl
@@ -88,25 +90,26 @@ module _ {D : Type 0} (disk : Ghosts D) (s : Core D) (is : IsStudio disk s) (few
         → Took disk s (quietly mix (Err why)) s
     mix_beyond why going bad = refused_own disk s mix mix_quiet tt is fewer why (ap stop_of going) bad
 
-    module _ (going : s.stopped ≡ None) (store : D) (kept : Kept disk s.store store) where
+    module _ (going : s.stopped ≡ None) (store : D) (kept : Kept disk s.store store) (cache : Entries) (keeps :
+        ReadsNamed disk s cache) where
       pub mix_done : (frames : List Frame) → bad_view from to ≡ None
           → disk.read_fault_count store ≡ disk.read_fault_count s.store
           → (IsHeld disk s → frames ≡ part from to (mix_of (meant src (current_tracks s.history))))
-          → Took disk s (quietly mix (Ok (reply.Frames frames))) (record s { store = store })
+          → Took disk s (quietly mix (Ok (reply.Frames frames))) (record s { store = store; cache = cache })
       mix_done frames good faults heard =
           let room = room_of disk s mix is in
           let passed = quiet_passes t mix mix_quiet room (ap stop_of going) good
           (fits s.next_pin 0 (omega (arith, is.counters.pin_most))) in
-          looked_ok disk s is store kept mix mix_quiet tt going (reply.Frames frames) faults
+          looked_ok disk s is store kept cache keeps mix mix_quiet tt going (reply.Frames frames) faults
           (λ held. carried t mix mix_quiet room (reply.Frames frames) t passed
           (ap reply.Frames (heard held ∙ ap (λ (p : Project). part from to (mix_of p)) (sym (current_meant disk s is))))
           refl)
 
       pub mix_failed : (why : BlockFault) → CountedBy why (disk.read_fault_count s.store) (disk.read_fault_count store)
           → (IsTrue (disk.tells s.store) → IsFaultIn (disk.reads s.store) (point_blocks (current_tracks s.history)) why)
-          → Took disk s (quietly mix (Err (reason_of why))) (record s { store = store })
+          → Took disk s (quietly mix (Err (reason_of why))) (record s { store = store; cache = cache })
       mix_failed why counted damaged =
-          looked_failed disk s is store kept mix mix_quiet tt going refl why counted
+          looked_failed disk s is store kept cache keeps mix mix_quiet tt going refl why counted
           (λ told. reason_damaged (disk.reads s.store) (named_blocks s) why (fault_among (disk.reads s.store)
           (named_blocks s) (point_blocks (current_tracks s.history)) why (current_named disk s is) (damaged told)))
 
@@ -155,15 +158,15 @@ module _ {D : Type 0} (disk : Ghosts D) (s : Core D) (is : IsStudio disk s) (few
           (lacks_own disk s is pin lacks)
 
       module _ (going : s.stopped ≡ None) (point : List Track) (found : MayFind s.pins pin (Some point)) (store : D)
-          (kept : Kept disk s.store store) where
+          (kept : Kept disk s.store store) (cache : Entries) (keeps : ReadsNamed disk s cache) where
         pub read_done : (frames : List Frame) → disk.read_fault_count store ≡ disk.read_fault_count s.store
             → (IsHeld disk s → frames ≡ take count (drop from (mix_of (meant src point))))
-            → Took disk s (quietly read (Ok (reply.Frames frames))) (record s { store = store })
+            → Took disk s (quietly read (Ok (reply.Frames frames))) (record s { store = store; cache = cache })
         read_done frames faults heard =
             let room = room_of disk s read is in
             let passed = quiet_passes t read read_quiet room (ap stop_of going) (has_own disk s is pin point found)
             (fits s.next_pin 0 (omega (arith, is.counters.pin_most))) in
-            looked_ok disk s is store kept read read_quiet tt going (reply.Frames frames) faults
+            looked_ok disk s is store kept cache keeps read read_quiet tt going (reply.Frames frames) faults
             (λ held. carried t read read_quiet room (reply.Frames frames) t passed (
               meant src point,
               pin_meant disk s is pin point found,
@@ -173,8 +176,8 @@ module _ {D : Type 0} (disk : Ghosts D) (s : Core D) (is : IsStudio disk s) (few
         pub read_failed : (why : BlockFault)
             → CountedBy why (disk.read_fault_count s.store) (disk.read_fault_count store)
             → (IsTrue (disk.tells s.store) → IsFaultIn (disk.reads s.store) (point_blocks point) why)
-            → Took disk s (quietly read (Err (reason_of why))) (record s { store = store })
+            → Took disk s (quietly read (Err (reason_of why))) (record s { store = store; cache = cache })
         read_failed why counted damaged =
-            looked_failed disk s is store kept read read_quiet tt going refl why counted
+            looked_failed disk s is store kept cache keeps read read_quiet tt going refl why counted
             (λ told. reason_damaged (disk.reads s.store) (named_blocks s) why (fault_among (disk.reads s.store)
             (named_blocks s) (point_blocks point) why (pin_named disk s is pin point found) (damaged told)))

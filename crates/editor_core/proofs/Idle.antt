@@ -2,7 +2,7 @@
 use Rattle.std.proofs.Common.{◌≡◌, inl, refl, sym, ap, ◌∙◌, subst, ℕ, ◌+◌, ◌≤◌, IsTrue, List, length}
 use Rattle.std.proofs.Common.{Ok, Err, Result, IfOk, OnOk, OnErr, IsErrOf, arith}
 use Rattle.pcm_base.specs.Causes.{Rose}
-use Rattle.pcm_base.specs.Sizes.{LONGEST_BODY}
+use Rattle.pcm_base.specs.declared.limits.TheConstants.{LONGEST_BODY}
 use Rattle.pcm_base.specs.declared.refusal.Refusal.{Refusal}
 use Rattle.pcm_base.specs.declared.refusal.Refusal.TheVariants as refusal
 use Rattle.disk_model.specs.Disk.{SameElsewhere}

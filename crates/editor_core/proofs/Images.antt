@@ -15,6 +15,7 @@ use Rattle.project_state.specs.declared.body.Body.{Body}
 use Rattle.project_state.specs.declared.track.Track.{Track}
 use Rattle.project_state.specs.Kept.{Kept, new_project, after_body, IsNext, LeadTo, meant_history, history_blocks}
 use Rattle.project_state.specs.Kept.{Opened, Keeps}
+use Rattle.project_state.proofs.Unpacked.{keeps_led}
 use Rattle.editor_core.specs.Core.{Core}
 use Rattle.editor_core.specs.Studios.{IsGiven, SameBlocks, IsDurable, IsHeld, shown, studio_of, named_blocks}
 use Rattle.editor_core.specs.Studios.{pin_blocks, clip_blocks}
@@ -39,20 +40,15 @@ pub keeps_by : (log : Log) (k : Kept) (files c : Files) → HasLog version_1 log
 keeps_by log k files c has led same whole =
     let means = sym (same_history (sources_of files) (sources_of c) k.history
     (all_sound files c (history_blocks k.history) same)) in
-    record {
-      log = log;
-      kept = k;
-      there = has;
-      told = led;
-      whole = all_whole files c (history_blocks k.history) same whole;
-      is = λ i. record {
-        rate = log.rate;
-        block_size = log.block_size;
-        history = means i;
-        next_track = k.next_track;
-        commit = k.commit;
-      };
-    }
+    keeps_led log k c (opened_by (sources_of files) log k) has led
+    (all_whole files c (history_blocks k.history) same whole)
+    (λ i. record {
+      rate = log.rate;
+      block_size = log.block_size;
+      history = means i;
+      next_track = k.next_track;
+      commit = k.commit;
+    })
 
 -- all that holds of some blocks holds of those that a history names
 abbrev pub Covers : List BlockRef → History (List Track) → Type 1

@@ -24,6 +24,7 @@ use Rattle.editor_core.specs.Studios.{IsStudio, studio_of}
 use Rattle.editor_core.specs.Took.{Took, with_sound}
 use Rattle.editor_core.proofs.Leaving.{IsPlain}
 use Rattle.editor_core.proofs.Staying.{refuses, stays, wants}
+use Rattle.editor_core.proofs.Spending.{tests_needed}
 
 -- where the vault did not fail it has counted nothing
 counted_by : (why : Refusal) (old new : ℕ) → IsNoVault why → new ≡ old → VaultCountedBy why old new
@@ -68,7 +69,7 @@ module _ {D : Type 0} (disk : Ghosts D) (s : Core D) (is : IsStudio disk s) (few
   import_stopped faults at =
       refuses disk s call (left_as sound) (refusal.Stopped faults) is fewer refl refl 0 0
       (λ held. (omega arith, omega arith))
-      (ap (λ (z : Option Refusal). z otherwise ((call_tests out t.state call) otherwise rest)) (ap stop_of at))
+      (ap (λ (z : Option Refusal). z otherwise ((call_tests out t.state call) otherwise rest)) (ap stop_of at)) tt
 
   module _ (going : s.stopped ≡ None) where
     pub own_refused : (why : Refusal) → call_tests out t.state call ≡ Some why
@@ -76,6 +77,7 @@ module _ {D : Type 0} (disk : Ghosts D) (s : Core D) (is : IsStudio disk s) (few
     own_refused why test =
         refuses disk s call (left_as sound) why is fewer refl refl 0 0 (λ held. (omega arith, omega arith))
         (λ i. (stop_of (going i)) otherwise (test i) otherwise rest)
+        (tests_needed disk s call (left_as sound) why test)
 
     pub import_refused : (why : ImportFault) → IsRefused sound s.rate why
         → Took disk s (with_sound call (left_as sound) (Err (import_refusal why))) s
@@ -87,7 +89,7 @@ module _ {D : Type 0} (disk : Ghosts D) (s : Core D) (is : IsStudio disk s) (few
     import_refused Vault h =
         let none : s.next_block ≡ s.next_block + 0 = omega arith in
         stays disk s call (left_as sound) refusal.VaultFault is fewer refl refl 0 tt
-        (λ held. (0, (omega arith, omega arith))) (λ held. inr (
+        (λ held. (0, (omega arith, omega arith))) tt (λ held. inr (
           refl,
           record {
             breaks = record {

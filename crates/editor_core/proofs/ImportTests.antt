@@ -1,12 +1,11 @@
 -- What is known of the numbers of samples of channels that no test refuses.
-use Rattle.std.proofs.Common.{◌≡◌, ⊎_elim, refl, sym, ap, ◌∙◌, subst, ℕ, zero, suc, ◌+◌, ◌-◌, ◌*◌, ◌/◌, ◌^◌, ◌≤◌, ◌<◌}
+use Rattle.std.proofs.Common.{◌≡◌, ⊎_elim, refl, sym, ap, ◌∙◌, subst, ℕ, zero, suc, ◌+◌, ◌-◌, ◌*◌, ◌^◌, ◌≤◌, ◌<◌}
 use Rattle.std.proofs.Common.{nat_lt, Option, Some, None, List, [], ◌∷◌, ◌++◌, length, take}
 use Rattle.std.proofs.Common.{slice_index_or, arith}
 use Rattle.std.proofs.lemmas.Bool.{cases_lt, lt-ltb}
 use Rattle.std.proofs.lemmas.Option.{none-some}
 use Rattle.std.proofs.lemmas.List.{length-take}
-use Rattle.std.proofs.lemmas.Nat.{le-div}
-use Rattle.std.proofs.Math.Nat.{div-mul-le_self}
+use Rattle.std.proofs.Math.Nat.{div-le_self}
 use Rattle.pcm_base.specs.declared.refusal.Refusal.{Refusal}
 use Rattle.pcm_base.specs.declared.refusal.Refusal.TheVariants as refusal
 use Rattle.pcm_base.specs.Refusals.{◌otherwise◌, length_limit, refused_if}
@@ -16,7 +15,7 @@ use Rattle.editor_core.specs.Points.{current_tracks}
 use Rattle.editor_core.specs.Core.{Core}
 use Rattle.editor_core.specs.declared.carrying.Planned.{Planned}
 use Rattle.editor_core.specs.declared.growth.Growing.{Growing}
-use Rattle.editor_core.specs.Imports.{AreGrown, IsChannelsPlan, NoChannelsPlan, channels_refusal, total_of}
+use Rattle.editor_core.specs.Imports.{AreGrown, IsChannelsPlan, channels_refusal, total_of}
 use Rattle.editor_core.proofs.Without.{given_below}
 
 -- ---- tests
@@ -59,12 +58,6 @@ total_short (n ∷ ns) zero e = omega arith
 total_short (n ∷ ns) (suc i) e =
     let both = both_none (refused_if (nat_lt (2 ^ 32) n) (refusal.LengthLimit n)) (length_limit ns) e in
     omega (arith, not_refused (2 ^ 32) n (refusal.LengthLimit n) both.0, total_short ns i both.1)
-
-total_part : (counts : List ℕ) (i : ℕ) → total_of (take i counts) ≤ total_of counts
-total_part [] zero = omega arith
-total_part [] (suc i) = omega arith
-total_part (n ∷ ns) zero = omega arith
-total_part (n ∷ ns) (suc i) = omega (arith, total_part ns i)
 
 pub take_more : (counts : List ℕ) (i : ℕ) → i < length counts
     → take (i + 1) counts ≡ take i counts ++ slice_index_or counts i 0 ∷ []
@@ -117,14 +110,19 @@ module _ {D : Type 0} (s : Core D) (counts : List ℕ) (i : ℕ) (g : Growing) (
       subst (AllBelow n) (sym was.point)
       (below_append n old was.news (below_later id n old (omega (arith, same)) below) news)
 
-  pub ids_spent : 0 < m → 2 ^ 62 < g.next → NoChannelsPlan s counts (refusal.SpaceSpent next (g.next - next))
-  ids_spent some spent =
-      let part : total_of (take i counts) / m ≤ total_of counts / m = le-div (total_of (take i counts) / m)
-      (total_of counts) m some (omega (arith, div-mul-le_self (total_of (take i counts)) m, total_part counts i)) in (
-        refl,
-        omega (arith, was.few, was.next_is, length-take i counts, part, ap (λ (k : ℕ). k / m) was.brought),
-        omega (arith, was.next_is, spent),
-      )
+  -- the next id is no greater than it may be, and a plan of all channels needs
+  pub ids_count : next ≤ 2 ^ 62 → length counts ≤ 64 → g.next < 2 ^ 63
+  ids_count most few = omega (
+    arith,
+    most,
+    few,
+    was.few,
+    was.next_is,
+    was.brought,
+    length-take i counts,
+    div-le_self g.brought m,
+    total_short counts i pass,
+  )
 
 pub all_grown : {D : Type 0} (s : Core D) (counts : List ℕ) (i : ℕ) (g : Growing) (p : Planned)
     → AreGrown s (take i counts) g → take i counts ≡ counts

@@ -28,11 +28,12 @@ use Rattle.editor_core.specs.declared.growth.Growing.{Growing}
 use Rattle.editor_core.specs.Edits.{AreAmong, alone, beside}
 use Rattle.editor_core.specs.Imports.{AddsChannel, AreGrown, all_of, parts_from, total_of, track_with}
 use Rattle.editor_core.specs.Studios.{IsGiven}
-use Rattle.editor_core.proofs.Contained.{among_itself}
-use Rattle.editor_core.proofs.Lists.{all_so}
+use Rattle.editor_core.proofs.Contained.{among_all, among_itself}
+use Rattle.editor_core.proofs.Lists.{all_left, all_right, all_so}
 use Rattle.editor_core.proofs.MadeStudios.{IsNewId, refs, refs_ids}
 use Rattle.editor_core.proofs.PlanBlocks.{ids_clips, old_or_new}
 use Rattle.editor_core.proofs.TrackPlans.{layout_given}
+use Rattle.editor_core.proofs.Used.{new_in}
 use Rattle.editor_core.proofs.Without.{above_less, given_below, more_rising, more_sound}
 
 -- ---- lists one behind another
@@ -125,6 +126,7 @@ grown_none s g point makes first brought = record {
   new = subst (AreNew s.block_size s.next_block) (sym makes) tt;
   origin = subst (λ (bs : List NewBlock). AllNewFrom [] g.brought bs) (sym makes) tt;
   names = tt;
+  used = subst (λ (bs : List NewBlock). AreAmong [] (refs bs)) (sym makes) tt;
   few = omega (arith, ap length makes);
   next_is = omega (arith, ap length makes, first);
   brought = brought;
@@ -241,6 +243,20 @@ module _ {D : Type 0} (s : Core D) (some : 0 < s.block_size) (least : 16 ≤ s.n
       ∙ ap (λ (k : ℕ). channel_tracks id (parts ++ stretch brings k count ∷ [])) (sym same)
       ∙ ap (channel_tracks id) (sym (parts_more brings 0 counts count))
 
+  -- each new block stands in a new track
+  each_used : AreAmong (point_blocks (was.news ++ t ∷ [])) (refs xs ++ refs ys)
+  each_used =
+      let C : BlockRef → Type 0 = Contains (point_blocks (was.news ++ t ∷ [])) in
+      let all : AllByRecursion C (point_blocks was.news ++ point_blocks (t ∷ [])) =
+      subst (AllByRecursion C) (flat_map-append (λ (x : Track). layout_blocks x.layout) was.news (t ∷ []))
+      (among_itself (point_blocks (was.news ++ t ∷ []))) in
+      let last = all_left C (layout_blocks a.plan.layout) []
+      (all_right C (point_blocks was.news) (point_blocks (t ∷ [])) all) in
+      all_append C (refs xs) (refs ys)
+      (among_all C (point_blocks was.news) (refs xs) was.used (all_left C (point_blocks was.news)
+      (point_blocks (t ∷ [])) all))
+      (new_in C [] (layout_blocks a.plan.layout) ys a.is.plan.blocks last)
+
   pub grown_more : AreGrown s (counts ++ count ∷ []) h
   grown_more = record {
     news = was.news ++ t ∷ [];
@@ -256,6 +272,8 @@ module _ {D : Type 0} (s : Core D) (some : 0 < s.block_size) (least : 16 ≤ s.n
     names = subst (λ (bs : List NewBlock). AreAmong (refs bs) (point_blocks (was.news ++ t ∷ []))) (sym a.makes)
         (subst (λ (every : List BlockRef). AreAmong every (point_blocks (was.news ++ t ∷ [])))
         (sym (refs_append xs ys)) every_names);
+    used = subst (λ (bs : List NewBlock). AreAmong (point_blocks (was.news ++ t ∷ [])) (refs bs)) (sym a.makes)
+        (subst (AreAmong (point_blocks (was.news ++ t ∷ []))) (sym (refs_append xs ys)) each_used);
     few =
         omega (arith, long, more, was.few, a.is.few, div_more g.brought count m some, ap (λ (k : ℕ). k / m) a.brought);
     next_is = omega (arith, a.next, a.is.plan.next_id, was.next_is, long);

@@ -1,6 +1,7 @@
 -- What holds of an edit that makes blocks, whatever its call means and whatever is told; and that no vault refuses it.
 use Rattle.std.proofs.Common.{◌≡◌, ◌↔◌, ◌⊎◌, ◌<◌, inl, inr, ⊎_elim, refl, sym, ap, ◌∙◌, subst, ℕ, ◌+◌, ◌-◌, ◌^◌, ◌≤◌}
 use Rattle.std.proofs.Common.{IfErr, IsSome, Option, None, List, [], true, ◌++◌, length, Result, Ok, Err, arith}
+use Rattle.std.specs.Prelude.{IfOk}
 use Rattle.pcm_base.specs.declared.answer.Reply.{Reply}
 use Rattle.pcm_base.specs.declared.answer.Reply.TheVariants.{Done}
 use Rattle.pcm_base.specs.declared.block.BlockRef.{BlockRef}
@@ -29,6 +30,7 @@ use Rattle.editor_core.specs.Exchanges.{is_broken_off}
 use Rattle.editor_core.specs.Edits.{Carried, Committed, IsPlanned, IsPrepared, TaggedEdit, clip_behind}
 use Rattle.editor_core.specs.Points.{current_tracks}
 use Rattle.editor_core.specs.Records.{Records}
+use Rattle.editor_core.specs.Spent.{NamesGiven}
 use Rattle.editor_core.specs.Left.{CountsIds, IsSoOf, Left, LeavesOthers, MayRemove, Stops, Untouched}
 use Rattle.editor_core.specs.Made.{PiecesThere, batch_of}
 use Rattle.editor_core.specs.Makes.{Making, Stuck, Unput, Unread, one_call}
@@ -37,6 +39,7 @@ use Rattle.editor_core.specs.Took.{asks, number_behind, with_sound}
 use Rattle.editor_core.proofs.CarriedOut.{commit_of}
 use Rattle.editor_core.proofs.Applying.{lasts_idle}
 use Rattle.editor_core.proofs.EditLaws.{clip_covers_then, covers_then, edit_history, pieces_there, points_then}
+use Rattle.editor_core.proofs.StudioCache.{cache_by_record}
 use Rattle.editor_core.proofs.Grown.{LeadsOn, led_studio, stopped_studio}
 use Rattle.editor_core.proofs.Lists.{all_so}
 use Rattle.editor_core.proofs.MadeLeft.{all_changed, all_failed, all_ids, all_left, damaged_so, missed_so}
@@ -49,6 +52,7 @@ use Rattle.editor_core.proofs.PlainTests.{unprepared_plain}
 use Rattle.editor_core.proofs.Recorded.{recorded_current, recorded_depth, recorded_few}
 use Rattle.editor_core.proofs.Removing.{commit_frees, commit_removes_none, ids_made, no_record, off_untouched}
 use Rattle.editor_core.proofs.Staying.{record_within, stopped_not}
+use Rattle.editor_core.proofs.Used.{names_given}
 
 -- ---- the studio behind it
 
@@ -90,17 +94,19 @@ module _ {D : Type 0} (disk : Ghosts D) (s : Core D) (is : IsStudio disk s) (goi
 
   lasts_going : (told : Result Reply Refusal) (new : Core D) → IsStudio disk new
       → new.commit_number ≡ number_behind told c s.commit_number → (len : ℕ) → Records told new len
+      → IfOk told (λ r. NamesGiven s new)
       → Changed disk (LeavesOthers s.next_block new.next_block (MayRemove c s.counts))
       (asks (with_sound c sound told) (disk.reads s.store 0) s.block_size (new.next_block - s.next_block) len)
       s.store new.store
       → CountsIds s [] new → Untouched disk s told new → Stops disk s told new → IfErr told (Left disk s new)
       → Lasts disk s (with_sound c sound told) new
-  lasts_going told new studio number len records changed ids untouched stops left = record {
+  lasts_going told new studio number len records named changed ids untouched stops left = record {
     studio = studio;
     number = number;
     rests = λ some. absurd (stopped_not s.stopped some going);
     len = len;
     records = records;
+    given = named;
     changed = changed;
     frees = commit_frees disk s c told new one;
     ids = ids;
@@ -117,7 +123,7 @@ module _ {D : Type 0} (disk : Ghosts D) (s : Core D) (is : IsStudio disk s) (goi
     unread_lasts why mid new was un off so =
         let making = making_unread disk s given makes k mid new was un in
         lasts_going (Err why) new (made_studio disk s is given makes k new making going few plan.new fits there)
-        (ap (λ (z : Core D). z.commit_number) making.is) 0 (no_record (Err why) new)
+        (ap (λ (z : Core D). z.commit_number) making.is) 0 (no_record (Err why) new) tt
         (some_changed disk s given makes fits c sound why k 0 new making few)
         (some_ids disk s given makes fits c sound k new making) (off_untouched disk s.store new.store why off)
         (inl (some_stop disk s given makes fits c sound k new making, making.change_faults))
@@ -131,10 +137,11 @@ module _ {D : Type 0} (disk : Ghosts D) (s : Core D) (is : IsStudio disk s) (goi
       unput_lasts : Lasts disk s (with_sound c sound (Err refusal.DiskFault)) new
       unput_lasts =
           let studio : IsStudio disk here =
-          with_store disk s is new.store k mid.counts here.stopped (omega (arith, fits, few)) was.ledger in
+          with_store disk s is new.store k mid.counts here.stopped (omega (arith, fits, few)) was.ledger
+          (λ none. absurd (cc none)) in
           subst (λ (z : Core D). Lasts disk s (with_sound c sound (Err refusal.DiskFault)) z)
           (sym (unput_is disk s given makes fits c sound k mid new was few left un))
-          (lasts_going (Err refusal.DiskFault) here studio refl 0 (no_record (Err refusal.DiskFault) here)
+          (lasts_going (Err refusal.DiskFault) here studio refl 0 (no_record (Err refusal.DiskFault) here) tt
           (unput_changed disk s given makes fits c sound k mid new was few left un 0)
           (unput_ids disk s given makes fits c sound k mid new was few left un)
           (off_untouched disk s.store new.store refusal.DiskFault refl)
@@ -192,7 +199,7 @@ module _ {D : Type 0} (disk : Ghosts D) (s : Core D) (is : IsStudio disk s) (goi
         let halted = stopped_by disk mid new.store in
         subst (λ (z : Core D). Lasts disk s (with_sound c sound (Err refusal.DiskFault)) z) (sym adds.fields.0)
         (lasts_going (Err refusal.DiskFault) halted (stopped_studio disk mid mid_is new.store) refl (length body)
-        (λ device. prepared.short)
+        (λ device. prepared.short) tt
         (all_changed disk s given makes prepared.blocks c sound is (Err refusal.DiskFault) (length body) mid halted
         making refl
         (changed_wider (others_record mid.next_block mid.next_block NoneGoes)
@@ -224,21 +231,24 @@ module _ {D : Type 0} (disk : Ghosts D) (s : Core D) (is : IsStudio disk s) (goi
       done_studio =
           led_studio disk mid mid_is (refs makes) h clip track_then leads new.store (s.journal_end + 5 + length body)
           (omega (arith, adds.fields.1)) (omega arith) h' counts' next_track
-          moved tracked counted files
+          moved tracked counted files (cache_by_record disk mid mid_is _ new.store adds.changed)
 
       done_lasts : Lasts disk s (with_sound c sound (Ok Done))
           (record new { history = h'; clipboard = clip; counts = counts'; next_track = next_track })
       done_lasts =
           let number : s.commit_number + 1 ≡ s.commit_number + commits_of c =
           ap (λ (k : ℕ). s.commit_number + k) (sym one) in
+          let current : current_tracks h' ≡ point =
+          ap current_tracks moved ∙ recorded_current s.history point tag is.format.depth_least in
           subst (λ (z : Core D). Lasts disk s (with_sound c sound (Ok Done))
           (record z { history = h'; clipboard = clip; counts = counts'; next_track = next_track })) (sym adds.fields.0)
           (lasts_going (Ok Done) done done_studio number (length body)
           (inr (
             Edit tag (s.next_block + n) track_then point,
             refl,
-            (refl, sym tracked, sym (ap current_tracks moved ∙ recorded_current s.history point tag is.format.depth_least)),
+            (refl, sym tracked, sym current),
           ))
+          (names_given disk s e plan done done_studio current refl)
           (all_changed disk s given makes prepared.blocks c sound is (Ok Done) (length body) mid done making refl
           (changed_wider (others_record mid.next_block mid.next_block NoneGoes)
           (record_within (with_sound c sound (Ok Done)) (disk.reads store 0) mid.block_size

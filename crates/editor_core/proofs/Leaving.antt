@@ -5,6 +5,7 @@ use Rattle.pcm_base.specs.declared.refusal.Refusal.{Refusal}
 use Rattle.pcm_base.specs.declared.refusal.Refusal.TheVariants as refusal
 use Rattle.disk_model.specs.declared.store.Store.{Ghosts}
 use Rattle.editor_core.specs.Adding.{HasFailed, stopped_by}
+use Rattle.block_cache.specs.Caches.{Entries}
 use Rattle.editor_core.specs.Core.{Core}
 use Rattle.editor_core.specs.Exchanges.{is_broken_off}
 use Rattle.editor_core.specs.Left.{IsSoOf, Left, Stops}
@@ -14,6 +15,19 @@ abbrev pub IsPlain : Refusal → Type 0
 IsPlain refusal.DiskFault = ⊥
 IsPlain (refusal.Damaged file at want have) = ⊥
 IsPlain why = Unit {0}
+
+-- nor of a counter or of the length of a record, as a call's own tests
+abbrev pub IsOwn : Refusal → Type 0
+IsOwn refusal.DiskFault = ⊥
+IsOwn (refusal.Damaged file at want have) = ⊥
+IsOwn (refusal.SpaceSpent have need) = ⊥
+IsOwn (refusal.RecordLimit len) = ⊥
+IsOwn why = Unit {0}
+
+pub own_plain : (why : Refusal) → IsOwn why → IsPlain why
+own_plain refusal.DiskFault own = absurd own
+own_plain (refusal.Damaged file at want have) own = absurd own
+own_plain why own = tt
 
 pub plain_not : (why : Refusal) → IsPlain why → is_broken_off why ≡ false
 plain_not refusal.DiskFault plain = absurd plain
@@ -27,12 +41,13 @@ plain_so disk old new why plain = tt
 
 module _ {D : Type 0} (disk : Ghosts D) (s : Core D) where
   -- the disk was asked no more than to read, or nothing
-  pub left_read : (store : D) (why : Refusal) → IsSoOf disk s (record s { store = store }) why
-      → Left disk s (record s { store = store }) why
-  left_read store why so = record { same = refl; so = so }
+  pub left_read : (store : D) (cache : Entries) (why : Refusal)
+      → IsSoOf disk s (record s { store = store; cache = cache }) why
+      → Left disk s (record s { store = store; cache = cache }) why
+  left_read store cache why so = record { same = refl; so = so }
 
   pub left_plain : (store : D) (why : Refusal) → IsPlain why → Left disk s (record s { store = store }) why
-  left_plain store why plain = left_read store why (plain_so disk s (record s { store = store }) why plain)
+  left_plain store why plain = left_read store s.cache why (plain_so disk s (record s { store = store }) why plain)
 
   -- a change of it failed
   pub left_stopped : (store : D) → HasFailed disk s.store store

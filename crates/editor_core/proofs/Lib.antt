@@ -1,12 +1,23 @@
+mod Spending
+mod Bounding
+mod Used
 mod Removing
 mod Quiet
 mod Naming
 mod Meanings
+mod NextIds
 mod Gone
+mod FirstIds
+mod FreedFiles
 mod Freeing
-mod Reclaiming
+mod Unnamed
+mod RemovingFirst
+mod SyncingFirst
+mod DroppingFirst
+mod ForgettingFirst
 mod ReclaimLimits
 mod Reclaimed
+mod ReclaimFails
 mod Currents
 mod Looking
 mod Seeing
@@ -110,3 +121,4 @@ pub mod Others
 mod NamedDamage
 pub mod Unharmed
 mod MadeLeft
+pub mod StudioCache

@@ -1,4 +1,4 @@
--- A call that only reads the disk leaves the studio as it was, but for the count of failed reads.
+-- A call that only reads the disk leaves the studio as it was, but for the count of failed reads and its pages.
 use Rattle.std.proofs.Common.{◌≡◌, ◌↔◌, inl, inr, refl, sym, ap, ◌∙◌, subst, ◌+◌, IsTrue, IsSome, Some, None, Ok, Err}
 use Rattle.std.proofs.Common.{arith}
 use Rattle.pcm_base.specs.declared.answer.Reply.{Reply}
@@ -18,32 +18,37 @@ use Rattle.block_store.specs.declared.fault.BlockFault.TheVariants as fault
 use Rattle.block_store.specs.Reads.{CountedBy}
 use Rattle.block_store.specs.Reasons.{reason_of}
 use Rattle.project_journal.specs.Gate.{EachNow, EachSince}
+use Rattle.project_journal.specs.Header.{version_1}
 use Rattle.project_journal.proofs.Kept.{is_at_still}
 use Rattle.project_state.specs.Kept.{Keeps}
 use Rattle.envelope_view.specs.Answers.{IsDamagedIn}
+use Rattle.block_cache.specs.Caches.{Entries}
 use Rattle.editor_core.specs.Core.{Core}
 use Rattle.editor_core.specs.Left.{IsSoOf, MayRemove}
 use Rattle.editor_core.specs.Studios.{SameBlocks, IsDurable, IsHeld, IsStudio, shown, studio_by, studio_of}
 use Rattle.editor_core.specs.Studios.{named_blocks}
 use Rattle.editor_core.specs.Took.{Took, quietly, silent}
 use Rattle.editor_core.proofs.Images.{keeps_now}
-use Rattle.editor_core.proofs.Leaving.{IsPlain, left_read, plain_so}
+use Rattle.editor_core.proofs.Leaving.{IsOwn, left_read, own_plain, plain_so}
 use Rattle.editor_core.proofs.Others.{others_none}
 use Rattle.editor_core.proofs.Quiet.{IsQuiet}
-use Rattle.editor_core.proofs.Removing.{RemovesNone, frees_none, ids_same, no_record}
+use Rattle.editor_core.proofs.Removing.{RemovesNone, frees_none, ids_same, no_record, none_given}
 use Rattle.editor_core.proofs.Staying.{stopped_not}
+use Rattle.editor_core.proofs.StudioCache.{ReadsNamed, cache_by_reads}
+use Rattle.editor_core.proofs.Spending.{own_needed}
+use Rattle.editor_core.specs.Spent.{Needed}
 
 module _ {D : Type 0} (disk : Ghosts D) (s : Core D) (is : IsStudio disk s) (store : D)
-    (kept : Kept disk s.store store) where
+    (kept : Kept disk s.store store) (cache : Entries) (keeps : ReadsNamed disk s cache) where
   abbrev pub looked : Core D
-  looked = record s { store = store }
+  looked = record s { store = store; cache = cache }
 
   looked_durable : IsDurable disk s → IsDurable disk looked
   looked_durable d = record {
     log = d.log;
     kept = d.kept;
-    there = is_at_still (λ x y same. ap (λ (f : Files). f 0) same)
-        (ap (λ (f : Files). f 0) kept.same_reads) kept.same_images d.there;
+    there = is_at_still {form = version_1} (λ x y same. (ap (λ (f : Files). f 0) same, ap (λ (f : Files). f 1) same))
+        (ap (λ (f : Files). f 0) kept.same_reads, ap (λ (f : Files). f 1) kept.same_reads) kept.same_images d.there;
     told = d.told;
     rate = d.rate;
     block_size = d.block_size;
@@ -74,6 +79,7 @@ module _ {D : Type 0} (disk : Ghosts D) (s : Core D) (is : IsStudio disk s) (sto
     ids = is.ids;
     counted = is.counted;
     given = is.given;
+    cache = cache_by_reads disk s is store cache kept keeps;
   }
 
   pub looked_held : IsHeld disk s → IsHeld disk looked
@@ -119,6 +125,8 @@ module _ {D : Type 0} (disk : Ghosts D) (s : Core D) (is : IsStudio disk s) (sto
       len = 0;
       needs = λ held. (0, quiet.needs t);
       records = no_record (Ok r) looked;
+      given = none_given (Ok r) s looked refl;
+      needed = tt;
       changed = changed_kept (others_none s.next_block s.next_block (MayRemove c s.counts)) kept;
       frees = frees_none disk s c (Ok r) looked none;
       ids = ids_same s looked refl refl;
@@ -127,10 +135,10 @@ module _ {D : Type 0} (disk : Ghosts D) (s : Core D) (is : IsStudio disk s) (sto
       left = tt;
     }
 
-    looked_refused : (why : Refusal) → IsSoOf disk s looked why
+    looked_refused : (why : Refusal) → IsSoOf disk s looked why → Needed disk s c silent why
         → (IsHeld disk s → Answers t c silent (Err why) (studio_of disk looked))
         → Took disk s (quietly c (Err why)) looked
-    looked_refused why so step = record {
+    looked_refused why so needed step = record {
       studio = looked_studio;
       held = looked_held;
       step = step;
@@ -142,12 +150,14 @@ module _ {D : Type 0} (disk : Ghosts D) (s : Core D) (is : IsStudio disk s) (sto
       len = 0;
       needs = λ held. (0, quiet.needs t);
       records = no_record (Err why) looked;
+      given = tt;
+      needed = needed;
       changed = changed_kept (others_none s.next_block s.next_block (MayRemove c s.counts)) kept;
       frees = frees_none disk s c (Err why) looked none;
       ids = ids_same s looked refl refl;
       untouched = λ device. kept;
       stops = inl (refl, kept.same_faults);
-      left = left_read disk s store why so;
+      left = left_read disk s store cache why so;
     }
 
     -- the disk failed, or a file was not as it has to be, and the studio goes on
@@ -157,7 +167,7 @@ module _ {D : Type 0} (disk : Ghosts D) (s : Core D) (is : IsStudio disk s) (sto
         → Took disk s (quietly c (Err (reason_of why))) looked
     looked_failed leaves fault.DiskFault counted named =
         let same : s.next_block ≡ s.next_block + 0 = omega arith in
-        looked_refused refusal.DiskFault (inl (record { rose = counted.0; later = counted.1 })) (λ held. inr (record {
+        looked_refused refusal.DiskFault (inl (record { rose = counted.0; later = counted.1 })) tt (λ held. inr (record {
           breaks = record {
             going = going;
             blocks = 0;
@@ -175,7 +185,7 @@ module _ {D : Type 0} (disk : Ghosts D) (s : Core D) (is : IsStudio disk s) (sto
         }))
     looked_failed leaves (fault.Damaged file found) counted named =
         let same : s.next_block ≡ s.next_block + 0 = omega arith in
-        looked_refused (refusal.Damaged file found.at found.want found.have) named (λ held. inr (record {
+        looked_refused (refusal.Damaged file found.at found.want found.have) named tt (λ held. inr (record {
           breaks = record {
             going = going;
             blocks = 0;
@@ -195,19 +205,20 @@ module _ {D : Type 0} (disk : Ghosts D) (s : Core D) (is : IsStudio disk s) (sto
         }))
 
     -- one of its tests refused it, though the disk was asked
-    pub looked_own : (why : Refusal) → IsPlain why → disk.read_fault_count store ≡ disk.read_fault_count s.store
+    pub looked_own : (why : Refusal) → IsOwn why → disk.read_fault_count store ≡ disk.read_fault_count s.store
         → (IsHeld disk s → refusal_of (outside t silent) t c 0 0 ≡ Some why) → Took disk s (quietly c (Err why)) looked
-    looked_own why plain faults first = looked_refused why (plain_so disk s looked why plain) (λ held. inl (record {
-      blocks = 0;
-      len = 0;
-      needs = quiet.needs t;
-      first = first held;
-      same = looked_state ∙ (λ i. record t { read_faults = faults i });
-      quiet = refl;
-    }))
+    looked_own why own faults first = looked_refused why (plain_so disk s looked why (own_plain why own))
+        (own_needed disk s c silent why own) (λ held. inl (record {
+          blocks = 0;
+          len = 0;
+          needs = quiet.needs t;
+          first = first held;
+          same = looked_state ∙ (λ i. record t { read_faults = faults i });
+          quiet = refl;
+        }))
 
     -- there was no memory, before or after a read
     pub looked_wanting : disk.read_fault_count store ≡ disk.read_fault_count s.store
         → Took disk s (quietly c (Err refusal.NoMemory)) looked
-    looked_wanting faults = looked_refused refusal.NoMemory tt
+    looked_wanting faults = looked_refused refusal.NoMemory tt tt
         (λ held. inr (record { same = looked_state ∙ (λ i. record t { read_faults = faults i }); quiet = refl }))

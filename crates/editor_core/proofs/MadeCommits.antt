@@ -34,6 +34,8 @@ use Rattle.editor_core.proofs.MadeStudios.{IsNewId, are_made, keeps_outside, mad
 use Rattle.editor_core.proofs.Premises.{TookWhere}
 use Rattle.editor_core.proofs.Removing.{RemovesNone, frees_none}
 use Rattle.editor_core.proofs.Staying.{HasMade, stopped_not}
+use Rattle.editor_core.specs.Spent.{NamesGiven, Needed}
+use Rattle.std.specs.Prelude.{IfOk}
 
 on_err : {R E : Type 0} (result : Result R E) (P Q : Type 0) → (P → Q) → OnErr result P → OnErr result Q
 on_err (Ok r) P Q f h = tt
@@ -104,9 +106,10 @@ module _ {D : Type 0} (disk : Ghosts D) (s : Core D) (is : IsStudio disk s) (giv
         → Needs (outside t sound) t c blocks len)
         → (IsHeld disk s → (len : ℕ) × CarriesOut t c sound Done (followed (outside t sound) t c n len))
         → (IsHeld disk s → Answers t c sound told_as (studio_of disk new)) → RemovesNone c → CountsIds s [] new
+        → IfOk told_as (λ r. NamesGiven s new) → IfErr told_as (Needed disk s c sound)
         → Untouched disk s told_as new → Stops disk s told_as new
         → IfErr told_as (Left disk s new) → Took disk s (with_sound c sound told_as) new
-    composed told_as new took next back carried step none ids untouched stops left =
+    composed told_as new took next back carried step none ids named needed untouched stops left =
         let images = making.changed.images in
         let at_next = making_next disk s given makes n mid making in
         let number : mid.commit_number ≡ s.commit_number = ap (λ (z : Core D). z.commit_number) making.is in record {
@@ -132,6 +135,8 @@ module _ {D : Type 0} (disk : Ghosts D) (s : Core D) (is : IsStudio disk s) (giv
           len = took.len;
           needs = λ held. let need = took.needs held in (need.0, back held need.0 took.len need.1);
           records = took.records;
+          given = named;
+          needed = needed;
           changed = all_changed disk s given makes most c sound is told_as took.len mid new making next took.changed;
           frees = frees_none disk s c told_as new none;
           ids = ids;

@@ -7,7 +7,7 @@ use Rattle.pcm_base.specs.declared.refusal.Refusal.{Refusal}
 use Rattle.pcm_base.specs.declared.refusal.Refusal.TheVariants as refusal
 use Rattle.pcm_base.specs.Counters.{Needs}
 use Rattle.pcm_base.specs.Run.{Answers, Leaves, may_change, outside}
-use Rattle.pcm_base.specs.Sizes.{LONGEST_BODY}
+use Rattle.pcm_base.specs.declared.limits.TheConstants.{LONGEST_BODY}
 use Rattle.pcm_base.specs.Studio as model
 use Rattle.disk_model.specs.Disk.{StaysStep}
 use Rattle.disk_model.specs.Frames.{Changed}
@@ -36,6 +36,7 @@ use Rattle.editor_core.proofs.MadeStudios.{with_store}
 use Rattle.editor_core.proofs.Meanings.{same_studio}
 use Rattle.editor_core.proofs.Removing.{RemovesNone, frees_none, off_untouched}
 use Rattle.editor_core.proofs.Staying.{some_none, stopped_not}
+use Rattle.editor_core.proofs.Spending.{off_needed}
 
 module _ {D : Type 0} (disk : Ghosts D) (s : Core D) (is : IsStudio disk s) (given : Given) (makes : List NewBlock)
     (going : s.stopped ≡ None)
@@ -70,6 +71,8 @@ module _ {D : Type 0} (disk : Ghosts D) (s : Core D) (is : IsStudio disk s) (giv
           len = len;
           needs = λ held. (k, need held k few);
           records = λ device. short;
+          given = tt;
+          needed = off_needed disk s c sound why off;
           changed = some_changed disk s given makes most c sound why k len new making few;
           frees = frees_none disk s c (Err why) new none;
           ids = some_ids disk s given makes most c sound k new making;
@@ -159,7 +162,7 @@ module _ {D : Type 0} (disk : Ghosts D) (s : Core D) (is : IsStudio disk s) (giv
       here_studio : IsStudio disk here
       here_studio =
           with_store disk s is store k mid.counts (stopped_by disk s store).stopped
-          (omega (arith, most, few)) was.ledger
+          (omega (arith, most, few)) was.ledger (λ none. absurd (some_none _ none))
 
       here_held : IsHeld disk s → IsHeld disk here
       here_held held =
@@ -216,6 +219,8 @@ module _ {D : Type 0} (disk : Ghosts D) (s : Core D) (is : IsStudio disk s) (giv
         len = len;
         needs = λ held. (k, need held k few);
         records = λ device. short;
+        given = tt;
+        needed = tt;
         changed = unput_changed disk s given makes most c sound k mid new was few left un len;
         frees = frees_none disk s c (Err refusal.DiskFault) here none;
         ids = unput_ids disk s given makes most c sound k mid new was few left un;

@@ -63,9 +63,11 @@ module _ {D : Type 0} (disk : Ghosts D) (s : Core D) (given : Given) (makes : Li
       → Left disk s new why
   some_left k new making why so =
       let next = making_next disk s given makes k new making in
+      let kept : new.cache ≡ s.cache = ap (λ (z : Core D). z.cache) making.is in
       let stop = some_stop k new making in record {
         same = making.is ∙ (λ i. record s {
           store = new.store;
+          cache = sym kept i;
           counts = new.counts;
           next_block = sym next i;
           stopped = sym stop i;

@@ -10,7 +10,8 @@ use Rattle.disk_model.specs.declared.store.Store.{Ghosts}
 use Rattle.sample_block.specs.Sources.{sources_of, IsWhole}
 use Rattle.block_ledger.specs.Counts.{Counts}
 use Rattle.project_journal.specs.Gate.{EachNow, EachSince}
-use Rattle.project_journal.proofs.Kept.{each_since, is_at_still}
+use Rattle.project_journal.specs.Header.{version_1}
+use Rattle.project_journal.proofs.Kept.{SameJournals, each_since, is_at_still}
 use Rattle.edit_ops.specs.declared.types.NewBlock.{NewBlock}
 use Rattle.edit_ops.specs.Plans.{AreNew, ref_of}
 use Rattle.piece_store.specs.declared.given.Given.{Given}
@@ -19,10 +20,13 @@ use Rattle.project_state.specs.declared.track.Track.{Track}
 use Rattle.project_state.specs.Kept.{Keeps}
 use Rattle.project_state.specs.KeptSound.{IsSoundPoint, IsSoundTagged}
 use Rattle.project_state.proofs.KeptBounds.{tagged_more}
+use Rattle.block_cache.specs.Carried.{HasCache}
+use Rattle.editor_core.proofs.StudioCache.{cache_by_blocks}
 use Rattle.editor_core.specs.Core.{Core}
 use Rattle.editor_core.specs.Made.{AreAbsent, AreMade, PiecesThere, SameOutside, batch_of, ids_from}
 use Rattle.editor_core.specs.Makes.{AddsFree, Making}
-use Rattle.editor_core.specs.Studios.{IsGiven, SameBlocks, IsDurable, IsHeld, IsStudio, named_blocks, shown, studio_by}
+use Rattle.editor_core.specs.Studios.{IsGiven, is_given, SameBlocks, IsDurable, IsHeld, IsStudio, named_blocks, shown}
+use Rattle.editor_core.specs.Studios.{studio_by}
 use Rattle.editor_core.specs.Studios.{studio_of}
 use Rattle.editor_core.specs.declared.studio.Pin.{Pin}
 use Rattle.editor_core.proofs.Images.{keeps_by, shown_is, covers_kept}
@@ -89,8 +93,8 @@ below_same next n bs old new ids same =
 same_back : (bs : List BlockRef) (old new : Files) → SameBlocks bs old new → SameBlocks bs new old
 same_back bs old new = all_so (λ b. new b.id ≡ old b.id) (λ b. old b.id ≡ new b.id) (λ b e. sym e) bs
 
-journal_same : (next n : ℕ) → 16 ≤ next → (d c : Files) → SameOutside next n d c → c 0 ≡ d 0
-journal_same next n least d c same = same 0 (inl (omega (arith, least)))
+journals_same : (next n : ℕ) → 16 ≤ next → (d c : Files) → SameOutside next n d c → SameJournals 0 d c
+journals_same next n least d c same = (same 0 (inl (omega (arith, least))), same 1 (inl (omega (arith, least))))
 
 module _ {D : Type 0} (disk : Ghosts D) (s : Core D) (is : IsStudio disk s) where
   abbrev bs : List BlockRef
@@ -116,7 +120,7 @@ module _ {D : Type 0} (disk : Ghosts D) (s : Core D) (is : IsStudio disk s) wher
       let reads = disk.reads s.store in
       let e = follows.from c since in
       let same = trans_same reads e.0 c bs (d.blocks e.0 e.1) (below_same s.next_block n bs e.0 c is.ids e.2) in
-      let has = each_since (journal_same s.next_block n is.counters.block_least) follows d.there c since in
+      let has = each_since {form = version_1} (journals_same s.next_block n is.counters.block_least) follows d.there c since in
       subst (Keeps c) (shown_is disk s d)
       (keeps_by d.log d.kept reads c has d.told (covers_kept disk s d (λ b. c b.id ≡ reads b.id) same)
       (covers_kept disk s d (IsWhole reads) held.whole))
@@ -126,8 +130,9 @@ module _ {D : Type 0} (disk : Ghosts D) (s : Core D) (is : IsStudio disk s) wher
     abbrev later : Core D
     later = record s { store = store; counts = counts; next_block = s.next_block + n; stopped = stopped }
 
-    pub with_store : s.next_block + n ≤ 2 ^ 62 → AddsFree s.next_block n s.counts counts → IsStudio disk later
-    with_store most free =
+    pub with_store : s.next_block + n ≤ 2 ^ 62 → AddsFree s.next_block n s.counts counts
+        → (stopped ≡ None → HasCache disk (is_given (s.next_block + n)) store s.cache) → IsStudio disk later
+    with_store most free cached =
         let m = s.block_size in
         let next = s.next_block + n in
         let Was : List Track × ℕ → Type 0 = IsSoundTagged m s.next_block s.next_track s.commit_number in
@@ -162,6 +167,7 @@ module _ {D : Type 0} (disk : Ghosts D) (s : Core D) (is : IsStudio disk s) wher
               (λ o. let was = is.given id o in (was.0, omega (arith, was.1)))
               (λ r. (omega (arith, r.0, is.counters.block_least), r.1))
               ((free.ids id).0 have);
+          cache = cached;
         }
 
     -- the disk that held it holds it still
@@ -236,8 +242,9 @@ module _ {D : Type 0} (disk : Ghosts D) (s : Core D) (is : IsStudio disk s) wher
         let least = is.counters.block_least in record {
           log = d.log;
           kept = d.kept;
-          there = is_at_still (journal_same s.next_block n least)
-              ((are_made held).same 0 (inl (omega (arith, least)))) making.changed.images d.there;
+          there = is_at_still {form = version_1} (journals_same s.next_block n least)
+              (journals_same s.next_block n least (disk.reads s.store) (disk.reads mid.store) (are_made held).same)
+              making.changed.images d.there;
           told = d.told;
           rate = d.rate;
           block_size = d.block_size;
@@ -251,6 +258,7 @@ module _ {D : Type 0} (disk : Ghosts D) (s : Core D) (is : IsStudio disk s) wher
 
     grown_studio : IsStudio disk grown
     grown_studio = with_store mid.store n mid.counts s.stopped (omega (arith, most, few)) making.ledger
+        (cache_by_blocks disk s is n _ mid.store making.changed)
 
     grown_held : IsHeld disk s → IsHeld disk grown
     grown_held held =

@@ -41,6 +41,7 @@ use Rattle.editor_core.proofs.Spaces.{IsCommitCall, tested}
 use Rattle.editor_core.proofs.Removing.{commit_frees}
 use Rattle.editor_core.proofs.Staying.{none_made, refuses}
 use Rattle.editor_core.proofs.Times.{named_append}
+use Rattle.editor_core.proofs.Spending.{tested_needed}
 
 pub undo_call : IsCommitCall (Line command.Undo) silent 0
 undo_call = record {
@@ -273,7 +274,7 @@ tested_out disk s c tracks len own why is fewer call needs is_own h =
     (no_room s.next_track tracks) otherwise (no_room s.commit_number 1)) (sym is_own) ∙ h in
     refuses disk s c silent why is fewer (commit_frees disk s c (Err why) s call.one) refl len 0 needs
     (tested (studio_of disk s) c silent tracks call 0 len is.counters.pin_most why
-    (omega (arith, is.counters.block_most)) by)
+    (omega (arith, is.counters.block_most)) by) (tested_needed disk s c silent tracks call own is_own why h)
 
 -- it is not for want of memory, where the own tests' refusal is not
 pub no_want : (stopped : Option ℕ) (own : Option Refusal) (track tracks number : ℕ) (why : Refusal)

@@ -21,7 +21,7 @@ use Rattle.editor_core.specs.Took.{Took, quietly, silent}
 use Rattle.editor_core.proofs.Images.{keeps_now}
 use Rattle.editor_core.proofs.Others.{others_none}
 use Rattle.editor_core.proofs.Quiet.{IsQuiet}
-use Rattle.editor_core.proofs.Removing.{RemovesNone, frees_none, ids_still, no_record}
+use Rattle.editor_core.proofs.Removing.{RemovesNone, frees_none, ids_still, no_record, none_given}
 
 -- another clipboard, other pins and counts
 abbrev pub renamed : {D : Type 0} → Core D → Option (List (List Item)) → List Pin → ℕ → Counts → Core D
@@ -70,6 +70,7 @@ module _ {D : Type 0} (disk : Ghosts D) (s : Core D) (is : IsStudio disk s) (cli
     ids = names.covers (λ (b : BlockRef). IsGiven s.next_block b.id) is.ids;
     counted = names.counted;
     given = λ id some. is.given id ((names.ids id).0 some);
+    cache = is.cache;
   }
 
   pub renamed_held : IsHeld disk s → IsHeld disk new
@@ -112,6 +113,8 @@ module _ {D : Type 0} (disk : Ghosts D) (s : Core D) (is : IsStudio disk s) (cli
     len = 0;
     needs = λ held. (0, quiet.needs (studio_of disk s));
     records = no_record (Ok r) new;
+    given = none_given (Ok r) s new refl;
+    needed = tt;
     changed = changed_none s.store (others_none s.next_block s.next_block (MayRemove c s.counts)) fewer;
     frees = frees_none disk s c (Ok r) new none;
     ids = ids_still s new names.ids refl;

@@ -33,7 +33,7 @@ use Rattle.project_state.specs.Kept.{meant, meant_track, point_blocks}
 use Rattle.project_state.specs.Sound.{AllSoundTracks}
 use Rattle.project_state.specs.Tracks.{AreAbove, track_of}
 use Rattle.project_state.proofs.KeptBounds.{all_append}
-use Rattle.editor_core.specs.declared.pastes.PasteEdit.{PasteEdit}
+use Rattle.pcm_base.specs.declared.edits.Placing.{Placing}
 use Rattle.editor_core.specs.Copies.{run_of, strips_blocks}
 use Rattle.editor_core.specs.Core.{Core}
 use Rattle.editor_core.specs.Edits.{AreAmong}
@@ -177,7 +177,7 @@ clip_tells f (Some v) run =
     either_tells (too_narrow (length run) (length v)) (length_limit (lengths_of f v run))
     (narrow_tells (length run) (length v)) (limits_tell (lengths_of f v run))
 
-pub no_paste_tells : {D : Type 0} (e : PasteEdit) (id at : ℕ) (s : Core D) (why : Refusal)
+pub no_paste_tells : {D : Type 0} (e : Placing) (id at : ℕ) (s : Core D) (why : Refusal)
     → NoPastePlan e id at s why → IsUndamaged why
 no_paste_tells e id at s why not =
     let clip = s.clipboard in

@@ -21,8 +21,8 @@ use Rattle.sample_block.specs.Sources.{samples_on}
 use Rattle.project_state.specs.declared.track.Track.{Track}
 use Rattle.project_state.specs.KeptSound.{IsSoundPoint}
 use Rattle.project_state.specs.Tracks.{track_of}
-use Rattle.editor_core.specs.declared.pastes.PasteEdit.{PasteEdit}
-use Rattle.editor_core.specs.declared.pastes.PasteEdit.TheVariants.{Insert, Cover}
+use Rattle.pcm_base.specs.declared.edits.Placing.{Placing}
+use Rattle.pcm_base.specs.declared.edits.Placing.TheVariants.{Insert, Cover}
 use Rattle.editor_core.specs.Core.{Core}
 use Rattle.editor_core.specs.Edits.{IsEditCall, alone}
 use Rattle.editor_core.specs.Pastes.{NoPastePlan, paste_cells, paste_length, paste_line, paste_refusal}
@@ -36,8 +36,9 @@ use Rattle.editor_core.proofs.Removing.{commit_frees, commit_removes_none}
 use Rattle.editor_core.proofs.Staying.{refuses, wants}
 use Rattle.editor_core.proofs.Tracks.{current_is}
 use Rattle.editor_core.proofs.PasteLaws.{line_tests, line_tests_are}
+use Rattle.editor_core.proofs.Spending.{early_needed}
 
-pub paste_call : (e : PasteEdit) (id at : ℕ)
+pub paste_call : (e : Placing) (id at : ℕ)
     → IsEditCall (Line (paste_line e id at)) silent 0 (λ m st. blocks_of_tracks (length (clip_of st)))
 paste_call Insert id at = record {
   commit = record {
@@ -70,12 +71,12 @@ paste_call Cover id at = record {
   needed = λ rate t blocks len h. h;
 }
 
-own_by : (e : PasteEdit) (id at : ℕ) (out : Outside) (st : State) → call_tests out st (Line (paste_line e id at))
+own_by : (e : Placing) (id at : ℕ) (out : Outside) (st : State) → call_tests out st (Line (paste_line e id at))
     ≡ line_tests (paste_length e at) id st.clipboard (clip_of st) (current st)
 own_by Insert id at out st = refl
 own_by Cover id at out st = refl
 
-pub after_by : (e : PasteEdit) (id at : ℕ) (out : Outside) (st : State) → after out st (Line (paste_line e id at))
+pub after_by : (e : Placing) (id at : ℕ) (out : Outside) (st : State) → after out st (Line (paste_line e id at))
     ≡ record st {
       history = edited st.history (run_edited id (map (paste_cells e at) (clip_of st)) (current st)) 0;
       commit = st.commit + 1;
@@ -83,7 +84,7 @@ pub after_by : (e : PasteEdit) (id at : ℕ) (out : Outside) (st : State) → af
 after_by Insert id at out st = refl
 after_by Cover id at out st = refl
 
-module _ {D : Type 0} (disk : Ghosts D) (s : Core D) (is : IsStudio disk s) (e : PasteEdit) (id at : ℕ) where
+module _ {D : Type 0} (disk : Ghosts D) (s : Core D) (is : IsStudio disk s) (e : Placing) (id at : ℕ) where
   abbrev old : List Track
   old = current_tracks s.history
 
@@ -120,7 +121,7 @@ module _ {D : Type 0} (disk : Ghosts D) (s : Core D) (is : IsStudio disk s) (e :
       (λ i. (stop_of s.stopped) otherwise (own i)) ∙ h in
       refuses disk s line silent why is fewer (commit_frees disk s line (Err why) s call.commit.one) refl 0 0
       (λ held. call.needs t.rate t 0 0 (omega arith, omega arith))
-      (early t line silent 0 call.commit 0 0 why first)
+      (early t line silent 0 call.commit 0 0 why first) (early_needed disk s line silent why first)
 
   pub paste_stopped : (faults : ℕ) → Fewer disk s.store → s.stopped ≡ Some faults
       → Took disk s (quietly line (Err (refusal.Stopped faults))) s

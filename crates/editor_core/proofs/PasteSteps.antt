@@ -33,7 +33,7 @@ use Rattle.project_state.specs.Tracks.{track_of}
 use Rattle.project_state.proofs.KeptBounds.{all_append}
 use Rattle.project_state.proofs.MeantHistories.{meant_recorded}
 use Rattle.editor_core.specs.declared.carrying.Planned.{Planned}
-use Rattle.editor_core.specs.declared.pastes.PasteEdit.{PasteEdit}
+use Rattle.pcm_base.specs.declared.edits.Placing.{Placing}
 use Rattle.editor_core.specs.Copies.{run_of, strips_blocks}
 use Rattle.editor_core.specs.Core.{Core}
 use Rattle.editor_core.specs.Edits.{AreAmong, IsEdit, IsEditCall, IsPlanned, alone, blocks_with, clip_behind, clip_then}
@@ -58,7 +58,7 @@ use Rattle.editor_core.proofs.PasteLaws.{each_strip, pastes_laid, same_edits}
 use Rattle.editor_core.proofs.PasteLaws.{strips_may_read}
 use Rattle.editor_core.proofs.PasteRefused.{after_by, own_is, paste_call}
 
-module _ {D : Type 0} (disk : Ghosts D) (s : Core D) (is : IsStudio disk s) (e : PasteEdit) (id at : ℕ) where
+module _ {D : Type 0} (disk : Ghosts D) (s : Core D) (is : IsStudio disk s) (e : Placing) (id at : ℕ) where
   abbrev old : List Track
   old = current_tracks s.history
 

@@ -76,6 +76,8 @@ module _ {D : Type 0} (disk : Ghosts D) (s : Core D) (pin from count len n : ℕ
     len = took.len;
     needs = took.needs;
     records = took.records;
+    given = took.given;
+    needed = tt;
     changed = took.changed;
     frees = took.frees;
     ids = took.ids;

@@ -1,5 +1,5 @@
 -- A call that only looks, refused as another one that asks as much.
-use Rattle.std.proofs.Common.{⊎_elim, inl, inr, ap, subst, ℕ, Err}
+use Rattle.std.proofs.Common.{⊎_elim, inl, inr, refl, ap, subst, ℕ, Err}
 use Rattle.pcm_base.specs.declared.command.Call.{Call}
 use Rattle.pcm_base.specs.declared.command.Call.TheVariants.{PinLen, ReadPin}
 use Rattle.pcm_base.specs.declared.refusal.Refusal.{Refusal}
@@ -12,6 +12,7 @@ use Rattle.project_state.specs.Kept.{Keeps}
 use Rattle.editor_core.specs.Core.{Core}
 use Rattle.editor_core.specs.Studios.{shown, studio_of}
 use Rattle.editor_core.specs.Took.{KeepsOneOf, Took, quietly, silent}
+use Rattle.editor_core.proofs.Spending.{other_needed}
 
 module _ {D : Type 0} (disk : Ghosts D) (s : Core D) (pin from count : ℕ) where
   abbrev t : model.Studio
@@ -72,6 +73,8 @@ module _ {D : Type 0} (disk : Ghosts D) (s : Core D) (pin from count : ℕ) wher
       len = took.len;
       needs = took.needs;
       records = took.records;
+      given = tt;
+      needed = other_needed disk s (PinLen pin) silent read refl (λ e number. number) why took.needed;
       changed = took.changed;
       frees = took.frees;
       ids = took.ids;
@@ -143,6 +146,8 @@ module _ {D : Type 0} (disk : Ghosts D) (s : Core D) (pin from count : ℕ) wher
       len = took.len;
       needs = took.needs;
       records = took.records;
+      given = tt;
+      needed = other_needed disk s (ReadPin pin from n) silent read refl (λ e number. number) why took.needed;
       changed = took.changed;
       frees = took.frees;
       ids = took.ids;

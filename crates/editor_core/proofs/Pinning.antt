@@ -1,6 +1,6 @@
 -- A pin is a step: the current project is named once more.
-use Rattle.std.proofs.Common.{◌≡◌, refl, sym, ap, ◌∙◌, subst, ℕ, ◌+◌, ◌^◌, ◌<◌, List, [], ◌∷◌, ◌++◌, Some, None, Ok}
-use Rattle.std.proofs.Common.{Err, arith}
+use Rattle.std.proofs.Common.{◌≡◌, inl, inr, refl, sym, ap, ◌∙◌, subst, ℕ, ◌+◌, ◌^◌, ◌<◌, List, [], ◌∷◌, ◌++◌, Some, None}
+use Rattle.std.proofs.Common.{Ok, Err, arith}
 use Rattle.std.specs.List.{AllByRecursion}
 use Rattle.pcm_base.specs.declared.answer.Reply.TheVariants.{Pinned}
 use Rattle.pcm_base.specs.declared.block.BlockRef.{BlockRef}
@@ -128,6 +128,7 @@ module _ {D : Type 0} (disk : Ghosts D) (s : Core D) (is : IsStudio disk s) (few
       let pin = spends s.next_pin 1 (omega (arith, most)) ∙ (λ i. Some (refusal.SpaceSpent (most i) 1)) in
       refused_by disk s Keep pin_quiet tt is fewer (refusal.SpaceSpent (2 ^ 62) 1)
       (pins_spent t Keep pin_quiet (room_of disk s Keep is) (refusal.SpaceSpent (2 ^ 62) 1) (ap stop_of going) refl pin)
+      (inl (inr (inr pin)))
 
   pub pin_stopped : (faults : ℕ) → s.stopped ≡ Some faults → Took disk s (quietly Keep (Err (refusal.Stopped faults))) s
   pin_stopped faults stopped = refused_stopped disk s Keep pin_quiet tt is fewer faults refl stopped

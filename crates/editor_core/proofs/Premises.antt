@@ -1,6 +1,7 @@
 -- What one call does, by another premise than that the disk holds the studio: where blocks are made before the call's
 -- record, that the disk held it before the first of them.
 use Rattle.std.proofs.Common.{◌≡◌, ℕ, ◌-◌, [], None, IsSome, Result, IfErr, OnErr, arith}
+use Rattle.std.specs.Prelude.{IfOk}
 use Rattle.pcm_base.specs.declared.answer.Reply.{Reply}
 use Rattle.pcm_base.specs.declared.command.Call.{Call}
 use Rattle.pcm_base.specs.declared.entry.SoundMove.{SoundMove}
@@ -14,6 +15,7 @@ use Rattle.project_journal.specs.Gate.{EachNow, EachSince}
 use Rattle.project_state.specs.Kept.{Keeps}
 use Rattle.editor_core.specs.Core.{Core}
 use Rattle.editor_core.specs.Records.{Records}
+use Rattle.editor_core.specs.Spent.{NamesGiven, Needed}
 use Rattle.editor_core.specs.Left.{CountsIds, Left, MayRemove, Stops, Untouched}
 use Rattle.editor_core.specs.Studios.{IsHeld, IsStudio, shown, studio_of}
 use Rattle.editor_core.specs.Took.{KeepsOneOf, Took, asks, number_behind, with_sound}
@@ -43,10 +45,11 @@ pub record TookWhere {D : Type 0} (Has : Type 0) (disk : Ghosts D) (old : Core D
 
 pub took_so : {D : Type 0} (disk : Ghosts D) (old : Core D) (call : Call) (sound : SoundMove)
     (told : Result Reply Refusal) (new : Core D) → TookWhere (IsHeld disk old) disk old call sound told new
-    → RemovesNone call → CountsIds old [] new → Untouched disk old told new
+    → RemovesNone call → CountsIds old [] new → IfOk told (λ r. NamesGiven old new)
+    → IfErr told (Needed disk old call sound) → Untouched disk old told new
     → Stops disk old told new → IfErr told (Left disk old new)
     → Took disk old (with_sound call sound told) new
-took_so disk old call sound told new took none ids untouched stops left = record {
+took_so disk old call sound told new took none ids given needed untouched stops left = record {
   studio = took.studio;
   held = took.held;
   step = took.step;
@@ -58,6 +61,8 @@ took_so disk old call sound told new took none ids untouched stops left = record
   len = took.len;
   needs = took.needs;
   records = took.records;
+  given = given;
+  needed = needed;
   changed =
       changed_wider (others_more old.next_block new.next_block (MayRemove call old.counts))
       (record { files = omega arith; bytes = omega arith; calls = omega arith }) took.changed;

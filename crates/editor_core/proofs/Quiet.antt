@@ -20,9 +20,11 @@ use Rattle.editor_core.specs.Studios.{IsHeld, IsStudio, studio_of}
 use Rattle.editor_core.specs.Took.{Took, quietly, silent}
 use Rattle.editor_core.proofs.Images.{keeps_now}
 use Rattle.editor_core.proofs.Others.{others_none}
-use Rattle.editor_core.proofs.Removing.{RemovesNone, frees_none, ids_same, no_record}
+use Rattle.editor_core.proofs.Removing.{RemovesNone, frees_none, ids_same, no_record, none_given}
 use Rattle.editor_core.proofs.Spaces.{fits}
 use Rattle.editor_core.proofs.Staying.{refuses, wants}
+use Rattle.editor_core.proofs.Spending.{tests_needed}
+use Rattle.editor_core.specs.Spent.{Needed}
 
 -- a call that needs no block, no record, no commit and no track
 pub record IsQuiet (c : Call) : Type 0 where
@@ -135,21 +137,21 @@ module _ {D : Type 0} (disk : Ghosts D) (s : Core D) (c : Call) (quiet : IsQuiet
   t = studio_of disk s
 
   -- refused
-  pub refused_by : (why : Refusal) → refusal_of (outside t silent) t c 0 0 ≡ Some why
+  pub refused_by : (why : Refusal) → refusal_of (outside t silent) t c 0 0 ≡ Some why → Needed disk s c silent why
       → Took disk s (quietly c (Err why)) s
-  refused_by why first =
+  refused_by why first needed =
       refuses disk s c silent why is fewer (frees_none disk s c (Err why) s none) refl 0 0 (λ held. quiet.needs t)
-      first
+      first needed
 
   -- it had stopped before
   pub refused_stopped : (faults : ℕ) → stop_test s.stopped c ≡ stop_of s.stopped → s.stopped ≡ Some faults
       → Took disk s (quietly c (Err (refusal.Stopped faults))) s
-  refused_stopped faults test at = refused_by (refusal.Stopped faults) (stopped_first t c 0 0 faults test at)
+  refused_stopped faults test at = refused_by (refusal.Stopped faults) (stopped_first t c 0 0 faults test at) tt
 
   -- by its own test
   pub refused_own : (why : Refusal) → stop_test s.stopped c ≡ None → call_tests (outside t silent) t.state c ≡ Some why
       → Took disk s (quietly c (Err why)) s
-  refused_own why going own = refused_by why (own_first t c 0 0 why going own)
+  refused_own why going own = refused_by why (own_first t c 0 0 why going own) (tests_needed disk s c silent why own)
 
   -- for want of memory
   pub refused_wanting : Took disk s (quietly c (Err refusal.NoMemory)) s
@@ -169,6 +171,8 @@ module _ {D : Type 0} (disk : Ghosts D) (s : Core D) (c : Call) (quiet : IsQuiet
     len = 0;
     needs = λ held. (0, quiet.needs t);
     records = no_record (Ok r) s;
+    given = none_given (Ok r) s s refl;
+    needed = tt;
     changed = changed_none s.store (others_none s.next_block s.next_block (MayRemove c s.counts)) fewer;
     frees = frees_none disk s c (Ok r) s none;
     ids = ids_same s s refl refl;

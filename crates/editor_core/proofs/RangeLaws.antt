@@ -21,8 +21,8 @@ use Rattle.clip_track.proofs.Layouts.{length-layout}
 use Rattle.edit_ops.specs.declared.types.Plan.{Plan}
 use Rattle.edit_ops.specs.Plans.{AnswersTest, Means}
 use Rattle.piece_store.specs.declared.given.Given.TheVariants.{Nothing}
-use Rattle.editor_core.specs.declared.ranges.RangeEdit.{RangeEdit}
-use Rattle.editor_core.specs.declared.ranges.RangeEdit.TheVariants.{Delete, SplitDelete, Silence, Trim, Gain}
+use Rattle.pcm_base.specs.declared.edits.RangeEdit.{RangeEdit}
+use Rattle.pcm_base.specs.declared.edits.RangeEdit.TheVariants.{Delete, SplitDelete, Silence, Trim, Gain}
 use Rattle.editor_core.specs.Commits.{IsCommitCall}
 use Rattle.editor_core.specs.Ranges.{range_cells, range_edit, range_line, range_most}
 use Rattle.editor_core.specs.Took.{silent}

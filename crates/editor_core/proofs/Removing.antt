@@ -1,7 +1,7 @@
 -- Calls that remove no file, and the ids that are counted after them.
 use Rattle.std.proofs.Common.{◌≡◌, ◌↔◌, ◌⊎◌, ◌∙◌, inl, inr, ⊎_elim, refl, sym, subst, ℕ, ◌+◌, ◌≤◌, ◌<◌, IsSome, List, [], true}
 use Rattle.std.proofs.Common.{Option, Some, None, Result, Ok, Err, false, arith}
-use Rattle.std.specs.Prelude.{Contains}
+use Rattle.std.specs.Prelude.{Contains, IfOk}
 use Rattle.std.proofs.lemmas.Bool.{true≢false}
 use Rattle.pcm_base.specs.declared.answer.Reply.{Reply}
 use Rattle.pcm_base.specs.declared.command.Call.{Call}
@@ -18,6 +18,7 @@ use Rattle.editor_core.specs.Left.{CountsIds}
 use Rattle.editor_core.specs.Makes.{AddsFree}
 use Rattle.editor_core.specs.Records.{Records}
 use Rattle.editor_core.specs.Removals.{Forgets, Frees}
+use Rattle.editor_core.specs.Spent.{NamesGiven}
 
 -- ---- the files
 
@@ -53,6 +54,12 @@ no_record (Ok r) new = inl refl
 no_record (Err why) new = λ off. omega arith
 
 -- ---- the ids
+
+-- where no id was given there is none to be named
+pub none_given : {D : Type 0} (told : Result Reply Refusal) (s new : Core D) → new.next_block ≡ s.next_block
+    → IfOk told (λ r. NamesGiven s new)
+none_given (Ok r) s new next = λ id least less. absurd (omega (arith, least, less, next))
+none_given (Err why) s new next = tt
 
 none_in : (id : ℕ) → Contains [] id → ⊥
 none_in id h = omega (arith, h.1)

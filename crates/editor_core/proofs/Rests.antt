@@ -7,15 +7,16 @@ use Rattle.project_state.specs.Kept.{Keeps}
 use Rattle.editor_core.specs.Core.{Core}
 use Rattle.editor_core.specs.Studios.{IsHeld, IsStudio, shown, studio_of}
 use Rattle.editor_core.proofs.Looking.{keeps_still, looked_held, looked_studio}
+use Rattle.editor_core.proofs.StudioCache.{reads_none}
 
 module _ {D : Type 0} (disk : Ghosts D) (s : Core D) (is : IsStudio disk s) (store : D)
     (kept : Kept disk s.store store) where
   pub rests_studio : IsStudio disk (record s { store = store })
-  rests_studio = looked_studio disk s is store kept
+  rests_studio = looked_studio disk s is store kept s.cache (reads_none disk s)
 
   pub rests_held : IsHeld disk s → IsHeld disk (record s { store = store })
-  rests_held held = looked_held disk s is store kept held
+  rests_held held = looked_held disk s is store kept s.cache (reads_none disk s) held
 
   pub rests_keeps : s.stopped ≡ None → IsHeld disk s
       → EachSince disk s.store store (λ c. Keeps c (shown (studio_of disk s)))
-  rests_keeps going held = keeps_still disk s is store kept going held
+  rests_keeps going held = keeps_still disk s is store kept s.cache (reads_none disk s) going held

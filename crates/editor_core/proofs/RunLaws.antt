@@ -32,6 +32,7 @@ use Rattle.editor_core.proofs.RunPlans.{AreLaid, AreSoundPlans, CellEdit, Layout
 use Rattle.editor_core.proofs.RunPlans.{laid_half_full, laid_length, laid_names, laid_new, laid_origin}
 use Rattle.editor_core.proofs.RunMeaning.{laid_means}
 use Rattle.editor_core.proofs.RunPlans.{laid_rising, laid_sound, sound_plans}
+use Rattle.editor_core.proofs.Used.{laid_in}
 
 module _ {D : Type 0} (disk : Ghosts D) (s : Core D) (is : IsStudio disk s) (id : ℕ) (track : Track)
     (found : track_of id (current_tracks s.history) ≡ Some track)
@@ -100,6 +101,14 @@ module _ {D : Type 0} (disk : Ghosts D) (s : Core D) (is : IsStudio disk s) (id 
       let made = all_right C (named_blocks s) (refs makes) (among_itself every) in
       laid_names C id plans old (all_laid C was made) (old_names disk s is C was)
 
+  -- each new block stands in a track of the run
+  laid_used : AreAmong (point_blocks (laid_from id plans old)) (refs makes)
+  laid_used =
+      let point = point_blocks (laid_from id plans old) in
+      subst (λ (bs : List NewBlock). AreAmong point (refs bs)) (sym run.makes_is)
+      (laid_in (Contains point) fs m s.next_block xs id 1 old track plans old_sound.rising found laid
+      (among_itself point))
+
   pub run_planned : p.tracks ≡ 0 → (clip : Option (List (List Item))) → clip_behind s p ≡ clip
       → AreAmong every (clip_blocks clip) → length (clip_blocks clip) ≤ 2 ^ 71 → MayPaste m clip
       → IsPlanned s (tagged p 0 Nothing)
@@ -111,6 +120,7 @@ module _ {D : Type 0} (disk : Ghosts D) (s : Core D) (is : IsStudio disk s) (id 
     sound = subst (λ (k : ℕ). IsSoundPoint m (s.next_block + n) (s.next_track + k) p.point) (sym none)
         (subst (IsSoundPoint m (s.next_block + n) (s.next_track + 0)) (sym run.is) laid_is_sound);
     names = subst (λ (q : List Track). AreAmong every (point_blocks q)) (sym run.is) laid_are_named;
+    used = subst (λ (q : List Track). AreAmong (point_blocks q) (refs makes)) (sym run.is) laid_used;
     clip_names = subst (λ (z : Option (List (List Item))). AreAmong every (clip_blocks z)) (sym behind) clip_names;
     clip_few =
         subst (λ (z : Option (List (List Item))). length (clip_blocks z) ≤ 2 ^ 71) (sym behind) clip_few;

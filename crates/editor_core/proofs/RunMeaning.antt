@@ -20,13 +20,13 @@ use Rattle.editor_core.proofs.RunPlans.{AreLaid, CellEdit, edits_at, written_lef
 -- ---- what they mean
 
 -- the first tracks with the layouts of plans
-abbrev laid_each : List Plan → List Track → List Track
+abbrev pub laid_each : List Plan → List Track → List Track
 laid_each [] ts = ts
 laid_each (p ∷ ps) [] = []
 laid_each (p ∷ ps) (t ∷ ts) = with_layout t p.layout ∷ laid_each ps ts
 
 -- and those from the one with this id on
-abbrev laid_run : ℕ → List Plan → List Track → List Track
+abbrev pub laid_run : ℕ → List Plan → List Track → List Track
 laid_run id ps [] = []
 laid_run id ps (t ∷ ts) = if t.id == id then laid_each ps (t ∷ ts) else t ∷ laid_run id ps ts
 
@@ -41,7 +41,7 @@ above_laid id n (p ∷ ps) (t ∷ ts) above le =
     rw (le-leb id t.id (omega (arith, le, above.0))) (ap (λ (z : List Track). with_layout t p.layout ∷ z)
     (above_laid id (t.id + 1) ps ts above.1 (omega (arith, le, above.0))))
 
-run_laid : (id n : ℕ) (ps : List Plan) (ts : List Track) (x : Track) → AreAbove n ts → track_of id ts ≡ Some x
+pub run_laid : (id n : ℕ) (ps : List Plan) (ts : List Track) (x : Track) → AreAbove n ts → track_of id ts ≡ Some x
     → laid_from id ps ts ≡ laid_run id ps ts
 run_laid id n ps [] x above found = refl
 run_laid id n ps (t ∷ ts) x above found = ⊎_elim

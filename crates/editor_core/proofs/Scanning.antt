@@ -33,6 +33,7 @@ use Rattle.editor_core.specs.Studios.{IsHeld, IsStudio, clip_blocks, ids_of, pin
 use Rattle.editor_core.proofs.Currents.{may_read}
 use Rattle.editor_core.proofs.Lists.{all_joined, all_left, all_so}
 use Rattle.editor_core.proofs.Looking.{keeps_still, looked_held, looked_studio}
+use Rattle.editor_core.proofs.StudioCache.{reads_none}
 use Rattle.editor_core.proofs.Seeing.{undamaged}
 
 -- ---- the blocks that points name
@@ -139,7 +140,7 @@ module _ {D : Type 0} (disk : Ghosts D) (s : Core D) (is : IsStudio disk s) (goi
       kept = none;
       studio = is;
       held = λ held. held;
-      any_moment = λ held. keeps_still disk s is s.store none going held;
+      any_moment = λ held. keeps_still disk s is s.store none s.cache (reads_none disk s) going held;
     }
 
     -- there is no such place
@@ -154,7 +155,7 @@ module _ {D : Type 0} (disk : Ghosts D) (s : Core D) (is : IsStudio disk s) (goi
       kept = none;
       studio = is;
       held = λ held. held;
-      any_moment = λ held. keeps_still disk s is s.store none going held;
+      any_moment = λ held. keeps_still disk s is s.store none s.cache (reads_none disk s) going held;
     }
 
   module _ {T : Type 0} (b : BlockRef) (there : StandsAt named place b) (new : Core D) where
@@ -222,7 +223,7 @@ module _ {D T : Type 0} (disk : Ghosts D) (s : Core D) (is : IsStudio disk s) (g
         sound = λ held. sound held.tells (point_whole disk s is b has held);
         same = refl;
         kept = kept;
-        studio = looked_studio disk s is store kept;
-        held = looked_held disk s is store kept;
-        any_moment = λ held. keeps_still disk s is store kept going held;
+        studio = looked_studio disk s is store kept s.cache (reads_none disk s);
+        held = looked_held disk s is store kept s.cache (reads_none disk s);
+        any_moment = λ held. keeps_still disk s is store kept s.cache (reads_none disk s) going held;
       })

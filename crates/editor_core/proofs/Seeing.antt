@@ -11,6 +11,7 @@ use Rattle.block_store.specs.declared.fault.BlockFault.TheVariants as fault
 use Rattle.block_store.specs.Reasons.{reason_of}
 use Rattle.envelope_view.specs.Answers.{IsUndamaged}
 use Rattle.editor_core.specs.Adding.{IsNoWant}
+use Rattle.block_cache.specs.Caches.{Entries}
 use Rattle.editor_core.specs.Core.{Core}
 use Rattle.editor_core.specs.Reads.{Looks, Sees, Seen}
 use Rattle.editor_core.specs.Studios.{IsHeld}
@@ -41,25 +42,25 @@ module _ {D : Type 0} (disk : Ghosts D) (s : Core D) (c : Call) where
   idle_sees reply out fewer why fine enough took =
       record { looks = idle_looks fewer why fine took; count = tt; memory = enough }
 
-  module _ (store : D) (kept : Kept disk s.store store) where
-    pub read_looks : (r : Reply) → Took disk s (quietly c (Ok r)) (record s { store = store })
-        → Looks disk s c (Ok r) (record s { store = store })
+  module _ (store : D) (kept : Kept disk s.store store) (cache : Entries) where
+    pub read_looks : (r : Reply) → Took disk s (quietly c (Ok r)) (record s { store = store; cache = cache })
+        → Looks disk s c (Ok r) (record s { store = store; cache = cache })
     read_looks r took = record { took = took; same = refl; kept = kept; sound = λ held. tt }
 
     pub unread_looks : (why : Refusal) → (IsHeld disk s → IsUndamaged why)
-        → Took disk s (quietly c (Err why)) (record s { store = store })
-        → Looks disk s c (Err why) (record s { store = store })
+        → Took disk s (quietly c (Err why)) (record s { store = store; cache = cache })
+        → Looks disk s c (Err why) (record s { store = store; cache = cache })
     unread_looks why sound took = record { took = took; same = refl; kept = kept; sound = sound }
 
     pub read_sees : {A : Type 0} (reply : List A → Reply) (out : List A) (n : ℕ) → n ≤ length out
-        → Took disk s (quietly c (Ok (reply (take n out)))) (record s { store = store })
-        → Sees disk s (seen c reply out (Ok n)) (record s { store = store })
+        → Took disk s (quietly c (Ok (reply (take n out)))) (record s { store = store; cache = cache })
+        → Sees disk s (seen c reply out (Ok n)) (record s { store = store; cache = cache })
     read_sees reply out n fits took = record { looks = read_looks (reply (take n out)) took; count = fits; memory = tt }
 
     pub unread_sees : {A : Type 0} (reply : List A → Reply) (out : List A) (why : BlockFault)
         → (IsHeld disk s → why ≡ fault.DiskFault)
-        → Took disk s (quietly c (Err (reason_of why))) (record s { store = store })
-        → Sees disk s (seen c reply out (Err (reason_of why))) (record s { store = store })
+        → Took disk s (quietly c (Err (reason_of why))) (record s { store = store; cache = cache })
+        → Sees disk s (seen c reply out (Err (reason_of why))) (record s { store = store; cache = cache })
     unread_sees reply out why sound took = record {
       looks = unread_looks (reason_of why) (λ held. undamaged why (sound held)) took;
       count = tt;

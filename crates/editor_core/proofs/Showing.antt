@@ -33,6 +33,7 @@ use Rattle.envelope_view.specs.Answers.{column_tests, IsDamagedIn, IsOfReads, Is
 use Rattle.envelope_view.proofs.AnswerLaws.{reason_damaged}
 use Rattle.project_state.specs.declared.track.Track.{Track}
 use Rattle.project_state.specs.Tracks.{track_of}
+use Rattle.block_cache.specs.Caches.{Entries}
 use Rattle.editor_core.specs.Core.{Core}
 use Rattle.editor_core.specs.Points.{current_tracks, lacks}
 use Rattle.editor_core.specs.Reads.{HasLayout}
@@ -42,9 +43,10 @@ use Rattle.editor_core.proofs.Currents.{layout_named, track_there, layout_sound,
 use Rattle.editor_core.proofs.Editing.{current_meant, track_is}
 use Rattle.editor_core.proofs.Looking.{looked_ok, looked_failed, looked_own, looked_wanting}
 use Rattle.editor_core.proofs.NamedDamage.{damage_among, fault_among}
-use Rattle.editor_core.proofs.PlainTests.{own, plain_by}
+use Rattle.editor_core.proofs.PlainTests.{own, own_by}
 use Rattle.editor_core.proofs.Quiet.{IsQuiet, quiet_passes, carried, room_of, own_first, refused_own, refused_stopped}
 use Rattle.editor_core.proofs.Spaces.{fits}
+use Rattle.editor_core.proofs.StudioCache.{ReadsNamed}
 
 -- a test of columns answers by one of two reasons, and no read was counted for it
 by_test : (a b : Bool) (why : Refusal) (old new : ℕ) → (refused_if a refusal.BadRange) otherwise
@@ -98,26 +100,26 @@ module _ {D : Type 0} (disk : Ghosts D) (s : Core D) (is : IsStudio disk s) (id 
         refused_own disk s show show_quiet tt is fewer why (ap stop_of going)
         (show_tests ∙ (λ i. (track_there disk s is id layout has i) otherwise (bad i)))
 
-    module _ (store : D) (kept : Kept disk s.store store) where
+    module _ (store : D) (kept : Kept disk s.store store) (cache : Entries) (keeps : ReadsNamed disk s cache) where
       pub show_done : (cells : List Cell) → bad_view from to ≡ None
           → disk.read_fault_count store ≡ disk.read_fault_count s.store
           → (IsHeld disk s → cells ≡ part from to (layout_cells src layout))
-          → Took disk s (quietly show (Ok (reply.Cells cells))) (record s { store = store })
+          → Took disk s (quietly show (Ok (reply.Cells cells))) (record s { store = store; cache = cache })
       show_done cells good faults seen =
           let room = room_of disk s show is in
           let own : call_tests (outside t silent) t.state show ≡ None =
           show_tests ∙ (λ i. (track_there disk s is id layout has i) otherwise (good i)) in
           let passed = quiet_passes t show show_quiet room (ap stop_of going) own
           (fits s.next_pin 0 (omega (arith, is.counters.pin_most))) in
-          looked_ok disk s is store kept show show_quiet tt going (reply.Cells cells) faults
+          looked_ok disk s is store kept cache keeps show show_quiet tt going (reply.Cells cells) faults
           (λ held. carried t show show_quiet room (reply.Cells cells) t passed
           (ap reply.Cells (seen held ∙ ap (part from to) (cells_are layout has))) refl)
 
       pub show_failed : (why : BlockFault) → CountedBy why (disk.read_fault_count s.store) (disk.read_fault_count store)
           → (IsTrue (disk.tells s.store) → IsFaultIn (disk.reads s.store) (layout_blocks layout) why)
-          → Took disk s (quietly show (Err (reason_of why))) (record s { store = store })
+          → Took disk s (quietly show (Err (reason_of why))) (record s { store = store; cache = cache })
       show_failed why counted damaged =
-          looked_failed disk s is store kept show show_quiet tt going refl why counted
+          looked_failed disk s is store kept cache keeps show show_quiet tt going refl why counted
           (λ told. reason_damaged (disk.reads s.store) (named_blocks s) why (fault_among (disk.reads s.store)
           (named_blocks s) (layout_blocks layout) why (layout_named disk s is id layout has) (damaged told)))
 
@@ -152,7 +154,7 @@ module _ {D : Type 0} (disk : Ghosts D) (s : Core D) (is : IsStudio disk s) (id 
         (scan_tests ∙ (λ i. ((lack i) otherwise (beyond (length (cells_at id (current t.state))))) otherwise uneven))
 
     module _ (layout : List Clip) (has : HasLayout id ts layout) (going : s.stopped ≡ None) (store : D)
-        (kept : Kept disk s.store store) where
+        (kept : Kept disk s.store store) (cache : Entries) (keeps : ReadsNamed disk s cache) where
       tests_are : call_tests (outside t silent) t.state scan ≡ column_tests from to columns (end_of 0 layout)
       tests_are =
           let len : length (cells_at id (current t.state)) ≡ end_of 0 layout = ap length (sym (cells_are layout has))
@@ -162,25 +164,25 @@ module _ {D : Type 0} (disk : Ghosts D) (s : Core D) (is : IsStudio disk s) (id 
       pub scan_done : (found : List (Option Scan)) → column_tests from to columns (end_of 0 layout) ≡ None
           → disk.read_fault_count store ≡ disk.read_fault_count s.store
           → (IsHeld disk s → found ≡ columns_of from to columns (layout_cells src layout))
-          → Took disk s (quietly scan (Ok (reply.Columns found))) (record s { store = store })
+          → Took disk s (quietly scan (Ok (reply.Columns found))) (record s { store = store; cache = cache })
       scan_done found good faults seen =
           let room = room_of disk s scan is in
           let passed = quiet_passes t scan scan_quiet room (ap stop_of going) (tests_are ∙ good)
           (fits s.next_pin 0 (omega (arith, is.counters.pin_most))) in
-          looked_ok disk s is store kept scan scan_quiet tt going (reply.Columns found) faults
+          looked_ok disk s is store kept cache keeps scan scan_quiet tt going (reply.Columns found) faults
           (λ held. carried t scan scan_quiet room (reply.Columns found) t passed
           (ap reply.Columns (seen held ∙ ap (columns_of from to columns) (cells_are layout has))) refl)
 
       of_reads : (why : Refusal) → IsOfReads why
           → IsCountedBy why (disk.read_fault_count s.store) (disk.read_fault_count store)
           → (IsTrue (disk.tells s.store) → IsDamagedIn (disk.reads s.store) (named_blocks s) why)
-          → Took disk s (quietly scan (Err why)) (record s { store = store })
+          → Took disk s (quietly scan (Err why)) (record s { store = store; cache = cache })
       of_reads refusal.NoMemory reads counted damaged =
-          looked_wanting disk s is store kept scan scan_quiet tt going counted
+          looked_wanting disk s is store kept cache keeps scan scan_quiet tt going counted
       of_reads refusal.DiskFault reads counted damaged =
-          looked_failed disk s is store kept scan scan_quiet tt going refl fault.DiskFault counted damaged
+          looked_failed disk s is store kept cache keeps scan scan_quiet tt going refl fault.DiskFault counted damaged
       of_reads (refusal.Damaged file at want have) reads counted damaged =
-          looked_failed disk s is store kept scan scan_quiet tt going refl
+          looked_failed disk s is store kept cache keeps scan scan_quiet tt going refl
           (fault.Damaged file (record { at = at; want = want; have = have })) counted damaged
       of_reads why reads counted damaged = absurd reads
 
@@ -188,13 +190,13 @@ module _ {D : Type 0} (disk : Ghosts D) (s : Core D) (is : IsStudio disk s) (id 
           ⊎ ((column_tests from to columns (end_of 0 layout) ≡ None) × IsOfReads why)
           → IsCountedBy why (disk.read_fault_count s.store) (disk.read_fault_count store)
           → (IsTrue (disk.tells s.store) → IsDamagedIn (disk.reads s.store) (layout_blocks layout) why)
-          → Took disk s (quietly scan (Err why)) (record s { store = store })
+          → Took disk s (quietly scan (Err why)) (record s { store = store; cache = cache })
       scan_failed why (inl test) counted damaged =
           let len = end_of 0 layout in
           let faults = by_test (not (nat_lt from to && nat_le to len)) (columns == 0 || nat_lt 4096 columns || nat_lt
           (to - from) columns) why (disk.read_fault_count s.store) (disk.read_fault_count store) test counted in
-          looked_own disk s is store kept scan scan_quiet tt going why
-          (plain_by (call_tests (outside t silent) t.state scan) why (own (outside t silent) t.state scan)
+          looked_own disk s is store kept cache keeps scan scan_quiet tt going why
+          (own_by (call_tests (outside t silent) t.state scan) why (own (outside t silent) t.state scan)
           (tests_are ∙ test)) faults (λ held. own_first t scan 0 0 why (ap stop_of going) (tests_are ∙ test))
       scan_failed why (inr read) counted damaged =
           of_reads why read.1 counted

@@ -11,7 +11,7 @@ use Rattle.pcm_base.specs.Counters.{no_room, pins_of, places_of, counter_tests, 
 use Rattle.pcm_base.specs.Outside.{Outside}
 use Rattle.pcm_base.specs.Refusals.{◌otherwise◌, refused_if, call_tests}
 use Rattle.pcm_base.specs.Run.{outside, refusal_of, stop_of, stop_test}
-use Rattle.pcm_base.specs.Sizes.{LONGEST_BODY}
+use Rattle.pcm_base.specs.declared.limits.TheConstants.{LONGEST_BODY}
 use Rattle.pcm_base.specs.Studio as model
 use Rattle.editor_core.specs.Adding.{Exceeds}
 use Rattle.editor_core.specs.Commits as commits

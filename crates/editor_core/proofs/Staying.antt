@@ -20,6 +20,7 @@ use Rattle.project_journal.specs.Rooms.{append_room}
 use Rattle.editor_core.specs.Core.{Core}
 use Rattle.editor_core.specs.Left.{MayRemove}
 use Rattle.editor_core.specs.Removals.{Frees}
+use Rattle.editor_core.specs.Spent.{Needed}
 use Rattle.editor_core.specs.Studios.{IsGiven, IsHeld, IsStudio, SameBlocks, studio_of}
 use Rattle.editor_core.specs.Took.{Exchange, Took, asks, with_sound}
 use Rattle.editor_core.proofs.Images.{keeps_now}
@@ -61,10 +62,10 @@ module _ {D : Type 0} (disk : Ghosts D) (s : Core D) (call : Call) (sound : Soun
     (is : IsStudio disk s) (fewer : Fewer disk s.store) (frees : Frees disk s call (Err why) [] s)
     (quiet : sound.after ≡ sound.before) (len : ℕ) where
   -- a refusal that asked nothing of the disk
-  pub stays : IsPlain why → MayNeed disk s call sound len
+  pub stays : IsPlain why → MayNeed disk s call sound len → Needed disk s call sound why
       → (IsHeld disk s → Answers (studio_of disk s) call sound (Err why) (studio_of disk s))
       → Took disk s (with_sound call sound (Err why)) s
-  stays plain needs step = record {
+  stays plain needs needed step = record {
     studio = is;
     held = λ held. held;
     step = step;
@@ -76,6 +77,8 @@ module _ {D : Type 0} (disk : Ghosts D) (s : Core D) (call : Call) (sound : Soun
     len = len;
     needs = needs;
     records = λ off. absurd (true≢false (sym off ∙ plain_not why plain));
+    given = tt;
+    needed = needed;
     changed = changed_none s.store (others_none s.next_block s.next_block (MayRemove call s.counts)) fewer;
     frees = frees;
     ids = ids_same s s refl refl;
@@ -88,10 +91,10 @@ module _ {D : Type 0} (disk : Ghosts D) (s : Core D) (call : Call) (sound : Soun
   pub refuses : (blocks : ℕ)
       → (IsHeld disk s → Needs (outside (studio_of disk s) sound) (studio_of disk s) call blocks len)
       → refusal_of (outside (studio_of disk s) sound) (studio_of disk s) call blocks len ≡ Some why
-      → Took disk s (with_sound call sound (Err why)) s
-  refuses blocks needs first =
+      → Needed disk s call sound why → Took disk s (with_sound call sound (Err why)) s
+  refuses blocks needs first needed =
       stays (plain_refusal (outside (studio_of disk s) sound) (studio_of disk s) call blocks len why first)
-      (λ held. (blocks, needs held))
+      (λ held. (blocks, needs held)) needed
       (λ held. inl (record {
         blocks = blocks;
         len = len;
@@ -107,5 +110,5 @@ pub wants : {D : Type 0} (disk : Ghosts D) (s : Core D) (call : Call) (sound : S
     → Took disk s (with_sound call sound (Err refusal.NoMemory)) s
 wants disk s call sound is fewer none quiet len needs =
     stays disk s call sound refusal.NoMemory is fewer (frees_none disk s call (Err refusal.NoMemory) s none) quiet len
-    tt needs
+    tt needs tt
     (λ held. inr (record { same = refl; quiet = quiet }))

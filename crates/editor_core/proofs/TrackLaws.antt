@@ -42,6 +42,7 @@ use Rattle.editor_core.proofs.Removing.{commit_frees, commit_removes_none}
 use Rattle.editor_core.proofs.Staying.{refuses, wants}
 use Rattle.editor_core.proofs.TrackPlans.{point_means}
 use Rattle.editor_core.proofs.Tracks.{current_is, lacks_is, sound_of}
+use Rattle.editor_core.proofs.Spending.{early_needed}
 
 -- ---- what refuses the edit of a track
 
@@ -102,7 +103,7 @@ module _ {D : Type 0} (disk : Ghosts D) (s : Core D) (is : IsStudio disk s) (c :
       refuses disk s c sound why is fewer (commit_frees disk s c (Err why) s line.call.commit.one)
       line.call.commit.quiet 0 0
       (λ held. line.call.needs t.rate t 0 0 (omega arith, omega arith))
-      (early t c sound 0 line.call.commit 0 0 why first)
+      (early t c sound 0 line.call.commit 0 0 why first) (early_needed disk s c sound why first)
 
   pub track_stopped : (faults : ℕ) → Fewer disk s.store → s.stopped ≡ Some faults
       → Took disk s (with_sound c sound (Err (refusal.Stopped faults))) s

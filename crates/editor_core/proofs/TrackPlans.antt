@@ -34,6 +34,7 @@ use Rattle.editor_core.proofs.Lists.{all_left, all_right, all_so}
 use Rattle.editor_core.proofs.MadeStudios.{IsNewId, point_more, refs, refs_ids}
 use Rattle.editor_core.proofs.PlanBlocks.{all_readable, clips_ids, ids_clips, new_from_more, old_or_new}
 use Rattle.editor_core.proofs.Sounds.{SameSound, same_point}
+use Rattle.editor_core.proofs.Used.{new_in, put_in_of}
 use Rattle.editor_core.proofs.Tracks.{id_of, layout_of, put_all, put_means, put_rising, put_sound, sound_of}
 
 -- ---- the track, and why there is no plan
@@ -159,6 +160,13 @@ module _ {D : Type 0} (disk : Ghosts D) (s : Core D) (is : IsStudio disk s) (e :
       (point_blocks old) old_named in
       put_all C now old mine rest
 
+  -- each new block stands in the track
+  put_used : AreAmong (point_blocks (put_in now old)) (refs makes)
+  put_used =
+      let C : BlockRef → Type 0 = Contains (point_blocks (put_in now old)) in
+      new_in C (layout_blocks was.layout) (layout_blocks p.plan.layout) makes laid
+      (put_in_of C id now was old p.found (id_of id old was p.found) (among_itself (point_blocks (put_in now old))))
+
   clip_named : AreAmong every (clip_blocks s.clipboard)
   clip_named = all_right (Contains every) (pin_blocks s.pins) (clip_blocks s.clipboard)
       (all_right (Contains every) (history_blocks s.history) (pin_blocks s.pins ++ clip_blocks s.clipboard)
@@ -175,6 +183,7 @@ module _ {D : Type 0} (disk : Ghosts D) (s : Core D) (is : IsStudio disk s) (e :
     sound = subst (λ (k : ℕ). IsSoundPoint s.block_size (s.next_block + n) (s.next_track + k) planned.point) (sym none)
         (subst (IsSoundPoint s.block_size (s.next_block + n) (s.next_track + 0)) (sym p.is) put_is_sound);
     names = subst (λ (q : List Track). AreAmong every (point_blocks q)) (sym p.is) put_names;
+    used = subst (λ (q : List Track). AreAmong (point_blocks q) (refs makes)) (sym p.is) put_used;
     clip_names = subst (λ (z : Option (List (List Item))). AreAmong every (clip_blocks (clip_then z s.clipboard)))
         (sym keeps) clip_named;
     clip_few = subst (λ (z : Option (List (List Item))). length (clip_blocks (clip_then z s.clipboard)) ≤ 2 ^ 71)

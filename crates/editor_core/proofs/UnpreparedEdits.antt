@@ -1,5 +1,5 @@
 -- An edit that makes blocks, refused before the first of them.
-use Rattle.std.proofs.Common.{◌≡◌, ⊎_elim, sym, subst, ℕ, ◌+◌, ◌≤◌, None, List, length, Err, arith}
+use Rattle.std.proofs.Common.{◌≡◌, inl, ⊎_elim, refl, sym, subst, ℕ, ◌+◌, ◌≤◌, None, List, length, Err, arith}
 use Rattle.pcm_base.specs.declared.command.Call.{Call}
 use Rattle.pcm_base.specs.declared.entry.SoundMove.{SoundMove}
 use Rattle.pcm_base.specs.declared.refusal.Refusal.{Refusal}
@@ -16,11 +16,13 @@ use Rattle.project_state.specs.declared.track.Track.{Track}
 use Rattle.project_state.specs.Spelling.{spelling}
 use Rattle.editor_core.specs.Core.{Core}
 use Rattle.editor_core.specs.Edits.{IsEdit, IsPlanned, NotPrepared, TaggedEdit}
+use Rattle.editor_core.specs.Spent.{WouldMake}
 use Rattle.editor_core.specs.Studios.{IsStudio, studio_of}
 use Rattle.editor_core.specs.Took.{Took, with_sound}
 use Rattle.editor_core.proofs.EditLaws.{edit_needs, edit_own}
 use Rattle.editor_core.proofs.Removing.{commit_frees, commit_removes_none}
 use Rattle.editor_core.proofs.Spaces.{counter_spent, exceeded}
+use Rattle.editor_core.proofs.Spending.{exceeding_needed, spent_needed}
 use Rattle.editor_core.proofs.Staying.{refuses, wants}
 
 module _ {D : Type 0} (disk : Ghosts D) (s : Core D) (is : IsStudio disk s) (going : s.stopped ≡ None)
@@ -63,6 +65,12 @@ module _ {D : Type 0} (disk : Ghosts D) (s : Core D) (is : IsStudio disk s) (goi
   not_prepared why new same not =
       let commit = edit.call.commit in
       let own = edit_own disk s is going e plan c sound edit in
+      let would : WouldMake disk s c sound = record {
+        commit = commit.one;
+        blocks = n;
+        body = told_body;
+        so = inl (record { edit = e; planned = plan; means = edit; blocks_are = refl; body_is = refl });
+      } in
       let test =
       refuses disk s c sound why is (fewer s.store) (commit_frees disk s c (Err why) s commit.one) commit.quiet
       (length body) n (λ held. need n (omega arith)) in
@@ -73,7 +81,8 @@ module _ {D : Type 0} (disk : Ghosts D) (s : Core D) (is : IsStudio disk s) (goi
       (⊎_elim
       (λ want. subst (λ (e : Refusal). Took disk s (with_sound c sound (Err e)) s) (sym want) memory)
       (⊎_elim
-      (λ spent. test (counter_spent t c sound tracks commit n (length body) is.counters.pin_most going own why spent))
+      (λ spent. test (counter_spent t c sound tracks commit n (length body) is.counters.pin_most going own why spent)
+      (spent_needed disk s c sound tracks commit would why spent))
       (λ over. test (exceeded t c sound tracks commit n (length body) is.counters.pin_most going own over.0 over.1
-      (omega (arith, over.2)) why over.3)))
+      (omega (arith, over.2)) why over.3) (exceeding_needed disk s c sound would why over.3)))
       not)

@@ -1,5 +1,5 @@
 -- What a call does that may name a sound of a vault.
-use Rattle.std.specs.Prelude.{◌≡◌, ℕ, Bool, IsTrue, IsSome, Option, Some, None, List, Result, Ok, Err, IfErr, ◌-◌}
+use Rattle.std.specs.Prelude.{◌≡◌, ℕ, Bool, IsTrue, IsSome, Option, Some, None, List, Result, Ok, Err, IfErr, IfOk, ◌-◌}
 use Rattle.pcm_base.specs.declared.answer.Answer.{Answer}
 use Rattle.pcm_base.specs.declared.answer.Reply.{Reply}
 use Rattle.pcm_base.specs.declared.answer.Reply.TheVariants as reply
@@ -15,6 +15,7 @@ use Rattle.editor_core.specs.Exports.{moved_from}
 use Rattle.editor_core.specs.Left.{CountsIds, Left, LeavesOthers, MayRemove, Stops, Untouched}
 use Rattle.editor_core.specs.Records.{Records}
 use Rattle.editor_core.specs.Removals.{Frees}
+use Rattle.editor_core.specs.Spent.{NamesGiven}
 use Rattle.editor_core.specs.Studios.{IsStudio}
 use Rattle.editor_core.specs.Took.{Exchange, Took, asks, exchange_of, number_behind, silent}
 
@@ -36,6 +37,7 @@ pub record Lasts {D : Type 0} (disk : Ghosts D) (old : Core D) (exchange : Excha
   pub rests : IsSome old.stopped → new ≡ record old { pins = new.pins; counts = new.counts }
   pub len : ℕ
   pub records : Records exchange.told new len
+  pub given : IfOk exchange.told (λ r. NamesGiven old new)
   pub changed : Changed disk (LeavesOthers old.next_block new.next_block (MayRemove exchange.call old.counts))
       (asks exchange (disk.reads old.store 0) old.block_size (new.next_block - old.next_block) len) old.store new.store
   pub frees : Frees disk old exchange.call exchange.told exchange.removed new

@@ -1,6 +1,7 @@
 -- What is seen of a studio: all but what its buffers hold, and for how much there is memory.
 use Rattle.std.specs.Prelude.{ℕ, Option, List}
 use Rattle.pcm_base.specs.History.{History}
+use Rattle.block_cache.specs.Caches.{Entries}
 use Rattle.block_ledger.specs.Counts.{Counts}
 use Rattle.block_ledger.specs.Entries.{count_of}
 use Rattle.clip_track.specs.declared.items.Item.{Item}
@@ -10,6 +11,8 @@ use Rattle.editor_core.specs.declared.studio.Pin.{Pin}
 
 pub record Core (D : Type 0) : Type 0 where
   pub store : D
+  -- pages of blocks that were read
+  pub cache : Entries
   pub history : History (List Track)
   pub clipboard : Option (List (List Item))
   pub pins : List Pin
@@ -28,6 +31,7 @@ pub record Core (D : Type 0) : Type 0 where
 abbrev pub core_of : {D : Type 0} → Studio D → Core D
 core_of s = record {
   store = s.store;
+  cache = s.cache;
   history = s.history.history;
   clipboard = s.clipboard;
   pins = s.pins.items;

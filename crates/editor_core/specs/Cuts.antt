@@ -6,7 +6,7 @@ use Rattle.pcm_base.specs.declared.command.Command.TheVariants as command
 use Rattle.pcm_base.specs.declared.refusal.Refusal.{Refusal}
 use Rattle.pcm_base.specs.declared.refusal.Refusal.TheVariants as refusal
 use Rattle.pcm_base.specs.declared.sound.Cell.{Cell}
-use Rattle.pcm_base.specs.Edits.{deleted, split_deleted}
+use Rattle.pcm_base.specs.Edits.{removed}
 use Rattle.pcm_base.specs.Refusals.{◌otherwise◌}
 use Rattle.clip_track.specs.declared.items.Item.{Item}
 use Rattle.clip_track.specs.Items.{AreItems}
@@ -15,8 +15,8 @@ use Rattle.edit_ops.specs.Runs.{AreCopies, AreCuts, copy_tests}
 use Rattle.project_state.specs.declared.track.Track.{Track}
 use Rattle.project_state.specs.Tracks.{track_of}
 use Rattle.editor_core.specs.declared.carrying.Planned.{Planned}
-use Rattle.editor_core.specs.declared.cuts.CutEdit.{CutEdit}
-use Rattle.editor_core.specs.declared.cuts.CutEdit.TheVariants.{Close, Leave}
+use Rattle.pcm_base.specs.declared.edits.Removing.{Removing}
+use Rattle.pcm_base.specs.declared.edits.Removing.TheVariants.{Close, Leave}
 use Rattle.editor_core.specs.declared.copies.RunRange.{RunRange}
 use Rattle.editor_core.specs.Copies.{run_of}
 use Rattle.editor_core.specs.Core.{Core}
@@ -25,14 +25,13 @@ use Rattle.editor_core.specs.RunEdits.{IsRunPlan}
 use Rattle.editor_core.specs.TrackEdits.{plan_start}
 
 -- the line that asks for it
-abbrev pub cut_line : CutEdit → RunRange → Command
+abbrev pub cut_line : Removing → RunRange → Command
 cut_line Close range = command.Cut range.track range.count range.from range.to
 cut_line Leave range = command.SplitCut range.track range.count range.from range.to
 
 -- what it makes of the cells of each track
-abbrev pub cut_cells : CutEdit → (from to : ℕ) → List Cell → List Cell
-cut_cells Close from to = deleted from to
-cut_cells Leave from to = split_deleted from to
+abbrev pub cut_cells : Removing → (from to : ℕ) → List Cell → List Cell
+cut_cells e from to = removed e from to
 
 -- what refuses it
 abbrev pub cut_refusal : RunRange → List Track → Option Refusal
@@ -41,7 +40,7 @@ cut_refusal range ts = (lacks range.track (track_of range.track ts))
 
 -- of a studio's project the tracks without the range, the blocks that are to be made for them, and the strips of what
 -- goes
-pub record IsCutPlan {D : Type 0} (e : CutEdit) (range : RunRange) (s : Core D) (p : Planned) : Type 0 where
+pub record IsCutPlan {D : Type 0} (e : Removing) (range : RunRange) (s : Core D) (p : Planned) : Type 0 where
   pub tests : cut_refusal range (current_tracks s.history) ≡ None
   pub plans : List Plan
   pub cuts : AreCuts (cut_cells e range.from range.to) (plan_start s)

@@ -14,7 +14,7 @@ use Rattle.pcm_base.specs.Outside.{Outside}
 use Rattle.pcm_base.specs.Pieces.{Sources}
 use Rattle.pcm_base.specs.Refusals.{◌otherwise◌, call_tests}
 use Rattle.pcm_base.specs.Run.{outside}
-use Rattle.pcm_base.specs.Sizes.{LONGEST_BODY}
+use Rattle.pcm_base.specs.declared.limits.TheConstants.{LONGEST_BODY}
 use Rattle.pcm_base.specs.State.{State}
 use Rattle.pcm_base.specs.Step.{after}
 use Rattle.pcm_base.specs.Studio as model
@@ -65,7 +65,8 @@ abbrev pub history_behind : {D : Type 0} → Core D → TaggedEdit → History (
 history_behind s e = recorded s.history e.plan.point e.tag
 
 -- What is planned for a studio: a new point for the history, with its tag, what the clipboard becomes, and the blocks
--- that are to be made for both, of blocks that the studio names, and of what the command brings.
+-- that are to be made for both, of blocks that the studio names, and of what the command brings. The point names each of
+-- these.
 pub record IsPlanned {D : Type 0} (s : Core D) (e : TaggedEdit) : Type 0 where
   pub new : AreNew s.block_size s.next_block e.plan.makes
   pub readable : PiecesReadable (brought_count e.given) e.plan.makes
@@ -73,6 +74,7 @@ pub record IsPlanned {D : Type 0} (s : Core D) (e : TaggedEdit) : Type 0 where
   pub tag_given : e.tag ≤ s.commit_number
   pub sound : IsSoundPoint s.block_size (s.next_block + length e.plan.makes) (s.next_track + e.plan.tracks) e.plan.point
   pub names : AreAmong (blocks_with s e.plan.makes) (point_blocks e.plan.point)
+  pub used : AreAmong (point_blocks e.plan.point) (map ref_of e.plan.makes)
   pub clip_names : AreAmong (blocks_with s e.plan.makes) (clip_blocks (clip_behind s e.plan))
   pub clip_few : length (clip_blocks (clip_behind s e.plan)) ≤ 2 ^ 71
   pub clip_fits : MayPaste s.block_size (clip_behind s e.plan)

@@ -94,6 +94,7 @@ pub record AreGrown {D : Type 0} (s : Core D) (counts : List ℕ) (g : Growing) 
   pub new : AreNew s.block_size s.next_block g.makes.items
   pub origin : AllNewFrom [] g.brought g.makes.items
   pub names : AreAmong (map ref_of g.makes.items) (point_blocks news)
+  pub used : AreAmong (point_blocks news) (map ref_of g.makes.items)
   pub few : length g.makes.items ≤ blocks_of_tracks (length counts) + g.brought / s.block_size
   pub next_is : g.next ≡ s.next_block + length g.makes.items
   pub brought : g.brought ≡ total_of counts
@@ -117,13 +118,6 @@ pub record IsChannelsPlan {D : Type 0} (s : Core D) (counts : List ℕ) (p : Pla
   pub makes_is : p.makes ≡ grown.makes.items
   pub next_is : p.next ≡ grown.next
   pub tracks_is : p.tracks ≡ length counts
-
--- why there is none: memory, or that the ids of blocks are spent, of which so many are needed at least
-abbrev pub NoChannelsPlan : {D : Type 0} → Core D → List ℕ → Refusal → Type 0
-NoChannelsPlan s counts refusal.NoMemory = Unit {0}
-NoChannelsPlan s counts (refusal.SpaceSpent have need) = (have ≡ s.next_block)
-    × (need ≤ blocks_of_tracks (length counts) + total_of counts / s.block_size) × (2 ^ 62 < s.next_block + need)
-NoChannelsPlan s counts why = ⊥
 
 -- what refuses new tracks of so many samples each in a project of so many tracks
 abbrev pub channels_refusal : ℕ → List ℕ → Option Refusal

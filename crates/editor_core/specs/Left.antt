@@ -73,6 +73,7 @@ Untouched disk old told new = IfErr told (λ why. is_broken_off why ≡ false �
 pub record Left {D : Type 0} (disk : Ghosts D) (old new : Core D) (why : Refusal) : Type 0 where
   pub same : new ≡ record old {
     store = new.store;
+    cache = new.cache;
     counts = new.counts;
     next_block = new.next_block;
     stopped = new.stopped;

@@ -15,7 +15,10 @@ pub mod Plain
 pub mod Occurrences
 pub mod Exchanges
 pub mod Removals
+pub mod Passes
 pub mod Records
+pub mod Spent
+pub mod Bounded
 pub mod Took
 pub mod Frees
 pub mod Pins

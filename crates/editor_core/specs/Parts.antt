@@ -1,8 +1,9 @@
 -- The parts that a studio is made of, as opening a disk finds them.
-use Rattle.std.specs.Prelude.{ℕ, IsTrue, [], None, IsSome}
+use Rattle.std.specs.Prelude.{ℕ, ◌≤◌, IsTrue, [], None, IsSome}
 use Rattle.std.specs.List.{AllByRecursion}
 use Rattle.disk_model.specs.declared.store.Store.{Ghosts}
 use Rattle.sample_block.specs.Sources.{AllWhole}
+use Rattle.block_cache.specs.Caches.{no_entries}
 use Rattle.block_ledger.specs.Counts.{IsFreshCount}
 use Rattle.block_ledger.specs.Entries.{count_of}
 use Rattle.project_journal.specs.Header.{IsFormat}
@@ -16,6 +17,7 @@ use Rattle.editor_core.specs.declared.assembly.Parts.{Parts}
 abbrev pub assembled : {D : Type 0} → D → Parts → Core D
 assembled store p = record {
   store = store;
+  cache = no_entries p.pages;
   history = p.history.history;
   clipboard = None;
   pins = [];
@@ -33,6 +35,8 @@ assembled store p = record {
 -- What is asked of the parts, on every store: the numbers are within their bounds, layouts, ids and tags are sound, and
 -- the ledger counts the blocks of the history, and has ids alone that were given.
 pub record AreParts (p : Parts) : Type 0 where
+  pub pages_least : 1 ≤ p.pages
+  pub pages_most : p.pages ≤ 1024
   pub format : IsFormat p.rate p.block_size p.history.history.depth
   pub counters : AreCounters p.next_block p.next_track 1 p.commit_number p.journal_end
   pub points : AllByRecursion (IsSoundTagged p.block_size p.next_block p.next_track p.commit_number)

@@ -1,13 +1,12 @@
 -- The strips of the clipboard, put into a run of tracks.
 use Rattle.std.specs.Prelude.{◌≡◌, ◌⊎◌, ℕ, Option, Some, None, List, length, take}
 use Rattle.std.specs.List.{AllByRecursion}
-use Rattle.pcm_base.specs.declared.command.Command.{Command}
-use Rattle.pcm_base.specs.declared.command.Command.TheVariants as command
 use Rattle.pcm_base.specs.declared.refusal.Refusal.{Refusal}
 use Rattle.pcm_base.specs.declared.refusal.Refusal.TheVariants as refusal
 use Rattle.pcm_base.specs.declared.sound.Cell.{Cell}
-use Rattle.pcm_base.specs.Edits.{inserted, pasted_over}
-use Rattle.pcm_base.specs.Refusals.{◌otherwise◌, covered_length, inserted_length}
+use Rattle.pcm_base.specs.Edits.{placed}
+use Rattle.pcm_base.specs.Refusals.{◌otherwise◌, placed_length}
+pub use Rattle.pcm_base.specs.Shape.{paste_line}
 use Rattle.clip_track.specs.declared.items.Item.{Item}
 use Rattle.clip_track.specs.Items.{AreItems}
 use Rattle.edit_ops.specs.declared.types.Plan.{Plan}
@@ -15,36 +14,28 @@ use Rattle.edit_ops.specs.Runs.{ArePastes, clipboard_tests}
 use Rattle.project_state.specs.declared.track.Track.{Track}
 use Rattle.project_state.specs.Tracks.{track_of}
 use Rattle.editor_core.specs.declared.carrying.Planned.{Planned}
-use Rattle.editor_core.specs.declared.pastes.PasteEdit.{PasteEdit}
-use Rattle.editor_core.specs.declared.pastes.PasteEdit.TheVariants.{Insert, Cover}
+use Rattle.pcm_base.specs.declared.edits.Placing.{Placing}
 use Rattle.editor_core.specs.Copies.{run_of}
 use Rattle.editor_core.specs.Core.{Core}
 use Rattle.editor_core.specs.Points.{current_tracks, lacks}
 use Rattle.editor_core.specs.RunEdits.{IsRunPlan}
 use Rattle.editor_core.specs.TrackEdits.{plan_start}
 
--- the line that asks for it
-abbrev pub paste_line : PasteEdit → (id at : ℕ) → Command
-paste_line Insert id at = command.Paste id at
-paste_line Cover id at = command.PasteOver id at
-
 -- what it makes of a track's cells, by those of the strip
-abbrev pub paste_cells : PasteEdit → ℕ → List Cell → List Cell → List Cell
-paste_cells Insert at = inserted at
-paste_cells Cover at = pasted_over at
+abbrev pub paste_cells : Placing → ℕ → List Cell → List Cell → List Cell
+paste_cells e at = placed e at
 
 -- and of a track's length, by the strip's
-abbrev pub paste_length : PasteEdit → ℕ → ℕ → ℕ → ℕ
-paste_length Insert at = inserted_length at
-paste_length Cover at = covered_length at
+abbrev pub paste_length : Placing → ℕ → ℕ → ℕ → ℕ
+paste_length e at = placed_length e at
 
 -- what refuses it
-abbrev pub paste_refusal : PasteEdit → (id at : ℕ) → Option (List (List Item)) → List Track → Option Refusal
+abbrev pub paste_refusal : Placing → (id at : ℕ) → Option (List (List Item)) → List Track → Option Refusal
 paste_refusal e id at clip ts =
     (lacks id (track_of id ts)) otherwise (clipboard_tests (paste_length e at) clip (run_of id ts))
 
 -- of a studio's project the tracks with the strips of its clipboard put in, and the blocks that are to be made for them
-pub record IsPastePlan {D : Type 0} (e : PasteEdit) (id at : ℕ) (s : Core D) (p : Planned) : Type 0 where
+pub record IsPastePlan {D : Type 0} (e : Placing) (id at : ℕ) (s : Core D) (p : Planned) : Type 0 where
   pub tests : paste_refusal e id at s.clipboard (current_tracks s.history) ≡ None
   pub strips : List (List Item)
   pub clip_is : s.clipboard ≡ Some strips
@@ -55,6 +46,6 @@ pub record IsPastePlan {D : Type 0} (e : PasteEdit) (id at : ℕ) (s : Core D) (
   pub laid : IsRunPlan id s.next_block (current_tracks s.history) plans p
 
 -- there are none: an own test refuses it, or there is no memory
-abbrev pub NoPastePlan : {D : Type 0} → PasteEdit → (id at : ℕ) → Core D → Refusal → Type 0
+abbrev pub NoPastePlan : {D : Type 0} → Placing → (id at : ℕ) → Core D → Refusal → Type 0
 NoPastePlan e id at s why =
     (paste_refusal e id at s.clipboard (current_tracks s.history) ≡ Some why) ⊎ (why ≡ refusal.NoMemory)

@@ -14,12 +14,12 @@ use Rattle.editor_core.specs.Core.{Core}
 use Rattle.editor_core.specs.Studios.{IsHeld}
 use Rattle.editor_core.specs.Took.{Took, quietly, told_by}
 
--- A call that only looks: it is one step; whatever the disk tells, nothing of the studio changes, and nothing of its
--- disk; and a disk that holds what the studio stands for shows no damaged file.
+-- A call that only looks: it is one step; whatever the disk tells, nothing of the studio changes but the pages that it
+-- keeps, and nothing of its disk; and a disk that holds what the studio stands for shows no damaged file.
 pub record Looks {D : Type 0} (disk : Ghosts D) (old : Core D) (call : Call) (told : Result Reply Refusal)
     (new : Core D) : Type 0 where
   pub took : Took disk old (quietly call told) new
-  pub same : new ≡ record old { store = new.store }
+  pub same : new ≡ record old { store = new.store; cache = new.cache }
   pub kept : Kept disk old.store new.store
   pub sound : IsHeld disk old → IfErr told IsUndamaged
 
@@ -31,7 +31,7 @@ pub record Seen (A : Type 0) : Type 0 where
   pub out : List A
   pub count : Result ℕ Refusal
 
--- The same of such a call, which takes no memory.
+-- The same of such a call, which has no answer for want of memory.
 pub record Sees {D A : Type 0} (disk : Ghosts D) (old : Core D) (seen : Seen A) (new : Core D) : Type 0 where
   pub looks : Looks disk old seen.call (told_by (λ n. seen.reply (take n seen.out)) seen.count) new
   pub count : IfOk seen.count (λ n. n ≤ length seen.out)

@@ -3,7 +3,7 @@ use Rattle.std.specs.Prelude.{◌≡◌, ◌⊎◌, ℕ, ◌≤◌, List, length
 use Rattle.pcm_base.specs.declared.answer.Reply.{Reply}
 use Rattle.pcm_base.specs.declared.refusal.Refusal.{Refusal}
 use Rattle.pcm_base.specs.History.{History}
-use Rattle.pcm_base.specs.Sizes.{LONGEST_BODY}
+use Rattle.pcm_base.specs.declared.limits.TheConstants.{LONGEST_BODY}
 use Rattle.project_state.specs.declared.body.Body.{Body}
 use Rattle.project_state.specs.declared.body.Body.TheVariants as body
 use Rattle.project_state.specs.declared.track.Track.{Track}

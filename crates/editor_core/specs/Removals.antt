@@ -1,7 +1,8 @@
 -- Which files a call removes: a reclaim those of blocks that nothing names, the least ids first, and another call none.
 use Rattle.std.specs.Prelude.{◌≡◌, ◌⊎◌, ◌↔◌, ℕ, ◌≤◌, ◌<◌, ◌^◌, IsTrue, IsSome, Option, Some, None, List, [], length}
-use Rattle.std.specs.Prelude.{Contains, Result, Ok, Err, OnOk, OnErr, IfOk, IfErr, IfSome}
+use Rattle.std.specs.Prelude.{Contains, Result, OnOk, OnErr, IfOk, IfErr, IfSome}
 use Rattle.std.specs.List.Sorted.{IsStrictlyIncreasing}
+use Rattle.pcm_base.specs.Causes.{HasCause}
 use Rattle.pcm_base.specs.declared.answer.Reply.{Reply}
 use Rattle.pcm_base.specs.declared.answer.Reply.TheVariants.{Freed}
 use Rattle.pcm_base.specs.declared.command.Call.{Call}
@@ -14,35 +15,28 @@ use Rattle.disk_model.specs.Frames.{Changed}
 use Rattle.disk_model.specs.Room.{Room}
 use Rattle.disk_model.specs.declared.store.Store.{Ghosts}
 use Rattle.project_journal.specs.Gate.{EachNow}
-use Rattle.block_ledger.specs.Counts.{Counts, SetsCount, IsFirstFree}
-use Rattle.editor_core.specs.Adding.{HasFailed, stopped_by}
+use Rattle.block_cache.specs.Caches.{IsCacheWithout}
+use Rattle.block_ledger.specs.Counts.{Counts, IsFirstFree}
 use Rattle.editor_core.specs.Core.{Core}
 use Rattle.editor_core.specs.Occurrences.{times_named}
 use Rattle.editor_core.specs.Studios.{IsHeld, named_blocks}
 
 -- ---- one file
 
--- the fields after the file of a block was to be removed
-abbrev pub DropFields : {D R : Type 0} → Ghosts D → Core D → ℕ → Result R Refusal → Core D → Type 0
-DropFields disk old id (Ok _) new =
-    (new ≡ record old { store = new.store; counts = new.counts }) × SetsCount old.counts new.counts id None
-    × (disk.change_fault_count new.store ≡ disk.change_fault_count old.store)
-DropFields disk old id (Err refusal.DiskFault) new =
-    (new ≡ stopped_by disk old new.store) × HasFailed disk old.store new.store
-DropFields disk old id (Err why) new = ⊥
-
 -- what a removal asks of the disk
 abbrev pub removal_room : Room
-removal_room = record { files = 0; bytes = 0; calls = 2 }
+removal_room = record { files = 0; bytes = 0; calls = 1 }
 
--- the file of a block removed, and the block forgotten; or the disk failed
-pub record Drops {D R : Type 0} (disk : Ghosts D) (old : Core D) (id : ℕ) (result : Result R Refusal)
+-- the file of a block removed, which the disk may still have at a stop; or the disk failed
+pub record Drops {D T E : Type 0} (disk : Ghosts D) (old : Core D) (id : ℕ) (result : Result T E)
     (new : Core D) : Type 0 where
-  pub fields : DropFields disk old id result new
+  pub fields : new ≡ record old { store = new.store; cache = new.cache }
   pub removed : IsTrue (disk.tells old.store) → OnOk result (disk.reads new.store id ≡ None)
-  pub durable : IsTrue (disk.tells old.store) → OnOk result (EachNow disk new.store (λ c. c id ≡ None))
   pub changed : Changed disk (RemoveStep id) removal_room old.store new.store
+  pub faults : HasCause (disk.change_fault_count old.store) (disk.change_fault_count new.store) result
   pub read_faults : disk.read_fault_count new.store ≡ disk.read_fault_count old.store
+  -- no page of the block is kept, after any answer, and every other page is
+  pub without : IsCacheWithout id old.cache new.cache
 
 -- ---- all of them
 
@@ -63,7 +57,7 @@ pub record Removes (old new : Files) (ids : List ℕ) : Type 0 where
   pub gone : AreGone ids new
   pub others : (id : ℕ) → (Contains ids id → ⊥) → new id ≡ old id
 
--- the same where a further removal failed: of the least id that is left, which may be gone too
+-- the same where a removal or a sync failed: the file of the least id that is left may be gone too
 pub record RemovesPart (counts : Counts) (old new : Files) (ids : List ℕ) : Type 0 where
   pub gone : AreGone ids new
   pub others : (id : ℕ) → (Contains ids id → ⊥) → (new id ≡ old id) ⊎ (new id ≡ None) × IsFirstFree counts id
@@ -105,7 +99,7 @@ pub record FreesUnnamed {D : Type 0} (disk : Ghosts D) (old : Core D) (limit : O
   -- without a limit nothing is left that nothing names
   pub only : limit ≡ None → IsHeld disk old → OnOk told (HasOnlyNamed disk new)
   -- whatever the disk tells, nothing else of the studio changes
-  pub fields : new ≡ record old { store = new.store; counts = new.counts; stopped = new.stopped }
+  pub fields : new ≡ record old { store = new.store; cache = new.cache; counts = new.counts; stopped = new.stopped }
   -- it wants no memory
   pub why : IfErr told (λ e. (e ≡ refusal.DiskFault) ⊎ (faults : ℕ) × (e ≡ refusal.Stopped faults))
 

@@ -1,5 +1,6 @@
 -- What a studio stands for, and what always holds of it.
-use Rattle.std.specs.Prelude.{◌≡◌, ◌↔◌, ℕ, ◌+◌, ◌≤◌, ◌<◌, ◌^◌, ◌==◌, if◌then◌else◌, IsTrue, Option, Some, None, IsSome}
+use Rattle.std.specs.Prelude.{◌≡◌, ◌↔◌, ℕ, Bool, nat_le, nat_lt, ◌&&◌, ◌+◌, ◌≤◌, ◌<◌, ◌^◌, ◌==◌, if◌then◌else◌, IsTrue}
+use Rattle.std.specs.Prelude.{Option, Some, None, IsSome}
 use Rattle.std.specs.Prelude.{List, [], ◌∷◌, ◌++◌, length, map}
 use Rattle.std.specs.Option.{option_map}
 use Rattle.std.specs.List.{flat_map, AllByRecursion}
@@ -11,6 +12,7 @@ use Rattle.pcm_base.specs.Studio as model
 use Rattle.disk_model.specs.Disk.{Files}
 use Rattle.disk_model.specs.declared.store.Store.{Ghosts}
 use Rattle.sample_block.specs.Sources.{sources_of, AllWhole}
+use Rattle.block_cache.specs.Carried.{HasCache}
 use Rattle.block_ledger.specs.Counts.{IsFreshCount}
 use Rattle.clip_track.specs.declared.items.Item.{Item}
 use Rattle.clip_track.specs.Items.{strip_len, strip_cells, strip_blocks}
@@ -96,6 +98,10 @@ SameBlocks bs files other = AllByRecursion (λ (b : BlockRef). other b.id ≡ fi
 abbrev pub IsGiven : ℕ → ℕ → Type 0
 IsGiven next id = (16 ≤ id) × (id < next)
 
+-- the same as a test
+abbrev pub is_given : ℕ → ℕ → Bool
+is_given next id = nat_le 16 id && nat_lt id next
+
 -- the numbers of pins rise, and are below the next one
 abbrev pub PinsRise : ℕ → ℕ → List Pin → Type 0
 PinsRise least next [] = Unit {0}
@@ -153,6 +159,8 @@ pub record IsStudio {D : Type 0} (disk : Ghosts D) (s : Core D) : Type 0 where
   -- each block is counted as often as a point, a pin or the clipboard names it
   pub counted : IsFreshCount (ids_of (named_blocks s)) s.counts
   pub given : (id : ℕ) → IsSome (s.counts id) → IsGiven s.next_block id
+  -- as long as it goes on, what its cache has is right of the files of blocks that were given
+  pub cache : s.stopped ≡ None → HasCache disk (is_given s.next_block) s.store s.cache
 
 -- The disk has what the studio stands for: it tells its bytes, each block that the studio names is whole as it reads,
 -- and, as long as no change of it failed, its journal leads to the studio's history and a stop leaves all of this.

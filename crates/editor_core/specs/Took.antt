@@ -1,5 +1,6 @@
 -- What one call of a studio does.
-use Rattle.std.specs.Prelude.{◌≡◌, ◌⊎◌, ℕ, ◌+◌, ◌-◌, ◌*◌, Option, None, IsSome, Result, Ok, Err, IfErr, OnErr, List, length}
+use Rattle.std.specs.Prelude.{◌≡◌, ◌⊎◌, ℕ, ◌+◌, ◌-◌, ◌*◌, Option, None, IsSome, Result, Ok, Err, IfErr, IfOk, OnErr, List}
+use Rattle.std.specs.Prelude.{length}
 use Rattle.pcm_base.specs.declared.answer.Reply.{Reply}
 use Rattle.pcm_base.specs.declared.command.Call.{Call}
 use Rattle.pcm_base.specs.declared.entry.SoundMove.{SoundMove}
@@ -20,6 +21,7 @@ use Rattle.editor_core.specs.Exchanges.{begun_in_vain}
 use Rattle.editor_core.specs.Left.{CountsIds, LeavesOthers, Left, MayRemove, Stops, Untouched}
 use Rattle.editor_core.specs.Records.{Records}
 use Rattle.editor_core.specs.Removals.{Frees}
+use Rattle.editor_core.specs.Spent.{NamesGiven, Needed}
 use Rattle.editor_core.specs.Studios.{IsHeld, IsStudio, shown, studio_of}
 
 -- the files keep the studio that the call leads to where nothing refuses it, which is so
@@ -71,6 +73,10 @@ pub record Took {D : Type 0} (disk : Ghosts D) (old : Core D) (exchange : Exchan
   pub needs : IsHeld disk old → (blocks : ℕ)
       × Needs (outside (studio_of disk old) exchange.sound) (studio_of disk old) exchange.call blocks len
   pub records : Records exchange.told new len
+  -- the ids of blocks that it gave are named, and where a counter or the record has no room, the numbers are those of
+  -- what it would have made
+  pub given : IfOk exchange.told (λ r. NamesGiven old new)
+  pub needed : IfErr exchange.told (Needed disk old exchange.call exchange.sound)
   -- no file goes or comes but the journal and those of blocks, here and in each image
   pub changed : Changed disk (LeavesOthers old.next_block new.next_block (MayRemove exchange.call old.counts))
       (asks exchange (disk.reads old.store 0) old.block_size (new.next_block - old.next_block) len) old.store new.store

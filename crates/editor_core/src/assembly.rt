@@ -6,6 +6,7 @@ ghost use Rattle.editor_core.specs.Studios.{IsHeld, IsStudio};
 
 use super::buffers::BlockBuffers;
 use super::studio::Studio;
+use block_cache::Cache;
 use block_ledger::Ledger;
 use disk_model::Store;
 use project_state::Point;
@@ -17,6 +18,8 @@ use undo_history::History;
 pub struct Parts {
     /// How many frames there are in a second.
     pub rate: u32,
+    /// How many pages of samples, and of frames, may be kept.
+    pub pages: u64,
     /// The most samples of a block.
     pub block_size: u32,
     pub history: History<Point>,
@@ -38,11 +41,15 @@ impl<S: Store> Studio<S> {
         ensures err { IfErr result (λ back. back ≡ store) }
     {
         let _points = parts.history.len();
+        let Ok(cache) = Cache::new(alloc, parts.pages) else {
+            return Err(store);
+        };
         let Ok(buffers) = BlockBuffers::new(alloc, parts.block_size) else {
             return Err(store);
         };
         Ok(Studio {
             store,
+            cache,
             history: parts.history,
             clipboard: None,
             pins: Vec::new(alloc),

@@ -1,6 +1,6 @@
 // A commit: whether it may be made, and its record.
 ghost use Rattle.std.specs.Prelude.{◌≡◌, ◌+◌, ◌≤◌, ◌<◌, ◌^◌, length, vec_capacity, IfErr, OnOk};
-ghost use Rattle.pcm_base.specs.Sizes.{LONGEST_BODY};
+ghost use Rattle.pcm_base.specs.declared.limits.TheConstants.{LONGEST_BODY};
 ghost use Rattle.envelope_view.specs.Answers.{IsUndamaged};
 ghost use Rattle.editor_core.specs.Adding.{Adds, Exceeds, IsNoWant, Settles, Tested};
 ghost use Rattle.editor_core.specs.Core.{core_of};
@@ -12,6 +12,9 @@ use project_journal::{JournalFault, append, append_small};
 
 // No counter passes this.
 pub(crate) const MOST: u64 = 1 << 62;
+
+// The file of the journal.
+const JOURNAL: u64 = 0;
 
 // The longest body of a record.
 const LONGEST: u64 = 4_294_901_760;
@@ -69,7 +72,7 @@ impl<S: Store> Studio<S> {
         ensures memory { IfErr result IsNoWant }
         ensures undamaged { IfErr result IsUndamaged }
     {
-        let added = append_small(&mut self.store, self.journal_end, body);
+        let added = append_small(&mut self.store, JOURNAL, self.journal_end, body);
         self.settle(added)
     }
 
@@ -83,7 +86,13 @@ impl<S: Store> Studio<S> {
         ensures history { self.new.history ≡ self.old.history }
         ensures ledger { self.new.ledger ≡ self.old.ledger }
     {
-        let added = append(&mut self.store, self.journal_end, &self.body, &mut self.row);
+        let added = append(
+            &mut self.store,
+            JOURNAL,
+            self.journal_end,
+            &self.body,
+            &mut self.row,
+        );
         self.settle(added)
     }
 

@@ -20,23 +20,16 @@ use super::studio::Studio;
 use clip_track::{Layout, Strip};
 use disk_model::Store;
 use edit_ops::{Plans, RunPlanner, Strips, cut, split_cut};
-use pcm_base::Refusal;
+use pcm_base::{Refusal, Removing};
 use piece_store::Given;
 use std::alloc::Global;
-
-/// What becomes of the place that was cut out: the cells behind it move up, or it stays as gaps.
-#[derive(Clone, Copy)]
-pub(crate) enum CutEdit {
-    Close,
-    Leave,
-}
 
 // The strips of what goes, and the plans of the tracks without it.
 fn plan_cut(
     planner: RunPlanner,
     run: &[&Layout],
     range: RunRange,
-    edit: CutEdit,
+    edit: Removing,
 ) -> Result<(Strips, Plans), Refusal>
     requires half_full { AllTracksHalfFull planner.block_size (layouts run.now) }
     ensures copies { IfOk result (λ v. AreCopies range.from range.to (take range.count (layouts run.now)) v.0) }
@@ -51,8 +44,8 @@ fn plan_cut(
         ..
     } = range;
     match edit {
-        CutEdit::Close => cut(planner, run, count, from, to),
-        CutEdit::Leave => split_cut(planner, run, count, from, to),
+        Removing::Close => cut(planner, run, count, from, to),
+        Removing::Leave => split_cut(planner, run, count, from, to),
     }
 }
 
@@ -97,7 +90,7 @@ impl<S: Store> Studio<S> {
             from,
             to,
         };
-        self.cut_range(alloc, range, CutEdit::Close)
+        self.cut_range(alloc, range, Removing::Close)
     }
 
     /// Moves a range of as many tracks as `count`, from a track on, into the clipboard, and leaves gaps in its place.
@@ -127,11 +120,11 @@ impl<S: Store> Studio<S> {
             from,
             to,
         };
-        self.cut_range(alloc, range, CutEdit::Leave)
+        self.cut_range(alloc, range, Removing::Leave)
     }
 
     // Takes a range of a run out.
-    fn cut_range(&mut self, alloc: Global, range: RunRange, edit: CutEdit) -> Result<u64, Refusal>
+    fn cut_range(&mut self, alloc: Global, range: RunRange, edit: Removing) -> Result<u64, Refusal>
         requires { IsStudio S.Store (core_of self.old) }
         ensures took { Took S.Store (core_of self.old)
             (quietly (Line (cut_line edit range)) (told_by (λ _. reply.Done) result)) (core_of self.new) }
@@ -146,7 +139,12 @@ impl<S: Store> Studio<S> {
     }
 
     // The project without the range, and the clipboard with it.
-    fn planned_cut(&self, alloc: Global, range: RunRange, edit: CutEdit) -> Result<Planned, Refusal>
+    fn planned_cut(
+        &self,
+        alloc: Global,
+        range: RunRange,
+        edit: Removing,
+    ) -> Result<Planned, Refusal>
         requires { IsStudio S.Store (core_of self.now) }
         ensures plan { IfOk result (λ p. IsCutPlan edit range (core_of self.now) p) }
         ensures tracks { IfOk result (λ p. p.tracks ≡ 0) }

@@ -16,7 +16,7 @@ use std::alloc::Global;
 
 impl<S: Store> Studio<S> {
     /// Cuts a range of a track into columns, and tells what a scan of each finds. It takes memory for the columns, and
-    /// nothing is changed.
+    /// nothing is changed but the pages that are kept.
     ///
     /// # Errors
     ///
@@ -41,7 +41,15 @@ impl<S: Store> Studio<S> {
             return Err(Refusal::Stopped { faults });
         }
         let layout = layout_of(&self.history, track)?;
-        let scans = scan_columns(alloc, &mut self.store, layout, from, to, columns)?;
+        let scans = scan_columns(
+            alloc,
+            &mut self.store,
+            &mut self.cache,
+            layout,
+            from,
+            to,
+            columns,
+        )?;
         Ok(Columns::new(scans))
     }
 }

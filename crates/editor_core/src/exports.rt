@@ -9,6 +9,7 @@ ghost use Rattle.pcm_base.specs.Outside.{SameElsewhere};
 ghost use Rattle.pcm_base.specs.Wave.{wav_text};
 ghost use Rattle.disk_model.specs.Frames.{Kept};
 ghost use Rattle.sample_block.specs.Sources.{sources_of, AllNamed, AllWhole};
+ghost use Rattle.block_cache.specs.Caches.{IsCacheOf, KeepsCache};
 ghost use Rattle.project_state.specs.Kept.{meant, point_blocks};
 ghost use Rattle.wav_pcm.specs.Wavs.{FitsFile};
 ghost use Rattle.mix_view.specs.Tracks.{mix_length_of};
@@ -24,6 +25,7 @@ ghost use Rattle.editor_core.specs.Took.{Took, told_by, with_sound};
 
 use super::current::current_of;
 use super::studio::Studio;
+use block_cache::Cache;
 use disk_model::Store;
 use edit_ports::Vault;
 use pcm_base::{Cell, Frame, Refusal};
@@ -41,12 +43,15 @@ const EXPORT_BYTES: usize = 16_384;
 // Writes the mix of a project in stretches, by buffers of its own, and answers how many bytes the sound has.
 fn write_stretches<S: Store, V: Vault>(
     store: &mut S,
+    cache: &mut Cache,
     vault: &mut V,
     name: &str,
     point: &Point,
     rate: u32,
 ) -> Result<u64, ExportFault>
-    requires { AllNamed (point_blocks point.now) }
+    requires named { AllNamed (point_blocks point.now) }
+    requires cached { IsTrue (S.tells store.old) → IsCacheOf (S.reads store.old) cache.old }
+    ensures cache { KeepsCache (S.tells store.old) (S.reads store.old) (point_blocks point.now) cache.old cache.new }
     ensures written { IsTrue (V.tells vault.old) → IsTrue (S.tells store.old)
         → AllWhole (S.reads store.old) (point_blocks point.now)
         → Writes (wav_text (mix_of (meant (sources_of (S.reads store.old)) point.now)) rate)
@@ -71,6 +76,7 @@ fn write_stretches<S: Store, V: Vault>(
     let mut bytes = [0; EXPORT_BYTES];
     write_mix(
         store,
+        cache,
         vault,
         name,
         point,
@@ -84,8 +90,8 @@ fn write_stretches<S: Store, V: Vault>(
 impl<S: Store> Studio<S> {
     /// Writes the mix of the current project to a vault as a WAV file of two channels, and answers how many bytes it
     /// has. The length is tested before the sound is touched; then the header is written, and stretches of 4,096 frames
-    /// are read, mixed and appended. It takes no memory: the stretches stand on the stack, in 64 KiB. Nothing of the
-    /// studio and its disk changes.
+    /// are read, mixed and appended. The stretches stand on the stack, in 64 KiB. Nothing of the studio and its disk
+    /// changes but the pages that are kept, which take memory only where there is some.
     ///
     /// # Errors
     ///
@@ -99,10 +105,10 @@ impl<S: Store> Studio<S> {
             (with_sound (Line (command.Export name.now))
             (moved_from (V.holds vault.old name.now) (V.holds vault.new name.now)) (told_by reply.Wrote result))
             (core_of self.new) }
-        // Whatever the vault tells, nothing of the studio and its disk changes.
+        // Whatever the vault tells, nothing of the studio and its disk changes but the pages that are kept.
         ensures lasts { (sound : SoundMove) → Lasts S.Store (core_of self.old)
             (with_sound (Line (command.Export name.now)) sound (told_by reply.Wrote result)) (core_of self.new) }
-        ensures same { core_of self.new ≡ record (core_of self.old) { store = self.new.store } }
+        ensures same { core_of self.new ≡ record (core_of self.old) { store = self.new.store; cache = self.new.cache } }
         ensures kept { Kept S.Store self.old.store self.new.store }
         ensures sound { IsHeld S.Store (core_of self.old) → IfErr result IsUndamaged }
         ensures memory { IfErr result IsNoWant }
@@ -114,7 +120,14 @@ impl<S: Store> Studio<S> {
             return Err(Refusal::Stopped { faults });
         }
         let point = current_of(&self.history);
-        let bytes = write_stretches(&mut self.store, vault, name, point, self.rate)?;
+        let bytes = write_stretches(
+            &mut self.store,
+            &mut self.cache,
+            vault,
+            name,
+            point,
+            self.rate,
+        )?;
         Ok(bytes)
     }
 }

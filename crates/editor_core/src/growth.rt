@@ -1,5 +1,5 @@
 // The project as it grows by a track for each channel of a sound.
-ghost use Rattle.std.specs.Prelude.{◌≡◌, ◌+◌, ◌-◌, ◌≤◌, ◌<◌, ◌^◌, IfErr, IfOk, MatchResult, OnOk};
+ghost use Rattle.std.specs.Prelude.{◌≡◌, ◌+◌, ◌≤◌, ◌<◌, ◌^◌, IfErr, IfOk, OnOk};
 ghost use Rattle.std.specs.Prelude.{None, [], ◌∷◌, ◌++◌, length, map};
 ghost use Rattle.std.specs.List.{AllByRecursion};
 ghost use Rattle.pcm_base.specs.declared.refusal.Refusal.TheVariants as refusal;
@@ -10,7 +10,6 @@ ghost use Rattle.editor_core.specs.Imports.{AddsChannel, AllFitBehind, FitsBehin
 ghost use Rattle.editor_core.specs.Imports.{block_behind, piece_behind, track_with};
 
 use super::carrying::Planned;
-use super::commits::MOST;
 use block_sequence::Pieces;
 use clip_track::Layout;
 use edit_ops::{NewBlock, NewBlocks, Plan, Planner, insert};
@@ -124,7 +123,7 @@ pub(crate) fn add_channel(
     block_size: u32,
 ) -> Result<(), Refusal>
     requires some { 0 < block_size }
-    requires room { growing.old.next ≤ 2 ^ 62 }
+    requires room { growing.old.next < 2 ^ 63 }
     requires few { growing.old.brought + count ≤ 2 ^ 62 }
     requires below { AllBelow id growing.old.point }
     requires place { length growing.old.point < 64 }
@@ -147,21 +146,6 @@ pub(crate) fn add_channel(
     add_blocks(&mut growing.makes, makes)?;
     growing.next = next;
     growing.brought += count;
-    Ok(())
-}
-
-// Whether there may be a block of the next id.
-pub(crate) fn ids_left(first: u64, next: u64) -> Result<(), Refusal>
-    requires { first ≤ next }
-    ensures { MatchResult result (λ _. next ≤ 2 ^ 62)
-        (λ e. (e ≡ refusal.SpaceSpent first (next - first)) × (2 ^ 62 < next)) }
-{
-    if next > MOST {
-        return Err(Refusal::SpaceSpent {
-            have: first,
-            need: next - first,
-        });
-    }
     Ok(())
 }
 

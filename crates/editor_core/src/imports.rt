@@ -4,17 +4,18 @@ ghost use Rattle.pcm_base.specs.declared.answer.Reply.TheVariants as reply;
 ghost use Rattle.pcm_base.specs.declared.command.Call.TheVariants.{Line};
 ghost use Rattle.pcm_base.specs.declared.command.Command.TheVariants as command;
 ghost use Rattle.pcm_base.specs.declared.entry.SoundMove.{SoundMove};
+ghost use Rattle.pcm_base.specs.declared.refusal.Refusal.TheVariants as refusal;
 ghost use Rattle.envelope_view.specs.Answers.{IsUndamaged};
 ghost use Rattle.editor_core.specs.Applied.{Lasts};
 ghost use Rattle.editor_core.specs.Core.{core_of};
-ghost use Rattle.editor_core.specs.Imports.{HasChannels, IsChannelsPlan, IsNoVault, NoChannelsPlan, VaultCounted};
+ghost use Rattle.editor_core.specs.Imports.{HasChannels, IsChannelsPlan, IsNoVault, VaultCounted};
 ghost use Rattle.editor_core.specs.Imports.{channels_refusal, left_as};
 ghost use Rattle.editor_core.specs.Points.{current_tracks};
 ghost use Rattle.editor_core.specs.Studios.{IsHeld, IsStudio};
 ghost use Rattle.editor_core.specs.Took.{Took, told_by, with_sound};
 
 use super::carrying::Planned;
-use super::growth::{Growing, add_channel, ids_left, planned_of};
+use super::growth::{Growing, add_channel, planned_of};
 use super::joining::{counts_of, joined, length_refusal};
 use super::studio::Studio;
 use disk_model::Store;
@@ -111,14 +112,14 @@ impl<S: Store> Studio<S> {
         length_refusal(counts)
     }
 
-    // The project with a track for each channel behind those of the current one. Where the ids of blocks are spent it
-    // tells how many are needed so far.
+    // The project with a track for each channel behind those of the current one. It plans the blocks of all channels, so
+    // that their number is known before a counter is asked for so many.
     fn planned_channels(&self, alloc: Global, counts: &[u64]) -> Result<Planned, Refusal>
         requires studio { IsStudio S.Store (core_of self.now) }
         requires tests { channels_refusal (length (current_tracks self.now.history.history)) counts.now ≡ None }
         ensures plan { IfOk result (IsChannelsPlan (core_of self.now) counts.now) }
         ensures clip { IfOk result (λ p. p.clip ≡ None) }
-        ensures err { IfErr result (NoChannelsPlan (core_of self.now) counts.now) }
+        ensures err { IfErr result (λ e. e ≡ refusal.NoMemory) }
     {
         let mut growing = Growing {
             point: self.current().copy()?,
@@ -128,7 +129,6 @@ impl<S: Store> Studio<S> {
         };
         let mut id = self.next_track;
         'channels: for count in counts {
-            ids_left(self.next_block, growing.next)?;
             add_channel(alloc, &mut growing, id, *count, self.buffers.block_size())?;
             id += 1;
         }

@@ -22,6 +22,7 @@ mod imports;
 mod inserts;
 mod joining;
 mod laying;
+mod limits;
 mod listing;
 mod makes;
 mod mixes;

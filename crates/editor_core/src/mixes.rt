@@ -10,6 +10,7 @@ ghost use Rattle.disk_model.specs.Frames.{Kept};
 ghost use Rattle.sample_block.specs.Sources.{sources_of, AllNamed, AllWhole};
 ghost use Rattle.block_store.specs.declared.fault.BlockFault.TheVariants as fault;
 ghost use Rattle.block_store.specs.Reads.{Counted, IsFaultIn};
+ghost use Rattle.block_cache.specs.Caches.{IsCacheOf, KeepsCache};
 ghost use Rattle.project_state.specs.Kept.{meant, point_blocks};
 ghost use Rattle.mix_view.specs.Tracks.{mix_length_of};
 ghost use Rattle.editor_core.specs.Core.{core_of};
@@ -20,6 +21,7 @@ use super::current::current_of;
 use super::pinned::point_of;
 use super::shows::may_view;
 use super::studio::Studio;
+use block_cache::Cache;
 use block_store::BlockFault;
 use disk_model::Store;
 use mix_view::{mix_len, read_frames};
@@ -33,6 +35,7 @@ const MIX_CELLS: usize = 8192;
 // answers how many.
 fn read_mix<S: Store>(
     store: &mut S,
+    cache: &mut Cache,
     point: &Point,
     from: u64,
     most: usize,
@@ -40,6 +43,8 @@ fn read_mix<S: Store>(
 ) -> Result<usize, BlockFault>
     requires named { AllNamed (point_blocks point.now) }
     requires room { most ≤ length out.old }
+    requires cached { IsTrue (S.tells store.old) → IsCacheOf (S.reads store.old) cache.old }
+    ensures cache { KeepsCache (S.tells store.old) (S.reads store.old) (point_blocks point.now) cache.old cache.new }
     ensures fits { IfOk result (λ n. n ≤ length out.new) }
     ensures count { IfOk result (λ n. n ≡ min most (mix_length_of point.now - from)) }
     ensures len { (src : Sources) → mix_length (meant src point.now) ≡ mix_length_of point.now }
@@ -57,13 +62,13 @@ fn read_mix<S: Store>(
     let left = mix_len(point).saturating_sub(from);
     let count = (most as u64).min(left) as usize;
     let mut cells = [Cell::Gap; MIX_CELLS];
-    read_frames(store, point, from, &mut cells, &mut out[..count])
+    read_frames(store, cache, point, from, &mut cells, &mut out[..count])
 }
 
 impl<S: Store> Studio<S> {
     /// Puts the frames of the mix from one place to another at the front of `out`, as many as there are, and answers
-    /// how many. It takes no memory, and nothing is changed. No sample before or behind them is read. After an error
-    /// `out` may have been written in part.
+    /// how many. Nothing is changed but the pages that are kept, which take memory only where there is some. No page
+    /// without a sample of them is read. After an error `out` may have been written in part.
     ///
     /// # Errors
     ///
@@ -83,13 +88,14 @@ impl<S: Store> Studio<S> {
         }
         may_view(from, to)?;
         let point = current_of(&self.history);
-        let count = read_mix(&mut self.store, point, from, (to - from) as usize, out)?;
+        let most = (to - from) as usize;
+        let count = read_mix(&mut self.store, &mut self.cache, point, from, most, out)?;
         Ok(count)
     }
 
     /// Puts the frames of the mix of a pinned project from a place on at the front of `out`, as many as there are and
-    /// as it has room for, and answers how many. It takes no memory, and nothing is changed. After an error `out` may
-    /// have been written in part.
+    /// as it has room for, and answers how many. Nothing is changed but the pages that are kept, which take memory only
+    /// where there is some. After an error `out` may have been written in part.
     ///
     /// # Errors
     ///
@@ -108,7 +114,14 @@ impl<S: Store> Studio<S> {
             return Err(Refusal::Stopped { faults });
         }
         let point = point_of(&self.pins, pin)?;
-        match read_mix(&mut self.store, point, from, out.len(), out) {
+        match read_mix(
+            &mut self.store,
+            &mut self.cache,
+            point,
+            from,
+            out.len(),
+            out,
+        ) {
             Ok(count) => Ok(count),
             Err(fault) => Err(fault.into()),
         }

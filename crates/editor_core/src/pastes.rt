@@ -20,16 +20,9 @@ use super::studio::Studio;
 use clip_track::Layout;
 use disk_model::Store;
 use edit_ops::{Plans, RunPlanner, Strips, paste, paste_over};
-use pcm_base::Refusal;
+use pcm_base::{Placing, Refusal};
 use piece_store::Given;
 use std::alloc::Global;
-
-/// How a strip is put into a track: the cells from its place on move behind it, or as many of them go as it has.
-#[derive(Clone, Copy)]
-pub(crate) enum PasteEdit {
-    Insert,
-    Cover,
-}
 
 // The plans of the tracks with the strips put in.
 fn plan_paste(
@@ -37,7 +30,7 @@ fn plan_paste(
     run: &[&Layout],
     clip: &Strips,
     at: u64,
-    edit: PasteEdit,
+    edit: Placing,
 ) -> Result<Plans, Refusal>
     requires half_full { AllTracksHalfFull planner.block_size (layouts run.now) }
     requires clips { AreClips planner.block_size clip.now }
@@ -47,8 +40,8 @@ fn plan_paste(
     ensures tests { AnswersTest (paste_tests (paste_length edit at) clip.now (layouts run.now)) result }
 {
     match edit {
-        PasteEdit::Insert => paste(planner, run, Some(clip), at),
-        PasteEdit::Cover => paste_over(planner, run, Some(clip), at),
+        Placing::Insert => paste(planner, run, Some(clip), at),
+        Placing::Cover => paste_over(planner, run, Some(clip), at),
     }
 }
 
@@ -74,7 +67,7 @@ impl<S: Store> Studio<S> {
         ensures number { IfOk result (λ n. n ≡ self.new.commit_number) }
         ensures sound { IsHeld S.Store (core_of self.old) → IfErr result IsUndamaged }
     {
-        self.paste_strips(alloc, track, at, PasteEdit::Insert)
+        self.paste_strips(alloc, track, at, Placing::Insert)
     }
 
     /// Puts what was copied or cut in the place of as many cells, its first strip into this track, and each other one
@@ -91,7 +84,7 @@ impl<S: Store> Studio<S> {
         ensures number { IfOk result (λ n. n ≡ self.new.commit_number) }
         ensures sound { IsHeld S.Store (core_of self.old) → IfErr result IsUndamaged }
     {
-        self.paste_strips(alloc, track, at, PasteEdit::Cover)
+        self.paste_strips(alloc, track, at, Placing::Cover)
     }
 
     // Puts the strips of the clipboard into a run.
@@ -100,7 +93,7 @@ impl<S: Store> Studio<S> {
         alloc: Global,
         track: u64,
         at: u64,
-        edit: PasteEdit,
+        edit: Placing,
     ) -> Result<u64, Refusal>
         requires studio { IsStudio S.Store (core_of self.old) }
         requires in_form { at < 2 ^ 63 }
@@ -122,7 +115,7 @@ impl<S: Store> Studio<S> {
         alloc: Global,
         track: u64,
         at: u64,
-        edit: PasteEdit,
+        edit: Placing,
     ) -> Result<Planned, Refusal>
         requires studio { IsStudio S.Store (core_of self.now) }
         requires in_form { at < 2 ^ 63 }

@@ -21,19 +21,9 @@ use super::studio::Studio;
 use clip_track::Layout;
 use disk_model::Store;
 use edit_ops::{Plan, Planner, delete, gain, silence, split_delete, trim};
-use pcm_base::Refusal;
+use pcm_base::{RangeEdit, Refusal};
 use piece_store::Given;
 use std::alloc::Global;
-
-/// An edit of a range of one track.
-#[derive(Clone, Copy)]
-pub(crate) enum RangeEdit {
-    Delete,
-    SplitDelete,
-    Silence,
-    Trim,
-    Gain { gain: u32 },
-}
 
 /// The cells of a track from one place to another.
 #[derive(Clone, Copy)]

@@ -1,24 +1,27 @@
 // The files of blocks that nothing names.
-ghost use Rattle.std.specs.Prelude.{◌≡◌, ◌≤◌, ◌<◌, ◌^◌, ℕ, Some};
+ghost use Rattle.std.specs.Prelude.{◌≡◌, ◌≤◌, ◌<◌, ◌^◌, ℕ, Some, IsSome};
 ghost use Rattle.block_ledger.specs.Entries.{count_of};
 ghost use Rattle.editor_core.specs.Core.{core_of};
 ghost use Rattle.editor_core.specs.Frees.{Reclaims};
+ghost use Rattle.editor_core.specs.Passes.{DropsFirst, ForgetsFirst, RemovesFirst, SyncsFirst};
 ghost use Rattle.editor_core.specs.Removals.{Drops};
 ghost use Rattle.editor_core.specs.Studios.{IsStudio};
 
 use super::studio::Studio;
-use block_store::drop_block;
+use block_cache::remove_block_cached;
+use block_store::{BlockFault, sync_block};
 use disk_model::Store;
 use pcm_base::Refusal;
 
 impl<S: Store> Studio<S> {
     /// Removes block files that nothing names, those of the least ids first: all, or so many at most. It answers how
-    /// many went, and takes no memory.
+    /// many went, and takes no memory. It removes all of them and then syncs each, so that one sync of a folder can
+    /// serve them all.
     ///
     /// # Errors
     ///
-    /// `Stopped` where a change of the disk failed in an earlier call. `DiskFault` where a removal fails: the studio
-    /// stops, and what went before stays gone.
+    /// `Stopped` where a change of the disk failed in an earlier call. `DiskFault` where a removal or a sync fails: the
+    /// studio stops, and what went before stays gone as it reads. A stop may bring it back.
     pub fn reclaim(&mut self, limit: Option<u64>) -> Result<u64, Refusal>
         requires { IsStudio S.Store (core_of self.old) }
         ensures { Reclaims S.Store (core_of self.old) limit result (core_of self.new) }
@@ -26,33 +29,85 @@ impl<S: Store> Studio<S> {
         if let Some(faults) = self.stopped {
             return Err(Refusal::Stopped { faults });
         }
-        let most = limit.unwrap_or(u64::MAX);
-        for freed in 0..most {
-            let Some(id) = self.ledger.first_free() else {
-                return Ok(freed);
-            };
-            self.drop_unnamed(id)?;
-        }
-        Ok(most)
-    }
-
-    // Removes the file of a block that nothing names, and forgets the block. After a fault of the disk the studio has
-    // stopped.
-    fn drop_unnamed(&mut self, id: u64) -> Result<(), Refusal>
-        requires low { 16 ≤ id }
-        requires high { id < 2 ^ 62 }
-        requires free { count_of self.old.ledger id ≡ Some 0 }
-        ensures { Drops S.Store (core_of self.old) id result (core_of self.new) }
-    {
-        match drop_block(&mut self.store, id) {
-            Ok(()) => {
-                self.ledger.forget(id);
-                Ok(())
-            }
+        let (count, dropped) = self.drop_first(limit.unwrap_or(u64::MAX));
+        self.forget_first(count);
+        match dropped {
+            Ok(()) => Ok(count),
             Err(_) => {
                 self.stopped = Some(self.store.faults());
                 Err(Refusal::DiskFault)
             }
+        }
+    }
+
+    // Removes the files of the first blocks that nothing names, so many at most, and waits until they are gone. It
+    // answers how many were removed, also where the disk failed.
+    fn drop_first(&mut self, most: u64) -> (u64, Result<(), BlockFault>)
+        requires low { (id : ℕ) → IsSome (count_of self.old.ledger id) → 16 ≤ id }
+        requires high { (id : ℕ) → IsSome (count_of self.old.ledger id) → id < 2 ^ 62 }
+        ensures { DropsFirst S.Store (core_of self.old) most result.0 result.1 (core_of self.new) }
+    {
+        let (count, removed) = self.remove_first(most);
+        match removed {
+            Ok(()) => (count, self.sync_first(count)),
+            Err(fault) => (count, Err(fault)),
+        }
+    }
+
+    // Removes the files of the first blocks that nothing names, so many at most, without a sync. It answers how many
+    // were removed, also where the disk failed.
+    fn remove_first(&mut self, most: u64) -> (u64, Result<(), BlockFault>)
+        requires low { (id : ℕ) → IsSome (count_of self.old.ledger id) → 16 ≤ id }
+        requires high { (id : ℕ) → IsSome (count_of self.old.ledger id) → id < 2 ^ 62 }
+        ensures { RemovesFirst S.Store (core_of self.old) 1 most result.0 result.1 (core_of self.new) }
+    {
+        let mut from = 0;
+        for count in 0..most {
+            let Some(id) = self.ledger.next_free(from) else {
+                return (count, Ok(()));
+            };
+            if let Err(fault) = self.remove_unnamed(id) {
+                return (count, Err(fault));
+            }
+            from = id + 1;
+        }
+        (most, Ok(()))
+    }
+
+    // Removes the file of a block, without a sync, and its pages of the cache before.
+    fn remove_unnamed(&mut self, id: u64) -> Result<(), BlockFault>
+        requires low { 16 ≤ id }
+        requires high { id < 2 ^ 62 }
+        ensures { Drops S.Store (core_of self.old) id result (core_of self.new) }
+    {
+        remove_block_cached(&mut self.store, &mut self.cache, id)
+    }
+
+    // Syncs the files of the first blocks that nothing names, so many at most.
+    fn sync_first(&mut self, count: u64) -> Result<(), BlockFault>
+        requires { (id : ℕ) → IsSome (count_of self.old.ledger id) → id < 2 ^ 62 }
+        ensures { SyncsFirst S.Store (core_of self.old) count result (core_of self.new) }
+    {
+        let mut from = 0;
+        for i in 0..count {
+            let Some(id) = self.ledger.next_free(from) else {
+                return Ok(());
+            };
+            sync_block(&mut self.store, id)?;
+            from = id + 1;
+        }
+        Ok(())
+    }
+
+    // Forgets the first blocks that nothing names, so many at most.
+    fn forget_first(&mut self, count: u64)
+        ensures { ForgetsFirst (core_of self.old) count (core_of self.new) }
+    {
+        for i in 0..count {
+            let Some(id) = self.ledger.first_free() else {
+                return;
+            };
+            self.ledger.forget(id);
         }
     }
 }

@@ -11,6 +11,7 @@ ghost use Rattle.disk_model.specs.Frames.{Kept};
 ghost use Rattle.sample_block.specs.Sources.{sources_of, AllNamed, AllWhole};
 ghost use Rattle.block_store.specs.declared.fault.BlockFault.TheVariants as fault;
 ghost use Rattle.block_store.specs.Reads.{Counted, IsFaultIn};
+ghost use Rattle.block_cache.specs.Caches.{IsCacheOf, KeepsCache};
 ghost use Rattle.clip_track.specs.Clips.{layout_blocks, layout_cells};
 ghost use Rattle.editor_core.specs.Core.{core_of};
 ghost use Rattle.editor_core.specs.Reads.{Sees};
@@ -18,6 +19,7 @@ ghost use Rattle.editor_core.specs.Studios.{IsStudio};
 
 use super::current::layout_of;
 use super::studio::Studio;
+use block_cache::Cache;
 use block_store::BlockFault;
 use cell_view::read_cells;
 use clip_track::Layout;
@@ -43,6 +45,7 @@ pub(crate) fn may_view(from: u64, to: u64) -> Result<(), Refusal>
 // many.
 fn read_view<S: Store>(
     store: &mut S,
+    cache: &mut Cache,
     layout: &Layout,
     from: u64,
     to: u64,
@@ -51,6 +54,8 @@ fn read_view<S: Store>(
     requires named { AllNamed (layout_blocks layout.now) }
     requires up { from ≤ to }
     requires room { to ≤ from + length out.old }
+    requires cached { IsTrue (S.tells store.old) → IsCacheOf (S.reads store.old) cache.old }
+    ensures cache { KeepsCache (S.tells store.old) (S.reads store.old) (layout_blocks layout.now) cache.old cache.new }
     ensures count { IfOk result (λ n. n ≤ length out.new) }
     ensures read { IsTrue (S.tells store.old) → AllWhole (S.reads store.old) (layout_blocks layout.now)
         → IfOk result (λ n. take n out.new ≡ part from to (layout_cells (sources_of (S.reads store.old)) layout.now)) }
@@ -62,13 +67,13 @@ fn read_view<S: Store>(
     ensures faults { Counted result (S.read_fault_count store.old) (S.read_fault_count store.new) }
 {
     let view = &mut out[..(to - from) as usize];
-    read_cells(store, layout, from, view)
+    read_cells(store, cache, layout, from, view)
 }
 
 impl<S: Store> Studio<S> {
     /// Puts the cells of a track from one place to another, gaps included, at the front of `out`, as many as there are,
-    /// and answers how many. It takes no memory, and nothing is changed. After an error `out` may have been written in
-    /// part.
+    /// and answers how many. Nothing is changed but the pages that are kept, which take memory only where there is
+    /// some. After an error `out` may have been written in part.
     ///
     /// # Errors
     ///
@@ -94,7 +99,7 @@ impl<S: Store> Studio<S> {
         }
         let layout = layout_of(&self.history, track)?;
         may_view(from, to)?;
-        let count = read_view(&mut self.store, layout, from, to, out)?;
+        let count = read_view(&mut self.store, &mut self.cache, layout, from, to, out)?;
         Ok(count)
     }
 }

@@ -1,5 +1,6 @@
 // The studio.
 use super::buffers::BlockBuffers;
+use block_cache::Cache;
 use block_ledger::Ledger;
 use edit_ops::Strips;
 use project_state::Point;
@@ -16,6 +17,8 @@ pub struct Pin {
 #[derive(Drop)]
 pub struct Studio<S> {
     pub(crate) store: S,
+    /// Pages of blocks that were read.
+    pub(crate) cache: Cache,
     pub(crate) history: History<Point>,
     pub(crate) clipboard: Option<Strips>,
     pub(crate) pins: Vec<Pin>,

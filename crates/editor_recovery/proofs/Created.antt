@@ -14,6 +14,7 @@ use Rattle.project_journal.specs.Journal.{Log, HasLog, IsAt, fresh}
 use Rattle.project_journal.specs.Start.{NoProject}
 use Rattle.project_journal.proofs.Kept.{is_project, each_has}
 use Rattle.project_journal.proofs.Once.{log_once}
+use Rattle.project_state.proofs.Unpacked.{keeps_led}
 use Rattle.project_state.specs.Kept as keeping
 use Rattle.project_state.specs.Kept.{new_project, LeadTo, history_blocks, Keeps}
 use Rattle.editor_recovery.specs.declared.fault.OpenFault.{OpenFault}
@@ -26,21 +27,15 @@ use Rattle.editor_recovery.specs.Honest.{Names, IsHonest}
 -- the new journal is the new project
 pub keeps_new : (rate block_size depth : ℕ) (c : Files) → HasLog version_1 (fresh rate block_size depth) c
     → Keeps c (new_opened rate block_size depth)
-keeps_new rate block_size depth c has = record {
-  log = fresh rate block_size depth;
-  kept = new_project depth;
-  there = has;
-  told = refl;
-  whole = tt;
-  is = refl;
-}
+keeps_new rate block_size depth c has =
+    keeps_led (fresh rate block_size depth) (new_project depth) c (new_opened rate block_size depth) has refl tt refl
 
 -- no point of it names a block
 no_names : (rate block_size depth : ℕ) (c : Files) (id : ℕ) → HasLog version_1 (fresh rate block_size depth) c
     → Names c id → ⊥
 no_names rate block_size depth c id has names =
     let log = fresh rate block_size depth in
-    let same : names.log ≡ log = log_once version_1 names.log log c names.there has in
+    let same : names.log ≡ log = log_once version_1 names.log log c (inl refl) names.there has in
     let told : names.kept ≡ new_project depth =
     subst (λ (l : Log). LeadTo l.block_size (new_project l.depth) l.bodies names.kept) same names.told in
     nothing (subst (λ (k : keeping.Kept). Contains (history_blocks k.history) names.block) told names.named)
@@ -131,7 +126,8 @@ pub made_done : {D T : Type 0} (disk : Ghosts D) (rate block_size depth : ℕ) (
     × EachNow disk new (λ c. Keeps c (new_opened rate block_size depth)))
 made_done disk rate block_size depth new (Err e) here = tt
 made_done disk rate block_size depth new (Ok x) here = (
-  keeps_new rate block_size depth (disk.reads new) (here.front, here.spelled, here.read),
+  keeps_new rate block_size depth (disk.reads new)
+      (record { front = here.front; spelled = here.spelled; shut = here.read; newest = here.newest }),
   λ c now. keeps_new rate block_size depth c (each_has here c now),
 )
 

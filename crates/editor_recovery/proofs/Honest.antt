@@ -27,7 +27,7 @@ use Rattle.project_state.specs.Kept.{Kept, new_project, LeadTo, history_blocks, 
 use Rattle.sample_block.specs.Sources.{sources_of, IsWhole}
 use Rattle.project_state.proofs.KeptBounds.{all_append}
 use Rattle.project_state.proofs.Meanings.{same_meaning, IsSame}
-use Rattle.project_state.proofs.KeptOnce.{log_format, kept_once}
+use Rattle.project_state.proofs.Unpacked.{log_format, kept_once, led_from_new, keeps_led}
 use Rattle.record_fold.specs.Faults.{journal_fault, first_fault}
 use Rattle.record_fold.proofs.Sound.{leading_sound}
 use Rattle.block_ledger.specs.Entries.{count_of}
@@ -63,9 +63,10 @@ pub record KeepsLog (log : Log) (kept : Kept) (files : Files) : Type 0 where
 pub keeps_log : (log : Log) (kept : Kept) (files : Files) (found : keeping.Opened) → HasLog version_1 log files
     → LeadTo log.block_size (new_project log.depth) log.bodies kept → Keeps files found → KeepsLog log kept files
 keeps_log log kept files found has told keeps =
-    let same : keeps.log ≡ log = log_once version_1 keeps.log log files keeps.there has in
+    let same : keeps.log ≡ log = log_once version_1 keeps.log log files (inl refl) keeps.there has in
     let lead : LeadTo log.block_size (new_project log.depth) log.bodies keeps.kept =
-    subst (λ (l : Log). LeadTo l.block_size (new_project l.depth) l.bodies keeps.kept) same keeps.told in
+    subst (λ (l : Log). LeadTo l.block_size (new_project l.depth) l.bodies keeps.kept) same
+    (led_from_new files found keeps) in
     let one : keeps.kept ≡ kept = kept_once log keeps.kept kept files has lead told in
     record {
       there = has;
@@ -76,7 +77,8 @@ keeps_log log kept files found has told keeps =
 -- and no other of its names
 pub leads_of : (files : Files) (found : keeping.Opened) → (keeps : Keeps files found)
     → KeepsLog keeps.log keeps.kept files
-leads_of files found keeps = record { there = keeps.there; told = keeps.told; whole = keeps.whole }
+leads_of files found keeps =
+    record { there = keeps.there; told = led_from_new files found keeps; whole = keeps.whole }
 
 no_header_fault : (log : Log) (kept : Kept) (files : Files) (file : ℕ) (d : Damaged) → KeepsLog log kept files
     → HeaderFault files file d → ⊥
@@ -106,7 +108,7 @@ no_record_fault log kept files file d keeps f =
 no_size_fault : (log : Log) (kept : Kept) (files : Files) (file : ℕ) (d : Damaged) → KeepsLog log kept files
     → SizeFault files file d → ⊥
 no_size_fault log kept files file d keeps f =
-    let same : log ≡ f.log = log_once version_1 log f.log files keeps.there f.there in
+    let same : log ≡ f.log = log_once version_1 log f.log files (inl refl) keeps.there f.there in
     let lead : LeadTo f.log.block_size (new_project f.log.depth) f.log.bodies kept =
     subst (λ (l : Log). LeadTo l.block_size (new_project l.depth) l.bodies kept) same keeps.told in
     let one : kept ≡ f.kept = kept_once f.log kept f.kept files f.there lead f.told in
@@ -193,14 +195,8 @@ module _ {D : Type 0} (disk : Ghosts D) (old new : D) (honest : IsHonest disk ol
       → disk.may_leave old (disk.clock old) c → HasLog version_1 log c → Keeps c (opened log kept (disk.reads old))
   image_keeps log kept c keeps image has =
       let is = image_leads log kept c keeps image has in
-      record {
-        log = log;
-        kept = kept;
-        there = is.there;
-        told = is.told;
-        whole = is.whole;
-        is = opened_same log kept (disk.reads old) c (honest.same (disk.reads old) here c image) keeps is;
-      }
+      keeps_led log kept c (opened log kept (disk.reads old)) is.there is.told is.whole
+      (opened_same log kept (disk.reads old) c (honest.same (disk.reads old) here c image) keeps is)
 
   -- a disk on which a project was found keeps it
   found_leads : (f : Found) → (opens : Finds (disk.reads old) f) → KeepsLog opens.log opens.kept (disk.reads old)
@@ -222,7 +218,7 @@ module _ {D : Type 0} (disk : Ghosts D) (old new : D) (honest : IsHonest disk ol
       record {
         log = log;
         kept = kept;
-        keeps = record { log = log; kept = kept; there = is.there; told = is.told; whole = is.whole; is = refl };
+        keeps = keeps_led log kept (disk.reads old) (opened log kept (disk.reads old)) is.there is.told is.whole refl;
         each = λ c now. image_keeps log kept c is (before c now) (rest log opens.project.there f refl c now);
         found = opens.found;
       }

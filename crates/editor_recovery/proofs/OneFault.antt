@@ -8,12 +8,13 @@ use Rattle.disk_model.specs.Disk.{Files, bytes_of}
 use Rattle.sample_block.specs.Spelling.{size_of}
 use Rattle.project_journal.specs.declared.fault.Damaged.{Damaged}
 use Rattle.project_journal.specs.Header.{header_tests, first_failed, version_1}
-use Rattle.project_journal.specs.Journal.{Log, Contents, IsJournal, entry}
+use Rattle.project_journal.specs.Journal.{Log, Contents, IsJournal, entry, log_of}
+use Rattle.project_journal.proofs.Bases.{plain}
 use Rattle.project_journal.proofs.Found.{header_sound}
 use Rattle.project_journal.proofs.Once.{journal_once, log_once}
 use Rattle.project_journal.proofs.Parses.{tests_take}
 use Rattle.project_state.specs.Kept.{Kept, new_project, LeadTo, history_blocks}
-use Rattle.project_state.proofs.KeptOnce.{kept_once}
+use Rattle.project_state.proofs.Unpacked.{kept_once}
 use Rattle.record_fold.specs.Faults.{journal_fault}
 use Rattle.editor_recovery.specs.Laws.{HasOneFault}
 use Rattle.editor_recovery.specs.Opening.{HeaderFault, RecordFault, SizeFault}
@@ -30,7 +31,8 @@ header_of bytes j is =
     let all = flat_map entry log.entries in
     let parts : bytes ≡ log.head ++ (all ++ is.rest) =
     is.parts ∙ ap (λ (l : List ℕ). l ++ is.rest) log.parts ∙ append_assoc log.head all is.rest in
-    let head : take 32 bytes ≡ log.head = ap (take 32) parts ∙ take_at log.head (all ++ is.rest) 32 log.header.size in
+    let head : take 32 bytes ≡ log.head = ap (take 32) parts ∙ take_at log.head (all ++ is.rest) 32
+    (plain 0 log.head (log_of j) log.header).size in
     ap first_failed (sym (tests_take bytes)) ∙ ap (λ (l : List ℕ). first_failed (header_tests l)) head
     ∙ log.header.sound
 
@@ -55,7 +57,7 @@ module _ (files : Files) (f g : ℕ) (d e : Damaged) where
 
   records : RecordFault files f d → RecordFault files g e → (f ≡ g) × (d ≡ e)
   records p q =
-      let same : p.0 ≡ q.0 = journal_once version_1 (bytes_of (files 0)) p.0 q.0 p.1 q.1 in
+      let same : p.0 ≡ q.0 = journal_once version_1 (bytes_of (files 0)) p.0 q.0 (inl refl) p.1 q.1 in
       (p.2 ∙ sym q.2, some_is d e (sym p.3 ∙ ap journal_fault same ∙ q.3))
 
   record_sizes : RecordFault files f d → SizeFault files g e → ⊥
@@ -64,7 +66,7 @@ module _ (files : Files) (f g : ℕ) (d e : Damaged) where
 
   sizes : SizeFault files f d → SizeFault files g e → (f ≡ g) × (d ≡ e)
   sizes p q =
-      let same : p.log ≡ q.log = log_once version_1 p.log q.log files p.there q.there in
+      let same : p.log ≡ q.log = log_once version_1 p.log q.log files (inl refl) p.there q.there in
       let lead : LeadTo q.log.block_size (new_project q.log.depth) q.log.bodies p.kept =
       subst (λ (l : Log). LeadTo l.block_size (new_project l.depth) l.bodies p.kept) same p.told in
       let one : p.kept ≡ q.kept = kept_once q.log p.kept q.kept files q.there lead q.told in

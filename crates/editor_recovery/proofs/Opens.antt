@@ -1,10 +1,10 @@
 -- From what the steps of opening answer to what opening answers.
-use Rattle.std.proofs.Common.{◌≡◌, ℕ, inl, inr, List, Some, Result, Ok, Err, sym, subst, ◌∙◌}
+use Rattle.std.proofs.Common.{◌≡◌, ℕ, inl, inr, List, None, Some, Result, Ok, Err, sym, subst, ◌∙◌}
 use Rattle.std.specs.Prelude.{IfErr, IfOk, IsTrue}
 use Rattle.pcm_base.specs.declared.block.BlockRef.{BlockRef}
 use Rattle.disk_model.specs.Disk.{Files, bytes_of}
 use Rattle.project_journal.specs.Header.{IsProject, header_tests, first_failed, version_1}
-use Rattle.project_journal.specs.Journal.{Contents, IsJournal, log_of}
+use Rattle.project_journal.specs.Journal.{Contents, HasLog, IsJournal, log_of}
 use Rattle.disk_model.specs.declared.store.Store.{Ghosts}
 use Rattle.project_journal.specs.Reader.{IsStored}
 use Rattle.project_journal.specs.declared.fault.Damaged.{Damaged}
@@ -23,6 +23,7 @@ use Rattle.editor_recovery.specs.Finding.{IsFoldOf, TestsMeasured, TestsSizes, A
 use Rattle.editor_recovery.specs.Opening.{Opens}
 use Rattle.editor_recovery.specs.Reading.{IsRead, ReadsDisk, Refuses}
 use Rattle.editor_recovery.specs.Sizes.{AllHaveSize, file_size}
+use Rattle.editor_recovery.proofs.Alone.{newest}
 use Rattle.editor_recovery.proofs.Ledgers.{ledger_of}
 use Rattle.editor_recovery.proofs.Listed.{next_block}
 use Rattle.editor_recovery.proofs.Wrong.{all_right, one_wrong}
@@ -48,6 +49,12 @@ stored_read disk store files j listed same tells stored are foreign =
     let here = stored_here disk store j stored tells in
     let is = subst (λ (f : Files). IsProject (bytes_of (f 0)) × IsJournal version_1 (bytes_of (f 0)) j) same here in
     record { project = is.0; journal = is.1; listed = are; foreign = foreign }
+
+-- the journal that was read to a gate that is 0 is the disk's
+log_of_read : (files : Files) (j : Contents) (listed : List ℕ) → IsRead files j listed → j.early ≡ None
+    → HasLog version_1 (log_of j) files
+log_of_read files j listed is whole =
+    log_there version_1 files j is.project is.journal whole (newest j.base.generation files is.foreign)
 
 -- the sizes of files
 pub measured : {T : Type 0} (files : Files) (sizes : ℕ → ℕ) (bs : List BlockRef) (r : Result T OpenFault)
@@ -77,7 +84,7 @@ unsized files j listed f (fault.Damaged file at want have) is fold tests =
       inr (inr (record {
         log = log_of j;
         kept = kept_of f.project;
-        there = log_there version_1 files j is.project is.journal fold.early;
+        there = log_of_read files j listed is fold.early;
         told = fold.leads;
         block = b;
         first = tests.1;
@@ -93,7 +100,7 @@ parts_open files j listed f p is fold sizes parts = record {
   log = log_of j;
   kept = kept_of f.project;
   project =
-      record { there = log_there version_1 files j is.project is.journal fold.early; told = fold.leads; sizes = sizes };
+      record { there = log_of_read files j listed is fold.early; told = fold.leads; sizes = sizes };
   found = record {
     rate = parts.rate ∙ fold.rate;
     block_size = parts.block_size ∙ fold.block_size;

@@ -62,6 +62,8 @@ sound_parts files f p is known one named are =
     All (IsSoundTagged p.block_size p.next_block p.next_track p.commit_number) h.points) (sym are.history) all in
     record {
       parts = record {
+        pages_least = omega (arith, are.pages);
+        pages_most = omega (arith, are.pages);
         format = format_of p.rate j.rate p.block_size j.block_size p.history.history.depth j.depth rate size depth
             is.readable.format;
         counters = record {

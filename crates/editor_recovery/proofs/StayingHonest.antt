@@ -20,7 +20,7 @@ use Rattle.project_journal.proofs.Once.{log_once}
 use Rattle.project_journal.specs.Start.{NoProject}
 use Rattle.project_state.specs.Kept as keeping
 use Rattle.project_state.specs.Kept.{LeadTo, history_blocks, new_project}
-use Rattle.project_state.proofs.KeptOnce.{kept_once}
+use Rattle.project_state.proofs.Unpacked.{kept_once}
 use Rattle.editor_core.specs.Core.{Core}
 use Rattle.editor_core.specs.Left.{IsBegun, LeavesOthers, MayRemove}
 use Rattle.editor_core.specs.Studios.{IsDurable, IsHeld, IsStudio, clip_blocks, named_blocks, pin_blocks, shown}
@@ -74,7 +74,7 @@ module _ {D : Type 0} (disk : Ghosts D) (s : Core D) (durable : IsDurable disk s
       → c id ≡ disk.reads s.store id
   named_same c now id names =
       let has = each_has durable.there c now in
-      let log : names.log ≡ durable.log = log_once version_1 names.log durable.log c names.there has in
+      let log : names.log ≡ durable.log = log_once version_1 names.log durable.log c (inl refl) names.there has in
       let told : LeadTo durable.log.block_size (new_project durable.log.depth) durable.log.bodies names.kept =
       subst (λ (l : Log). LeadTo l.block_size (new_project l.depth) l.bodies names.kept) log names.told in
       let kept : names.kept ≡ durable.kept = kept_once durable.log names.kept durable.kept c has told durable.told in

@@ -78,6 +78,7 @@ TestsSizes files blocks (Err _) = ⊥
 -- what a journal, the files and the journal's project amount to
 pub record ArePartsOf (files : List ℕ) (f : Folded) (p : Parts) : Type 0 where
   pub rate : p.rate ≡ f.rate
+  pub pages : p.pages ≡ 64
   pub block_size : p.block_size ≡ f.block_size
   pub history : p.history.history ≡ f.project.history.history
   pub ledger : IsCounted files (history_blocks f.project.history.history) (count_of p.ledger)

@@ -72,10 +72,10 @@ fn list_none<S: Store>(alloc: Global, store: &mut S) -> Result<(), OpenFault>
 /// Makes the journal of a new project, where none is there.
 fn make<S: Store>(store: &mut S, rate: u32, block_size: u32, depth: u32) -> Result<(), OpenFault>
     requires { IsFormat rate block_size depth }
-    ensures any_moment { IsTrue (S.tells store.old) → EachSince S.Store store.old store.new
+    ensures any_moment { IsTrue (S.tells store.old) → NoProject 1 (S.reads store.old) → EachSince S.Store store.old store.new
         (λ c. S.may_leave store.old (S.clock store.old) c
         ⊎ (NoProject 0 c ⊎ HasLog version_1 (fresh rate block_size depth) c)) }
-    ensures done { IsTrue (S.tells store.old)
+    ensures done { IsTrue (S.tells store.old) → NoProject 1 (S.reads store.old)
         → OnOk result (IsAt version_1 S.Store store.new 32 (fresh rate block_size depth)) }
     ensures answer { IsTrue (S.tells store.old) → NoProject 0 (S.reads store.old)
         → IfErr result (λ e. e ≡ OpenFault.DiskFault) }

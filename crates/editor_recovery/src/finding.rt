@@ -38,6 +38,9 @@ use sample_block::file_size;
 use std::alloc::Global;
 use undo_history::History;
 
+/// How many pages of samples, and of frames, an opened project may keep.
+const PAGES: u64 = 64;
+
 /// Why the records are not folded.
 fn unfolded(fault: JournalFault) -> OpenFault
     ensures { result ≡ records_fault fault }
@@ -153,6 +156,7 @@ fn parts_of(alloc: Global, files: &[u64], folded: Folded) -> Result<Parts, OpenF
     } = folded;
     Ok(Parts {
         rate,
+        pages: PAGES,
         block_size,
         history: project.history,
         ledger,
@@ -199,7 +203,7 @@ pub(crate) fn find_parts<S: Store>(
     ensures opens { IsTrue (S.tells store.old) → AreFiles (S.reads store.old) disk.files.items
         → NoForeign (S.reads store.old) → IsProject (bytes_of (S.reads store.old 0))
         → Opens (S.reads store.old) (answer_in result) }
-    ensures at_rest { IsTrue (S.tells store.old) → IsDurable S.Store store.old 0
+    ensures at_rest { IsTrue (S.tells store.old) → IsDurable S.Store store.old 0 → IsDurable S.Store store.old 1
         → IfOk result (λ p. (log : Log) → HasLog version_1 log (S.reads store.old)
         → IsAt version_1 S.Store store.new p.journal_end log) }
     ensures sound { IfOk result IsSoundParts }

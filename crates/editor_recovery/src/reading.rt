@@ -69,7 +69,8 @@ pub(crate) fn read_disk<S: Store>(alloc: Global, store: &mut S) -> Result<Disk, 
     ensures cause { Causes S.Store store.old store.new result }
     ensures reads_same { S.reads store.new ≡ S.reads store.old }
     ensures durable { OnOk result (IsDurable S.Store store.new 0) }
-    ensures changed { Changed S.Store StaysStep (record { files = 0; bytes = 0; calls = 1 }) store.old store.new }
+    ensures other { OnOk result (IsDurable S.Store store.new 1) }
+    ensures changed { Changed S.Store StaysStep (record { files = 0; bytes = 0; calls = 2 }) store.old store.new }
 {
     match open_journal(alloc, store) {
         Ok(reader) => with_files(alloc, store, reader),

@@ -198,6 +198,11 @@ gaps_read src s len n is within =
 pub named_one : (s : Stretch) (b : BlockRef) (from : ℕ) → s ≡ Block b from → AreNamed (stretch_blocks s) → IsNamed b
 named_one s b from is named = subst (λ (x : Stretch). AreNamed (stretch_blocks x)) is named b (one_there b)
 
+-- the block of a stretch is among its blocks
+pub blocks_one : (s : Stretch) (b : BlockRef) (from : ℕ) → s ≡ Block b from → (d : BlockRef) → Contains (b ∷ []) d
+    → Contains (stretch_blocks s) d
+blocks_one s b from is d has = subst (λ (x : Stretch). Contains (stretch_blocks x) d) (sym is) has
+
 pub fault_one : (files : Files) (s : Stretch) (b : BlockRef) (from : ℕ) (why : BlockFault) → s ≡ Block b from
     → IsFault b.id b.len (bytes_of (files b.id)) why → IsFaultIn files (stretch_blocks s) why
 fault_one files s b from why is fault =

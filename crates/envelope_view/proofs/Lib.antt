@@ -5,3 +5,4 @@ pub mod HalvesLaws
 pub mod NamedLaws
 pub mod Running
 pub mod SumLaws
+mod PageFaults

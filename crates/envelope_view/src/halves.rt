@@ -1,10 +1,11 @@
 // The two sides of an edge inside a long frame: the shorter side is read, and the frame's own summary tells the other.
-ghost use Rattle.std.specs.Prelude.{◌≡◌, ◌≤◌, ◌<◌, ◌+◌, ◌*◌, length, List, ℤ, Some, IsTrue, IfErr, IfSome};
+ghost use Rattle.std.specs.Prelude.{◌≡◌, ◌≤◌, ◌<◌, ◌+◌, ◌*◌, [], ◌∷◌, length, List, ℤ, Some, IsTrue, IfErr, IfSome};
 ghost use Rattle.disk_model.specs.Disk.{bytes_of};
 ghost use Rattle.disk_model.specs.Frames.{Kept};
 ghost use Rattle.sample_block.specs.Blocks.{blocks};
 ghost use Rattle.sample_block.specs.Spelling.{IsBlock};
-ghost use Rattle.block_store.specs.Reads.{Counted, HasHeader, IsFault};
+ghost use Rattle.block_store.specs.Reads.{Counted, IsFault};
+ghost use Rattle.block_cache.specs.Caches.{IsCacheOf, KeepsCache};
 ghost use Rattle.pcm_base.specs.Edits.{part as part_of};
 ghost use Rattle.peak_summary.specs.Peaks.{frame_count, summary_of};
 ghost use Rattle.peak_summary.specs.declared.stretch.Summary.{Summary as Sum};
@@ -12,7 +13,8 @@ ghost use Rattle.envelope_view.specs.Parts.{Summarizes};
 ghost use Rattle.envelope_view.specs.Halves.{AreHalves, IsRest};
 
 use super::parts::{by_short, join_all};
-use block_store::{BlockFault, Level, read_compared_frames};
+use block_cache::{Cache, read_frames_cached};
+use block_store::{BlockFault, Level};
 use disk_model::Store;
 use pcm_base::BlockRef;
 use peak_summary::{NOTHING, Summary, join};
@@ -46,6 +48,7 @@ fn rest_of(whole: Summary, part: Summary) -> Option<Summary>
 /// The summary of the side of an edge that was not read: what is left of the whole, else it is read too.
 fn other_side<S: Store>(
     store: &mut S,
+    cache: &mut Cache,
     block: BlockRef,
     from: u32,
     to: u32,
@@ -53,13 +56,13 @@ fn other_side<S: Store>(
     side: Summary,
 ) -> Result<Summary, BlockFault>
     requires block { IsBlock block.id block.len }
-    requires compared { IsTrue (S.tells store.old)
-        → HasHeader block.id block.len (bytes_of (S.reads store.old block.id)) }
+    requires cached { IsTrue (S.tells store.old) → IsCacheOf (S.reads store.old) cache.old }
     requires rising { from ≤ to }
     requires within { to ≤ block.len }
     requires few { to ≤ from + 65536 }
     requires rest { IsTrue (S.tells store.old) → (xs : List ℤ) → blocks (S.reads store.old) block.id ≡ Some xs
         → length xs ≡ block.len → IsRest whole side (summary_of (part_of from to xs)) }
+    ensures cache { KeepsCache (S.tells store.old) (S.reads store.old) (block ∷ []) cache.old cache.new }
     ensures read { IsTrue (S.tells store.old) → Summarizes (S.reads store.old) block from to result }
     ensures damaged { IsTrue (S.tells store.old)
         → IfErr result (λ e. IsFault block.id block.len (bytes_of (S.reads store.old block.id)) e) }
@@ -68,13 +71,14 @@ fn other_side<S: Store>(
 {
     match rest_of(whole, side) {
         Some(rest) => Ok(rest),
-        None => by_short(store, block, from, to),
+        None => by_short(store, cache, block, from, to),
     }
 }
 
 /// The summaries of both sides of an edge in a whole whose summary is known: the shorter side is read first.
 fn sides<S: Store>(
     store: &mut S,
+    cache: &mut Cache,
     block: BlockRef,
     from: u32,
     edge: u32,
@@ -82,14 +86,14 @@ fn sides<S: Store>(
     whole: Summary,
 ) -> Result<Halves, BlockFault>
     requires block { IsBlock block.id block.len }
-    requires compared { IsTrue (S.tells store.old)
-        → HasHeader block.id block.len (bytes_of (S.reads store.old block.id)) }
+    requires cached { IsTrue (S.tells store.old) → IsCacheOf (S.reads store.old) cache.old }
     requires before { from < edge }
     requires behind { edge < to }
     requires within { to ≤ block.len }
     requires few { to ≤ from + 65536 }
     requires whole { IsTrue (S.tells store.old) → (xs : List ℤ) → blocks (S.reads store.old) block.id ≡ Some xs
         → length xs ≡ block.len → whole ≡ summary_of (part_of from to xs) }
+    ensures cache { KeepsCache (S.tells store.old) (S.reads store.old) (block ∷ []) cache.old cache.new }
     ensures read { IsTrue (S.tells store.old)
         → AreHalves (S.reads store.old) block (record { from = from; edge = edge; to = to }) result }
     ensures damaged { IsTrue (S.tells store.old)
@@ -98,27 +102,28 @@ fn sides<S: Store>(
     ensures faults { Counted result (S.read_fault_count store.old) (S.read_fault_count store.new) }
 {
     if edge - from <= to - edge {
-        let before = by_short(store, block, from, edge)?;
-        let after = other_side(store, block, edge, to, whole, before)?;
+        let before = by_short(store, cache, block, from, edge)?;
+        let after = other_side(store, cache, block, edge, to, whole, before)?;
         return Ok(Halves { before, after });
     }
-    let after = by_short(store, block, edge, to)?;
-    let before = other_side(store, block, from, edge, whole, after)?;
+    let after = by_short(store, cache, block, edge, to)?;
+    let before = other_side(store, cache, block, from, edge, whole, after)?;
     Ok(Halves { before, after })
 }
 
 /// From the long frames from number `first` up to `last`, and that one by itself, in one read.
 fn long_frames<S: Store>(
     store: &mut S,
+    cache: &mut Cache,
     block: BlockRef,
     first: u32,
     last: u32,
 ) -> Result<Halves, BlockFault>
     requires block { IsBlock block.id block.len }
-    requires compared { IsTrue (S.tells store.old)
-        → HasHeader block.id block.len (bytes_of (S.reads store.old block.id)) }
+    requires cached { IsTrue (S.tells store.old) → IsCacheOf (S.reads store.old) cache.old }
     requires rising { first ≤ last }
     requires within { last < frame_count 65536 block.len }
+    ensures cache { KeepsCache (S.tells store.old) (S.reads store.old) (block ∷ []) cache.old cache.new }
     ensures read { IsTrue (S.tells store.old)
         → AreHalves (S.reads store.old) block
         (record { from = 65536 * first; edge = 65536 * last; to = 65536 * last + 65536 }) result }
@@ -130,7 +135,7 @@ fn long_frames<S: Store>(
     let mut buf = [NOTHING; MOST];
     let count = (last - first) as usize;
     let frames = &mut buf[..count + 1];
-    read_compared_frames(store, block, Level::Long, first, frames)?;
+    read_frames_cached(store, cache, block, Level::Long, first, frames)?;
     let before = join_all(&frames[..count]);
     let after = join_all(&frames[count..]);
     Ok(Halves { before, after })
@@ -140,6 +145,7 @@ fn long_frames<S: Store>(
 /// the frame ends: from the frames before it, the frame's own, and one of its sides.
 pub(crate) fn up_to_edge<S: Store>(
     store: &mut S,
+    cache: &mut Cache,
     block: BlockRef,
     from: u32,
     frame: u32,
@@ -147,14 +153,14 @@ pub(crate) fn up_to_edge<S: Store>(
     to: u32,
 ) -> Result<Halves, BlockFault>
     requires block { IsBlock block.id block.len }
-    requires compared { IsTrue (S.tells store.old)
-        → HasHeader block.id block.len (bytes_of (S.reads store.old block.id)) }
+    requires cached { IsTrue (S.tells store.old) → IsCacheOf (S.reads store.old) cache.old }
     requires rising { from ≤ 65536 * frame }
     requires before { 65536 * frame < edge }
     requires behind { edge < to }
     requires within { to ≤ block.len }
     requires few { to ≤ 65536 * frame + 65536 }
     requires last { to < 65536 * frame + 65536 → to ≡ block.len }
+    ensures cache { KeepsCache (S.tells store.old) (S.reads store.old) (block ∷ []) cache.old cache.new }
     ensures read { IsTrue (S.tells store.old)
         → AreHalves (S.reads store.old) block (record { from = from; edge = edge; to = to }) result }
     ensures damaged { IsTrue (S.tells store.old)
@@ -163,9 +169,9 @@ pub(crate) fn up_to_edge<S: Store>(
     ensures faults { Counted result (S.read_fault_count store.old) (S.read_fault_count store.new) }
 {
     let first = from.div_ceil(65536);
-    let front = by_short(store, block, from, 65536 * first)?;
-    let long = long_frames(store, block, first, frame)?;
-    let halves = sides(store, block, 65536 * frame, edge, to, long.after)?;
+    let front = by_short(store, cache, block, from, 65536 * first)?;
+    let long = long_frames(store, cache, block, first, frame)?;
+    let halves = sides(store, cache, block, 65536 * frame, edge, to, long.after)?;
     let before = join(join(front, long.before), halves.before);
     Ok(Halves {
         before,

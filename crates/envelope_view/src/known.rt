@@ -1,14 +1,16 @@
 // What is known of a block behind the part that was summarized last.
-ghost use Rattle.std.specs.Prelude.{◌≡◌, ◌≤◌, ◌<◌, ◌+◌, ◌*◌, IsTrue, IfErr, IfSome, Some};
+ghost use Rattle.std.specs.Prelude.{◌≡◌, ◌≤◌, ◌<◌, ◌+◌, ◌*◌, [], ◌∷◌, IsTrue, IfErr, IfSome, Some};
 ghost use Rattle.disk_model.specs.Disk.{Files, bytes_of};
 ghost use Rattle.disk_model.specs.Frames.{Kept};
 ghost use Rattle.sample_block.specs.Spelling.{IsBlock};
-ghost use Rattle.block_store.specs.Reads.{Counted, HasHeader, IsFault};
+ghost use Rattle.block_store.specs.Reads.{Counted, IsFault};
+ghost use Rattle.block_cache.specs.Caches.{IsCacheOf, KeepsCache};
 ghost use Rattle.envelope_view.specs.Halves.{IsEdgeIn, IsKnown};
 ghost use Rattle.envelope_view.specs.Parts.{Summarizes};
 
 use super::halves::up_to_edge;
 use super::parts::summarize;
+use block_cache::Cache;
 use block_store::BlockFault;
 use disk_model::Store;
 use pcm_base::BlockRef;
@@ -71,10 +73,11 @@ fn frame_at(len: u32, from: u32, to: u32, reach: u64) -> Option<u32>
     None
 }
 
-/// The summary of a part of a block whose header was compared, behind which at least `reach` cells more are asked for
-/// next. Where the part ends inside a long frame what is behind it is known from then on.
+/// The summary of a part of a block, after which at least `reach` cells more are asked for next. Where the part ends
+/// inside a long frame, what comes after it is known from then on.
 pub(crate) fn summarize_on<S: Store>(
     store: &mut S,
+    cache: &mut Cache,
     known: &mut Option<Known>,
     block: BlockRef,
     from: u32,
@@ -82,11 +85,11 @@ pub(crate) fn summarize_on<S: Store>(
     reach: u64,
 ) -> Result<Summary, BlockFault>
     requires block { IsBlock block.id block.len }
-    requires compared { IsTrue (S.tells store.old)
-        → HasHeader block.id block.len (bytes_of (S.reads store.old block.id)) }
+    requires cached { IsTrue (S.tells store.old) → IsCacheOf (S.reads store.old) cache.old }
     requires rising { from ≤ to }
     requires within { to ≤ block.len }
     requires known { IsTrue (S.tells store.old) → IsKnown (S.reads store.old) known.old }
+    ensures cache { KeepsCache (S.tells store.old) (S.reads store.old) (block ∷ []) cache.old cache.new }
     ensures known { IsTrue (S.tells store.old) → IsKnown (S.reads store.old) known.new }
     ensures read { IsTrue (S.tells store.old) → Summarizes (S.reads store.old) block from to result }
     ensures damaged { IsTrue (S.tells store.old)
@@ -95,10 +98,10 @@ pub(crate) fn summarize_on<S: Store>(
     ensures faults { Counted result (S.read_fault_count store.old) (S.read_fault_count store.new) }
 {
     let Some(frame) = frame_at(block.len, from, to, reach) else {
-        return summarize(store, block, from, to);
+        return summarize(store, cache, block, from, to);
     };
     let stop = frame_stop(block.len, frame);
-    let halves = up_to_edge(store, block, from, frame, to, stop)?;
+    let halves = up_to_edge(store, cache, block, from, frame, to, stop)?;
     *known = Some(Known {
         block,
         from: to,

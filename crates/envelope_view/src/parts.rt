@@ -1,14 +1,16 @@
 // The summary of a part of a block, from whole frames and the samples at its edges.
-ghost use Rattle.std.specs.Prelude.{◌≡◌, ◌≤◌, ◌<◌, ◌+◌, ◌-◌, ◌*◌, length, fold, IsTrue, IfErr};
+ghost use Rattle.std.specs.Prelude.{◌≡◌, ◌≤◌, ◌<◌, ◌+◌, ◌-◌, ◌*◌, [], ◌∷◌, length, fold, IsTrue, IfErr};
 ghost use Rattle.disk_model.specs.Disk.{bytes_of};
 ghost use Rattle.disk_model.specs.Frames.{Kept};
 ghost use Rattle.sample_block.specs.Spelling.{IsBlock};
-ghost use Rattle.block_store.specs.Reads.{Counted, HasHeader, IsFault, frame_len};
+ghost use Rattle.block_store.specs.Reads.{Counted, IsFault, frame_len};
 ghost use Rattle.block_store.specs.declared.frames.Level.TheVariants.{Short, Long};
+ghost use Rattle.block_cache.specs.Caches.{IsCacheOf, KeepsCache};
 ghost use Rattle.peak_summary.specs.Peaks.{joined, nothing, frame_count};
 ghost use Rattle.envelope_view.specs.Parts.{Summarizes};
 
-use block_store::{BlockFault, Level, read_compared_frames, read_compared_samples};
+use block_cache::{Cache, read_frames_cached, read_samples_cached};
+use block_store::{BlockFault, Level};
 use disk_model::Store;
 use pcm_base::BlockRef;
 use peak_summary::{NOTHING, Summary, join, of};
@@ -61,16 +63,17 @@ fn long_end(len: u32, to: u32) -> u32
 /// From the samples alone.
 fn by_samples<S: Store>(
     store: &mut S,
+    cache: &mut Cache,
     block: BlockRef,
     from: u32,
     to: u32,
 ) -> Result<Summary, BlockFault>
     requires block { IsBlock block.id block.len }
-    requires compared { IsTrue (S.tells store.old)
-        → HasHeader block.id block.len (bytes_of (S.reads store.old block.id)) }
+    requires cached { IsTrue (S.tells store.old) → IsCacheOf (S.reads store.old) cache.old }
     requires rising { from ≤ to }
     requires within { to ≤ block.len }
     requires few { to ≤ from + 512 }
+    ensures cache { KeepsCache (S.tells store.old) (S.reads store.old) (block ∷ []) cache.old cache.new }
     ensures read { IsTrue (S.tells store.old) → Summarizes (S.reads store.old) block from to result }
     ensures damaged { IsTrue (S.tells store.old)
         → IfErr result (λ e. IsFault block.id block.len (bytes_of (S.reads store.old block.id)) e) }
@@ -82,7 +85,7 @@ fn by_samples<S: Store>(
     }
     let mut buf = [0i16; PIECE];
     let samples = &mut buf[..(to - from) as usize];
-    read_compared_samples(store, block, from, samples)?;
+    read_samples_cached(store, cache, block, from, samples)?;
     Ok(of(samples))
 }
 
@@ -91,17 +94,18 @@ fn by_samples<S: Store>(
 #[inline(never)]
 fn by_frames<S: Store>(
     store: &mut S,
+    cache: &mut Cache,
     block: BlockRef,
     level: Level,
     first: u32,
     end: u32,
 ) -> Result<Summary, BlockFault>
     requires block { IsBlock block.id block.len }
-    requires compared { IsTrue (S.tells store.old)
-        → HasHeader block.id block.len (bytes_of (S.reads store.old block.id)) }
+    requires cached { IsTrue (S.tells store.old) → IsCacheOf (S.reads store.old) cache.old }
     requires rising { first ≤ end }
     requires within { end ≤ frame_count (frame_len level) block.len }
     requires few { end ≤ first + 512 }
+    ensures cache { KeepsCache (S.tells store.old) (S.reads store.old) (block ∷ []) cache.old cache.new }
     ensures read { IsTrue (S.tells store.old)
         → Summarizes (S.reads store.old) block (frame_len level * first) (frame_len level * end) result }
     ensures damaged { IsTrue (S.tells store.old)
@@ -111,21 +115,21 @@ fn by_frames<S: Store>(
 {
     let mut buf = [NOTHING; PIECE];
     let frames = &mut buf[..(end - first) as usize];
-    read_compared_frames(store, block, level, first, frames)?;
+    read_frames_cached(store, cache, block, level, first, frames)?;
     Ok(join_all(frames))
 }
 
 /// From whole short frames, from number `first` up to `end`, and the samples behind them up to `to`.
 fn short_then_samples<S: Store>(
     store: &mut S,
+    cache: &mut Cache,
     block: BlockRef,
     first: u32,
     end: u32,
     to: u32,
 ) -> Result<Summary, BlockFault>
     requires block { IsBlock block.id block.len }
-    requires compared { IsTrue (S.tells store.old)
-        → HasHeader block.id block.len (bytes_of (S.reads store.old block.id)) }
+    requires cached { IsTrue (S.tells store.old) → IsCacheOf (S.reads store.old) cache.old }
     requires rising { first < end }
     requires within { to ≤ block.len }
     requires frames { end ≤ frame_count 256 block.len }
@@ -133,31 +137,33 @@ fn short_then_samples<S: Store>(
     requires behind { 256 * end < to + 256 }
     requires rest { to < 256 * end + 256 }
     requires last { to < 256 * end → to ≡ block.len }
+    ensures cache { KeepsCache (S.tells store.old) (S.reads store.old) (block ∷ []) cache.old cache.new }
     ensures read { IsTrue (S.tells store.old) → Summarizes (S.reads store.old) block (256 * first) to result }
     ensures damaged { IsTrue (S.tells store.old)
         → IfErr result (λ e. IsFault block.id block.len (bytes_of (S.reads store.old block.id)) e) }
     ensures kept { Kept S.Store store.old store.new }
     ensures faults { Counted result (S.read_fault_count store.old) (S.read_fault_count store.new) }
 {
-    let front = by_frames(store, block, Level::Short, first, end)?;
+    let front = by_frames(store, cache, block, Level::Short, first, end)?;
     let from = to.min(256 * end);
-    let back = by_samples(store, block, from, to)?;
+    let back = by_samples(store, cache, block, from, to)?;
     Ok(join(front, back))
 }
 
 /// From whole short frames, and the samples at the edges.
 pub(crate) fn by_short<S: Store>(
     store: &mut S,
+    cache: &mut Cache,
     block: BlockRef,
     from: u32,
     to: u32,
 ) -> Result<Summary, BlockFault>
     requires block { IsBlock block.id block.len }
-    requires compared { IsTrue (S.tells store.old)
-        → HasHeader block.id block.len (bytes_of (S.reads store.old block.id)) }
+    requires cached { IsTrue (S.tells store.old) → IsCacheOf (S.reads store.old) cache.old }
     requires rising { from ≤ to }
     requires within { to ≤ block.len }
     requires few { to ≤ from + 131072 }
+    ensures cache { KeepsCache (S.tells store.old) (S.reads store.old) (block ∷ []) cache.old cache.new }
     ensures read { IsTrue (S.tells store.old) → Summarizes (S.reads store.old) block from to result }
     ensures damaged { IsTrue (S.tells store.old)
         → IfErr result (λ e. IsFault block.id block.len (bytes_of (S.reads store.old block.id)) e) }
@@ -167,55 +173,57 @@ pub(crate) fn by_short<S: Store>(
     let first = from.div_ceil(256);
     let end = short_end(block.len, to);
     if first >= end {
-        return by_samples(store, block, from, to);
+        return by_samples(store, cache, block, from, to);
     }
-    let front = by_samples(store, block, from, 256 * first)?;
-    let back = short_then_samples(store, block, first, end, to)?;
+    let front = by_samples(store, cache, block, from, 256 * first)?;
+    let back = short_then_samples(store, cache, block, first, end, to)?;
     Ok(join(front, back))
 }
 
 /// From whole long frames, from number `first` up to `end`, and what is behind them up to `to`.
 fn long_then_short<S: Store>(
     store: &mut S,
+    cache: &mut Cache,
     block: BlockRef,
     first: u32,
     end: u32,
     to: u32,
 ) -> Result<Summary, BlockFault>
     requires block { IsBlock block.id block.len }
-    requires compared { IsTrue (S.tells store.old)
-        → HasHeader block.id block.len (bytes_of (S.reads store.old block.id)) }
+    requires cached { IsTrue (S.tells store.old) → IsCacheOf (S.reads store.old) cache.old }
     requires rising { first < end }
     requires within { to ≤ block.len }
     requires frames { end ≤ frame_count 65536 block.len }
     requires behind { 65536 * end < to + 65536 }
     requires rest { to < 65536 * end + 65536 }
     requires last { to < 65536 * end → to ≡ block.len }
+    ensures cache { KeepsCache (S.tells store.old) (S.reads store.old) (block ∷ []) cache.old cache.new }
     ensures read { IsTrue (S.tells store.old) → Summarizes (S.reads store.old) block (65536 * first) to result }
     ensures damaged { IsTrue (S.tells store.old)
         → IfErr result (λ e. IsFault block.id block.len (bytes_of (S.reads store.old block.id)) e) }
     ensures kept { Kept S.Store store.old store.new }
     ensures faults { Counted result (S.read_fault_count store.old) (S.read_fault_count store.new) }
 {
-    let front = by_frames(store, block, Level::Long, first, end)?;
+    let front = by_frames(store, cache, block, Level::Long, first, end)?;
     let from = to.min(65536 * end);
-    let back = by_short(store, block, from, to)?;
+    let back = by_short(store, cache, block, from, to)?;
     Ok(join(front, back))
 }
 
-/// The summary of a part of a block whose header was compared: from whole long frames, whole short frames beside them,
-/// and the samples at the edges.
+/// The summary of a part of a block: from whole long frames, whole short frames beside them, and the samples
+/// at the edges.
 pub(crate) fn summarize<S: Store>(
     store: &mut S,
+    cache: &mut Cache,
     block: BlockRef,
     from: u32,
     to: u32,
 ) -> Result<Summary, BlockFault>
     requires block { IsBlock block.id block.len }
-    requires compared { IsTrue (S.tells store.old)
-        → HasHeader block.id block.len (bytes_of (S.reads store.old block.id)) }
+    requires cached { IsTrue (S.tells store.old) → IsCacheOf (S.reads store.old) cache.old }
     requires rising { from ≤ to }
     requires within { to ≤ block.len }
+    ensures cache { KeepsCache (S.tells store.old) (S.reads store.old) (block ∷ []) cache.old cache.new }
     ensures read { IsTrue (S.tells store.old) → Summarizes (S.reads store.old) block from to result }
     ensures damaged { IsTrue (S.tells store.old)
         → IfErr result (λ e. IsFault block.id block.len (bytes_of (S.reads store.old block.id)) e) }
@@ -225,9 +233,9 @@ pub(crate) fn summarize<S: Store>(
     let first = from.div_ceil(65536);
     let end = long_end(block.len, to);
     if first >= end {
-        return by_short(store, block, from, to);
+        return by_short(store, cache, block, from, to);
     }
-    let front = by_short(store, block, from, 65536 * first)?;
-    let back = long_then_short(store, block, first, end, to)?;
+    let front = by_short(store, cache, block, from, 65536 * first)?;
+    let back = long_then_short(store, cache, block, first, end, to)?;
     Ok(join(front, back))
 }

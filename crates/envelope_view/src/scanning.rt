@@ -2,6 +2,7 @@
 ghost use Rattle.std.specs.Prelude.{◌≡◌, ◌≤◌, ◌<◌, ◌^◌, IsTrue, IfOk, IfErr};
 ghost use Rattle.disk_model.specs.Frames.{Kept};
 ghost use Rattle.sample_block.specs.Sources.{AllNamed, AllWhole, sources_of};
+ghost use Rattle.block_cache.specs.Caches.{IsCacheOf, KeepsCache};
 ghost use Rattle.pcm_base.specs.Envelope.{columns_of};
 ghost use Rattle.clip_track.specs.Clips.{end_of, layout_blocks, layout_cells};
 ghost use Rattle.envelope_view.specs.Answers.{AnswersTest, IsDamagedIn, IsOfReads, IsUndamaged, ReasonCounted};
@@ -10,6 +11,7 @@ ghost use Rattle.envelope_view.specs.Answers.{column_tests};
 use super::ahead::Ahead;
 use super::edges::{edge, test_columns};
 use super::sweep::sweep;
+use block_cache::Cache;
 use block_store::scan;
 use clip_track::{Layout, Stretch};
 use disk_model::Store;
@@ -20,6 +22,7 @@ use std::alloc::Global;
 fn scan_columns<S: Store>(
     alloc: Global,
     store: &mut S,
+    cache: &mut Cache,
     layout: &Layout,
     from: u64,
     to: u64,
@@ -30,6 +33,8 @@ fn scan_columns<S: Store>(
     requires small { to ≤ 2 ^ 32 }
     requires some { 0 < columns }
     requires few { columns ≤ 4096 }
+    requires cached { IsTrue (S.tells store.old) → IsCacheOf (S.reads store.old) cache.old }
+    ensures cache { KeepsCache (S.tells store.old) (S.reads store.old) (layout_blocks layout.now) cache.old cache.new }
     ensures read { IsTrue (S.tells store.old) → AllWhole (S.reads store.old) (layout_blocks layout.now)
         → IfOk result
         (λ v. v.items ≡ columns_of from to columns (layout_cells (sources_of (S.reads store.old)) layout.now)) }
@@ -44,21 +49,21 @@ fn scan_columns<S: Store>(
         stretch: Stretch::Gaps { len: 0 },
         rest: layout.rest(from),
     };
-    let mut last = None;
     let mut known = None;
     'rows: for i in 0..columns {
         let begin = edge(from, to, columns, i);
         let end = edge(from, to, columns, i + 1);
         let count = end - begin;
         let reach = count.saturating_sub(1).min(to - end);
-        let summary = sweep(store, &mut last, &mut known, &mut ahead, count, reach)?;
+        let summary = sweep(store, cache, &mut known, &mut ahead, count, reach)?;
         scans.push(scan(summary))?;
     }
     Ok(scans)
 }
 
 /// What a fresh scan finds of the cells of each of so many columns of a range of a layout. It reads frames of blocks,
-/// and samples at the edges of columns alone; it takes memory for the columns.
+/// and samples at the edges of columns alone, by whole pages, but for those that the cache has. It takes memory for the
+/// columns.
 ///
 /// # Errors
 ///
@@ -67,6 +72,7 @@ fn scan_columns<S: Store>(
 pub fn columns<S: Store>(
     alloc: Global,
     store: &mut S,
+    cache: &mut Cache,
     layout: &Layout,
     from: u64,
     to: u64,
@@ -74,6 +80,9 @@ pub fn columns<S: Store>(
 ) -> Result<Vec<Option<Scan>>, Refusal>
     // Each block that the layout names is one that a disk may have.
     requires named { AllNamed (layout_blocks layout.now) }
+    // Each page that is kept is what a read of it gives of the files as they stand. It stays so.
+    requires cached { IsTrue (S.tells store.old) → IsCacheOf (S.reads store.old) cache.old }
+    ensures cache { KeepsCache (S.tells store.old) (S.reads store.old) (layout_blocks layout.now) cache.old cache.new }
     ensures read { IsTrue (S.tells store.old) → AllWhole (S.reads store.old) (layout_blocks layout.now)
         → IfOk result
         (λ v. v.items ≡ columns_of from to columns (layout_cells (sources_of (S.reads store.old)) layout.now)) }
@@ -88,6 +97,6 @@ pub fn columns<S: Store>(
     ensures faults { ReasonCounted result (S.read_fault_count store.old) (S.read_fault_count store.new) }
 {
     test_columns(from, to, columns, layout.len())?;
-    let scans = scan_columns(alloc, store, layout, from, to, columns)?;
+    let scans = scan_columns(alloc, store, cache, layout, from, to, columns)?;
     Ok(scans)
 }

@@ -1,10 +1,11 @@
 // The summary of the next cells of a layout.
-ghost use Rattle.std.specs.Prelude.{◌≡◌, ◌≤◌, ◌^◌, take, drop, Contains, IsTrue, IfOk, IfErr, OnOk};
+ghost use Rattle.std.specs.Prelude.{◌≡◌, ◌≤◌, ◌^◌, [], ◌∷◌, take, drop, Contains, IsTrue, IfOk, IfErr, OnOk};
 ghost use Rattle.disk_model.specs.Disk.{bytes_of};
 ghost use Rattle.disk_model.specs.Frames.{Kept};
 ghost use Rattle.sample_block.specs.Spelling.{IsBlock};
 ghost use Rattle.sample_block.specs.Sources.{sources_of};
-ghost use Rattle.block_store.specs.Reads.{Counted, IsCompared, IsFault, IsFaultIn};
+ghost use Rattle.block_store.specs.Reads.{Counted, IsFault, IsFaultIn};
+ghost use Rattle.block_cache.specs.Caches.{IsCacheOf, KeepsCache};
 ghost use Rattle.block_store.specs.Scans.{samples_among};
 ghost use Rattle.peak_summary.specs.Peaks.{summary_of};
 ghost use Rattle.pcm_base.specs.Pieces.{Sources};
@@ -16,17 +17,17 @@ ghost use Rattle.envelope_view.specs.Parts.{Summarizes};
 
 use super::ahead::{Ahead, behind, len_of};
 use super::known::{Known, front_of, summarize_on};
-use block_store::{BlockFault, compare_once};
+use block_cache::Cache;
+use block_store::BlockFault;
 use clip_track::Stretch;
 use disk_model::Store;
 use pcm_base::BlockRef;
 use peak_summary::{NOTHING, Summary, join};
 
-/// The summary of a part of a block, whose header is read unless it was the last that was compared, and whose front is
-/// read unless it is known.
+/// The summary of a part of a block, whose front is read unless it is known.
 fn summarize_block<S: Store>(
     store: &mut S,
-    last: &mut Option<BlockRef>,
+    cache: &mut Cache,
     known: &mut Option<Known>,
     block: BlockRef,
     from: u32,
@@ -36,9 +37,9 @@ fn summarize_block<S: Store>(
     requires block { IsBlock block.id block.len }
     requires rising { from ≤ to }
     requires within { to ≤ block.len }
-    requires compared { IsTrue (S.tells store.old) → IsCompared (S.reads store.old) last.old }
+    requires cached { IsTrue (S.tells store.old) → IsCacheOf (S.reads store.old) cache.old }
     requires known { IsTrue (S.tells store.old) → IsKnown (S.reads store.old) known.old }
-    ensures compared { IsTrue (S.tells store.old) → IsCompared (S.reads store.old) last.new }
+    ensures cache { KeepsCache (S.tells store.old) (S.reads store.old) (block ∷ []) cache.old cache.new }
     ensures known { IsTrue (S.tells store.old) → IsKnown (S.reads store.old) known.new }
     ensures read { IsTrue (S.tells store.old) → Summarizes (S.reads store.old) block from to result }
     ensures damaged { IsTrue (S.tells store.old)
@@ -46,18 +47,15 @@ fn summarize_block<S: Store>(
     ensures kept { Kept S.Store store.old store.new }
     ensures faults { Counted result (S.read_fault_count store.old) (S.read_fault_count store.new) }
 {
-    if let Err(fault) = compare_once(store, last, block) {
-        return Err(fault);
-    }
     let front = front_of(*known, block, from, to);
-    let back = summarize_on(store, known, block, front.to, to, reach)?;
+    let back = summarize_on(store, cache, known, block, front.to, to, reach)?;
     Ok(join(front.summary, back))
 }
 
 /// The summary of the samples among the first cells of a stretch.
 fn summarize_stretch<S: Store>(
     store: &mut S,
-    last: &mut Option<BlockRef>,
+    cache: &mut Cache,
     known: &mut Option<Known>,
     stretch: Stretch,
     count: u64,
@@ -66,9 +64,9 @@ fn summarize_stretch<S: Store>(
     requires stretch { IsInBlock stretch }
     requires within { count ≤ stretch_len stretch }
     requires named { AreNamed (stretch_blocks stretch) }
-    requires compared { IsTrue (S.tells store.old) → IsCompared (S.reads store.old) last.old }
+    requires cached { IsTrue (S.tells store.old) → IsCacheOf (S.reads store.old) cache.old }
     requires known { IsTrue (S.tells store.old) → IsKnown (S.reads store.old) known.old }
-    ensures compared { IsTrue (S.tells store.old) → IsCompared (S.reads store.old) last.new }
+    ensures cache { KeepsCache (S.tells store.old) (S.reads store.old) (stretch_blocks stretch) cache.old cache.new }
     ensures known { IsTrue (S.tells store.old) → IsKnown (S.reads store.old) known.new }
     ensures read { IsTrue (S.tells store.old) → AreWhole (S.reads store.old) (stretch_blocks stretch)
         → IfOk result (λ s. s ≡ summary_of (samples_among (take count (stretch_cells
@@ -82,18 +80,17 @@ fn summarize_stretch<S: Store>(
         Stretch::Gaps { .. } => Ok(NOTHING),
         Stretch::Block { block, from } => {
             let to = from + count as u32;
-            let summary = summarize_block(store, last, known, block, from, to, reach)?;
+            let summary = summarize_block(store, cache, known, block, from, to, reach)?;
             Ok(summary)
         }
     }
 }
 
 /// The summary of the samples among the next cells, so many or as many as there are. What is left begins behind
-/// them, `last` is the block whose header was compared last, and `known` what is known of a block behind them, of which
-/// at least `reach` are asked for next.
+/// them, and `known` is what is known of a block behind them, of which at least `reach` are asked for next.
 pub(crate) fn sweep<S: Store>(
     store: &mut S,
-    last: &mut Option<BlockRef>,
+    cache: &mut Cache,
     known: &mut Option<Known>,
     ahead: &mut Ahead,
     count: u64,
@@ -102,9 +99,9 @@ pub(crate) fn sweep<S: Store>(
     requires few { count ≤ 2 ^ 32 }
     requires stretch { IsInBlock ahead.old.stretch }
     requires named { AreNamed (ahead_blocks ahead.old) }
-    requires compared { IsTrue (S.tells store.old) → IsCompared (S.reads store.old) last.old }
+    requires cached { IsTrue (S.tells store.old) → IsCacheOf (S.reads store.old) cache.old }
     requires known { IsTrue (S.tells store.old) → IsKnown (S.reads store.old) known.old }
-    ensures compared { IsTrue (S.tells store.old) → IsCompared (S.reads store.old) last.new }
+    ensures cache { KeepsCache (S.tells store.old) (S.reads store.old) (ahead_blocks ahead.old) cache.old cache.new }
     ensures known { IsTrue (S.tells store.old) → IsKnown (S.reads store.old) known.new }
     ensures stretch { IsInBlock ahead.new.stretch }
     ensures blocks { (b : BlockRef) → Contains (ahead_blocks ahead.new) b → Contains (ahead_blocks ahead.old) b }
@@ -125,7 +122,7 @@ pub(crate) fn sweep<S: Store>(
             return Ok(all);
         };
         let size = left.min(len_of(stretch));
-        let part = summarize_stretch(store, last, known, stretch, size, reach)?;
+        let part = summarize_stretch(store, cache, known, stretch, size, reach)?;
         all = join(all, part);
         ahead.stretch = behind(stretch, size);
         left -= size;

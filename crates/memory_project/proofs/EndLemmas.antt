@@ -11,12 +11,11 @@ use Rattle.pcm_base.specs.declared.command.Command.{Command}
 use Rattle.pcm_base.specs.declared.command.Command.TheVariants as command
 use Rattle.pcm_base.specs.declared.entry.Entry.{Entry}
 use Rattle.pcm_base.specs.declared.refusal.Refusal.{Refusal}
-use Rattle.pcm_base.specs.Outside.{Outside}
 use Rattle.pcm_base.specs.Run.{Answers, CarriesOut, Step, outside, result_of}
 use Rattle.pcm_base.specs.State.{State, new_state}
-use Rattle.pcm_base.specs.Step.{MayReply}
 use Rattle.pcm_base.specs.Studio.{Studio}
 use Rattle.editor_core.specs.Took.{silent}
+use Rattle.editor_core.proofs.Entries.{plain, plain_result}
 use Rattle.script_gen.specs.declared.kind.Kind.{Kind}
 use Rattle.script_gen.specs.declared.kind.Kind.TheVariants as kind
 use Rattle.script_gen.specs.declared.place.Place.{Place}
@@ -64,39 +63,6 @@ script_kinds number lines = (tt, (tt, lines_kind (lines - 2) (first_place number
 
 -- ---- lines that were carried out are a run
 
--- no line that is carried out is replied by a refusal
-reply_plain : (out : Outside) (s : State) (c : Command) (r : Reply) → IsOfScript c → MayReply out s c r → result_of r
-    ≡ Ok r
-reply_plain out s command.Track r kind may = subst (λ (x : Reply). result_of x ≡ Ok x) (sym may) refl
-reply_plain out s (command.Drop id) r kind may = absurd kind
-reply_plain out s (command.Level id gain) r kind may = absurd kind
-reply_plain out s (command.Side id side) r kind may = absurd kind
-reply_plain out s (command.Mute id mute) r kind may = absurd kind
-reply_plain out s (command.Put id at samples) r kind may = absurd kind
-reply_plain out s (command.Ramp id at n start step) r kind may = subst (λ (x : Reply). result_of x ≡ Ok x) (sym may)
-    refl
-reply_plain out s (command.Delete id from to) r kind may = subst (λ (x : Reply). result_of x ≡ Ok x) (sym may) refl
-reply_plain out s (command.SplitDelete id from to) r kind may = absurd kind
-reply_plain out s (command.Silence id from to) r kind may = subst (λ (x : Reply). result_of x ≡ Ok x) (sym may) refl
-reply_plain out s (command.Trim id from to) r kind may = absurd kind
-reply_plain out s (command.Gain id from to gain) r kind may = subst (λ (x : Reply). result_of x ≡ Ok x) (sym may) refl
-reply_plain out s (command.Cut id n from to) r kind may = absurd kind
-reply_plain out s (command.SplitCut id n from to) r kind may = absurd kind
-reply_plain out s (command.Copy id n from to) r kind may = subst (λ (x : Reply). result_of x ≡ Ok x) (sym may) refl
-reply_plain out s (command.Paste id at) r kind may = subst (λ (x : Reply). result_of x ≡ Ok x) (sym may) refl
-reply_plain out s (command.PasteOver id at) r kind may = absurd kind
-reply_plain out s command.Undo r kind may = subst (λ (x : Reply). result_of x ≡ Ok x) (sym may) refl
-reply_plain out s command.Redo r kind may = subst (λ (x : Reply). result_of x ≡ Ok x) (sym may) refl
-reply_plain out s (command.Purge n) r kind may = absurd kind
-reply_plain out s (command.Show id from to) r kind may = absurd kind
-reply_plain out s (command.Mix from to) r kind may = absurd kind
-reply_plain out s (command.Envelope id from to columns) r kind may = subst (λ (x : Reply). result_of x ≡ Ok x)
-    (sym may) refl
-reply_plain out s command.Tracks r kind may = subst (λ (x : Reply). result_of x ≡ Ok x) (sym may) refl
-reply_plain out s (command.Reclaim limit) r kind may = absurd kind
-reply_plain out s (command.Import name) r kind may = absurd kind
-reply_plain out s (command.Export name) r kind may = absurd kind
-
 abbrev IsAnswered : Entry → Type 0
 IsAnswered e = IsOk (result_of e.reply)
 
@@ -116,7 +82,7 @@ carried_run t (c ∷ cs) u kinds done =
     let r = done.1 in
     let step = done.2 in
     let rest = carried_run mid cs u kinds.1 done.3 in
-    let is : result_of r ≡ Ok r = reply_plain (outside t silent) t.state c r kinds.0 step.answers in
+    let is : result_of r ≡ Ok r = plain_result r (plain (outside t silent) t.state (Line c) r step.answers) in
     let e : Entry = record { actor = 0; call = Line c; reply = r; sound = silent } in
     let said : IsAnswered e = subst (λ (x : Result Reply Refusal). IsOk x) (sym is) refl in
     let went : Step t (Line c) silent r mid =

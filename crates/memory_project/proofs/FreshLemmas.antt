@@ -25,7 +25,7 @@ absent (Some a) e some = cc
 module _ {D : Type 0} (disk : Ghosts D) (p : FreshProject) (can : CanBeMade p) (store new : D)
     (empty : IsEmpty disk p store)
     (changed : Changed disk (SameElsewhere 0) (create_room (disk.reads store 0)) store new) where
-  takes : Takes (create_room (disk.reads store 0)) (left_behind 7 p) (room_of_project p)
+  takes : Takes (create_room (disk.reads store 0)) (left_behind 8 p) (room_of_project p)
   takes =
       let few = files_few (disk.reads store 0) in
       let files = can.files_least in let bytes = can.bytes_least in let calls = can.calls_least in
@@ -45,7 +45,7 @@ module _ {D : Type 0} (disk : Ghosts D) (p : FreshProject) (can : CanBeMade p) (
       absurd (absent (disk.reads store file) (empty.none file) creates.1.there)
   making_wants fault.DiskFault creates cause =
       absurd (no_fault_within disk store new (SameElsewhere 0) (create_room (disk.reads store 0)) (room_of_project p)
-      (left_behind 7 p) changed empty.tells empty.room takes cause)
+      (left_behind 8 p) changed empty.tells empty.room takes cause)
   making_wants fault.NoMemory creates cause = refl
 
   only_journal : (file : ℕ) → IsSome (disk.reads new file) → file ≡ 0
@@ -64,14 +64,14 @@ module _ {D : Type 0} (disk : Ghosts D) (p : FreshProject) (can : CanBeMade p) (
     only = only_journal;
     asked_few =
         let few = files_few (disk.reads store 0) in
-        let most : IsWithin (create_room (disk.reads store 0)) (made_room 7) =
+        let most : IsWithin (create_room (disk.reads store 0)) (made_room 8) =
         record { files = omega (arith, few); bytes = omega arith; calls = omega arith } in
-        let more = asked_by disk store new (SameElsewhere 0) (create_room (disk.reads store 0)) (made_room 7) changed
+        let more = asked_by disk store new (SameElsewhere 0) (create_room (disk.reads store 0)) (made_room 8) changed
         empty.tells most in
         let none = empty.asked_none in
         let a = more.files in let b = more.bytes in let d = more.calls in
         let i = none.files in let j = none.bytes in let k = none.calls in
         record { files = omega (arith, a, i); bytes = omega (arith, b, j); calls = omega (arith, d, k) };
     room = room_left disk store new (SameElsewhere 0) (create_room (disk.reads store 0)) (room_of_project p)
-        (left_behind 7 p) changed empty.tells empty.room takes;
+        (left_behind 8 p) changed empty.tells empty.room takes;
   }

@@ -7,7 +7,6 @@ use Rattle.pcm_base.specs.declared.answer.Reply.{Reply}
 use Rattle.pcm_base.specs.declared.command.Call.{Call}
 use Rattle.pcm_base.specs.declared.command.Call.TheVariants.{Line}
 use Rattle.pcm_base.specs.declared.command.Command.{Command}
-use Rattle.pcm_base.specs.declared.command.Command.TheVariants as command
 use Rattle.pcm_base.specs.declared.refusal.Refusal.{Refusal}
 use Rattle.pcm_base.specs.declared.refusal.Refusal.TheVariants as refusal
 use Rattle.pcm_base.specs.Causes.{Rose}
@@ -26,6 +25,7 @@ use Rattle.editor_core.specs.Left.{LeavesOthers, MayRemove}
 use Rattle.editor_core.specs.Studios.{studio_of}
 use Rattle.editor_core.specs.Exchanges.{begun_in_vain, is_broken_off}
 use Rattle.editor_core.specs.Took.{Exchange, Took, asks, quietly, silent, told_by}
+use Rattle.editor_core.proofs.Applying.{names_none as none_named}
 use Rattle.memory_project.specs.Lines.{Asked, IsOfScript, MayCome, Went, line_room}
 use Rattle.memory_project.specs.Memory.{HasAsked, HasRoom, no_room}
 use Rattle.memory_project.proofs.FreshLemmas.{absent}
@@ -33,33 +33,8 @@ use Rattle.memory_project.proofs.RoomLemmas.{Takes, asked_by, room_left}
 
 -- no line of a script names a sound
 names_none : (c : Command) → IsOfScript c → name_in_line c ≡ None
-names_none command.Track kind = refl
-names_none (command.Drop id) kind = absurd kind
-names_none (command.Level id gain) kind = absurd kind
-names_none (command.Side id side) kind = absurd kind
-names_none (command.Mute id mute) kind = absurd kind
-names_none (command.Put id at samples) kind = absurd kind
-names_none (command.Ramp id at n start step) kind = refl
-names_none (command.Delete id from to) kind = refl
-names_none (command.SplitDelete id from to) kind = absurd kind
-names_none (command.Silence id from to) kind = refl
-names_none (command.Trim id from to) kind = absurd kind
-names_none (command.Gain id from to gain) kind = refl
-names_none (command.Cut id n from to) kind = absurd kind
-names_none (command.SplitCut id n from to) kind = absurd kind
-names_none (command.Copy id n from to) kind = refl
-names_none (command.Paste id at) kind = refl
-names_none (command.PasteOver id at) kind = absurd kind
-names_none command.Undo kind = refl
-names_none command.Redo kind = refl
-names_none (command.Purge n) kind = absurd kind
-names_none (command.Show id from to) kind = absurd kind
-names_none (command.Mix from to) kind = absurd kind
-names_none (command.Envelope id from to columns) kind = refl
-names_none command.Tracks kind = refl
-names_none (command.Reclaim limit) kind = absurd kind
-names_none (command.Import name) kind = absurd kind
-names_none (command.Export name) kind = absurd kind
+names_none c kind =
+    none_named c (λ name is. subst IsOfScript is kind) (λ name is. subst IsOfScript is kind)
 
 -- ---- an answer as a reply
 
@@ -82,29 +57,11 @@ told_sound f (Err why) sound = sound
 module _ (t u : Studio) (c : Command) (names : name_in_line c ≡ None) (no_fault : DiskFails t (Line c) silent u → ⊥)
   where
     breaks : (why : Refusal) → IsUndamaged why → Breaks t (Line c) silent why u → (why ≡ refusal.NoMemory) × (u ≡ t)
-    breaks (refusal.BadLine column) sound b = absurd b
-    breaks (refusal.Spent turns) sound b = absurd b
-    breaks (refusal.Stopped faults) sound b = absurd b
-    breaks (refusal.NoTrack id) sound b = absurd b
-    breaks refusal.BadRange sound b = absurd b
-    breaks refusal.BadColumns sound b = absurd b
-    breaks refusal.TrackLimit sound b = absurd b
-    breaks (refusal.LengthLimit len) sound b = absurd b
-    breaks refusal.EmptyClipboard sound b = absurd b
-    breaks (refusal.TooNarrow have need) sound b = absurd b
-    breaks refusal.NothingToUndo sound b = absurd b
-    breaks refusal.NothingToRedo sound b = absurd b
-    breaks refusal.NoFile sound b = absurd b
-    breaks (refusal.BadWav fault) sound b = absurd b
-    breaks (refusal.RateDiffers have want) sound b = absurd b
-    breaks (refusal.TooLong frames) sound b = absurd b
-    breaks (refusal.SpaceSpent have need) sound b = absurd b
-    breaks (refusal.RecordLimit len) sound b = absurd b
     breaks (refusal.Damaged file at want have) sound b = absurd sound
     breaks refusal.DiskFault sound b = absurd (no_fault b)
     breaks refusal.VaultFault sound b = absurd (absent (name_in_line c) names b.0)
-    breaks (refusal.NoPin pin) sound b = absurd b
     breaks refusal.NoMemory sound b = (refl, b.same)
+    breaks why sound b = absurd b
 
     pub no_answer : (why : Refusal) → IsUndamaged why
         → ((blocks len : ℕ) → Needs (outside t silent) t (Line c) blocks len →

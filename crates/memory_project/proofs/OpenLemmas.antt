@@ -11,6 +11,7 @@ use Rattle.pcm_base.specs.Studio as model
 use Rattle.project_journal.specs.Gate.{EachNow}
 use Rattle.project_journal.specs.Header.{version_1}
 use Rattle.project_journal.specs.Journal.{Entry, HasLog, IsAt, IsLog, Log, body_of, entry}
+use Rattle.project_journal.proofs.Bases.{plain}
 use Rattle.project_journal.proofs.Kept.{is_project}
 use Rattle.project_state.specs.Kept.{Keeps, Kept, LeadTo, Opened, new_project}
 use Rattle.project_state.proofs.KeptBounds.{kept_sound}
@@ -30,8 +31,8 @@ use Rattle.memory_project.specs.Fresh.{CanBeMade, IsFresh, IsMade, found_of, lef
 use Rattle.memory_project.specs.Memory.{HasAsked, HasRoom}
 use Rattle.memory_project.proofs.RoomLemmas.{Takes, asked_by, no_fault_within, room_left}
 
-abbrev one_call : Room
-one_call = record { files = 0; bytes = 0; calls = 1 }
+abbrev two_calls : Room
+two_calls = record { files = 0; bytes = 0; calls = 2 }
 
 -- ---- records that make no commit are none
 
@@ -58,7 +59,7 @@ header_alone : (front : List ℕ) (log : Log) → IsLog version_1 front log → 
 header_alone front log is none =
     let entries : is.entries ≡ [] = none_of_none body_of is.entries (is.bodies ∙ none) in
     ap length is.parts ∙ ap (λ (es : List Entry). length (is.head ++ flat_map entry es)) entries
-    ∙ ap length (append-nil is.head) ∙ is.header.size
+    ∙ ap length (append-nil is.head) ∙ (plain 0 is.head log is.header).size
 
 -- where no file is there but the journal, the next block is the first
 first_block : (files : Files) (next : ℕ) → ((file : ℕ) → IsSome (files file) → file ≡ 0) → IsNextBlock files 16 next
@@ -83,11 +84,11 @@ pub record Opened_to {D : Type 0} (disk : Ghosts D) (store : D) (start : Core D)
   pub keeps : IsHonest disk store → EachNow disk start.store (λ c. Keeps c (shown (studio_of disk start)))
   pub stays_honest : IsHonest disk store → IsHonest disk start.store
   pub reads : disk.reads start.store ≡ disk.reads store
-  pub changed : Changed disk StaysStep one_call store start.store
+  pub changed : Changed disk StaysStep two_calls store start.store
 
 module _ {D : Type 0} (disk : Ghosts D) (p : FreshProject) (can : CanBeMade p) (store : D)
     (made : IsMade disk p store) where
-  takes : Takes one_call (left_behind 8 p) (left_behind 7 p)
+  takes : Takes two_calls (left_behind 10 p) (left_behind 8 p)
   takes = let calls = can.calls_least in (omega arith, omega arith, omega (arith, calls))
 
   module _ (start : Core D) (to : Opened_to disk store start)
@@ -120,16 +121,16 @@ module _ {D : Type 0} (disk : Ghosts D) (p : FreshProject) (can : CanBeMade p) (
         let at = to.at_rest made.tells finds.log finds.project.there in
         sym at.place ∙ header_alone at.front finds.log at.spelled bodies_none
 
-    room_is : HasRoom disk start.store (left_behind 8 p)
-    room_is = room_left disk store start.store StaysStep one_call (left_behind 7 p) (left_behind 8 p) to.changed
+    room_is : HasRoom disk start.store (left_behind 10 p)
+    room_is = room_left disk store start.store StaysStep two_calls (left_behind 8 p) (left_behind 10 p) to.changed
         made.tells
         made.room takes
 
-    asked_is : HasAsked disk start.store (made_room 8)
+    asked_is : HasAsked disk start.store (made_room 10)
     asked_is =
-        let same : IsWithin one_call one_call =
+        let same : IsWithin two_calls two_calls =
         record { files = omega arith; bytes = omega arith; calls = omega arith } in
-        let more = asked_by disk store start.store StaysStep one_call one_call to.changed made.tells same in
+        let more = asked_by disk store start.store StaysStep two_calls two_calls to.changed made.tells same in
         let few = made.asked_few in
         let a = more.files in let b = more.bytes in let d = more.calls in
         let i = few.files in let j = few.bytes in let k = few.calls in
@@ -166,13 +167,13 @@ module _ {D : Type 0} (disk : Ghosts D) (p : FreshProject) (can : CanBeMade p) (
 
   -- it is refused for want of memory alone
   pub opening_wants : (new : D) (why : OpenFault) → (IsHonest disk store → OpensHonest disk store new (Err why))
-      → Causes {T = Found} disk store new (Err why) → Changed disk StaysStep one_call store new → why ≡ fault.NoMemory
+      → Causes {T = Found} disk store new (Err why) → Changed disk StaysStep two_calls store new → why ≡ fault.NoMemory
   opening_wants new fault.Absent honest cause changed = absurd (honest made.honest
       (is_project version_1 made.keeps.log (disk.reads store) (omega arith) made.keeps.there))
   opening_wants new fault.Exists honest cause changed = absurd (honest made.honest)
   opening_wants new (fault.Damaged file at want have) honest cause changed = absurd (honest made.honest)
   opening_wants new (fault.Foreign file) honest cause changed = absurd (honest made.honest)
   opening_wants new fault.DiskFault honest cause changed =
-      absurd (no_fault_within disk store new StaysStep one_call (left_behind 7 p) (left_behind 8 p) changed made.tells
+      absurd (no_fault_within disk store new StaysStep two_calls (left_behind 8 p) (left_behind 10 p) changed made.tells
       made.room takes cause)
   opening_wants new fault.NoMemory honest cause changed = refl

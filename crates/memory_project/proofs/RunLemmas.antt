@@ -64,7 +64,7 @@ module _ {D : Type 0} (disk : Ghosts D) (number lines : ℕ) (start : Core D)
         kinds = subst (AllByRecursion IsOfScript) (sym is) (script_kinds number lines);
         valid = subst (λ (z : model.Studio). AreValid z cs) (sym fresh.is) (valid 8000 512 64 (omega arith));
         few = subst (λ (z : model.Studio). EachNeedsAtMost z cs 11 6872) (sym fresh.is) few;
-        room = room_less disk start.store (room_for (length cs)) (left_behind 8 (project_for lines))
+        room = room_less disk start.store (room_for (length cs)) (left_behind 10 (project_for lines))
             (record { files = omega (arith, count); bytes = omega (arith, count); calls = omega (arith, count) })
             fresh.room;
       }

@@ -20,7 +20,7 @@ pub record CanBeMade (p : FreshProject) : Type 0 where
   pub files_most : p.files < 2 ^ 62
   pub bytes_least : 34 ≤ p.bytes
   pub bytes_most : p.bytes < 2 ^ 62
-  pub calls_least : 8 ≤ p.calls
+  pub calls_least : 10 ≤ p.calls
   pub calls_most : p.calls < 2 ^ 62
 
 -- what opening a disk with it finds
@@ -54,8 +54,8 @@ pub record IsMade {D : Type 0} (disk : Ghosts D) (p : FreshProject) (store : D) 
   pub keeps : Keeps (disk.reads store) (found_of p)
   pub each : EachNow disk store (λ c. Keeps c (found_of p))
   pub only : (file : ℕ) → IsSome (disk.reads store file) → file ≡ 0
-  pub room : HasRoom disk store (left_behind 7 p)
-  pub asked_few : HasAsked disk store (made_room 7)
+  pub room : HasRoom disk store (left_behind 8 p)
+  pub asked_few : HasAsked disk store (made_room 8)
 
 -- The studio of it, opened: that of the model's fresh project, on a disk of which no call has failed.
 pub record IsFresh {D : Type 0} (disk : Ghosts D) (p : FreshProject) (start : Core D) : Type 0 where
@@ -63,5 +63,5 @@ pub record IsFresh {D : Type 0} (disk : Ghosts D) (p : FreshProject) (start : Co
   pub held : IsHeld disk start
   pub honest : IsHonest disk start.store
   pub is : studio_of disk start ≡ fresh p.rate p.block_size p.depth
-  pub room : HasRoom disk start.store (left_behind 8 p)
-  pub asked_few : HasAsked disk start.store (made_room 8)
+  pub room : HasRoom disk start.store (left_behind 10 p)
+  pub asked_few : HasAsked disk start.store (made_room 10)

@@ -1,7 +1,9 @@
 -- Tracks of a point, one after another.
 use Rattle.std.proofs.Common.{◌≡◌, ℕ, zero, suc, ◌≤◌, ◌<◌, Bool, true, false, List, [], ◌∷◌, ◌++◌, length, take, drop}
 use Rattle.std.proofs.Common.{max, get_or, refl, sym, ap, ap₂, subst, ◌∙◌, arith}
-use Rattle.std.specs.Prelude.{if◌then◌else◌, replicate}
+use Rattle.std.specs.Prelude.{Contains, if◌then◌else◌}
+use Rattle.std.proofs.lemmas.List.Elements.{Contains-append_left, Contains-append_right}
+use Rattle.pcm_base.specs.declared.block.BlockRef.{BlockRef}
 use Rattle.std.proofs.lemmas.List.{length-take}
 use borrow.Rule.Slice.PartMut.{put_mid}
 use lib.ListN.{set}
@@ -17,7 +19,7 @@ use Rattle.clip_track.specs.Clips.{layout_cells}
 use Rattle.clip_track.specs.Clips.{layout_blocks}
 use Rattle.project_state.specs.declared.track.Track.{Track}
 use Rattle.project_state.specs.Kept.{meant, point_blocks}
-use Rattle.block_store.specs.Reads.{IsCompared, IsFaultIn}
+use Rattle.block_store.specs.Reads.{IsFaultIn}
 use Rattle.sample_block.specs.Sources.{sources_of, AllNamed, AllWhole}
 use Rattle.cell_view.specs.Rests.{IsRestOf}
 use Rattle.cell_view.specs.Stored.{stored_of}
@@ -27,7 +29,7 @@ use Rattle.cell_view.proofs.SeenLaws.{fault_later, whole_front, whole_back, name
 use Rattle.cell_view.proofs.StoredLaws.{stored_cells}
 use Rattle.mixdown.specs.Stretches.{IsStretch, AreStretches, gains_of, sides_of}
 use Rattle.mix_view.specs.declared.passes.TrackPass.{TrackPass}
-use Rattle.mix_view.specs.Readers.{AreCompared, AreRestsOf}
+use Rattle.mix_view.specs.Readers.{AreRestsOf}
 use Rattle.mix_view.specs.Tracks.{stored_mix, track_gains, track_sides}
 
 -- facts of the tracks that are left
@@ -66,23 +68,18 @@ rests_later from to (t ∷ ts) [] le are = absurd are
 rests_later from to (t ∷ ts) (p ∷ ps) le are =
     (rest_later from to t.layout p.rest le are.0, rests_later from to ts ps le are.1)
 
--- the block whose header was compared last of one of the tracks
-pub compared_at : (files : Files) (ps : List TrackPass) (i : ℕ) (e : TrackPass) → i < length ps → AreCompared files ps
-    → IsCompared files (get_or ps i e).last
-compared_at files [] i e lt are = absurd (omega (arith, lt))
-compared_at files (p ∷ ps) zero e lt are = are.0
-compared_at files (p ∷ ps) (suc i) e lt are = compared_at files ps i e (omega (arith, lt)) are.1
+-- the blocks of one of the tracks that are left
+pub blocks_drop : (i : ℕ) (ts : List Track) (b : BlockRef) → Contains (point_blocks (drop i ts)) b
+    → Contains (point_blocks ts) b
+blocks_drop zero ts b has = has
+blocks_drop (suc i) [] b has = has
+blocks_drop (suc i) (t ∷ ts) b has =
+    Contains-append_right (layout_blocks t.layout) (point_blocks ts) b (blocks_drop i ts b has)
 
-pub compared_set : (files : Files) (ps : List TrackPass) (i : ℕ) (p' : TrackPass) → IsCompared files p'.last
-    → AreCompared files ps → AreCompared files (set ps i p')
-compared_set files [] i p' is are = are
-compared_set files (p ∷ ps) zero p' is are = (is, are.1)
-compared_set files (p ∷ ps) (suc i) p' is are = (are.0, compared_set files ps i p' is are.1)
-
-pub none_compared : (files : Files) (n : ℕ) (p : TrackPass) → IsCompared files p.last
-    → AreCompared files (replicate n p)
-none_compared files zero p is = tt
-none_compared files (suc n) p is = (is, none_compared files n p is)
+pub blocks_at : (k : ℕ) (ts us : List Track) (t : Track) (b : BlockRef) → drop k ts ≡ t ∷ us
+    → Contains (layout_blocks t.layout) b → Contains (point_blocks ts) b
+blocks_at k ts us t b e has = blocks_drop k ts b (subst (λ (vs : List Track). Contains (point_blocks vs) b) (sym e)
+    (Contains-append_left (layout_blocks t.layout) (point_blocks us) b has))
 
 -- a stretch is put before those of the tracks behind
 pub stretch_put : (from len a k : ℕ) (xs ys : List Cell) (t : cells.Track) (ts : cells.Project) → a ≤ length xs

@@ -1,7 +1,5 @@
 -- Readers of a mix.
 use Rattle.std.specs.Prelude.{◌≡◌, ℕ, List, [], ◌∷◌, length, take}
-use Rattle.disk_model.specs.Disk.{Files}
-use Rattle.block_store.specs.Reads.{IsCompared}
 use Rattle.project_state.specs.declared.track.Track.{Track}
 use Rattle.cell_view.specs.Rests.{IsRestOf}
 use Rattle.mix_view.specs.Tracks.{track_gains, track_sides}
@@ -14,17 +12,8 @@ AreRestsOf from [] ps = Unit {0}
 AreRestsOf from (t ∷ ts) [] = ⊥
 AreRestsOf from (t ∷ ts) (p ∷ ps) = IsRestOf from t.layout p.rest × AreRestsOf from ts ps
 
--- of each the block whose header was compared last, if there was one, has it there still
-abbrev pub AreCompared : Files → List TrackPass → Type 0
-AreCompared files [] = Unit {0}
-AreCompared files (p ∷ ps) = IsCompared files p.last × AreCompared files ps
-
 -- what a reader has of each track of its project, from its place on
 pub record IsReader (r : MixReader) : Type 0 where
   pub gains : take (length r.point.now) r.gains ≡ track_gains r.point.now
   pub sides : take (length r.point.now) r.sides ≡ track_sides r.point.now
   pub rests : AreRestsOf r.at r.point.now r.passes
-
--- what it knows of a disk
-abbrev pub HasCompared : Files → MixReader → Type 0
-HasCompared files r = AreCompared files r.passes

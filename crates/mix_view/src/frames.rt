@@ -8,12 +8,14 @@ ghost use Rattle.pcm_base.specs.Arithmetic.{counted_from};
 ghost use Rattle.pcm_base.specs.Mix.{frame_at, mix_of};
 ghost use Rattle.project_state.specs.Kept.{meant, point_blocks};
 ghost use Rattle.sample_block.specs.Sources.{sources_of, AllNamed, AllWhole};
+ghost use Rattle.block_cache.specs.Caches.{IsCacheOf, KeepsCache};
 ghost use Rattle.cell_view.specs.Stored.{stored_of};
-ghost use Rattle.mix_view.specs.Readers.{HasCompared, IsReader};
+ghost use Rattle.mix_view.specs.Readers.{IsReader};
 ghost use Rattle.mix_view.specs.Tracks.{mix_length_of, stored_mix};
 
 use super::reader::MixReader;
 use super::stretches::mix_stretch;
+use block_cache::Cache;
 use block_store::BlockFault;
 use disk_model::Store;
 use pcm_base::{Cell, Frame};
@@ -32,16 +34,18 @@ fn stretch_room(cells: usize, tracks: usize) -> usize
 /// Mixes the next frames of a reader, a stretch of each track at a time, each as long as the buffer has room for.
 pub(crate) fn mix_stretches<'a, S: Store>(
     store: &mut S,
+    cache: &mut Cache,
     reader: &mut MixReader<'a>,
     cells: &mut [Cell],
     out: &mut [Frame],
 ) -> Result<(), BlockFault>
     requires reader { IsReader reader.old }
-    requires compared { IsTrue (S.tells store.old) → HasCompared (S.reads store.old) reader.old }
+    requires cached { IsTrue (S.tells store.old) → IsCacheOf (S.reads store.old) cache.old }
     requires room { 64 ≤ length cells.old }
     requires few { reader.old.at + length out.old < 2 ^ 64 }
     ensures reader { IsReader reader.new }
-    ensures compared { IsTrue (S.tells store.old) → HasCompared (S.reads store.old) reader.new }
+    ensures cache { KeepsCache (S.tells store.old) (S.reads store.old) (point_blocks reader.old.point.now) cache.old
+        cache.new }
     ensures point { reader.new.point.now ≡ reader.old.point.now }
     ensures place { OnOk result (reader.new.at ≡ reader.old.at + length out.old) }
     ensures later { reader.old.at ≤ reader.new.at }
@@ -59,7 +63,13 @@ pub(crate) fn mix_stretches<'a, S: Store>(
     'stretches: while done < out.len() {
         let next = done + most.min(out.len() - done);
         let room = tracks * (next - done);
-        if let Err(fault) = mix_stretch(store, reader, &mut cells[..room], &mut out[done..next]) {
+        if let Err(fault) = mix_stretch(
+            store,
+            cache,
+            reader,
+            &mut cells[..room],
+            &mut out[done..next],
+        ) {
             return Err(fault);
         }
         done = next;
@@ -69,10 +79,11 @@ pub(crate) fn mix_stretches<'a, S: Store>(
 
 /// Reads the frames of the mix of a point's tracks from a place on, as many as there are and as `out` has room for, and
 /// answers how many. A buffer is handed in, of at least one cell for each track that a project may have: the more cells
-/// it has, the longer are the stretches that are read of each track. It takes no memory. After an error `out` may have
-/// been written in part.
+/// it has, the longer are the stretches that are read of each track. After an error `out` may have been written in
+/// part.
 pub fn read_frames<S: Store>(
     store: &mut S,
+    cache: &mut Cache,
     point: &Point,
     from: u64,
     cells: &mut [Cell],
@@ -81,6 +92,8 @@ pub fn read_frames<S: Store>(
     requires named { AllNamed (point_blocks point.now) }
     requires room { 64 ≤ length cells.old }
     requires few { from + length out.old < 2 ^ 64 }
+    requires cached { IsTrue (S.tells store.old) → IsCacheOf (S.reads store.old) cache.old }
+    ensures cache { KeepsCache (S.tells store.old) (S.reads store.old) (point_blocks point.now) cache.old cache.new }
     ensures count { IfOk result (λ n. n ≡ min (length out.old) (mix_length_of point.now - from)) }
     // They are the mix of what stands in the files of the blocks, and where the disk has all blocks that of the model.
     ensures stored { IsTrue (S.tells store.old)
@@ -98,5 +111,5 @@ pub fn read_frames<S: Store>(
     ensures faults { Counted result (S.read_fault_count store.old) (S.read_fault_count store.new) }
 {
     let mut reader = MixReader::new(point, from);
-    reader.read(store, cells, out)
+    reader.read(store, cache, cells, out)
 }

@@ -1,45 +1,41 @@
 // A pass over one track, a stretch at a time.
 ghost use Rattle.std.specs.Prelude.{◌<◌, ◌+◌, ◌^◌, length, IsTrue, OnOk, IfErr};
-ghost use Rattle.disk_model.specs.Disk.{Files};
 ghost use Rattle.disk_model.specs.Frames.{Kept};
-ghost use Rattle.block_store.specs.Reads.{Counted, IsCompared, IsFaultIn};
+ghost use Rattle.block_store.specs.Reads.{Counted, IsFaultIn};
 ghost use Rattle.clip_track.specs.Clips.{layout_blocks};
 ghost use Rattle.project_state.specs.Kept.{meant_track, point_blocks};
 ghost use Rattle.sample_block.specs.Sources.{AllNamed};
+ghost use Rattle.block_cache.specs.Caches.{IsCacheOf, KeepsCache};
 ghost use Rattle.cell_view.specs.Rests.{IsRestOf};
 ghost use Rattle.cell_view.specs.Stored.{stored_of};
 ghost use Rattle.mixdown.specs.Stretches.{IsStretch};
-ghost use Rattle.mix_view.specs.Readers.{AreCompared, AreRestsOf};
+ghost use Rattle.mix_view.specs.Readers.{AreRestsOf};
 
+use block_cache::Cache;
 use block_store::BlockFault;
 use cell_view::{TrackRest, fill_gaps, no_rest, pass, read_ahead, rest_at};
 use disk_model::Store;
-use pcm_base::{BlockRef, Cell};
+use pcm_base::Cell;
 use project_state::{MAX_TRACKS, Point, Track};
 
-/// What is left of a track, and the block whose header was compared last, if there was one.
+/// What is left of a track.
 #[derive(Clone, Copy)]
 pub(crate) struct TrackPass<'a> {
     pub(crate) rest: TrackRest<'a>,
-    pub(crate) last: Option<BlockRef>,
 }
 
-/// Passes over the tracks from a place on, and others behind them. No header was compared yet.
+/// Passes over the tracks from a place on, and others behind them.
 pub(crate) fn passes_from<'a>(point: &'a Point, from: u64) -> [TrackPass<'a>; MAX_TRACKS]
     requires { AllNamed (point_blocks point.now) }
-    ensures rests { AreRestsOf from point.now result }
-    ensures compared { (files : Files) → AreCompared files result }
+    ensures { AreRestsOf from point.now result }
 {
-    let none = TrackPass {
-        rest: no_rest(),
-        last: None,
-    };
+    let none = TrackPass { rest: no_rest() };
     let mut out = [none; MAX_TRACKS];
     let mut i = point.len();
     'rows: while 0 < i {
         i -= 1;
         let rest = rest_at(&point.track_at(i).layout, from);
-        out[i] = TrackPass { rest, last: None };
+        out[i] = TrackPass { rest };
     }
     out
 }
@@ -47,16 +43,18 @@ pub(crate) fn passes_from<'a>(point: &'a Point, from: u64) -> [TrackPass<'a>; MA
 /// Reads the cells that are heard of a track from a place on: gaps, where it is muted.
 pub(crate) fn read_track<'a, S: Store>(
     store: &mut S,
+    cache: &mut Cache,
     left: &mut TrackPass<'a>,
     track: &Track,
     from: u64,
     out: &mut [Cell],
 ) -> Result<(), BlockFault>
     requires rest { IsRestOf from track.now.layout left.old.rest }
-    requires compared { IsTrue (S.tells store.old) → IsCompared (S.reads store.old) left.old.last }
+    requires cached { IsTrue (S.tells store.old) → IsCacheOf (S.reads store.old) cache.old }
     requires few { from + length out.old < 2 ^ 64 }
     ensures rest { IsRestOf from track.now.layout left.new.rest }
-    ensures compared { IsTrue (S.tells store.old) → IsCompared (S.reads store.old) left.new.last }
+    ensures cache { KeepsCache (S.tells store.old) (S.reads store.old) (layout_blocks track.now.layout) cache.old
+        cache.new }
     ensures stored { IsTrue (S.tells store.old) → OnOk result
         (IsStretch from (length out.old) (meant_track (stored_of (S.reads store.old)) track.now) out.new) }
     ensures damaged { IsTrue (S.tells store.old)
@@ -70,5 +68,5 @@ pub(crate) fn read_track<'a, S: Store>(
     }
     let rest = pass(left.rest, from);
     left.rest = rest;
-    read_ahead(store, &mut left.last, &track.layout, &rest, from, out)
+    read_ahead(store, cache, &track.layout, &rest, from, out)
 }

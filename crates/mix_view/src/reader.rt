@@ -2,25 +2,26 @@
 ghost use Rattle.std.specs.Prelude.{◌≡◌, ◌≤◌, ◌<◌, ◌+◌, ◌-◌, ◌^◌, length, take, drop, min, IsTrue, IsOkUnless, IfOk};
 ghost use Rattle.std.specs.Prelude.{IfErr};
 ghost use Rattle.block_store.specs.declared.fault.BlockFault.TheVariants as fault;
-ghost use Rattle.disk_model.specs.Disk.{Files};
 ghost use Rattle.disk_model.specs.Frames.{Kept};
 ghost use Rattle.block_store.specs.Reads.{Counted, IsFaultIn};
 ghost use Rattle.pcm_base.specs.Mix.{mix_of};
 ghost use Rattle.project_state.specs.Kept.{meant, point_blocks};
 ghost use Rattle.sample_block.specs.Sources.{sources_of, AllNamed, AllWhole};
-ghost use Rattle.mix_view.specs.Readers.{HasCompared, IsReader};
+ghost use Rattle.block_cache.specs.Caches.{IsCacheOf, KeepsCache};
+ghost use Rattle.mix_view.specs.Readers.{IsReader};
 ghost use Rattle.mix_view.specs.Tracks.{mix_length_of, stored_mix};
 
 use super::frames::mix_stretches;
 use super::passes::{TrackPass, passes_from};
 use super::tracks::{gains_of, mix_len, sides_of};
+use block_cache::Cache;
 use block_store::BlockFault;
 use disk_model::Store;
 use pcm_base::{Cell, Frame, Side};
 use project_state::{MAX_TRACKS, Point};
 
 /// A pass over the mix of a project's tracks, from a place on. It lasts over several reads, each of which goes on where
-/// the one before ended, so that no clip or block is passed twice, and the header of a block is read once.
+/// the one before ended, so that no clip or block is passed twice.
 #[derive(Drop)]
 pub struct MixReader<'a> {
     /// The project.
@@ -40,8 +41,6 @@ impl<'a> MixReader<'a> {
         ensures reader { IsReader result }
         ensures point { result.point.now ≡ point.now }
         ensures place { result.at ≡ from }
-        // No header was compared yet, on any disk.
-        ensures compared { (files : Files) → HasCompared files result }
     {
         MixReader {
             point,
@@ -54,17 +53,18 @@ impl<'a> MixReader<'a> {
 
     /// Reads the next frames of the mix, as many as are left and as `out` has room for, and answers how many. A buffer
     /// is handed in, of at least one cell for each track that a project may have: the more cells it has, the longer are
-    /// the stretches that are read of each track. The disk has not changed since the reader was made. It takes no
-    /// memory. After an error `out` may have been written in part, and the reader may have gone on over a part of the
+    /// the stretches that are read of each track. After an error `out` may have been written in part, and the reader
+    /// may have gone on over a part of the
     /// frames.
     pub fn read<S: Store>(
         &mut self,
         store: &mut S,
+        cache: &mut Cache,
         cells: &mut [Cell],
         out: &mut [Frame],
     ) -> Result<usize, BlockFault>
         requires reader { IsReader self.old }
-        requires compared { IsTrue (S.tells store.old) → HasCompared (S.reads store.old) self.old }
+        requires cached { IsTrue (S.tells store.old) → IsCacheOf (S.reads store.old) cache.old }
         requires room { 64 ≤ length cells.old }
         requires few { self.old.at + length out.old < 2 ^ 64 }
         ensures count { IfOk result (λ n. n ≡ min (length out.old) (mix_length_of self.old.point.now - self.old.at)) }
@@ -73,7 +73,8 @@ impl<'a> MixReader<'a> {
         ensures reader { IsReader self.new }
         ensures point { self.new.point.now ≡ self.old.point.now }
         ensures later { self.old.at ≤ self.new.at }
-        ensures compared { IsTrue (S.tells store.old) → HasCompared (S.reads store.old) self.new }
+        ensures cache { KeepsCache (S.tells store.old) (S.reads store.old) (point_blocks self.old.point.now) cache.old
+            cache.new }
         // They are the mix of what stands in the files of the blocks, and where the disk has all blocks that of the
         // model.
         ensures stored { IsTrue (S.tells store.old) → IfOk result (λ n. take n out.new
@@ -92,7 +93,7 @@ impl<'a> MixReader<'a> {
     {
         let left = mix_len(self.point).saturating_sub(self.at);
         let count = (out.len() as u64).min(left) as usize;
-        mix_stretches(store, self, cells, &mut out[..count])?;
+        mix_stretches(store, cache, self, cells, &mut out[..count])?;
         Ok(count)
     }
 }

@@ -6,13 +6,15 @@ ghost use Rattle.pcm_base.specs.Arithmetic.{counted_from};
 ghost use Rattle.pcm_base.specs.Mix.{frame_at};
 ghost use Rattle.pcm_base.specs.Pieces.{Sources};
 ghost use Rattle.project_state.specs.Kept.{meant, point_blocks};
+ghost use Rattle.block_cache.specs.Caches.{IsCacheOf, KeepsCache};
 ghost use Rattle.cell_view.specs.Stored.{stored_of};
 ghost use Rattle.mixdown.specs.Stretches.{AreStretches};
-ghost use Rattle.mix_view.specs.Readers.{AreCompared, AreRestsOf, HasCompared, IsReader};
+ghost use Rattle.mix_view.specs.Readers.{AreRestsOf, IsReader};
 ghost use Rattle.mix_view.specs.Tracks.{track_gains, track_sides};
 
 use super::passes::{TrackPass, read_track};
 use super::reader::MixReader;
+use block_cache::Cache;
 use block_store::BlockFault;
 use disk_model::Store;
 use mixdown::mix_into;
@@ -22,6 +24,7 @@ use project_state::Point;
 /// Reads a stretch of `len` cells of each track from a place on, one after the other.
 fn read_stretches<'a, S: Store>(
     store: &mut S,
+    cache: &mut Cache,
     point: &Point,
     passes: &mut [TrackPass<'a>],
     from: u64,
@@ -29,12 +32,12 @@ fn read_stretches<'a, S: Store>(
     cells: &mut [Cell],
 ) -> Result<(), BlockFault>
     requires rests { AreRestsOf from point.now passes.old }
-    requires compared { IsTrue (S.tells store.old) → AreCompared (S.reads store.old) passes.old }
+    requires cached { IsTrue (S.tells store.old) → IsCacheOf (S.reads store.old) cache.old }
     requires tracks { length point.now ≤ length passes.old }
     requires room { length cells.old ≡ length point.now * len }
     requires few { from + len < 2 ^ 64 }
     ensures rests { AreRestsOf from point.now passes.new }
-    ensures compared { IsTrue (S.tells store.old) → AreCompared (S.reads store.old) passes.new }
+    ensures cache { KeepsCache (S.tells store.old) (S.reads store.old) (point_blocks point.now) cache.old cache.new }
     ensures stored { IsTrue (S.tells store.old)
         → OnOk result (AreStretches from len (meant (stored_of (S.reads store.old)) point.now) cells.new) }
     ensures damaged { IsTrue (S.tells store.old)
@@ -49,6 +52,7 @@ fn read_stretches<'a, S: Store>(
         let at = i * len;
         if let Err(fault) = read_track(
             store,
+            cache,
             &mut passes[i],
             track,
             from,
@@ -76,16 +80,18 @@ fn mix_cells(reader: &MixReader<'_>, cells: &[Cell], out: &mut [Frame])
 /// Mixes the next frames of a reader. The buffer has a stretch for each track, as long as the frames.
 pub(crate) fn mix_stretch<'a, S: Store>(
     store: &mut S,
+    cache: &mut Cache,
     reader: &mut MixReader<'a>,
     cells: &mut [Cell],
     out: &mut [Frame],
 ) -> Result<(), BlockFault>
     requires reader { IsReader reader.old }
-    requires compared { IsTrue (S.tells store.old) → HasCompared (S.reads store.old) reader.old }
+    requires cached { IsTrue (S.tells store.old) → IsCacheOf (S.reads store.old) cache.old }
     requires room { length cells.old ≡ length reader.old.point.now * length out.old }
     requires few { reader.old.at + length out.old < 2 ^ 64 }
     ensures reader { IsReader reader.new }
-    ensures compared { IsTrue (S.tells store.old) → HasCompared (S.reads store.old) reader.new }
+    ensures cache { KeepsCache (S.tells store.old) (S.reads store.old) (point_blocks reader.old.point.now) cache.old
+        cache.new }
     ensures point { reader.new.point.now ≡ reader.old.point.now }
     ensures place { OnOk result (reader.new.at ≡ reader.old.at + length out.old) }
     ensures later { reader.old.at ≤ reader.new.at }
@@ -100,6 +106,7 @@ pub(crate) fn mix_stretch<'a, S: Store>(
     let at = reader.at;
     read_stretches(
         store,
+        cache,
         reader.point,
         &mut reader.passes,
         at,

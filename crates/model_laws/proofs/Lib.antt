@@ -6,6 +6,7 @@ pub mod Histories
 pub mod Lines
 pub mod PassedTests
 pub mod Projects
+pub mod ShapeLengths
 pub mod States
 pub mod Steps
 pub mod OwnTests

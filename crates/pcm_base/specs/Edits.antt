@@ -2,8 +2,15 @@
 use Rattle.std.specs.Prelude.{ℕ, ◌+◌, ◌-◌, ℤ, pos, ◌+ℤ◌, ◌*ℤ◌, List, ◌++◌, length, take, drop, map, replicate}
 use Rattle.pcm_base.specs.declared.sound.Cell.{Cell}
 use Rattle.pcm_base.specs.declared.sound.Cell.TheVariants.{Gap, Sample}
+use Rattle.pcm_base.specs.declared.edits.RangeEdit.{RangeEdit}
+use Rattle.pcm_base.specs.declared.edits.RangeEdit.TheVariants as range
+use Rattle.pcm_base.specs.declared.edits.Removing.{Removing}
+use Rattle.pcm_base.specs.declared.edits.Removing.TheVariants.{Close, Leave}
+use Rattle.pcm_base.specs.declared.edits.Placing.{Placing}
+use Rattle.pcm_base.specs.declared.edits.Placing.TheVariants.{Insert, Cover}
 use Rattle.pcm_base.specs.Arithmetic.{scaled, clamped, counted_from}
-use Rattle.pcm_base.specs.Cells.{trimmed, continued}
+use Rattle.pcm_base.specs.Cells.{Track, trimmed, continued}
+use Rattle.pcm_base.specs.Shape.{Setting, Gain, Sides, Muted, Source, Given, Ramp}
 
 abbrev pub as_cells : List ℤ → List Cell
 as_cells samples = map Sample samples
@@ -61,3 +68,38 @@ kept_only from to cells = trimmed (replicate from Gap ++ part from to cells)
 -- cells in the place of as many from a place on, to which a shorter track is first continued by gaps
 abbrev pub pasted_over : ℕ → List Cell → List Cell → List Cell
 pasted_over at xs cells = trimmed (take at (continued at cells) ++ xs ++ drop (at + length xs) cells)
+
+-- ---- by the choices within a shape
+
+-- a range edited
+abbrev pub range_edited : RangeEdit → ℕ → ℕ → List Cell → List Cell
+range_edited range.Delete from to = deleted from to
+range_edited range.SplitDelete from to = split_deleted from to
+range_edited range.Silence from to = silenced from to
+range_edited range.Trim from to = kept_only from to
+range_edited (range.Gain gain) from to = changed (gained gain) from to
+
+-- a range that is cut
+abbrev pub removed : Removing → ℕ → ℕ → List Cell → List Cell
+removed Close from to = deleted from to
+removed Leave from to = split_deleted from to
+
+-- cells put in at a place
+abbrev pub placed : Placing → ℕ → List Cell → List Cell → List Cell
+placed Insert at = inserted at
+placed Cover at = pasted_over at
+
+-- the cells that come to a track, and how many they are
+abbrev pub source_cells : Source → List Cell
+source_cells (Given samples) = as_cells samples
+source_cells (Ramp n start step) = ramp_of n start step
+
+abbrev pub source_count : Source → ℕ
+source_count (Given samples) = length samples
+source_count (Ramp n start step) = n
+
+-- a track set
+abbrev pub with_setting : Setting → Track → Track
+with_setting (Gain gain) = λ t. record t { gain = gain }
+with_setting (Sides side) = λ t. record t { side = side }
+with_setting (Muted mute) = λ t. record t { mute = mute }

@@ -4,9 +4,13 @@ use Rattle.std.specs.Prelude.{ℕ, ◌^◌, ◌<◌, ◌≤◌, nat_le, ◌==◌
 use Rattle.std.specs.Prelude.{length, Option, Some, None}
 use Rattle.std.specs.List.{list_all}
 use Rattle.pcm_base.specs.declared.command.Command.{Command}
-use Rattle.pcm_base.specs.declared.command.Command.TheVariants as command
 use Rattle.pcm_base.specs.declared.command.Call.{Call}
 use Rattle.pcm_base.specs.declared.command.Call.TheVariants as call
+use Rattle.pcm_base.specs.declared.limits.TheConstants.{MAX_GAIN, MAX_RAMP}
+use Rattle.pcm_base.specs.declared.chunk.TheConstants.{CHUNK_SAMPLES}
+use Rattle.pcm_base.specs.Shape.{Shape, NewTrack, DropTrack, SetTrack, PutIn, EditRange, CutRun, CopyRun, PasteRun}
+use Rattle.pcm_base.specs.Shape.{MoveTo, Purge, Look, Reclaim, Import, Export, Source, Given, Ramp, View}
+use Rattle.pcm_base.specs.Shape.{Cells, Frames, Columns, Tracks, shape_of, gain_of_setting, gain_of_edit}
 
 -- a track's id, a place or a count
 abbrev pub IsNumber : ℕ → Type 0
@@ -18,7 +22,7 @@ IsCount n = (0 < n) × IsNumber n
 
 -- a gain, in parts of 65,536
 abbrev pub IsGain : ℕ → Type 0
-IsGain g = g ≤ 1048576
+IsGain g = g ≤ MAX_GAIN
 
 -- a letter, a digit, `.`, `_` or `-`, as its byte
 abbrev pub is_name_byte : ℕ → Bool
@@ -43,39 +47,50 @@ abbrev pub IsLimit : Option ℕ → Type 0
 IsLimit None = Unit {0}
 IsLimit (Some n) = IsNumber n
 
+-- a track, and a gain where there is one
+abbrev pub IsTrackWith : ℕ → Option ℕ → Type 0
+IsTrackWith track None = IsNumber track
+IsTrackWith track (Some gain) = IsNumber track × IsGain gain
+
+-- a range of one, and a gain where there is one
+abbrev pub IsRangeWith : ℕ → ℕ → ℕ → Option ℕ → Type 0
+IsRangeWith track from to None = IsNumber track × IsNumber from × IsNumber to
+IsRangeWith track from to (Some gain) = IsNumber track × IsNumber from × IsNumber to × IsGain gain
+
+-- a track and a place, and some samples
+abbrev pub IsSourceAt : ℕ → ℕ → Source → Type 0
+IsSourceAt track at (Given samples) = IsNumber track × IsNumber at × (0 < length samples)
+IsSourceAt track at (Ramp count start step) = IsNumber track × IsNumber at × (0 < count) × (count ≤ MAX_RAMP)
+
+abbrev pub IsViewInForm : View → Type 0
+IsViewInForm (Cells track from to) = IsNumber track × IsNumber from × IsNumber to
+IsViewInForm (Frames from to) = IsNumber from × IsNumber to
+IsViewInForm (Columns track from to columns) = IsNumber track × IsNumber from × IsNumber to × IsNumber columns
+IsViewInForm Tracks = Unit {0}
+
+abbrev pub IsShapeInForm : Shape → Type 0
+IsShapeInForm NewTrack = Unit {0}
+IsShapeInForm (DropTrack track) = IsNumber track
+IsShapeInForm (SetTrack track setting) = IsTrackWith track (gain_of_setting setting)
+IsShapeInForm (PutIn track at source) = IsSourceAt track at source
+IsShapeInForm (EditRange track from to edit) = IsRangeWith track from to (gain_of_edit edit)
+IsShapeInForm (CutRun track count from to removing) = IsNumber track × IsCount count × IsNumber from × IsNumber to
+IsShapeInForm (CopyRun track count from to) = IsNumber track × IsCount count × IsNumber from × IsNumber to
+IsShapeInForm (PasteRun track at placing) = IsNumber track × IsNumber at
+IsShapeInForm (MoveTo move) = Unit {0}
+IsShapeInForm (Purge count) = IsNumber count
+IsShapeInForm (Look view) = IsViewInForm view
+IsShapeInForm (Reclaim limit) = IsLimit limit
+IsShapeInForm (Import name) = IsName name
+IsShapeInForm (Export name) = IsName name
+
 abbrev pub IsInForm : Command → Type 0
-IsInForm command.Track = Unit {0}
-IsInForm (command.Drop track) = IsNumber track
-IsInForm (command.Level track gain) = IsNumber track × IsGain gain
-IsInForm (command.Side track side) = IsNumber track
-IsInForm (command.Mute track mute) = IsNumber track
-IsInForm (command.Put track at samples) = IsNumber track × IsNumber at × (0 < length samples)
-IsInForm (command.Ramp track at count start step) = IsNumber track × IsNumber at × (0 < count) × (count ≤ 1048576)
-IsInForm (command.Delete track from to) = IsNumber track × IsNumber from × IsNumber to
-IsInForm (command.SplitDelete track from to) = IsNumber track × IsNumber from × IsNumber to
-IsInForm (command.Silence track from to) = IsNumber track × IsNumber from × IsNumber to
-IsInForm (command.Trim track from to) = IsNumber track × IsNumber from × IsNumber to
-IsInForm (command.Gain track from to gain) = IsNumber track × IsNumber from × IsNumber to × IsGain gain
-IsInForm (command.Cut track count from to) = IsNumber track × IsCount count × IsNumber from × IsNumber to
-IsInForm (command.SplitCut track count from to) = IsNumber track × IsCount count × IsNumber from × IsNumber to
-IsInForm (command.Copy track count from to) = IsNumber track × IsCount count × IsNumber from × IsNumber to
-IsInForm (command.Paste track at) = IsNumber track × IsNumber at
-IsInForm (command.PasteOver track at) = IsNumber track × IsNumber at
-IsInForm command.Undo = Unit {0}
-IsInForm command.Redo = Unit {0}
-IsInForm (command.Purge count) = IsNumber count
-IsInForm (command.Show track from to) = IsNumber track × IsNumber from × IsNumber to
-IsInForm (command.Mix from to) = IsNumber from × IsNumber to
-IsInForm (command.Envelope track from to columns) = IsNumber track × IsNumber from × IsNumber to × IsNumber columns
-IsInForm command.Tracks = Unit {0}
-IsInForm (command.Reclaim limit) = IsLimit limit
-IsInForm (command.Import name) = IsName name
-IsInForm (command.Export name) = IsName name
+IsInForm c = IsShapeInForm (shape_of c)
 
 -- A call, where so many commits were made: a recording is numbered by one of them, and its pieces are short.
 abbrev pub IsCallInForm : ℕ → Call → Type 0
 IsCallInForm commit (call.Line c) = IsInForm c
-IsCallInForm commit (call.Piece track tag samples) = (1 ≤ tag) × (tag ≤ commit) × (length samples ≤ 256)
+IsCallInForm commit (call.Piece track tag samples) = (1 ≤ tag) × (tag ≤ commit) × (length samples ≤ CHUNK_SAMPLES)
 IsCallInForm commit call.Pin = Unit {0}
 IsCallInForm commit (call.PinLen pin) = Unit {0}
 IsCallInForm commit (call.ReadPin pin from count) = Unit {0}

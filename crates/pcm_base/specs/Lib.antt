@@ -15,6 +15,7 @@ pub mod Reach
 pub mod Recordings
 pub mod Refusals
 pub mod Run
+pub mod Shape
 pub mod Sizes
 pub mod State
 pub mod Step

@@ -1,8 +1,7 @@
 -- The step of a studio as a relation, and whole runs.
-use Rattle.std.specs.Prelude.{◌≡◌, ◌⊎◌, ℕ, ◌+◌, ◌^◌, ◌≤◌, IsTrue, List, [], ◌∷◌, take, Option, Some}
+use Rattle.std.specs.Prelude.{◌≡◌, ◌⊎◌, ℕ, ◌+◌, ◌≤◌, IsTrue, List, [], ◌∷◌, take, Option, Some}
 use Rattle.std.specs.Prelude.{None, IsSome, Result, Ok, Err}
 use Rattle.pcm_base.specs.declared.command.Command.{Command}
-use Rattle.pcm_base.specs.declared.command.Command.TheVariants as command
 use Rattle.pcm_base.specs.declared.command.Call.{Call}
 use Rattle.pcm_base.specs.declared.command.Call.TheVariants as call
 use Rattle.pcm_base.specs.declared.refusal.Refusal.{Refusal}
@@ -11,11 +10,14 @@ use Rattle.pcm_base.specs.declared.answer.Reply.{Reply}
 use Rattle.pcm_base.specs.declared.answer.Reply.TheVariants as reply
 use Rattle.pcm_base.specs.declared.entry.SoundMove.{SoundMove}
 use Rattle.pcm_base.specs.declared.entry.Entry.{Entry}
-use Rattle.pcm_base.specs.Causes.{Rose}
+use Rattle.pcm_base.specs.declared.limits.TheConstants.{COUNTER_LIMIT}
+use Rattle.pcm_base.specs.Causes.{Rose, Cause, Test, Damage, Disk, Vault, Memory, cause_of}
 use Rattle.pcm_base.specs.Counters.{Needs, counter_tests, record_test, record_bytes}
 use Rattle.pcm_base.specs.Outside.{Outside, Sounds, SameElsewhere}
 pub use Rattle.pcm_base.specs.Reach.{may_change_line, may_change, name_in_line, name_in}
 use Rattle.pcm_base.specs.Refusals.{◌otherwise◌, call_tests}
+use Rattle.pcm_base.specs.Shape.{Shape, NewTrack, DropTrack, SetTrack, PutIn, EditRange, CutRun, CopyRun, PasteRun}
+use Rattle.pcm_base.specs.Shape.{MoveTo, Purge, Look, Reclaim, Import, Export, shape_of}
 use Rattle.pcm_base.specs.Step.{after, sound_after, mix_file, MayAnswer}
 use Rattle.pcm_base.specs.Studio.{Studio, fault_sum}
 
@@ -91,34 +93,24 @@ IsPartOfMix rate t sound =
     (sound.after ≡ sound.before) ⊎ ((count : ℕ) × (sound.after ≡ Some (take count (mix_file rate t.state))))
 
 -- a call that was broken off leaves the sound as it was, an export a part of it
+abbrev pub LeavesBy : Studio → Shape → SoundMove → Type 0
+LeavesBy t NewTrack sound = sound.after ≡ sound.before
+LeavesBy t (DropTrack id) sound = sound.after ≡ sound.before
+LeavesBy t (SetTrack id setting) sound = sound.after ≡ sound.before
+LeavesBy t (PutIn id at source) sound = sound.after ≡ sound.before
+LeavesBy t (EditRange id from to edit) sound = sound.after ≡ sound.before
+LeavesBy t (CutRun id n from to removing) sound = sound.after ≡ sound.before
+LeavesBy t (CopyRun id n from to) sound = sound.after ≡ sound.before
+LeavesBy t (PasteRun id at placing) sound = sound.after ≡ sound.before
+LeavesBy t (MoveTo move) sound = sound.after ≡ sound.before
+LeavesBy t (Purge n) sound = sound.after ≡ sound.before
+LeavesBy t (Look view) sound = sound.after ≡ sound.before
+LeavesBy t (Reclaim limit) sound = sound.after ≡ sound.before
+LeavesBy t (Import name) sound = sound.after ≡ sound.before
+LeavesBy t (Export name) sound = IsPartOfMix t.rate t sound
+
 abbrev pub LeavesLine : Studio → Command → SoundMove → Type 0
-LeavesLine t command.Track sound = sound.after ≡ sound.before
-LeavesLine t (command.Drop id) sound = sound.after ≡ sound.before
-LeavesLine t (command.Level id gain) sound = sound.after ≡ sound.before
-LeavesLine t (command.Side id side) sound = sound.after ≡ sound.before
-LeavesLine t (command.Mute id mute) sound = sound.after ≡ sound.before
-LeavesLine t (command.Put id at samples) sound = sound.after ≡ sound.before
-LeavesLine t (command.Ramp id at n start step) sound = sound.after ≡ sound.before
-LeavesLine t (command.Delete id from to) sound = sound.after ≡ sound.before
-LeavesLine t (command.SplitDelete id from to) sound = sound.after ≡ sound.before
-LeavesLine t (command.Silence id from to) sound = sound.after ≡ sound.before
-LeavesLine t (command.Trim id from to) sound = sound.after ≡ sound.before
-LeavesLine t (command.Gain id from to gain) sound = sound.after ≡ sound.before
-LeavesLine t (command.Cut id n from to) sound = sound.after ≡ sound.before
-LeavesLine t (command.SplitCut id n from to) sound = sound.after ≡ sound.before
-LeavesLine t (command.Copy id n from to) sound = sound.after ≡ sound.before
-LeavesLine t (command.Paste id at) sound = sound.after ≡ sound.before
-LeavesLine t (command.PasteOver id at) sound = sound.after ≡ sound.before
-LeavesLine t command.Undo sound = sound.after ≡ sound.before
-LeavesLine t command.Redo sound = sound.after ≡ sound.before
-LeavesLine t (command.Purge n) sound = sound.after ≡ sound.before
-LeavesLine t (command.Show id from to) sound = sound.after ≡ sound.before
-LeavesLine t (command.Mix from to) sound = sound.after ≡ sound.before
-LeavesLine t (command.Envelope id from to columns) sound = sound.after ≡ sound.before
-LeavesLine t command.Tracks sound = sound.after ≡ sound.before
-LeavesLine t (command.Reclaim limit) sound = sound.after ≡ sound.before
-LeavesLine t (command.Import name) sound = sound.after ≡ sound.before
-LeavesLine t (command.Export name) sound = IsPartOfMix t.rate t sound
+LeavesLine t c sound = LeavesBy t (shape_of c) sound
 
 abbrev pub Leaves : Studio → Call → SoundMove → Type 0
 Leaves t (call.Line c) sound = LeavesLine t c sound
@@ -135,7 +127,7 @@ pub record BreaksOff (t : Studio) (c : Call) (sound : SoundMove) (u : Studio) : 
   pub blocks : ℕ
   pub len : ℕ
   pub needs : Needs (outside t sound) t c blocks len
-  pub room : t.next_block + blocks ≤ 2 ^ 62
+  pub room : t.next_block + blocks ≤ COUNTER_LIMIT
   pub is : u ≡ record t {
     stopped = u.stopped;
     next_block = t.next_block + blocks;
@@ -162,30 +154,15 @@ pub record Wants (t : Studio) (sound : SoundMove) (u : Studio) : Type 0 where
   pub quiet : sound.after ≡ sound.before
 
 -- want of memory, or a device, in the place of what comes later
+abbrev pub BreaksBy : Cause → Studio → Call → SoundMove → Studio → Type 0
+BreaksBy Test t c sound u = ⊥
+BreaksBy Damage t c sound u = GoesOn t c sound u
+BreaksBy Disk t c sound u = DiskFails t c sound u
+BreaksBy Vault t c sound u = IsSome (name_in c) × GoesOn t c sound u
+BreaksBy Memory t c sound u = Wants t sound u
+
 abbrev pub Breaks : Studio → Call → SoundMove → Refusal → Studio → Type 0
-Breaks t c sound (refusal.BadLine column) u = ⊥
-Breaks t c sound (refusal.Spent turns) u = ⊥
-Breaks t c sound (refusal.Stopped faults) u = ⊥
-Breaks t c sound (refusal.NoTrack id) u = ⊥
-Breaks t c sound refusal.BadRange u = ⊥
-Breaks t c sound refusal.BadColumns u = ⊥
-Breaks t c sound refusal.TrackLimit u = ⊥
-Breaks t c sound (refusal.LengthLimit len) u = ⊥
-Breaks t c sound refusal.EmptyClipboard u = ⊥
-Breaks t c sound (refusal.TooNarrow have need) u = ⊥
-Breaks t c sound refusal.NothingToUndo u = ⊥
-Breaks t c sound refusal.NothingToRedo u = ⊥
-Breaks t c sound refusal.NoFile u = ⊥
-Breaks t c sound (refusal.BadWav fault) u = ⊥
-Breaks t c sound (refusal.RateDiffers have want) u = ⊥
-Breaks t c sound (refusal.TooLong frames) u = ⊥
-Breaks t c sound (refusal.SpaceSpent have need) u = ⊥
-Breaks t c sound (refusal.RecordLimit len) u = ⊥
-Breaks t c sound (refusal.Damaged file at want have) u = GoesOn t c sound u
-Breaks t c sound refusal.DiskFault u = DiskFails t c sound u
-Breaks t c sound refusal.VaultFault u = IsSome (name_in c) × GoesOn t c sound u
-Breaks t c sound (refusal.NoPin pin) u = ⊥
-Breaks t c sound refusal.NoMemory u = Wants t sound u
+Breaks t c sound why u = BreaksBy (cause_of why) t c sound u
 
 -- a reply, or why there is none
 abbrev pub result_of : Reply → Result Reply Refusal

@@ -5,26 +5,29 @@ use Rattle.pcm_base.specs.declared.sound.Cell.{Cell}
 use Rattle.pcm_base.specs.declared.sound.Side.TheVariants.{Both}
 use Rattle.pcm_base.specs.declared.sound.TrackLine.{TrackLine}
 use Rattle.pcm_base.specs.declared.command.Command.{Command}
-use Rattle.pcm_base.specs.declared.command.Command.TheVariants as command
 use Rattle.pcm_base.specs.declared.command.Call.{Call}
 use Rattle.pcm_base.specs.declared.command.Call.TheVariants as call
 use Rattle.pcm_base.specs.declared.answer.Reply.{Reply}
 use Rattle.pcm_base.specs.declared.answer.Reply.TheVariants as reply
+use Rattle.pcm_base.specs.declared.limits.TheConstants.{UNITY_GAIN}
 use Rattle.pcm_base.specs.declared.wav.WavFault.{WavFault}
 use Rattle.pcm_base.specs.Cells.{Track, Project, trimmed, tracks_from, cells_at, run_edited, edited_at, dropped}
 use Rattle.pcm_base.specs.Cells.{changed_at}
-use Rattle.pcm_base.specs.Edits.{as_cells, ramp_of, part, range_of, inserted, deleted, changed, gained, split_deleted}
-use Rattle.pcm_base.specs.Edits.{silenced, kept_only, pasted_over}
-use Rattle.pcm_base.specs.History.{edited, recorded, at_cursor, purged}
+use Rattle.pcm_base.specs.Edits.{as_cells, part, range_of, inserted, range_edited, removed, placed, source_cells}
+use Rattle.pcm_base.specs.Edits.{with_setting}
+use Rattle.pcm_base.specs.History.{History, edited, recorded, at_cursor, purged}
 use Rattle.pcm_base.specs.Mix.{mix_of, mix_length}
 use Rattle.pcm_base.specs.Wave.{Sound, wav_of, wav_text}
 use Rattle.pcm_base.specs.Outside.{Outside}
 use Rattle.pcm_base.specs.Envelope.{columns_of}
+use Rattle.pcm_base.specs.Shape.{Shape, NewTrack, DropTrack, SetTrack, PutIn, EditRange, CutRun, CopyRun, PasteRun}
+use Rattle.pcm_base.specs.Shape.{MoveTo, Purge, Look, Reclaim, Import, Export, Back, Forward, View, Cells, Frames}
+use Rattle.pcm_base.specs.Shape.{Columns, Tracks, shape_of, is_commit}
 use Rattle.pcm_base.specs.State.{State, current, clip_of}
 
 -- a new track: unity gain, on both sides, not muted
 abbrev pub new_track : ℕ → List Cell → Track
-new_track id cells = record { id = id; gain = 65536; side = Both; mute = false; cells = cells }
+new_track id cells = record { id = id; gain = UNITY_GAIN; side = Both; mute = false; cells = cells }
 
 -- a commit whose project is a new point
 abbrev pub with_project : State → Project → State
@@ -70,41 +73,83 @@ channels_of (Some bytes) = channels_in (wav_of bytes)
 abbrev pub line_of_track : Track → TrackLine
 line_of_track t = record { id = t.id; gain = t.gain; side = t.side; mute = t.mute; len = length t.cells }
 
--- the state after a line
+-- ---- a line
+
+-- the history after a line: another point, the same ones with another current one, or without the oldest
+abbrev pub history_after : Outside → State → Shape → History Project
+history_after out s NewTrack = edited s.history (current s ++ new_track s.next_track [] ∷ []) 0
+history_after out s (DropTrack id) = edited s.history (dropped id (current s)) 0
+history_after out s (SetTrack id setting) = edited s.history (changed_at id (with_setting setting) (current s)) 0
+history_after out s (PutIn id at source) =
+    edited s.history (edited_at id (inserted at (source_cells source)) (current s)) 0
+history_after out s (EditRange id from to edit) =
+    edited s.history (edited_at id (range_edited edit from to) (current s)) 0
+history_after out s (CutRun id n from to removing) =
+    edited s.history (run_edited id (replicate n (removed removing from to)) (current s)) 0
+history_after out s (CopyRun id n from to) = s.history
+history_after out s (PasteRun id at placing) =
+    edited s.history (run_edited id (map (placed placing at) (clip_of s)) (current s)) 0
+history_after out s (MoveTo Back) = at_cursor s.history (s.history.cursor - 1)
+history_after out s (MoveTo Forward) = at_cursor s.history (s.history.cursor + 1)
+history_after out s (Purge n) = purged s.history n
+history_after out s (Look view) = s.history
+history_after out s (Reclaim limit) = s.history
+history_after out s (Import name) =
+    edited s.history (current s ++ channel_tracks s.next_track (channels_of out.sound)) 0
+history_after out s (Export name) = s.history
+
+-- the clipboard after a line: what was cut or copied
+abbrev pub clipboard_after : State → Shape → Option (List (List Cell))
+clipboard_after s NewTrack = s.clipboard
+clipboard_after s (DropTrack id) = s.clipboard
+clipboard_after s (SetTrack id setting) = s.clipboard
+clipboard_after s (PutIn id at source) = s.clipboard
+clipboard_after s (EditRange id from to edit) = s.clipboard
+clipboard_after s (CutRun id n from to removing) = Some (copied id n from to (current s))
+clipboard_after s (CopyRun id n from to) = Some (copied id n from to (current s))
+clipboard_after s (PasteRun id at placing) = s.clipboard
+clipboard_after s (MoveTo move) = s.clipboard
+clipboard_after s (Purge n) = s.clipboard
+clipboard_after s (Look view) = s.clipboard
+clipboard_after s (Reclaim limit) = s.clipboard
+clipboard_after s (Import name) = s.clipboard
+clipboard_after s (Export name) = s.clipboard
+
+-- how many track ids a line gives, where it gives any
+abbrev pub tracks_given : Outside → Shape → Option ℕ
+tracks_given out NewTrack = Some 1
+tracks_given out (DropTrack id) = None
+tracks_given out (SetTrack id setting) = None
+tracks_given out (PutIn id at source) = None
+tracks_given out (EditRange id from to edit) = None
+tracks_given out (CutRun id n from to removing) = None
+tracks_given out (CopyRun id n from to) = None
+tracks_given out (PasteRun id at placing) = None
+tracks_given out (MoveTo move) = None
+tracks_given out (Purge n) = None
+tracks_given out (Look view) = None
+tracks_given out (Reclaim limit) = None
+tracks_given out (Import name) = Some (length (channels_of out.sound))
+tracks_given out (Export name) = None
+
+-- a number that goes on by these, if by any
+abbrev pub onward : ℕ → Option ℕ → ℕ
+onward n None = n
+onward n (Some more) = n + more
+
+-- the state after a line of this shape: the pins stay, and a commit raises the commit number by one
+abbrev pub after_shape : Outside → State → Shape → State
+after_shape out s shape = record s {
+  history = history_after out s shape;
+  clipboard = clipboard_after s shape;
+  next_track = onward s.next_track (tracks_given out shape);
+  commit = if is_commit shape then s.commit + 1 else s.commit;
+}
+
 abbrev pub after_line : Outside → State → Command → State
-after_line out s command.Track =
-    record (with_project s (current s ++ new_track s.next_track [] ∷ [])) { next_track = s.next_track + 1 }
-after_line out s (command.Drop id) = with_project s (dropped id (current s))
-after_line out s (command.Level id gain) = with_project s (changed_at id (λ t. record t { gain = gain }) (current s))
-after_line out s (command.Side id side) = with_project s (changed_at id (λ t. record t { side = side }) (current s))
-after_line out s (command.Mute id mute) = with_project s (changed_at id (λ t. record t { mute = mute }) (current s))
-after_line out s (command.Put id at samples) =
-    with_project s (edited_at id (inserted at (as_cells samples)) (current s))
-after_line out s (command.Ramp id at n start step) =
-    with_project s (edited_at id (inserted at (ramp_of n start step)) (current s))
-after_line out s (command.Delete id from to) = with_project s (edited_at id (deleted from to) (current s))
-after_line out s (command.SplitDelete id from to) = with_project s (edited_at id (split_deleted from to) (current s))
-after_line out s (command.Silence id from to) = with_project s (edited_at id (silenced from to) (current s))
-after_line out s (command.Trim id from to) = with_project s (edited_at id (kept_only from to) (current s))
-after_line out s (command.Gain id from to gain) =
-    with_project s (edited_at id (changed (gained gain) from to) (current s))
-after_line out s (command.Cut id n from to) =
-    with_clipboard (with_run s id (replicate n (deleted from to))) (copied id n from to (current s))
-after_line out s (command.SplitCut id n from to) =
-    with_clipboard (with_run s id (replicate n (split_deleted from to))) (copied id n from to (current s))
-after_line out s (command.Copy id n from to) = with_clipboard s (copied id n from to (current s))
-after_line out s (command.Paste id at) = with_run s id (map (inserted at) (clip_of s))
-after_line out s (command.PasteOver id at) = with_run s id (map (pasted_over at) (clip_of s))
-after_line out s command.Undo = moved_to s (s.history.cursor - 1)
-after_line out s command.Redo = moved_to s (s.history.cursor + 1)
-after_line out s (command.Purge n) = record s { history = purged s.history n; commit = s.commit + 1 }
-after_line out s (command.Show id from to) = s
-after_line out s (command.Mix from to) = s
-after_line out s (command.Envelope id from to columns) = s
-after_line out s command.Tracks = s
-after_line out s (command.Reclaim limit) = s
-after_line out s (command.Import name) = with_channels s (channels_of out.sound)
-after_line out s (command.Export name) = s
+after_line out s c = after_shape out s (shape_of c)
+
+-- ---- a call
 
 -- the pins with one more, and without one
 abbrev pub with_pin : ℕ → Project → (ℕ → Option Project) → ℕ → Option Project
@@ -134,34 +179,24 @@ abbrev pub mix_file : ℕ → State → List ℕ
 mix_file rate s = wav_text (mix_of (current s)) rate
 
 -- the sound that a line names, after it
+abbrev pub sound_by : Outside → State → Shape → Option (List ℕ)
+sound_by out s NewTrack = out.sound
+sound_by out s (DropTrack id) = out.sound
+sound_by out s (SetTrack id setting) = out.sound
+sound_by out s (PutIn id at source) = out.sound
+sound_by out s (EditRange id from to edit) = out.sound
+sound_by out s (CutRun id n from to removing) = out.sound
+sound_by out s (CopyRun id n from to) = out.sound
+sound_by out s (PasteRun id at placing) = out.sound
+sound_by out s (MoveTo move) = out.sound
+sound_by out s (Purge n) = out.sound
+sound_by out s (Look view) = out.sound
+sound_by out s (Reclaim limit) = out.sound
+sound_by out s (Import name) = out.sound
+sound_by out s (Export name) = Some (mix_file out.rate s)
+
 abbrev pub sound_after_line : Outside → State → Command → Option (List ℕ)
-sound_after_line out s command.Track = out.sound
-sound_after_line out s (command.Drop id) = out.sound
-sound_after_line out s (command.Level id gain) = out.sound
-sound_after_line out s (command.Side id side) = out.sound
-sound_after_line out s (command.Mute id mute) = out.sound
-sound_after_line out s (command.Put id at samples) = out.sound
-sound_after_line out s (command.Ramp id at n start step) = out.sound
-sound_after_line out s (command.Delete id from to) = out.sound
-sound_after_line out s (command.SplitDelete id from to) = out.sound
-sound_after_line out s (command.Silence id from to) = out.sound
-sound_after_line out s (command.Trim id from to) = out.sound
-sound_after_line out s (command.Gain id from to gain) = out.sound
-sound_after_line out s (command.Cut id n from to) = out.sound
-sound_after_line out s (command.SplitCut id n from to) = out.sound
-sound_after_line out s (command.Copy id n from to) = out.sound
-sound_after_line out s (command.Paste id at) = out.sound
-sound_after_line out s (command.PasteOver id at) = out.sound
-sound_after_line out s command.Undo = out.sound
-sound_after_line out s command.Redo = out.sound
-sound_after_line out s (command.Purge n) = out.sound
-sound_after_line out s (command.Show id from to) = out.sound
-sound_after_line out s (command.Mix from to) = out.sound
-sound_after_line out s (command.Envelope id from to columns) = out.sound
-sound_after_line out s command.Tracks = out.sound
-sound_after_line out s (command.Reclaim limit) = out.sound
-sound_after_line out s (command.Import name) = out.sound
-sound_after_line out s (command.Export name) = Some (mix_file out.rate s)
+sound_after_line out s c = sound_by out s (shape_of c)
 
 -- and after a call
 abbrev pub sound_after : Outside → State → Call → Option (List ℕ)
@@ -177,36 +212,32 @@ abbrev pub IsWithin : Option ℕ → ℕ → Type 0
 IsWithin None count = Unit {0}
 IsWithin (Some limit) count = count ≤ limit
 
+-- what is seen
+abbrev pub seen : State → View → Reply
+seen s (Cells id from to) = reply.Cells (part from to (cells_at id (current s)))
+seen s (Frames from to) = reply.Frames (part from to (mix_of (current s)))
+seen s (Columns id from to columns) = reply.Columns (columns_of from to columns (cells_at id (current s)))
+seen s Tracks = reply.Tracks (map line_of_track (current s))
+
 -- what a line may answer
+abbrev pub MayReplyBy : Outside → State → Shape → Reply → Type 0
+MayReplyBy out s NewTrack r = r ≡ reply.Done
+MayReplyBy out s (DropTrack id) r = r ≡ reply.Done
+MayReplyBy out s (SetTrack id setting) r = r ≡ reply.Done
+MayReplyBy out s (PutIn id at source) r = r ≡ reply.Done
+MayReplyBy out s (EditRange id from to edit) r = r ≡ reply.Done
+MayReplyBy out s (CutRun id n from to removing) r = r ≡ reply.Done
+MayReplyBy out s (CopyRun id n from to) r = r ≡ reply.Copied
+MayReplyBy out s (PasteRun id at placing) r = r ≡ reply.Done
+MayReplyBy out s (MoveTo move) r = r ≡ reply.Done
+MayReplyBy out s (Purge n) r = r ≡ reply.Done
+MayReplyBy out s (Look view) r = r ≡ seen s view
+MayReplyBy out s (Reclaim limit) r = (count : ℕ) × (r ≡ reply.Freed count) × IsWithin limit count
+MayReplyBy out s (Import name) r = r ≡ reply.Done
+MayReplyBy out s (Export name) r = r ≡ reply.Wrote (length (mix_file out.rate s))
+
 abbrev pub MayReply : Outside → State → Command → Reply → Type 0
-MayReply out s command.Track r = r ≡ reply.Done
-MayReply out s (command.Drop id) r = r ≡ reply.Done
-MayReply out s (command.Level id gain) r = r ≡ reply.Done
-MayReply out s (command.Side id side) r = r ≡ reply.Done
-MayReply out s (command.Mute id mute) r = r ≡ reply.Done
-MayReply out s (command.Put id at samples) r = r ≡ reply.Done
-MayReply out s (command.Ramp id at n start step) r = r ≡ reply.Done
-MayReply out s (command.Delete id from to) r = r ≡ reply.Done
-MayReply out s (command.SplitDelete id from to) r = r ≡ reply.Done
-MayReply out s (command.Silence id from to) r = r ≡ reply.Done
-MayReply out s (command.Trim id from to) r = r ≡ reply.Done
-MayReply out s (command.Gain id from to gain) r = r ≡ reply.Done
-MayReply out s (command.Cut id n from to) r = r ≡ reply.Done
-MayReply out s (command.SplitCut id n from to) r = r ≡ reply.Done
-MayReply out s (command.Copy id n from to) r = r ≡ reply.Copied
-MayReply out s (command.Paste id at) r = r ≡ reply.Done
-MayReply out s (command.PasteOver id at) r = r ≡ reply.Done
-MayReply out s command.Undo r = r ≡ reply.Done
-MayReply out s command.Redo r = r ≡ reply.Done
-MayReply out s (command.Purge n) r = r ≡ reply.Done
-MayReply out s (command.Show id from to) r = r ≡ reply.Cells (part from to (cells_at id (current s)))
-MayReply out s (command.Mix from to) r = r ≡ reply.Frames (part from to (mix_of (current s)))
-MayReply out s (command.Envelope id from to columns) r =
-    r ≡ reply.Columns (columns_of from to columns (cells_at id (current s)))
-MayReply out s command.Tracks r = r ≡ reply.Tracks (map line_of_track (current s))
-MayReply out s (command.Reclaim limit) r = (count : ℕ) × (r ≡ reply.Freed count) × IsWithin limit count
-MayReply out s (command.Import name) r = r ≡ reply.Done
-MayReply out s (command.Export name) r = r ≡ reply.Wrote (length (mix_file out.rate s))
+MayReply out s c r = MayReplyBy out s (shape_of c) r
 
 -- the project of a pin answers
 abbrev pub FromPin : State → ℕ → (Project → Reply) → Reply → Type 0

@@ -1,5 +1,6 @@
 -- The state of a studio: the editor's state, and beside it all that bears on an answer.
 use Rattle.std.specs.Prelude.{ℕ, ◌+◌, ◌-◌, ◌^◌, min, Option, None}
+use Rattle.pcm_base.specs.declared.limits.TheConstants.{FIRST_BLOCK, FIRST_RECORD}
 use Rattle.pcm_base.specs.State.{State, new_state}
 
 -- Whether it has stopped, and at which count of faults; the frames in a second, and the most samples of a block; the id
@@ -25,8 +26,8 @@ fresh rate block_size depth = record {
   stopped = None;
   rate = rate;
   block_size = block_size;
-  next_block = 16;
-  journal_end = 32;
+  next_block = FIRST_BLOCK;
+  journal_end = FIRST_RECORD;
   read_faults = 0;
   change_faults = 0;
 }

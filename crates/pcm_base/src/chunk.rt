@@ -38,7 +38,7 @@ impl Model for Chunk {
 impl Chunk {
     /// A chunk of these samples. Of none it is the end mark.
     pub fn new(number: u32, samples: &[i16]) -> Chunk
-        requires { length samples.now ≤ 256 }
+        requires { length samples.now ≤ CHUNK_SAMPLES }
         ensures { result ≡ numbered_part number samples.now }
     {
         let mut all = [0i16; CHUNK_SAMPLES];
@@ -70,7 +70,7 @@ impl Chunk {
     /// Its samples, from 0 to 256.
     pub fn as_slice(&self) -> &[i16]
         ensures samples { result.now ≡ self.now.samples }
-        ensures bound { length self.now.samples ≤ 256 }
+        ensures bound { length self.now.samples ≤ CHUNK_SAMPLES }
     {
         &self.samples[..self.count]
     }

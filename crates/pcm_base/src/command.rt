@@ -1,4 +1,8 @@
 // What the editor is asked for.
+ghost use Rattle.std.specs.Prelude.{◌≡◌, ◌==◌};
+ghost use Rattle.pcm_base.specs.declared.command.Call.TheVariants.{Line};
+ghost use Rattle.pcm_base.specs.Counters.{commits_of};
+
 use super::lists::Samples;
 use super::name::Name;
 use super::sound::Side;
@@ -144,6 +148,24 @@ pub enum Command {
     Export {
         name: Name,
     },
+}
+
+impl Command {
+    /// Whether it is a commit where it is carried out: not where it only looks, copies, reclaims or exports.
+    pub fn is_commit(&self) -> bool
+        ensures { result ≡ (commits_of (Line self.now) == 1) }
+    {
+        match self {
+            Command::Copy { .. }
+            | Command::Show { .. }
+            | Command::Mix { .. }
+            | Command::Envelope { .. }
+            | Command::Tracks
+            | Command::Reclaim { .. }
+            | Command::Export { .. } => false,
+            _ => true,
+        }
+    }
 }
 
 /// What one turn may ask of an editor.

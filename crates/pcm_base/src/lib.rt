@@ -10,8 +10,10 @@ mod arithmetic;
 mod block;
 mod chunk;
 mod command;
+mod edits;
 mod entry;
 mod failed;
+mod limits;
 mod lists;
 mod name;
 mod piece;
@@ -25,8 +27,13 @@ pub use arithmetic::{clamped, isqrt, scaled};
 pub use block::BlockRef;
 pub use chunk::{CHUNK_SAMPLES, Chunk};
 pub use command::{Call, Command};
+pub use edits::{Placing, RangeEdit, Removing};
 pub use entry::{Entry, Event, SoundMove};
 pub use failed::{Failed, NoMemory};
+pub use limits::{
+    COUNTER_LIMIT, FIRST_BLOCK, FIRST_RECORD, LONGEST_BODY, MAX_BLOCK_SAMPLES, MAX_CELLS,
+    MAX_DEPTH, MAX_GAIN, MAX_RAMP, MAX_TRACKS, MAX_VIEW, UNITY_GAIN,
+};
 pub use lists::{Bytes, CellList, Columns, Frames, Items, Numbers, Samples, TrackLines};
 pub use name::Name;
 pub use piece::Piece;

@@ -5,6 +5,12 @@ pub mod Found
 mod Changes
 mod Gates
 mod Logs
+mod Adds
+pub mod Seen
+pub mod Packed
+pub mod Texts
+pub mod Chosen
+pub mod AnyFormats
 mod Starts
 pub mod Parses
 mod Splits
@@ -14,3 +20,4 @@ pub mod Begun
 pub mod Readings
 pub mod FirstReadings
 mod Headers
+pub mod Bases

@@ -5,13 +5,12 @@ ghost use Rattle.pcm_base.specs.Causes.{Rose};
 ghost use Rattle.disk_model.specs.Disk.{SameElsewhere};
 ghost use Rattle.disk_model.specs.Frames.{Changed};
 ghost use Rattle.project_journal.specs.Gate.{EachSince, IsDurable};
-ghost use Rattle.project_journal.specs.Header.{version_1};
+ghost use Rattle.project_journal.specs.Header.{Form};
 ghost use Rattle.project_journal.specs.Journal.{Log, IsAt, HasOneOf, with_body};
 ghost use Rattle.project_journal.specs.Answer.{Appends, Causes};
 ghost use Rattle.project_journal.specs.Rooms.{append_room};
 
 use super::fault::JournalFault;
-use super::form::FILE;
 use super::gate::add;
 use super::rows::{fill_row, fill_small};
 use disk_model::Store;
@@ -19,13 +18,15 @@ use disk_model::Store;
 // Places of a file are below this.
 const LIMIT: u64 = 1 << 62;
 
-/// Adds a record behind the gate at `at`, the first that is 0, and answers the place of the next gate. The body has
-/// fewer than 2^32 bytes. It takes memory only where `scratch` has room for fewer than 5 bytes more than the body.
+/// Adds a record to the journal in this file behind the gate at `at`, the first that is 0, and answers the place of the
+/// next gate. The body has fewer than 2^32 bytes. It takes memory only where `scratch` has room for fewer than 5 bytes
+/// more than the body.
 ///
 /// `SpaceSpent` where the journal would pass 2^62 bytes, and `NoMemory`, leave the store as it was. After `DiskFault`
 /// a stop leaves the records of before or of after.
 pub fn append<S: Store>(
     store: &mut S,
+    file: u64,
     at: u64,
     body: &[u8],
     scratch: &mut Vec<u8>,
@@ -33,13 +34,15 @@ pub fn append<S: Store>(
     requires { length body.now < 2 ^ 32 }
 
     // At any moment each image has the records of before or of after.
-    ensures any_moment { (log : Log) → IsTrue (S.tells store.old) → IsAt version_1 S.Store store.old at log
-        → EachSince S.Store store.old store.new (HasOneOf version_1 log (with_body log body.now)) }
+    ensures any_moment { (form : Form) (log : Log) → form.file ≡ file → IsTrue (S.tells store.old)
+        → IsAt form S.Store store.old at log
+        → EachSince S.Store store.old store.new (HasOneOf form log (with_body log body.now)) }
     // After it the store and each image have those of after.
-    ensures done { (log : Log) → IsTrue (S.tells store.old) → IsAt version_1 S.Store store.old at log
-        → IfOk result (λ next. IsAt version_1 S.Store store.new next (with_body log body.now)) }
+    ensures done { (form : Form) (log : Log) → form.file ≡ file → IsTrue (S.tells store.old)
+        → IsAt form S.Store store.old at log
+        → IfOk result (λ next. IsAt form S.Store store.new next (with_body log body.now)) }
     // On every store the file is on the disk then.
-    ensures durable { OnOk result (IsDurable S.Store store.new 0) }
+    ensures durable { OnOk result (IsDurable S.Store store.new file) }
     ensures answer { Appends at (length body.now) result }
     ensures cause { Causes S.Store store.old store.new result }
     // A fault is a change that failed.
@@ -53,26 +56,33 @@ pub fn append<S: Store>(
     ensures untouched { OnErr result ((IsErrOf result JournalFault.DiskFault → ⊥) → store.new ≡ store.old) }
 
     // Nothing else changes, and no more than this is asked of the store.
-    ensures changed { Changed S.Store (SameElsewhere 0) (append_room (S.reads store.old 0) (length body.now))
+    ensures changed { Changed S.Store (SameElsewhere file) (append_room (S.reads store.old file) (length body.now))
         store.old store.new }
     ensures read_faults { S.read_fault_count store.new ≡ S.read_fault_count store.old }
 {
     let next = next_gate(at, body.len())?;
     fill_row(scratch, body)?;
-    add(store, FILE, at, scratch)?;
+    add(store, file, at, scratch)?;
     Ok(next)
 }
 
 /// The same as [`append`] for a body of at most 9 bytes. It takes no memory.
-pub fn append_small<S: Store>(store: &mut S, at: u64, body: &[u8]) -> Result<u64, JournalFault>
+pub fn append_small<S: Store>(
+    store: &mut S,
+    file: u64,
+    at: u64,
+    body: &[u8],
+) -> Result<u64, JournalFault>
     requires { length body.now ≤ 9 }
 
-    ensures any_moment { (log : Log) → IsTrue (S.tells store.old) → IsAt version_1 S.Store store.old at log
-        → EachSince S.Store store.old store.new (HasOneOf version_1 log (with_body log body.now)) }
-    ensures done { (log : Log) → IsTrue (S.tells store.old) → IsAt version_1 S.Store store.old at log
-        → IfOk result (λ next. IsAt version_1 S.Store store.new next (with_body log body.now)) }
+    ensures any_moment { (form : Form) (log : Log) → form.file ≡ file → IsTrue (S.tells store.old)
+        → IsAt form S.Store store.old at log
+        → EachSince S.Store store.old store.new (HasOneOf form log (with_body log body.now)) }
+    ensures done { (form : Form) (log : Log) → form.file ≡ file → IsTrue (S.tells store.old)
+        → IsAt form S.Store store.old at log
+        → IfOk result (λ next. IsAt form S.Store store.new next (with_body log body.now)) }
     // On every store the file is on the disk then.
-    ensures durable { OnOk result (IsDurable S.Store store.new 0) }
+    ensures durable { OnOk result (IsDurable S.Store store.new file) }
     ensures answer { Appends at (length body.now) result }
     ensures cause { Causes S.Store store.old store.new result }
     // A fault is a change that failed.
@@ -82,14 +92,14 @@ pub fn append_small<S: Store>(store: &mut S, at: u64, body: &[u8]) -> Result<u64
     ensures untouched { OnErr result ((IsErrOf result JournalFault.DiskFault → ⊥) → store.new ≡ store.old) }
 
     // Nothing else changes, and no more than this is asked of the store.
-    ensures changed { Changed S.Store (SameElsewhere 0) (append_room (S.reads store.old 0) (length body.now))
+    ensures changed { Changed S.Store (SameElsewhere file) (append_room (S.reads store.old file) (length body.now))
         store.old store.new }
     ensures read_faults { S.read_fault_count store.new ≡ S.read_fault_count store.old }
 {
     let next = next_gate(at, body.len())?;
     let mut row = [0u8; 14];
     fill_small(&mut row, body);
-    add(store, FILE, at, &row[..body.len() + 5])?;
+    add(store, file, at, &row[..body.len() + 5])?;
     Ok(next)
 }
 

@@ -15,6 +15,17 @@ pub mod ReadBack
 pub mod Lengths
 pub mod KeptBounds
 pub mod KeptOnce
+pub mod Unpacked
 pub mod Leading
 pub mod Meanings
 pub mod MeantHistories
+pub mod Commons
+pub mod Tails
+pub mod ToldTracks
+pub mod ChangeLaws
+pub mod Measured
+pub mod DeltaBodies
+mod GoodTails
+mod ChangesBack
+pub mod ToldBack
+pub mod DeltaBack

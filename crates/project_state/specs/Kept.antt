@@ -1,5 +1,5 @@
 -- What the records of a journal lead to, one after another, and the project that a disk keeps.
-use Rattle.std.specs.Prelude.{◌≡◌, ℕ, ◌+◌, ◌-◌, ◌≤◌, ◌<◌, List, [], ◌∷◌, length, map}
+use Rattle.std.specs.Prelude.{◌≡◌, ℕ, ◌+◌, ◌-◌, ◌≤◌, ◌<◌, List, [], ◌∷◌, ◌++◌, length, map}
 use Rattle.std.specs.List.{flat_map, AllByRecursion}
 use Rattle.pcm_base.specs.declared.block.BlockRef.{BlockRef}
 use Rattle.pcm_base.specs.Pieces.{Sources}
@@ -10,14 +10,15 @@ use Rattle.clip_track.specs.Clips.{layout_cells}
 use Rattle.clip_track.specs.Clips.{layout_blocks}
 use Rattle.disk_model.specs.Disk.{Files}
 use Rattle.sample_block.specs.Sources.{sources_of, IsWhole}
-use Rattle.project_journal.specs.Header.{version_1}
+use Rattle.byteorder.specs.Endian.{little_bytes}
+use Rattle.project_journal.specs.Header.{Form, IsForm, version_1}
 use Rattle.project_journal.specs.Journal.{Log, HasLog}
 use Rattle.project_state.specs.declared.track.Track.{Track}
 use Rattle.project_state.specs.declared.body.Body.{Body}
 use Rattle.project_state.specs.declared.body.Body.TheVariants.{Edit, Undo, Redo, Purge}
 use Rattle.project_state.specs.declared.limits.Before.{Before}
-use Rattle.project_state.specs.Sound.{IsSound}
-use Rattle.project_state.specs.Spelling.{spelling}
+use Rattle.project_state.specs.Sound.{IsSound, IsSoundTagged}
+use Rattle.project_state.specs.Spelling.{project_bytes, spelling}
 
 -- points as tracks of blocks, and the numbers that never fall
 pub record Kept : Type 0 where
@@ -98,11 +99,55 @@ opened log k files = record {
   commit = k.commit;
 }
 
--- the disk keeps this project: its journal's records lead to it, and each block that a point names is whole
-pub record Keeps (files : Files) (found : Opened) : Type 0 where
+-- a point in a header: its tag, and its tracks
+abbrev pub point_bytes : List Track × ℕ → List ℕ
+point_bytes p = little_bytes 8 p.1 ++ project_bytes p.0
+
+-- the project that a header of version 2 brings
+pub record IsTold (log : Log) (base : Kept) : Type 0 where
+  pub points : log.points ≡ map point_bytes base.history.points
+  pub cursor : base.history.cursor ≡ log.base.cursor
+  pub depth : base.history.depth ≡ log.depth
+  pub next_block : base.next_block ≡ log.base.next_block
+  pub next_track : base.next_track ≡ log.base.next_track
+  pub commit : base.commit ≡ log.base.commit
+  pub sound : AllByRecursion (IsSoundTagged log.block_size base.next_block base.next_track base.commit)
+      base.history.points
+
+-- the project before a journal's first record: one without commits where its header has no points
+abbrev pub BeginsBy : List (List ℕ) → Log → Kept → Type 0
+BeginsBy [] log base = base ≡ new_project log.depth
+BeginsBy (point ∷ points) log base = IsTold log base
+
+abbrev pub Begins : Log → Kept → Type 0
+Begins log base = BeginsBy log.points log base
+
+-- The disk keeps this project in a journal of this form: it begins with a project, from which its records lead to this
+-- one, and each block that a point names is whole.
+pub record KeepsIn (form : Form) (files : Files) (found : Opened) : Type 0 where
   pub log : Log
+  pub base : Kept
   pub kept : Kept
-  pub there : HasLog version_1 log files
-  pub told : LeadTo log.block_size (new_project log.depth) log.bodies kept
+  pub there : HasLog form log files
+  pub begins : Begins log base
+  pub told : LeadTo log.block_size base log.bodies kept
   pub whole : AllByRecursion (IsWhole files) (history_blocks kept.history)
   pub is : found ≡ opened log kept files
+
+-- in file 0 or 1, and in any version
+pub record KeepsAny (files : Files) (found : Opened) : Type 0 where
+  pub form : Form
+  pub known : IsForm form
+  pub few : form.file ≤ 1
+  pub keeps : KeepsIn form files found
+
+-- in the form that is opened
+abbrev pub Keeps : Files → Opened → Type 0
+Keeps files found = KeepsIn version_1 files found
+
+-- a journal without records that begins with the project to which this one leads
+pub record IsPacked (log : Log) (kept : Kept) (packed : Log) : Type 0 where
+  pub rate : packed.rate ≡ log.rate
+  pub block_size : packed.block_size ≡ log.block_size
+  pub none : packed.bodies ≡ []
+  pub begins : Begins packed kept

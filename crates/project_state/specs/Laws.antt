@@ -1,8 +1,68 @@
 -- What is proved of the definitions themselves.
-use Rattle.std.specs.Prelude.{◌≡◌}
+use Rattle.std.specs.Prelude.{◌≡◌, ◌-◌, ◌<◌, ◌≤◌, ◌^◌, ℕ, List, length, Option, Some, None}
+use Rattle.pcm_base.specs.declared.block.BlockRef.{BlockRef}
+use Rattle.project_state.specs.declared.track.Track.{Track}
+use Rattle.project_journal.specs.Header.{first_failed}
+use Rattle.project_state.specs.declared.body.Body.{Body}
+use Rattle.project_state.specs.declared.limits.Before.{Before}
+use Rattle.project_state.specs.Changes.{Same, change_of, changed, common, delta_spelling, last_blocks, tailed}
+use Rattle.project_state.specs.ChangeTests.{delta_tests}
+use Rattle.project_state.specs.DeltaBodies.{SaysBody}
+use Rattle.project_state.specs.Sound.{IsSound}
+use Rattle.project_state.specs.Tracks.{track_of}
 use Rattle.disk_model.specs.Disk.{Files}
-use Rattle.project_state.specs.Kept.{Opened, Keeps}
+use Rattle.std.specs.List.{AllByRecursion}
+use Rattle.sample_block.specs.Sources.{IsWhole}
+use Rattle.project_journal.specs.Header.{Form, IsForm}
+use Rattle.project_journal.specs.Journal.{Log}
+use Rattle.project_journal.specs.Packing.{HasEither}
+use Rattle.project_state.specs.Kept.{Kept, Opened, KeepsAny, Begins, LeadTo, IsPacked, opened, history_blocks}
 
--- a disk keeps one project at most
+-- a disk keeps one project at most, whichever file and version its journal is in
 abbrev pub KeepsOne : Type 0
-KeepsOne = (files : Files) (a b : Opened) → Keeps files a → Keeps files b → a ≡ b
+KeepsOne = (files : Files) (a b : Opened) → KeepsAny files a → KeepsAny files b → a ≡ b
+
+-- a journal and the one into which it was put, as a header alone, are one project
+abbrev pub PackedIsKept : Type 0
+PackedIsKept =
+    (form : Form) (log packed : Log) (base kept : Kept) (c : Files) → IsForm form → form.file ≤ 1 → Begins log base
+    → LeadTo log.block_size base log.bodies kept → IsPacked log kept packed
+    → AllByRecursion (IsWhole c) (history_blocks kept.history) → HasEither form log packed c
+    → KeepsAny c (opened log kept c)
+
+-- a track of the current point has this id
+abbrev pub HasId : ℕ → Option Track → Type 0
+HasId id None = Unit {0}
+HasId id (Some old) = old.id ≡ id
+
+-- what the writer takes for a track says that track
+abbrev pub ChoiceTellsTheTrack : Type 0
+ChoiceTellsTheTrack = (old : Option Track) (t : Track) → HasId t.id old → changed old (change_of old t) ≡ Some t
+
+-- a track that stays is said to be the same
+abbrev pub SameStays : Type 0
+SameStays = (t : Track) → change_of (Some t) t ≡ Same
+
+-- and whoever says one by the end of its last clip lets at least as many blocks go as the writer
+abbrev pub FewestGo : Type 0
+FewestGo =
+    (old t : Track) (gone : ℕ) (blocks : List BlockRef) → 0 < length old.layout
+    → gone ≤ length (last_blocks old.layout) → tailed gone blocks old ≡ t
+    → length (last_blocks old.layout) - common (last_blocks old.layout) (last_blocks t.layout) ≤ gone
+
+-- the last clip has fewer than 2^32 blocks
+abbrev pub EndsShort : Option Track → Type 0
+EndsShort None = Unit {0}
+EndsShort (Some old) = length (last_blocks old.layout) < 2 ^ 32
+
+-- the last clip of each track has fewer than 2^32 blocks
+abbrev pub HasShortEnds : List Track → Type 0
+HasShortEnds current = (id : ℕ) → EndsShort (track_of id current)
+
+-- A sound body that is written by the current point passes the tests, and its bytes say that body.
+abbrev pub WrittenIsRead : Type 0
+WrittenIsRead =
+    (m : ℕ) (before : Before) (current : List Track) (body : Body) → 4 ≤ m → m < 2 ^ 32 → HasShortEnds current
+    → IsSound m before body
+    → (first_failed (delta_tests m before current (delta_spelling current body)) ≡ None)
+    × SaysBody current (delta_spelling current body) body

@@ -9,17 +9,28 @@
 
 mod body;
 mod bounds;
+mod changes;
+mod changes_measuring;
+mod changes_reading;
+mod changes_writing;
+mod delta_reading;
 mod laws;
 mod limits;
 mod measuring;
 mod point;
 mod reading;
 mod reading_clips;
+mod tails_reading;
 mod track;
 mod writing;
 
 pub use body::Body;
-pub use laws::disks_keep_one_project;
+pub use changes_writing::{delta_len, write_delta_body};
+pub use delta_reading::read_delta_body;
+pub use laws::{
+    a_packed_journal_keeps_its_project, disks_keep_one_project, the_writer_tells_each_track,
+    what_is_written_is_read,
+};
 pub use limits::{BadBody, Before};
 pub use point::{MAX_TRACKS, Point};
 pub use reading::read_body;

@@ -45,24 +45,25 @@ fn read_block(
     Ok(BlockRef { id, len })
 }
 
-/// So many blocks from a place on, of a clip that starts there.
-fn read_blocks(
+/// The blocks from a place on, of a clip that may have several. The first begins at the cell `start`.
+pub(crate) fn read_blocks(
     alloc: Global,
     bytes: &[u8],
     at: usize,
     count: u32,
     limits: Limits,
+    several: bool,
     start: u64,
 ) -> Result<Vec<BlockRef>, BadBody>
     requires within { at + 12 * count ≤ length bytes.now }
     requires near { start ≤ 2 ^ 32 }
-    ensures { Finds (test.blocks_tests limits (nat_lt 1 count) count start at bytes.now)
+    ensures { Finds (test.blocks_tests limits several count start at bytes.now)
         (λ v. v.items ≡ there.blocks_at count at bytes.now) result }
 {
     let mut blocks = Vec::with_capacity(alloc, count as usize)?;
     let mut before = start;
     for i in 0..count {
-        let block = read_block(bytes, at + 12 * i as usize, limits, count > 1, before)?;
+        let block = read_block(bytes, at + 12 * i as usize, limits, several, before)?;
         before += block.len as u64;
         blocks.push(block)?;
     }
@@ -88,7 +89,7 @@ fn read_clip(
         most(start_place, 1 << 32, start),
         least(place(limits.base, at + 8), 1, count as u64),
     ])?;
-    let blocks = read_blocks(alloc, bytes, at + 12, count, limits, start)?;
+    let blocks = read_blocks(alloc, bytes, at + 12, count, limits, count > 1, start)?;
     Ok(Clip {
         start,
         blocks: Sequence::new(blocks),

@@ -17,7 +17,7 @@ use Rattle.pcm_base.specs.Outside.{Outside}
 use Rattle.pcm_base.specs.Refusals.{◌otherwise◌, bad_columns, bad_range, call_tests, inserted_length, is_empty}
 use Rattle.pcm_base.specs.Refusals.{length_limit, own_tests, pasted_lengths, refused_if}
 use Rattle.pcm_base.specs.Run.{refusal_of, stop_of, stop_test}
-use Rattle.pcm_base.specs.Sizes.{LONGEST_BODY}
+use Rattle.pcm_base.specs.declared.limits.TheConstants.{LONGEST_BODY}
 use Rattle.pcm_base.specs.State.{State, current}
 use Rattle.pcm_base.specs.Step.{new_track}
 use Rattle.pcm_base.specs.Studio.{Studio}

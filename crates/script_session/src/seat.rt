@@ -1,9 +1,7 @@
 // A seat at a desk as an editor.
-ghost use Rattle.std.specs.Prelude.{◌≡◌, ◌≤◌, ◌<◌, [], Ok, vec_len, vec_capacity};
-ghost use Rattle.pcm_base.specs.declared.answer.Reply.{Reply};
-ghost use Rattle.pcm_base.specs.declared.command.Call.TheVariants.{Line};
+ghost use Rattle.std.specs.Prelude.{◌≡◌, ◌≤◌, ◌<◌, [], vec_len, vec_capacity};
 ghost use Rattle.pin_turn.specs.Calls.{known};
-ghost use Rattle.studio_seats.specs.Deeds.{commits, number_after};
+ghost use Rattle.studio_seats.specs.Deeds.{number_after};
 ghost use Rattle.studio_seats.specs.Desks.{IsAt, start_at};
 ghost use Rattle.script_session.specs.Place.{with_number};
 
@@ -27,22 +25,6 @@ pub struct DeskEditor<'a, S: Store, V: Vault> {
     commits: Vec<u64>,
     ghost at: { IsAt desk.now seat },
     ghost low: { last ≤ number_after (start_at desk.now).commit_number (known seat).seen },
-}
-
-// Whether a line that is carried out is a commit.
-fn is_commit(command: &Command) -> bool
-    ensures { (reply : Reply) → result ≡ commits (Ok reply) (Line command.now) }
-{
-    match command {
-        Command::Copy { .. }
-        | Command::Show { .. }
-        | Command::Mix { .. }
-        | Command::Envelope { .. }
-        | Command::Tracks
-        | Command::Reclaim { .. }
-        | Command::Export { .. } => false,
-        _ => true,
-    }
 }
 
 // Lists the number of a commit.
@@ -90,7 +72,7 @@ impl<'a, S: Store, V: Vault> Editor for DeskEditor<'a, S, V> {
         self.last = self.last.max(at);
         match what {
             Ok(()) => {
-                note(&mut self.commits, is_commit(command), at);
+                note(&mut self.commits, command.is_commit(), at);
                 Ok(answer.reply)
             }
             Err(reason) => Err(reason),

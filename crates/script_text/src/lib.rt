@@ -29,7 +29,7 @@ mod words;
 
 pub use call_fault::{CallFault, write_refused};
 pub use last::{PlayEnd, PlayLine, RecordEnd, RecordLine, write_end, write_last};
-pub use parsing::parse;
+pub use parsing::{MAX_LINE, parse};
 use pcm_base::Refusal;
 pub use project::{ProjectLines, write_checked, write_made, write_project};
 use std::alloc::{AllocError, AllocFailed};

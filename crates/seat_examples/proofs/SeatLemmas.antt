@@ -10,7 +10,7 @@ use Rattle.pin_turn.proofs.Calls.{rejoins}
 use Rattle.studio_seats.specs.declared.deed.Deed.{Deed}
 use Rattle.studio_seats.specs.declared.held.Held.{Held}
 use Rattle.studio_seats.specs.Deeds.{actor_of}
-use Rattle.studio_seats.specs.Onward.{Asks, Onward}
+use Rattle.studio_seats.specs.Onward.{Onward}
 use Rattle.seat_examples.specs.Jobs.{StaysSeat}
 
 either : (c : Bool) (xs a b : List Deed) → (more : List Deed) × ((if c then xs ++ b else xs ++ a) ≡ xs ++ more)
@@ -24,25 +24,7 @@ longer_on xs ys zs a b p q =
     let e = either c xs a b in
     (e.0, (λ i. if c then q i else p i) ∙ e.1)
 
-asks_if : (one two : Call → Type 0) → ((c : Call) → one c → two c) → (seat : ℕ) (ds : List Deed) → Asks one seat ds
-    → Asks two seat ds
-asks_if one two f seat [] h = tt
-asks_if one two f seat (d ∷ ds) h = ((λ is. f d.call (h.0 is)), asks_if one two f seat ds h.1)
-
 module _ {D V : Type 0} where
-  -- what fits, fits in other words
-  pub onward_if : (one two : Call → Type 0) (v w : View (Held D V) Deed) → ((c : Call) → one c → two c) → Onward one v w
-      → Onward two v w
-  onward_if one two v w f h = record {
-    added = h.added;
-    seen = h.seen;
-    asks = asks_if one two f v.number h.added h.asks;
-    number = h.number;
-    away = h.away;
-    mine = h.mine;
-    used_up = h.used_up;
-  }
-
   -- a seat that went on is the one that it was
   pub stays_on : (fits : Call → Type 0) (v w : View (Held D V) Deed) → Onward fits v w → StaysSeat v w
   stays_on fits v w h = record { number = h.number; away = h.away; more = h.added; seen = h.seen }

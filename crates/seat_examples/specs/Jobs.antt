@@ -1,5 +1,5 @@
 -- What jobs ask of a desk, and what they need.
-use Rattle.std.specs.Prelude.{◌≡◌, ℕ, ◌+◌, ◌^◌, ◌<◌, ◌≤◌, ℤ, IsTrue, None, List, ◌++◌, length}
+use Rattle.std.specs.Prelude.{◌≡◌, ℕ, ◌+◌, ◌^◌, ◌<◌, ◌≤◌, ℤ, IsTrue, List, ◌++◌, length}
 use Rattle.pcm_base.specs.declared.command.Call.{Call}
 use Rattle.pcm_base.specs.declared.command.Call.TheVariants.{Line}
 use Rattle.pcm_base.specs.declared.command.Command.TheVariants as command
@@ -9,9 +9,11 @@ use Rattle.studio_seats.specs.declared.deed.Deed.{Deed}
 use Rattle.studio_seats.specs.declared.held.Held.{Held}
 use Rattle.studio_seats.specs.Deeds.{entries_of, number_after}
 use Rattle.studio_seats.specs.Desks.{Views}
-use Rattle.studio_seats.specs.Onward.{IsPieceOf, IsReadOf}
+use Rattle.studio_seats.specs.Freeing.{IsFullReclaim}
+use Rattle.studio_seats.specs.Onward.{IsReadOf}
 use Rattle.studio_seats.specs.Pieces.{pieces_by}
 use Rattle.studio_seats.specs.Pins.{is_made}
+use Rattle.studio_seats.specs.Recording.{RecorderAsks}
 use Rattle.studio_seats.specs.Shows.{IsMixOf}
 use Rattle.studio_seats.specs.Stands.{Origin}
 use Rattle.seat_examples.specs.declared.jobs.Job.{Job}
@@ -22,14 +24,10 @@ use Rattle.seat_examples.specs.declared.session.Session.{Session}
 abbrev pub IsRampIn : ℕ → Call → Type 0
 IsRampIn track c = (count : ℕ) × (start : ℤ) × (step : ℤ) × (c ≡ Line (command.Ramp track 0 count start step))
 
--- a reclaim of all files that nothing names
-abbrev pub IsFullReclaim : Call → Type 0
-IsFullReclaim c = c ≡ Line (command.Reclaim None)
-
 -- what a job asks
 abbrev pub asked : Job → Call → Type 0
 asked (job.Edit track) c = IsRampIn track c
-asked (job.Record track tag) c = IsPieceOf track tag c
+asked (job.Record track tag) c = RecorderAsks track tag c
 asked (job.Play pin mix) c = IsReadOf pin c
 asked job.Reclaim c = IsFullReclaim c
 

@@ -3,10 +3,12 @@ ghost use Rattle.std.specs.Prelude.{◌≡◌, ◌↔◌, ◌+◌, ◌^◌, ◌<
 ghost use Rattle.pin_turn.specs.Calls.{known};
 ghost use Rattle.studio_seats.specs.Deeds.{entries_of, number_after};
 ghost use Rattle.studio_seats.specs.Desks.{IsAt, start_at, views};
-ghost use Rattle.studio_seats.specs.Onward.{IsPieceOf, IsReadOf, Onward};
+ghost use Rattle.studio_seats.specs.Freeing.{IsFullReclaim};
+ghost use Rattle.studio_seats.specs.Onward.{IsReadOf, Onward};
 ghost use Rattle.studio_seats.specs.Pins.{is_made};
+ghost use Rattle.studio_seats.specs.Recording.{RecorderAsks};
 ghost use Rattle.studio_seats.specs.Stands.{origin};
-ghost use Rattle.seat_examples.specs.Jobs.{IsFullReclaim, IsPinOf, IsRampIn, asked, did, needed, piece_count};
+ghost use Rattle.seat_examples.specs.Jobs.{IsPinOf, IsRampIn, asked, did, needed, piece_count};
 
 use super::lines::{RamDesk, RamSeat, line};
 use disk_model::{RamStore, Store};
@@ -21,7 +23,8 @@ use studio_seats::{Desk, DeskGiver, DeskSeat, DeskTaker};
 pub enum Job {
     /// Puts ramps of six samples in front of a track.
     Edit { track: u64 },
-    /// Adds pieces of three samples to a track, with the number of the recording as their tag.
+    /// Adds pieces of three samples to a track, with the number of the recording as their tag, and removes the files
+    /// that they replaced.
     Record { track: u64, tag: u64 },
     /// Reads all frames of a pin, which have to be these.
     Play { pin: u64, mix: [Frame; 5] },
@@ -86,7 +89,7 @@ fn record<R: Wait>(
     requires seat { IsAt desk.now seat }
     requires tag { (1 ≤ tag) × (tag ≤ number_after (start_at desk.now).commit_number (known seat).seen) }
     ensures same { IsAt desk.now result.0 }
-    ensures goes { Onward (IsPieceOf track tag) (known seat) (known result.0) }
+    ensures goes { Onward (RecorderAsks track tag) (known seat) (known result.0) }
     ensures done { result.1 ≡ End.Done → piece_count track tag (start_at desk.now).commit_number (known result.0)
         ≡ piece_count track tag (start_at desk.now).commit_number (known seat) + turns }
 {
@@ -95,10 +98,10 @@ fn record<R: Wait>(
         let samples = [i16::from(number), 1000, 2000];
         let chunk = Chunk::new(u32::from(number), &samples);
         if let Err(reason) = taker.take_piece(rt, alloc, &chunk).what {
-            return (taker.into_seat(), End::Refused(reason));
+            return (taker.finish(rt), End::Refused(reason));
         }
     }
-    (taker.into_seat(), End::Done)
+    (taker.finish(rt), End::Done)
 }
 
 fn is_mix(frames: &[Frame], mix: &[Frame]) -> bool

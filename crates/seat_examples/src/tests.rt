@@ -1,6 +1,6 @@
 // Threads at one desk, whose turns go on and end.
 use super::disks::{commits_in, fresh, has_named_files, seated};
-use super::{End, Job, by_four, by_two};
+use super::{End, Job, by_four, by_two, work};
 use pcm_base::Frame;
 use std::test::*;
 
@@ -59,6 +59,25 @@ fn four_threads_at_one_desk(rt: HostRuntime) -> Result<(), Fail> {
     assert!(rt; unpinned == Ok(()));
     assert!(rt; studio.commit_number() == 27);
     assert!(rt; commits_in(&mut studio)? == [12, 12]);
+    assert!(rt; studio.stopped().is_none());
+    has_named_files(&rt, alloc, studio)
+}
+
+#[test]
+fn a_recorder_frees_what_it_replaced(rt: HostRuntime) -> Result<(), Fail> {
+    let alloc = rt.alloc();
+    let (desk, seat, session) = seated(&rt, alloc, fresh(alloc)?)?;
+    let record = Job::Record {
+        track: session.track,
+        tag: session.tag,
+    };
+    let (mut seat, end) = work(&rt, alloc, &desk, seat, record, 130);
+    assert!(rt; end == End::Done);
+    // Of the pieces, 97 wrote a block that a later one replaced. None of these files is left.
+    assert!(rt; desk.reclaim(&rt, &mut seat, None).what == Ok(0));
+    let unpinned = desk.unpin(&rt, &mut seat, session.pin).what;
+    let studio = desk.close(seat);
+    assert!(rt; unpinned == Ok(()));
     assert!(rt; studio.stopped().is_none());
     has_named_files(&rt, alloc, studio)
 }

@@ -18,6 +18,15 @@ use Rattle.studio_seats.specs.Merge.{by_seat, deeds_of, number_if, numbers_of}
 use Rattle.studio_seats.proofs.MergeLemmas.{deeds_others}
 use Rattle.session_run.specs.Entries.{entries_by, has_number, last_number, number_of, numbers_by}
 
+-- what holds of deeds holds of those of a kind
+pub each_of : (P : Deed → Type 0) (kind : Deed → Bool) (ds : List Deed) → Each P ds → Each P (deeds_of kind ds)
+each_of P kind [] h = tt
+each_of P kind (d ∷ ds) h = by (each_of P kind ds h.1) (kind d)
+  where
+    by : Each P (deeds_of kind ds) → (b : Bool) → Each P ((if b then d ∷ [] else []) ++ deeds_of kind ds)
+    by later true = (h.0, later)
+    by later false = later
+
 -- what a deed was answered is its entry's reply: no reply stands for a refusal
 abbrev pub IsPlain : Deed → Type 0
 IsPlain d = result_of (reply_of d.what) ≡ d.what

@@ -2,7 +2,6 @@ pub mod CallLemmas
 pub mod ProjectLemmas
 pub mod StreamLemmas
 pub mod SurviveLemmas
-pub mod TryLemmas
 pub mod FourLemmas
 pub mod EntryLemmas
 pub mod AnsweredLemmas
@@ -11,9 +10,16 @@ pub mod SideEntries
 pub mod SpentLemmas
 pub mod SessionLemmas
 pub mod PieceEntries
+pub mod FreedEntries
 pub mod RecordLemmas
 pub mod PlayLemmas
 pub mod SeatEntries
 pub mod PromiseLemmas
+pub mod NeedLemmas
+pub mod MissingLemmas
+pub mod GoneLemmas
+pub mod RoomLemmas
+pub mod OutgrownLemmas
+pub mod TryLemmas
 pub mod Promised
 pub mod CallPromise

@@ -1,6 +1,6 @@
 -- The entries of a recorder: pieces of one recording, in order.
-use Rattle.std.proofs.Common.{◌≡◌, ◌∙◌, refl, sym, ap, subst, ℕ, ◌==◌, ◌&&◌, ◌≤◌, ℤ, if◌then◌else◌, Bool, true, false}
-use Rattle.std.proofs.Common.{List, [], ◌∷◌, ◌++◌, length, take, Result, Ok, Err, append_assoc, arith}
+use Rattle.std.proofs.Common.{◌≡◌, inl, inr, ◌∙◌, refl, sym, ap, subst, ℕ, ◌==◌, ◌&&◌, ◌≤◌, ℤ, if◌then◌else◌, Bool}
+use Rattle.std.proofs.Common.{true, false, List, [], ◌∷◌, ◌++◌, length, take, Result, Ok, Err, append_assoc, arith}
 use Rattle.std.proofs.Common.{eq-eqb}
 use Rattle.std.specs.Prelude.{IsOk}
 use Rattle.std.proofs.lemmas.List.{append-nil}
@@ -15,7 +15,8 @@ use Rattle.studio_seats.specs.Deeds.{commits, entries_of, entry_of, is_commit, r
 use Rattle.studio_seats.specs.Merge.{by_seat, deeds_of}
 use Rattle.studio_seats.specs.Onward.{AreDone, Asks, IsPieceOf}
 use Rattle.studio_seats.specs.Pieces.{piece_by, piece_in, pieces_by}
-use Rattle.desk_session.proofs.PartLemmas.{same_seat}
+use Rattle.studio_seats.specs.Recording.{RecorderAsks}
+use Rattle.studio_seats.proofs.FreeingLemmas.{same_seat}
 use Rattle.session_run.specs.Sides.{ArePieces}
 use Rattle.session_run.proofs.EntryLemmas.{IsPlain, not_refused}
 
@@ -55,13 +56,15 @@ module _ (track tag : ℕ) where
       (ap (λ (b : Bool). samples_in (if b then (samples, n) ∷ [] else []))
       (λ i. eq-eqb track track refl i && eq-eqb tag tag refl i))
 
-  one : (d : Deed) (n : ℕ) (b : Bool) → IsPieceOf track tag d.call
+  one : (d : Deed) (n : ℕ) (b : Bool) → RecorderAsks track tag d.call
       → samples_in (if b then piece_in track tag d.call n else []) ≡ (if b then call_samples d.call else [])
-  one d n true fit = piece_samples d.call n fit
+  one d n true (inl fit) = piece_samples d.call n fit
+  one d n true (inr is) =
+      ap (λ (c : Call). samples_in (piece_in track tag c n)) is ∙ sym (ap call_samples is)
   one d n false fit = refl
 
-  -- the pieces of a seat that asks nothing else are those that were carried out, of its own deeds
-  pub own_samples : (seat n : ℕ) (ds : List Deed) → Asks (IsPieceOf track tag) seat ds
+  -- the pieces of a recorder's seat are those that were carried out, of its own deeds
+  pub own_samples : (seat n : ℕ) (ds : List Deed) → Asks (RecorderAsks track tag) seat ds
       → samples_in (pieces_by track tag seat n ds) ≡ done_samples (deeds_of (by_seat seat) ds)
   own_samples seat n [] h = refl
   own_samples seat n (d ∷ ds) h =

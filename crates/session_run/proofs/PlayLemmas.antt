@@ -1,9 +1,10 @@
 -- A playback, by the entries of its actor.
-use Rattle.std.proofs.Common.{◌≡◌, inl, inr, ◌∙◌, refl, sym, ap, subst, ℕ, ◌+◌, ◌≤◌, Bool, true, false, List, []}
-use Rattle.std.proofs.Common.{◌∷◌, ◌++◌, length, take, drop, Option, Some, None, Result, Ok, Err, arith}
-use Rattle.std.proofs.lemmas.List.{append-nil, length-append, take-append-drop, take-append-le}
+use Rattle.std.proofs.Common.{◌≡◌, inl, inr, ◌∙◌, refl, sym, ap, ℕ, ◌+◌, ◌≤◌, Bool, true, false, List, []}
+use Rattle.std.proofs.Common.{◌∷◌, ◌++◌, length, take, drop, Option, Some, None, Result, arith}
+use Rattle.std.proofs.lemmas.List.{length-append, take-append-drop, take-append-le}
 use Rattle.std.proofs.lemmas.List.Concat.{flat_map-append}
 use Rattle.pcm_base.specs.declared.answer.Reply.{Reply}
+use Rattle.pcm_base.specs.declared.answer.Reply.TheVariants as reply
 use Rattle.pcm_base.specs.declared.command.Call.TheVariants.{Unpin}
 use Rattle.pcm_base.specs.declared.entry.Entry.{Entry}
 use Rattle.pcm_base.specs.declared.refusal.Refusal.{Refusal}
@@ -12,56 +13,58 @@ use Rattle.pcm_base.specs.Recordings.{bytes_of_frame, frame_bytes}
 use Rattle.edit_ports.specs.declared.sink.Sink as sink
 use Rattle.edit_ports.specs.Told.{grown}
 use Rattle.editor_core.specs.Applied.{reply_of}
-use Rattle.pin_turn.specs.Counts.{Each}
-use Rattle.pin_turn.proofs.Sums.{Each-left, Each-right}
+use Rattle.player_work.specs.Filled.{reads_to}
 use Rattle.script_session.specs.Change.{Change}
 use Rattle.script_text.specs.declared.last.PlayEnd.TheVariants as play
 use Rattle.studio_seats.specs.declared.deed.Deed.{Deed}
 use Rattle.studio_seats.specs.Deeds.{entries_of, entry_of}
-use Rattle.studio_seats.specs.Onward.{AreDone, EndsBy, IsReadOf}
+use Rattle.studio_seats.specs.Reads.{AreFullReads, EndReads, IsShortRead}
 use Rattle.studio_seats.proofs.Grown.{entries_append}
 use Rattle.desk_session.specs.declared.told.Heard.{Heard}
 use Rattle.desk_session.specs.Opening.{OwnDeed}
 use Rattle.desk_session.specs.Sounds.{Played}
 use Rattle.session_run.specs.Last.{play_end}
-use Rattle.session_run.specs.Sides.{AreReads, IsRelease, Plays, ReadRefused}
+use Rattle.session_run.specs.Sides.{AreReads, IsRead, IsRelease, Plays, ReadsEnd}
 use Rattle.session_run.specs.Streams.{output}
-use Rattle.session_run.proofs.EntryLemmas.{IsPlain, not_refused}
 
--- reads that were carried out
-are_reads : (pin : ℕ) (ds : List Deed) → Each (λ d. IsReadOf pin d.call) ds → AreDone ds → Each IsPlain ds
-    → AreReads pin (entries_of ds)
-are_reads pin [] fit done plain = tt
-are_reads pin (d ∷ ds) fit done plain =
-    (fit.0, not_refused d.what done.0 plain.0, are_reads pin ds fit.1 done.1 plain.1)
+-- reads that gave all that they asked for
+are_reads : (pin from to : ℕ) (ds : List Deed) → AreFullReads pin from to ds → AreReads pin from to (entries_of ds)
+are_reads pin from to [] h = h
+are_reads pin from to (d ∷ ds) h =
+    (h.0, h.1, h.2, ap reply_of h.3, are_reads pin (from + length h.0) to ds h.4)
 
--- the reads, up to the one that was refused
-record Parts (pin : ℕ) (refused : Option Refusal) (fault : Bool) (ds : List Deed) : Type 0 where
-  reads : List Deed
-  last : List Deed
-  are : ds ≡ reads ++ last
-  done : AreDone reads
-  ends : ReadRefused pin (play_end refused fault) (entries_of last)
+-- a read that gave fewer
+short_read : (pin place : ℕ) (last : List Deed) (d : Deed) → last ≡ d ∷ [] → (r : IsShortRead pin place d)
+    → IsRead pin place r.count (reply.Frames r.frames) (entries_of last)
+short_read pin place last d is r = record {
+  entry = entry_of d;
+  are = ap entries_of is;
+  asked = r.few;
+  call_is = r.call_is;
+  reply_is = ap reply_of r.what_is;
+}
 
-parts : (pin : ℕ) (used fault : Bool) (refused : Option Refusal) (ds : List Deed)
-    → Each (λ d. IsReadOf pin d.call) ds → EndsBy used refused ds → Parts pin refused fault ds
-parts pin used true None ds fit h =
-    record { reads = ds; last = []; are = sym (append-nil ds); done = h; ends = refl }
-parts pin used false None ds fit h =
-    record { reads = ds; last = []; are = sym (append-nil ds); done = h; ends = refl }
-parts pin used fault (Some why) ds fit (inl h) =
-    let fits : Each (λ d. IsReadOf pin d.call) (h.last ∷ []) =
-    Each-right (λ d. IsReadOf pin d.call) h.done (h.last ∷ [])
-    (subst (λ (l : List Deed). Each (λ d. IsReadOf pin d.call) l) h.are fit) in
-    record {
-      reads = h.done;
-      last = h.last ∷ [];
-      are = h.are;
-      done = h.each;
-      ends = inl (fits.0.0, fits.0.1, entry_of h.last, refl, fits.0.2, ap reply_of h.refused);
-    }
-parts pin used fault (Some why) ds fit (inr h) =
-    record { reads = ds; last = []; are = sym (append-nil ds); done = h.each; ends = inr (refl, h.spent_is) }
+-- what ended them
+reads_end : (pin place : ℕ) (used fault : Bool) (refused : Option Refusal) (last : List Deed)
+    → EndReads used pin place refused (reads_to refused) last
+    → ReadsEnd pin place (play_end refused fault) (entries_of last)
+reads_end pin place used true None last (none, d, is, r) =
+    (r.count, r.frames, r.short, short_read pin place last d is r)
+reads_end pin place used false None last (none, d, is, r) =
+    (r.count, r.frames, r.short, short_read pin place last d is r)
+reads_end pin place used fault (Some why) last (other, some, inl (d, is, r)) =
+    let same : other ≡ why = cc in inl (
+      r.count,
+      record {
+        entry = entry_of d;
+        are = ap entries_of is;
+        asked = r.few;
+        call_is = r.call_is;
+        reply_is = ap reply_of r.what_is ∙ ap (λ (w : Refusal). reply.Refused w) same;
+      },
+    )
+reads_end pin place used fault (Some why) last (other, some, inr h) =
+    let same : why ≡ other = cc in inr (ap entries_of h.0, same ∙ h.1)
 
 -- the pin is released by one call, or by none where no turn was left
 release : (NoTurn : Type 0) (used : Bool) (none : used ≡ true → NoTurn) (seat pin : ℕ) (what : Result Reply Refusal)
@@ -100,16 +103,13 @@ failed (Some why) fault is = cc
 pub plays : {P : Type 0} (speakers : sink.Ghosts P) (speaker : Change P) (shows : List Frame → Type 0)
     (pin seat : ℕ) (NoTurn : Type 0) (used : Bool) (none : used ≡ true → NoTurn) (own : List Deed) (heard : Heard)
     (mix : List Frame)
-    → Played speakers speaker shows pin used seat own heard → shows mix → Each IsPlain own
+    → Played speakers speaker shows pin used seat own heard → shows mix
     → Plays NoTurn pin mix (output speakers speaker)
     (record { frames = heard.frames; end = play_end heard.refused heard.fault }) (entries_of own)
-plays speakers speaker shows pin seat NoTurn used none own heard mix h shown plain =
+plays speakers speaker shows pin seat NoTurn used none own heard mix h shown =
     let w = h.is.writes in
-    let p = parts pin used heard.fault heard.refused h.reads h.are h.ends in
+    let p = h.in_order in
     let first = first_bytes mix h.is.frames w.bytes (h.is.first mix shown) w.within in
-    let plain_reads : Each IsPlain p.reads =
-    Each-left IsPlain p.reads p.last (subst (λ (l : List Deed). Each IsPlain l) p.are
-    (Each-left IsPlain h.reads h.release (subst (λ (l : List Deed). Each IsPlain l) h.own_is plain))) in
     record {
       bytes = w.bytes;
       within = first.1;
@@ -120,16 +120,14 @@ plays speakers speaker shows pin seat NoTurn used none own heard mix h shown pla
           let all = w.all no.1 in
           (all.0 ∙ ap (λ (l : List Frame). length (frame_bytes l)) (h.is.whole no.0 mix shown), all.1);
       fault = λ is. w.cause (failed heard.refused heard.fault is);
-      reads = entries_of p.reads;
+      reads = entries_of p.full;
+      place = p.place;
       last = entries_of p.last;
       release = entries_of h.release;
       own_is = ap entries_of (h.own_is ∙ ap (λ (l : List Deed). l ++ h.release) p.are)
-          ∙ (entries_append (p.reads ++ p.last) h.release
-          ∙ ap (λ (l : List Entry). l ++ entries_of h.release) (entries_append p.reads p.last));
-      are = are_reads pin p.reads
-          (Each-left (λ d. IsReadOf pin d.call) p.reads p.last
-          (subst (λ (l : List Deed). Each (λ d. IsReadOf pin d.call) l) p.are h.are))
-          p.done plain_reads;
-      refused = p.ends;
+          ∙ (entries_append (p.full ++ p.last) h.release
+          ∙ ap (λ (l : List Entry). l ++ entries_of h.release) (entries_append p.full p.last));
+      are = are_reads pin 0 p.place p.full p.reads;
+      ended = reads_end pin p.place used heard.fault heard.refused p.last p.ends;
       released = release NoTurn used none seat pin h.what h.release h.released;
     }

@@ -1,7 +1,7 @@
 -- The promise, from what a run did.
-use Rattle.std.proofs.Common.{◌≡◌, refl, sym, subst, ℕ, ◌==◌, if◌then◌else◌, List, []}
+use Rattle.std.proofs.Common.{◌≡◌, refl, sym, subst, ℕ, ◌==◌, List, []}
 use Rattle.pcm_base.specs.Causes.{Rose}
-use Rattle.std.proofs.Common.{◌∷◌, ◌++◌, Result, Ok, Err, Bool, true, false}
+use Rattle.std.proofs.Common.{◌∷◌, Result, Ok, Err, true}
 use Rattle.std.specs.Prelude.{◌||◌, IfErr}
 use Rattle.pcm_base.specs.declared.answer.Reply.{Reply}
 use Rattle.pcm_base.specs.declared.command.Call.{Call}
@@ -27,7 +27,7 @@ use Rattle.script_session.specs.Change.{Change, change}
 use Rattle.script_session.specs.Progress.{IsCauseOf}
 use Rattle.session_run.specs.Entries as entries
 use Rattle.session_run.specs.Promise.{IsStoppedFor}
-use Rattle.session_run.proofs.EntryLemmas.{IsPlain}
+use Rattle.session_run.proofs.EntryLemmas.{IsPlain, each_of}
 
 -- what stopped a script, by the output's count at the end
 pub stopped_for : (s : Stop) (source : Change ℕ) (first then_ last : ℕ) → IsCauseOf s source (change first then_)
@@ -40,8 +40,8 @@ stopped_for stop.OutFault source first then_ last h same =
 
 -- ---- the deeds of a studio that a disk holds
 
-plain_of : (t u : model.Studio) (c : Call) (sound : SoundMove) (what : Result Reply Refusal) → Answers t c sound what u
-    → result_of (reply_of what) ≡ what
+pub plain_of : (t u : model.Studio) (c : Call) (sound : SoundMove) (what : Result Reply Refusal)
+    → Answers t c sound what u → result_of (reply_of what) ≡ what
 plain_of t u c sound (Ok r) h = plain_result r (plain (outside t sound) t.state c r h.answers)
 plain_of t u c sound (Err why) h = refl
 
@@ -64,20 +64,15 @@ each_reply P (d ∷ ds) h plain =
 
 -- what holds of deeds holds of those of one seat
 pub each_own : (P : Deed → Type 0) (seat : ℕ) (ds : List Deed) → Each P ds → Each P (deeds_of (by_seat seat) ds)
-each_own P seat [] h = tt
-each_own P seat (d ∷ ds) h = by (each_own P seat ds h.1) (seat == d.actor)
-  where
-    by : Each P (deeds_of (by_seat seat) ds) → (b : Bool)
-        → Each P ((if b then d ∷ [] else []) ++ deeds_of (by_seat seat) ds)
-    by later true = (h.0, later)
-    by later false = later
+each_own P seat ds h = each_of P (by_seat seat) ds h
 
 -- each deed of a session is by one of its seats, of which the script's is the first
 pub each_maker : (seats : Seats) → seats.script ≡ 0 → (ds : List Deed) → Each (λ d. is_by seats d ≡ true) ds
-    → Each (λ e. (entries.is_by 0 e || (entries.is_by seats.recorder e || entries.is_by seats.player e)) ≡ true) (entries_of ds)
+    → Each (λ e. (entries.is_by 0 e || (entries.is_by seats.recorder e || entries.is_by seats.player e)) ≡ true)
+    (entries_of ds)
 each_maker seats first [] h = tt
 each_maker seats first (d ∷ ds) h = (
-  subst (λ (n : ℕ). ((n == d.actor) || (entries.is_by seats.recorder (entry_of d) || entries.is_by seats.player (entry_of d)))
-      ≡ true) first h.0,
+  subst (λ (n : ℕ). ((n == d.actor)
+      || (entries.is_by seats.recorder (entry_of d) || entries.is_by seats.player (entry_of d))) ≡ true) first h.0,
   each_maker seats first ds h.1,
 )

@@ -1,6 +1,6 @@
 -- A run on an honest disk keeps the promise.
-use Rattle.std.proofs.Common.{◌≡◌, ◌≢◌, ◌⊎◌, inl, inr, ⊎_elim, ◌∙◌, refl, sym, ap, subst, ℕ, List, [], ◌++◌, length}
-use Rattle.std.proofs.Common.{Some, None, true, ◌^◌}
+use Rattle.std.proofs.Common.{◌≡◌, ◌≢◌, inl, inr, ⊎_elim, ◌∙◌, refl, sym, ap, subst, ℕ, List, ◌++◌, length}
+use Rattle.std.proofs.Common.{Some, true, ◌^◌}
 use Rattle.std.specs.Prelude.{IfErr}
 use Rattle.pcm_base.specs.declared.entry.Entry.{Entry}
 use Rattle.pcm_base.specs.Run.{Follows, Run, result_of}
@@ -28,7 +28,7 @@ use Rattle.desk_session.specs.Sessions.{IsSession, place_behind}
 use Rattle.desk_session.specs.Sounds.{piece_numbers}
 use Rattle.script_text.specs.Last.{last_text}
 use Rattle.session_run.specs.Answered.{Answered}
-use Rattle.session_run.specs.Entries.{entries_by, last_number, numbers_by}
+use Rattle.session_run.specs.Entries.{last_number, numbers_by}
 use Rattle.session_run.specs.Last.{play_line, record_commit, record_line}
 use Rattle.session_run.specs.Opening.{OpensTo}
 use Rattle.session_run.specs.Ports.{Job, lent_of}
@@ -240,12 +240,12 @@ module _ {D V M P : Type 0} (k : Kinds D V M P) (ask : DeedsAsk k.disk k.vaults)
     track_is = track_side s.spent n ran.out.opened.recording track pin s.made.track_is
         (ap (numbers_of any_seat n) (sym s.made.opening_is) ∙ s.opening_numbers)
         (Each-left IsPlain track pin plain_opening);
-    pieces = subst (λ (l : List Entry). RecordsSide (side_of ran.out.opened.recording) start.next_track
-        (input k.mics j.ports.mic) ended.record_line (piece_numbers ran.out.kept) l)
+    pieces = subst (λ (l : List Entry). RecordsSide (length all_entries ≡ 2 ^ 62) (side_of ran.out.opened.recording)
+        start.next_track (input k.mics j.ports.mic) ended.record_line (piece_numbers ran.out.kept) l)
         (sym (entries_as s.made.seats.recorder rest))
         (records_side s.made.seats.recorder n s.made.opening rest apart_recorder by_first
-        (plain_by s.made.seats.recorder) k.mics j.ports.mic start.next_track s.spent ran.out.opened.recording
-        ran.out.kept (recorded k start final j ran) s.made.pieces);
+        (plain_by s.made.seats.recorder) k.mics j.ports.mic start.next_track (length all_entries ≡ 2 ^ 62) s.spent
+        no_turn ran.out.opened.recording ran.out.kept (recorded k start final j ran) s.made.pieces);
     printed = printed ran.out.told.stop j.ports.streams.source.faults j.ports.streams.sink.written.before ran.mid
         j.ports.streams.sink.written.now j.ports.streams.sink.faults.before ran.faults
         j.ports.streams.sink.faults.now s.scripted.answers

@@ -1,6 +1,6 @@
 -- A recording, by the entries of its actor.
 use Rattle.std.proofs.Common.{◌≡◌, ◌⊎◌, inl, inr, ⊎_elim, ◌∙◌, refl, sym, ap, subst, ℕ, ◌≤◌, ℤ, List, [], ◌∷◌, ◌++◌}
-use Rattle.std.proofs.Common.{Bool, length, take, Option, Some, None, arith}
+use Rattle.std.proofs.Common.{Bool, true, length, take, Option, Some, None, arith}
 use Rattle.std.proofs.lemmas.List.{append-nil}
 use Rattle.std.proofs.lemmas.Option.{none-some}
 use Rattle.pcm_base.specs.declared.answer.Reply.TheVariants as reply
@@ -19,15 +19,18 @@ use Rattle.script_text.specs.declared.last.RecordEnd.TheVariants as rec
 use Rattle.script_session.specs.Change.{Change, change}
 use Rattle.studio_seats.specs.declared.deed.Deed.{Deed}
 use Rattle.studio_seats.specs.Deeds.{entries_of, entry_of}
+use Rattle.studio_seats.specs.Merge.{deeds_of}
 use Rattle.studio_seats.specs.Onward.{AreDone, EndsBy, IsPieceOf}
 use Rattle.studio_seats.specs.Pieces.{pieces_by}
+use Rattle.studio_seats.specs.Recording.{RecorderAsks, asks_piece}
 use Rattle.studio_seats.proofs.Grown.{entries_append}
 use Rattle.desk_session.specs.declared.told.Kept.{Kept}
 use Rattle.desk_session.specs.Sounds.{Recorded}
 use Rattle.session_run.specs.Last.{mic_end, record_end}
 use Rattle.session_run.specs.Sides.{ArePieces, MicEnds, PieceRefused, Records}
 use Rattle.session_run.specs.Streams.{input}
-use Rattle.session_run.proofs.EntryLemmas.{IsPlain}
+use Rattle.session_run.proofs.EntryLemmas.{IsPlain, each_of}
+use Rattle.session_run.proofs.FreedEntries.{done_pieces, fit_pieces, fit_reclaims, pieces_as}
 use Rattle.session_run.proofs.PieceEntries.{are_pieces, done_samples, refused_samples, samples_in, zipped}
 
 module _ {M : Type 0} (mics : source.Ghosts M) (mic : Change M) where
@@ -139,21 +142,25 @@ refusal track tag kept told ds p whole some = by kept.refused refl
 
 -- the line of a recording, its numbers, and the entries of its actor
 pub records : {M : Type 0} (mics : source.Ghosts M) (mic : Change M) (track tag seat first : ℕ) (deeds own : List Deed)
-    (used : Bool) (kept : Kept) → Recorded mics mic (change [] (pieces_by track tag seat first deeds)) used own kept
+    (NoTurn : Type 0) (used : Bool) (none : used ≡ true → NoTurn) (kept : Kept)
+    → Recorded mics mic (change [] (pieces_by track tag seat first deeds)) used own kept
     → done_samples own ≡ samples_in (pieces_by track tag seat first deeds)
-    → Each (λ d. IsPieceOf track tag d.call) own → Each IsPlain own
-    → Records track tag (input mics mic) (record {
+    → Each (λ d. RecorderAsks track tag d.call) own → Each IsPlain own
+    → Records NoTurn track tag (input mics mic) (record {
       track = track;
       pieces = length kept.numbers;
       samples = kept.samples;
       end = record_end kept.refused kept.end;
     }) kept.numbers (entries_of own)
-records mics mic track tag seat first deeds own used kept r same fit plain =
+records mics mic track tag seat first deeds own NoTurn used none kept r same asks plain =
     let chunks = chunks_of r.is.bytes in
-    let p = parts track tag used r.told own fit r.ends in
+    let asked : List Deed = deeds_of asks_piece own in
+    let fit = fit_pieces track tag own asks in
+    let p = parts track tag used r.told asked fit r.own_are.ends in
     let within = few kept.refused refl in
     let taken : done_samples p.taken ≡ take (length kept.numbers) chunks =
-    sym p.samples ∙ (same ∙ (ap samples_in r.is.takes.kept ∙ zipped chunks kept.numbers within)) in
+    sym p.samples ∙ (done_pieces track tag own asks ∙ same
+    ∙ (ap samples_in r.is.takes.kept ∙ zipped chunks kept.numbers within)) in
     record {
       bytes = r.is.bytes;
       read = r.is.read;
@@ -163,14 +170,19 @@ records mics mic track tag seat first deeds own used kept r same fit plain =
       fewer = λ why is. (r.is.takes.some why (refused_by kept.refused kept.end why is)).0;
       taken = entries_of p.taken;
       last = entries_of p.last;
-      own_is = ap entries_of p.are ∙ entries_append p.taken p.last;
+      own_is = pieces_as own ∙ (ap entries_of p.are ∙ entries_append p.taken p.last);
       pieces = subst (λ (l : List (List ℤ)). ArePieces track tag l (entries_of p.taken)) taken
           (are_pieces track tag p.taken
           (Each-left (λ d. IsPieceOf track tag d.call) p.taken p.last
           (subst (λ (l : List Deed). Each (λ d. IsPieceOf track tag d.call) l) p.are fit))
           p.done
-          (Each-left IsPlain p.taken p.last (subst (λ (l : List Deed). Each IsPlain l) p.are plain)));
-      refused = refusal track tag kept r.told own p (λ is. (r.is.takes.all is).1) (λ why is. (r.is.takes.some why is).1);
+          (Each-left IsPlain p.taken p.last (subst (λ (l : List Deed). Each IsPlain l) p.are
+          (each_of IsPlain asks_piece own plain))));
+      refused = refusal track tag kept r.told asked p (λ is. (r.is.takes.all is).1)
+          (λ why is. (r.is.takes.some why is).1);
+      reclaims = fit_reclaims track tag own asks;
+      freed = r.own_are.freed;
+      freed_last = ⊎_elim (λ nothing. inl nothing) (λ found. inr (none found)) r.own_are.freed_last;
       track_is = refl;
       pieces_are = refl;
       samples_are = r.is.takes.samples_is;

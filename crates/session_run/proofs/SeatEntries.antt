@@ -12,16 +12,16 @@ use Rattle.script_session.specs.Change.{Change, change}
 use Rattle.studio_seats.specs.declared.deed.Deed.{Deed}
 use Rattle.studio_seats.specs.Deeds.{entries_of}
 use Rattle.studio_seats.specs.Merge.{by_seat, deeds_of}
-use Rattle.studio_seats.specs.Onward.{Asks, IsPieceOf}
+use Rattle.studio_seats.specs.Onward.{Asks}
 use Rattle.studio_seats.specs.Pieces.{pieces_by}
+use Rattle.studio_seats.specs.Recording.{RecorderAsks}
+use Rattle.studio_seats.proofs.FreeingLemmas.{asked_own, same_seat}
 use Rattle.studio_seats.proofs.OnwardLemmas.{each_append}
 use Rattle.studio_seats.proofs.MergeLemmas.{deeds_append}
 use Rattle.desk_session.specs.declared.told.Heard.{Heard}
 use Rattle.desk_session.specs.declared.told.Kept.{Kept}
 use Rattle.desk_session.specs.Opening.{WhereMade, play_calls, record_calls}
 use Rattle.desk_session.specs.Sounds.{Played, Recorded, piece_numbers}
-use Rattle.desk_session.proofs.EndLemmas.{asked_own}
-use Rattle.desk_session.proofs.PartLemmas.{same_seat}
 use Rattle.session_run.specs.Last.{play_line, record_line}
 use Rattle.session_run.specs.Sides.{PlaysSide, RecordsSide}
 use Rattle.session_run.specs.Streams.{input, output}
@@ -62,36 +62,36 @@ module _ (seat first : ℕ) (opening rest : List Deed) (apart : 0 ≢ seat)
       ∙ ap (λ (l : List Deed). l ++ own) (others_own 0 seat opening apart by_first)
 
   -- the recording
-  pub records_side : {M : Type 0} (mics : source.Ghosts M) (mic : Change M) (track : ℕ) (used : Bool)
-      (made : Option (Result ℕ Refusal)) (kept : Option Kept)
+  pub records_side : {M : Type 0} (mics : source.Ghosts M) (mic : Change M) (track : ℕ) (NoTurn : Type 0) (used : Bool)
+      (none : used ≡ true → NoTurn) (made : Option (Result ℕ Refusal)) (kept : Option Kept)
       → WhereMade made (λ tag. IsSomeAnd kept
       (Recorded mics mic (change [] (pieces_by track tag seat first (opening ++ rest))) used own))
       ((kept ≡ None) × (mic.now ≡ mic.before))
       → Asks (record_calls track made) seat rest
-      → RecordsSide (side_of made) track (input mics mic) (record_line track made kept) (piece_numbers kept)
+      → RecordsSide NoTurn (side_of made) track (input mics mic) (record_line track made kept) (piece_numbers kept)
       (entries_of own)
-  records_side mics mic track used None kept h asks = (
+  records_side mics mic track NoTurn used none None kept h asks = (
     refl,
     ap piece_numbers h.0,
     ap entries_of (none_own (record_calls track None) (λ c x. x) seat rest asks),
     (ap mics.left h.1, ap mics.fault_count h.1),
   )
-  records_side mics mic track used (Some (Err why)) kept h asks = (
+  records_side mics mic track NoTurn used none (Some (Err why)) kept h asks = (
     refl,
     ap piece_numbers h.0,
     ap entries_of (none_own (record_calls track (Some (Err why))) (λ c x. x) seat rest asks),
     (ap mics.left h.1, ap mics.fault_count h.1),
   )
-  records_side mics mic track used (Some (Ok tag)) None h asks = absurd h
-  records_side mics mic track used (Some (Ok tag)) (Some kept) h asks = (
+  records_side mics mic track NoTurn used none (Some (Ok tag)) None h asks = absurd h
+  records_side mics mic track NoTurn used none (Some (Ok tag)) (Some kept) h asks = (
     _,
     refl,
-    records mics mic track tag seat first (opening ++ rest) own used kept h
+    records mics mic track tag seat first (opening ++ rest) own NoTurn used none kept h
         (sym (own_samples track tag seat first (opening ++ rest)
-        (each_append (λ d. d.actor ≡ seat → IsPieceOf track tag d.call) opening rest
-        (others_ask (IsPieceOf track tag) 0 seat opening apart by_first) asks)
+        (each_append (λ d. d.actor ≡ seat → RecorderAsks track tag d.call) opening rest
+        (others_ask (RecorderAsks track tag) 0 seat opening apart by_first) asks)
         ∙ ap done_samples own_is))
-        (asked_own (IsPieceOf track tag) seat rest asks) plain,
+        (asked_own (RecorderAsks track tag) seat rest asks) plain,
   )
 
   -- the playback
@@ -118,5 +118,5 @@ module _ (seat first : ℕ) (opening rest : List Deed) (apart : 0 ≢ seat)
   plays_side speakers speaker NoTurn used none shows Shown (Some (Ok pin)) (Some heard) h asks shown = (
     _,
     refl,
-    λ mix is. plays speakers speaker (shows pin) pin seat NoTurn used none own heard mix h (shown pin mix is) plain,
+    λ mix is. plays speakers speaker (shows pin) pin seat NoTurn used none own heard mix h (shown pin mix is),
   )

@@ -1,12 +1,16 @@
 -- A recording or a playback that found no turn left found so after as many as there are.
-use Rattle.std.proofs.Common.{◌≡◌, ◌⊎◌, inl, inr, ap, subst, ℕ, ℤ, Bool, true, false, List, [], ◌∷◌, Option, Some, None, Result, Ok, Err}
+use Rattle.std.proofs.Common.{◌≡◌, ◌⊎◌, inl, inr, ap, ◌∙◌, subst, ℕ, ℤ, Bool, true, false, List, [], ◌∷◌, ◌++◌, Option}
+use Rattle.std.proofs.Common.{Some, None, Result, Ok, Err}
 use Rattle.std.specs.Prelude.{IsSomeAnd}
+use Rattle.pcm_base.specs.declared.answer.Reply.TheVariants as reply
 use Rattle.pcm_base.specs.declared.refusal.Refusal.{Refusal}
 use Rattle.pcm_base.specs.declared.refusal.Refusal.TheVariants.{NoMemory}
 use Rattle.pcm_base.specs.declared.sound.Frame.{Frame}
+use Rattle.edit_ports.specs.Answers.{WasRefused}
 use Rattle.edit_ports.specs.declared.sink.Sink as sink
 use Rattle.edit_ports.specs.declared.source.Source as source
 use Rattle.editor_core.specs.Applied.{reply_of}
+use Rattle.player_work.specs.Filled.{reads_to}
 use Rattle.pin_turn.specs.Counts.{Each}
 use Rattle.pin_turn.proofs.Sums.{Each-left, Each-right}
 use Rattle.recorder_work.specs.declared.microphone.MicEnd.{MicEnd}
@@ -17,13 +21,17 @@ use Rattle.script_session.specs.Change.{Change}
 use Rattle.studio_seats.specs.declared.deed.Deed.{Deed}
 use Rattle.studio_seats.specs.Desks.{spent}
 use Rattle.studio_seats.specs.Leads.{HadTurn}
+use Rattle.studio_seats.specs.Merge.{deeds_of}
+use Rattle.studio_seats.specs.Recording.{asks_piece}
 use Rattle.studio_seats.specs.Onward.{EndsBy}
+use Rattle.studio_seats.specs.Reads.{EndReads, ReadsTo}
 use Rattle.desk_session.specs.declared.told.Heard.{Heard}
 use Rattle.desk_session.specs.declared.told.Kept.{Kept}
 use Rattle.desk_session.specs.Opening.{PinDeed, TrackDeed, WhereMade}
 use Rattle.desk_session.specs.Sounds.{Played, Recorded}
 use Rattle.session_run.specs.Last.{play_end, play_line, record_end, record_line}
 use Rattle.session_run.specs.Sides.{Refused}
+use Rattle.session_run.proofs.EntryLemmas.{each_of}
 use Rattle.session_run.proofs.SideEntries.{pin_spent, track_spent}
 
 record_refusal : (refused : Option Refusal) (end : MicEnd) (why : Refusal) → record_end refused end ≡ rec.Refused why
@@ -46,6 +54,19 @@ ends_spent used own (inl h) had =
     (ap reply_of h.refused))
 ends_spent used own (inr h) had = h.found
 
+-- nor does a read
+reads_spent : (used : Bool) (pin : ℕ) (ds : List Deed) → ReadsTo used pin (Some spent) WasRefused ds
+    → Each HadTurn ds → used ≡ true
+reads_spent used pin ds h had = by h.ends
+  where
+    by : EndReads used pin h.place (Some spent) WasRefused h.last → used ≡ true
+    by (why, is, inl (d, one, r)) =
+        let same : why ≡ spent = cc in
+        absurd ((Each-right HadTurn h.full (d ∷ []) (subst (λ (l : List Deed). Each HadTurn l)
+        (h.are ∙ ap (λ (l : List Deed). h.full ++ l) one) had)).0
+        (ap reply_of r.what_is ∙ ap (λ (w : Refusal). reply.Refused w) same))
+    by (why, is, inr e) = e.2
+
 spent_memory : spent ≡ NoMemory → ⊥
 spent_memory is = cc
 
@@ -66,7 +87,9 @@ recording_spent mics mic pieces track used (Some (Ok tag)) (Some kept) opening o
     by ((h.is.takes.some spent (record_refusal kept.refused kept.end spent is)).1)
   where
     by : (h.told ≡ Some spent) ⊎ ((spent ≡ NoMemory) × (h.told ≡ None)) → used ≡ true
-    by (inl told) = ends_spent used own (subst (λ (r : Option Refusal). EndsBy used r own) told h.ends) had
+    by (inl told) = ends_spent used (deeds_of asks_piece own)
+        (subst (λ (r : Option Refusal). EndsBy used r (deeds_of asks_piece own)) told h.own_are.ends)
+        (each_of HadTurn asks_piece own had)
     by (inr memory) = absurd (spent_memory memory.0)
 
 pub playback_spent : {P : Type 0} (speakers : sink.Ghosts P) (speaker : Change P)
@@ -85,7 +108,7 @@ playback_spent speakers speaker shows used player (Some (Ok pin)) None opening o
     absurd h
 playback_spent speakers speaker shows used player (Some (Ok pin)) (Some heard) opening own else_ h opened had_opening
     had is =
-    ends_spent used h.reads
-    (subst (λ (r : Option Refusal). EndsBy used r h.reads)
-    (play_refusal heard.refused heard.fault spent is) h.ends)
+    reads_spent used pin h.reads
+    (subst (λ (r : Option Refusal). ReadsTo used pin r (reads_to r) h.reads)
+    (play_refusal heard.refused heard.fault spent is) h.in_order)
     (Each-left HadTurn h.reads h.release (subst (λ (l : List Deed). Each HadTurn l) h.own_is had))

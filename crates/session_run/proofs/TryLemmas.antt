@@ -1,18 +1,28 @@
 -- What `try` leaves of a fresh project in memory.
-use Rattle.std.proofs.Common.{◌≡◌, ◌⊎◌, inl, inr, ⊎_elim, ℕ, nat_lt, if◌then◌else◌, ap, ◌∙◌, subst, arith}
+use Rattle.std.proofs.Common.{◌≡◌, ◌⊎◌, inl, inr, ⊎_elim, ℕ, List, nat_lt, if◌then◌else◌, ap, ◌∙◌, subst, arith}
+use Rattle.disk_model.specs.Frames.{asked}
 use Rattle.disk_model.specs.declared.store.Store.{Ghosts}
 use Rattle.editor_core.specs.Core.{Core}
+use Rattle.editor_core.specs.Left.{LeavesForeign}
+use Rattle.editor_core.specs.Studios.{studio_of}
+use Rattle.studio_seats.specs.declared.deed.Deed.{Deed}
+use Rattle.studio_seats.specs.Deeds.{entries_of}
+use Rattle.studio_seats.specs.Leads.{DeedsAsk, chain_asks}
+use Rattle.studio_seats.specs.Stands.{AreTold, Chain}
 use Rattle.desk_session.specs.Lent.{Kinds}
 use Rattle.memory_project.specs.Fresh.{IsFresh}
 use Rattle.memory_project.specs.declared.fresh.FreshProject.{FreshProject}
 use Rattle.script_session.specs.Change.{change}
 use Rattle.script_text.specs.declared.call_fault.CallFault.TheVariants as call
 use Rattle.session_run.specs.declared.ending.Done.{Done}
+use Rattle.session_run.specs.Outgrown.{Outgrows, nothing_needed, plus}
 use Rattle.session_run.specs.Ports.{Idle, Ports, SameVault, job}
 use Rattle.session_run.specs.Refused.{IsRefused}
 use Rattle.session_run.specs.Runs.{RunsOpened, RunsTo, Wants}
 use Rattle.session_run.specs.Streams.{Unread}
 use Rattle.session_run.specs.Tries.{Tried, faults_of, nothing, tried_project}
+use Rattle.session_run.proofs.OutgrownLemmas.{Grows, fits}
+use Rattle.session_run.proofs.RoomLemmas.{fresh_fine, much_more, spent_by}
 
 -- the project that was made is that of a script that is tried
 pub tried_at : {D : Type 0} (disk : Ghosts D) (p : FreshProject) (start : Core D) → p ≡ tried_project
@@ -21,7 +31,7 @@ tried_at disk p start same fresh = subst (λ (q : FreshProject). IsFresh disk q 
 
 -- What `try` leaves, where the store that was handed in stands in the place of the memory disk.
 module _ {D V M P C : Type 0} (k : Kinds D V M P) (start : Core D) (p : Ports V M P) (done : Done D)
-    (store : C) (status : ℕ) (fresh_is : IsFresh k.disk tried_project start) where
+    (store : C) (status : ℕ) (fresh_is : IsFresh k.disk tried_project start) (ask : DeedsAsk k.disk k.vaults) where
   abbrev disk : Ghosts D
   disk = k.disk
 
@@ -36,6 +46,22 @@ module _ {D V M P C : Type 0} (k : Kinds D V M P) (start : Core D) (p : Ports V 
     commits = done.commits;
     pieces = done.pieces;
   }
+
+  -- no call of the memory disk failed, or the first deeds need more than its room
+  served : (final : Core D) (deeds : List Deed) → Chain k.disk k.vaults start deeds final → AreTold k.vaults deeds
+      → (faults_of k.disk final ≡ 0) ⊎ Outgrows tried_project (studio_of k.disk start) (entries_of deeds)
+  served final deeds chain told = ⊎_elim
+      (λ (none : faults_of k.disk final ≡ 0). inl none)
+      (λ (g : Grows (studio_of k.disk start) (entries_of deeds) nothing_needed). inr (record {
+        front = g.front;
+        back = g.back;
+        cut = g.cut;
+        sum = g.more;
+        needs = g.needs;
+        over = much_more (plus nothing_needed g.more) g.more (omega arith) (omega arith) (omega arith) g.over;
+      }))
+      (fits k.disk k.vaults (asked k.disk start.store) start deeds final chain nothing_needed told
+      (fresh_fine k.disk start fresh_is))
 
   ran : (final : Core D) → status ≡ (if nat_lt 0 (faults_of disk final) then 4 else done.status)
       → RunsTo k (change start final) (job p nothing) done → Tried k p given
@@ -55,6 +81,10 @@ module _ {D V M P C : Type 0} (k : Kinds D V M P) (start : Core D) (p : Ports V 
       pieces = r.pieces;
     };
     status_is = is;
+    served = λ told. served final r.ran.session.deeds r.ran.session.stands.chain told;
+    spent = spent_by k.disk start final LeavesForeign
+        (chain_asks k.disk k.vaults start r.ran.session.deeds final r.ran.session.stands.chain) fresh_is
+        (ask start final r.ran.session.deeds r.ran.session.stands);
   }
 
   -- nothing was asked of the memory disk, so it has counted nothing

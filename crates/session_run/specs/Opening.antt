@@ -22,7 +22,7 @@ pub record Looks {D : Type 0} (disk : Ghosts D) (old new : D) (answer : Result F
   pub honest : IsHonest disk old → OpensHonest disk old new answer
   pub cause : Causes disk old new answer
   pub reads : disk.reads new ≡ disk.reads old
-  pub changed : Changed disk StaysStep (record { files = 0; bytes = 0; calls = 1 }) old new
+  pub changed : Changed disk StaysStep (record { files = 0; bytes = 0; calls = 2 }) old new
   pub stays_honest : IsHonest disk old → IsHonest disk new
 
 -- A studio was made of the project that the store keeps.

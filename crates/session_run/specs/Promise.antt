@@ -115,11 +115,11 @@ pub record Promise {D : Type 0} (disk : Ghosts D) (m : Met D) : Type 0 where
   pub lines : Answered (last_number start.state.commit (track ++ pin))
       (last_number start.state.commit (track ++ pin)) end.lines answers entries
   pub sounds : Follows m.sounds.before (entries_by 0 entries) m.sounds.now
-  -- and the recorded PIECES, after a track of their own
+  -- and the recorded PIECES, after a track of their own; the recorder frees what they replaced
   pub track_is : MakesSide (Line Track)
       (λ tag r. (tag ≡ last_number start.state.commit track) × (is_refusal r ≡ false)) end.recording track
-  pub pieces : RecordsSide end.recording start.state.next_track m.mic end.record_line m.piece_commits
-      (entries_by end.recorder entries)
+  pub pieces : RecordsSide (length ((track ++ pin) ++ entries) ≡ 2 ^ 62) end.recording start.state.next_track m.mic
+      end.record_line m.piece_commits (entries_by end.recorder entries)
   -- the ANSWERS printed, and the last lines; after a fault of the output a part from the front, up to within the answer to
   -- the last line
   pub printed : PrintsFrom m.out

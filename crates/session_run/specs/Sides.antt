@@ -1,6 +1,6 @@
 -- What was made for a recording or a playback before the script, and how each ends.
-use Rattle.std.specs.Prelude.{◌≡◌, ◌⊎◌, ℕ, ◌<◌, ◌≤◌, ◌^◌, ◌/◌, ℤ, Bool, true, false, List, [], ◌∷◌, ◌++◌, length, take}
-use Rattle.std.specs.Prelude.{Option, Some, None, sum_by}
+use Rattle.std.specs.Prelude.{◌≡◌, ◌⊎◌, ℕ, ◌+◌, ◌<◌, ◌≤◌, ◌^◌, ◌/◌, ℤ, Bool, true, false, List, [], ◌∷◌, ◌++◌, length}
+use Rattle.std.specs.Prelude.{take, Option, Some, None, sum_by}
 use Rattle.std.specs.Io.KnownBytes.{IsAtEnd}
 use Rattle.pcm_base.specs.declared.answer.Reply.{Reply}
 use Rattle.pcm_base.specs.declared.answer.Reply.TheVariants as reply
@@ -13,6 +13,7 @@ use Rattle.pcm_base.specs.declared.sound.Frame.{Frame}
 use Rattle.pcm_base.specs.Causes.{Rose}
 use Rattle.pcm_base.specs.Recordings.{chunks_of, frame_bytes}
 use Rattle.edit_ports.specs.Told.{grown, preceded}
+use Rattle.pin_turn.specs.Counts.{Each}
 use Rattle.script_session.specs.Session.{is_refusal}
 use Rattle.script_text.specs.declared.last.PlayEnd.{PlayEnd}
 use Rattle.script_text.specs.declared.last.PlayEnd.TheVariants as play
@@ -21,6 +22,8 @@ use Rattle.script_text.specs.declared.last.RecordEnd.{RecordEnd}
 use Rattle.script_text.specs.declared.last.RecordEnd.TheVariants as rec
 use Rattle.script_text.specs.declared.last.RecordLine.{RecordLine}
 use Rattle.studio_seats.specs.Desks.{spent}
+use Rattle.studio_seats.specs.Freeing.{AreFreed, IsFullReclaim, makes_piece, pieces_of, unfreed}
+use Rattle.studio_seats.specs.Reads.{IsAsked}
 use Rattle.session_run.specs.Streams.{Input, IsIdleInput, IsIdleOutput, Output}
 
 -- A recording or a playback: it was not asked for, its track or pin was refused, or it was made. The number of a
@@ -93,9 +96,11 @@ PieceRefused track tag (rec.Refused why) es = ((samples : List ℤ) × (e : Entr
 PieceRefused track tag end es = es ≡ []
 
 -- The bytes that were read of the microphone were cut into chunks. The first of them are the pieces, each once, in
--- order, and each has a number. They are all of them only where none was refused. Their entries are these, and then that of the piece that was refused.
-pub record Records (track tag : ℕ) (mic : Input) (line : RecordLine) (numbers : List ℕ) (own : List Entry)
-    : Type 0 where
+-- order, and each has a number. They are all of them only where none was refused. The actor's entries are these, and
+-- then that of the piece that was refused; and between them reclaims, each of all that nothing names. At no time more
+-- than 64 pieces stand after the last reclaim, and at the end none does, or no turn was left for one.
+pub record Records (NoTurn : Type 0) (track tag : ℕ) (mic : Input) (line : RecordLine) (numbers : List ℕ)
+    (own : List Entry) : Type 0 where
   pub bytes : List ℕ
   pub read : mic.left.before ≡ preceded bytes mic.left.now
   pub ended : MicEnds line.end bytes mic
@@ -104,43 +109,58 @@ pub record Records (track tag : ℕ) (mic : Input) (line : RecordLine) (numbers 
   pub fewer : (why : Refusal) → line.end ≡ rec.Refused why → length numbers < length (chunks_of bytes)
   pub taken : List Entry
   pub last : List Entry
-  pub own_is : own ≡ taken ++ last
+  pub own_is : pieces_of own ≡ taken ++ last
   pub pieces : ArePieces track tag (take (length numbers) (chunks_of bytes)) taken
   pub refused : PieceRefused track tag line.end last
+  pub reclaims : Each (λ e. makes_piece e.call ≡ false → IsFullReclaim e.call) own
+  pub freed : AreFreed 0 own
+  pub freed_last : (unfreed 0 own ≡ 0) ⊎ NoTurn
   pub track_is : line.track ≡ track
   pub pieces_are : line.pieces ≡ length numbers
   pub samples_are : line.samples ≡ sum_by length (take (length numbers) (chunks_of bytes))
 
 -- the recording by its side: its line, the numbers of its pieces, and the entries of its actor
-abbrev pub RecordsSide : Side → ℕ → Input → Option RecordLine → List ℕ → List Entry → Type 0
-RecordsSide NotAsked track mic line numbers own = (line ≡ None) × (numbers ≡ []) × (own ≡ []) × IsIdleInput mic
-RecordsSide (Refused why) track mic line numbers own =
+abbrev pub RecordsSide : Type 0 → Side → ℕ → Input → Option RecordLine → List ℕ → List Entry → Type 0
+RecordsSide NoTurn NotAsked track mic line numbers own = (line ≡ None) × (numbers ≡ []) × (own ≡ []) × IsIdleInput mic
+RecordsSide NoTurn (Refused why) track mic line numbers own =
     (line ≡ Some (record { track = 0; pieces = 0; samples = 0; end = rec.Refused why })) × (numbers ≡ []) × (own ≡ [])
     × IsIdleInput mic
-RecordsSide (Made tag) track mic line numbers own =
-    (told : RecordLine) × (line ≡ Some told) × Records track tag mic told numbers own
+RecordsSide NoTurn (Made tag) track mic line numbers own =
+    (told : RecordLine) × (line ≡ Some told) × Records NoTurn track tag mic told numbers own
 
 -- ---- the playback
 
--- these entries read a pin, each carried out
-abbrev pub AreReads : ℕ → List Entry → Type 0
-AreReads pin [] = Unit {0}
-AreReads pin (e ∷ es) =
-    ((from count : ℕ) × (e.call ≡ ReadPin pin from count)) × (is_refusal e.reply ≡ false) × AreReads pin es
+-- These entries read a pin from this place on, and come to the other place. Each begins where the one before it ended,
+-- and gives as many frames as it asks for.
+abbrev pub AreReads : ℕ → ℕ → ℕ → List Entry → Type 0
+AreReads pin from to [] = to ≡ from
+AreReads pin from to (e ∷ es) = (frames : List Frame) × IsAsked (length frames)
+    × (e.call ≡ ReadPin pin from (length frames)) × (e.reply ≡ reply.Frames frames)
+    × AreReads pin (from + length frames) to es
 
--- what refused a read, after those that gave frames: the entry of one more says why, or no turn was left
-abbrev pub ReadRefused : ℕ → PlayEnd → List Entry → Type 0
-ReadRefused pin (play.Refused why) es =
-    ((from count : ℕ) × (e : Entry) × (es ≡ e ∷ []) × (e.call ≡ ReadPin pin from count)
-    × (e.reply ≡ reply.Refused why)) ⊎ ((es ≡ []) × (why ≡ spent))
-ReadRefused pin end es = es ≡ []
+-- one entry that reads a pin at this place
+pub record IsRead (pin from count : ℕ) (r : Reply) (es : List Entry) : Type 0 where
+  pub entry : Entry
+  pub are : es ≡ entry ∷ []
+  pub asked : IsAsked count
+  pub call_is : entry.call ≡ ReadPin pin from count
+  pub reply_is : entry.reply ≡ r
+
+-- What ended the reads at this place: one that gave fewer frames than it asked for. Or one was refused, as the line
+-- says, or no turn was left for it.
+abbrev pub ReadsEnd : ℕ → ℕ → PlayEnd → List Entry → Type 0
+ReadsEnd pin place (play.Refused why) es =
+    ((count : ℕ) × IsRead pin place count (reply.Refused why) es) ⊎ ((es ≡ []) × (why ≡ spent))
+ReadsEnd pin place end es =
+    (count : ℕ) × (frames : List Frame) × (length frames < count) × IsRead pin place count (reply.Frames frames) es
 
 -- the pin is released once, at the end, or no turn was left for that
 abbrev pub IsRelease : Type 0 → ℕ → List Entry → Type 0
 IsRelease NoTurn pin es = ((e : Entry) × (es ≡ e ∷ []) × (e.call ≡ Unpin pin)) ⊎ ((es ≡ []) × NoTurn)
 
 -- A prefix of the bytes of the frames that the pin shows was written to the speaker. It is all of them where the line
--- has no refusal and no fault. The actor of the playback read them, and then released the pin.
+-- has no refusal and no fault. The actor of the playback read them from the first on, each once, in order, up to the
+-- end or to a refusal, and then released the pin.
 pub record Plays (NoTurn : Type 0) (pin : ℕ) (mix : List Frame) (speaker : Output) (line : PlayLine) (own : List Entry)
     : Type 0 where
   pub bytes : ℕ
@@ -150,11 +170,12 @@ pub record Plays (NoTurn : Type 0) (pin : ℕ) (mix : List Frame) (speaker : Out
   pub all : line.end ≡ play.Whole → (bytes ≡ length (frame_bytes mix)) × (speaker.faults.now ≡ speaker.faults.before)
   pub fault : line.end ≡ play.Fault → Rose speaker.faults.before speaker.faults.now
   pub reads : List Entry
+  pub place : ℕ
   pub last : List Entry
   pub release : List Entry
   pub own_is : own ≡ (reads ++ last) ++ release
-  pub are : AreReads pin reads
-  pub refused : ReadRefused pin line.end last
+  pub are : AreReads pin 0 place reads
+  pub ended : ReadsEnd pin place line.end last
   pub released : IsRelease NoTurn pin release
 
 -- the playback by its side, where the pin shows the frames of a mix

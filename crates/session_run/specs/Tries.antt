@@ -1,15 +1,21 @@
 -- A script on a fresh project in memory.
-use Rattle.std.specs.Prelude.{◌≡◌, ◌⊎◌, ℕ, if◌then◌else◌, nat_lt, false}
+use Rattle.std.specs.Prelude.{◌≡◌, ◌⊎◌, ℕ, ◌<◌, if◌then◌else◌, nat_lt, false}
+use Rattle.disk_model.specs.Room.{Room, together}
 use Rattle.disk_model.specs.declared.store.Store.{Ghosts}
 use Rattle.desk_session.specs.declared.opening.Beside.{Beside}
 use Rattle.desk_session.specs.Lent.{Kinds}
 use Rattle.editor_core.specs.Core.{Core}
+use Rattle.editor_core.specs.Studios.{studio_of}
 use Rattle.memory_project.specs.declared.fresh.FreshProject.{FreshProject}
-use Rattle.memory_project.specs.Fresh.{IsFresh}
+use Rattle.memory_project.specs.Fresh.{IsFresh, made_room, room_of_project}
 use Rattle.pcm_base.specs.Studio.{fault_sum}
+use Rattle.studio_seats.specs.Deeds.{entries_of}
+use Rattle.studio_seats.specs.Leads.{chain_asks}
+use Rattle.studio_seats.specs.Stands.{AreTold}
 use Rattle.script_session.specs.Change.{change}
 use Rattle.script_text.specs.declared.call_fault.CallFault.TheVariants as call
 use Rattle.session_run.specs.declared.ending.Done.{Done}
+use Rattle.session_run.specs.Outgrown.{Outgrows}
 use Rattle.session_run.specs.Ports.{Idle, Ports, SameVault, job}
 use Rattle.session_run.specs.Refused.{IsRefused}
 use Rattle.session_run.specs.Runs.{RunsTo}
@@ -34,6 +40,10 @@ faults_of disk s = fault_sum (disk.read_fault_count s.store) (disk.change_fault_
 abbrev pub nothing : Beside
 nothing = record { records = false; plays = false }
 
+-- more of one of the three than there is room for
+abbrev pub IsBeyond : Room → Room → Type 0
+IsBeyond room more = (room.files < more.files) ⊎ ((room.bytes < more.bytes) ⊎ (room.calls < more.calls))
+
 -- A script ran on a fresh project of the memory disk. Where that disk counted a fault the status is 4.
 pub record Tried {D V M P C : Type 0} (k : Kinds D V M P) (p : Ports V M P) (done : Done C) : Type 0 where
   pub start : Core D
@@ -42,6 +52,14 @@ pub record Tried {D V M P C : Type 0} (k : Kinds D V M P) (p : Ports V M P) (don
   pub status : ℕ
   pub ran : RunsTo k (change start final) (job p nothing) (record done { status = status })
   pub status_is : done.status ≡ (if nat_lt 0 (faults_of k.disk final) then 4 else status)
+  -- It counted none, or the first entries of the run need more than its room, by the model's bounds. A vault has to
+  -- report its bytes only if a line names a sound.
+  pub served : AreTold k.vaults ran.ran.session.deeds → (faults_of k.disk final ≡ 0)
+      ⊎ Outgrows tried_project (studio_of k.disk start) (entries_of ran.ran.session.deeds)
+  -- Over each vault: it counted none, or the calls of the run, and making the project, ask more than its room.
+  pub spent : (faults_of k.disk final ≡ 0)
+      ⊎ IsBeyond (room_of_project tried_project) (together (made_room 10)
+      (chain_asks k.disk k.vaults start ran.ran.session.deeds final ran.ran.session.stands.chain))
 
 -- The word `try`, on the memory disk: the store that was handed in comes back as it was.
 abbrev pub Tries : {D V M P C : Type 0} → Kinds D V M P → C → Ports V M P → Done C → Type 0

@@ -16,6 +16,7 @@ use script_text::CallFault;
 use std::alloc::Global;
 use std::sync::Wait;
 use std::thread::Threads;
+use studio_seats::deeds_ask;
 
 /// The project of a script that is tried, with its room.
 pub fn tried_project() -> FreshProject
@@ -77,6 +78,8 @@ where
     let done = run_opened(
         rt, alloc, script, out, studio, vault, mic, speaker, gate, nothing,
     );
+    // It compiles to nothing: what the deeds of a desk ask of the disk, for the proof.
+    deeds_ask::<RamStore, V>();
     Done {
         status: status_with(done.store.faults(), done.status),
         opened: done.opened,

@@ -94,7 +94,7 @@ impl FrameGiver for MemGiver {
 
     ghost refused = { λ s. s.refused };
 
-    ghost follows = { λ first stopped now. now.items.items ≡ first.items.items };
+    ghost follows = { λ first reading now. now.items.items ≡ first.items.items };
 
     fn give_frames<R: Wait>(&mut self, _rt: &R, from: u64, out: &mut [Frame]) -> Said<usize> {
         if from >= self.refuses_from {

@@ -7,12 +7,14 @@ ghost use Rattle.pcm_base.specs.Outside.{SameElsewhere};
 ghost use Rattle.project_state.specs.Kept.{meant, point_blocks};
 ghost use Rattle.sample_block.specs.Sources.{sources_of, AllNamed, AllWhole};
 ghost use Rattle.wav_pcm.specs.Written.{MayBegin};
+ghost use Rattle.block_cache.specs.Caches.{IsCacheOf, KeepsCache};
 ghost use Rattle.mix_view.specs.Tracks.{mix_length_of, stored_mix};
 ghost use Rattle.sound_export.specs.declared.fault.ExportFault.TheVariants as fault;
 ghost use Rattle.sound_export.specs.Written.{IsLengthFault, IsBlockFault, IsNoDamage, ExportCounted};
 
 use super::fault::ExportFault;
 use super::stretch::append_mix;
+use block_cache::Cache;
 use disk_model::Store;
 use edit_ports::Vault;
 use mix_view::mix_len;
@@ -22,10 +24,11 @@ use wav_pcm::{MAX_FRAMES, write_start};
 
 /// Writes the mix of a point's tracks to a vault as a WAV file, and answers how many bytes it has. The length is tested
 /// before anything is written. Then the header is written, and frames are read, mixed and appended a stretch at a
-/// time, as many as the buffers have room for, so that no memory is taken. After an error the sound is as it was, or
-/// holds the first bytes of the file.
+/// time, as many as the buffers have room for. After an error the sound is as it was, or holds the first bytes of the
+/// file.
 pub fn write_mix<S: Store, V: Vault>(
     store: &mut S,
+    cache: &mut Cache,
     vault: &mut V,
     name: &str,
     point: &Point,
@@ -40,6 +43,8 @@ pub fn write_mix<S: Store, V: Vault>(
     requires bytes { 4 * length frames.old ≤ length bytes.old }
     requires head { 44 ≤ length bytes.old }
     requires few_frames { length frames.old ≤ 2 ^ 32 }
+    requires cached { IsTrue (S.tells store.old) → IsCacheOf (S.reads store.old) cache.old }
+    ensures cache { KeepsCache (S.tells store.old) (S.reads store.old) (point_blocks point.now) cache.old cache.new }
     ensures written { IsTrue (V.tells vault.old) → IsTrue (S.tells store.old) → OnOk result
         (V.holds vault.new name.now ≡ Some (wav_text (stored_mix (S.reads store.old) point.now) rate)) }
     ensures size { IfOk result (λ n. n ≡ 44 + 4 * mix_length_of point.now) }
@@ -68,6 +73,6 @@ pub fn write_mix<S: Store, V: Vault>(
         return Err(ExportFault::TooLong { frames: len });
     }
     write_start(vault, name, len as u32, rate, bytes)?;
-    append_mix(store, vault, name, point, len, cells, frames, bytes)?;
+    append_mix(store, cache, vault, name, point, len, cells, frames, bytes)?;
     Ok(44 + 4 * len)
 }

@@ -8,12 +8,14 @@ ghost use Rattle.pcm_base.specs.Outside.{SameElsewhere};
 ghost use Rattle.edit_ports.specs.Sounds.{sound_bytes, MayHaveGrown};
 ghost use Rattle.project_state.specs.Kept.{meant, point_blocks};
 ghost use Rattle.sample_block.specs.Sources.{AllNamed};
-ghost use Rattle.mix_view.specs.Readers.{HasCompared, IsReader};
+ghost use Rattle.block_cache.specs.Caches.{IsCacheOf, KeepsCache};
+ghost use Rattle.mix_view.specs.Readers.{IsReader};
 ghost use Rattle.mix_view.specs.Tracks.{mix_length_of, stored_mix};
 ghost use Rattle.pcm_base.specs.Recordings.{frame_bytes};
 ghost use Rattle.sound_export.specs.Written.{IsOfDevice, IsBlockFault, ExportCounted};
 
 use super::fault::ExportFault;
+use block_cache::Cache;
 use disk_model::Store;
 use edit_ports::Vault;
 use mix_view::MixReader;
@@ -24,6 +26,7 @@ use wav_pcm::append_piece;
 /// Appends the next frames of a mix, as many as are left and as fit, and answers how many.
 fn append_stretch<'a, S: Store, V: Vault>(
     store: &mut S,
+    cache: &mut Cache,
     vault: &mut V,
     name: &str,
     reader: &mut MixReader<'a>,
@@ -32,7 +35,7 @@ fn append_stretch<'a, S: Store, V: Vault>(
     bytes: &mut [u8],
 ) -> Result<usize, ExportFault>
     requires reader { IsReader reader.old }
-    requires compared { IsTrue (S.tells store.old) → HasCompared (S.reads store.old) reader.old }
+    requires cached { IsTrue (S.tells store.old) → IsCacheOf (S.reads store.old) cache.old }
     requires cells { 64 ≤ length cells.old }
     requires bytes { 4 * length frames.old ≤ length bytes.old }
     requires few { reader.old.at + length frames.old < 2 ^ 64 }
@@ -41,7 +44,8 @@ fn append_stretch<'a, S: Store, V: Vault>(
     ensures place { IfOk result (λ n. reader.new.at ≡ reader.old.at + n) }
     ensures reader { IsReader reader.new }
     ensures point { reader.new.point.now ≡ reader.old.point.now }
-    ensures compared { IsTrue (S.tells store.old) → HasCompared (S.reads store.old) reader.new }
+    ensures cache { KeepsCache (S.tells store.old) (S.reads store.old) (point_blocks reader.old.point.now) cache.old
+        cache.new }
     ensures appended { IsTrue (V.tells vault.old) → IsTrue (S.tells store.old)
         → IfOk result (λ n. V.holds vault.new name.now ≡ Some (sound_bytes (V.holds vault.old name.now)
         ++ frame_bytes (take n (drop reader.old.at (stored_mix (S.reads store.old) reader.old.point.now))))) }
@@ -57,7 +61,7 @@ fn append_stretch<'a, S: Store, V: Vault>(
     ensures faults { ExportCounted result (S.read_fault_count store.old) (S.read_fault_count store.new)
         (V.fault_count vault.old) (V.fault_count vault.new) }
 {
-    let count = reader.read(store, cells, frames)?;
+    let count = reader.read(store, cache, cells, frames)?;
     append_piece(vault, name, &frames[..count], bytes)?;
     Ok(count)
 }
@@ -65,6 +69,7 @@ fn append_stretch<'a, S: Store, V: Vault>(
 /// Appends all frames of the mix, `len` of them, to a sound that is there, in one pass over the tracks.
 pub(crate) fn append_mix<S: Store, V: Vault>(
     store: &mut S,
+    cache: &mut Cache,
     vault: &mut V,
     name: &str,
     point: &Point,
@@ -83,6 +88,8 @@ pub(crate) fn append_mix<S: Store, V: Vault>(
     requires some { 0 < length frames.old }
     requires bytes { 4 * length frames.old ≤ length bytes.old }
     requires few_frames { length frames.old ≤ 2 ^ 32 }
+    requires cached { IsTrue (S.tells store.old) → IsCacheOf (S.reads store.old) cache.old }
+    ensures cache { KeepsCache (S.tells store.old) (S.reads store.old) (point_blocks point.now) cache.old cache.new }
     ensures appended { IsTrue (V.tells vault.old) → IsTrue (S.tells store.old)
         → OnOk result (V.holds vault.new name.now ≡ Some (sound_bytes (V.holds vault.old name.now)
         ++ frame_bytes (stored_mix (S.reads store.old) point.now))) }
@@ -100,7 +107,16 @@ pub(crate) fn append_mix<S: Store, V: Vault>(
 {
     let mut reader = MixReader::new(point, 0);
     'stretches: while reader.at < len {
-        if let Err(fault) = append_stretch(store, vault, name, &mut reader, cells, frames, bytes) {
+        if let Err(fault) = append_stretch(
+            store,
+            cache,
+            vault,
+            name,
+            &mut reader,
+            cells,
+            frames,
+            bytes,
+        ) {
             return Err(fault);
         }
     }

@@ -68,31 +68,13 @@ failed t u c (inr (may, change)) = record {
 
 broken : (t u : model.Studio) (c : Call) (sound : SoundMove) (why : Refusal) → Breaks t c sound why u
     → Went t u c (Err why)
-broken t u c sound (refusal.BadLine column) h = absurd h
-broken t u c sound (refusal.Spent turns) h = absurd h
-broken t u c sound (refusal.Stopped faults) h = absurd h
-broken t u c sound (refusal.NoTrack id) h = absurd h
-broken t u c sound refusal.BadRange h = absurd h
-broken t u c sound refusal.BadColumns h = absurd h
-broken t u c sound refusal.TrackLimit h = absurd h
-broken t u c sound (refusal.LengthLimit len) h = absurd h
-broken t u c sound refusal.EmptyClipboard h = absurd h
-broken t u c sound (refusal.TooNarrow have need) h = absurd h
-broken t u c sound refusal.NothingToUndo h = absurd h
-broken t u c sound refusal.NothingToRedo h = absurd h
-broken t u c sound refusal.NoFile h = absurd h
-broken t u c sound (refusal.BadWav fault) h = absurd h
-broken t u c sound (refusal.RateDiffers have want) h = absurd h
-broken t u c sound (refusal.TooLong frames) h = absurd h
-broken t u c sound (refusal.SpaceSpent have need) h = absurd h
-broken t u c sound (refusal.RecordLimit len) h = absurd h
 broken t u c sound (refusal.Damaged file at want have) h =
     still t u c (Err (refusal.Damaged file at want have)) h.reads h.changes (λ going. h.stopped) (λ going. tt)
 broken t u c sound refusal.DiskFault h = failed t u c h.cause
 broken t u c sound refusal.VaultFault h =
     still t u c (Err refusal.VaultFault) h.1.reads h.1.changes (λ going. h.1.stopped) (λ going. h.0)
-broken t u c sound (refusal.NoPin n) h = absurd h
 broken t u c sound refusal.NoMemory h = same t u c (Err refusal.NoMemory) h.same (λ going. tt)
+broken t u c sound why h = absurd h
 
 went : (t u : model.Studio) (c : Call) (sound : SoundMove) (what : Result Reply Refusal) → Answers t c sound what u
     → Went t u c what

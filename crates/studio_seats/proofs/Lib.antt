@@ -14,3 +14,6 @@ pub mod MergeLemmas
 pub mod FaultLemmas
 pub mod OnwardLemmas
 pub mod WorkLemmas
+pub mod ReadLemmas
+pub mod FreeingLemmas
+pub mod RecordingLemmas

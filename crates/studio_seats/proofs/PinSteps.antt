@@ -7,15 +7,11 @@ use Rattle.pcm_base.specs.declared.answer.Reply.{Reply}
 use Rattle.pcm_base.specs.declared.answer.Reply.TheVariants as reply
 use Rattle.pcm_base.specs.declared.command.Call.{Call}
 use Rattle.pcm_base.specs.declared.command.Call.TheVariants as call
-use Rattle.pcm_base.specs.declared.command.Command.{Command}
-use Rattle.pcm_base.specs.declared.command.Command.TheVariants as command
 use Rattle.pcm_base.specs.declared.entry.SoundMove.{SoundMove}
 use Rattle.pcm_base.specs.declared.refusal.Refusal.{Refusal}
-use Rattle.pcm_base.specs.Cells.{Project}
-use Rattle.pcm_base.specs.Outside.{Outside}
 use Rattle.pcm_base.specs.Run.{Answers, outside, result_of}
 use Rattle.pcm_base.specs.State.{State, current}
-use Rattle.pcm_base.specs.Step.{MayAnswer, after, after_line}
+use Rattle.pcm_base.specs.Step.{MayAnswer, after}
 use Rattle.pcm_base.specs.Studio as model
 use Rattle.studio_seats.specs.Pins.{after_what, drops_pin, makes_pin}
 use Rattle.studio_seats.specs.Pins.{tells_pin}
@@ -24,66 +20,6 @@ use Rattle.studio_seats.proofs.Refused.{refused_same}
 pub either_bool : (b : Bool) → (b ≡ true) ⊎ (b ≡ false)
 either_bool true = inl refl
 either_bool false = inr refl
-
--- ---- a line leaves the pins
-
-line_pins : (out : Outside) (s : State) (c : Command) → (after_line out s c).pins ≡ s.pins
-line_pins out s command.Track = refl
-line_pins out s (command.Drop id) = refl
-line_pins out s (command.Level id gain) = refl
-line_pins out s (command.Side id side) = refl
-line_pins out s (command.Mute id mute) = refl
-line_pins out s (command.Put id at samples) = refl
-line_pins out s (command.Ramp id at n start step) = refl
-line_pins out s (command.Delete id from to) = refl
-line_pins out s (command.SplitDelete id from to) = refl
-line_pins out s (command.Silence id from to) = refl
-line_pins out s (command.Trim id from to) = refl
-line_pins out s (command.Gain id from to gain) = refl
-line_pins out s (command.Cut id n from to) = refl
-line_pins out s (command.SplitCut id n from to) = refl
-line_pins out s (command.Copy id n from to) = refl
-line_pins out s (command.Paste id at) = refl
-line_pins out s (command.PasteOver id at) = refl
-line_pins out s command.Undo = refl
-line_pins out s command.Redo = refl
-line_pins out s (command.Purge n) = refl
-line_pins out s (command.Show id from to) = refl
-line_pins out s (command.Mix from to) = refl
-line_pins out s (command.Envelope id from to columns) = refl
-line_pins out s command.Tracks = refl
-line_pins out s (command.Reclaim limit) = refl
-line_pins out s (command.Import name) = refl
-line_pins out s (command.Export name) = refl
-
-line_next : (out : Outside) (s : State) (c : Command) → (after_line out s c).next_pin ≡ s.next_pin
-line_next out s command.Track = refl
-line_next out s (command.Drop id) = refl
-line_next out s (command.Level id gain) = refl
-line_next out s (command.Side id side) = refl
-line_next out s (command.Mute id mute) = refl
-line_next out s (command.Put id at samples) = refl
-line_next out s (command.Ramp id at n start step) = refl
-line_next out s (command.Delete id from to) = refl
-line_next out s (command.SplitDelete id from to) = refl
-line_next out s (command.Silence id from to) = refl
-line_next out s (command.Trim id from to) = refl
-line_next out s (command.Gain id from to gain) = refl
-line_next out s (command.Cut id n from to) = refl
-line_next out s (command.SplitCut id n from to) = refl
-line_next out s (command.Copy id n from to) = refl
-line_next out s (command.Paste id at) = refl
-line_next out s (command.PasteOver id at) = refl
-line_next out s command.Undo = refl
-line_next out s command.Redo = refl
-line_next out s (command.Purge n) = refl
-line_next out s (command.Show id from to) = refl
-line_next out s (command.Mix from to) = refl
-line_next out s (command.Envelope id from to columns) = refl
-line_next out s command.Tracks = refl
-line_next out s (command.Reclaim limit) = refl
-line_next out s (command.Import name) = refl
-line_next out s (command.Export name) = refl
 
 -- ---- one call, and the pin of a number that was given out before it
 
@@ -95,8 +31,7 @@ module _ (rate : ℕ) (s : State) (p : ℕ) where
   pub stays : (c : Call) (what : Result Reply Refusal) (sound : SoundMove) → p < s.next_pin → drops_pin c what p ≡ false
       → Same (after_what rate s c what sound)
   stays c (Err why) sound low h = refl
-  stays (call.Line c) (Ok r) sound low h =
-      ap (λ (pins : ℕ → Option Project). pins p) (line_pins (record { rate = rate; sound = sound.before }) s c)
+  stays (call.Line c) (Ok r) sound low h = refl
   stays (call.Piece track tag samples) (Ok r) sound low h = refl
   stays call.Pin (Ok r) sound low h =
       ap (λ (z : Bool). if z then Some (current s) else s.pins p) (ne_eqb p s.next_pin (λ e. omega arith))
@@ -128,9 +63,7 @@ module _ (rate : ℕ) (s : State) (p : ℕ) where
 pub next_grows : (rate : ℕ) (s : State) (c : Call) (what : Result Reply Refusal) (sound : SoundMove)
     → s.next_pin ≤ (after_what rate s c what sound).next_pin
 next_grows rate s c (Err why) sound = omega arith
-next_grows rate s (call.Line c) (Ok r) sound =
-    let h = line_next (record { rate = rate; sound = sound.before }) s c in
-    omega (arith, h)
+next_grows rate s (call.Line c) (Ok r) sound = omega arith
 next_grows rate s (call.Piece track tag samples) (Ok r) sound = omega arith
 next_grows rate s call.Pin (Ok r) sound = omega arith
 next_grows rate s (call.PinLen q) (Ok r) sound = omega arith

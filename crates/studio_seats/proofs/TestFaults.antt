@@ -1,25 +1,28 @@
 -- What a test may tell: of no device, and of no turn.
-use Rattle.std.proofs.Common.{◌≡◌, inl, inr, refl, sym, ap, ◌∙◌, subst, ℕ, ◌+◌, ◌-◌, ◌^◌, ◌==◌, nat_lt, nat_le}
+use Rattle.std.proofs.Common.{◌≡◌, inl, inr, refl, sym, ap, ◌∙◌, subst, ℕ, ◌+◌, ◌-◌, ◌==◌, nat_lt, nat_le}
 use Rattle.std.proofs.Common.{◌&&◌, ◌||◌, not, Bool, true, false, Option, Some, None, is_none, List, [], ◌∷◌}
 use Rattle.std.proofs.Common.{IsSome, length, map, take, Result, Ok, Err}
 use Rattle.pcm_base.specs.declared.answer.Reply.{Reply}
 use Rattle.pcm_base.specs.declared.answer.Reply.TheVariants.{Refused}
 use Rattle.pcm_base.specs.declared.command.Call.{Call}
 use Rattle.pcm_base.specs.declared.command.Call.TheVariants as call
-use Rattle.pcm_base.specs.declared.command.Command.{Command}
-use Rattle.pcm_base.specs.declared.command.Command.TheVariants as command
 use Rattle.pcm_base.specs.declared.entry.SoundMove.{SoundMove}
+use Rattle.pcm_base.specs.declared.limits.TheConstants.{COUNTER_LIMIT, MAX_CELLS, MAX_TRACKS, MAX_VIEW}
 use Rattle.pcm_base.specs.declared.refusal.Refusal.{Refusal}
 use Rattle.pcm_base.specs.declared.refusal.Refusal.TheVariants as refusal
 use Rattle.pcm_base.specs.declared.wav.WavFault.{WavFault}
 use Rattle.pcm_base.specs.Cells.{cells_at, longest, tracks_from}
 use Rattle.pcm_base.specs.Counters.{commits_of, counter_tests, no_room, pins_of, places_of, record_test, tracks_of}
+use Rattle.pcm_base.specs.Edits.{source_count}
 use Rattle.pcm_base.specs.Outside.{Outside}
 use Rattle.pcm_base.specs.Refusals.{◌otherwise◌, bad_columns, bad_range, bad_view, call_tests, channel_tests}
-use Rattle.pcm_base.specs.Refusals.{covered_length, empty_clipboard, file_tests, import_tests, insert_tests}
-use Rattle.pcm_base.specs.Refusals.{inserted_length, length_limit, no_pin, no_track, own_tests, paste_tests}
-use Rattle.pcm_base.specs.Refusals.{pasted_lengths, range_tests, refused_if, run_tests, too_narrow, track_limit}
+use Rattle.pcm_base.specs.Refusals.{empty_clipboard, file_tests, import_tests, insert_tests, inserted_length}
+use Rattle.pcm_base.specs.Refusals.{length_limit, no_pin, no_track, paste_tests, pasted_lengths, placed_length}
+use Rattle.pcm_base.specs.Refusals.{range_tests, refused_if, run_tests, shape_tests, too_narrow, track_limit, view_tests}
 use Rattle.pcm_base.specs.Run.{Answers, outside, refusal_of, result_of, stop_test}
+use Rattle.pcm_base.specs.Shape.{Shape, NewTrack, DropTrack, SetTrack, PutIn, EditRange, CutRun, CopyRun, PasteRun}
+use Rattle.pcm_base.specs.Shape.{MoveTo, Purge, Look, Reclaim, Import, Export, Back, Forward, View, Cells, Frames}
+use Rattle.pcm_base.specs.Shape.{Columns, Tracks, shape_of}
 use Rattle.pcm_base.specs.State.{State, clip_of, current}
 use Rattle.pcm_base.specs.Studio as model
 use Rattle.pcm_base.specs.Wave.{Sound, wav_of}
@@ -55,10 +58,10 @@ module _ (stopped : Option ℕ) where
   lengths : (lens : List ℕ) → Tells stopped (length_limit lens)
   lengths [] = tt
   lengths (len ∷ lens) =
-      either (refused_if (nat_lt (2 ^ 32) len) (refusal.LengthLimit len)) (length_limit lens) (one _ _ tt) (lengths lens)
+      either (refused_if (nat_lt MAX_CELLS len) (refusal.LengthLimit len)) (length_limit lens) (one _ _ tt) (lengths lens)
 
   room : (have need : ℕ) → Tells stopped (no_room have need)
-  room have need = one (nat_lt (2 ^ 62) (have + need)) (refusal.SpaceSpent have need) tt
+  room have need = one (nat_lt COUNTER_LIMIT (have + need)) (refusal.SpaceSpent have need) tt
 
   module _ (out : Outside) (s : State) where
     track : (id : ℕ) → Tells stopped (no_track s id)
@@ -93,7 +96,7 @@ module _ (stopped : Option ℕ) where
         (either (too_narrow have need) _ (narrow have need) (lengths (pasted_lengths f (clip_of s) here))))
 
     more_tracks : (n : ℕ) → Tells stopped (track_limit s n)
-    more_tracks n = one (nat_lt 64 (length (current s) + n)) refusal.TrackLimit tt
+    more_tracks n = one (nat_lt MAX_TRACKS (length (current s) + n)) refusal.TrackLimit tt
 
     channels : (sound : Sound) → Tells stopped (channel_tests out.rate s sound)
     channels sound =
@@ -110,44 +113,38 @@ module _ (stopped : Option ℕ) where
     imported (Some bytes) = wave (wav_of bytes)
 
     columned : (columns len : ℕ) → Tells stopped (bad_columns columns len)
-    columned columns len = one (columns == 0 || nat_lt 4096 columns || nat_lt len columns) refusal.BadColumns tt
+    columned columns len = one (columns == 0 || nat_lt MAX_VIEW columns || nat_lt len columns) refusal.BadColumns tt
 
-    line : (c : Command) → Tells stopped (own_tests out s c)
-    line command.Track = more_tracks 1
-    line (command.Drop id) = track id
-    line (command.Level id gain) = track id
-    line (command.Side id side) = track id
-    line (command.Mute id mute) = track id
-    line (command.Put id at samples) = insert id at (length samples)
-    line (command.Ramp id at n start step) = insert id at n
-    line (command.Delete id from to) = ranged id from to
-    line (command.SplitDelete id from to) = ranged id from to
-    line (command.Silence id from to) = ranged id from to
-    line (command.Trim id from to) = ranged id from to
-    line (command.Gain id from to gain) = ranged id from to
-    line (command.Cut id n from to) = run id n from to
-    line (command.SplitCut id n from to) = run id n from to
-    line (command.Copy id n from to) = run id n from to
-    line (command.Paste id at) = paste (inserted_length at) id
-    line (command.PasteOver id at) = paste (covered_length at) id
-    line command.Undo = one _ _ tt
-    line command.Redo = one _ _ tt
-    line (command.Purge n) = range 0 n s.history.cursor
-    line (command.Show id from to) = either (no_track s id) (bad_view from to) (track id) (range from to (from + 4096))
-    line (command.Mix from to) = range from to (from + 4096)
-    line (command.Envelope id from to columns) =
+    view : (v : View) → Tells stopped (view_tests s v)
+    view (Cells id from to) = either (no_track s id) (bad_view from to) (track id) (range from to (from + MAX_VIEW))
+    view (Frames from to) = range from to (from + MAX_VIEW)
+    view (Columns id from to columns) =
         either (range_tests s id from to) (bad_columns columns (to - from)) (ranged id from to)
         (columned columns (to - from))
-    line command.Tracks = tt
-    line (command.Reclaim limit) = tt
-    line (command.Import name) = imported out.sound
-    line (command.Export name) = one _ _ tt
+    view Tracks = tt
+
+    line : (shape : Shape) → Tells stopped (shape_tests out s shape)
+    line NewTrack = more_tracks 1
+    line (DropTrack id) = track id
+    line (SetTrack id setting) = track id
+    line (PutIn id at source) = insert id at (source_count source)
+    line (EditRange id from to edit) = ranged id from to
+    line (CutRun id n from to removing) = run id n from to
+    line (CopyRun id n from to) = run id n from to
+    line (PasteRun id at placing) = paste (placed_length placing at) id
+    line (MoveTo Back) = one _ _ tt
+    line (MoveTo Forward) = one _ _ tt
+    line (Purge n) = range 0 n s.history.cursor
+    line (Look v) = view v
+    line (Reclaim limit) = tt
+    line (Import name) = imported out.sound
+    line (Export name) = one _ _ tt
 
     pin : (n : ℕ) → Tells stopped (no_pin s n)
     pin n = one (is_none (s.pins n)) (refusal.NoPin n) tt
 
     own : (c : Call) → Tells stopped (call_tests out s c)
-    own (call.Line c) = line c
+    own (call.Line c) = line (shape_of c)
     own (call.Piece to tag samples) =
         either (no_track s to) _ (track to) (lengths ((length (cells_at to (current s)) + length samples) ∷ []))
     own call.Pin = tt

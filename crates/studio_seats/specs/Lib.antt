@@ -10,4 +10,7 @@ pub mod Shows
 pub mod Pieces
 pub mod Merge
 pub mod Onward
+pub mod Reads
+pub mod Freeing
+pub mod Recording
 pub mod Faults

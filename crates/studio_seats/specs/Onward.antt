@@ -1,5 +1,5 @@
 -- How what a seat knows goes on.
-use Rattle.std.specs.Prelude.{◌≡◌, ◌⊎◌, ℕ, ◌+◌, if◌then◌else◌, ℤ, Bool, true, false, List, [], ◌∷◌, ◌++◌, length}
+use Rattle.std.specs.Prelude.{◌≡◌, ◌⊎◌, ℕ, ◌+◌, if◌then◌else◌, ℤ, Bool, true, List, [], ◌∷◌, ◌++◌, length}
 use Rattle.std.specs.Prelude.{Option, Some, None, Err, IsOk}
 use Rattle.pcm_base.specs.declared.refusal.Refusal.{Refusal}
 use Rattle.pcm_base.specs.declared.command.Command.{Command}
@@ -10,7 +10,7 @@ use Rattle.pcm_base.specs.declared.command.Call.{Call}
 use Rattle.pcm_base.specs.declared.command.Call.TheVariants.{Line, Piece, ReadPin}
 use Rattle.studio_seats.specs.declared.deed.Deed.{Deed}
 use Rattle.studio_seats.specs.Desks.{spent}
-use Rattle.studio_seats.specs.Merge.{by_seat, deeds_of}
+use Rattle.studio_seats.specs.Merge.{by_seat}
 
 -- the places of the deeds of a kind, where the first of the list stands at place k
 abbrev pub places_of : (Deed → Bool) → ℕ → List Deed → List ℕ
@@ -56,18 +56,10 @@ abbrev pub EndsBy : Bool → Option Refusal → List Deed → Type 0
 EndsBy used_up None ds = AreDone ds
 EndsBy used_up (Some why) ds = AreDoneTo why ds ⊎ AreSpent used_up why ds
 
--- what a seat knows that takes pieces or gives frames, and the first refusal that it was answered
+-- what a seat knows that gives frames, and the first refusal that it was answered
 pub record Worker (D V : Type 0) : Type 0 where
   pub view : View (Held D V) Deed
   pub refused : Option Refusal
-
--- The seat of a worker went on by calls that fit, each of which is a turn of its own, but for one for which no turn was
--- left. None of them was refused but the last, where it `failed`.
-pub record WorksOn {D V : Type 0} (fits : Call → Type 0) (failed : Bool) (v w : Worker D V) : Type 0 where
-  pub onward : Onward fits v.view w.view
-  pub unrefused : failed ≡ false → w.refused ≡ v.refused
-  pub ends : v.refused ≡ None
-      → EndsBy w.view.used_up w.refused (deeds_of (by_seat v.view.number) onward.added)
 
 abbrev pub worker : {D V : Type 0} → View (Held D V) Deed → Option Refusal → Worker D V
 worker view refused = record { view = view; refused = refused }

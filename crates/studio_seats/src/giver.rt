@@ -26,7 +26,8 @@ pub struct DeskGiver<'a, S: Store, V: Vault> {
 
 impl<'a, S: Store, V: Vault> FrameGiver for DeskGiver<'a, S, V> {
     ghost use Rattle.studio_seats.specs.Desks.{start_at};
-    ghost use Rattle.studio_seats.specs.Onward.{IsReadOf, WorksOn, worker};
+    ghost use Rattle.studio_seats.specs.Onward.{worker};
+    ghost use Rattle.studio_seats.specs.Reads.{ReadsOn};
     ghost use Rattle.studio_seats.specs.Shows.{IsMixOf};
     ghost use Rattle.studio_seats.specs.Stands.{origin};
 
@@ -36,11 +37,10 @@ impl<'a, S: Store, V: Vault> FrameGiver for DeskGiver<'a, S, V> {
 
     ghost refused = { λ s. s.refused };
 
-    // It is of the same desk, and its seat went on by turns of its own, all of them reads of this pin, and none after
-    // one that was refused.
-    ghost follows = { λ first failed s. (s.desk.now ≡ first.desk.now) × (s.pin ≡ first.pin)
-        × WorksOn (IsReadOf first.pin) failed (worker (known first.seat) first.refused)
-        (worker (known s.seat) s.refused) };
+    // It is of the same desk, and its seat went on by turns of its own. They read this pin from its first frame on,
+    // each from where the one before it ended, up to the first that gave fewer frames than it asked for or was refused.
+    ghost follows = { λ first reading s. (s.desk.now ≡ first.desk.now) × (s.pin ≡ first.pin)
+        × ReadsOn first.pin reading (worker (known first.seat) first.refused) (worker (known s.seat) s.refused) };
 
     fn give_frames<R: Wait>(&mut self, rt: &R, from: u64, out: &mut [Frame]) -> Said<usize> {
         let said = self.desk.read_pin(rt, &mut self.seat, self.pin, from, out);

@@ -5,6 +5,7 @@
 mod deed;
 mod desk;
 mod first;
+mod freeing;
 mod giver;
 mod held;
 mod laws;

@@ -1,11 +1,13 @@
 // A seat that takes the pieces of a recording.
-ghost use Rattle.std.specs.Prelude.{◌≡◌, ◌≤◌, None};
+ghost use Rattle.std.specs.Prelude.{◌≡◌, ◌<◌, ◌≤◌, None};
 ghost use Rattle.pin_turn.specs.Calls.{known};
 ghost use Rattle.studio_seats.specs.Deeds.{number_after};
 ghost use Rattle.studio_seats.specs.Desks.{IsAt, start_at};
+ghost use Rattle.studio_seats.specs.Recording.{FreesTo};
 
 use super::desk::Desk;
 use super::first::first_of;
+use super::freeing::{count_piece, free};
 use super::held::DeskSeat;
 use disk_model::Store;
 use edit_ports::{PieceTaker, Vault};
@@ -13,7 +15,8 @@ use pcm_base::{Chunk, Refusal, Said};
 use std::alloc::Global;
 use std::sync::Wait;
 
-/// Each piece is one turn of the seat, at the end of a track, with the number of the recording as its tag.
+/// Each piece is one turn of the seat, at the end of a track, with the number of the recording as its tag. After 64
+/// pieces, and at its end, it removes the files of blocks that nothing names, in a turn of its own.
 #[derive(Drop)]
 pub struct DeskTaker<'a, S: Store, V: Vault> {
     desk: &'a Desk<S, V>,
@@ -21,24 +24,26 @@ pub struct DeskTaker<'a, S: Store, V: Vault> {
     track: u64,
     tag: u64,
     refused: Option<Refusal>,
+    since: u64,
     ghost at: { IsAt desk.now seat },
     ghost tagged: { (1 ≤ tag) × (tag ≤ number_after (start_at desk.now).commit_number (known seat).seen) },
+    ghost few: { since < 64 },
 }
 
 impl<'a, S: Store, V: Vault> PieceTaker for DeskTaker<'a, S, V> {
-    ghost use Rattle.studio_seats.specs.Onward.{IsPieceOf, WorksOn, worker};
     ghost use Rattle.studio_seats.specs.Pieces.{pieces_by};
+    ghost use Rattle.studio_seats.specs.Recording.{RecordsOn, recorder};
 
     ghost pieces = { λ s. pieces_by s.track s.tag (known s.seat).number (start_at s.desk.now).commit_number
         (known s.seat).seen };
 
     ghost refused = { λ s. s.refused };
 
-    // It is of the same desk, and its seat went on by turns of its own, all of them pieces of this recording, and none
-    // after one that was refused.
+    // It is of the same desk, and its seat went on by turns of its own: pieces of this recording, none of them after one
+    // that was refused, and reclaims. At no time there were more than 64 pieces since the last reclaim.
     ghost follows = { λ first failed s. (s.desk.now ≡ first.desk.now) × (s.track ≡ first.track) × (s.tag ≡ first.tag)
-        × WorksOn (IsPieceOf first.track first.tag) failed (worker (known first.seat) first.refused)
-        (worker (known s.seat) s.refused) };
+        × RecordsOn first.track first.tag failed (recorder (known first.seat) first.refused first.since)
+        (recorder (known s.seat) s.refused s.since) };
 
     fn take_piece<R: Wait>(&mut self, rt: &R, alloc: Global, chunk: &Chunk) -> Said<u64> {
         let said = self.desk.piece(
@@ -50,6 +55,7 @@ impl<'a, S: Store, V: Vault> PieceTaker for DeskTaker<'a, S, V> {
             chunk.as_slice(),
         );
         self.refused = first_of(self.refused, &said.what);
+        self.since = count_piece(rt, self.desk, &mut self.seat, self.since);
         said
     }
 }
@@ -67,6 +73,7 @@ impl<'a, S: Store, V: Vault> DeskTaker<'a, S, V> {
         ensures seat { known result.seat ≡ known seat }
         ensures of { (result.desk.now ≡ desk.now) × (result.track ≡ track) × (result.tag ≡ tag) }
         ensures unrefused { result.refused ≡ None }
+        ensures fresh { result.since ≡ 0 }
     {
         DeskTaker {
             desk,
@@ -74,15 +81,24 @@ impl<'a, S: Store, V: Vault> DeskTaker<'a, S, V> {
             track,
             tag,
             refused: None,
+            since: 0,
         }
     }
 
-    /// The seat, which is at the desk as before.
-    pub fn into_seat(self) -> DeskSeat<S, V>
+    /// The seat, which is at the desk as before. If it asked for a piece since its last reclaim it first makes one.
+    pub fn finish<R: Wait>(self, rt: &R) -> DeskSeat<S, V>
         ensures at { IsAt self.entry.desk.now result }
-        ensures seat { known result ≡ known self.entry.seat }
+        ensures frees { FreesTo self.entry.since (known self.entry.seat) 0 (known result) }
     {
-        let DeskTaker { seat, .. } = self;
+        let DeskTaker {
+            desk,
+            mut seat,
+            since,
+            ..
+        } = self;
+        if since > 0 {
+            free(rt, desk, &mut seat);
+        }
         seat
     }
 }

@@ -4,10 +4,12 @@ ghost use Rattle.clip_track.specs.Clips.{layout_blocks};
 ghost use Rattle.sample_block.specs.Sources.{AllNamed};
 ghost use Rattle.cell_view.specs.Rests.{IsRestOf};
 
+use super::anew::{read_ahead, read_cells};
 use super::clips::of_one_block;
+use block_cache::Cache;
 use block_sequence::Sequence;
 use block_store::{BlockFault, drop_block, put};
-use cell_view::{TrackRest, pass, read_ahead, read_cells, rest_at};
+use cell_view::{TrackRest, pass, rest_at};
 use clip_track::{Clip, Layout};
 use disk_model::RamStore;
 use pcm_base::{BlockRef, Cell, NoMemory, Numbers};
@@ -67,7 +69,13 @@ fn cells_from_each_place(rt: HostRuntime) -> Result<(), Fail> {
         for room in [0, 1, 2, 4, 12usize] {
             let room = room.min(12);
             let mut out = [Cell::Sample(99); 12];
-            let count = read_cells(&mut store, &layout, from as u64, &mut out[..room]);
+            let count = read_cells(
+                rt.alloc(),
+                &mut store,
+                &layout,
+                from as u64,
+                &mut out[..room],
+            );
             let want = &CELLS[from.min(10)..(from + room).min(10)];
             assert!(rt; count == Ok(want.len()), "{room} from {from}");
             assert!(rt; out.get(..want.len()) == Some(want), "{room} from {from}");
@@ -100,10 +108,12 @@ fn cells_ahead(rt: HostRuntime) -> Result<(), Fail> {
     ] {
         let rest = rest_by_way(&layout, u64::from(first.min(next)), u64::from(next));
         let mut out = [Cell::Sample(99); 2];
-        let mut last = None;
+        let Ok(mut cache) = Cache::new(rt.alloc(), 1) else {
+            return Err("no memory".into());
+        };
         let answer = read_ahead(
             &mut store,
-            &mut last,
+            &mut cache,
             &layout,
             &rest,
             u64::from(next),
@@ -115,31 +125,33 @@ fn cells_ahead(rt: HostRuntime) -> Result<(), Fail> {
     Ok(())
 }
 
-// Six calls put the blocks. Of two stretches of block 16 the header is read once: the third call, of its samples alone,
-// follows it. Block 17 takes two, and block 16 behind it again.
+// Six calls put the blocks. Of three stretches of block 16 its header and its page are read once, with block 17 between
+// them.
 #[test]
-fn one_header_for_a_run_of_stretches(rt: HostRuntime) -> Result<(), Fail> {
+fn one_read_for_a_run_of_stretches(rt: HostRuntime) -> Result<(), Fail> {
     let layout = track(rt.alloc())?;
     let mut store = disk(rt.alloc(), Vec::new(rt.alloc()))?;
-    let mut last = None;
+    let Ok(mut cache) = Cache::new(rt.alloc(), 2) else {
+        return Err("no memory".into());
+    };
     let mut out = [GAP; 1];
     let rest = rest_at(&layout, 2);
-    let answer = read_ahead(&mut store, &mut last, &layout, &rest, 2, &mut out);
+    let answer = read_ahead(&mut store, &mut cache, &layout, &rest, 2, &mut out);
     assert!(rt; answer == Ok(()));
     assert!(rt; store.call_count() == 8);
     let rest = rest_at(&layout, 3);
-    let answer = read_ahead(&mut store, &mut last, &layout, &rest, 3, &mut out);
+    let answer = read_ahead(&mut store, &mut cache, &layout, &rest, 3, &mut out);
     assert!(rt; answer == Ok(()));
-    assert!(rt; store.call_count() == 9);
+    assert!(rt; store.call_count() == 8);
     let rest = rest_at(&layout, 5);
-    let answer = read_ahead(&mut store, &mut last, &layout, &rest, 5, &mut out);
+    let answer = read_ahead(&mut store, &mut cache, &layout, &rest, 5, &mut out);
     assert!(rt; answer == Ok(()));
-    assert!(rt; store.call_count() == 11);
+    assert!(rt; store.call_count() == 10);
     let rest = rest_at(&layout, 4);
-    let answer = read_ahead(&mut store, &mut last, &layout, &rest, 4, &mut out);
+    let answer = read_ahead(&mut store, &mut cache, &layout, &rest, 4, &mut out);
     assert!(rt; answer == Ok(()));
     assert!(rt; out == [Cell::Sample(3)]);
-    assert!(rt; store.call_count() == 13);
+    assert!(rt; store.call_count() == 10);
     Ok(())
 }
 
@@ -159,6 +171,7 @@ fn blocks_that_are_not_seen(rt: HostRuntime) -> Result<(), Fail> {
         let before = store.call_count();
         let mut out = [GAP; 5];
         let count = read_cells(
+            rt.alloc(),
             &mut store,
             &layout,
             u64::from(from),
@@ -173,6 +186,7 @@ fn blocks_that_are_not_seen(rt: HostRuntime) -> Result<(), Fail> {
     for (from, room) in [(4u32, 2usize), (5, 1), (6, 5)] {
         let mut out = [GAP; 5];
         let count = read_cells(
+            rt.alloc(),
             &mut store,
             &layout,
             u64::from(from),
@@ -193,11 +207,10 @@ fn each_read_fails(rt: HostRuntime) -> Result<(), Fail> {
     for call in 7..13 {
         let mut store = disk(rt.alloc(), vec![in rt.alloc(); call]?)?;
         let mut out = [GAP; 10];
-        assert!(rt;
-            read_cells(&mut store, &layout, 0, &mut out) == Err(BlockFault::DiskFault),
-            "at {call}"
-        );
-        assert!(rt; read_cells(&mut store, &layout, 0, &mut out) == Ok(10));
+        let count = read_cells(rt.alloc(), &mut store, &layout, 0, &mut out);
+        assert!(rt; count == Err(BlockFault::DiskFault), "at {call}");
+        let count = read_cells(rt.alloc(), &mut store, &layout, 0, &mut out);
+        assert!(rt; count == Ok(10));
         assert!(rt; out == CELLS);
     }
     Ok(())
@@ -218,6 +231,7 @@ fn long_disk(alloc: Global) -> Result<RamStore, Fail> {
 
 /// What is answered for so many cells from a place on, the last of them, and how many calls the store had.
 fn last_read(
+    alloc: Global,
     store: &mut RamStore,
     layout: &Layout,
     from: u32,
@@ -228,23 +242,23 @@ fn last_read(
 {
     let before = store.call_count();
     let mut out = [GAP; 4097];
-    let count = read_cells(store, layout, u64::from(from), &mut out[..room]);
+    let count = read_cells(alloc, store, layout, u64::from(from), &mut out[..room]);
     let calls = store.call_count().wrapping_sub(before);
     (count, out.get(room.wrapping_sub(1)).copied(), calls)
 }
 
-// A block of more samples than one read has: its header is read once, and its samples in pieces of 4,096.
+// A block of two pages: its header is read once, and each page that has a sample that is seen.
 #[test]
-fn a_block_in_pieces(rt: HostRuntime) -> Result<(), Fail> {
+fn a_block_in_pages(rt: HostRuntime) -> Result<(), Fail> {
     let mut store = long_disk(rt.alloc())?;
     let layout = of_one_block(rt.alloc(), 3, BlockRef { id: 16, len: 5000 })?;
     for (from, room, calls, last) in [
         (4u32, 1usize, 2u64, -1),
-        (4, 4096, 2, 6),
+        (4, 4096, 3, 6),
         (4, 4097, 3, -7),
         (4100, 903, 2, 8),
     ] {
-        let told = last_read(&mut store, &layout, from, room.min(4097));
+        let told = last_read(rt.alloc(), &mut store, &layout, from, room.min(4097));
         assert!(rt;
             told == (Ok(room), Some(Cell::Sample(last)), calls),
             "{room} from {from}"

@@ -3,11 +3,11 @@ ghost use Rattle.std.specs.Prelude.{◌≡◌, ◌<◌, [], ◌∷◌, IfOk};
 ghost use Rattle.clip_track.specs.Clips.{layout_blocks};
 ghost use Rattle.sample_block.specs.Sources.{AllNamed};
 
+use super::anew::columns;
 use block_sequence::Sequence;
 use block_store::put;
 use clip_track::{Clip, Layout};
 use disk_model::{RamStore, Store};
-use envelope_view::columns;
 use pcm_base::{BlockRef, NoMemory, Numbers, Refusal, Scan};
 use std::alloc::Global;
 use std::test::*;

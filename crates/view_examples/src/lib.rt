@@ -2,6 +2,8 @@
 #![tactic(auto)]
 
 #[cfg(test)]
+mod anew;
+#[cfg(test)]
 mod cell_view_tests;
 #[cfg(test)]
 mod clips;

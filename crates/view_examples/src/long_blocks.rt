@@ -4,11 +4,11 @@ ghost use Rattle.std.specs.Prelude.{IfOk};
 ghost use Rattle.clip_track.specs.Clips.{layout_blocks};
 ghost use Rattle.sample_block.specs.Sources.{AllNamed};
 
+use super::anew::columns;
 use super::envelope_view_tests::{clip_of, disk, is_same, scan};
 use block_store::put;
 use clip_track::Layout;
 use disk_model::RamStore;
-use envelope_view::columns;
 use pcm_base::{BlockRef, NoMemory, Refusal, Scan};
 use std::alloc::Global;
 use std::test::*;
@@ -87,11 +87,11 @@ fn as_many_columns_as_there_may_be(rt: HostRuntime) -> Result<(), Fail> {
     Ok(())
 }
 
-// The two columns read the header, and the short frames of each: the third call to the fifth.
+// The two columns read the header, and one page that has the short frames of both: the third call and the fourth.
 #[test]
-fn one_header_for_the_columns_of_a_block(rt: HostRuntime) -> Result<(), Fail> {
+fn one_page_for_the_columns_of_a_block(rt: HostRuntime) -> Result<(), Fail> {
     let alloc = rt.alloc();
-    for (call, first) in [(5, Some(Refusal::DiskFault)), (6, None)] {
+    for (call, first) in [(4, Some(Refusal::DiskFault)), (5, None)] {
         let mut store = disk(alloc, vec![in alloc; call]?)?;
         assert!(rt; put_long(alloc, &mut store)?);
         let layout = long_clip(alloc)?;
@@ -193,8 +193,10 @@ fn edges_in_a_long_frame(rt: HostRuntime) -> Result<(), Fail> {
     Ok(())
 }
 
-// The header, the long frame, short frames and samples before the edge, and the sample behind the frame: the third call
-// to the seventh. Where the extremes are before the edge, samples and short frames behind it too.
+// The header, and pages of the long frames, of the short frames, of the samples at the edge, and of the sample after
+// the
+// frame: the third call to the seventh. Where the extremes are before the edge, what is read after it is on these
+// pages.
 #[test]
 fn one_side_of_an_edge(rt: HostRuntime) -> Result<(), Fail> {
     let alloc = rt.alloc();
@@ -203,8 +205,8 @@ fn one_side_of_an_edge(rt: HostRuntime) -> Result<(), Fail> {
     for (others, call, first) in [
         (behind, 7, Some(Refusal::DiskFault)),
         (behind, 8, None),
-        (before, 9, Some(Refusal::DiskFault)),
-        (before, 10, None),
+        (before, 7, Some(Refusal::DiskFault)),
+        (before, 8, None),
     ] {
         let mut store = disk(alloc, vec![in alloc; call]?)?;
         assert!(rt; put_ones(alloc, &mut store, &others)?);

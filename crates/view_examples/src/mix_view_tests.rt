@@ -5,10 +5,12 @@ ghost use Rattle.project_state.specs.Kept.{point_blocks};
 ghost use Rattle.project_state.specs.Tracks.{AllBelow};
 ghost use Rattle.sample_block.specs.Sources.{AllNamed};
 
+use super::anew::{read_frames, read_on};
 use super::clips::of_one_block;
+use block_cache::Cache;
 use block_store::{BlockFault, put};
 use disk_model::RamStore;
-use mix_view::{mix_len, read_frames};
+use mix_view::mix_len;
 use pcm_base::{BlockRef, Cell, Frame, NoMemory, Numbers, Refusal, Side};
 use project_state::{Point, Track};
 use std::alloc::Global;
@@ -161,6 +163,8 @@ fn frames_from_each_place(rt: HostRuntime) -> Result<(), Fail> {
             let mut out = [Frame { left: 9, right: 9 }; 48];
             let room = room.min(48);
             let count = read_frames(
+                rt.alloc(),
+                1,
                 &mut store,
                 &point,
                 from as u64,
@@ -183,10 +187,10 @@ fn each_read_fails(rt: HostRuntime) -> Result<(), Fail> {
     for call in 9..15 {
         let mut store = disk(rt.alloc(), vec![in rt.alloc(); call]?)?;
         let mut out = [SILENT; 48];
-        let count = read_frames(&mut store, &point, 0, &mut cells, &mut out);
+        let count = read_frames(rt.alloc(), 1, &mut store, &point, 0, &mut cells, &mut out);
         assert!(rt; count == Err(BlockFault::DiskFault), "at {call}");
         assert!(rt; store.call_count() == call);
-        let count = read_frames(&mut store, &point, 0, &mut cells, &mut out);
+        let count = read_frames(rt.alloc(), 1, &mut store, &point, 0, &mut cells, &mut out);
         assert!(rt; count == Ok(41));
         assert!(rt; store.call_count() == call.wrapping_add(6));
     }
@@ -201,17 +205,18 @@ fn level(sample: i16) -> Frame {
     }
 }
 
-// With 64 cells for four tracks a stretch has 16 frames. Each track reaches into three of the four stretches, and takes
-// a call for its samples in each of them. Its header is read once: 16 calls behind the eight of the disk.
+// With 64 cells for four tracks a stretch has 16 frames. Each track reaches into three of the four stretches. Its
+// header
+// and its page are read once: eight calls after the eight of the disk.
 #[test]
-fn one_header_for_each_track(rt: HostRuntime) -> Result<(), Fail> {
+fn one_page_for_each_track(rt: HostRuntime) -> Result<(), Fail> {
     let point = long_project(rt.alloc())?;
     let mut store = long_disk(rt.alloc())?;
     let mut cells = [Cell::Gap; 64];
     let mut out = [SILENT; 60];
-    let count = read_frames(&mut store, &point, 0, &mut cells, &mut out);
+    let count = read_frames(rt.alloc(), 4, &mut store, &point, 0, &mut cells, &mut out);
     assert!(rt; count == Ok(60));
-    assert!(rt; store.call_count() == 24);
+    assert!(rt; store.call_count() == 16);
     let ends = [out[7], out[8], out[19], out[20], out[39]];
     assert!(rt; ends == [level(3), level(6), level(6), level(10), level(10)]);
     let ends = [out[40], out[47], out[48], out[59]];
@@ -219,18 +224,25 @@ fn one_header_for_each_track(rt: HostRuntime) -> Result<(), Fail> {
     Ok(())
 }
 
-// Twenty frames at a time are stretches of 16 and of 4, so the samples take 6, 8 and 3 calls. With each read the
-// headers are read again, of three tracks, of four and of two.
+// Twenty frames at a time: three tracks are read for the first ones, the last track for the next, and then none.
 #[test]
-fn a_header_for_each_read(rt: HostRuntime) -> Result<(), Fail> {
+fn pages_last_from_read_to_read(rt: HostRuntime) -> Result<(), Fail> {
     let point = long_project(rt.alloc())?;
     let mut store = long_disk(rt.alloc())?;
+    let Ok(mut cache) = Cache::new(rt.alloc(), 4) else {
+        return Err("no memory".into());
+    };
     let mut cells = [Cell::Gap; 64];
     let mut out = [SILENT; 20];
-    for (from, calls) in [(0u32, 17u64), (20, 29), (40, 34)] {
-        let count = read_frames(&mut store, &point, u64::from(from), &mut cells, &mut out);
-        assert!(rt; count == Ok(20), "from {from}");
-        assert!(rt; store.call_count() == calls, "from {from}");
-    }
+    let count = read_on(&mut store, &mut cache, &point, 0, &mut cells, &mut out);
+    assert!(rt; count == Ok(20));
+    assert!(rt; store.call_count() == 14);
+    let count = read_on(&mut store, &mut cache, &point, 20, &mut cells, &mut out);
+    assert!(rt; count == Ok(20));
+    assert!(rt; store.call_count() == 16);
+    let count = read_on(&mut store, &mut cache, &point, 40, &mut cells, &mut out);
+    assert!(rt; count == Ok(20));
+    assert!(rt; store.call_count() == 16);
+    assert!(rt; out[7] == level(7) && out[8] == level(4));
     Ok(())
 }

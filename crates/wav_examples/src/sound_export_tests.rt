@@ -3,6 +3,7 @@ ghost use Rattle.std.specs.Prelude.{◌≤◌, ◌^◌, IfOk};
 ghost use Rattle.project_state.specs.Kept.{point_blocks};
 ghost use Rattle.sample_block.specs.Sources.{AllNamed};
 
+use block_cache::Cache;
 use block_sequence::Sequence;
 use block_store::{BlockFault, drop_block, put};
 use clip_track::{Clip, Layout};
@@ -67,17 +68,22 @@ fn held(vault: &mut MemVault) -> Result<Option<usize>, Fail> {
 
 /// What is answered, with room for three frames at a time, and how many of the file's bytes the vault has then.
 fn export(
+    alloc: Global,
     store: &mut RamStore,
     vault: &mut MemVault,
     point: &Point,
 ) -> Result<(Result<u64, ExportFault>, Option<usize>), Fail>
     requires { AllNamed (point_blocks point.now) }
 {
+    let Ok(mut cache) = Cache::new(alloc, 1) else {
+        return Err("no memory".into());
+    };
     let mut cells = [Cell::Gap; 64];
     let mut frames = [Frame { left: 0, right: 0 }; 3];
     let mut bytes = [0; 44];
     let answer = write_mix(
         store,
+        &mut cache,
         vault,
         "a.wav",
         point,
@@ -104,7 +110,7 @@ fn each_call_of_the_vault_fails(rt: HostRuntime) -> Result<(), Fail> {
         let fails = Numbers::new(vec![in rt.alloc(); call]?);
         let mut vault = MemVault::new(rt.alloc(), 4, 4096, fails)?;
         let mut store = disk(rt.alloc(), Vec::new(rt.alloc()))?;
-        let told = export(&mut store, &mut vault, &point)?;
+        let told = export(rt.alloc(), &mut store, &mut vault, &point)?;
         assert!(rt; told == (answer, held), "at {call}");
     }
     Ok(())
@@ -126,23 +132,23 @@ fn each_read_fails(rt: HostRuntime) -> Result<(), Fail> {
     ] {
         let mut vault = MemVault::new(rt.alloc(), 4, 4096, Numbers::new(Vec::new(rt.alloc())))?;
         let mut store = disk(rt.alloc(), vec![in rt.alloc(); call]?)?;
-        let told = export(&mut store, &mut vault, &point)?;
+        let told = export(rt.alloc(), &mut store, &mut vault, &point)?;
         assert!(rt; told == (answer, Some(held)), "at {call}");
     }
     Ok(())
 }
 
-// From place 2 on block 16 stands in both stretches of frames. Its header is read once, and samples of it twice; block
-// 17 takes two calls.
+// From place 2 on block 16 is in both stretches of frames. Its header and its page are read once, and those of block
+// 17.
 #[test]
-fn one_header_for_two_stretches(rt: HostRuntime) -> Result<(), Fail> {
+fn one_page_for_two_stretches(rt: HostRuntime) -> Result<(), Fail> {
     let point = project(rt.alloc(), 2)?;
     let mut vault = MemVault::new(rt.alloc(), 4, 4096, Numbers::new(Vec::new(rt.alloc())))?;
     let mut store = disk(rt.alloc(), Vec::new(rt.alloc()))?;
     assert!(rt; store.call_count() == 4);
-    let (answer, _) = export(&mut store, &mut vault, &point)?;
+    let (answer, _) = export(rt.alloc(), &mut store, &mut vault, &point)?;
     assert!(rt; answer == Ok(64));
-    assert!(rt; store.call_count() == 9);
+    assert!(rt; store.call_count() == 8);
     Ok(())
 }
 
@@ -153,7 +159,7 @@ fn a_block_is_damaged(rt: HostRuntime) -> Result<(), Fail> {
     let mut vault = MemVault::new(rt.alloc(), 4, 4096, Numbers::new(Vec::new(rt.alloc())))?;
     let mut store = disk(rt.alloc(), Vec::new(rt.alloc()))?;
     drop_block(&mut store, 17)?;
-    let told = export(&mut store, &mut vault, &point)?;
+    let told = export(rt.alloc(), &mut store, &mut vault, &point)?;
     let found = Damaged {
         at: 0,
         want: 42,
@@ -169,7 +175,7 @@ fn the_longest_file(rt: HostRuntime) -> Result<(), Fail> {
     let point = project(rt.alloc(), 1_073_741_812)?;
     let mut vault = MemVault::new(rt.alloc(), 4, 4096, Numbers::new(Vec::new(rt.alloc())))?;
     let mut store = disk(rt.alloc(), Vec::new(rt.alloc()))?;
-    let told = export(&mut store, &mut vault, &point)?;
+    let told = export(rt.alloc(), &mut store, &mut vault, &point)?;
     let fault = ExportFault::TooLong {
         frames: 1_073_741_815,
     };

@@ -1,5 +1,5 @@
 -- A write and then a sync.
-use Rattle.std.proofs.Common.{◌≡◌, ◌^◌, ◌∙◌, ap, arith, Option, Some, None, List, ℕ, ℤ, nat_le, nat_lt, ◌&&◌}
+use Rattle.std.proofs.Common.{◌≡◌, ◌^◌, ◌∙◌, ap, arith, Option, None, List, ℕ, nat_le, nat_lt, ◌&&◌}
 use Rattle.std.proofs.Common.{if◌then◌else◌}
 use Rattle.std.specs.Option.{option_and_then}
 use Rattle.disk_model.specs.Disk.{Files}

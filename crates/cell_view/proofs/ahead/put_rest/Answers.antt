@@ -11,6 +11,8 @@ use Rattle.block_sequence.proofs.Whole.{length-blocks}
 use Rattle.clip_track.specs.Clips.{cells_from}
 use Rattle.clip_track.specs.Clips.{layout_blocks}
 use Rattle.block_store.specs.Reads.{IsFaultIn}
+use Rattle.std.proofs.lemmas.List.Elements.{Contains-append_left, Contains-append_right}
+use Rattle.block_cache.proofs.CacheLaws.{cached_on, keeps_before, keeps_more, keeps_turn}
 use Rattle.cell_view.specs.Seen.{Puts}
 use Rattle.cell_view.specs.Stored.{stored_of}
 use Rattle.cell_view.specs.Rests.{rest_blocks}
@@ -72,3 +74,25 @@ returns-clause-stored g c = λ told.
     (subst Q place two))
     (subst T end last))
     three
+
+pub returns-in_err-put_blocks-clause-cache : goal.returns-in_err-put_blocks-clause-cache
+returns-in_err-put_blocks-clause-cache g c =
+    let r = c.args.rest.now in
+    keeps_more _ _ r.blocks.now (rest_blocks r) _ _
+    (λ b has. Contains-append_left r.blocks.now (layout_blocks r.clips.now) b has) c.put_blocks.ensures.cache
+
+pub put_clips-requires-clause-cached : goal.put_clips-requires-clause-cached
+put_clips-requires-clause-cached g c =
+    cached_on c.args.store.now c.put_blocks.new.store _ c.args.cache.now c.put_blocks.new.cache
+    c.put_blocks.ensures.kept
+    c.put_blocks.ensures.cache c.requires.cached
+
+pub returns-clause-cache : goal.returns-clause-cache
+returns-clause-cache g c =
+    let r = c.args.rest.now in
+    keeps_turn _ _ _ _ _ _
+    (keeps_more _ _ r.blocks.now (rest_blocks r) _ _
+    (λ b has. Contains-append_left r.blocks.now (layout_blocks r.clips.now) b has) c.put_blocks.ensures.cache)
+    (keeps_before c.args.store.now c.put_blocks.new.store _ _ _ c.put_blocks.ensures.kept
+    (keeps_more _ _ (layout_blocks r.clips.now) (rest_blocks r) _ _
+    (λ b has. Contains-append_right r.blocks.now (layout_blocks r.clips.now) b has) c.put_clips.ensures.cache))

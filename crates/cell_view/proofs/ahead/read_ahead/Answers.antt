@@ -8,9 +8,11 @@ use Rattle.pcm_base.specs.declared.sound.Cell.TheVariants.{Gap}
 use Rattle.clip_track.specs.Clips.{layout_blocks}
 use Rattle.clip_track.specs.Clips.{end_of}
 use Rattle.cell_view.specs.declared.places.View.{View}
+use Rattle.block_cache.proofs.CacheLaws.{keeps_more}
+use Rattle.cell_view.specs.Rests.{rest_blocks}
 use Rattle.cell_view.specs.Seen.{place_in}
 use Rattle.cell_view.specs.Stored.{stored_of}
-use Rattle.cell_view.proofs.SeenLaws.{sound_in}
+use Rattle.cell_view.proofs.SeenLaws.{fault_among, sound_in}
 use Rattle.cell_view.proofs.RestLaws.{seen, put_tail}
 use Rattle.cell_view.proofs.StoredLaws.{stored_cells}
 use Rattle.cell_view.proofs.ahead.read_ahead.Goals as goal
@@ -21,13 +23,15 @@ returns-in_err-put_rest-clause-sound g c = λ told whole.
     let p = err_from_is_err_and c.from_residual.result c.from_residual.ensures.1 in
     rw (p.1, p.2)
     (sound_in files (layout_blocks c.args.layout.now) _ whole
-    (c.requires.rest.blocks_fault files _ (c.in_err-put_rest.ensures.damaged told)))
+    (fault_among files (rest_blocks c.args.rest.now) (layout_blocks c.args.layout.now) _ c.requires.rest.blocks
+    (c.in_err-put_rest.ensures.damaged told)))
 
 pub returns-in_err-put_rest-clause-damaged : goal.returns-in_err-put_rest-clause-damaged
 returns-in_err-put_rest-clause-damaged g c = λ told.
     let p = err_from_is_err_and c.from_residual.result c.from_residual.ensures.1 in
     rw (p.1, p.2)
-    (c.requires.rest.blocks_fault (g.S.Store.reads c.args.store.now) _ (c.in_err-put_rest.ensures.damaged told))
+    (fault_among (g.S.Store.reads c.args.store.now) (rest_blocks c.args.rest.now) (layout_blocks c.args.layout.now) _
+    c.requires.rest.blocks (c.in_err-put_rest.ensures.damaged told))
 
 pub returns-clause-stored : goal.returns-clause-stored
 returns-clause-stored g c = λ told.
@@ -50,3 +54,11 @@ returns-clause-read g c = λ told whole k lt.
     let files : Files = g.S.Store.reads c.args.store.now in
     returns-clause-stored g c told k lt
     ∙ ap (λ (cs : List Cell). get_or cs (c.args.from + k) Gap) (stored_cells files 0 c.args.layout.now whole)
+
+pub returns-in_err-put_rest-clause-cache : goal.returns-in_err-put_rest-clause-cache
+returns-in_err-put_rest-clause-cache g c = keeps_more _ _ (rest_blocks c.args.rest.now)
+    (layout_blocks c.args.layout.now) _ _ c.requires.rest.blocks c.put_rest.ensures.cache
+
+pub returns-clause-cache : goal.returns-clause-cache
+returns-clause-cache g c = keeps_more _ _ (rest_blocks c.args.rest.now)
+    (layout_blocks c.args.layout.now) _ _ c.requires.rest.blocks c.put_rest.ensures.cache

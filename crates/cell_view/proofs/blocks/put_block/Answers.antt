@@ -1,15 +1,14 @@
 -- What is seen of the block is put.
-use Rattle.std.proofs.Common.{◌≡◌, ◌≤◌, ◌+◌, ◌*◌, ◌-◌, ℕ, ℤ, Bool, List, map, length, take, drop, arith, sym, subst}
+use Rattle.std.proofs.Common.{◌≡◌, ◌≤◌, ◌+◌, ◌-◌, ℕ, ℤ, List, map, length, take, drop, arith}
 use Rattle.std.proofs.Common.{◌∙◌, length-drop}
-use Rattle.std.specs.Prelude.{IsTrue}
 use Rattle.std.proofs.lemmas.List.{length-map, length-take}
 use Rattle.std.proofs.lemmas.Result.{on_ok_weaker}
-use Rattle.disk_model.specs.Disk.{Files, bytes_of}
+use Rattle.disk_model.specs.Disk.{Files}
 use Rattle.disk_model.proofs.Frames.{kept_none}
 use Rattle.pcm_base.specs.declared.sound.Cell.TheVariants.{Sample}
 use Rattle.pcm_base.specs.Pieces.{stretch}
 use Rattle.pcm_base.proofs.Pieces.{length-stretch}
-use Rattle.sample_block.specs.Faults.{samples_in}
+use Rattle.block_cache.proofs.CacheLaws.{keeps_same, same_none}
 use Rattle.cell_view.specs.Seen.{place_in}
 use Rattle.cell_view.specs.Stored.{stored_on}
 use Rattle.cell_view.proofs.SeenLaws.{puts_none, puts_mid}
@@ -26,6 +25,9 @@ returns-then-start-end-clause-stored g c = λ told.
     (omega (arith, c.requires.size)) size
     (omega (arith, c.place_in-start.ensures, c.if-start-end.true, c.place_in-end.ensures))
 
+pub returns-then-start-end-clause-cache : goal.returns-then-start-end-clause-cache
+returns-then-start-end-clause-cache g c = keeps_same _ _ _ _ _ (same_none _)
+
 pub returns-then-start-end-clause-kept : goal.returns-then-start-end-clause-kept
 returns-then-start-end-clause-kept g c = kept_none _ (g.met.S.Store.may_fewer _)
 
@@ -33,10 +35,7 @@ pub returns-clause-stored : goal.returns-clause-stored
 returns-clause-stored g c = λ told.
     let a = c.args in
     let b = c.args.block in
-    let kept = c.compare_once.ensures.kept in
     let files : Files = g.S.Store.reads c.args.store.now in
-    let still : IsTrue (g.S.Store.tells c.compare_once.new.store) =
-    subst (λ (t : Bool). IsTrue t) (sym kept.same_tells) told in
     let start = c.place_in-start.result in
     let skip = c.saturating_sub-skip.result in
     let k = c.place_in-end.result - start in
@@ -64,11 +63,9 @@ returns-clause-stored g c = λ told.
       c.place_in-start.ensures,
       c.place_in-end.ensures,
     ) in
-    let S : Files → Type 0 = λ f.
-    c.read_pieces.new.out ≡ map Sample (samples_in (bytes_of (f b.id)) (16 + 2 * skip) m) in
     on_ok_weaker c.read_pieces.result
     (λ got. puts_mid a.view a.at b.len k start (map Sample samples) c.read_pieces.new.out a.out.now order size
     c.place_in-start.ensures fits
     (stored_part files b a.view a.at m skip c.read_pieces.new.out order seen c.saturating_sub-skip.ensures within
-    (subst S kept.same_reads got)))
-    (c.read_pieces.ensures.stored still)
+    got))
+    (c.read_pieces.ensures.stored told)

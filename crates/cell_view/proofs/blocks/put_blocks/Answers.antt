@@ -5,7 +5,10 @@ use Rattle.std.proofs.lemmas.List.{length-map}
 use Rattle.std.specs.Prelude.{IsTrue}
 use Rattle.std.proofs.lemmas.List.{drop_more, drop_all, map-append}
 use Rattle.disk_model.specs.Disk.{Files, bytes_of}
-use Rattle.block_store.specs.Reads.{IsCompared, IsFault, IsFaultIn}
+use Rattle.std.specs.Prelude.{Contains}
+use Rattle.std.proofs.lemmas.List.Elements.{Contains-append_left, Contains-append_right}
+use Rattle.block_cache.proofs.CacheLaws.{cached_on, keeps_before, keeps_more, keeps_same, keeps_turn, same_none}
+use Rattle.block_store.specs.Reads.{IsFault, IsFaultIn}
 use Rattle.disk_model.proofs.Frames.{kept_none, kept_turn}
 use Rattle.pcm_base.specs.declared.block.BlockRef.{BlockRef}
 use Rattle.pcm_base.specs.declared.sound.Cell.{Cell}
@@ -24,7 +27,8 @@ rows-init g c = record {
   left = refl;
   named = c.requires.named;
   kept = kept_none _ (g.met.S.Store.may_fewer _);
-  compared = c.requires.compared;
+  cache = keeps_same _ _ _ _ _ (same_none _);
+  among = λ b has. has;
   count = refl;
   rest_fault = λ why h. h;
   stored = λ told new puts. puts;
@@ -90,11 +94,10 @@ rows-preserved g c =
       left = omega (arith, ap blocks_len e, inv.left);
       named = (subst N e inv.named).1;
       kept = kept_turn inv.kept c.put_block.ensures.kept;
-      compared = λ told.
-          let still : IsTrue (g.S.Store.tells c.rows.store) =
-          subst (λ (t : Bool). IsTrue t) (sym inv.kept.same_tells) told in
-          subst (λ (f : Files). IsCompared f c.put_block.new.last) inv.kept.same_reads
-          (c.put_block.ensures.compared still);
+      cache = keeps_turn _ _ _ _ _ _ inv.cache (keeps_before c.args.store.now c.rows.store _ _ _ inv.kept
+          (keeps_more _ _ (b ∷ []) bs _ _ (λ d has. inv.among d (subst (λ qs. Contains qs d) (sym e)
+          (Contains-append_left (b ∷ []) rest d has))) c.put_block.ensures.cache));
+      among = λ d has. inv.among d (subst (λ qs. Contains qs d) (sym e) (Contains-append_right (b ∷ []) rest d has));
       count = c.in_default.ensures.faults ∙ inv.count;
       rest_fault = λ why f.
           let F : List BlockRef → Type 0 = λ qs. IsFaultIn files qs why in
@@ -139,3 +142,20 @@ returns-then-place-view-clause-stored g c = λ told.
     let left : List Cell = map Sample (block_samples (stored_of files) (drop c.rows.block-index c.args.blocks.now)) in
     c.rows.invariant.stored told c.rows.out (puts_none c.args.view c.rows.place (length left) left c.rows.out
     (omega (arith, c.requires.size)) refl (omega arith))
+
+pub put_block-requires-clause-cached : goal.put_block-requires-clause-cached
+put_block-requires-clause-cached g c =
+    cached_on c.args.store.now c.rows.store _ c.args.cache.now c.rows.cache c.rows.invariant.kept
+    c.rows.invariant.cache c.requires.cached
+
+pub returns-in-Err-clause-cache : goal.returns-in-Err-clause-cache
+returns-in-Err-clause-cache g c =
+    let bs = c.args.blocks.now in
+    let i = c.rows.block-index in
+    let b : BlockRef = get_or bs i (record { id = 0; len = 0 }) in
+    let rest = drop (i + 1) bs in
+    let e : drop i bs ≡ b ∷ rest = drop_more bs i (record { id = 0; len = 0 }) c.rows-test.true in
+    let inv = c.rows.invariant in
+    keeps_turn _ _ _ _ _ _ inv.cache (keeps_before c.args.store.now c.rows.store _ _ _ inv.kept
+    (keeps_more _ _ (b ∷ []) bs _ _ (λ d has. inv.among d (subst (λ qs. Contains qs d) (sym e)
+    (Contains-append_left (b ∷ []) rest d has))) c.put_block.ensures.cache))

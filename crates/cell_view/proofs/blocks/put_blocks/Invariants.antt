@@ -6,7 +6,10 @@ use Rattle.pcm_base.specs.declared.sound.Cell.{Cell}
 use Rattle.pcm_base.specs.declared.sound.Cell.TheVariants.{Sample}
 use Rattle.block_store.specs.declared.fault.BlockFault.{BlockFault}
 use Rattle.disk_model.specs.Frames.{Kept}
-use Rattle.block_store.specs.Reads.{IsCompared, IsFaultIn}
+use Rattle.std.specs.Prelude.{Contains}
+use Rattle.pcm_base.specs.declared.block.BlockRef.{BlockRef}
+use Rattle.block_cache.specs.Caches.{KeepsCache}
+use Rattle.block_store.specs.Reads.{IsFaultIn}
 use Rattle.sample_block.specs.Sources.{AllNamed}
 use Rattle.cell_view.specs.Seen.{Puts}
 use Rattle.cell_view.specs.Stored.{stored_of}
@@ -17,7 +20,8 @@ invariant-rows g l = record {
   left : l.place + blocks_len (drop l.block-index l.blocks) ≡ l.at + blocks_len l.blocks;
   named : AllNamed (drop l.block-index l.blocks);
   kept : Kept g.S.Store l.fn.store l.store;
-  compared : IsTrue (g.S.Store.tells l.fn.store) → IsCompared (g.S.Store.reads l.fn.store) l.last;
+  cache : KeepsCache (g.S.Store.tells l.fn.store) (g.S.Store.reads l.fn.store) l.blocks l.fn.cache l.cache;
+  among : (b : BlockRef) → Contains (drop l.block-index l.blocks) b → Contains l.blocks b;
   count : g.S.Store.read_fault_count l.store ≡ g.S.Store.read_fault_count l.fn.store;
   rest_fault : (why : BlockFault) → IsFaultIn (g.S.Store.reads l.fn.store) (drop l.block-index l.blocks) why
       → IsFaultIn (g.S.Store.reads l.fn.store) l.blocks why;

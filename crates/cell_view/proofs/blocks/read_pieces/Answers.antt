@@ -12,7 +12,7 @@ use Rattle.pcm_base.specs.declared.sound.Cell.{Cell}
 use Rattle.pcm_base.specs.declared.sound.Cell.TheVariants.{Sample}
 use Rattle.sample_block.specs.Faults.{samples_in}
 use Rattle.sample_block.proofs.Laws.{length_samples, samples_more}
-use Rattle.block_store.specs.Reads.{HasHeader}
+use Rattle.block_cache.proofs.CacheLaws.{cached_on, keeps_before, keeps_same, keeps_turn, same_none}
 use Rattle.cell_view.proofs.blocks.read_pieces.Goals as goal
 
 piece_more : (bytes : List ℕ) (from done n m k : ℕ) (out part : List Cell) → done ≤ length out
@@ -39,22 +39,22 @@ pieces-init g c = record {
   within = omega arith;
   kept = kept_none _ (g.met.S.Store.may_fewer _);
   count = refl;
+  cache = keeps_same _ _ _ _ _ (same_none _);
   stored = λ told. refl;
 }
 
-pub read_piece-requires-clause-compared : goal.read_piece-requires-clause-compared
-read_piece-requires-clause-compared g c = λ still.
-    let b = c.args.block in
-    let kept = c.pieces.invariant.kept in
-    let told : IsTrue (g.S.Store.tells c.args.store.now) = subst (λ (t : Bool). IsTrue t) kept.same_tells still in
-    let H : Files → Type 0 = λ f. HasHeader b.id b.len (bytes_of (f b.id)) in
-    subst H (sym kept.same_reads) (c.requires.compared told)
+pub read_piece-requires-clause-cached : goal.read_piece-requires-clause-cached
+read_piece-requires-clause-cached g c =
+    cached_on c.args.store.now c.pieces.store _ c.args.cache.now c.pieces.cache c.pieces.invariant.kept
+    c.pieces.invariant.cache c.requires.cached
 
 pub pieces-preserved : goal.pieces-preserved
 pieces-preserved g c = record {
   within = grind (arith, common_steps);
   kept = kept_turn c.pieces.invariant.kept c.read_piece.ensures.kept;
   count = c.in_default.ensures.faults ∙ c.pieces.invariant.count;
+  cache = keeps_turn _ _ _ _ _ _ c.pieces.invariant.cache
+      (keeps_before c.args.store.now c.pieces.store _ _ _ c.pieces.invariant.kept c.read_piece.ensures.cache);
   stored = λ told.
       let kept = c.pieces.invariant.kept in
       let id = c.args.block.id in

@@ -13,7 +13,10 @@ use Rattle.clip_track.specs.declared.clips.Clip.{Clip}
 use Rattle.clip_track.specs.Clips.{AreClips, end_of, clip_end, cells_from}
 use Rattle.clip_track.proofs.Layouts.{AreClips-next, end_within}
 use Rattle.clip_track.specs.Clips.{layout_blocks}
-use Rattle.block_store.specs.Reads.{IsCompared, IsFaultIn}
+use Rattle.std.specs.Prelude.{Contains}
+use Rattle.std.proofs.lemmas.List.Elements.{Contains-append_left, Contains-append_right}
+use Rattle.block_cache.proofs.CacheLaws.{cached_on, keeps_before, keeps_more, keeps_same, keeps_turn, same_none}
+use Rattle.block_store.specs.Reads.{IsFaultIn}
 use Rattle.sample_block.specs.Sources.{AllNamed}
 use Rattle.cell_view.specs.Seen.{place_in, Puts}
 use Rattle.cell_view.specs.Stored.{stored_of}
@@ -26,7 +29,8 @@ rows-init g c = record {
   same_end = refl;
   named = c.requires.named;
   kept = kept_none _ (g.met.S.Store.may_fewer _);
-  compared = c.requires.compared;
+  cache = keeps_same _ _ _ _ _ (same_none _);
+  among = λ b has. has;
   count = refl;
   rest_fault = λ why h. h;
   stored = λ told new puts. puts;
@@ -129,11 +133,12 @@ rows-preserved g c =
       same_end = sym (ap (end_of at) e) ∙ inv.same_end;
       named = named_back x.blocks (layout_blocks rest) (subst N e inv.named);
       kept = kept_turn inv.kept c.put_clip.ensures.kept;
-      compared = λ told.
-          let still : IsTrue (g.S.Store.tells c.rows.store) =
-          subst (λ (t : Bool). IsTrue t) (sym inv.kept.same_tells) told in
-          subst (λ (f : Files). IsCompared f c.put_clip.new.last) inv.kept.same_reads
-          (c.put_clip.ensures.compared still);
+      cache = keeps_turn _ _ _ _ _ _ inv.cache (keeps_before c.args.store.now c.rows.store _ _ _ inv.kept
+          (keeps_more _ _ x.blocks (layout_blocks cs) _ _ (λ d has. inv.among d (subst (λ ds. Contains (layout_blocks
+          ds) d) (sym e)
+          (Contains-append_left x.blocks (layout_blocks rest) d has))) c.put_clip.ensures.cache));
+      among = λ d has. inv.among d (subst (λ ds. Contains (layout_blocks ds) d) (sym e)
+          (Contains-append_right x.blocks (layout_blocks rest) d has));
       count = c.in_default.ensures.faults ∙ inv.count;
       rest_fault = λ why f.
           let F : List Clip → Type 0 = λ ds. IsFaultIn files (layout_blocks ds) why in
@@ -180,3 +185,22 @@ returns-then-at-view-clause-stored g c = λ told.
     let left : List Cell = cells_from (stored_of files) c.rows.at (drop c.rows.clip-index c.args.clips.now) in
     c.rows.invariant.stored told c.rows.out (puts_none c.args.view c.rows.at (length left) left c.rows.out
     (omega (arith, c.requires.size)) refl (omega arith))
+
+pub put_clip-requires-clause-cached : goal.put_clip-requires-clause-cached
+put_clip-requires-clause-cached g c =
+    cached_on c.args.store.now c.rows.store _ c.args.cache.now c.rows.cache c.rows.invariant.kept
+    c.rows.invariant.cache c.requires.cached
+
+pub returns-in-Err-clause-cache : goal.returns-in-Err-clause-cache
+returns-in-Err-clause-cache g c =
+    let cs = c.args.clips.now in
+    let i = c.rows.clip-index in
+    let x : Clip = c.clip-item.result in
+    let rest = drop (i + 1) cs in
+    let inv = c.rows.invariant in
+    let e : drop i cs ≡ x ∷ rest =
+    drop_more cs i x c.rows-test.true ∙ ap (λ (y : Clip). y ∷ rest) (sym c.clip-item.is) in
+    keeps_turn _ _ _ _ _ _ inv.cache (keeps_before c.args.store.now c.rows.store _ _ _ inv.kept
+    (keeps_more _ _ x.blocks (layout_blocks cs) _ _ (λ d has. inv.among d (subst (λ ds. Contains (layout_blocks ds) d)
+    (sym e)
+    (Contains-append_left x.blocks (layout_blocks rest) d has))) c.put_clip.ensures.cache))

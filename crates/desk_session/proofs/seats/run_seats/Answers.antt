@@ -6,7 +6,6 @@ use Rattle.pin_turn.specs.declared.view.View.{View}
 use Rattle.studio_seats.specs.declared.deed.Deed.{Deed}
 use Rattle.studio_seats.specs.declared.held.Held.{Held}
 use Rattle.studio_seats.specs.Desks.{start_at}
-use Rattle.studio_seats.specs.Onward.{IsPieceOf}
 use Rattle.studio_seats.specs.Pieces.{pieces_by}
 use Rattle.studio_seats.specs.Shows.{IsMixOf}
 use Rattle.studio_seats.specs.Stands.{origin}
@@ -17,7 +16,7 @@ use Rattle.desk_session.specs.Sounds.{IsPlayed, IsRecorded}
 use Rattle.desk_session.specs.Works.{RanScript}
 use Rattle.desk_session.proofs.RejoinLemmas.{first_join, rejoined, second_join}
 use Rattle.desk_session.proofs.SeatLemmas.{no_piece, player_goes, recorder_goes}
-use Rattle.desk_session.proofs.EndLemmas.{ended, played_all}
+use Rattle.desk_session.proofs.EndLemmas.{played_all, recorded}
 use Rattle.desk_session.proofs.SideLemmas.{some_any, some_as, where_both, where_two}
 use Rattle.desk_session.proofs.seats.run_seats.Goals as goal
 
@@ -100,13 +99,13 @@ returns-clause-sat g c =
                 (pieces_by c.args.setting.track tag (known w.seats.recorder).number n (known w.seats.recorder).seen))
                 h.0 k)
                 (no_piece c.args.setting.track tag n v r one.new.1 one.number.above_makers) is;
-            ends = ended (IsPieceOf c.args.setting.track tag) (is_some h.0) v r (known w.seats.recorder) h.0 apart h.1
+            own_are = recorded c.args.setting.track tag (is_some h.0) v r (known w.seats.recorder) h.0 apart h.1
                 (record_calls c.args.setting.track o.recording) seats.by_recorder.part;
           }))
           (λ h. (h.1, h.2));
       played = where_two o.pin works.plays c.let_go.ensures.goes
           (λ pin h lets. some_as w.heard h (λ k is. played_all g.P.Sink lent.speaker
-          (IsMixOf (origin g.S.Store g.V.Vault start) v.seen pin) pin n (is_some k.refused) v p (known w.seats.player)
+          (IsMixOf (origin g.S.Store g.V.Vault start) v.seen pin) pin n v p (known w.seats.player)
           (known c.let_go.new.seat) k seen is.0 lets (play_calls o.pin) seats.by_player.part
           (subst (λ (l : List Deed). IsPlayed g.P.Sink lent.speaker
           (IsMixOf (origin g.S.Store g.V.Vault start) l pin) k) seen is.1)))

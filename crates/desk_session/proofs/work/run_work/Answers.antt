@@ -1,14 +1,18 @@
 -- What came back follows what was lent.
 use Rattle.std.proofs.Common.{refl, sym, subst, ◌∙◌, ap, Bool}
 use Rattle.std.specs.Prelude.{is_some}
+use Rattle.player_work.specs.Filled.{reads_to}
 use Rattle.pin_turn.specs.Calls.{known}
 use Rattle.studio_seats.specs.Desks.{IsAt, start_at}
-use Rattle.studio_seats.specs.Onward.{IsLine, IsPieceOf, IsReadOf, Onward, WorksOn, worker}
+use Rattle.studio_seats.specs.Onward.{IsLine, Onward, worker}
 use Rattle.studio_seats.specs.Pieces.{pieces_by}
+use Rattle.studio_seats.specs.Reads.{ReadsOn}
+use Rattle.studio_seats.specs.Recording.{RecordsOn, recorder}
 use Rattle.studio_seats.specs.Shows.{IsMixOf}
 use Rattle.studio_seats.specs.Stands.{origin}
 use Rattle.studio_seats.proofs.OnwardLemmas.{onward_self}
-use Rattle.studio_seats.proofs.WorkLemmas.{works_self}
+use Rattle.studio_seats.proofs.ReadLemmas.{reads_self}
+use Rattle.studio_seats.proofs.RecordingLemmas.{pieces_free, records_free, records_self}
 use Rattle.script_session.specs.declared.stop.Stop.{Stop}
 use Rattle.script_session.specs.Change.{change}
 use Rattle.script_session.specs.Place.{Place, place_of}
@@ -61,22 +65,28 @@ returns-clause-works g c =
             refl,
             refl,
             refl,
-            works_self (IsPieceOf w.taker.track w.taker.tag)
-                (worker (known w.taker.seat) w.taker.refused),
+            records_self w.taker.track w.taker.tag (recorder (known w.taker.seat) w.taker.refused w.taker.since),
           ) in
           let track = h.2.4 in
           let tag_is = h.2.5 in
-          let at = goes.0 ∙ h.2.2 in (
+          let at = goes.0 ∙ h.2.2 in
+          let there = known a.taker.seat in
+          let here = known kept.0 in
+          let begun = (start_at a.taker.desk.now).commit_number in
+          let freed = records_free w.taker.track w.taker.tag there here (is_some a.taker.refused)
+          (recorder (known w.taker.seat) w.taker.refused w.taker.since) a.taker.refused a.taker.since goes.3 0 h.4.1 in
+          let same = sym (pieces_free a.taker.track a.taker.tag there here a.taker.since 0 begun h.4.1)
+          ∙ (λ i. pieces_by ((goes.1 ∙ track) i) ((goes.2 ∙ tag_is) i) here.number
+          (start_at (at i)).commit_number here.seen) in (
             a.taker.refused,
-            subst (λ (X : Type 0). X) (λ i. WorksOn (IsPieceOf (track i) (tag_is i)) (is_some a.taker.refused)
-                (worker (h.2.3 i) (h.2.6 i)) (worker (sym h.4.1 i) a.taker.refused)) goes.3,
+            subst (λ (X : Type 0). X) (λ i. RecordsOn (track i) (tag_is i) (is_some a.taker.refused)
+                (recorder (h.2.3 i) (h.2.6 i) (h.2.7 i)) (recorder here a.taker.refused 0)) freed,
             some_as kept.2 h.4.4
                 (λ k f. subst (λ (X : Type 0). X)
                 (λ i. IsRecorded g.M.Source (change (h.2.1 i) (sym h.4.3 i))
                 (change
                 (pieces_by (track i) (tag_is i) (h.2.3 i).number (start_at (h.2.2 i)).commit_number (h.2.3 i).seen)
-                (pieces_by ((goes.1 ∙ track) i) ((goes.2 ∙ tag_is) i) (sym h.4.1 i).number
-                (start_at (at i)).commit_number (sym h.4.1 i).seen)) a.taker.refused k)
+                (same i)) a.taker.refused k)
                 (recorded_of g.M.Source _ _ (λ l. l.source.now) (λ l. refl) (λ l. refl) w.mic w.taker a k h.3 f.0 f.1
                 f.2 f.3)),
           ))
@@ -88,10 +98,10 @@ returns-clause-works g c =
           let w = h.0 in
           let a = h.1 in
           let goes = h.3.giver_goes w.giver
-          (refl, refl, works_self (IsReadOf w.giver.pin) (worker (known w.giver.seat) w.giver.refused)) in
+          (refl, refl, reads_self w.giver.pin (worker (known w.giver.seat) w.giver.refused)) in
           let pin_is = h.2.4 in
           some_as heard.2 h.4.4 (λ k f. (
-            subst (λ (X : Type 0). X) (λ i. WorksOn (IsReadOf (pin_is i)) (is_some (sym f.0 i))
+            subst (λ (X : Type 0). X) (λ i. ReadsOn (pin_is i) (reads_to (sym f.0 i))
                 (worker (h.2.3 i) (h.2.5 i)) (worker (sym h.4.1 i) ((h.3.cause ∙ sym f.0) i))) goes.2,
             subst (λ (X : Type 0). X)
                 (λ i. IsPlayed g.P.Sink (change (h.2.1 i) (sym h.4.3 i))
@@ -123,8 +133,8 @@ returns-clause-at g c =
             refl,
             refl,
             refl,
-            works_self (IsPieceOf h.0.taker.track h.0.taker.tag)
-                (worker (known h.0.taker.seat) h.0.taker.refused),
+            records_self h.0.taker.track h.0.taker.tag
+                (recorder (known h.0.taker.seat) h.0.taker.refused h.0.taker.since),
           )).0 ∙ h.2.2)
           h.4.0)
           (λ h. subst (λ s. IsAt desk s) (sym h.2.0) h.1.1),
@@ -133,8 +143,7 @@ returns-clause-at g c =
           ((h.3.giver_goes h.0.giver (
             refl,
             refl,
-            works_self (IsReadOf h.0.giver.pin)
-                (worker (known h.0.giver.seat) h.0.giver.refused),
+            reads_self h.0.giver.pin (worker (known h.0.giver.seat) h.0.giver.refused),
           )).0 ∙ h.2.2) h.4.0)
           (λ h. subst (λ s. IsAt desk s) (sym h.2.0) h.1.1),
     )

@@ -25,11 +25,12 @@ returns-in-Ok-clause-opens g c = λ tells are foreign project.
     (subst (λ (f : Files). IsRead f fold.0 c.deref.result.now) (sym kept.same_reads) is) fold.2)
 
 pub returns-in-Ok-clause-at_rest : goal.returns-in-Ok-clause-at_rest
-returns-in-Ok-clause-at_rest g c = λ tells here.
+returns-in-Ok-clause-at_rest g c = λ tells here other.
     let kept = c.fold_disk.ensures.kept in
     rest_after {disk = g.S.Store} c.args.store.now c.fold_disk.new.store c.size_parts.new.store c.in-Ok.folded
     c.size_parts.result kept.same_reads (kept.same_tells ∙ tells)
-    (still_durable {disk = g.S.Store} c.args.store.now c.fold_disk.new.store 0 kept here) c.in-Ok.ensures.folds
+    (still_durable {disk = g.S.Store} c.args.store.now c.fold_disk.new.store 0 kept here)
+    (still_durable {disk = g.S.Store} c.args.store.now c.fold_disk.new.store 1 kept other) c.in-Ok.ensures.folds
     c.size_parts.ensures.end c.size_parts.ensures.kept
 
 pub returns-in-Ok-clause-kept : goal.returns-in-Ok-clause-kept

@@ -24,10 +24,11 @@ pub returns-in-Ok-clause-at_rest : goal.returns-in-Ok-clause-at_rest
 returns-in-Ok-clause-at_rest g c = λ tells.
     subst (λ (f : Files). IfOk c.find_parts.result (λ p. (log : Log) → HasLog version_1 log f
     → IsAt version_1 g.S.Store c.find_parts.new.store p.journal_end log)) c.read_disk.ensures.reads_same
-    (c.find_parts.ensures.at_rest (c.read_disk.ensures.changed.tells ∙ tells) c.in-Ok.ensures.durable)
+    (c.find_parts.ensures.at_rest (c.read_disk.ensures.changed.tells ∙ tells) c.in-Ok.ensures.durable
+    c.in-Ok.ensures.other)
 
 pub returns-in-Ok-clause-durable : goal.returns-in-Ok-clause-durable
-returns-in-Ok-clause-durable g c = durable_after c.read_disk.new.store c.find_parts.new.store c.find_parts.result
+returns-in-Ok-clause-durable g c = durable_after c.read_disk.new.store c.find_parts.new.store 0 c.find_parts.result
     c.find_parts.ensures.kept c.in-Ok.ensures.durable
 
 pub returns-in-Ok-clause-cause : goal.returns-in-Ok-clause-cause

@@ -122,7 +122,7 @@ returns-in-Ok-clause-reads g c =
 
 pub returns-in-Ok-clause-changed : goal.returns-in-Ok-clause-changed
 returns-in-Ok-clause-changed g c =
-    subst (λ (back : g.row.S.Denot). Changed g.S.Store StaysStep (record { files = 0; bytes = 0; calls = 1 })
+    subst (λ (back : g.row.S.Denot). Changed g.S.Store StaysStep (record { files = 0; bytes = 0; calls = 2 })
     c.args.store back)
     (sym (same_store c.open_parts.new.store c.in-Ok.parts c.make_studio.result c.make_studio.ensures.fields
     c.make_studio.ensures.refused))

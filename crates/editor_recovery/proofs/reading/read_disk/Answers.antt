@@ -22,8 +22,12 @@ returns-in-Ok-clause-reading g c =
     c.in-Ok.ensures.reading c.with_files.ensures.reader c.with_files.ensures.kept
 
 pub returns-in-Ok-clause-durable : goal.returns-in-Ok-clause-durable
-returns-in-Ok-clause-durable g c = durable_after c.open_journal.new.store c.with_files.new.store c.with_files.result
+returns-in-Ok-clause-durable g c = durable_after c.open_journal.new.store c.with_files.new.store 0 c.with_files.result
     c.with_files.ensures.kept c.in-Ok.ensures.durable
+
+pub returns-in-Ok-clause-other : goal.returns-in-Ok-clause-other
+returns-in-Ok-clause-other g c = durable_after c.open_journal.new.store c.with_files.new.store 1 c.with_files.result
+    c.with_files.ensures.kept c.in-Ok.ensures.other
 
 pub returns-in-Ok-clause-cause : goal.returns-in-Ok-clause-cause
 returns-in-Ok-clause-cause g c = causes_turn g.S.Store c.args.store.now c.open_journal.new.store c.with_files.new.store

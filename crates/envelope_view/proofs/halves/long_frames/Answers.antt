@@ -1,11 +1,14 @@
 -- The frames but the last are joined, and the last stands alone.
 use Rattle.std.proofs.Common.{◌≡◌, ◌+◌, ◌-◌, ◌*◌, ◌∙◌, ◌≤◌, ℕ, List, take, drop, length, sym, subst, ap, arith}
 use Rattle.std.specs.Prelude.{fold}
+use Rattle.std.proofs.lemmas.Result.{err_from_is_err_and}
 use Rattle.std.proofs.lemmas.Grind.{common_steps}
 use Rattle.std.proofs.lemmas.List.{take_rest}
+use Rattle.block_store.specs.declared.frames.Level.TheVariants.{Long}
 use Rattle.peak_summary.specs.declared.stretch.Summary.{Summary}
 use Rattle.peak_summary.specs.Peaks.{frame_count, frames_of, joined, nothing, summary_of}
 use Rattle.pcm_base.specs.Edits.{part}
+use Rattle.envelope_view.proofs.PageFaults.{frames_fault}
 use Rattle.envelope_view.proofs.SumLaws.{frames_read, block_samples_fit, block_samples_few}
 use Rattle.envelope_view.proofs.HalvesLaws.{all_but_last, last_alone}
 use Rattle.envelope_view.proofs.halves.long_frames.Goals as goal
@@ -19,10 +22,10 @@ returns-clause-read g c = λ told xs e len.
     let last : ℕ = c.args.last in
     let n : ℕ = last - first in
     let fs : List Summary = frames_of 65536 xs in
-    let out : List Summary = c.read_compared_frames.new.out in
+    let out : List Summary = c.read_frames_cached.new.out in
     let W : ℕ → Type 0 = λ k. last + 1 ≤ frame_count 65536 k in
     let within : last + 1 ≤ frame_count 65536 (length xs) = subst W (sym len) (omega (arith, c.requires.within)) in
-    let read : out ≡ take (n + 1) (drop first fs) = c.in_ok-read_compared_frames.ensures.read xs told e len
+    let read : out ≡ take (n + 1) (drop first fs) = c.in_ok-read_frames_cached.ensures.read xs told e len
     ∙ ap (λ (k : ℕ). take k (drop first fs)) (grind (arith, common_steps)) in
     let place : first + n ≡ last = omega (arith, c.requires.rising) in
     let stop : 65536 * (last + 1) ≡ 65536 * last + 65536 = omega arith in
@@ -34,3 +37,8 @@ returns-clause-read g c = λ told xs e len.
     (c.join_all-after.ensures ∙ ap (fold joined nothing) (take_rest out n))
     (last_alone fs out first n read ∙ ap (λ (k : ℕ). take 1 (drop k fs)) place) (omega arith) in
     (before, after ∙ ap (λ (k : ℕ). summary_of (part (65536 * last) k xs)) stop)
+
+pub returns-in_err-read_frames_cached-clause-damaged : goal.returns-in_err-read_frames_cached-clause-damaged
+returns-in_err-read_frames_cached-clause-damaged g c = λ told.
+    let p = err_from_is_err_and c.from_residual.result c.from_residual.ensures.1 in
+    rw (p.1, p.2) (frames_fault Long _ _ _ _ _ (c.in_err-read_frames_cached.ensures.damaged told))

@@ -3,6 +3,7 @@ use Rattle.std.proofs.Common.{◌≡◌, ◌∙◌, Some, sym, subst, ap, arith}
 use Rattle.std.specs.Prelude.{IsTrue}
 use Rattle.disk_model.specs.Disk.{Files}
 use Rattle.sample_block.specs.Blocks.{blocks}
+use Rattle.block_cache.proofs.CacheLaws.{cached_on}
 use Rattle.envelope_view.proofs.SumLaws.{block_samples_fit, block_samples_few}
 use Rattle.envelope_view.proofs.HalvesLaws.{rest_after, rest_before}
 use Rattle.envelope_view.proofs.halves.sides.Goals as goal
@@ -30,3 +31,13 @@ other_side-requires-2-clause-rest g c = λ told xs e len.
     (block_samples_fit files c.args.block.id xs there) (block_samples_few files c.args.block.id xs there)
     c.requires.before c.requires.behind (omega (arith, len, c.requires.within))
     (c.requires.whole before xs there len) (c.in_ok-after-2.ensures.read before xs there len)
+
+pub other_side-requires-clause-cached : goal.other_side-requires-clause-cached
+other_side-requires-clause-cached g c =
+    cached_on c.args.store.now c.by_short.new.store _ c.args.cache.now c.by_short.new.cache c.by_short.ensures.kept
+    c.by_short.ensures.cache c.requires.cached
+
+pub other_side-requires-2-clause-cached : goal.other_side-requires-2-clause-cached
+other_side-requires-2-clause-cached g c =
+    cached_on c.args.store.now c.by_short-2.new.store _ c.args.cache.now c.by_short-2.new.cache
+    c.by_short-2.ensures.kept c.by_short-2.ensures.cache c.requires.cached

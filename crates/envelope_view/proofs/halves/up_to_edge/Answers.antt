@@ -5,6 +5,7 @@ use Rattle.disk_model.specs.Disk.{Files}
 use Rattle.sample_block.specs.Blocks.{blocks}
 use Rattle.peak_summary.specs.Peaks.{summary_of}
 use Rattle.pcm_base.specs.Edits.{part}
+use Rattle.block_cache.proofs.CacheLaws.{cached_on, keeps_then}
 use Rattle.envelope_view.proofs.SumLaws.{stop_same, part_joined, part_end, block_samples_fit, block_samples_few}
 use Rattle.envelope_view.proofs.halves.up_to_edge.Goals as goal
 
@@ -48,3 +49,32 @@ returns-clause-read g c = λ told xs e len.
     ∙ part_joined c.args.from start c.args.edge xs c.join.result c.in_ok-halves.halves.before fit few
     c.requires.rising (omega (arith, c.requires.before)) front halves.0 in
     (all, halves.1)
+
+pub long_frames-requires-clause-cached : goal.long_frames-requires-clause-cached
+long_frames-requires-clause-cached g c =
+    cached_on c.args.store.now c.by_short.new.store _ c.args.cache.now c.by_short.new.cache c.by_short.ensures.kept
+    c.by_short.ensures.cache c.requires.cached
+
+pub sides-requires-clause-cached : goal.sides-requires-clause-cached
+sides-requires-clause-cached g c =
+    cached_on c.by_short.new.store c.long_frames.new.store _ c.by_short.new.cache c.long_frames.new.cache
+    c.long_frames.ensures.kept c.long_frames.ensures.cache
+    (cached_on c.args.store.now c.by_short.new.store _ c.args.cache.now c.by_short.new.cache c.by_short.ensures.kept
+    c.by_short.ensures.cache c.requires.cached)
+
+pub returns-in_err-long-clause-cache : goal.returns-in_err-long-clause-cache
+returns-in_err-long-clause-cache g c =
+    keeps_then c.args.store.now c.by_short.new.store _ _ _ _ c.by_short.ensures.kept c.by_short.ensures.cache
+    c.long_frames.ensures.cache
+
+pub returns-in_err-halves-clause-cache : goal.returns-in_err-halves-clause-cache
+returns-in_err-halves-clause-cache g c =
+    keeps_then c.args.store.now c.by_short.new.store _ _ _ _ c.by_short.ensures.kept c.by_short.ensures.cache
+    (keeps_then c.by_short.new.store c.long_frames.new.store _ _ _ _ c.long_frames.ensures.kept
+    c.long_frames.ensures.cache c.sides.ensures.cache)
+
+pub returns-clause-cache : goal.returns-clause-cache
+returns-clause-cache g c =
+    keeps_then c.args.store.now c.by_short.new.store _ _ _ _ c.by_short.ensures.kept c.by_short.ensures.cache
+    (keeps_then c.by_short.new.store c.long_frames.new.store _ _ _ _ c.long_frames.ensures.kept
+    c.long_frames.ensures.cache c.sides.ensures.cache)

@@ -4,6 +4,7 @@ use Rattle.std.specs.Prelude.{IsTrue}
 use Rattle.disk_model.specs.Disk.{Files}
 use Rattle.sample_block.specs.Blocks.{blocks}
 use Rattle.peak_summary.specs.Peaks.{summary_of}
+use Rattle.block_cache.proofs.CacheLaws.{cached_on, keeps_then}
 use Rattle.envelope_view.proofs.SumLaws.{stop_same, part_joined, part_end, block_samples_fit, block_samples_few}
 use Rattle.envelope_view.proofs.parts.short_then_samples.Goals as goal
 
@@ -26,3 +27,18 @@ returns-clause-read g c = λ told xs e len.
     (block_samples_fit files c.args.block.id xs e) (block_samples_few files c.args.block.id xs e)
     (omega (arith, c.min-from.ensures, c.requires.rising, c.requires.behind)) (omega (arith, c.min-from.ensures)) front
     (c.in_ok-back.ensures.read still xs here len)
+
+pub by_samples-requires-clause-cached : goal.by_samples-requires-clause-cached
+by_samples-requires-clause-cached g c =
+    cached_on c.args.store.now c.by_frames.new.store _ c.args.cache.now c.by_frames.new.cache c.by_frames.ensures.kept
+    c.by_frames.ensures.cache c.requires.cached
+
+pub returns-in_err-back-clause-cache : goal.returns-in_err-back-clause-cache
+returns-in_err-back-clause-cache g c =
+    keeps_then c.args.store.now c.by_frames.new.store _ _ _ _ c.by_frames.ensures.kept c.by_frames.ensures.cache
+    c.by_samples.ensures.cache
+
+pub returns-clause-cache : goal.returns-clause-cache
+returns-clause-cache g c =
+    keeps_then c.args.store.now c.by_frames.new.store _ _ _ _ c.by_frames.ensures.kept c.by_frames.ensures.cache
+    c.by_samples.ensures.cache

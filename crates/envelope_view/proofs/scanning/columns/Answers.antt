@@ -2,6 +2,7 @@
 use Rattle.std.proofs.Common.{inl, inr, ap, sym, ◌∙◌}
 use Rattle.std.proofs.lemmas.Result.{err_from_is_err_and}
 use Rattle.disk_model.proofs.Frames.{kept_none}
+use Rattle.block_cache.proofs.CacheLaws.{keeps_same, same_none}
 use Rattle.clip_track.specs.Clips.{layout_blocks}
 use Rattle.envelope_view.specs.Answers.{column_tests}
 use Rattle.envelope_view.proofs.AnswerLaws.{tests_undamaged, tests_counted, undamaged_in, whole_undamaged}
@@ -46,3 +47,6 @@ returns-in_err-scans-clause-sound g c = λ told whole.
     let p = err_from_is_err_and c.from_residual-in_err-scans.result c.from_residual-in_err-scans.ensures.1 in
     rw (p.1, p.2) (whole_undamaged (g.S.Store.reads c.args.store.now) (layout_blocks c.args.layout.now) _ whole
     (c.in_err-scans.ensures.damaged told))
+
+pub returns-in_err-test_columns-clause-cache : goal.returns-in_err-test_columns-clause-cache
+returns-in_err-test_columns-clause-cache g c = keeps_same _ _ _ _ _ (same_none _)

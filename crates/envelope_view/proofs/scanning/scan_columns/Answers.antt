@@ -14,7 +14,7 @@ use Rattle.pcm_base.specs.Pieces.{Sources}
 use Rattle.pcm_base.specs.declared.sound.Cell.{Cell}
 use Rattle.pcm_base.specs.declared.sound.Scan.{Scan}
 use Rattle.sample_block.specs.Sources.{IsNamed, IsWhole, sources_of}
-use Rattle.block_store.specs.Reads.{IsCompared}
+use Rattle.block_cache.proofs.CacheLaws.{cached_on, keeps_more, keeps_same, keeps_then, same_none}
 use Rattle.block_store.specs.Scans.{samples_among}
 use Rattle.peak_summary.specs.Peaks.{summary_of}
 use Rattle.clip_track.specs.Clips.{layout_blocks, layout_cells}
@@ -36,7 +36,7 @@ rows-init g c = record {
   cells = λ src. c.rest.ensures.cells src ∙ ap (λ (k : ℕ). drop k (layout_cells src c.args.layout.now))
       (first_edge c.args.from c.args.to c.args.columns);
   kept = kept_none _ (g.met.S.Store.may_fewer _);
-  compared = λ told. tt;
+  cache = keeps_same _ _ _ _ _ (same_none _);
   known = λ told. tt;
   faults = refl;
   read = λ told whole. c.in_ok-scans.ensures.items;
@@ -69,9 +69,9 @@ rows-preserved g c =
           ∙ drop-drop (end - begin) (edge a.from a.to a.columns i) cells
           ∙ ap (λ (k : ℕ). drop k cells) next;
       kept = kept_turn inv.kept c.sweep.ensures.kept;
-      compared = λ told.
-          let still : IsTrue (g.S.Store.tells c.rows.store) = subst IsTrue (sym inv.kept.same_tells) told in
-          subst (λ (f : Files). IsCompared f c.sweep.new.last) inv.kept.same_reads (c.sweep.ensures.compared still);
+      cache = keeps_then a.store.now c.rows.store _ _ _ _ inv.kept inv.cache
+          (keeps_more _ _ (ahead_blocks c.rows.ahead) (layout_blocks a.layout.now) _ _ inv.blocks
+          c.sweep.ensures.cache);
       known = λ told.
           let still : IsTrue (g.S.Store.tells c.rows.store) = subst IsTrue (sym inv.kept.same_tells) told in
           subst (λ (f : Files). IsKnown f c.sweep.new.known) inv.kept.same_reads (c.sweep.ensures.known still);
@@ -100,6 +100,26 @@ rows-preserved g c =
           (part (edge a.from a.to a.columns i) (edge a.from a.to a.columns (i + 1)) cells) column)
           ∙ sym (columns_more F i);
     }
+
+pub sweep-requires-clause-cached : goal.sweep-requires-clause-cached
+sweep-requires-clause-cached g c =
+    cached_on c.args.store.now c.rows.store _ c.args.cache.now c.rows.cache c.rows.invariant.kept
+    c.rows.invariant.cache c.requires.cached
+
+pub returns-in_err-scans-clause-cache : goal.returns-in_err-scans-clause-cache
+returns-in_err-scans-clause-cache g c = keeps_same _ _ _ _ _ (same_none _)
+
+pub returns-in_err-summary-clause-cache : goal.returns-in_err-summary-clause-cache
+returns-in_err-summary-clause-cache g c =
+    let inv = c.rows.invariant in
+    keeps_then c.args.store.now c.rows.store _ _ _ _ inv.kept inv.cache
+    (keeps_more _ _ (ahead_blocks c.rows.ahead) (layout_blocks c.args.layout.now) _ _ inv.blocks c.sweep.ensures.cache)
+
+pub returns-in_err-push-clause-cache : goal.returns-in_err-push-clause-cache
+returns-in_err-push-clause-cache g c =
+    let inv = c.rows.invariant in
+    keeps_then c.args.store.now c.rows.store _ _ _ _ inv.kept inv.cache
+    (keeps_more _ _ (ahead_blocks c.rows.ahead) (layout_blocks c.args.layout.now) _ _ inv.blocks c.sweep.ensures.cache)
 
 pub returns-in_err-summary-clause-kept : goal.returns-in_err-summary-clause-kept
 returns-in_err-summary-clause-kept g c = kept_turn c.rows.invariant.kept c.sweep.ensures.kept

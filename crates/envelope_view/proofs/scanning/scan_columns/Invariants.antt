@@ -3,7 +3,7 @@ use Rattle.std.proofs.Common.{◌≡◌, ◌+◌, drop, map}
 use Rattle.std.specs.Prelude.{IsTrue, Contains}
 use Rattle.disk_model.specs.Frames.{Kept}
 use Rattle.sample_block.specs.Sources.{AllWhole, sources_of}
-use Rattle.block_store.specs.Reads.{IsCompared}
+use Rattle.block_cache.specs.Caches.{KeepsCache}
 use Rattle.pcm_base.specs.Arithmetic.{counted_from}
 use Rattle.pcm_base.specs.Edits.{part}
 use Rattle.pcm_base.specs.Envelope.{edge, scan_of}
@@ -20,7 +20,8 @@ invariant-rows g l = record {
   blocks : (b : BlockRef) → Contains (ahead_blocks l.ahead) b → Contains (layout_blocks l.layout) b;
   cells : (src : Sources) → ahead_cells src l.ahead ≡ drop (edge l.from l.to l.columns l.i) (layout_cells src l.layout);
   kept : Kept g.S.Store l.fn.store l.store;
-  compared : IsTrue (g.S.Store.tells l.fn.store) → IsCompared (g.S.Store.reads l.fn.store) l.last;
+  cache : KeepsCache (g.S.Store.tells l.fn.store) (g.S.Store.reads l.fn.store) (layout_blocks l.layout) l.fn.cache
+      l.cache;
   known : IsTrue (g.S.Store.tells l.fn.store) → IsKnown (g.S.Store.reads l.fn.store) l.known;
   faults : g.S.Store.read_fault_count l.store ≡ g.S.Store.read_fault_count l.fn.store;
   read : IsTrue (g.S.Store.tells l.fn.store) → AllWhole (g.S.Store.reads l.fn.store) (layout_blocks l.layout)

@@ -1,6 +1,5 @@
 -- The front that was known, and what was read behind it.
-use Rattle.std.proofs.Common.{◌≡◌, ◌∙◌, ℕ, Some, length, sym, subst, ap}
-use Rattle.std.specs.Prelude.{IsTrue}
+use Rattle.std.proofs.Common.{◌≡◌, ◌∙◌, ℕ, Some, length, sym, ap}
 use Rattle.disk_model.specs.Disk.{Files}
 use Rattle.pcm_base.specs.declared.block.BlockRef.{BlockRef}
 use Rattle.pcm_base.specs.Edits.{part}
@@ -12,10 +11,6 @@ use Rattle.envelope_view.proofs.sweep.summarize_block.Goals as goal
 pub returns-clause-read : goal.returns-clause-read
 returns-clause-read g c = λ told xs e len.
     let files : Files = g.S.Store.reads c.args.store.now in
-    let kept = c.compare_once.ensures.kept in
-    let still : IsTrue (g.S.Store.tells c.compare_once.new.store) = subst IsTrue (sym kept.same_tells) told in
-    let here : blocks (g.S.Store.reads c.compare_once.new.store) c.args.block.id ≡ Some xs =
-    ap (λ (f : Files). blocks f c.args.block.id) kept.same_reads ∙ e in
     let front = c.front_of-front.result in
     let is = c.front_of-front.ensures in
     let its : blocks files front.block.id ≡ Some xs = ap (λ (b : BlockRef). blocks files b.id) is.block ∙ e in
@@ -25,4 +20,4 @@ returns-clause-read g c = λ told xs e len.
     c.join.ensures.exact
     ∙ part_joined c.args.from front.to c.args.to xs front.summary c.in_ok-back.back
     (block_samples_fit files c.args.block.id xs e) (block_samples_few files c.args.block.id xs e)
-    is.rising is.within known (c.in_ok-back.ensures.read still xs here len)
+    is.rising is.within known (c.in_ok-back.ensures.read told xs e len)

@@ -4,8 +4,9 @@ use Rattle.std.proofs.lemmas.Result.{err_from_is_err_and}
 use Rattle.disk_model.proofs.Frames.{kept_none}
 use Rattle.sample_block.specs.Sources.{sources_of}
 use Rattle.peak_summary.specs.Peaks.{summary_of}
-use Rattle.envelope_view.specs.Ahead.{IsInBlock}
-use Rattle.envelope_view.proofs.AheadLaws.{gaps_read, named_one, fault_one, block_read}
+use Rattle.block_cache.proofs.CacheLaws.{keeps_more, keeps_same, same_none}
+use Rattle.envelope_view.specs.Ahead.{IsInBlock, stretch_blocks}
+use Rattle.envelope_view.proofs.AheadLaws.{block_read, blocks_one, fault_one, gaps_read, named_one}
 use Rattle.envelope_view.proofs.sweep.summarize_stretch.Goals as goal
 
 pub returns-in-Gaps-clause-kept : goal.returns-in-Gaps-clause-kept
@@ -30,3 +31,16 @@ returns-in_err-summary-in-Block-clause-damaged g c = λ told.
     let p = err_from_is_err_and c.from_residual.result c.from_residual.ensures.1 in
     rw (p.1, p.2) (fault_one (g.S.Store.reads c.args.store.now) c.args.stretch _ _ _ c.in-Block.is
     (c.in_err-summary-in-Block.ensures.damaged told))
+
+pub returns-in_ok-summary-in-Block-clause-cache : goal.returns-in_ok-summary-in-Block-clause-cache
+returns-in_ok-summary-in-Block-clause-cache g c =
+    keeps_more _ _ _ (stretch_blocks c.args.stretch) _ _ (blocks_one c.args.stretch _ _ c.in-Block.is)
+    c.summarize_block.ensures.cache
+
+pub returns-in_err-summary-in-Block-clause-cache : goal.returns-in_err-summary-in-Block-clause-cache
+returns-in_err-summary-in-Block-clause-cache g c =
+    keeps_more _ _ _ (stretch_blocks c.args.stretch) _ _ (blocks_one c.args.stretch _ _ c.in-Block.is)
+    c.summarize_block.ensures.cache
+
+pub returns-in-Gaps-clause-cache : goal.returns-in-Gaps-clause-cache
+returns-in-Gaps-clause-cache g c = keeps_same _ _ _ _ _ (same_none _)

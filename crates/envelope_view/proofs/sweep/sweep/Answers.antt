@@ -9,7 +9,7 @@ use Rattle.pcm_base.specs.declared.block.BlockRef.{BlockRef}
 use Rattle.pcm_base.specs.declared.sound.Cell.{Cell}
 use Rattle.pcm_base.specs.Pieces.{Sources}
 use Rattle.sample_block.specs.Sources.{sources_of}
-use Rattle.block_store.specs.Reads.{IsCompared}
+use Rattle.block_cache.proofs.CacheLaws.{cached_on, keeps_more, keeps_same, keeps_then, same_none}
 use Rattle.block_store.specs.Scans.{samples_among}
 use Rattle.peak_summary.specs.declared.stretch.Summary.{Summary}
 use Rattle.peak_summary.specs.Peaks.{summary_of}
@@ -31,7 +31,7 @@ stretches-init g c = record {
   blocks = λ b there. there;
   passed = λ src. refl;
   kept = kept_none _ (g.met.S.Store.may_fewer _);
-  compared = c.requires.compared;
+  cache = keeps_same _ _ _ _ _ (same_none _);
   known = c.requires.known;
   faults = refl;
   read = λ told whole. running_start _ _;
@@ -73,6 +73,23 @@ returns-in_err-part-clause-damaged g c = λ told.
     rw (p.1, p.2) (fault_wider (g.S.Store.reads c.args.store.now) (g.S.Store.reads c.stretches.store) (stretch_blocks s)
     (ahead_blocks c.args.ahead.now) _ inv.kept.same_reads there (c.in_err-part.ensures.damaged still))
 
+pub summarize_stretch-requires-clause-cached : goal.summarize_stretch-requires-clause-cached
+summarize_stretch-requires-clause-cached g c =
+    cached_on c.args.store.now c.stretches.store _ c.args.cache.now c.stretches.cache c.stretches.invariant.kept
+    c.stretches.invariant.cache c.requires.cached
+
+pub returns-in_err-part-clause-cache : goal.returns-in_err-part-clause-cache
+returns-in_err-part-clause-cache g c =
+    let inv = c.stretches.invariant in
+    let s : Stretch = c.in-Some.stretch in
+    let rest = strip_blocks c.next.new.self.rest in
+    keeps_then c.args.store.now c.stretches.store _ _ _ _ inv.kept inv.cache
+    (keeps_more _ _ (stretch_blocks s) (ahead_blocks c.args.ahead.now) _ _
+    (λ b is. inv.blocks b (c.next.ensures.blocks b
+    (subst (λ (x : Stretch). Contains (stretch_blocks x ++ rest) b) c.in-Some.ensures.found.0
+    (Contains-append_left (stretch_blocks s) rest b is))))
+    c.summarize_stretch.ensures.cache)
+
 pub stretches-preserved : goal.stretches-preserved
 stretches-preserved g c =
     let inv = c.stretches.invariant in
@@ -99,10 +116,10 @@ stretches-preserved g c =
       passed = λ src. step_passed src s c.behind-ahead.result rest (ahead_cells src c.stretches.ahead) left size within
           part c.behind-ahead.ensures.item (cells src) ∙ inv.passed src;
       kept = kept_turn inv.kept c.summarize_stretch.ensures.kept;
-      compared = λ told.
-          let still : IsTrue (g.S.Store.tells c.stretches.store) = subst IsTrue (sym inv.kept.same_tells) told in
-          subst (λ (f : Files). IsCompared f c.summarize_stretch.new.last) inv.kept.same_reads
-          (c.summarize_stretch.ensures.compared still);
+      cache = keeps_then c.args.store.now c.stretches.store _ _ _ _ inv.kept inv.cache
+          (keeps_more _ _ (stretch_blocks s) (ahead_blocks c.args.ahead.now) _ _
+          (λ b is. there b (Contains-append_left (stretch_blocks s) (strip_blocks rest) b is))
+          c.summarize_stretch.ensures.cache);
       known = λ told.
           let still : IsTrue (g.S.Store.tells c.stretches.store) = subst IsTrue (sym inv.kept.same_tells) told in
           subst (λ (f : Files). IsKnown f c.summarize_stretch.new.known) inv.kept.same_reads

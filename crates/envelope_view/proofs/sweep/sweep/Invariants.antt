@@ -3,7 +3,7 @@ use Rattle.std.proofs.Common.{◌≡◌, ◌≤◌, take, drop}
 use Rattle.std.specs.Prelude.{IsTrue, Contains}
 use Rattle.disk_model.specs.Frames.{Kept}
 use Rattle.sample_block.specs.Sources.{sources_of}
-use Rattle.block_store.specs.Reads.{IsCompared}
+use Rattle.block_cache.specs.Caches.{KeepsCache}
 use Rattle.block_store.specs.Scans.{samples_among}
 use Rattle.pcm_base.specs.Pieces.{Sources}
 use Rattle.pcm_base.specs.declared.block.BlockRef.{BlockRef}
@@ -20,7 +20,8 @@ invariant-stretches g l = record {
   blocks : (b : BlockRef) → Contains (ahead_blocks l.ahead) b → Contains (ahead_blocks l.fn.ahead) b;
   passed : (src : Sources) → drop l.left (ahead_cells src l.ahead) ≡ drop l.fn.count (ahead_cells src l.fn.ahead);
   kept : Kept g.S.Store l.fn.store l.store;
-  compared : IsTrue (g.S.Store.tells l.fn.store) → IsCompared (g.S.Store.reads l.fn.store) l.last;
+  cache : KeepsCache (g.S.Store.tells l.fn.store) (g.S.Store.reads l.fn.store) (ahead_blocks l.fn.ahead) l.fn.cache
+      l.cache;
   known : IsTrue (g.S.Store.tells l.fn.store) → IsKnown (g.S.Store.reads l.fn.store) l.known;
   faults : g.S.Store.read_fault_count l.store ≡ g.S.Store.read_fault_count l.fn.store;
   read : IsTrue (g.S.Store.tells l.fn.store) → AreWhole (g.S.Store.reads l.fn.store) (ahead_blocks l.fn.ahead)

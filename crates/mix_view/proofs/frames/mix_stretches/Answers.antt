@@ -9,9 +9,10 @@ use Rattle.pcm_base.specs.declared.sound.Frame.{Frame}
 use Rattle.pcm_base.specs.Arithmetic.{counted_from}
 use Rattle.pcm_base.specs.Mix.{frame_at}
 use Rattle.project_state.specs.declared.track.Track.{Track}
-use Rattle.project_state.specs.Kept.{meant}
+use Rattle.project_state.specs.Kept.{meant, point_blocks}
+use Rattle.block_cache.specs.Caches.{KeepsCache}
+use Rattle.block_cache.proofs.CacheLaws.{cached_on, keeps_before, keeps_same, keeps_turn, same_none}
 use Rattle.cell_view.specs.Stored.{stored_of}
-use Rattle.mix_view.specs.Readers.{HasCompared}
 use Rattle.mix_view.proofs.CountLaws.{made_more}
 use Rattle.mix_view.proofs.frames.mix_stretches.Goals as goal
 
@@ -21,7 +22,7 @@ stretches-init g c = record {
   reader = c.requires.reader;
   point = refl;
   place = omega arith;
-  compared = c.requires.compared;
+  cache = keeps_same _ _ _ _ _ (same_none _);
   kept = kept_none _ (g.met.S.Store.may_fewer _);
   count = refl;
   stored = λ told. refl;
@@ -43,11 +44,11 @@ stretches-preserved g c =
       reader = c.mix_stretch.ensures.reader;
       point = c.mix_stretch.ensures.point ∙ inv.point;
       place = omega (arith, c.in_default.ensures.place, inv.place, size);
-      compared = λ told.
-          let still : IsTrue (g.S.Store.tells c.stretches.store) =
-          subst (λ (b : Bool). IsTrue b) (sym inv.kept.same_tells) told in
-          subst (λ (f : Files). HasCompared f c.mix_stretch.new.reader) inv.kept.same_reads
-          (c.mix_stretch.ensures.compared still);
+      cache = keeps_turn _ _ _ _ _ _ inv.cache
+          (keeps_before c.args.store.now c.stretches.store _ _ _ inv.kept
+          (subst (λ (ts : List Track). KeepsCache (g.S.Store.tells c.stretches.store) (g.S.Store.reads
+          c.stretches.store)
+          (point_blocks ts) c.stretches.cache c.mix_stretch.new.cache) inv.point c.mix_stretch.ensures.cache));
       kept = kept_turn inv.kept c.mix_stretch.ensures.kept;
       count = c.in_default.ensures.faults ∙ inv.count;
       stored = λ told.
@@ -68,9 +69,15 @@ stretches-preserved g c =
           here (omega (arith, c.mix_stretch.auto.out, size)) refl;
     }
 
-pub returns-in-Err-clause-compared : goal.returns-in-Err-clause-compared
-returns-in-Err-clause-compared g c = λ told.
-    let kept = c.stretches.invariant.kept in
-    let still : IsTrue (g.S.Store.tells c.stretches.store) =
-    subst (λ (b : Bool). IsTrue b) (sym kept.same_tells) told in
-    subst (λ (f : Files). HasCompared f c.mix_stretch.new.reader) kept.same_reads (c.mix_stretch.ensures.compared still)
+pub mix_stretch-requires-clause-cached : goal.mix_stretch-requires-clause-cached
+mix_stretch-requires-clause-cached g c =
+    cached_on c.args.store.now c.stretches.store _ c.args.cache.now c.stretches.cache c.stretches.invariant.kept
+    c.stretches.invariant.cache c.requires.cached
+
+pub returns-in-Err-clause-cache : goal.returns-in-Err-clause-cache
+returns-in-Err-clause-cache g c =
+    let inv = c.stretches.invariant in
+    keeps_turn _ _ _ _ _ _ inv.cache
+    (keeps_before c.args.store.now c.stretches.store _ _ _ inv.kept
+    (subst (λ (ts : List Track). KeepsCache (g.S.Store.tells c.stretches.store) (g.S.Store.reads c.stretches.store)
+    (point_blocks ts) c.stretches.cache c.mix_stretch.new.cache) inv.point c.mix_stretch.ensures.cache))

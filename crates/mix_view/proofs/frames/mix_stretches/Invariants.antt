@@ -4,9 +4,10 @@ use Rattle.std.specs.Prelude.{IsTrue}
 use Rattle.disk_model.specs.Frames.{Kept}
 use Rattle.pcm_base.specs.Arithmetic.{counted_from}
 use Rattle.pcm_base.specs.Mix.{frame_at}
-use Rattle.project_state.specs.Kept.{meant}
+use Rattle.project_state.specs.Kept.{meant, point_blocks}
+use Rattle.block_cache.specs.Caches.{KeepsCache}
 use Rattle.cell_view.specs.Stored.{stored_of}
-use Rattle.mix_view.specs.Readers.{HasCompared, IsReader}
+use Rattle.mix_view.specs.Readers.{IsReader}
 use Rattle.mix_view.proofs.frames.mix_stretches.Given as goal
 
 abbrev pub invariant-stretches : goal.invariant-stretches
@@ -15,7 +16,8 @@ invariant-stretches g l = record {
   reader : IsReader l.reader;
   point : l.reader.point.now ≡ l.fn.reader.point.now;
   place : l.reader.at ≡ l.fn.reader.at + l.done;
-  compared : IsTrue (g.S.Store.tells l.fn.store) → HasCompared (g.S.Store.reads l.fn.store) l.reader;
+  cache : KeepsCache (g.S.Store.tells l.fn.store) (g.S.Store.reads l.fn.store) (point_blocks l.fn.reader.point.now)
+      l.fn.cache l.cache;
   kept : Kept g.S.Store l.fn.store l.store;
   count : g.S.Store.read_fault_count l.store ≡ g.S.Store.read_fault_count l.fn.store;
   stored : IsTrue (g.S.Store.tells l.fn.store)

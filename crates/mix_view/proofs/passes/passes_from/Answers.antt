@@ -1,5 +1,5 @@
 -- One more is put.
-use Rattle.std.proofs.Common.{◌≡◌, ℕ, ◌+◌, ◌-◌, List, ◌∷◌, None, drop, ap, refl, sym, subst, ◌∙◌, arith}
+use Rattle.std.proofs.Common.{◌≡◌, ℕ, ◌+◌, ◌-◌, List, ◌∷◌, drop, ap, refl, sym, subst, ◌∙◌, arith}
 use Rattle.std.specs.Prelude.{replicate}
 use Rattle.std.proofs.lemmas.List.{drop-set, drop_all, length-set}
 use Rattle.project_state.specs.declared.track.Track.{Track}
@@ -10,18 +10,17 @@ use Rattle.sample_block.specs.Sources.{AllNamed}
 use Rattle.cell_view.proofs.SeenLaws.{named_front}
 use Rattle.mix_view.specs.declared.passes.TrackPass.{TrackPass}
 use Rattle.mix_view.specs.Readers.{AreRestsOf}
-use Rattle.mix_view.proofs.TrackLaws.{compared_set, named_drop, none_compared}
+use Rattle.mix_view.proofs.TrackLaws.{named_drop}
 use Rattle.mix_view.proofs.passes.passes_from.Goals as goal
 
 pub rows-init : goal.rows-init
 rows-init c =
-    let none : TrackPass = record { rest = c.no_rest.result; last = None } in
+    let none : TrackPass = record { rest = c.no_rest.result } in
     let P : List Track → Type 0 = λ ts. AreRestsOf c.args.from ts (drop c.len-i.result (replicate 64 none)) in
     record {
       within = omega (arith, c.len-i.ensures.value);
       size = refl;
       rests = subst P (sym (drop_all c.len-i.result c.args.point.now (omega (arith, c.len-i.ensures.value)))) tt;
-      compared = λ files. none_compared files 64 none tt;
     }
 
 pub rest_at-rest-requires : goal.rest_at-rest-requires
@@ -44,7 +43,7 @@ rows-preserved c =
     let t : Track = c.track_at.result.now in
     let next : i ≡ k + 1 = omega arith in
     let e : t ∷ drop i ts ≡ drop k ts = ap (λ n. t ∷ drop n ts) next ∙ sym (drop_some ts k t c.track_at.ensures) in
-    let one : TrackPass = record { rest = c.rest_at-rest.result; last = None } in
+    let one : TrackPass = record { rest = c.rest_at-rest.result } in
     let f : one ∷ drop i c.rows.out ≡ _ = ap (λ n. one ∷ drop n c.rows.out) next ∙ sym (drop-set c.rows.out k one
     (omega (arith, c.rows.invariant.size, c.rows.invariant.within, c.len-i.ensures.few, c.len-i.ensures.value))) in
     let P : List Track → Type 0 = λ us. AreRestsOf c.args.from us (one ∷ drop i c.rows.out) in
@@ -52,12 +51,11 @@ rows-preserved c =
     record {
       within = omega (arith, c.rows.invariant.within);
       size = length-set c.rows.out k one ∙ c.rows.invariant.size;
-      compared = λ files. compared_set files c.rows.out k one tt (c.rows.invariant.compared files);
       rests = subst Q f (subst P e (c.rest_at-rest.ensures.rest, c.rows.invariant.rests));
     }
 
-pub returns-clause-rests : goal.returns-clause-rests
-returns-clause-rests c =
+pub returns : goal.returns
+returns c =
     let none : c.rows.i ≡ 0 = omega arith in
     let P : ℕ → Type 0 = λ n. AreRestsOf c.args.from (drop n c.args.point.now) (drop n c.rows.out) in
     subst P none c.rows.invariant.rests

@@ -1,7 +1,6 @@
 -- The passes over the tracks behind are put.
 use Rattle.std.proofs.Common.{◌≡◌, ◌≤◌, length, drop}
-use Rattle.disk_model.specs.Disk.{Files}
-use Rattle.mix_view.specs.Readers.{AreCompared, AreRestsOf}
+use Rattle.mix_view.specs.Readers.{AreRestsOf}
 use Rattle.mix_view.proofs.passes.passes_from.Given as goal
 
 abbrev pub invariant-rows : goal.invariant-rows
@@ -9,7 +8,6 @@ invariant-rows l = record {
   within : l.i ≤ length l.point;
   size : length l.out ≡ 64;
   rests : AreRestsOf l.from (drop l.i l.point) (drop l.i l.out);
-  compared : (files : Files) → AreCompared files l.out;
 }
 
 abbrev pub decreases-rows : goal.decreases-rows

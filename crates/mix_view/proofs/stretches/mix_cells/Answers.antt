@@ -1,6 +1,5 @@
 -- The stretches are those of what the tracks mean.
-use Rattle.std.proofs.Common.{sym, ap, ◌∙◌, take, List}
-use Rattle.pcm_base.specs.declared.sound.Side.{Side}
+use Rattle.std.proofs.Common.{sym, ap, ◌∙◌, take}
 use Rattle.project_state.specs.Kept.{meant}
 use Rattle.mix_view.proofs.TrackLaws.{gains_meant, sides_meant}
 use Rattle.mix_view.proofs.stretches.mix_cells.Goals as goal

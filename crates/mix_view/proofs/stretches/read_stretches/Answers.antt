@@ -13,13 +13,14 @@ use Rattle.clip_track.specs.Clips.{layout_blocks}
 use Rattle.project_state.specs.declared.track.Track.{Track}
 use Rattle.project_state.proofs.Parts.{drop_some}
 use Rattle.project_state.specs.Kept.{meant, meant_track, point_blocks}
-use Rattle.block_store.specs.Reads.{IsCompared, IsFaultIn}
+use Rattle.block_store.specs.Reads.{IsFaultIn}
+use Rattle.block_cache.proofs.CacheLaws.{cached_on, keeps_before, keeps_more, keeps_same, keeps_turn, same_none}
 use Rattle.cell_view.specs.Stored.{stored_of}
 use Rattle.mix_view.specs.declared.passes.TrackPass.{TrackPass}
 use Rattle.cell_view.specs.Rests.{IsRestOf}
 use Rattle.cell_view.proofs.SeenLaws.{fault_first}
 use Rattle.mixdown.specs.Stretches.{IsStretch, AreStretches}
-use Rattle.mix_view.proofs.TrackLaws.{compared_at, compared_set, rests_at, rests_set, fault_drop, stretch_put}
+use Rattle.mix_view.proofs.TrackLaws.{blocks_at, rests_at, rests_set, fault_drop, stretch_put}
 use Rattle.mix_view.proofs.stretches.read_stretches.Goals as goal
 
 pub rows-init : goal.rows-init
@@ -30,7 +31,7 @@ rows-init g c =
     record {
       within = omega (arith, c.len-i.ensures.value);
       rests = c.requires.rests;
-      compared = c.requires.compared;
+      cache = keeps_same _ _ _ _ _ (same_none _);
       kept = kept_none _ (g.met.S.Store.may_fewer _);
       count = refl;
       stored =
@@ -73,16 +74,10 @@ read_track-requires-clause-rest g c =
     subst I (get_or_from_slice_get c.args.point.now k t t c.track_at-track.ensures)
     (rests_at c.args.from c.args.point.now c.rows.passes k t p below c.rows.invariant.rests)
 
-pub read_track-requires-clause-compared : goal.read_track-requires-clause-compared
-read_track-requires-clause-compared g c = λ still.
-    let kept = c.rows.invariant.kept in
-    let told : IsTrue (g.S.Store.tells c.args.store.now) = subst (λ (b : Bool). IsTrue b) kept.same_tells still in
-    let k = c.rows.i - 1 in
-    let p : TrackPass = c.index-passes-i.result in
-    let below : k < length c.rows.passes =
-    omega (arith, c.rows.invariant.within, c.rows-test.true, c.requires.tracks, c.rows.auto.passes) in
-    subst (λ (f : Files). IsCompared f (get_or c.rows.passes k p).last) (sym kept.same_reads)
-    (compared_at (g.S.Store.reads c.args.store.now) c.rows.passes k p below (c.rows.invariant.compared told))
+pub read_track-requires-clause-cached : goal.read_track-requires-clause-cached
+read_track-requires-clause-cached g c =
+    cached_on c.args.store.now c.rows.store _ c.args.cache.now c.rows.cache c.rows.invariant.kept c.rows.invariant.cache
+    c.requires.cached
 
 pub returns-in-Err-clause-rests : goal.returns-in-Err-clause-rests
 returns-in-Err-clause-rests g c =
@@ -94,13 +89,16 @@ returns-in-Err-clause-rests g c =
     (omega (arith, c.rows.invariant.within, c.rows-test.true)) c.rows.invariant.rests
     (subst I (sym (get_or_from_slice_get ts k t t c.track_at-track.ensures)) c.read_track.ensures.rest)
 
-pub returns-in-Err-clause-compared : goal.returns-in-Err-clause-compared
-returns-in-Err-clause-compared g c = λ told.
-    let kept = c.rows.invariant.kept in
-    let still : IsTrue (g.S.Store.tells c.rows.store) = subst (λ (b : Bool). IsTrue b) (sym kept.same_tells) told in
-    compared_set (g.S.Store.reads c.args.store.now) c.rows.passes (c.rows.i - 1) c.read_track.new.left
-    (subst (λ (f : Files). IsCompared f c.read_track.new.left.last) kept.same_reads
-    (c.read_track.ensures.compared still)) (c.rows.invariant.compared told)
+pub returns-in-Err-clause-cache : goal.returns-in-Err-clause-cache
+returns-in-Err-clause-cache g c =
+    let ts : List Track = c.args.point.now in
+    let k = c.rows.i - 1 in
+    let t : Track = c.track_at-track.result.now in
+    let inv = c.rows.invariant in
+    keeps_turn _ _ _ _ _ _ inv.cache (keeps_before c.args.store.now c.rows.store _ _ _ inv.kept
+    (keeps_more _ _ (layout_blocks t.layout) (point_blocks ts) _ _
+    (λ b has. blocks_at k ts (drop (k + 1) ts) t b (drop_some ts k t c.track_at-track.ensures) has)
+    c.read_track.ensures.cache))
 
 pub returns-in-Err-clause-damaged : goal.returns-in-Err-clause-damaged
 returns-in-Err-clause-damaged g c = λ told.
@@ -145,12 +143,10 @@ rows-preserved g c =
       within = omega (arith, below);
       rests = rests_set c.args.from ts c.rows.passes k t c.read_track.new.left below inv.rests
           (subst I (sym (get_or_from_slice_get ts k t t c.track_at-track.ensures)) c.read_track.ensures.rest);
-      compared = λ told.
-          let still : IsTrue (g.S.Store.tells c.rows.store) =
-          subst (λ (b : Bool). IsTrue b) (sym inv.kept.same_tells) told in
-          compared_set files c.rows.passes k c.read_track.new.left
-          (subst (λ (f : Files). IsCompared f c.read_track.new.left.last) inv.kept.same_reads
-          (c.read_track.ensures.compared still)) (inv.compared told);
+      cache = keeps_turn _ _ _ _ _ _ inv.cache (keeps_before c.args.store.now c.rows.store _ _ _ inv.kept
+          (keeps_more _ _ (layout_blocks t.layout) (point_blocks ts) _ _
+          (λ b has. blocks_at k ts (drop (k + 1) ts) t b (drop_some ts k t c.track_at-track.ensures) has)
+          c.read_track.ensures.cache));
       kept = kept_turn inv.kept c.read_track.ensures.kept;
       count = c.in_default.ensures.faults ∙ inv.count;
       stored = λ told.

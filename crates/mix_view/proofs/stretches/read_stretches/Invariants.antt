@@ -2,17 +2,19 @@
 use Rattle.std.proofs.Common.{◌≡◌, ◌≤◌, ◌*◌, length, drop}
 use Rattle.std.specs.Prelude.{IsTrue}
 use Rattle.disk_model.specs.Frames.{Kept}
-use Rattle.project_state.specs.Kept.{meant}
+use Rattle.project_state.specs.Kept.{meant, point_blocks}
+use Rattle.block_cache.specs.Caches.{KeepsCache}
 use Rattle.cell_view.specs.Stored.{stored_of}
 use Rattle.mixdown.specs.Stretches.{AreStretches}
-use Rattle.mix_view.specs.Readers.{AreCompared, AreRestsOf}
+use Rattle.mix_view.specs.Readers.{AreRestsOf}
 use Rattle.mix_view.proofs.stretches.read_stretches.Given as goal
 
 abbrev pub invariant-rows : goal.invariant-rows
 invariant-rows g l = record {
   within : l.i ≤ length l.point;
   rests : AreRestsOf l.from l.point l.passes;
-  compared : IsTrue (g.S.Store.tells l.fn.store) → AreCompared (g.S.Store.reads l.fn.store) l.passes;
+  cache : KeepsCache (g.S.Store.tells l.fn.store) (g.S.Store.reads l.fn.store) (point_blocks l.point) l.fn.cache
+      l.cache;
   kept : Kept g.S.Store l.fn.store l.store;
   count : g.S.Store.read_fault_count l.store ≡ g.S.Store.read_fault_count l.fn.store;
   stored : IsTrue (g.S.Store.tells l.fn.store)

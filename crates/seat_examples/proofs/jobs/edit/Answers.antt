@@ -4,7 +4,7 @@ use Rattle.pin_turn.specs.Calls.{known}
 use Rattle.studio_seats.proofs.OnwardLemmas.{onward_on, onward_self}
 use Rattle.seat_examples.specs.Jobs.{IsRampIn}
 use Rattle.seat_examples.proofs.CallLemmas.{done_ok}
-use Rattle.seat_examples.proofs.SeatLemmas.{onward_if}
+use Rattle.studio_seats.proofs.WorkLemmas.{onward_as}
 use Rattle.seat_examples.proofs.jobs.edit.Goals as goal
 
 pub lines-init : goal.lines-init
@@ -17,7 +17,7 @@ returns-in-Err-clause-goes g c =
     let ramp = IsRampIn c.args.track in
     let before = known c.lines.seat in
     let after = known c.line-said.new.seat in
-    let more = onward_if _ ramp before after (λ call is. (_, _, _, is)) c.line-said.ensures.goes in
+    let more = onward_as _ ramp before after (λ call is. (_, _, _, is)) c.line-said.ensures.goes in
     onward_on ramp (known c.args.seat) before after c.lines.invariant.goes more
 
 pub lines-preserved : goal.lines-preserved
@@ -25,7 +25,7 @@ lines-preserved g c =
     let ramp = IsRampIn c.args.track in
     let before = known c.lines.seat in
     let after = known c.line-said.new.seat in
-    let more = onward_if _ ramp before after (λ call is. (_, _, _, is)) c.line-said.ensures.goes in
+    let more = onward_as _ ramp before after (λ call is. (_, _, _, is)) c.line-said.ensures.goes in
     let turn = done_ok _ c.line-said.result.what c.in_default.not-Err c.line-said.ensures.turn in
     record {
       same = c.line-said.ensures.same;

@@ -10,7 +10,7 @@ use Rattle.studio_seats.specs.Onward.{IsReadOf, Onward, worker}
 use Rattle.studio_seats.specs.Shows.{IsMixOf}
 use Rattle.studio_seats.specs.Stands.{origin}
 use Rattle.studio_seats.proofs.OnwardLemmas.{onward_on}
-use Rattle.studio_seats.proofs.WorkLemmas.{works_self}
+use Rattle.studio_seats.proofs.ReadLemmas.{reads_self}
 use Rattle.seat_examples.proofs.jobs.play.Goals as goal
 
 -- what was read with room to spare is all that there is
@@ -25,20 +25,23 @@ all_read all out mix count room spare is given =
 pub returns-then-not-is_mix-clause-same : goal.returns-then-not-is_mix-clause-same
 returns-then-not-is_mix-clause-same g c =
     let s = c.reads.giver in
-    let on = c.give_frames.ensures.goes s (refl, refl, works_self (IsReadOf s.pin) (worker (known s.seat) s.refused)) in
+    let on = c.give_frames.ensures.goes s (refl, refl, reads_self s.pin (worker (known s.seat) s.refused)) (omega arith)
+    (omega arith) in
     subst (λ (d : _). IsAt d c.into_seat.result) (on.0 ∙ c.reads.invariant.desk) c.into_seat.ensures.at
 
 pub returns-in-Err-clause-same : goal.returns-in-Err-clause-same
 returns-in-Err-clause-same g c =
     let s = c.reads.giver in
-    let on = c.give_frames.ensures.goes s (refl, refl, works_self (IsReadOf s.pin) (worker (known s.seat) s.refused)) in
+    let on = c.give_frames.ensures.goes s (refl, refl, reads_self s.pin (worker (known s.seat) s.refused)) (omega arith)
+    (omega arith) in
     subst (λ (d : _). IsAt d c.into_seat-in-Err.result) (on.0 ∙ c.reads.invariant.desk) c.into_seat-in-Err.ensures.at
 
 pub returns-then-not-is_mix-clause-goes : goal.returns-then-not-is_mix-clause-goes
 returns-then-not-is_mix-clause-goes g c =
     let s = c.reads.giver in
     let here = known c.give_frames.new.self.seat in
-    let on = c.give_frames.ensures.goes s (refl, refl, works_self (IsReadOf s.pin) (worker (known s.seat) s.refused)) in
+    let on = c.give_frames.ensures.goes s (refl, refl, reads_self s.pin (worker (known s.seat) s.refused)) (omega arith)
+    (omega arith) in
     let goes = subst (λ (pin : ℕ). Onward (IsReadOf pin) (known s.seat) here) c.reads.invariant.pin on.2.onward in
     subst (Onward (IsReadOf c.args.pin) (known c.args.seat)) (sym c.into_seat.ensures.seat)
     (onward_on (IsReadOf c.args.pin) (known c.args.seat) (known s.seat) here c.reads.invariant.goes goes)
@@ -47,7 +50,8 @@ pub returns-in-Err-clause-goes : goal.returns-in-Err-clause-goes
 returns-in-Err-clause-goes g c =
     let s = c.reads.giver in
     let here = known c.give_frames.new.self.seat in
-    let on = c.give_frames.ensures.goes s (refl, refl, works_self (IsReadOf s.pin) (worker (known s.seat) s.refused)) in
+    let on = c.give_frames.ensures.goes s (refl, refl, reads_self s.pin (worker (known s.seat) s.refused)) (omega arith)
+    (omega arith) in
     let goes = subst (λ (pin : ℕ). Onward (IsReadOf pin) (known s.seat) here) c.reads.invariant.pin on.2.onward in
     subst (Onward (IsReadOf c.args.pin) (known c.args.seat)) (sym c.into_seat-in-Err.ensures.seat)
     (onward_on (IsReadOf c.args.pin) (known c.args.seat) (known s.seat) here c.reads.invariant.goes goes)
@@ -58,7 +62,8 @@ reads-preserved g c =
     let inv = c.reads.invariant in
     let here = known c.give_frames.new.self.seat in
     let out = c.give_frames.new.out in
-    let on = c.give_frames.ensures.goes s (refl, refl, works_self (IsReadOf s.pin) (worker (known s.seat) s.refused)) in
+    let on = c.give_frames.ensures.goes s (refl, refl, reads_self s.pin (worker (known s.seat) s.refused)) (omega arith)
+    (omega arith) in
     let more = subst (λ (pin : ℕ). Onward (IsReadOf pin) (known s.seat) here) inv.pin on.2.onward in
     let shows : List Frame → Type 0 =
     IsMixOf (origin g.S.Store g.V.Vault (start_at s.desk.now)) (known s.seat).seen s.pin in
@@ -74,3 +79,6 @@ reads-preserved g c =
           let spare : length c.args.mix.now < 8 = omega (arith, c.told-mix) in
           all_read all out c.args.mix.now c.in-Ok.count 8 spare is (given all (inv.shows all h));
     }
+
+pub returns-clause-done : goal.returns-clause-done
+returns-clause-done g c = λ done some. c.reads.invariant.read (omega (arith, some, c.reads-test.false))

@@ -2,7 +2,7 @@
 use Rattle.std.proofs.Common.{refl, arith}
 use Rattle.pin_turn.specs.Calls.{known}
 use Rattle.studio_seats.proofs.OnwardLemmas.{onward_on, onward_self, onward_turn}
-use Rattle.seat_examples.specs.Jobs.{IsFullReclaim}
+use Rattle.studio_seats.specs.Freeing.{IsFullReclaim}
 use Rattle.seat_examples.proofs.CallLemmas.{done_ok, one_turn}
 use Rattle.seat_examples.proofs.jobs.reclaim.Goals as goal
 

@@ -1,11 +1,12 @@
 -- One piece more.
-use Rattle.std.proofs.Common.{◌≡◌, ◌∙◌, ℕ, [], ◌∷◌, refl, sym, ap, subst, arith, length, length-append}
+use Rattle.std.proofs.Common.{◌≡◌, ◌∙◌, ℕ, false, [], ◌∷◌, refl, ap, subst, arith, length, length-append}
 use Rattle.pin_turn.specs.Calls.{known}
 use Rattle.studio_seats.specs.Desks.{IsAt, start_at}
-use Rattle.studio_seats.specs.Onward.{IsPieceOf, Onward, worker}
+use Rattle.studio_seats.specs.Onward.{Onward}
 use Rattle.studio_seats.specs.Pieces.{pieces_by}
+use Rattle.studio_seats.specs.Recording.{RecorderAsks, recorder}
 use Rattle.studio_seats.proofs.OnwardLemmas.{onward_on}
-use Rattle.studio_seats.proofs.WorkLemmas.{works_self}
+use Rattle.studio_seats.proofs.RecordingLemmas.{pieces_free, records_free, records_self}
 use Rattle.seat_examples.specs.Jobs.{piece_count}
 use Rattle.seat_examples.proofs.CallLemmas.{told_ok}
 use Rattle.seat_examples.proofs.jobs.record.Goals as goal
@@ -13,30 +14,58 @@ use Rattle.seat_examples.proofs.jobs.record.Goals as goal
 pub returns-in-Err-clause-same : goal.returns-in-Err-clause-same
 returns-in-Err-clause-same g c =
     let s = c.pieces.taker in
-    let on = c.take_piece.ensures.goes s (refl, refl, refl, works_self (IsPieceOf s.track s.tag) (worker (known s.seat) s.refused)) in
-    subst (λ (d : _). IsAt d c.into_seat.result) (on.0 ∙ c.pieces.invariant.desk) c.into_seat.ensures.at
+    let a = recorder (known s.seat) s.refused s.since in
+    let on = c.take_piece.ensures.goes s (refl, refl, refl, records_self s.track s.tag a) in
+    subst (λ (d : _). IsAt d c.finish.result) (on.0 ∙ c.pieces.invariant.desk) c.finish.ensures.at
 
 pub returns-in-Err-clause-goes : goal.returns-in-Err-clause-goes
 returns-in-Err-clause-goes g c =
     let s = c.pieces.taker in
     let inv = c.pieces.invariant in
-    let pieces = IsPieceOf c.args.track c.args.tag in
-    let here = known c.take_piece.new.self.seat in
-    let on = c.take_piece.ensures.goes s (refl, refl, refl, works_self (IsPieceOf s.track s.tag) (worker (known s.seat) s.refused)) in
-    let named : ℕ × ℕ → Type 0 = λ z. Onward (IsPieceOf z.0 z.1) (known s.seat) here in
-    let more = subst named (λ i. (inv.track i, inv.tag i)) on.3.onward in
-    subst (Onward pieces (known c.args.seat)) (sym c.into_seat.ensures.seat)
-    (onward_on pieces (known c.args.seat) (known s.seat) here inv.goes more)
+    let pieces = RecorderAsks c.args.track c.args.tag in
+    let t = c.take_piece.new.self in
+    let a = recorder (known s.seat) s.refused s.since in
+    let on = c.take_piece.ensures.goes s (refl, refl, refl, records_self s.track s.tag a) in
+    let here = known c.finish.result in
+    let freed = records_free s.track s.tag (known t.seat) here _ a t.refused t.since on.3 0 c.finish.ensures.frees in
+    let named : ℕ × ℕ → Type 0 = λ z. Onward (RecorderAsks z.0 z.1) (known s.seat) here in
+    let more = subst named (λ i. (inv.track i, inv.tag i)) freed.onward in
+    onward_on pieces (known c.args.seat) (known s.seat) here inv.goes more
+
+pub returns-clause-goes : goal.returns-clause-goes
+returns-clause-goes g c =
+    let s = c.pieces.taker in
+    let inv = c.pieces.invariant in
+    let pieces = RecorderAsks c.args.track c.args.tag in
+    let a = recorder (known s.seat) s.refused s.since in
+    let here = known c.finish-2.result in
+    let freed = records_free s.track s.tag (known s.seat) here false a s.refused s.since
+    (records_self s.track s.tag a) 0 c.finish-2.ensures.frees in
+    let named : ℕ × ℕ → Type 0 = λ z. Onward (RecorderAsks z.0 z.1) (known s.seat) here in
+    let more = subst named (λ i. (inv.track i, inv.tag i)) freed.onward in
+    onward_on pieces (known c.args.seat) (known s.seat) here inv.goes more
+
+pub returns-clause-done : goal.returns-clause-done
+returns-clause-done g c = λ is.
+    let s = c.pieces.taker in
+    let first = (start_at c.args.desk.now).commit_number in
+    let same = ap length (pieces_free c.args.track c.args.tag (known s.seat) (known c.finish-2.result) s.since 0 first
+    c.finish-2.ensures.frees) in
+    let was = c.pieces.invariant.pieces in
+    let end = c.pieces.auto.number-end in
+    let test = c.pieces-test.false in
+    omega (arith, same, was, end, test)
 
 pub pieces-preserved : goal.pieces-preserved
 pieces-preserved g c =
     let s = c.pieces.taker in
     let inv = c.pieces.invariant in
-    let pieces = IsPieceOf c.args.track c.args.tag in
+    let pieces = RecorderAsks c.args.track c.args.tag in
     let there = known s.seat in
     let here = known c.take_piece.new.self.seat in
-    let on = c.take_piece.ensures.goes s (refl, refl, refl, works_self (IsPieceOf s.track s.tag) (worker there s.refused)) in
-    let named : ℕ × ℕ → Type 0 = λ z. Onward (IsPieceOf z.0 z.1) there here in
+    let a = recorder there s.refused s.since in
+    let on = c.take_piece.ensures.goes s (refl, refl, refl, records_self s.track s.tag a) in
+    let named : ℕ × ℕ → Type 0 = λ z. Onward (RecorderAsks z.0 z.1) there here in
     let more = subst named (λ i. (inv.track i, inv.tag i)) on.3.onward in
     let desk = on.0 ∙ inv.desk in
     let track = on.1 ∙ inv.track in

@@ -1,8 +1,9 @@
--- The taker's seat went on by pieces of the recording.
+-- The taker's seat went on by pieces of the recording and reclaims.
 use Rattle.std.proofs.Common.{◌≡◌, ◌+◌}
 use Rattle.pin_turn.specs.Calls.{known}
 use Rattle.studio_seats.specs.Desks.{start_at}
-use Rattle.studio_seats.specs.Onward.{IsPieceOf, Onward}
+use Rattle.studio_seats.specs.Onward.{Onward}
+use Rattle.studio_seats.specs.Recording.{RecorderAsks}
 use Rattle.seat_examples.specs.Jobs.{piece_count}
 use Rattle.seat_examples.proofs.jobs.record.Given as goal
 
@@ -11,7 +12,7 @@ invariant-pieces g l = record {
   desk : l.taker.desk.now ≡ l.desk;
   track : l.taker.track ≡ l.fn.track;
   tag : l.taker.tag ≡ l.fn.tag;
-  goes : Onward (IsPieceOf l.fn.track l.fn.tag) (known l.fn.seat) (known l.taker.seat);
+  goes : Onward (RecorderAsks l.fn.track l.fn.tag) (known l.fn.seat) (known l.taker.seat);
   pieces : piece_count l.fn.track l.fn.tag (start_at l.desk).commit_number (known l.taker.seat)
       ≡ piece_count l.fn.track l.fn.tag (start_at l.desk).commit_number (known l.fn.seat) + l.number;
 }

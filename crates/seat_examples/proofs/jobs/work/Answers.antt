@@ -10,6 +10,11 @@ use Rattle.seat_examples.specs.declared.jobs.Job.{Job}
 use Rattle.seat_examples.specs.Jobs.{asked, did}
 use Rattle.seat_examples.proofs.jobs.work.Goals as goal
 
+pub returns-in-Record-clause-goes : goal.returns-in-Record-clause-goes
+returns-in-Record-clause-goes g c =
+    let goes : Job → Type 0 = λ job. Onward (asked job) (known c.args.seat) (known c.record.result.0) in
+    subst goes (sym c.in-Record.is) c.record.ensures.goes
+
 pub returns-in-Play-clause-goes : goal.returns-in-Play-clause-goes
 returns-in-Play-clause-goes g c =
     let goes : Job → Type 0 = λ job. Onward (asked job) (known c.args.seat) (known c.play.result.0) in

@@ -23,6 +23,7 @@ returns g c =
           c.args.store
           c.status_with.result
           (tried_at _ c.tried_project.result (core_of c.in-Ok.studio) c.tried_project.ensures c.in-Ok.ensures)
+          c.deeds_ask.ensures
           done.ensures
           (subst (λ (n : ℕ). c.status_with.result ≡ (if nat_lt 0 n then 4 else done.result.status))
           (c.faults.ensures ∙ ap (λ (z : RamStore). fault_sum z.tally.read_faults z.tally.change_faults) done.ensures.1)

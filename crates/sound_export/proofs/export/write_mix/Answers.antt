@@ -11,6 +11,7 @@ use Rattle.cell_view.specs.Stored.{stored_of}
 use Rattle.wav_pcm.specs.Wavs.{wav_head}
 use Rattle.pcm_base.specs.Recordings.{frame_bytes}
 use Rattle.wav_pcm.specs.Written.{MayBegin}
+use Rattle.block_cache.proofs.CacheLaws.{keeps_same, same_none}
 use Rattle.mix_view.specs.Tracks.{mix_length_of}
 use Rattle.mix_view.proofs.TrackLaws.{stored_whole}
 use Rattle.wav_pcm.proofs.GrowLaws.{begun_more, begun_front}
@@ -97,3 +98,9 @@ returns-clause-written g c = λ told mine.
     c.in_ok-append_mix.ensures.appended still mine
     ∙ ap (λ o. Some (sound_bytes o ++ frame_bytes mix)) (c.in_ok-write_start.ensures.started told)
     ∙ ap Some (whole_text mix c.args.rate c.mix_len-len.result len)
+
+pub returns-then-len-clause-cache : goal.returns-then-len-clause-cache
+returns-then-len-clause-cache g c = keeps_same _ _ _ _ _ (same_none _)
+
+pub returns-in_err-write_start-clause-cache : goal.returns-in_err-write_start-clause-cache
+returns-in_err-write_start-clause-cache g c = keeps_same _ _ _ _ _ (same_none _)

@@ -8,10 +8,11 @@ use Rattle.disk_model.proofs.Frames.{kept_none, kept_turn}
 use Rattle.pcm_base.specs.declared.sound.Frame.{Frame}
 use Rattle.pcm_base.specs.Mix.{mix_of}
 use Rattle.edit_ports.specs.Sounds.{sound_bytes, MayHaveGrown}
-use Rattle.project_state.specs.Kept.{meant}
+use Rattle.project_state.specs.Kept.{meant, point_blocks}
 use Rattle.cell_view.specs.Stored.{stored_of}
 use Rattle.project_state.specs.declared.track.Track.{Track}
-use Rattle.mix_view.specs.Readers.{HasCompared}
+use Rattle.block_cache.specs.Caches.{KeepsCache}
+use Rattle.block_cache.proofs.CacheLaws.{cached_on, keeps_before, keeps_same, keeps_turn, same_none}
 use Rattle.mix_view.specs.Tracks.{mix_length_of, stored_mix}
 use Rattle.pcm_base.specs.Recordings.{frame_bytes}
 use Rattle.wav_pcm.proofs.GrowLaws.{held_more, held_failed}
@@ -23,7 +24,7 @@ stretches-init g c = record {
   within = omega (arith, c.new-reader.ensures.place);
   reader = c.new-reader.ensures.reader;
   point = c.new-reader.ensures.point;
-  compared = λ told. c.new-reader.ensures.compared (g.S.Store.reads c.args.store.now);
+  cache = keeps_same _ _ _ _ _ (same_none _);
   tells = refl;
   others = λ told other differs. refl;
   kept = kept_none _ (g.met.S.Store.may_fewer _);
@@ -56,9 +57,10 @@ stretches-preserved g c =
       within = omega (arith, inv.within, left, c.in_default.ensures.place, c.requires.len);
       reader = c.append_stretch.ensures.reader;
       point = c.append_stretch.ensures.point ∙ inv.point;
-      compared = λ mine.
-          subst (λ (f : Files). HasCompared f c.append_stretch.new.reader) inv.kept.same_reads
-          (c.append_stretch.ensures.compared (subst T (sym inv.kept.same_tells) mine));
+      cache = keeps_turn _ _ _ _ _ _ inv.cache (keeps_before c.args.store.now c.stretches.store _ _ _ inv.kept
+          (subst (λ (us : List Track). KeepsCache (g.S.Store.tells c.stretches.store) (g.S.Store.reads
+          c.stretches.store)
+          (point_blocks us) c.stretches.cache c.append_stretch.new.cache) inv.point c.append_stretch.ensures.cache));
       tells = c.append_stretch.ensures.tells ∙ inv.tells;
       others = λ told other differs. c.append_stretch.ensures.others (subst T (sym inv.tells) told) other differs
           ∙ inv.others told other differs;
@@ -105,3 +107,15 @@ returns-clause-appended g c = λ told mine.
     (omega (arith, length_mix (meant src c.args.point.now), c.requires.mix src)) in
     inv.held told mine ∙ ap (λ (fs : List Frame).
     Some (sound_bytes (g.V.Vault.holds c.args.vault.now c.args.name.now) ++ frame_bytes fs)) all
+
+pub append_stretch-requires-clause-cached : goal.append_stretch-requires-clause-cached
+append_stretch-requires-clause-cached g c =
+    cached_on c.args.store.now c.stretches.store _ c.args.cache.now c.stretches.cache c.stretches.invariant.kept
+    c.stretches.invariant.cache c.requires.cached
+
+pub returns-in-Err-clause-cache : goal.returns-in-Err-clause-cache
+returns-in-Err-clause-cache g c =
+    let inv = c.stretches.invariant in
+    keeps_turn _ _ _ _ _ _ inv.cache (keeps_before c.args.store.now c.stretches.store _ _ _ inv.kept
+    (subst (λ (us : List Track). KeepsCache (g.S.Store.tells c.stretches.store) (g.S.Store.reads c.stretches.store)
+    (point_blocks us) c.stretches.cache c.append_stretch.new.cache) inv.point c.append_stretch.ensures.cache))

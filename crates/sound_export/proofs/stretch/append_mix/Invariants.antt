@@ -4,7 +4,9 @@ use Rattle.std.specs.Prelude.{IsTrue}
 use Rattle.disk_model.specs.Frames.{Kept}
 use Rattle.pcm_base.specs.Outside.{SameElsewhere}
 use Rattle.edit_ports.specs.Sounds.{sound_bytes}
-use Rattle.mix_view.specs.Readers.{HasCompared, IsReader}
+use Rattle.block_cache.specs.Caches.{KeepsCache}
+use Rattle.project_state.specs.Kept.{point_blocks}
+use Rattle.mix_view.specs.Readers.{IsReader}
 use Rattle.mix_view.specs.Tracks.{stored_mix}
 use Rattle.pcm_base.specs.Recordings.{frame_bytes}
 use Rattle.sound_export.proofs.stretch.append_mix.Given as goal
@@ -14,7 +16,8 @@ invariant-stretches g l = record {
   within : l.reader.at ≤ l.len;
   reader : IsReader l.reader;
   point : l.reader.point.now ≡ l.point;
-  compared : IsTrue (g.S.Store.tells l.fn.store) → HasCompared (g.S.Store.reads l.fn.store) l.reader;
+  cache : KeepsCache (g.S.Store.tells l.fn.store) (g.S.Store.reads l.fn.store) (point_blocks l.point) l.fn.cache
+      l.cache;
   tells : g.V.Vault.tells l.vault ≡ g.V.Vault.tells l.fn.vault;
   others : IsTrue (g.V.Vault.tells l.fn.vault)
       → SameElsewhere l.name (g.V.Vault.holds l.fn.vault) (g.V.Vault.holds l.vault);

@@ -12,16 +12,15 @@ use Rattle.envelope_view.specs.Answers.{IsUndamaged}
 use Rattle.sound_import.specs.declared.fault.ImportFault.TheVariants.{NoMemory}
 use Rattle.editor_core.specs.Applied.{Lasts}
 use Rattle.editor_core.specs.Core.{core_of}
-use Rattle.editor_core.specs.Imports.{IsChannelsPlan, IsNoVault, NoChannelsPlan, all_of, channels_refusal, left_as}
+use Rattle.editor_core.specs.Imports.{IsChannelsPlan, IsNoVault, all_of, channels_refusal, left_as}
 use Rattle.editor_core.specs.Imports.{total_of}
 use Rattle.editor_core.specs.Points.{current_tracks}
 use Rattle.editor_core.specs.Took.{Took, told_by, with_sound}
 use Rattle.editor_core.proofs.Applying.{lasts_idle}
 use Rattle.editor_core.proofs.ChannelLaws.{all_length, channels_plain}
 use Rattle.editor_core.proofs.ChannelSteps.{channels_edit, channels_planned}
-use Rattle.editor_core.proofs.ChannelLaws.{channels_tell, no_plan_plain}
-use Rattle.editor_core.proofs.ChannelSteps.{channels_refused, channels_unplanned}
-use Rattle.editor_core.proofs.ChannelLaws.{no_plan_tells_both, placed}
+use Rattle.editor_core.proofs.ChannelLaws.{channels_tell, placed}
+use Rattle.editor_core.proofs.ChannelSteps.{channels_refused}
 use Rattle.editor_core.proofs.ImportRefused.{import_refused}
 use Rattle.editor_core.proofs.ImportTests.{channels_pass}
 use Rattle.editor_core.proofs.studio.Studio.add_channels.Goals as goal
@@ -105,46 +104,31 @@ returns-in_err-samples-clause-lasts g c = λ name sound.
 pub returns-in_err-planned-clause-took : goal.returns-in_err-planned-clause-took
 returns-in_err-planned-clause-took g c = λ name sound has.
     let s = core_of c.args.self.now in
-    let why = c.in_err-planned.field-0.0 in
-    let tracks = length (current_tracks s.history) in
-    let counts_are = c.in_ok-counts.ensures ∙ ap (map length) c.as_slice.ensures in
-    let pass = subst (λ (ns : List ℕ). channels_refusal tracks ns ≡ None) (c.as_slice-2.ensures.value ∙ counts_are)
-    (sym c.channels_refusal.ensures ∙ c.in_default.is) in
-    let unplanned = subst (λ (ns : List ℕ). NoChannelsPlan s ns why)
-    (c.as_slice-3.ensures.value ∙ counts_are) c.in_err-planned.ensures.err in
     let r = err_from_is_err_and c.from_residual-in_err-planned.result c.from_residual-in_err-planned.ensures.1 in
     subst (λ x. Took g.S.Store s
     (with_sound (Line (command.Import name)) (left_as sound) (told_by (λ (n : ℕ). reply.Done) x)) s)
-    (sym (r.1 ∙ ap Err r.2))
-    (channels_unplanned g.S.Store s c.requires.studio c.args.channels name sound has
-    (g.met.S.Store.may_fewer s.store) c.requires.going pass why unplanned)
+    (sym (r.1 ∙ ap Err (r.2 ∙ c.in_err-planned.ensures.err)))
+    (import_refused g.S.Store s c.requires.studio
+    (g.met.S.Store.may_fewer s.store) name sound c.requires.going NoMemory tt)
 
 pub returns-in_err-planned-clause-lasts : goal.returns-in_err-planned-clause-lasts
 returns-in_err-planned-clause-lasts g c = λ name sound.
     let s = core_of c.args.self.now in
     let r = err_from_is_err_and c.from_residual-in_err-planned.result c.from_residual-in_err-planned.ensures.1 in
     subst (λ x. Lasts g.S.Store s (with_sound (Line (command.Import name)) sound (told_by (λ (n : ℕ). reply.Done) x)) s)
-    (sym (r.1 ∙ ap Err r.2))
+    (sym (r.1 ∙ ap Err (r.2 ∙ c.in_err-planned.ensures.err)))
     (lasts_idle g.S.Store s c.requires.studio (g.met.S.Store.may_fewer s.store)
-    (Line (command.Import name)) tt sound c.in_err-planned.field-0.0
-    (no_plan_plain s c.as_slice-3.result.now c.in_err-planned.field-0.0
-    c.in_err-planned.ensures.err))
+    (Line (command.Import name)) tt sound refusal.NoMemory tt)
 
 pub returns-in_err-planned-clause-sound : goal.returns-in_err-planned-clause-sound
 returns-in_err-planned-clause-sound g c = λ held.
-    let s = core_of c.args.self.now in
     let r = err_from_is_err_and c.from_residual-in_err-planned.result c.from_residual-in_err-planned.ensures.1 in
-    subst (λ x. IfErr x IsUndamaged) (sym (r.1 ∙ ap Err r.2))
-    (no_plan_tells_both s c.as_slice-3.result.now c.in_err-planned.field-0.0
-    c.in_err-planned.ensures.err).0
+    subst (λ x. IfErr x IsUndamaged) (sym (r.1 ∙ ap Err (r.2 ∙ c.in_err-planned.ensures.err))) tt
 
 pub returns-in_err-planned-clause-device : goal.returns-in_err-planned-clause-device
 returns-in_err-planned-clause-device g c =
-    let s = core_of c.args.self.now in
     let r = err_from_is_err_and c.from_residual-in_err-planned.result c.from_residual-in_err-planned.ensures.1 in
-    subst (λ x. IfErr x IsNoVault) (sym (r.1 ∙ ap Err r.2))
-    (no_plan_tells_both s c.as_slice-3.result.now c.in_err-planned.field-0.0
-    c.in_err-planned.ensures.err).1
+    subst (λ x. IfErr x IsNoVault) (sym (r.1 ∙ ap Err (r.2 ∙ c.in_err-planned.ensures.err))) tt
 
 -- ---- they are added
 

@@ -1,4 +1,6 @@
 -- What the journal answers.
+use Rattle.std.proofs.Common.{refl}
+use Rattle.project_journal.specs.Header.{version_1}
 use Rattle.editor_core.specs.Core.{core_of}
 use Rattle.editor_core.proofs.Idle.{settled}
 use Rattle.editor_core.proofs.RowRoom.{no_want, undamaged_settle}
@@ -7,9 +9,10 @@ use Rattle.editor_core.proofs.studio.Studio.commit_written.Goals as goal
 pub returns-clause-record : goal.returns-clause-record
 returns-clause-record g c =
     let a = rw c.deref.ensures.value at c.append-added.ensures in
-    settled g.S.Store (core_of c.args.self.now) c.append-added.new.store c.args.self.now.body.items a.any_moment
-    a.changed a.read_faults c.requires.short
-    c.append-added.result c.settle.result _ a.answer a.cause a.rose a.done a.untouched c.settle.ensures.fields
+    settled g.S.Store (core_of c.args.self.now) c.append-added.new.store c.args.self.now.body.items
+    (λ log. a.any_moment version_1 log refl) a.changed a.read_faults c.requires.short
+    c.append-added.result c.settle.result _ a.answer a.cause a.rose (λ log. a.done version_1 log refl) a.untouched
+    c.settle.ensures.fields
 
 pub returns-clause-memory : goal.returns-clause-memory
 returns-clause-memory g c room =

@@ -16,6 +16,7 @@ use Rattle.mix_view.specs.Tracks.{mix_length_of}
 use Rattle.wav_pcm.specs.Written.{MayBegin}
 use Rattle.sound_export.specs.Written.{IsBlockFault}
 use Rattle.envelope_view.specs.Answers.{IsUndamaged}
+use Rattle.block_cache.specs.Caches.{KeepsCache}
 use Rattle.editor_core.specs.Applied.{Lasts}
 use Rattle.editor_core.specs.Core.{core_of}
 use Rattle.editor_core.specs.Exports.{moved_from}
@@ -27,6 +28,7 @@ use Rattle.editor_core.proofs.Currents.{current_may_read, current_named, current
 use Rattle.editor_core.proofs.Exporting.{export_failed, export_left, export_len, export_stopped, export_undamaged}
 use Rattle.editor_core.proofs.Exporting.{exported}
 use Rattle.editor_core.proofs.NamedDamage.{export_among}
+use Rattle.editor_core.proofs.StudioCache.{reads_among}
 use Rattle.editor_core.proofs.studio.Studio.export.Goals as goal
 
 pub returns-in-Some-clause-took : goal.returns-in-Some-clause-took
@@ -39,15 +41,23 @@ returns-in-Some-clause-took g c = λ told.
 pub returns-in-Some-clause-kept : goal.returns-in-Some-clause-kept
 returns-in-Some-clause-kept g c = kept_none c.args.self.now.store (g.met.S.Store.may_fewer c.args.self.now.store)
 
-pub write_stretches-requires : goal.write_stretches-requires
-write_stretches-requires g c =
+pub write_stretches-requires-clause-named : goal.write_stretches-requires-clause-named
+write_stretches-requires-clause-named g c =
     let s = core_of c.args.self.now in
     subst (λ (z : List Track). AllNamed (point_blocks z)) (sym c.current_of-point.ensures)
     (current_may_read g.S.Store s c.requires)
 
+pub write_stretches-requires-clause-cached : goal.write_stretches-requires-clause-cached
+write_stretches-requires-clause-cached g c = (c.requires.cache c.in_default.is).right
+
 pub returns-in_err-bytes-clause-took : goal.returns-in_err-bytes-clause-took
 returns-in_err-bytes-clause-took g c = λ told.
     let s = core_of c.args.self.now in
+    let cache = c.write_stretches.new.cache in
+    let keeps = reads_among g.S.Store s (point_blocks (current_tracks s.history)) cache
+    (current_named g.S.Store s c.requires)
+    (subst (λ (z : List Track). KeepsCache (g.S.Store.tells s.store) (g.S.Store.reads s.store) (point_blocks z) s.cache
+    cache) c.current_of-point.ensures c.write_stretches.ensures.cache) in
     let files = g.S.Store.reads s.store in
     let name = c.args.name.now in
     let was = g.V.Vault.holds c.args.vault.now name in
@@ -68,8 +78,8 @@ returns-in_err-bytes-clause-took g c = λ told.
     (c.in_err-bytes.ensures.written told held.tells (whole held)) in
     let long = ap mix_length_of same ∙ export_len g.S.Store s c.requires name sound in
     subst (λ r. Took g.S.Store s (with_sound call sound (told_by reply.Wrote r))
-    (record s { store = c.write_stretches.new.store })) (sym (p.1 ∙ ap Err p.2))
-    (export_failed g.S.Store s c.requires name sound c.in_default.is c.write_stretches.new.store kept why
+    (record s { store = c.write_stretches.new.store; cache = cache })) (sym (p.1 ∙ ap Err p.2))
+    (export_failed g.S.Store s c.requires name sound c.in_default.is c.write_stretches.new.store kept cache keeps why
     (mix_length_of point)
     (g.V.Vault.fault_count c.args.vault.now) (g.V.Vault.fault_count c.write_stretches.new.vault) long
     c.in_err-bytes.ensures.fits c.in_err-bytes.ensures.faults
@@ -92,6 +102,11 @@ returns-in_err-bytes-clause-sound g c = λ held.
 pub returns-clause-took : goal.returns-clause-took
 returns-clause-took g c = λ told.
     let s = core_of c.args.self.now in
+    let cache = c.write_stretches.new.cache in
+    let keeps = reads_among g.S.Store s (point_blocks (current_tracks s.history)) cache
+    (current_named g.S.Store s c.requires)
+    (subst (λ (z : List Track). KeepsCache (g.S.Store.tells s.store) (g.S.Store.reads s.store) (point_blocks z) s.cache
+    cache) c.current_of-point.ensures c.write_stretches.ensures.cache) in
     let files = g.S.Store.reads s.store in
     let name = c.args.name.now in
     let was = g.V.Vault.holds c.args.vault.now name in
@@ -104,7 +119,8 @@ returns-clause-took g c = λ told.
     λ held. subst (λ (z : List Track). AllWhole files (point_blocks z)) (sym same)
     (current_whole g.S.Store s c.requires held) in
     let long = ap mix_length_of same ∙ export_len g.S.Store s c.requires name sound in
-    exported g.S.Store s c.requires name sound c.in_default.is c.write_stretches.new.store fine.kept c.in_ok-bytes.bytes
+    exported g.S.Store s c.requires name sound c.in_default.is c.write_stretches.new.store fine.kept cache keeps
+    c.in_ok-bytes.bytes
     (mix_length_of point) long fine.fits fine.len fine.faults.0
     (λ held. fine.written told held.tells (whole held)
     ∙ ap (λ (z : List Track). Some (wav_text (mix_of (meant (sources_of files) z)) s.rate)) same)
@@ -117,17 +133,22 @@ returns-in-Some-clause-lasts g c = λ sound.
 pub returns-in_err-bytes-clause-lasts : goal.returns-in_err-bytes-clause-lasts
 returns-in_err-bytes-clause-lasts g c = λ sound.
     let s = core_of c.args.self.now in
+    let cache = c.write_stretches.new.cache in
+    let keeps = reads_among g.S.Store s (point_blocks (current_tracks s.history)) cache
+    (current_named g.S.Store s c.requires)
+    (subst (λ (z : List Track). KeepsCache (g.S.Store.tells s.store) (g.S.Store.reads s.store) (point_blocks z) s.cache
+    cache) c.current_of-point.ensures c.write_stretches.ensures.cache) in
     let files = g.S.Store.reads s.store in
     let call = Line (command.Export c.args.name.now) in
     let why = c.in_err-bytes.field-0.0 in
     let p = err_from_is_err_and c.from_residual.result c.from_residual.ensures.1 in
     subst (λ r. Lasts g.S.Store s (with_sound call sound (told_by reply.Wrote r))
-    (record s { store = c.write_stretches.new.store }))
+    (record s { store = c.write_stretches.new.store; cache = cache }))
     (sym (p.1 ∙ ap Err p.2))
     (lasts_looked g.S.Store s c.requires call tt sound c.in_default.is c.write_stretches.new.store
-    c.in_err-bytes.ensures.kept (Err _) refl
+    c.in_err-bytes.ensures.kept cache keeps (Err _) refl
     (export_left g.S.Store s c.requires c.args.name.now silent c.in_default.is c.write_stretches.new.store
-    c.in_err-bytes.ensures.kept why
+    c.in_err-bytes.ensures.kept cache keeps why
     (g.V.Vault.fault_count c.args.vault.now)
     (g.V.Vault.fault_count c.write_stretches.new.vault) c.in_err-bytes.ensures.faults
     (λ told.
@@ -139,7 +160,12 @@ returns-in_err-bytes-clause-lasts g c = λ sound.
 pub returns-clause-lasts : goal.returns-clause-lasts
 returns-clause-lasts g c = λ sound.
     let s = core_of c.args.self.now in
+    let cache = c.write_stretches.new.cache in
+    let keeps = reads_among g.S.Store s (point_blocks (current_tracks s.history)) cache
+    (current_named g.S.Store s c.requires)
+    (subst (λ (z : List Track). KeepsCache (g.S.Store.tells s.store) (g.S.Store.reads s.store) (point_blocks z) s.cache
+    cache) c.current_of-point.ensures c.write_stretches.ensures.cache) in
     let same : s.commit_number ≡ s.commit_number + 0 = omega arith in
     lasts_looked g.S.Store s c.requires
     (Line (command.Export c.args.name.now)) tt sound c.in_default.is c.write_stretches.new.store c.in_ok-bytes.ensures.kept
-    (Ok (reply.Wrote c.in_ok-bytes.bytes)) same tt
+    cache keeps (Ok (reply.Wrote c.in_ok-bytes.bytes)) same tt

@@ -1,14 +1,12 @@
 -- A track more for each channel.
-use Rattle.std.proofs.Common.{◌≡◌, ◌∙◌, refl, sym, ap, subst, ℕ, ◌+◌, List, length, take, slice_index_or, arith, Err}
-use Rattle.std.specs.Prelude.{IfErr}
+use Rattle.std.proofs.Common.{◌≡◌, ◌∙◌, refl, sym, subst, ℕ, ◌+◌, List, length, take, slice_index_or, arith}
 use Rattle.std.proofs.lemmas.List.{length-take, take_all}
-use Rattle.std.proofs.lemmas.Result.{err_from_is_err_and}
 use Rattle.editor_core.specs.Core.{core_of}
-use Rattle.editor_core.specs.Imports.{AddsChannel, AreGrown, NoChannelsPlan}
+use Rattle.editor_core.specs.Imports.{AddsChannel, AreGrown}
 use Rattle.editor_core.specs.Points.{current_tracks}
 use Rattle.editor_core.proofs.Editing.{current_below}
 use Rattle.editor_core.proofs.Importing.{grown_more, grown_none}
-use Rattle.editor_core.proofs.ImportTests.{all_grown, brought_few, channels_pass, grown_below, ids_spent, short_at}
+use Rattle.editor_core.proofs.ImportTests.{all_grown, brought_few, channels_pass, grown_below, ids_count, short_at}
 use Rattle.editor_core.proofs.ImportTests.{take_more}
 use Rattle.editor_core.proofs.studio.Studio.planned_channels.Goals as goal
 
@@ -21,15 +19,12 @@ channels-init g c =
       next_id = omega arith;
     }
 
-pub returns-in_err-ids_left-clause-err : goal.returns-in_err-ids_left-clause-err
-returns-in_err-ids_left-clause-err g c =
+pub add_channel-requires-clause-room : goal.add_channel-requires-clause-room
+add_channel-requires-clause-room g c =
     let s = core_of c.args.self.now in
-    let p = err_from_is_err_and c.from_residual-in_err-ids_left.result c.from_residual-in_err-ids_left.ensures.1 in
     let pass = channels_pass (length (current_tracks s.history)) c.args.counts.now c.requires.tests in
-    subst (λ r. IfErr r (NoChannelsPlan s c.args.counts.now))
-    (sym (p.1 ∙ ap Err (p.2 ∙ c.in_err-ids_left.ensures.0)))
-    (ids_spent s c.args.counts.now c.channels.count-index c.channels.growing c.channels.invariant.grown pass.1
-    (omega (arith, c.requires.studio.format.block_least)) c.in_err-ids_left.ensures.1)
+    ids_count s c.args.counts.now c.channels.count-index c.channels.growing c.channels.invariant.grown pass.1
+    c.requires.studio.counters.block_most (omega (arith, pass.0))
 
 pub add_channel-requires-clause-few : goal.add_channel-requires-clause-few
 add_channel-requires-clause-few g c =

@@ -1,12 +1,13 @@
 -- The files that went, and the answer.
-use Rattle.std.proofs.Common.{◌≡◌, inr, ◌∙◌, refl, sym, ap, subst, ℕ, [], ◌∷◌, ◌++◌, length, Err, Ok, arith}
-use Rattle.std.proofs.lemmas.Result.{err_from_is_err_and}
-use Rattle.editor_core.specs.Core.{core_of}
+use Rattle.std.proofs.Common.{◌≡◌, ◌∙◌, sym, ap, subst, Some, Err, Ok}
+use Rattle.pcm_base.specs.Studio.{fault_sum}
+use Rattle.pcm_base.specs.declared.refusal.Refusal.TheVariants as refusal
+use Rattle.editor_core.specs.Core.{Core, core_of}
 use Rattle.editor_core.specs.Frees.{Reclaims}
-use Rattle.editor_core.proofs.Gone.{long}
-use Rattle.editor_core.proofs.Reclaiming.{freeing_none, freeing_more}
-use Rattle.editor_core.proofs.Reclaimed.{reclaimed, reclaim_fails, reclaim_stopped}
-use Rattle.editor_core.proofs.ReclaimLimits.{within, all_of}
+use Rattle.editor_core.specs.Passes.{DropsFirst}
+use Rattle.editor_core.proofs.ForgettingFirst.{forgotten}
+use Rattle.editor_core.proofs.ReclaimFails.{reclaim_fails}
+use Rattle.editor_core.proofs.Reclaimed.{reclaim_stopped, reclaimed}
 use Rattle.editor_core.proofs.studio.Studio.reclaim.Goals as goal
 
 pub returns-in-Some : goal.returns-in-Some
@@ -14,52 +15,37 @@ returns-in-Some g c =
     let s = core_of c.args.self.now in
     reclaim_stopped g.S.Store s c.args.limit c.in-Some.faults c.in-Some.is c.requires (g.met.S.Store.may_fewer s.store)
 
-pub loop-freed-init : goal.loop-freed-init
-loop-freed-init g c =
+pub returns-in-Ok : goal.returns-in-Ok
+returns-in-Ok g c =
     let s = core_of c.args.self.now in
-    ([], refl, freeing_none g.S.Store s c.in_default.is c.requires (g.met.S.Store.may_fewer s.store))
+    let mid = core_of c.drop_first-count.new.self in
+    let new = core_of c.forget_first.new.self in
+    let most = c.unwrap_or.result in
+    let count = c.drop_first-count.result.0 in
+    let drops = subst (λ r. DropsFirst g.S.Store s most count r mid) c.in-Ok.is c.drop_first-count.ensures in
+    let was = drops.removes in
+    let at : new ≡ record s { store = mid.store; cache = mid.cache; counts = new.counts } =
+    c.forget_first.ensures.fields ∙ (λ i. record (was.fields i) { counts = new.counts }) in
+    subst (Reclaims g.S.Store s c.args.limit (Ok count)) (sym at)
+    (reclaimed g.S.Store s c.args.limit c.in-Ok.field-0 most c.requires c.in_default.is mid new.counts
+    c.unwrap_or.ensures count drops
+    (forgotten s mid new was.ids was.end count was.next was.len was.fields c.forget_first.ensures))
 
-pub returns-in_default-first_free : goal.returns-in_default-first_free
-returns-in_default-first_free g c =
+pub returns-in-Err : goal.returns-in-Err
+returns-in-Err g c =
     let s = core_of c.args.self.now in
-    let is = c.loop-freed.invariant in
-    let few = within c.args.limit c.loop-freed.freed (length is.0) c.unwrap_or-most.result is.1 c.unwrap_or-most.ensures
-    (omega (arith, c.loop-freed-test.true)) in
-    subst (λ (n : ℕ). Reclaims g.S.Store s c.args.limit (Ok n) (core_of c.loop-freed.self)) is.1
-    (reclaimed g.S.Store s c.args.limit is.0 (core_of c.loop-freed.self) is.2 few
-    (inr c.in_default-first_free.ensures.none))
-
-pub returns-in_err-drop_unnamed : goal.returns-in_err-drop_unnamed
-returns-in_err-drop_unnamed g c =
-    let e = err_from_is_err_and c.from_residual.result c.from_residual.ensures.1 in
-    let s = core_of c.args.self.now in
-    let is = c.loop-freed.invariant in
-    let few = within c.args.limit c.loop-freed.freed (length is.0) c.unwrap_or-most.result is.1 c.unwrap_or-most.ensures
-    (omega (arith, c.loop-freed-test.true)) in
-    subst (λ r. Reclaims g.S.Store s c.args.limit r (core_of c.drop_unnamed.new.self)) (sym (e.1 ∙ ap Err e.2))
-    (reclaim_fails g.S.Store s c.args.limit is.0 (core_of c.loop-freed.self) (core_of c.drop_unnamed.new.self)
-    c.in-Some-first_free.id c.in_err-drop_unnamed.field-0.0 is.2 c.in-Some-first_free.ensures.found
-    c.in_err-drop_unnamed.ensures few)
-
-pub loop-freed-preserved : goal.loop-freed-preserved
-loop-freed-preserved g c =
-    let s = core_of c.args.self.now in
-    let is = c.loop-freed.invariant in
-    let id = c.in-Some-first_free.id in (
-      is.0 ++ id ∷ [],
-      omega (arith, long is.0 id, is.1),
-      freeing_more g.S.Store c.in_ok-drop_unnamed.field-0 s (core_of c.loop-freed.self) (core_of
-          c.drop_unnamed.new.self) is.0 id is.2 c.in-Some-first_free.ensures.found c.in_ok-drop_unnamed.ensures,
-    )
-
-pub returns : goal.returns
-returns g c =
-    let s = core_of c.args.self.now in
-    let is = c.loop-freed.invariant in
-    let most = c.unwrap_or-most.result in
-    let full : c.loop-freed.freed ≡ most = omega (arith, c.loop-freed-test.false, c.loop-freed.auto.freed-end) in
-    let few =
-    within c.args.limit c.loop-freed.freed (length is.0) most is.1 c.unwrap_or-most.ensures (omega (arith, full)) in
-    subst (λ (n : ℕ). Reclaims g.S.Store s c.args.limit (Ok n) (core_of c.loop-freed.self)) (is.1 ∙ full)
-    (reclaimed g.S.Store s c.args.limit is.0 (core_of c.loop-freed.self) is.2 few
-    (all_of g.S.Store s (core_of c.loop-freed.self) c.args.limit is.0 most is.2 (is.1 ∙ full) c.unwrap_or-most.ensures))
+    let mid = core_of c.drop_first-count.new.self in
+    let new = core_of c.forget_first.new.self in
+    let most = c.unwrap_or.result in
+    let count = c.drop_first-count.result.0 in
+    let drops = subst (λ r. DropsFirst g.S.Store s most count r mid) c.in-Err.is c.drop_first-count.ensures in
+    let was = drops.removes in
+    let kept = c.forget_first.ensures.fields in
+    let at : new ≡ record s { store = mid.store; cache = mid.cache; counts = new.counts } =
+    kept ∙ (λ i. record (was.fields i) { counts = new.counts }) in
+    let halt = c.faults.ensures ∙ ap (λ (z : Core g.row.S.Denot).
+    fault_sum (g.S.Store.read_fault_count z.store) (g.S.Store.change_fault_count z.store)) kept in
+    subst (Reclaims g.S.Store s c.args.limit (Err refusal.DiskFault)) (sym (λ i. record (at i) { stopped = Some (halt i) }))
+    (reclaim_fails g.S.Store s c.args.limit c.in-Err.field-0 most c.requires c.in_default.is mid new.counts
+    c.unwrap_or.ensures count was
+    (forgotten s mid new was.ids was.end count was.next was.len was.fields c.forget_first.ensures))

@@ -33,7 +33,7 @@ returns-in-Ok-clause-turn g c =
     (g.V.Vault.fault_count s.vault.now) (g.V.Vault.fault_count c.apply-at.new.vault)
     c.apply-at.new.answer.reply c.apply-at.result s.last s.commits.items c.note.new.numbers.items c.in-Ok.is
     c.apply-at.ensures.says s.low
-    (c.note.ensures ∙ (λ i. with_number (c.is_commit.ensures c.apply-at.new.answer.reply i) (c.reserve.ensures.items i)
+    (c.note.ensures ∙ (λ i. with_number (c.is_commit.ensures i) (c.reserve.ensures.items i)
     c.apply-at.result.at)) c.apply-at.ensures.heard c.apply-at.ensures.faults
     (λ none. ap g.V.Vault.fault_count (c.apply-at.ensures.untouched none)))
 

@@ -1,12 +1,12 @@
 -- A read is one turn of the seat.
-use Rattle.std.proofs.Common.{ℕ, length, take, ap}
-use Rattle.pcm_base.specs.declared.answer.Reply.TheVariants.{Frames}
-use Rattle.pcm_base.specs.declared.command.Call.TheVariants.{ReadPin}
+use Rattle.std.proofs.Common.{ℕ, length, subst, sym}
+use Rattle.edit_ports.specs.Answers.{NextAt, after_read}
 use Rattle.pin_turn.specs.Calls.{known}
 use Rattle.studio_seats.specs.Desks.{start_at}
-use Rattle.studio_seats.specs.Onward.{IsReadOf, worker}
+use Rattle.studio_seats.specs.Onward.{worker}
+use Rattle.studio_seats.specs.Reads.{ReadsOn}
 use Rattle.studio_seats.proofs.FrameLemmas.{back_frames, gives, same_frames, still_made}
-use Rattle.studio_seats.proofs.WorkLemmas.{works_turn}
+use Rattle.studio_seats.proofs.ReadLemmas.{reads_turn}
 use Rattle.studio_seats.proofs.giver.DeskGiverFrameGiver.give_frames.Goals as goal
 
 pub invariant_of-self : goal.invariant_of-self
@@ -35,17 +35,17 @@ returns-clause-same g c = λ all.
     )
 
 pub returns-clause-goes : goal.returns-clause-goes
-returns-clause-goes g c = λ first h.
-    let s = c.args.self.now in (
+returns-clause-goes g c = λ first h some few.
+    let s = c.args.self.now in
+    let v = worker (known first.seat) first.refused in (
       h.0,
       h.1,
-      works_turn (IsReadOf first.pin) g.S.Store g.V.Vault (start_at s.desk.now)
-          (worker (known first.seat) first.refused) (known s.seat) (known c.read_pin-said.new.seat) s.refused
-          c.first_of-self.result (ReadPin s.pin c.args.from (length c.args.out.now))
-          (λ (n : ℕ). Frames (take n c.read_pin-said.new.out)) (
-            c.args.from,
-            length c.args.out.now,
-            ap (λ (n : ℕ). ReadPin n c.args.from (length c.args.out.now)) h.1,
-          ) h.2 c.read_pin-said.result c.read_pin-said.ensures.says c.first_of-self.ensures.unrefused
-          c.first_of-self.ensures.refusal,
+      subst (λ (pin : ℕ). ReadsOn pin (after_read c.args.from (length c.args.out.now) c.read_pin-said.result.what) v
+          (worker (known c.read_pin-said.new.seat) c.first_of-self.result)) h.1
+          (reads_turn s.pin c.args.from g.S.Store g.V.Vault (start_at s.desk.now) v (known s.seat)
+          (known c.read_pin-said.new.seat) s.refused c.first_of-self.result c.args.out.now c.read_pin-said.new.out
+          (some, few) c.read_pin-said.auto.out
+          (subst (λ (pin : ℕ). ReadsOn pin (NextAt c.args.from) v (worker (known s.seat) s.refused)) (sym h.1) h.2)
+          c.read_pin-said.result c.read_pin-said.ensures.says c.read_pin-said.ensures.bound
+          c.first_of-self.ensures.unrefused c.first_of-self.ensures.refusal),
     )

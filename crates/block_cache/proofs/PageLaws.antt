@@ -1,0 +1,162 @@
+-- What stands on a page, and a part of it.
+use Rattle.std.proofs.Common.{◌≡◌, ℕ, ◌+◌, ◌*◌, ◌-◌, ◌/◌, ◌%◌, ◌≤◌, ℤ, List, length, length-drop, take, drop, refl, sym}
+use Rattle.std.proofs.Common.{ap, ◌∙◌, subst, arith, min}
+use Rattle.std.specs.Int.{w16, cast_signed}
+use Rattle.std.proofs.lemmas.List.{get_or-drop, get_or-take, length-take, same_lists}
+use Rattle.std.proofs.lemmas.List.FromFn.{get_or-map-range_with_len}
+use Rattle.disk_model.specs.Disk.{Files, bytes_of}
+use Rattle.pcm_base.specs.declared.block.BlockRef.{BlockRef}
+use Rattle.peak_summary.specs.declared.stretch.Summary.{Summary}
+use Rattle.sample_block.specs.Faults.{number_at, samples_in}
+use Rattle.sample_block.proofs.Laws.{get_samples, length_samples}
+use Rattle.block_store.specs.declared.frames.Level.{Level}
+use Rattle.block_store.specs.declared.frames.Level.TheVariants.{Short, Long}
+use Rattle.peak_summary.specs.Peaks.{frame_count}
+use Rattle.block_store.specs.Reads.{HasHeader, frame_len, level_place, stored_frame, stored_frames}
+use Rattle.block_store.proofs.FrameLaws.{length_stored}
+use Rattle.block_cache.specs.declared.keys.PageKey.{PageKey}
+use Rattle.block_cache.specs.Pages.{IsFramePage, IsSamplePage, frame_key, page_end, page_len, sample_key}
+
+samples_cut : (bytes : List ℕ) (at m skip n : ℕ) → skip + n ≤ m
+    → take n (drop skip (samples_in bytes at m)) ≡ samples_in bytes (at + 2 * skip) n
+samples_cut bytes at m skip n le =
+    let size = length-take n (drop skip (samples_in bytes at m)) in
+    let rest = length-drop skip (samples_in bytes at m) in
+    let all = length_samples bytes at m in
+    let mine = length_samples bytes (at + 2 * skip) n in
+    same_lists (take n (drop skip (samples_in bytes at m))) (samples_in bytes (at + 2 * skip) n)
+    (omega (arith, size, rest, all, mine)) (λ k d lt.
+    get_or-take n (drop skip (samples_in bytes at m)) k d (omega arith)
+    ∙ get_or-drop skip (samples_in bytes at m) k d
+    ∙ get_samples bytes at m (skip + k) d (omega arith)
+    ∙ ap (λ (m : ℕ). cast_signed w16 (number_at bytes m 2)) (omega arith)
+    ∙ sym (get_samples bytes (at + 2 * skip) n k d (omega arith)))
+
+-- samples of a page that is right are those of the file
+pub page_samples : (files : Files) (k : PageKey) (b : BlockRef) (from n : ℕ) (xs out : List ℤ)
+    → k ≡ sample_key b (from / 4096) → IsSamplePage files k xs → from % 4096 + n ≤ length xs
+    → out ≡ take n (drop (from % 4096) xs)
+    → out ≡ samples_in (bytes_of (files b.id)) (16 + 2 * from) n
+page_samples files k b from n xs out key page le got =
+    let right : IsSamplePage files (sample_key b (from / 4096)) xs = subst (λ (j : PageKey). IsSamplePage files j xs)
+    key page in
+    let bytes : List ℕ = bytes_of (files b.id) in
+    got ∙ ap (λ (ys : List ℤ). take n (drop (from % 4096) ys)) right.samples
+    ∙ samples_cut bytes (16 + 2 * (4096 * (from / 4096))) (length xs) (from % 4096) n le
+    ∙ ap (λ (m : ℕ). samples_in bytes m n) (omega arith)
+
+pub page_header : (files : Files) (k : PageKey) (b : BlockRef) (page : ℕ) (xs : List ℤ)
+    → k ≡ sample_key b page → IsSamplePage files k xs → HasHeader b.id b.len (bytes_of (files b.id))
+page_header files k b page xs key right =
+    subst (λ (j : PageKey). HasHeader j.id j.len (bytes_of (files j.id))) key right.header
+
+-- what was read of a page is right
+pub page_read : (was now : Files) (b : BlockRef) (page start n : ℕ) (xs : List ℤ) → now ≡ was → start ≡ 4096 * page
+    → HasHeader b.id b.len (bytes_of (was b.id)) → 16 + 2 * (start + n) ≤ length (bytes_of (now b.id))
+    → xs ≡ samples_in (bytes_of (now b.id)) (16 + 2 * start) n
+    → IsSamplePage was (sample_key b page) xs
+page_read was now b page start n xs same place header whole got =
+    let bytes : bytes_of (now b.id) ≡ bytes_of (was b.id) = ap (λ (f : Files). bytes_of (f b.id)) same in
+    let size : length xs ≡ n = ap length got ∙ length_samples (bytes_of (now b.id)) (16 + 2 * start) n in
+    let there : 16 + 2 * (start + n) ≤ length (bytes_of (was b.id)) =
+    subst (λ (ys : List ℕ). 16 + 2 * (start + n) ≤ length ys) bytes whole in record {
+      header = header;
+      whole = omega (arith, there, size, place);
+      samples = got ∙ ap (λ (ys : List ℕ). samples_in ys (16 + 2 * start) n) bytes
+          ∙ ap (λ (m : ℕ). samples_in (bytes_of (was b.id)) (16 + 2 * m) n) place
+          ∙ ap (samples_in (bytes_of (was b.id)) (16 + 2 * (4096 * page))) (sym size);
+    }
+
+-- and a part of it
+pub part_read : (was now : Files) (id start from skip n m : ℕ) (xs out : List ℤ) → now ≡ was
+    → start + skip ≡ from → skip + n ≤ m
+    → xs ≡ samples_in (bytes_of (now id)) (16 + 2 * start) m
+    → out ≡ take (skip + n - skip) (drop skip xs)
+    → out ≡ samples_in (bytes_of (was id)) (16 + 2 * from) n
+part_read was now id start from skip n m xs out same place le read got =
+    let size : skip + n - skip ≡ n = omega arith in
+    got ∙ ap (λ (k : ℕ). take k (drop skip xs)) size
+    ∙ ap (λ (ys : List ℤ). take n (drop skip ys)) read
+    ∙ samples_cut (bytes_of (now id)) (16 + 2 * start) m skip n le
+    ∙ ap (λ (f : Files). samples_in (bytes_of (f id)) (16 + 2 * start + 2 * skip) n) same
+    ∙ ap (λ (k : ℕ). samples_in (bytes_of (was id)) k n) (omega arith)
+
+-- ---- frames
+
+frames_cut : (bytes : List ℕ) (l : Level) (len from m skip n : ℕ) → skip + n ≤ m
+    → take n (drop skip (stored_frames bytes l len from m)) ≡ stored_frames bytes l len (from + skip) n
+frames_cut bytes l len from m skip n le =
+    let f : ℕ → Summary = stored_frame bytes l len in
+    let size = length-take n (drop skip (stored_frames bytes l len from m)) in
+    let rest = length-drop skip (stored_frames bytes l len from m) in
+    let all = length_stored bytes l len from m in
+    let mine = length_stored bytes l len (from + skip) n in
+    same_lists (take n (drop skip (stored_frames bytes l len from m))) (stored_frames bytes l len (from + skip) n)
+    (omega (arith, size, rest, all, mine)) (λ k d lt.
+    get_or-take n (drop skip (stored_frames bytes l len from m)) k d (omega arith)
+    ∙ get_or-drop skip (stored_frames bytes l len from m) k d
+    ∙ get_or-map-range_with_len f from m (skip + k) (from + skip + k) d (omega arith) (omega arith)
+    ∙ sym (get_or-map-range_with_len f (from + skip) n k (from + skip + k) d (omega arith) refl))
+
+pub page_frames : (files : Files) (l : Level) (k : PageKey) (b : BlockRef) (from n : ℕ) (fs out : List Summary)
+    → k ≡ frame_key l b (from / 256) → IsFramePage files l k fs → from % 256 + n ≤ length fs
+    → out ≡ take n (drop (from % 256) fs)
+    → out ≡ stored_frames (bytes_of (files b.id)) l b.len from n
+page_frames files l k b from n fs out key page le got =
+    let right : IsFramePage files l (frame_key l b (from / 256)) fs = subst (λ (j : PageKey). IsFramePage files l j
+    fs) key page in
+    let bytes : List ℕ = bytes_of (files b.id) in
+    got ∙ ap (λ (ys : List Summary). take n (drop (from % 256) ys)) right.frames
+    ∙ frames_cut bytes l b.len (256 * (from / 256)) (length fs) (from % 256) n le
+    ∙ ap (λ (m : ℕ). stored_frames bytes l b.len m n) (omega arith)
+
+pub frame_page_header : (files : Files) (l : Level) (k : PageKey) (b : BlockRef) (page : ℕ) (fs : List Summary)
+    → k ≡ frame_key l b page → IsFramePage files l k fs → HasHeader b.id b.len (bytes_of (files b.id))
+frame_page_header files l k b page fs key right =
+    subst (λ (j : PageKey). HasHeader j.id j.len (bytes_of (files j.id))) key right.header
+
+pub frame_page_read : (was now : Files) (l : Level) (b : BlockRef) (page start n : ℕ) (fs : List Summary) → now ≡ was
+    → start ≡ 256 * page → HasHeader b.id b.len (bytes_of (was b.id))
+    → level_place l b.len + 12 * (start + n) ≤ length (bytes_of (now b.id))
+    → fs ≡ stored_frames (bytes_of (now b.id)) l b.len start n
+    → IsFramePage was l (frame_key l b page) fs
+frame_page_read was now l b page start n fs same place header whole got =
+    let bytes : bytes_of (now b.id) ≡ bytes_of (was b.id) = ap (λ (f : Files). bytes_of (f b.id)) same in
+    let size : length fs ≡ n = ap length got ∙ length_stored (bytes_of (now b.id)) l b.len start n in
+    let there : level_place l b.len + 12 * (start + n) ≤ length (bytes_of (was b.id)) =
+    subst (λ (ys : List ℕ). level_place l b.len + 12 * (start + n) ≤ length ys) bytes whole in record {
+      header = header;
+      whole = omega (arith, there, size, place);
+      frames = got ∙ ap (λ (ys : List ℕ). stored_frames ys l b.len start n) bytes
+          ∙ ap (λ (m : ℕ). stored_frames (bytes_of (was b.id)) l b.len m n) place
+          ∙ ap (stored_frames (bytes_of (was b.id)) l b.len (256 * page)) (sym size);
+    }
+
+pub frame_part_read : (was now : Files) (l : Level) (id len start from skip n m : ℕ) (fs out : List Summary) → now ≡ was
+    → start + skip ≡ from → skip + n ≤ m
+    → fs ≡ stored_frames (bytes_of (now id)) l len start m
+    → out ≡ take (skip + n - skip) (drop skip fs)
+    → out ≡ stored_frames (bytes_of (was id)) l len from n
+frame_part_read was now l id len start from skip n m fs out same place le read got =
+    let size : skip + n - skip ≡ n = omega arith in
+    got ∙ ap (λ (k : ℕ). take k (drop skip fs)) size
+    ∙ ap (λ (ys : List Summary). take n (drop skip ys)) read
+    ∙ frames_cut (bytes_of (now id)) l len start m skip n le
+    ∙ ap (λ (f : Files). stored_frames (bytes_of (f id)) l len (start + skip) n) same
+    ∙ ap (λ (k : ℕ). stored_frames (bytes_of (was id)) l len k n) place
+
+-- how many frames are on a page
+pub frame_page_len : (l : Level) (b : BlockRef) (page : ℕ)
+    → page_len (frame_key l b page) ≡ min 256 (frame_count (frame_len l) b.len - 256 * page)
+frame_page_len Short b page = refl
+frame_page_len Long b page = refl
+
+-- a page of frames that is right ends within the file
+pub frame_page_whole : (files : Files) (l : Level) (k : PageKey) (b : BlockRef) (from : ℕ) (fs : List Summary)
+    → k ≡ frame_key l b (from / 256) → IsFramePage files l k fs
+    → length fs ≡ min 256 (frame_count (frame_len l) b.len - 256 * (from / 256))
+    → level_place l b.len + 12 * page_end 256 (frame_count (frame_len l) b.len) from ≤ length (bytes_of (files b.id))
+frame_page_whole files l k b from fs key page size =
+    let right : IsFramePage files l (frame_key l b (from / 256)) fs = subst (λ (j : PageKey). IsFramePage files l j
+    fs) key page in
+    omega (arith, right.whole, size)

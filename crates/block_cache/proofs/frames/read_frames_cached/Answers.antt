@@ -1,0 +1,22 @@
+-- What stands in the file of a block of the disk are the summaries of its stretches.
+use Rattle.std.proofs.Common.{ℕ, ◌+◌, ◌-◌, arith, length}
+use Rattle.peak_summary.specs.Peaks.{frame_count}
+use Rattle.block_store.specs.Reads.{frame_len}
+use Rattle.block_store.proofs.FaultLaws.{sound_result}
+use Rattle.block_store.proofs.FrameLaws.{frames_result, frames_within}
+use Rattle.block_cache.specs.Pages.{page_end}
+use Rattle.block_cache.proofs.frames.read_frames_cached.Goals as goal
+
+pub returns-clause-read : goal.returns-clause-read
+returns-clause-read g c = λ xs told block len.
+    frames_result c.read_pages.result (g.S.Store.reads c.args.store.now) c.args.level c.args.block.id c.args.block.len
+    c.args.from (length c.args.out.now) xs c.read_pages.new.out block len c.requires.within
+    (c.read_pages.ensures.frames told)
+
+pub returns-clause-sound : goal.returns-clause-sound
+returns-clause-sound g c = λ xs told block len.
+    let end : ℕ = page_end 256 (frame_count (frame_len c.args.level) c.args.block.len) (c.args.from + length
+    c.args.out.now - 1) in
+    let within = frames_within c.args.level c.args.block.len 0 end (omega arith) in
+    sound_result c.read_pages.result (g.S.Store.reads c.args.store.now) c.args.block.id c.args.block.len
+    _ xs block len (omega (arith, within)) (c.read_pages.ensures.damaged told)

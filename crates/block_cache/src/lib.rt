@@ -1,0 +1,22 @@
+//! Pages of blocks, kept in memory: reads of a block over any store that find a page where it was read before.
+//!
+//! The layers above use these contracts. A `Cache` says nothing of a disk by itself: reads require that it is right of
+//! the files, and leave it so. `read_samples_cached` and `read_frames_cached` return what `read_samples` and
+//! `read_frames` of `block_store` return, by whole pages. They do not call the store if all pages concerned are kept.
+//! `remove_block_cached` takes the entries of a block out before it removes the file. Other changes of files must be of
+//! blocks that have no entry; a law says that the cache then stays right.
+#![tactic(auto)]
+
+mod cache;
+mod drops;
+mod frames;
+mod headers;
+mod keys;
+mod pages;
+mod samples;
+
+pub use cache::Cache;
+pub use drops::remove_block_cached;
+pub use frames::read_frames_cached;
+pub use keys::{PageKey, PageKind};
+pub use samples::read_samples_cached;

@@ -1,0 +1,76 @@
+// Pages of one kind of item, the one that was used last first.
+ghost use Rattle.std.specs.Prelude.{◌≡◌, ◌≢◌, ◌⊎◌, ◌+◌, ◌≤◌, None, IfSome, true, false, List, length, take, drop};
+ghost use Rattle.std.specs.Prelude.{Contains};
+ghost use Rattle.std.specs.Global.{Vec as vec_of};
+ghost use Rattle.block_cache.specs.declared.keys.PageKey.{PageKey as key_of};
+ghost use Rattle.block_cache.specs.Entries.{HasKey, SameEntries, IsWithout};
+
+use super::keys::PageKey;
+use lru::LruCache;
+
+/// Copies items of a page from a number on, as many as `out` holds, where the page is there, and answers whether it
+/// is. It is then the one that was used last.
+pub(crate) fn copy_page<T: Copy + Drop>(
+    pages: &mut LruCache<PageKey, Vec<T>>,
+    key: PageKey,
+    skip: usize,
+    out: &mut [T],
+) -> bool
+    requires { (v : vec_of T) → Contains pages.old.entries (key, v) → skip + length out.old ≤ length v.items }
+    ensures there { result ≡ true → (v : vec_of T) × Contains pages.old.entries (key, v)
+        × (out.new ≡ take (length out.old) (drop skip v.items)) }
+    ensures missed { result ≡ false → HasKey pages.old.entries key → ⊥ }
+    ensures same { SameEntries pages.old.entries pages.new.entries }
+    ensures cap { pages.new.cap ≡ pages.old.cap }
+{
+    match pages.get(&key) {
+        Some(page) => {
+            out.copy_from_slice(&page[skip..skip + out.len()]);
+            true
+        }
+        None => false,
+    }
+}
+
+/// Keeps a page, in the place of the one that was used longest ago where there is no room. Where memory is refused it
+/// is not kept.
+pub(crate) fn keep_page<T: Copy + Drop>(
+    pages: &mut LruCache<PageKey, Vec<T>>,
+    key: PageKey,
+    items: &[T],
+)
+    ensures kept { (e : key_of × vec_of T) → Contains pages.new.entries e
+        → Contains pages.old.entries e ⊎ ((e.0 ≡ key) × (e.1.items ≡ items.now)) }
+    ensures cap { pages.new.cap ≡ pages.old.cap }
+{
+    let Ok(mut page) = Vec::with_capacity(*pages.allocator(), items.len()) else {
+        return;
+    };
+    if page.extend_from_slice(items).is_err() {
+        return;
+    }
+    let _ = pages.put(key, page);
+}
+
+/// The first key of a page of a block.
+fn key_of_block<V: Drop>(pages: &LruCache<PageKey, V>, id: u64) -> Option<PageKey>
+    ensures found { IfSome result (λ k. (k.id ≡ id) × HasKey pages.now.entries k) }
+    ensures none { result ≡ None → (e : key_of × V) → Contains pages.now.entries e → e.0.id ≢ id }
+{
+    for (key, _) in pages.iter() {
+        if key.id == id {
+            return Some(*key);
+        }
+    }
+    None
+}
+
+/// Takes out all pages of a block.
+pub(crate) fn drop_pages<V: Drop>(pages: &mut LruCache<PageKey, V>, id: u64)
+    ensures without { IsWithout id pages.old.entries pages.new.entries }
+    ensures cap { pages.new.cap ≡ pages.old.cap }
+{
+    'keys: while let Some(key) = key_of_block(pages, id) {
+        let _ = pages.pop(&key);
+    }
+}

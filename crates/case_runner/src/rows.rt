@@ -1,0 +1,43 @@
+// A case that is played once for each of its rows.
+use super::case::{Parts, Turn, play_turn};
+use super::fault::Fault;
+use super::sections::{Line, Section};
+use std::alloc::Global;
+use std::sync::Wait;
+use std::thread::Threads;
+
+// Plays the case for one row. What is set up stands before two spaces, and what is printed after them.
+fn play_row<'a, R: Threads + Wait + Sync>(
+    rt: &R,
+    alloc: Global,
+    parts: Parts<'_, 'a>,
+    line: Line<'a>,
+) -> Result<(), Fault> {
+    let Some((sets, text)) = line.text.split_once("  ") else {
+        return Err(line.unread());
+    };
+    match play_turn(rt, alloc, parts, Turn::Row(line, sets, text.trim())) {
+        Ok(_world) => Ok(()),
+        Err(Fault::Wrong { line: _, came }) => Err(line.wrong(came)),
+        Err(fault) => Err(fault),
+    }
+}
+
+/// Plays the case for each row of a section `rows`, of which there is at least one.
+pub(crate) fn play_rows<'a, R: Threads + Wait + Sync>(
+    rt: &R,
+    alloc: Global,
+    parts: Parts<'_, 'a>,
+    sections: &[Section<'a>],
+) -> Result<(), Fault> {
+    let [rows] = sections else {
+        return Err(parts.body.title.unread());
+    };
+    if rows.title.text != "rows" || rows.lines.is_empty() {
+        return Err(rows.title.unread());
+    }
+    for line in &rows.lines {
+        play_row(rt, alloc, parts, *line)?;
+    }
+    Ok(())
+}

@@ -1,0 +1,224 @@
+// A case that is played again and again: as the disk stops after each of its calls in turn, or as each call of a device
+// fails in turn.
+use super::case::{MOST, Parts, Turn, play_turn};
+use super::fault::Fault;
+use super::images::{is_after, other_image};
+use super::playing::play;
+use super::sections::{Line, Section};
+use super::stages::{is_at, play_more};
+use super::world::{Manner, World};
+use std::alloc::Global;
+use std::sync::Wait;
+use std::thread::Threads;
+
+/// What fails in turn.
+#[derive(Clone, Copy)]
+pub(crate) enum Sweep<'a> {
+    Stops,
+    Calls(&'a str),
+}
+
+impl<'a> Sweep<'a> {
+    // The turn of a number, from 0 on.
+    fn turn(&self, number: u64) -> Turn<'a> {
+        match self {
+            Sweep::Stops => Turn::Stop(number),
+            Sweep::Calls(port) => Turn::Call(port, number.saturating_add(1)),
+        }
+    }
+}
+
+// The sections `stage`, `found` and `then`.
+#[derive(Clone, Copy)]
+struct Kinds<'s, 'a> {
+    stages: &'s [Section<'a>],
+    founds: &'s [Section<'a>],
+    then: &'s [Section<'a>],
+}
+
+// The first sections of this title, and the others.
+fn split_titled<'s, 'a>(
+    sections: &'s [Section<'a>],
+    title: &str,
+) -> (&'s [Section<'a>], &'s [Section<'a>]) {
+    let mut count = 0usize;
+    for section in sections {
+        if !section.title.text.starts_with(title) {
+            break;
+        }
+        count = count.saturating_add(1);
+    }
+    let count = count.min(sections.len());
+    (&sections[..count], &sections[count..])
+}
+
+fn kinds_of<'s, 'a>(sections: &'s [Section<'a>]) -> Kinds<'s, 'a> {
+    let (stages, rest) = split_titled(sections, "stage");
+    let (founds, then) = split_titled(rest, "found");
+    Kinds {
+        stages,
+        founds,
+        then,
+    }
+}
+
+// How far a sweep is: among the stages, and among what is found. Nothing of them has come at first.
+#[derive(Clone, Copy)]
+struct Place {
+    stage: Option<usize>,
+    found: Option<usize>,
+}
+
+// The places at which the next turn may be: the same or the next.
+fn next_places(place: Option<usize>) -> [usize; 2] {
+    match place {
+        Some(place) => [place, place.saturating_add(1)],
+        None => [0, 0],
+    }
+}
+
+// Whether a place is the last of so many.
+fn is_last(place: Option<usize>, count: usize) -> bool {
+    match place {
+        Some(place) => place.saturating_add(1) == count,
+        None => count == 0,
+    }
+}
+
+// What came in a turn, as a text.
+fn came(world: &World<'_>, number: u64, why: &str) -> Result<String, Fault> {
+    let mut text = format!(in world.alloc; "turn {number}, {why}:\n")?;
+    if let Some(left) = &world.left {
+        if let Ok(printed) = std::str::from_utf8(left.text.as_slice()) {
+            text.push_str(printed)?;
+        }
+        let status = left.status;
+        let last = format!(in world.alloc; "status {status}")?;
+        text.push_str(last.as_str())?;
+    }
+    Ok(text)
+}
+
+// The stage of a turn.
+fn stage_of(
+    world: &World<'_>,
+    title: Line<'_>,
+    stages: &[Section<'_>],
+    before: Option<usize>,
+    number: u64,
+) -> Result<Option<usize>, Fault> {
+    if stages.is_empty() {
+        return Ok(None);
+    }
+    for place in next_places(before) {
+        if is_at(world, stages.get(place))? {
+            return Ok(Some(place));
+        }
+    }
+    Err(title.wrong(came(world, number, "at no stage that may come")?))
+}
+
+// The section that says what is found after a turn.
+fn found_of(
+    world: &World<'_>,
+    title: Line<'_>,
+    founds: &[Section<'_>],
+    before: Option<usize>,
+    number: u64,
+) -> Result<Option<usize>, Fault> {
+    if founds.is_empty() {
+        return Ok(None);
+    }
+    for place in next_places(before) {
+        if let Some(section) = founds.get(place) {
+            if is_after(section, world.told) {
+                return Ok(Some(place));
+            }
+        }
+    }
+    Err(title.wrong(came(world, number, "after no commit that may come")?))
+}
+
+// Each image has what is found at this place, or at the next.
+fn check_images<'a, R: Threads + Wait + Sync>(
+    rt: &R,
+    world: &World<'a>,
+    title: Line<'a>,
+    founds: &[Section<'a>],
+    place: Option<usize>,
+    number: u64,
+) -> Result<(), Fault> {
+    let Some(place) = place else {
+        return Ok(());
+    };
+    match other_image(rt, world.alloc, &world.store, founds, place)? {
+        Some(choice) => {
+            let why = format!(in world.alloc; "image {choice} has something else")?;
+            Err(title.wrong(came(world, number, why.as_str())?))
+        }
+        None => Ok(()),
+    }
+}
+
+// Plays what follows after a turn: what its stage says, and then what is said of all.
+fn play_after<'a, R: Threads + Wait + Sync>(
+    rt: &R,
+    world: &mut World<'a>,
+    kinds: Kinds<'_, 'a>,
+    stage: Option<usize>,
+) -> Result<(), Fault> {
+    if let Some(stage) = stage {
+        if let Some(section) = kinds.stages.get(stage) {
+            play_more(rt, world, section)?;
+        }
+    }
+    world.manner = Manner::Strict;
+    for section in kinds.then {
+        play(rt, world, section.lines.as_slice())?;
+    }
+    Ok(())
+}
+
+// Where a turn is that is whole: at the last places. Else some did not come.
+fn ends(
+    world: &World<'_>,
+    title: Line<'_>,
+    kinds: Kinds<'_, '_>,
+    place: Place,
+    number: u64,
+) -> Result<(), Fault> {
+    if is_last(place.stage, kinds.stages.len()) && is_last(place.found, kinds.founds.len()) {
+        return Ok(());
+    }
+    Err(title.wrong(came(world, number, "whole, and not all sections have come")?))
+}
+
+/// Plays the case in turns, up to the first that leaves all as the case says. Each section `stage` says what the last
+/// call leaves, in the order in which they come, and each section `found` what the images have after a commit.
+pub(crate) fn play_sweep<'a, R: Threads + Wait + Sync>(
+    rt: &R,
+    alloc: Global,
+    parts: Parts<'_, 'a>,
+    sweep: Sweep<'a>,
+    sections: &[Section<'a>],
+) -> Result<(), Fault> {
+    let title = parts.body.title;
+    let kinds = kinds_of(sections);
+    let mut place = Place {
+        stage: None,
+        found: None,
+    };
+    for number in 0..MOST {
+        let mut world = play_turn(rt, alloc, parts, sweep.turn(number))?;
+        if world.differs {
+            place.stage = stage_of(&world, title, kinds.stages, place.stage, number)?;
+        }
+        place.found = found_of(&world, title, kinds.founds, place.found, number)?;
+        check_images(rt, &world, title, kinds.founds, place.found, number)?;
+        if !world.differs {
+            return ends(&world, title, kinds, place, number);
+        }
+        play_after(rt, &mut world, kinds, place.stage)?;
+    }
+    Err(title.unread())
+}

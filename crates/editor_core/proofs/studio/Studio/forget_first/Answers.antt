@@ -1,0 +1,31 @@
+-- One block after another.
+use Rattle.std.proofs.Common.{◌+◌, [], ◌∷◌, ◌++◌, arith}
+use Rattle.block_ledger.specs.Entries.{count_of}
+use Rattle.editor_core.specs.Core.{core_of}
+use Rattle.editor_core.proofs.FirstIds.{first_none, none_from}
+use Rattle.editor_core.proofs.ForgettingFirst.{forgets_all, forgetting_more}
+use Rattle.editor_core.proofs.Gone.{long}
+use Rattle.editor_core.proofs.studio.Studio.forget_first.Goals as goal
+
+pub returns-in_default : goal.returns-in_default
+returns-in_default g c =
+    let s = core_of c.args.self.now in
+    let mid = core_of c.loop-i.self in
+    let is = c.loop-i.invariant in
+    let few = c.loop-i-test.true in
+    let none = none_from s.counts mid.counts is.0 is.1 is.3.next is.3.forgets c.in_default.ensures.none in
+    forgets_all s c.args.count is.0 is.1 mid is.3
+    (first_none s.counts c.args.count is.0 is.1 is.3.next (omega (arith, is.2, few)) none)
+
+pub loop-i-preserved : goal.loop-i-preserved
+loop-i-preserved g c =
+    let s = core_of c.args.self.now in
+    let mid = core_of c.loop-i.self in
+    let is = c.loop-i.invariant in
+    let id = c.in-Some.id in (
+      is.0 ++ id ∷ [],
+      id + 1,
+      omega (arith, long is.0 id, is.2),
+      forgetting_more s is.0 is.1 id mid (count_of c.forget.new.self) is.3 c.in-Some.ensures.found
+          c.forget.ensures.counts,
+    )

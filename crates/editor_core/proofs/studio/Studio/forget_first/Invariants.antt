@@ -1,0 +1,9 @@
+-- The blocks so far.
+use Rattle.std.proofs.Common.{◌≡◌, ℕ, List, length}
+use Rattle.editor_core.specs.Core.{core_of}
+use Rattle.editor_core.proofs.ForgettingFirst.{Forgetting}
+use Rattle.editor_core.proofs.studio.Studio.forget_first.Given as goal
+
+abbrev pub invariant-loop-i : goal.invariant-loop-i
+invariant-loop-i g l =
+    (ids : List ℕ) × (end : ℕ) × (length ids ≡ l.i) × Forgetting (core_of l.fn.self) ids end (core_of l.self)

@@ -1,0 +1,7 @@
+-- The parts of a studio are within the bounds of the model.
+use Rattle.editor_core.specs.Core.{core_of}
+use Rattle.editor_core.proofs.Bounding.{bounded}
+use Rattle.editor_core.proofs.studio.Studio.is_bounded.Goals as goal
+
+pub returns : goal.returns
+returns g c = bounded g.S.Store (core_of c.args.self.now) c.requires c.len-points.ensures.whole

@@ -1,0 +1,70 @@
+-- One file after another.
+use Rattle.std.proofs.Common.{◌≡◌, inr, refl, sym, subst, ℕ, [], ◌∷◌, ◌++◌, IsSome, Some}
+use Rattle.std.proofs.Common.{Option, arith}
+use Rattle.block_ledger.specs.Entries.{count_of}
+use Rattle.editor_core.specs.Core.{core_of}
+use Rattle.editor_core.proofs.Gone.{long}
+use Rattle.editor_core.proofs.RemovingFirst.{next_here, none_here, removes_all, removes_fail, removing_more, removing_none}
+use Rattle.editor_core.proofs.studio.Studio.remove_first.Goals as goal
+
+is_some : (o : Option ℕ) → o ≡ Some 0 → IsSome o
+is_some o e = subst IsSome (sym e) refl
+
+pub loop-count-init : goal.loop-count-init
+loop-count-init g c =
+    let s = core_of c.args.self.now in
+    ([], refl, removing_none g.S.Store s (g.met.S.Store.may_fewer s.store))
+
+pub returns-in_default : goal.returns-in_default
+returns-in_default g c =
+    let s = core_of c.args.self.now in
+    let mid = core_of c.loop-count.self in
+    let is = c.loop-count.invariant in
+    let few = c.loop-count-test.true in
+    removes_all g.S.Store s tt c.args.most c.loop-count.count is.0 c.loop-count.from mid is.2 is.1 (omega (arith, few))
+    (inr (none_here g.S.Store s is.0 c.loop-count.from mid is.2 c.in_default.ensures.none))
+
+pub remove_unnamed-requires-clause-low : goal.remove_unnamed-requires-clause-low
+remove_unnamed-requires-clause-low g c =
+    let is = c.loop-count.invariant in
+    let next = next_here g.S.Store (core_of c.args.self.now) is.0 c.loop-count.from c.in-Some.id
+    (core_of c.loop-count.self) is.2 c.in-Some.ensures.found in
+    c.requires.low c.in-Some.id (is_some (count_of c.args.self.now.ledger c.in-Some.id) next.free)
+
+pub remove_unnamed-requires-clause-high : goal.remove_unnamed-requires-clause-high
+remove_unnamed-requires-clause-high g c =
+    let is = c.loop-count.invariant in
+    let next = next_here g.S.Store (core_of c.args.self.now) is.0 c.loop-count.from c.in-Some.id
+    (core_of c.loop-count.self) is.2 c.in-Some.ensures.found in
+    c.requires.high c.in-Some.id (is_some (count_of c.args.self.now.ledger c.in-Some.id) next.free)
+
+pub returns-in-Err : goal.returns-in-Err
+returns-in-Err g c =
+    let s = core_of c.args.self.now in
+    let mid = core_of c.loop-count.self in
+    let is = c.loop-count.invariant in
+    let few = c.loop-count-test.true in
+    let next = next_here g.S.Store s is.0 c.loop-count.from c.in-Some.id mid is.2 c.in-Some.ensures.found in
+    removes_fail g.S.Store s is.0 c.loop-count.from c.in-Some.id mid (core_of c.remove_unnamed.new.self) is.2 next
+    c.in-Err.fault c.args.most c.loop-count.count c.in-Err.ensures is.1 (omega (arith, few))
+
+pub overflow_add-from : goal.overflow_add-from
+overflow_add-from g c =
+    let is = c.loop-count.invariant in
+    let next = next_here g.S.Store (core_of c.args.self.now) is.0 c.loop-count.from c.in-Some.id
+    (core_of c.loop-count.self) is.2 c.in-Some.ensures.found in
+    let most = c.requires.high c.in-Some.id (is_some (count_of c.args.self.now.ledger c.in-Some.id) next.free) in
+    omega (arith, most)
+
+pub loop-count-preserved : goal.loop-count-preserved
+loop-count-preserved g c =
+    let s = core_of c.args.self.now in
+    let mid = core_of c.loop-count.self in
+    let is = c.loop-count.invariant in
+    let id = c.in-Some.id in
+    let next = next_here g.S.Store s is.0 c.loop-count.from id mid is.2 c.in-Some.ensures.found in (
+      is.0 ++ id ∷ [],
+      omega (arith, long is.0 id, is.1),
+      removing_more g.S.Store s is.0 c.loop-count.from id mid (core_of c.remove_unnamed.new.self) is.2 next
+          c.in_default-remove_unnamed.field-0 c.in_default-remove_unnamed.ensures,
+    )

@@ -1,0 +1,87 @@
+-- What a call spends of the counters, and what it would have spent where one has no room for it.
+use Rattle.std.specs.Prelude.{◌≡◌, ◌⊎◌, ℕ, ◌+◌, ◌≤◌, ◌<◌, Some, List, length}
+use Rattle.pcm_base.specs.declared.command.Call.{Call}
+use Rattle.pcm_base.specs.declared.entry.SoundMove.{SoundMove}
+use Rattle.pcm_base.specs.declared.refusal.Refusal.{Refusal}
+use Rattle.pcm_base.specs.declared.refusal.Refusal.TheVariants as refusal
+use Rattle.pcm_base.specs.Counters.{commits_of, no_room, pins_of, tracks_of}
+use Rattle.pcm_base.specs.History.{History}
+use Rattle.pcm_base.specs.Run.{outside}
+use Rattle.pcm_base.specs.declared.limits.TheConstants.{LONGEST_BODY}
+use Rattle.pcm_base.specs.Step.{after}
+use Rattle.disk_model.specs.declared.store.Store.{Ghosts}
+use Rattle.sample_block.specs.Sources.{sources_of}
+use Rattle.project_state.specs.declared.body.Body.{Body}
+use Rattle.project_state.specs.declared.body.Body.TheVariants.{Edit}
+use Rattle.project_state.specs.declared.track.Track.{Track}
+use Rattle.project_state.specs.Kept.{Kept, after_body, meant_history}
+use Rattle.project_state.specs.Spelling.{spelling}
+use Rattle.editor_core.specs.Core.{Core}
+use Rattle.editor_core.specs.Edits.{IsEdit, IsPlanned, TaggedEdit}
+use Rattle.editor_core.specs.Occurrences.{times_named}
+use Rattle.editor_core.specs.Records.{Says}
+use Rattle.editor_core.specs.Studios.{IsHeld, named_blocks, studio_of}
+
+-- ---- of a call that is carried out
+
+-- the studio names each block whose id was given
+abbrev pub NamesGiven : {D : Type 0} → Core D → Core D → Type 0
+NamesGiven old new = (id : ℕ) → old.next_block ≤ id → id < new.next_block → 0 < times_named id (named_blocks new)
+
+-- ---- of one that a counter refuses, or the length of its record
+
+-- An edit that makes so many blocks, by a plan of what the call leads to, and the body of its record.
+pub record Plans {D : Type 0} (disk : Ghosts D) (s : Core D) (call : Call) (sound : SoundMove) (blocks : ℕ) (body : Body)
+    : Type 0 where
+  pub edit : TaggedEdit
+  pub planned : IsPlanned s edit
+  pub means : IsEdit disk s call sound edit
+  pub blocks_are : blocks ≡ length edit.plan.makes
+  pub body_is : body ≡ Edit edit.tag (s.next_block + blocks) (s.next_track + edit.plan.tracks) edit.plan.point
+
+-- what the records so far say
+abbrev pub kept_of : {D : Type 0} → Core D → Kept
+kept_of s = record {
+  history = s.history;
+  next_block = s.next_block;
+  next_track = s.next_track;
+  commit = s.commit_number;
+}
+
+-- A commit without blocks: the body of its record leads from the studio's history to this one, as does the call.
+pub record Leads {D : Type 0} (disk : Ghosts D) (s : Core D) (call : Call) (sound : SoundMove) (body : Body)
+    : Type 0 where
+  pub history : History (List Track)
+  pub next_track : ℕ
+  pub says : Says s.next_block next_track history body
+  pub leads : (after_body (kept_of s) body).history ≡ history
+  pub means : IsHeld disk s → (after (outside (studio_of disk s) sound) (studio_of disk s).state call).history
+      ≡ meant_history (sources_of (disk.reads s.store)) history
+
+-- What a commit would have made: so many blocks, and a record with this body.
+pub record WouldMake {D : Type 0} (disk : Ghosts D) (s : Core D) (call : Call) (sound : SoundMove) : Type 0 where
+  pub commit : commits_of call ≡ 1
+  pub blocks : ℕ
+  pub body : Body
+  pub so : Plans disk s call sound blocks body ⊎ ((blocks ≡ 0) × Leads disk s call sound body)
+
+-- a counter at this number has no room for so many more
+abbrev pub IsSpent : ℕ → ℕ → Refusal → Type 0
+IsSpent have need why = no_room have need ≡ Some why
+
+-- the track ids, the commit numbers or the pin numbers
+abbrev pub IsNumberSpent : {D : Type 0} → Ghosts D → Core D → Call → SoundMove → Refusal → Type 0
+IsNumberSpent disk s call sound why = IsSpent s.next_track (tracks_of (outside (studio_of disk s) sound) call) why
+    ⊎ (IsSpent s.commit_number (commits_of call) why ⊎ IsSpent s.next_pin (pins_of call) why)
+
+-- The numbers that are told where a counter has no room, or the record is too long: those of the blocks and of the
+-- record that the commit would have made.
+abbrev pub Needed : {D : Type 0} → Ghosts D → Core D → Call → SoundMove → Refusal → Type 0
+Needed disk s call sound (refusal.SpaceSpent have need) =
+    IsNumberSpent disk s call sound (refusal.SpaceSpent have need)
+    ⊎ ((it : WouldMake disk s call sound)
+    × (IsSpent s.next_block it.blocks (refusal.SpaceSpent have need)
+    ⊎ IsSpent s.journal_end (6 + length (spelling it.body)) (refusal.SpaceSpent have need)))
+Needed disk s call sound (refusal.RecordLimit n) =
+    (it : WouldMake disk s call sound) × (n ≡ length (spelling it.body)) × (LONGEST_BODY < n)
+Needed disk s call sound why = Unit {0}

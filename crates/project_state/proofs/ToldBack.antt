@@ -1,0 +1,134 @@
+-- Tracks that are told by the current point pass their tests and are read back.
+use Rattle.std.proofs.Common.{◌≡◌, ℕ, zero, suc, ◌+◌, ◌-◌, ◌^◌, ◌≤◌, ◌<◌, ◌==◌, ◌&&◌, Bool, true, false, inl, inr, List, []}
+use Rattle.std.proofs.Common.{◌∷◌, ◌++◌, length, map, take, drop, Option, Some, None, nat_lt, refl, sym, ap, ap₂, subst, ◌∙◌}
+use Rattle.std.proofs.Common.{arith, append_assoc, length-append, length-drop, slice_index, if◌then◌else◌}
+use Rattle.std.proofs.lemmas.Bool.{cases_Bool, eqb-true, lt-ltb, le-ltb}
+use Rattle.std.specs.List.{flat_map}
+use Rattle.byteorder.specs.Endian.{little_bytes}
+use Rattle.pcm_base.specs.Blocks.{blocks_len}
+use Rattle.pcm_base.specs.declared.block.BlockRef.{BlockRef}
+use Rattle.clip_track.specs.declared.clips.Clip.{Clip}
+use Rattle.clip_track.specs.Clips.{clip_end}
+use Rattle.project_journal.specs.Fields.{field}
+use Rattle.project_state.specs.declared.limits.Limits.{Limits}
+use Rattle.project_state.specs.declared.track.Track.{Track}
+use Rattle.project_state.specs.Changes.{Change, Same, Whole, Tail, change_of, changed, change_bytes, heard_bytes, told_bytes}
+use Rattle.project_state.specs.Changes.{is_block, common, last_blocks, last_start, same_settings, same_clips, same_but_last}
+use Rattle.project_state.specs.ChangePlaces.{mark_at, gone_at, fresh_at, whole_at, change_at, told_size, told_at}
+use Rattle.project_state.specs.ChangePlaces.{all_told_at}
+use Rattle.project_state.specs.ChangeTests.{id_tests, mark_want, mark_tests, how_tests, whole_tests, is_lone, kept_blocks}
+use Rattle.project_state.specs.ChangeTests.{tail_head_tests, marked_tests, change_tests, told_tests, all_told_tests}
+use Rattle.project_state.specs.FirstFault.{least_len, place, blocks_tests, clips_tests}
+use Rattle.project_state.specs.Places.{blocks_at, side_of, clip_count, clips_at, clips_size}
+use Rattle.project_state.specs.Spelling.{block_bytes, clip_bytes, side_byte, mute_byte}
+use Rattle.project_state.specs.Tracks.{track_of}
+use Rattle.project_state.proofs.ClipsBack.{AreNarrow, AreGoodBlocks, AreGoodClips, has_blocks, blocks_pass, has_clips}
+use Rattle.project_state.proofs.ClipsBack.{clips_pass}
+use Rattle.project_state.proofs.FieldsBack.{NoneFails, both_pass, passes, byte_there, least_passes, most_passes, no_test}
+use Rattle.project_state.proofs.FieldsBack.{number_there, past}
+use Rattle.project_state.proofs.Parts.{length_blocks}
+use Rattle.project_state.proofs.TracksBack.{IsGoodTrack, AreGoodTracks, side_back, side_most, mute_back, mute_most}
+use Rattle.project_state.proofs.ChangeLaws.{choice_says, HasId, last_starts, common_take, block_same, both}
+use Rattle.project_state.proofs.Commons.{common_least, common_most}
+use Rattle.project_state.specs.Widths.{total_width}
+use Rattle.project_state.specs.ChangePlaces.{told_widths, all_told_widths}
+use Rattle.project_state.proofs.Measured.{rest_known, sum_told}
+use Rattle.project_state.proofs.Passing.{all_pass}
+use Rattle.project_state.proofs.Reaching.{total_width-append}
+use Rattle.project_state.proofs.ToldTracks.{found_id, known_mark}
+use Rattle.project_state.proofs.GoodTails.{good_tail}
+use Rattle.project_state.proofs.ChangesBack.{IsBack, back_same, back_whole, back_tail}
+
+-- ---- whichever the writer takes
+
+-- the last clip of the track of before has fewer than 2^32 blocks
+abbrev pub IsShort : Option Track → Type 0
+IsShort None = Unit {0}
+IsShort (Some o) = length (last_blocks o.layout) < 2 ^ 32
+
+back_choice : (l : Limits) (from : ℕ) (old : Option Track) (t : Track) (at : ℕ) (bytes rest : List ℕ) → AreNarrow l
+    → IsShort old → IsGoodTrack l from t → field at 8 bytes ≡ t.id
+    → drop (at + 8) bytes ≡ change_bytes (change_of old t) ++ rest → IsBack l old (change_of old t) at bytes rest
+back_choice l from None t at bytes rest narrow small good id e =
+    back_whole l from None t at bytes rest narrow good id e
+back_choice l from (Some o) t at bytes rest narrow small good id e =
+    elim (cases_Bool (same_settings o t && same_clips o.layout t.layout)) [
+      | inl whole ↦ rw whole (back_same l o at bytes rest (rw whole at e))
+      | inr differ ↦ elim (cases_Bool (same_settings o t && same_but_last o.layout t.layout)) [
+        | inl ends ↦
+            let is = both (same_settings o t) (same_but_last o.layout t.layout) ends in
+            rw (differ, ends) (back_tail l o _ _ at bytes rest narrow (good_tail l from o t small good is.second)
+            (rw (differ, ends) at e))
+        | inr other ↦ rw (differ, other)
+            (back_whole l from (Some o) t at bytes rest narrow good id (rw (differ, other) at e))
+      ]
+    ]
+
+-- one track
+pub record IsTold (l : Limits) (current : List Track) (from : ℕ) (t : Track) (at : ℕ) (bytes rest : List ℕ) : Type 0 where
+  pub id : field at 8 bytes ≡ t.id
+  pub told : told_at current at bytes ≡ Some t
+  pub size : told_size at bytes ≡ length (told_bytes current t)
+  pub left : drop (at + told_size at bytes) bytes ≡ rest
+  pub tests : NoneFails (told_tests l current from at bytes)
+
+is_told : (l : Limits) (current : List Track) (from : ℕ) (t : Track) (at : ℕ) (bytes rest : List ℕ) → AreNarrow l
+    → ((id : ℕ) → IsShort (track_of id current)) → IsGoodTrack l from t
+    → drop at bytes ≡ told_bytes current t ++ rest → IsTold l current from t at bytes rest
+is_told l current from t at bytes rest narrow short good e =
+    let old = track_of t.id current in
+    let change = change_of old t in
+    let first : drop at bytes ≡ little_bytes 8 t.id ++ (change_bytes change ++ rest) =
+    e ∙ append_assoc (little_bytes 8 t.id) (change_bytes change) rest in
+    let id = number_there 8 t.id at bytes (change_bytes change ++ rest) first (omega (arith, narrow.tracks, good.given)) in
+    let behind = past at (at + 8) bytes (little_bytes 8 t.id) (change_bytes change ++ rest) first refl in
+    let back = back_choice l from old t at bytes rest narrow (short t.id) good id behind in
+    let size : told_size at bytes ≡ length (told_bytes current t) = omega (arith, back.size) in
+    let ids : NoneFails (id_tests l from at bytes) =
+    least_passes _ _ _ _ _ id good.some
+    (least_passes _ _ _ _ _ id good.above (most_passes _ _ _ _ _ id (omega (arith, good.given)) no_test)) in
+    record {
+      id = id;
+      told = ap₂ (λ (n : ℕ) (c : Change). changed (track_of n current) c) id back.change
+          ∙ choice_says old t (has_id old (λ o is. found_id t.id current o is));
+      size = size;
+      left = past at (at + told_size at bytes) bytes (told_bytes current t) rest e (omega (arith, size));
+      tests = both_pass (id_tests l from at bytes) _ ids
+          (subst (λ (n : ℕ). NoneFails (change_tests l (track_of n current) at bytes)) (sym id) back.tests);
+    }
+  where
+    has_id : (old : Option Track) → ((o : Track) → old ≡ Some o → o.id ≡ t.id) → HasId t.id old
+    has_id None is = tt
+    has_id (Some o) is = is o refl
+
+pub record AreTold (l : Limits) (current : List Track) (from : ℕ) (ts : List Track) (at : ℕ) (bytes : List ℕ) : Type 0 where
+  pub told : all_told_at current (length ts) at bytes ≡ map Some ts
+  pub width : total_width (all_told_widths (length ts) at bytes) ≡ length (flat_map (told_bytes current) ts)
+  pub tests : NoneFails (all_told_tests l current (length ts) from at bytes)
+
+pub are_told : (l : Limits) (current : List Track) (from : ℕ) (ts : List Track) (at : ℕ) (bytes rest : List ℕ)
+    → AreNarrow l → ((id : ℕ) → IsShort (track_of id current)) → AreGoodTracks l from ts
+    → drop at bytes ≡ flat_map (told_bytes current) ts ++ rest → AreTold l current from ts at bytes
+are_told l current from [] at bytes rest narrow short good e = record { told = refl; width = refl; tests = no_test }
+are_told l current from (t ∷ ts) at bytes rest narrow short good e =
+    let told = told_bytes current in
+    let one = is_told l current from t at bytes (flat_map told ts ++ rest) narrow short good.0
+    (e ∙ append_assoc (told t) (flat_map told ts) rest) in
+    let more = are_told l current (t.id + 1) ts (at + told_size at bytes) bytes rest narrow short good.1 one.left in
+    let known = known_mark l current from at bytes (all_pass (told_tests l current from at bytes) one.tests.none) in
+    record {
+      told = ap₂ (λ (x : Option Track) (xs : List (Option Track)). x ∷ xs) one.told more.told;
+      width = ap total_width (rest_known (length ts) at bytes known)
+          ∙ omega (
+            arith,
+            total_width-append (told_widths at bytes)
+                (all_told_widths (length ts) (at + told_size at bytes) bytes),
+            sum_told at bytes known,
+            one.size,
+            more.width,
+            length-append (told t) (flat_map told ts),
+          );
+      tests = both_pass (told_tests l current from at bytes) _ one.tests
+          (subst (λ (n : ℕ). NoneFails (all_told_tests l current (length ts) (n + 1) (at + told_size at bytes) bytes))
+          (sym one.id) more.tests);
+    }

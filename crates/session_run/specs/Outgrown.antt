@@ -1,0 +1,66 @@
+-- What a run asks of a disk in memory, by the model's bounds, and where that is more than its room.
+use Rattle.std.specs.Prelude.{◌≡◌, ◌⊎◌, ℕ, ◌+◌, ◌*◌, ◌<◌, Bool, true, false, List, [], ◌∷◌, ◌++◌, Result, Ok, Err}
+use Rattle.pcm_base.specs.declared.answer.Reply.{Reply}
+use Rattle.pcm_base.specs.declared.entry.Entry.{Entry}
+use Rattle.pcm_base.specs.declared.refusal.Refusal.{Refusal}
+use Rattle.pcm_base.specs.declared.refusal.Refusal.TheVariants as refusal
+use Rattle.pcm_base.specs.Counters.{Needs, places_of}
+use Rattle.pcm_base.specs.Run.{Step, outside, result_of}
+use Rattle.pcm_base.specs.Studio.{Studio}
+use Rattle.editor_core.specs.Exchanges.{is_broken_off}
+use Rattle.memory_project.specs.declared.fresh.FreshProject.{FreshProject}
+
+-- what calls need in all: how many they are, the ids of blocks, and the bytes of the journal
+pub record Sum : Type 0 where
+  pub calls : ℕ
+  pub blocks : ℕ
+  pub journal : ℕ
+
+abbrev pub nothing_needed : Sum
+nothing_needed = record { calls = 0; blocks = 0; journal = 0 }
+
+-- both
+abbrev pub plus : Sum → Sum → Sum
+plus a b = record { calls = a.calls + b.calls; blocks = a.blocks + b.blocks; journal = a.journal + b.journal }
+
+-- whether a call may have asked the disk: it was carried out, or a device broke it off
+abbrev pub has_begun : Result Reply Refusal → Bool
+has_begun (Ok r) = true
+has_begun (Err refusal.VaultFault) = true
+has_begun (Err why) = is_broken_off why
+
+-- What an entry needs. One that may have asked the disk is within the model's bounds on the blocks of a call and on its
+-- record. One that a test refused, or a lack of memory, needs nothing.
+abbrev pub NeedsOne : Bool → Studio → Entry → Sum → Type 0
+NeedsOne true t e one = (one.calls ≡ 1)
+    × ((len : ℕ) × Needs (outside t e.sound) t e.call one.blocks len × (one.journal ≡ places_of e.call len))
+NeedsOne false t e one = one ≡ nothing_needed
+
+-- what the first entry needs, and then the others
+pub record NeedsMore (t : Studio) (e : Entry) (Others : Studio → Sum → Type 0) (sum : Sum) : Type 0 where
+  pub next : Studio
+  pub step : Step t e.call e.sound e.reply next
+  pub one : Sum
+  pub needs : NeedsOne (has_begun (result_of e.reply)) t e one
+  pub rest : Sum
+  pub others : Others next rest
+  pub are : sum ≡ plus one rest
+
+-- From t on these entries, each a step, need so much in all.
+abbrev pub NeedsAll : Studio → List Entry → Sum → Type 0
+NeedsAll t [] sum = sum ≡ nothing_needed
+NeedsAll t (e ∷ es) sum = NeedsMore t e (λ u rest. NeedsAll u es rest) sum
+
+-- more than the disk of a project has room for
+abbrev pub IsTooMuch : FreshProject → Sum → Type 0
+IsTooMuch p sum = (p.files < 64 + sum.blocks)
+    ⊎ ((p.bytes < 256 + 64 * sum.blocks + sum.journal) ⊎ (p.calls < 64 + 16 * sum.calls + 4 * sum.blocks))
+
+-- The first entries of a run need more than the disk of a project has room for.
+pub record Outgrows (p : FreshProject) (t : Studio) (entries : List Entry) : Type 0 where
+  pub front : List Entry
+  pub back : List Entry
+  pub cut : entries ≡ front ++ back
+  pub sum : Sum
+  pub needs : NeedsAll t front sum
+  pub over : IsTooMuch p sum

@@ -1,0 +1,194 @@
+-- A seat reads a pin on, call by call.
+use Rattle.std.proofs.Common.{◌≡◌, ⊎_elim, inl, inr, ℕ, ◌+◌, ◌<◌, ◌≤◌, nat_lt, if◌then◌else◌, Bool, true, false, List}
+use Rattle.std.proofs.Common.{[], ◌∷◌, ◌++◌, length, take, Option, refl, sym, ◌∙◌, ap, subst, arith}
+use Rattle.std.proofs.Common.{Result, Ok, Err, IfErr}
+use Rattle.std.specs.Prelude.{IfOk, OnOk}
+use Rattle.std.proofs.lemmas.Bool.Decides.{nat_tests}
+use Rattle.std.proofs.lemmas.List.{append-nil, length-take-le}
+use Rattle.pcm_base.specs.declared.answer.Reply.{Reply}
+use Rattle.pcm_base.specs.declared.answer.Reply.TheVariants.{Frames}
+use Rattle.pcm_base.specs.declared.command.Call.{Call}
+use Rattle.pcm_base.specs.declared.command.Call.TheVariants.{ReadPin}
+use Rattle.pcm_base.specs.declared.refusal.Refusal.{Refusal}
+use Rattle.pcm_base.specs.declared.said.Said.{Said}
+use Rattle.pcm_base.specs.declared.sound.Frame.{Frame}
+use Rattle.disk_model.specs.declared.store.Store.{Ghosts}
+use Rattle.edit_ports.specs.Answers.{AtEnd, NextAt, WasRefused, after_read, first_refusal}
+use Rattle.edit_ports.specs.declared.vault.Vault as vault
+use Rattle.pin_turn.specs.declared.view.View.{View}
+use Rattle.editor_core.specs.Core.{Core}
+use Rattle.editor_core.specs.Took.{silent, told_by}
+use Rattle.studio_seats.specs.declared.held.Held.{Held}
+use Rattle.studio_seats.specs.declared.deed.Deed.{Deed}
+use Rattle.studio_seats.specs.Deeds.{deed}
+use Rattle.studio_seats.specs.Desks.{Says, Spends, Turned, asked, spent, views}
+use Rattle.studio_seats.specs.Merge.{by_seat, deeds_of}
+use Rattle.studio_seats.specs.Onward.{IsReadOf, Onward, Worker, worker}
+use Rattle.studio_seats.specs.Reads.{AreFullReads, IsAsked, ReadsOn, ReadsTo}
+use Rattle.studio_seats.specs.Stands.{origin}
+use Rattle.studio_seats.proofs.OnwardLemmas.{onward_on, onward_self, onward_spent, onward_taken}
+use Rattle.studio_seats.proofs.WorkLemmas.{own_turn}
+
+-- one full read more
+full_more : (pin from to : ℕ) (ds : List Deed) (d : Deed) (frames : List Frame) → AreFullReads pin from to ds
+    → IsAsked (length frames) → d.call ≡ ReadPin pin to (length frames) → d.what ≡ Ok (Frames frames)
+    → AreFullReads pin from (to + length frames) (ds ++ d ∷ [])
+full_more pin from to [] d frames is few call what = (
+  frames,
+  few,
+  call ∙ ap (λ (n : ℕ). ReadPin pin n (length frames)) is,
+  what,
+  ap (λ (n : ℕ). n + length frames) is,
+)
+full_more pin from to (x ∷ xs) d frames h few call what =
+    (h.0, h.1, h.2, h.3, full_more pin (from + length h.0) to xs d frames h.4 few call what)
+
+-- no read yet
+pub reads_self : {D V : Type 0} (pin : ℕ) (v : Worker D V) → ReadsOn pin (NextAt 0) v v
+reads_self pin v = record {
+  onward = onward_self (IsReadOf pin) v.view;
+  reads = λ none.
+      record { place = 0; full = []; last = []; are = refl; reads = refl; ends = (none, refl, refl) };
+}
+
+-- one read more of a worker that nothing had refused since `a`
+module _ {D V : Type 0} (pin from : ℕ) (disk : Ghosts D) (vaults : vault.Ghosts V) (start : Core D) (a : Worker D V)
+    (v w : View (Held D V) Deed) (old new : Option Refusal) (out out' : List Frame) (few : IsAsked (length out))
+    (wide : length out' ≡ length out) (h : ReadsOn pin (NextAt from) a (worker v old)) where
+  abbrev own : List Deed
+  own = deeds_of (by_seat a.view.number) h.onward.added
+
+  abbrev c : Call
+  c = ReadPin pin from (length out)
+
+  abbrev what_of : Result ℕ Refusal → Result Reply Refusal
+  what_of r = told_by (λ (n : ℕ). Frames (take n out')) r
+
+  abbrev Taken : Result ℕ Refusal → ℕ → Type 0
+  Taken r at = Turned (origin disk vaults start) (asked c (what_of r) silent) at (views v w)
+
+  abbrev done_of : Result ℕ Refusal → Deed
+  done_of r = deed v.number c (what_of r) silent
+
+  abbrev goes : (r : Result ℕ Refusal) (at : ℕ) → Taken r at → Onward (IsReadOf pin) a.view w
+  goes r at t = onward_on (IsReadOf pin) a.view v w h.onward
+      (onward_taken (IsReadOf pin) disk vaults start v w c (what_of r) silent at (from, length out, refl) t)
+
+  abbrev Before : Type 0
+  Before = ReadsTo v.used_up pin old (NextAt from) own
+
+  -- frames were given: all that were asked for, or fewer
+  gave : (count : ℕ) (fewer : Bool) → nat_lt count (length out) ≡ fewer → count ≤ length out' → new ≡ old → Before
+      → ReadsTo w.used_up pin new (if fewer then AtEnd else NextAt (from + count)) (own ++ done_of (Ok count) ∷ [])
+  gave count true test bound same b =
+      let len : length (take count out') ≡ count = length-take-le count out' bound in
+      let short : count < length out = grind (arith, nat_tests) in
+      record {
+        place = b.place;
+        full = b.full;
+        last = done_of (Ok count) ∷ [];
+        are = ap (λ (l : List Deed). l ++ done_of (Ok count) ∷ [])
+            (b.are ∙ ap (λ (l : List Deed). b.full ++ l) b.ends.1 ∙ append-nil b.full);
+        reads = b.reads;
+        ends = (
+          same ∙ b.ends.0,
+          done_of (Ok count),
+          refl,
+          record {
+            count = length out;
+            few = few;
+            frames = take count out';
+            short = omega (arith, len, short);
+            call_is = ap (λ (n : ℕ). ReadPin pin n (length out)) b.ends.2;
+            what_is = refl;
+          },
+        );
+      }
+  gave count false test bound same b =
+      let len : length (take count out') ≡ count = length-take-le count out' bound in
+      let all : length out ≤ count = grind (arith, nat_tests) in
+      let full : length out ≡ length (take count out') = omega (arith, len, all, bound, wide) in
+      record {
+        place = b.place + length (take count out');
+        full = b.full ++ done_of (Ok count) ∷ [];
+        last = [];
+        are = ap (λ (l : List Deed). l ++ done_of (Ok count) ∷ [])
+            (b.are ∙ ap (λ (l : List Deed). b.full ++ l) b.ends.1 ∙ append-nil b.full)
+            ∙ sym (append-nil (b.full ++ done_of (Ok count) ∷ []));
+        reads = full_more pin 0 b.place b.full (done_of (Ok count)) (take count out') b.reads
+            (subst IsAsked full few) (λ i. ReadPin pin (b.ends.2 i) (full i)) refl;
+        ends = (same ∙ b.ends.0, refl, omega (arith, b.ends.2, len));
+      }
+
+  -- the read was refused, by a turn or because none was left
+  refused : (why : Refusal) → new ≡ first_refusal old why → Before
+      → ReadsTo w.used_up pin new WasRefused (own ++ done_of (Err why) ∷ [])
+  refused why first b = record {
+    place = b.place;
+    full = b.full;
+    last = done_of (Err why) ∷ [];
+    are = ap (λ (l : List Deed). l ++ done_of (Err why) ∷ [])
+        (b.are ∙ ap (λ (l : List Deed). b.full ++ l) b.ends.1 ∙ append-nil b.full);
+    reads = b.reads;
+    ends = (
+      why,
+      first ∙ ap (λ (o : Option Refusal). first_refusal o why) b.ends.0,
+      inl (
+        done_of (Err why),
+        refl,
+        record {
+          count = length out;
+          few = few;
+          call_is = ap (λ (n : ℕ). ReadPin pin n (length out)) b.ends.2;
+          what_is = refl;
+        },
+      ),
+    );
+  }
+
+  taken : (r : Result ℕ Refusal) (at : ℕ) → Taken r at → IfOk r (λ count. count ≤ length out') → OnOk r (new ≡ old)
+      → IfErr r (λ why. new ≡ first_refusal old why) → ReadsOn pin (after_read from (length out) r) a (worker w new)
+  taken (Ok count) at t bound same first = record {
+    onward = goes (Ok count) at t;
+    reads = λ none. subst
+        (λ (l : List Deed). ReadsTo w.used_up pin new (after_read from (length out) (Ok count)) l)
+        (sym (own_turn (IsReadOf pin) a.view v h.onward t.between (done_of (Ok count)) refl t.by_others))
+        (gave count (nat_lt count (length out)) refl bound same (h.reads none));
+  }
+  taken (Err why) at t bound same first = record {
+    onward = goes (Err why) at t;
+    reads = λ none. subst (λ (l : List Deed). ReadsTo w.used_up pin new WasRefused l)
+        (sym (own_turn (IsReadOf pin) a.view v h.onward t.between (done_of (Err why)) refl t.by_others))
+        (refused why first (h.reads none));
+  }
+
+  spends : (r : Result ℕ Refusal) → r ≡ Err spent → w ≡ record v { used_up = true }
+      → IfErr r (λ why. new ≡ first_refusal old why) → ReadsOn pin (after_read from (length out) r) a (worker w new)
+  spends (Ok count) is view first = cc
+  spends (Err why) is view first = record {
+    onward = onward_on (IsReadOf pin) a.view v w h.onward
+        (onward_spent (IsReadOf pin) disk vaults start v w c (what_of (Err why)) silent view);
+    reads = λ none. let b = h.reads none in record {
+      place = b.place;
+      full = b.full;
+      last = [];
+      are = ap (deeds_of (by_seat a.view.number)) (append-nil h.onward.added)
+          ∙ (b.are ∙ ap (λ (l : List Deed). b.full ++ l) b.ends.1);
+      reads = b.reads;
+      ends = (
+        why,
+        first ∙ ap (λ (o : Option Refusal). first_refusal o why) b.ends.0,
+        inr (refl, cc, ap (λ (z : View (Held D V) Deed). z.used_up) view),
+      );
+    };
+  }
+
+  pub reads_turn : (said : Said ℕ)
+      → Says (origin disk vaults start) (asked c (what_of said.what) silent) said (views v w)
+      → IfOk said.what (λ count. count ≤ length out') → OnOk said.what (new ≡ old)
+      → IfErr said.what (λ why. new ≡ first_refusal old why)
+      → ReadsOn pin (after_read from (length out) said.what) a (worker w new)
+  reads_turn said says bound same first = ⊎_elim
+      (λ (t : Taken said.what said.at). taken said.what said.at t bound same first)
+      (λ (x : Spends v said w). spends said.what x.what x.view first)
+      says

@@ -1,0 +1,253 @@
+-- A recorder goes on, call by call.
+use Rattle.std.proofs.Common.{◌≡◌, ◌⊎◌, ⊎_elim, inl, inr, ℕ, ◌+◌, ◌<◌, ◌≤◌, ℤ, Bool, true, false, List, [], ◌∷◌, ◌++◌}
+use Rattle.std.proofs.Common.{Option, None, refl, sym, ◌∙◌, ap, subst, arith, Result, Ok, Err, IfErr}
+use Rattle.std.specs.Prelude.{is_err, IsOk, OnOk}
+use Rattle.std.proofs.lemmas.Bool.{true≢false}
+use Rattle.std.proofs.lemmas.List.{append-nil}
+use Rattle.pcm_base.specs.declared.answer.Reply.{Reply}
+use Rattle.pcm_base.specs.declared.answer.Reply.TheVariants.{Done}
+use Rattle.pcm_base.specs.declared.command.Call.{Call}
+use Rattle.pcm_base.specs.declared.command.Call.TheVariants.{Line, Piece}
+use Rattle.pcm_base.specs.declared.command.Command.TheVariants.{Reclaim}
+use Rattle.pcm_base.specs.declared.entry.Entry.{Entry}
+use Rattle.pcm_base.specs.declared.refusal.Refusal.{Refusal}
+use Rattle.pcm_base.specs.declared.said.Said.{Said}
+use Rattle.disk_model.specs.declared.store.Store.{Ghosts}
+use Rattle.edit_ports.specs.Answers.{first_refusal}
+use Rattle.edit_ports.specs.declared.vault.Vault as vault
+use Rattle.pin_turn.specs.declared.view.View.{View}
+use Rattle.pin_turn.specs.Counts.{Each}
+use Rattle.pin_turn.proofs.Sums.{Each-append}
+use Rattle.editor_core.specs.Core.{Core}
+use Rattle.editor_core.specs.Took.{silent, told_by}
+use Rattle.studio_seats.specs.declared.held.Held.{Held}
+use Rattle.studio_seats.specs.declared.deed.Deed.{Deed}
+use Rattle.studio_seats.specs.Deeds.{deed, entries_of, entry_of, number_after}
+use Rattle.studio_seats.specs.Desks.{Says, Spends, Turned, asked, spent, views}
+use Rattle.studio_seats.specs.Freeing.{AreFreed, IsFullReclaim, unfreed}
+use Rattle.studio_seats.specs.Merge.{by_seat, deeds_of}
+use Rattle.studio_seats.specs.Onward.{AreDone, Asks, EndsBy, Onward}
+use Rattle.studio_seats.specs.Pieces.{pieces_by}
+use Rattle.studio_seats.specs.Recording.{Frees, FreesTo, Recorder, RecorderAsks, RecordsOn, asks_piece, recorder}
+use Rattle.studio_seats.specs.Stands.{origin}
+use Rattle.studio_seats.proofs.FreeingLemmas.{asked_own, freed_append, no_piece_among, no_pieces_by, reclaims_free}
+use Rattle.studio_seats.proofs.FreeingLemmas.{unfreed_append}
+use Rattle.studio_seats.proofs.Grown.{entries_append}
+use Rattle.studio_seats.proofs.MergeLemmas.{deeds_append}
+use Rattle.studio_seats.proofs.OnwardLemmas.{onward_on, onward_self, onward_spent, onward_taken}
+use Rattle.studio_seats.proofs.PieceLemmas.{pieces_append}
+use Rattle.studio_seats.proofs.Turns.{number_on}
+use Rattle.studio_seats.proofs.WorkLemmas.{ends_later, onward_as, own_turn}
+
+-- a recorder that was asked nothing
+pub records_self : {D V : Type 0} (track tag : ℕ) (v : Recorder D V) → RecordsOn track tag false v v
+records_self track tag v = record {
+  onward = onward_self (RecorderAsks track tag) v.view;
+  unrefused = λ going. refl;
+  ends = λ none. subst (λ (o : Option Refusal). EndsBy v.view.used_up o []) (sym none) tt;
+  freed = tt;
+  since = inl refl;
+}
+
+-- a piece more of a recorder that nothing had refused since `a`
+module _ {D V : Type 0} (track tag : ℕ) (disk : Ghosts D) (vaults : vault.Ghosts V) (start : Core D) (a : Recorder D V)
+    (v w : View (Held D V) Deed) (old new : Option Refusal) (since : ℕ) (samples : List ℤ) (few : since < 64)
+    (h : RecordsOn track tag false a (recorder v old since)) where
+  abbrev own : List Deed
+  own = deeds_of (by_seat a.view.number) h.onward.added
+
+  abbrev c : Call
+  c = Piece track tag samples
+
+  abbrev what_of : Result ℕ Refusal → Result Reply Refusal
+  what_of r = told_by (λ (n : ℕ). Done) r
+
+  abbrev Taken : Result ℕ Refusal → ℕ → Type 0
+  Taken r at = Turned (origin disk vaults start) (asked c (what_of r) silent) at (views v w)
+
+  abbrev done_of : Result ℕ Refusal → Deed
+  done_of r = deed v.number c (what_of r) silent
+
+  -- where nothing was refused before, nothing was since
+  none_yet : a.refused ≡ None → old ≡ None
+  none_yet none = h.unrefused refl ∙ none
+
+  each_done : a.refused ≡ None → AreDone (deeds_of asks_piece own)
+  each_done none = subst (λ (o : Option Refusal). EndsBy v.used_up o (deeds_of asks_piece own)) (none_yet none)
+      (h.ends none)
+
+  -- its own deeds are one more
+  own_more : (r : Result ℕ Refusal) (at : ℕ) (t : Taken r at)
+      → deeds_of (by_seat a.view.number) (h.onward.added ++ (t.between ++ done_of r ∷ [])) ≡ own ++ done_of r ∷ []
+  own_more r at t = own_turn (RecorderAsks track tag) a.view v h.onward t.between (done_of r) refl t.by_others
+
+  pieces_more : (r : Result ℕ Refusal) (at : ℕ) (t : Taken r at)
+      → deeds_of asks_piece (deeds_of (by_seat a.view.number) (h.onward.added ++ (t.between ++ done_of r ∷ [])))
+      ≡ deeds_of asks_piece own ++ done_of r ∷ []
+  pieces_more r at t = ap (deeds_of asks_piece) (own_more r at t) ∙ deeds_append asks_piece own (done_of r ∷ [])
+
+  entries_more : (r : Result ℕ Refusal) (at : ℕ) (t : Taken r at)
+      → entries_of (deeds_of (by_seat a.view.number) (h.onward.added ++ (t.between ++ done_of r ∷ [])))
+      ≡ entries_of own ++ entry_of (done_of r) ∷ []
+  entries_more r at t = ap entries_of (own_more r at t) ∙ entries_append own (done_of r ∷ [])
+
+  -- as a turn was taken, one was left before
+  counted : v.used_up ≡ false → unfreed a.since (entries_of own) ≡ since
+  counted unspent = ⊎_elim (λ (is : unfreed a.since (entries_of own) ≡ since). is)
+      (λ (used : v.used_up ≡ true). absurd (true≢false (sym used ∙ unspent))) h.since
+
+  goes : (r : Result ℕ Refusal) (at : ℕ) (t : Taken r at) → (new' : Option Refusal) (failed : Bool)
+      → (failed ≡ false → new' ≡ a.refused)
+      → (a.refused ≡ None → EndsBy w.used_up new' (deeds_of asks_piece own ++ done_of r ∷ []))
+      → RecordsOn track tag failed a (recorder w new' (since + 1))
+  goes r at t new' failed unrefused ends =
+      let e : Entry = entry_of (done_of r) in
+      let is : unfreed a.since (entries_of own) ≡ since = counted t.unspent in
+      let one : unfreed a.since (entries_of own) + 1 ≤ 64 = omega (arith, is, few) in
+      record {
+        onward = onward_on (RecorderAsks track tag) a.view v w h.onward
+            (onward_taken (RecorderAsks track tag) disk vaults start v w c (what_of r) silent at
+            (inl (samples, refl)) t);
+        unrefused = unrefused;
+        ends = λ none. subst (λ (l : List Deed). EndsBy w.used_up new' l) (sym (pieces_more r at t)) (ends none);
+        freed = subst (λ (l : List Entry). AreFreed a.since l) (sym (entries_more r at t))
+            (freed_append a.since (entries_of own) (e ∷ []) h.freed (one, tt));
+        since = inl (ap (unfreed a.since) (entries_more r at t)
+            ∙ (unfreed_append a.since (entries_of own) (e ∷ []) ∙ ap (λ (n : ℕ). n + 1) is));
+      }
+
+  taken : (r : Result ℕ Refusal) (at : ℕ) → Taken r at → OnOk r (new ≡ old)
+      → IfErr r (λ why. new ≡ first_refusal old why) → RecordsOn track tag (is_err r) a (recorder w new (since + 1))
+  taken (Ok x) at t same first = goes (Ok x) at t new false (λ going. same ∙ h.unrefused refl)
+      (λ none. subst (λ (o : Option Refusal). EndsBy w.used_up o (deeds_of asks_piece own ++ done_of (Ok x) ∷ []))
+      (sym (same ∙ none_yet none))
+      (Each-append (λ d. IsOk d.what) (deeds_of asks_piece own) (done_of (Ok x) ∷ []) (each_done none) (refl, tt)))
+  taken (Err why) at t same first = goes (Err why) at t new true (λ going. absurd (true≢false going))
+      (λ none. subst (λ (o : Option Refusal). EndsBy w.used_up o (deeds_of asks_piece own ++ done_of (Err why) ∷ []))
+      (sym (first ∙ ap (λ (o : Option Refusal). first_refusal o why) (none_yet none)))
+      (inl record {
+        done = deeds_of asks_piece own;
+        last = done_of (Err why);
+        are = refl;
+        each = each_done none;
+        refused = refl;
+      }))
+
+  spends : (r : Result ℕ Refusal) → r ≡ Err spent → w ≡ record v { used_up = true }
+      → IfErr r (λ why. new ≡ first_refusal old why) → RecordsOn track tag (is_err r) a (recorder w new (since + 1))
+  spends (Ok x) is view first = cc
+  spends (Err why) is view first =
+      let used : w.used_up ≡ true = ap (λ (z : View (Held D V) Deed). z.used_up) view in
+      let same : deeds_of (by_seat a.view.number) (h.onward.added ++ []) ≡ own =
+      ap (deeds_of (by_seat a.view.number)) (append-nil h.onward.added) in
+      record {
+        onward = onward_on (RecorderAsks track tag) a.view v w h.onward
+            (onward_spent (RecorderAsks track tag) disk vaults start v w c (what_of (Err why)) silent view);
+        unrefused = λ going. absurd (true≢false going);
+        ends = λ none. subst (λ (z : Option Refusal × List Deed). EndsBy w.used_up z.0 (deeds_of asks_piece z.1))
+            (λ i. (sym (first ∙ ap (λ (o : Option Refusal). first_refusal o why) (none_yet none)) i, sym same i))
+            (inr record { each = each_done none; spent_is = cc; found = used });
+        freed = subst (λ (l : List Deed). AreFreed a.since (entries_of l)) (sym same) h.freed;
+        since = inr used;
+      }
+
+  pub records_turn : (said : Said ℕ)
+      → Says (origin disk vaults start) (asked c (what_of said.what) silent) said (views v w)
+      → OnOk said.what (new ≡ old) → IfErr said.what (λ why. new ≡ first_refusal old why)
+      → RecordsOn track tag (is_err said.what) a (recorder w new (since + 1))
+  records_turn said says same first = ⊎_elim
+      (λ (t : Taken said.what said.at). taken said.what said.at t same first)
+      (λ (x : Spends v said w). spends said.what x.what x.view first)
+      says
+
+-- a reclaim
+pub frees_turn : {D V A : Type 0} (disk : Ghosts D) (vaults : vault.Ghosts V) (start : Core D)
+    (v w : View (Held D V) Deed) (what : Result Reply Refusal) (said : Said A)
+    → Says (origin disk vaults start) (asked (Line (Reclaim None)) what silent) said (views v w) → Frees v w
+frees_turn {D} {V} disk vaults start v w what said says = ⊎_elim
+    (λ (x : Turned (origin disk vaults start) (asked (Line (Reclaim None)) what silent) said.at (views v w)).
+    let e : Deed = deed v.number (Line (Reclaim None)) what silent in record {
+      onward = onward_taken IsFullReclaim disk vaults start v w (Line (Reclaim None)) what silent said.at refl x;
+      freed = λ n. inl (ap (λ (l : List Deed). unfreed n (entries_of l))
+          (own_turn IsFullReclaim v v (onward_self IsFullReclaim v) x.between e refl x.by_others));
+    })
+    (λ (x : Spends v said w). record {
+      onward = onward_spent IsFullReclaim disk vaults start v w (Line (Reclaim None)) what silent x.view;
+      freed = λ n. inr (ap (λ (z : View (Held D V) Deed). z.used_up) x.view);
+    })
+    says
+
+module _ {D V : Type 0} (track tag : ℕ) (v w : View (Held D V) Deed) where
+  -- what a recorder did before a reclaim, and that
+  module _ (failed : Bool) (a : Recorder D V) (refused : Option Refusal) (since : ℕ)
+      (h : RecordsOn track tag failed a (recorder v refused since)) where
+    abbrev before : List Deed
+    before = deeds_of (by_seat a.view.number) h.onward.added
+
+    frees : Frees v w → RecordsOn track tag failed a (recorder w refused 0)
+    frees f =
+        let n : ℕ = a.view.number in
+        let more : List Deed = deeds_of (by_seat n) f.onward.added in
+        let own : deeds_of (by_seat n) (h.onward.added ++ f.onward.added) ≡ before ++ more =
+        deeds_append (by_seat n) h.onward.added f.onward.added in
+        let reclaims : Each (λ d. IsFullReclaim d.call) more = asked_own IsFullReclaim n f.onward.added
+        (subst (λ (m : ℕ). Asks IsFullReclaim m f.onward.added) h.onward.number f.onward.asks) in
+        let pieces : deeds_of asks_piece (deeds_of (by_seat n) (h.onward.added ++ f.onward.added))
+        ≡ deeds_of asks_piece before =
+        ap (deeds_of asks_piece) own ∙ (deeds_append asks_piece before more
+        ∙ (ap (λ (l : List Deed). deeds_of asks_piece before ++ l) (no_piece_among more reclaims)
+        ∙ append-nil (deeds_of asks_piece before))) in
+        let entries : entries_of (deeds_of (by_seat n) (h.onward.added ++ f.onward.added))
+        ≡ entries_of before ++ entries_of more = ap entries_of own ∙ entries_append before more in
+        record {
+          onward = onward_on (RecorderAsks track tag) a.view v w h.onward
+              (onward_as IsFullReclaim (RecorderAsks track tag) v w (λ c is. inr is) f.onward);
+          unrefused = h.unrefused;
+          ends = λ none. subst (λ (l : List Deed). EndsBy w.used_up refused l) (sym pieces)
+              (ends_later v.used_up w.used_up refused (deeds_of asks_piece before) f.onward.used_up (h.ends none));
+          freed = subst (λ (l : List Entry). AreFreed a.since l) (sym entries)
+              (freed_append a.since (entries_of before) (entries_of more) h.freed
+              (reclaims_free (unfreed a.since (entries_of before)) more reclaims));
+          since = ⊎_elim
+              (λ (none : unfreed (unfreed a.since (entries_of before))
+              (entries_of (deeds_of (by_seat v.number) f.onward.added)) ≡ 0).
+              inl (ap (unfreed a.since) entries
+              ∙ (unfreed_append a.since (entries_of before) (entries_of more)
+              ∙ subst (λ (m : ℕ). unfreed (unfreed a.since (entries_of before))
+              (entries_of (deeds_of (by_seat m) f.onward.added)) ≡ 0) h.onward.number none)))
+              (λ (used : w.used_up ≡ true). inr used)
+              (f.freed (unfreed a.since (entries_of before)));
+        }
+
+    -- the same where it may have made none
+    pub records_free : (left : ℕ) → FreesTo since v left w → RecordsOn track tag failed a (recorder w refused left)
+    records_free left (inl stays) =
+        subst (λ (z : ℕ × View (Held D V) Deed). RecordsOn track tag failed a (recorder z.1 refused z.0))
+        (λ i. (sym stays.0 i, sym stays.1 i)) h
+    records_free left (inr made) = subst (λ (n : ℕ). RecordsOn track tag failed a (recorder w refused n)) (sym made.0)
+        (frees made.1)
+
+  module _ (since left : ℕ) where
+    -- its pieces are the same
+    pub pieces_free : (first : ℕ) → FreesTo since v left w
+        → pieces_by track tag w.number first w.seen ≡ pieces_by track tag v.number first v.seen
+    pieces_free first (inl stays) =
+        ap (λ (z : View (Held D V) Deed). pieces_by track tag z.number first z.seen) stays.1
+    pieces_free first (inr made) =
+        let on : Onward IsFullReclaim v w = made.1.onward in
+        (λ i. pieces_by track tag (on.number i) first (on.seen i))
+        ∙ (pieces_append track tag v.number first v.seen on.added
+        ∙ (ap (λ (l : List (List ℤ × ℕ)). pieces_by track tag v.number first v.seen ++ l)
+        (no_pieces_by track tag v.number (number_after first v.seen) on.added on.asks)
+        ∙ append-nil (pieces_by track tag v.number first v.seen)))
+
+    -- a number to which the deeds led is no higher than that to which they lead now
+    pub number_free : (first least : ℕ) → FreesTo since v left w → least ≤ number_after first v.seen
+        → least ≤ number_after first w.seen
+    number_free first least (inl stays) low =
+        subst (λ (z : View (Held D V) Deed). least ≤ number_after first z.seen) (sym stays.1) low
+    number_free first least (inr made) low =
+        let on = number_on first v.seen made.1.onward.added in
+        let same : number_after first w.seen ≡ number_after first (v.seen ++ made.1.onward.added) =
+        ap (number_after first) made.1.onward.seen in
+        omega (arith, low, on, same)

@@ -1,0 +1,51 @@
+-- How what the seat of a recorder knows goes on: by pieces of its recording, and by reclaims.
+use Rattle.std.specs.Prelude.{◌≡◌, ◌⊎◌, ℕ, Bool, true, false, Option, None}
+use Rattle.pcm_base.specs.declared.command.Call.{Call}
+use Rattle.pcm_base.specs.declared.refusal.Refusal.{Refusal}
+use Rattle.pin_turn.specs.declared.view.View.{View}
+use Rattle.studio_seats.specs.declared.deed.Deed.{Deed}
+use Rattle.studio_seats.specs.declared.held.Held.{Held}
+use Rattle.studio_seats.specs.Deeds.{entries_of}
+use Rattle.studio_seats.specs.Freeing.{AreFreed, IsFullReclaim, makes_piece, unfreed}
+use Rattle.studio_seats.specs.Merge.{by_seat, deeds_of}
+use Rattle.studio_seats.specs.Onward.{EndsBy, IsPieceOf, Onward}
+
+-- what a recorder asks: a piece of this recording, or a reclaim
+abbrev pub RecorderAsks : ℕ → ℕ → Call → Type 0
+RecorderAsks track tag c = IsPieceOf track tag c ⊎ IsFullReclaim c
+
+abbrev pub asks_piece : Deed → Bool
+asks_piece d = makes_piece d.call
+
+-- what a seat knows that takes pieces, the first refusal that it was answered, and how many pieces it asked for since
+-- its last reclaim
+pub record Recorder (D V : Type 0) : Type 0 where
+  pub view : View (Held D V) Deed
+  pub refused : Option Refusal
+  pub since : ℕ
+
+abbrev pub recorder : {D V : Type 0} → View (Held D V) Deed → Option Refusal → ℕ → Recorder D V
+recorder view refused since = record { view = view; refused = refused; since = since }
+
+module _ {D V : Type 0} where
+  -- A seat made a reclaim, unless no turn was left.
+  pub record Frees (v w : View (Held D V) Deed) : Type 0 where
+    pub onward : Onward IsFullReclaim v w
+    pub freed : (n : ℕ)
+        → (unfreed n (entries_of (deeds_of (by_seat v.number) onward.added)) ≡ 0) ⊎ (w.used_up ≡ true)
+
+  -- A seat that had asked for so many pieces since its last reclaim did nothing, or made one; then it has so many.
+  abbrev pub FreesTo : ℕ → View (Held D V) Deed → ℕ → View (Held D V) Deed → Type 0
+  FreesTo since v left w = ((left ≡ since) × (w ≡ v)) ⊎ ((left ≡ 0) × Frees v w)
+
+  -- The seat of a recorder went on by pieces and reclaims, each a turn of its own, but for one for which no turn was
+  -- left. Of the pieces none was refused but the last, where it `failed`. At no time there were more than 64 since the
+  -- last reclaim, and it counts them, until no turn is left.
+  pub record RecordsOn (track tag : ℕ) (failed : Bool) (v w : Recorder D V) : Type 0 where
+    pub onward : Onward (RecorderAsks track tag) v.view w.view
+    pub unrefused : failed ≡ false → w.refused ≡ v.refused
+    pub ends : v.refused ≡ None → EndsBy w.view.used_up w.refused
+        (deeds_of asks_piece (deeds_of (by_seat v.view.number) onward.added))
+    pub freed : AreFreed v.since (entries_of (deeds_of (by_seat v.view.number) onward.added))
+    pub since : (unfreed v.since (entries_of (deeds_of (by_seat v.view.number) onward.added)) ≡ w.since)
+        ⊎ (w.view.used_up ≡ true)
