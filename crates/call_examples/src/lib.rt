@@ -7,20 +7,8 @@ mod calls;
 #[cfg(test)]
 mod gates;
 #[cfg(test)]
-mod memory_tests;
-#[cfg(test)]
 mod overlap_tests;
 #[cfg(test)]
 mod recording_stop_tests;
 #[cfg(test)]
-mod refused_tests;
-#[cfg(test)]
 mod sessions;
-#[cfg(test)]
-mod sound_tests;
-#[cfg(test)]
-mod stop_tests;
-#[cfg(test)]
-mod stream_tests;
-#[cfg(test)]
-mod worked_tests;

@@ -25,8 +25,6 @@ pub(crate) enum Ask {
     Pin,
     PinLen(u64),
     Unpin(u64),
-    // Whether a scan finds a block at this place among those that are named, as a length of 1 or 0.
-    Scan(u64),
 }
 
 // What is asked, and the text of its answer: what is printed, without the LF.
@@ -119,19 +117,6 @@ fn unpin<S: Store>(studio: &mut Studio<S>, pin: u64) -> Result<Reply, Refusal>
     Ok(Reply::Done)
 }
 
-fn scan<S: Store>(alloc: Global, studio: &mut Studio<S>, place: u64) -> Result<Reply, Refusal>
-    requires { IsStudio S.Store (core_of studio.old) }
-    ensures { IsStudio S.Store (core_of studio.new) }
-{
-    if let Some(faults) = studio.stopped() {
-        return Err(Refusal::Stopped { faults });
-    }
-    let is_there = studio.scan_block(alloc, place)?;
-    Ok(Reply::Length {
-        frames: is_there as u64,
-    })
-}
-
 // The answer to what is asked.
 pub(crate) fn answer<S: Store>(
     alloc: Global,
@@ -152,7 +137,6 @@ pub(crate) fn answer<S: Store>(
         Ask::Pin => pin(studio),
         Ask::PinLen(number) => pin_len(studio, number),
         Ask::Unpin(number) => unpin(studio, number),
-        Ask::Scan(place) => scan(alloc, studio, place),
     };
     Answer {
         commit: studio.commit_number(),

@@ -49,6 +49,8 @@ fn the_least_of_count_0(rt: HostRuntime) -> Result<(), Fail> {
     ledger.drop_one(18);
     ledger.drop_one(16);
     assert!(rt; ledger.first_free() == Some(18));
+    assert!(rt; ledger.next_free(0) == Some(18) && ledger.next_free(18) == Some(18));
+    assert!(rt; ledger.next_free(19) == Some(20) && ledger.next_free(21) == None);
     assert!(rt; named(&ledger)?.as_slice() == [16].as_slice());
     ledger.forget(18);
     assert!(rt; ledger.first_free() == Some(20));

@@ -4,20 +4,4 @@
 #[cfg(test)]
 mod block_ledger_tests;
 #[cfg(test)]
-mod editor_recovery_tests;
-#[cfg(test)]
-mod journals;
-#[cfg(test)]
-mod memory_project_tests;
-#[cfg(test)]
-mod project_readings;
-#[cfg(test)]
-mod project_state_tests;
-#[cfg(test)]
-mod projects;
-#[cfg(test)]
-mod record_fold_tests;
-#[cfg(test)]
-mod recovery_stops;
-#[cfg(test)]
 mod undo_history_tests;

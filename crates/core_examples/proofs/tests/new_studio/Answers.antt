@@ -1,5 +1,5 @@
 -- A new project on a disk without blocks.
-use Rattle.std.proofs.Common.{◌≡◌, ◌∙◌, ap, refl, subst, ℕ, ◌≤◌, [], List, IsTrue, arith}
+use Rattle.std.proofs.Common.{◌∙◌, ap, refl, List, arith}
 use Rattle.pcm_base.specs.History.{history_of_one}
 use Rattle.project_state.specs.declared.track.Track.{Track}
 use Rattle.editor_core.proofs.Fresh.{fresh_parts}
