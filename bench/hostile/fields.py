@@ -13,16 +13,40 @@ def damaged(file, at, want, have):
         raise Refused(f"Damaged {file} {at} {want} {have}")
 
 
-def at_least(at, bound, have):
-    damaged(0, at, max(bound, have), have)
-
-
-def at_most(at, bound, have):
-    damaged(0, at, min(max(bound, 0), have), have)
-
-
 def number(data, at, width):
     return int.from_bytes(data[at:at + width], "little")
+
+
+# Tests of fields, each a place and a number, of a part of a file that begins at a base.
+class Tests:
+    def __init__(self, file, base=0):
+        self.file, self.base = file, base
+
+    def same(self, field, want):
+        damaged(self.file, self.base + field[0], want, field[1])
+
+    def at_least(self, field, bound):
+        self.same(field, max(bound, field[1]))
+
+    def at_most(self, field, bound):
+        self.same(field, min(max(bound, 0), field[1]))
+
+    # A field that is to end at a place of a file of so many bytes.
+    def is_there(self, at, end, size):
+        self.same((at, min(end, size)), end)
+
+
+# Takes fields one after another, and knows where the last one ended, or would have ended.
+class Walk:
+    def __init__(self, data):
+        self.data, self.at = data, 0
+
+    def take(self, width):
+        start = self.at
+        self.at += width
+        if self.at > len(self.data):
+            raise EOFError
+        return start, number(self.data, start, width)
 
 
 # The bytes of fields, and each field's place and width beside them.

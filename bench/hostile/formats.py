@@ -1,221 +1,294 @@
-# Projects as docs/FORMATS.md has them: how they are spelled, and what is found where they are opened. It is written
-# from that page alone, so that it can differ from the program.
+# What is found where a project is opened, by docs/FORMATS.md. It is written from that page, so that it can differ from
+# the program.
 from blocks import block_size
-from fields import END, LONGEST, Refused, at_least, at_most, damaged, number
-
-FIRST_BLOCK = 16
-MAGIC = 827_214_401
+from fields import END, LONGEST, Refused, Tests, Walk, damaged, number
+from projects import FIRST_BLOCK, MAGIC, Project, last_blocks, length_of
 
 
-# A project: its points are pairs of tracks and tag, a track is (id, gain, side, mute, clips), a clip (start, blocks), a
-# block (id, length).
-class Project:
-    def __init__(self, rate, block, depth):
-        self.rate, self.block, self.depth = rate, block, depth
-        self.points, self.cursor = [([], 0)], 0
-        self.next_block, self.next_track, self.commit, self.end = FIRST_BLOCK, 1, 0, 32
-
-    def tracks(self):
-        return self.points[self.cursor][0]
-
-    # The blocks that points name, by rising id.
-    def named(self):
-        return sorted({b for tracks, _ in self.points for t in tracks for _, blocks in t[4] for b in blocks})
-
-    def record(self, tracks, tag):
-        if tag and self.points[self.cursor][1] == tag:
-            self.points[self.cursor:] = [(tracks, tag)]
-        else:
-            self.points[self.cursor + 1:] = [(tracks, tag)]
-            del self.points[:-self.depth]
-        self.cursor = len(self.points) - 1
-        self.commit += 1
-
-    def go(self, step):
-        self.cursor += step
-        self.commit += 1
-
-    def purge(self, count):
-        del self.points[:count]
-        self.go(-count)
+# The fields of blocks, clips and tracks. A field is a place and a number.
+def walk_blocks(walk, count):
+    return [(walk.take(8), walk.take(4)) for _ in range(count)]
 
 
-def length_of(track):
-    if not track[4]:
-        return 0
-    start, blocks = track[4][-1]
-    return start + sum(length for _, length in blocks)
+def walk_clip(walk):
+    start, count = walk.take(8), walk.take(4)
+    return start, count, walk_blocks(walk, count[1])
 
 
-def spell_header(out, rate, block, depth):
-    out.put(1, 1)
-    out.put(4, MAGIC, 1, rate, block, depth)
-    out.put(1, *[0] * 12)
+# Of a track without its id.
+def walk_heard(walk):
+    gain, side, mute, count = walk.take(4), walk.take(1), walk.take(1), walk.take(4)
+    return gain, side, mute, [walk_clip(walk) for _ in range(count[1])]
 
 
-def spell_edit(out, project, tag):
-    out.put(1, 1)
-    out.put(8, tag, project.next_block, project.next_track)
-    out.put(4, len(project.tracks()))
-    for id, gain, side, mute, clips in project.tracks():
-        out.put(8, id)
-        out.put(4, gain)
-        out.put(1, side, mute)
-        out.put(4, len(clips))
-        for start, blocks in clips:
-            out.put(8, start)
-            out.put(4, len(blocks))
-            for block, length in blocks:
-                out.put(8, block)
-                out.put(4, length)
+def walk_tracks(walk):
+    count = walk.take(4)
+    return count, [(walk.take(8), *walk_heard(walk)) for _ in range(count[1])]
 
 
-# Adds a record's length, body and the next gate behind a gate, which is opened.
-def append(out, spell, *args):
-    out.data[-1] = 1
-    at = len(out.data)
-    out.put(4, 0)
-    spell(out, *args)
-    out.data[at:at + 4] = (len(out.data) - at - 4).to_bytes(4, "little")
-    out.put(1, 0)
+# Of changes. What follows a mark above 2 is not known, and may have any length.
+def walk_changes(walk):
+    count, changes = walk.take(4), []
+    for _ in range(count[1]):
+        id, mark, more = walk.take(8), walk.take(1), None
+        if mark[1] == 1:
+            more = walk_heard(walk)
+        elif mark[1] == 2:
+            gone, coming = walk.take(4), walk.take(4)
+            more = gone, coming, walk_blocks(walk, coming[1])
+        changes.append((id, mark, more))
+        if mark[1] > 2:
+            walk.at = len(walk.data)
+            break
+    return count, changes
 
 
-# Reads fields one after another, and knows where the last one ended, or would have ended.
-class Walk:
-    def __init__(self, data):
-        self.data, self.at = data, 0
-
-    def take(self, width):
-        start = self.at
-        self.at += width
-        if self.at > len(self.data):
-            raise EOFError
-        return number(self.data, start, width)
+# The numbers of fields, as a project has them.
+def plain_blocks(blocks):
+    return [(id[1], length[1]) for id, length in blocks]
 
 
-# The fields of an edit, each number beside its place in the body.
-def walk_edit(walk):
-    def take(width):
-        at = walk.at
-        return at, walk.take(width)
-
-    head = [take(8), take(8), take(8), take(4)]
-    tracks = []
-    for _ in range(head[3][1]):
-        track = [take(8), take(4), take(1), take(1), take(4), []]
-        tracks.append(track)
-        for _ in range(track[4][1]):
-            clip = [take(8), take(4), []]
-            track[5].append(clip)
-            clip[2].extend((take(8), take(4)) for _ in range(clip[1][1]))
-    return head, tracks
+def plain_heard(heard):
+    gain, side, mute, clips = heard
+    return gain[1], side[1], mute[1], [(start[1], plain_blocks(blocks)) for start, _, blocks in clips]
 
 
-def test_clip(clip, base, first, next_block, most):
-    (start_at, start), (count_at, count), blocks = clip
-    at_least(base + start_at, first, start)
-    at_most(base + start_at, LONGEST, start)
-    at_least(base + count_at, 1, count)
-    end = start
-    for (id_at, id), (length_at, length) in blocks:
-        at_least(base + id_at, FIRST_BLOCK, id)
-        at_most(base + id_at, next_block - 1, id)
-        at_most(base + length_at, LONGEST - end, length)
-        at_least(base + length_at, 1, length)
-        at_most(base + length_at, most, length)
-        if count > 1:
-            at_least(base + length_at, most // 2, length)
-        end += length
-    return end + 1
+# The tests of a body or of a header's point, whose bounds are these.
+class BodyTests(Tests):
+    def __init__(self, file, base, next_block, next_track, most):
+        super().__init__(file, base)
+        self.next_block, self.next_track, self.most = next_block, next_track, most
+
+    # Blocks of a clip after so many cells; it answers where they end.
+    def test_blocks(self, blocks, is_several, end):
+        for id, length in blocks:
+            self.at_least(id, FIRST_BLOCK)
+            self.at_most(id, self.next_block - 1)
+            self.at_most(length, LONGEST - end)
+            self.at_least(length, 1)
+            self.at_most(length, self.most)
+            if is_several:
+                self.at_least(length, self.most // 2)
+            end += length[1]
+        return end
+
+    def test_heard(self, heard):
+        gain, side, mute, clips = heard
+        self.at_most(gain, 1_048_576)
+        self.at_most(side, 2)
+        self.at_most(mute, 1)
+        first = 0
+        for start, count, blocks in clips:
+            self.at_least(start, first)
+            self.at_most(start, LONGEST)
+            self.at_least(count, 1)
+            first = self.test_blocks(blocks, count[1] > 1, start[1]) + 1
+
+    # Ids rise, and are below the next one.
+    def test_id(self, id, last):
+        self.at_least(id, 1)
+        self.at_least(id, last + 1)
+        self.at_most(id, self.next_track - 1)
+
+    def test_tracks(self, count, tracks):
+        self.at_most(count, 64)
+        last = 0
+        for id, *heard in tracks:
+            self.test_id(id, last)
+            self.test_heard(heard)
+            last = id[1]
+
+    def test_mark(self, mark, old):
+        self.at_most(mark, 2)
+        if old is None or mark[1] == 2 and not old[4]:
+            self.same(mark, 1)
+
+    # The last blocks of a track's last clip are replaced.
+    def test_tail(self, tail, old):
+        gone, coming, blocks = tail
+        olds = last_blocks(old)
+        self.at_most(gone, len(olds))
+        if coming[1] and len(olds) == 1 and olds[0][1] < self.most // 2:
+            self.at_least(gone, 1)
+        kept = olds[:len(olds) - gone[1]]
+        if not kept:
+            self.at_least(coming, 1)
+        end = old[4][-1][0] + sum(length for _, length in kept)
+        self.test_blocks(blocks, len(kept) + coming[1] > 1, end)
+
+    def test_changes(self, count, changes, current):
+        self.at_most(count, 64)
+        last = 0
+        for id, mark, more in changes:
+            self.test_id(id, last)
+            old = current.get(id[1])
+            self.test_mark(mark, old)
+            if mark[1] == 1:
+                self.test_heard(more)
+            elif mark[1] == 2:
+                self.test_tail(more, old)
+            last = id[1]
 
 
-def test_edit(project, base, head, tracks):
-    (tag_at, tag), (block_at, next_block), (track_at, next_track), (count_at, count) = head
-    at_most(base + tag_at, project.commit, tag)
-    for at, low, value, before in (
-        (base + block_at, FIRST_BLOCK, next_block, project.next_block),
-        (base + track_at, 1, next_track, project.next_track),
-    ):
-        at_least(at, low, value)
-        at_most(at, END, value)
-        at_least(at, before, value)
-    at_most(base + count_at, 64, count)
-    last = 0
-    for (id_at, id), (gain_at, gain), (side_at, side), (mute_at, mute), _, clips in tracks:
-        at_least(base + id_at, 1, id)
-        at_least(base + id_at, last + 1, id)
-        at_most(base + id_at, next_track - 1, id)
-        at_most(base + gain_at, 1_048_576, gain)
-        at_most(base + side_at, 2, side)
-        at_most(base + mute_at, 1, mute)
-        last, first = id, 0
-        for clip in clips:
-            first = test_clip(clip, base, first, next_block, project.block)
+# The track that a change says by the current point.
+def changed(id, mark, more, old):
+    if mark[1] == 0:
+        return old
+    if mark[1] == 1:
+        return id[1], *plain_heard(more)
+    kept = last_blocks(old)[:len(last_blocks(old)) - more[0][1]]
+    return *old[:4], [*old[4][:-1], (old[4][-1][0], kept + plain_blocks(more[2]))]
 
 
-def plain(track):
-    clips = [(clip[0][1], [(id[1], length[1]) for id, length in clip[2]]) for clip in track[5]]
-    return (*(field[1] for field in track[:4]), clips)
-
-
-# Carries out a record whose body stands at a place, or tells its first fault.
-def fold_record(project, base, body):
+# The bytes from a base on, read by a walk that the length before them has to fit.
+def walk_whole(tests, body, read):
     walk = Walk(body)
     try:
-        kind = walk.take(1)
-        edit = walk_edit(walk) if kind == 1 else None
-        count = walk.take(8) if kind == 4 else 0
+        found = read(walk)
     except EOFError:
-        damaged(0, base - 4, walk.at, len(body))
-    if 1 <= kind <= 4:
-        damaged(0, base - 4, walk.at, len(body))
-    damaged(0, base, max(1, min(4, kind)), kind)
-    if kind == 1:
-        head, tracks = edit
-        test_edit(project, base, head, tracks)
-        project.next_block, project.next_track = head[1][1], head[2][1]
-        project.record([plain(track) for track in tracks], head[0][1])
-    elif kind == 2:
-        at_least(base, 1, project.cursor)
+        found = None
+    tests.same((-4, len(body)), walk.at)
+    return found
+
+
+# The body of a record by its kind; that of an unknown kind may have any length.
+def walk_body(version):
+    def read(walk):
+        kind = walk.take(1)
+        if kind[1] == 4:
+            return kind, walk.take(8)
+        if kind[1] == (1, 5)[version - 1]:
+            head = [walk.take(8) for _ in range(3)]
+            return kind, *head, *(walk_tracks if version == 1 else walk_changes)(walk)
+        if not version <= kind[1] <= version + 3:
+            walk.at = len(walk.data)
+        return (kind,)
+    return read
+
+
+# An edit of either version.
+def fold_edit(project, file, base, edit):
+    kind, tag, next_block, next_track, count, said = edit
+    tests = BodyTests(file, base, next_block[1], next_track[1], project.block)
+    tests.at_most(tag, project.commit)
+    for field, low, before in ((next_block, FIRST_BLOCK, project.next_block), (next_track, 1, project.next_track)):
+        tests.at_least(field, low)
+        tests.at_most(field, END)
+        tests.at_least(field, before)
+    if kind[1] == 1:
+        tests.test_tracks(count, said)
+        tracks = [(id[1], *plain_heard(heard)) for id, *heard in said]
+    else:
+        current = {track[0]: track for track in project.tracks()}
+        tests.test_changes(count, said, current)
+        tracks = [changed(id, mark, more, current.get(id[1])) for id, mark, more in said]
+    project.next_block, project.next_track = next_block[1], next_track[1]
+    project.record(tracks, tag[1])
+
+
+# Carries out a record whose body stands at a place, or finds its first fault.
+def fold_record(project, file, base, body):
+    tests = Tests(file, base)
+    found = walk_whole(tests, body, walk_body(project.version))
+    at, kind = found[0]
+    tests.same((at, kind), max(project.version, min(project.version + 3, kind)))
+    tests.at_least((at, min(END - project.commit, 1)), 1)
+    if kind == 2:
+        tests.at_least((at, min(project.cursor, 1)), 1)
         project.go(-1)
     elif kind == 3:
-        at_least(base, 1, len(project.points) - 1 - project.cursor)
+        tests.at_least((at, min(len(project.points) - 1 - project.cursor, 1)), 1)
         project.go(1)
+    elif kind == 4:
+        tests.at_least((at, min(project.cursor, 1)), 1)
+        tests.at_least(found[1], 1)
+        tests.at_most(found[1], project.cursor)
+        project.purge(found[1][1])
     else:
-        at_least(base, 1, project.cursor)
-        damaged(0, base + 1, max(1, min(count, project.cursor)), count)
-        project.purge(count)
+        fold_edit(project, file, base, found)
 
 
-def read_header(data):
-    damaged(0, 1, MAGIC, number(data, 1, 4))
-    damaged(0, 5, 1, number(data, 5, 4))
-    at_least(9, 1, number(data, 9, 4))
-    most = number(data, 13, 4)
-    damaged(0, 13, max(4, min(262_144, most - most % 2)), most)
-    depth = number(data, 17, 4)
-    damaged(0, 17, max(1, min(4096, depth)), depth)
-    for at in range(21, 32):
-        damaged(0, at, 0, data[at])
-    return Project(number(data, 9, 4), most, depth)
+# A point of a header, whose tag is at most the base commit.
+def read_point(project, file, base, body):
+    tests = BodyTests(file, base, project.next_block, project.next_track, project.block)
+    tag, count, tracks = walk_whole(tests, body, lambda walk: (walk.take(8), *walk_tracks(walk)))
+    tests.at_most(tag, project.commit)
+    tests.test_tracks(count, tracks)
+    return [(id[1], *plain_heard(heard)) for id, *heard in tracks], tag[1]
 
 
-def read_journal(data):
-    project = read_header(data)
-    at, size = 32, len(data)
+# The bytes of a point or a body, after their length at a place.
+def framed(tests, data, at):
+    size = len(data)
+    tests.is_there(at, at + 4, size)
+    end = at + 4 + number(data, at, 4)
+    tests.is_there(at + 4, end, size)
+    return data[at + 4:end]
+
+
+# The fields that version 2 adds, each of which the file may lack.
+def read_base(tests, data, project):
+    def take(at, width, low, high):
+        tests.is_there(at, at + width, len(data))
+        field = at, number(data, at, width)
+        tests.at_least(field, low)
+        tests.at_most(field, high)
+        return field[1]
+
+    project.generation = take(21, 8, 0, END)
+    project.commit = take(29, 8, 0, END)
+    project.next_block = take(37, 8, FIRST_BLOCK, END)
+    project.next_track = take(45, 8, 1, END)
+    count = take(53, 4, 1, project.depth)
+    cursor = take(57, 4, 0, count - 1)
+    tests.is_there(61, 64, len(data))
+    for at in range(61, 64):
+        tests.same((at, data[at]), 0)
+    return count, cursor
+
+
+# The points of a header; it answers where they end.
+def read_points(tests, data, project, count):
+    at, points = 64, []
+    for _ in range(count):
+        body = framed(tests, data, at)
+        points.append(read_point(project, tests.file, at + 4, body))
+        at += 4 + len(body)
+    project.points = points
+    return at
+
+
+# The header, and the place of the first record's gate.
+def read_header(tests, data):
+    magic, version, rate, most, depth = ((at, number(data, at, 4)) for at in range(1, 21, 4))
+    tests.same(magic, MAGIC)
+    tests.same(version, max(1, min(2, version[1])))
+    tests.at_least(rate, 1)
+    tests.same(most, max(4, min(262_144, most[1] - most[1] % 2)))
+    tests.same(depth, max(1, min(4096, depth[1])))
+    project = Project(rate[1], most[1], depth[1])
+    project.file, project.version = tests.file, version[1]
+    if project.version == 1:
+        for at in range(21, 32):
+            tests.same((at, data[at]), 0)
+        return project, 32
+    count, cursor = read_base(tests, data, project)
+    at = read_points(tests, data, project, count)
+    project.cursor = cursor
+    return project, at
+
+
+def read_journal(file, data):
+    tests, size = Tests(file), len(data)
+    project, at = read_header(tests, data)
     while True:
-        if at >= size:
-            damaged(0, at, at + 1, size)
+        tests.is_there(at, at + 1, size)
         if data[at] == 0:
             project.end = at
             return project
-        if at + 5 > size:
-            damaged(0, at + 1, at + 5, size)
-        end = at + 5 + number(data, at + 1, 4)
-        if end > size:
-            damaged(0, at + 5, end, size)
-        fold_record(project, at + 5, data[at + 5:end])
-        at = end
+        body = framed(tests, data, at + 1)
+        fold_record(project, file, at + 5, body)
+        at += 5 + len(body)
 
 
 # The bytes of a file. Where a link stands no call on the file succeeds, and a folder is not listed.
@@ -226,29 +299,56 @@ def bytes_of(files, file):
     return data
 
 
-# The bytes of the journal, on which the first call comes before the files are listed.
-def journal_of(files):
-    if files.get(0, b"") is None:
+# The bytes of files 0 and 1, on which the first calls come before the files are listed.
+def journals_of(files):
+    if any(files.get(file, b"") is None for file in (0, 1)):
         raise Refused("DiskFault")
-    return bytes_of(files, 0)
+    return [bytes_of(files, file) for file in (0, 1)]
+
+
+def is_project(data):
+    return len(data) >= 33 and data[0] != 0
 
 
 # A number at which no project has a file.
 def find_foreign(files):
-    foreign = [it for it, data in files.items() if data is not None and (1 <= it <= 15 or it >= END)]
+    foreign = [it for it, data in files.items() if data is not None and (2 <= it <= 15 or it >= END)]
     if foreign:
         raise Refused(f"Foreign {min(foreign)}")
 
 
+# The generation of a file that holds a project, after the tests before a choice.
+def generation_of(file, data):
+    tests = Tests(file)
+    version = number(data, 5, 4)
+    tests.same((1, number(data, 1, 4)), MAGIC)
+    tests.same((5, version), max(1, min(2, version)))
+    generation = number(data, 21, 8) if version == 2 else 0
+    tests.at_most((21, generation), END)
+    return generation
+
+
+# The file of the journal that counts.
+def choose(journals):
+    held = [file for file in (0, 1) if is_project(journals[file])]
+    if len(held) < 2:
+        return held[0]
+    first, second = (generation_of(file, journals[file]) for file in held)
+    if first == second:
+        damaged(1, 21, second + 1, second)
+    return int(second > first)
+
+
 # The project of a disk, whose files are bytes by number, or None for a folder, or the text of a link.
 def open_project(files):
-    journal = journal_of(files)
-    if len(journal) < 33 or journal[0] == 0:
+    journals = journals_of(files)
+    if not any(is_project(it) for it in journals):
         raise Refused("Absent")
     find_foreign(files)
-    project = read_journal(journal)
+    file = choose(journals)
+    project = read_journal(file, journals[file])
     # Each file that is listed is measured before a size is compared.
-    sizes = {file: len(bytes_of(files, file)) for file in files}
+    sizes = {it: len(bytes_of(files, it)) for it in files}
     for id, length in project.named():
         damaged(id, 0, block_size(length), sizes.get(id, 0))
     project.next_block = max(project.next_block, *(it + 1 for it, data in files.items() if data is not None))

@@ -1,7 +1,9 @@
 # What makes a project hostile: bits that are turned, files that are cut, lengthened, swapped or absent, fields at their
-# bounds and past them, records that come twice, change places or go, and files that no project has.
+# bounds and past them, records that come twice, change places or go, generations that are equal or exchanged, changes
+# that do not go with the current point, and files that no project has.
 from fields import END, LONGEST, number
-from formats import append, spell_edit
+from formats import is_project
+from projects import FIRST_BLOCK, last_blocks, spell_edit, spell_heard
 
 BOUNDS = [0, 1, 2, 3, 4, 5, 15, 16, 17, 63, 64, 65, 255, 256, 4095, 4096, 4097, 65_535, 65_536, 262_143, 262_144,
           262_145, 262_146, 1_048_575, 1_048_576, 1_048_577, 2**31, 2**32 - 2, 2**32 - 1, 2**32, 2**32 + 1, END - 1,
@@ -12,19 +14,29 @@ def any_file(draw, files):
     return draw.choice([it for it, data in files.items() if data is not None])
 
 
+# The file of a journal that is still there, most often of the one that counts, or None.
+def any_journal(draw, drawn, files):
+    there = [it for it in drawn.journals if it in files]
+    newest = drawn.project.file
+    return newest if newest in there and draw.random() < 0.8 else draw.choice(there or [None])
+
+
+def write(files, file, at, data):
+    files[file] = files[file][:at] + data + files[file][at + len(data):]
+
+
 def turn_bit(draw, drawn, files):
     file = any_file(draw, files)
-    data = bytearray(files[file])
-    if data:
-        at = draw.randrange(len(data)) if draw.random() < 0.5 else draw.randrange(min(40, len(data)))
-        data[at] ^= 1 << draw.randrange(8)
-        files[file] = bytes(data)
+    if files[file]:
+        size = len(files[file])
+        at = draw.randrange(size) if draw.random() < 0.5 else draw.randrange(min(90, size))
+        write(files, file, at, bytes([files[file][at] ^ 1 << draw.randrange(8)]))
         return f"bit at {at} of {file}"
 
 
 def cut(draw, drawn, files):
     file = any_file(draw, files)
-    at = draw.randrange(len(files[file]) + 1)
+    at = draw.randrange(len(files[file]) + 1) if draw.random() < 0.7 else min(len(files[file]), draw.randrange(120))
     files[file] = files[file][:at]
     return f"{file} cut at {at}"
 
@@ -36,13 +48,15 @@ def lengthen(draw, drawn, files):
     return f"{file} longer by {len(more)}"
 
 
-# A number in the place of a field of the journal.
+# A number in the place of a field of a journal.
 def bound(draw, drawn, files):
-    at, width = draw.choice(drawn.out.fields)
-    old = number(files[0], at, width)
-    new = draw.choice([*BOUNDS, *(old + it for it in (-2, -1, 1, 2)), *near(draw, drawn)]) % 256**width
-    files[0] = files[0][:at] + new.to_bytes(width, "little") + files[0][at + width:]
-    return f"{new} at {at}"
+    file = any_journal(draw, drawn, files)
+    if file is not None:
+        at, width = draw.choice(drawn.journals[file].out.fields)
+        old = number(files[file], at, width)
+        new = draw.choice([*BOUNDS, *(old + it for it in (-2, -1, 1, 2)), *near(draw, drawn)]) % 256**width
+        write(files, file, at, new.to_bytes(width, "little"))
+        return f"{new} at {at} of {file}"
 
 
 # Numbers that mean something in this project.
@@ -50,11 +64,12 @@ def near(draw, drawn):
     project = drawn.project
     most = [project.block + it for it in (-1, 1)] + [project.block // 2 + it for it in (-1, 0)]
     ids = [project.next_block, project.next_track, project.commit, *drawn.lengths]
-    return draw.choice([most, ids])
+    sizes = [project.generation, project.depth, project.depth + 1, len(project.points), project.cursor]
+    return draw.choice([most, ids, sizes])
 
 
 def block_field(draw, drawn, files):
-    blocks = [it for it, data in files.items() if it and data and len(data) > 40]
+    blocks = [it for it, data in files.items() if it >= FIRST_BLOCK and data and len(data) > 40]
     if blocks:
         file = draw.choice(blocks)
         data = files[file]
@@ -67,7 +82,7 @@ def block_field(draw, drawn, files):
 
 
 def swap(draw, drawn, files):
-    blocks = [it for it in files if it and files[it] is not None]
+    blocks = [it for it in files if it >= FIRST_BLOCK and files[it] is not None]
     if len(blocks) > 1:
         one, other = draw.sample(blocks, 2)
         files[one], files[other] = files[other], files[one]
@@ -87,23 +102,44 @@ def remove(draw, drawn, files):
         return f"{file} removed"
 
 
+# Files 0 and 1 change places, or both have what one of them has.
+def exchange(draw, drawn, files):
+    first, second = files.pop(0, None), files.pop(1, None)
+    way, both = draw.choice([("exchanged", (second, first)), ("both as 0", (first,) * 2), ("both as 1", (second,) * 2)])
+    files.update((it, data) for it, data in enumerate(both) if data is not None)
+    return f"files 0 and 1 {way}"
+
+
+# The generation of a journal is near that of the other.
+def generation(draw, drawn, files):
+    file = any_journal(draw, drawn, files)
+    if file is not None and len(files[file]) >= 29:
+        other = files.get(1 - file, b"")
+        near = number(other, 21, 8) if is_project(other) and number(other, 5, 4) == 2 else 0
+        new = draw.choice([near, near, near + 1, near - 1, END, END + 1]) % 2**64
+        write(files, file, 21, new.to_bytes(8, "little"))
+        return f"generation {new} of {file}"
+
+
 # Bytes of a record come twice, or go, or change places with those of the next.
 def records(draw, drawn, files):
-    gates, data = drawn.gates, files[0]
+    file = any_journal(draw, drawn, files)
+    gates = drawn.journals[file].gates if file is not None else []
     if len(gates) < 2:
         return None
+    data = files[file]
     i = draw.randrange(len(gates) - 1)
     one, other = gates[i], gates[i + 1]
     end = gates[i + 2] if i + 2 < len(gates) else other
     way = draw.randrange(4)
     if way == 0:
-        files[0] = data[:other] + data[one:other] + data[other:]
+        files[file] = data[:other] + data[one:other] + data[other:]
     elif way == 1:
-        files[0] = data[:one] + data[other:]
+        files[file] = data[:one] + data[other:]
     elif way == 2:
-        files[0] = data[:one] + data[other:end] + data[one:other] + data[end:]
+        files[file] = data[:one] + data[other:end] + data[one:other] + data[end:]
     else:
-        files[0] = data[:other] + data[one:other] * 40 + data[other:]
+        files[file] = data[:other] + data[one:other] * 40 + data[other:]
     return f"record {i} of {len(gates) - 1}: {['twice', 'gone', 'after the next', 'forty times more'][way]}"
 
 
@@ -133,52 +169,96 @@ def strange_tracks(draw, project):
     return tracks
 
 
+# A mark that may not go with the current point, and what it asks.
+def strange_change(draw, drawn, out, id, track):
+    most = drawn.project.block
+    mark = draw.choice([0, 1, 2, 2, 2, 2, 2, 2, 3, 255])
+    blocks = last_blocks(track)[-2:] if track[4] else []
+    blocks = draw.choice([blocks, blocks + blocks, list(drawn.lengths.items())[-1:], []])
+    blocks = [(it, draw.choice([length] * 6 + [1, most // 2 - 1, most // 2, most, most + 1])) for it, length in blocks]
+    out.put(8, id)
+    out.put(1, mark)
+    if mark == 1:
+        spell_heard(out, track)
+    elif mark == 2:
+        count = len(last_blocks(track)) if track[4] else 0
+        out.put(4, draw.choice([0, 1, max(0, count - 1), count, count, count + 1]))
+        out.put(4, max(0, len(blocks) + draw.choice([0] * 8 + [-1, 1])))
+        for it, length in blocks:
+            out.put(8, it)
+            out.put(4, length)
+
+
+# An edit by changes, one of which may not go with the current point.
+def strange_edit(draw, drawn, out):
+    project = drawn.project
+    tracks = {track[0]: track for track in project.tracks()}
+    ids = list(tracks) + draw.choice([[]] * 9 + [[0], [1], [project.next_track - 1]])
+    strange = draw.choice(ids or [0])
+    out.put(1, draw.choice([5] * 19 + [1]))
+    out.put(8, draw.choice([0, 0, project.commit]), project.next_block, project.next_track)
+    out.put(4, len(ids) + draw.choice([0] * 20 + [1, -1]) if ids else 0)
+    for id in ids:
+        if id == strange:
+            strange_change(draw, drawn, out, draw.choice([id] * 9 + [id + 1]), tracks.get(id, (id, 65_536, 0, 0, [])))
+        else:
+            out.put(8, id)
+            out.put(1, 0)
+
+
 # One more record, whose parts do not go together.
 def strange_record(draw, drawn, files):
-    project, out = drawn.project, drawn.out
-    if files[0] != bytes(out.data):
+    project, journal = drawn.project, drawn.journal()
+    if files.get(project.file) != bytes(journal.out.data):
         return None
-    if draw.random() < 0.7:
-        project.next_block += draw.choice([-1, 0, 1, 1, 1])
-        project.record(strange_tracks(draw, project), draw.choice([0, 0, project.commit, project.commit + 1]))
+    way = draw.random()
+    if way < 0.3:
+        project.next_block = max(0, project.next_block + draw.choice([-1, 0, 1, 1, 1, 1, 1, 1]))
+        before = project.tracks()
+        tag = draw.choice([0, 0, project.commit, project.commit + 1])
+        project.record(strange_tracks(draw, project), tag)
         project.commit -= 1
-        append(out, spell_edit, project, project.points[project.cursor][1])
+        journal.append(spell_edit, project, before, tag)
+    elif way < 0.8:
+        journal.append(lambda out: strange_edit(draw, drawn, out))
     else:
         kind, more = draw.choice([0, 1, 2, 3, 4, 4, 5, 255]), draw.choice([0, 1, 7, 8, 9, 16, 28, 29])
-        append(out, lambda out: out.put(1, kind, *draw.randbytes(more)))
-    files[0] = bytes(out.data)
+        journal.append(lambda out: out.put(1, kind, *draw.randbytes(more)))
+    files[project.file] = bytes(journal.out.data)
     return "one more record"
 
 
 def gate(draw, drawn, files):
-    at, byte = draw.choice([0, *drawn.gates]), draw.choice([0, 1, 2, 255])
-    files[0] = files[0][:at] + bytes([byte]) + files[0][at + 1:]
-    return f"gate at {at} is {byte}"
+    file = any_journal(draw, drawn, files)
+    if file is not None:
+        at, byte = draw.choice([0, *drawn.journals[file].gates]), draw.choice([0, 1, 2, 255])
+        write(files, file, at, bytes([byte]))
+        return f"gate at {at} of {file} is {byte}"
 
 
 def foreign(draw, drawn, files):
-    file = draw.choice([1, 15, END, END + 1, 2**64 - 1, END - 1, 16, 2**40])
-    files[file] = draw.choice([b"", b"\0", files[0]])
+    file = draw.choice([2, 15, END, END + 1, 2**64 - 1, END - 1, 16, 2**40])
+    files[file] = draw.choice([b"", b"\0", files.get(drawn.project.file, b"")])
     return f"a file {file}"
 
 
 # A folder or a link in the place of a file.
 def no_file(draw, drawn, files):
     named = [id for id, _ in drawn.project.named()]
-    file, what = draw.choice([0, *named, 7]), draw.choice([None, "nowhere"])
+    file, what = draw.choice([0, 1, *named, 7]), draw.choice([None, "nowhere"])
     files[file] = what
     return f"{'a link' if what else 'a folder'} in the place of {file}"
 
 
-WAYS = [turn_bit] * 4 + [cut] * 2 + [lengthen] + [bound] * 8 + [block_field] * 3 + [
-    swap, copy, remove, records, records, gate, foreign] + [strange_record] * 2
+WAYS = [turn_bit] * 4 + [cut] * 3 + [lengthen] + [bound] * 9 + [block_field] * 3 + [
+    swap, copy, remove, exchange, generation, records, records, gate, foreign] + [strange_record] * 8
 
 
-# Makes the files hostile, and tells how.
+# Makes the files hostile, and says how.
 def spoil(draw, drawn, files):
     told = []
     for _ in range(draw.choice([0, 1, 1, 1, 1, 1, 2, 2, 3])):
-        if 0 in files:
+        if any(data is not None for data in files.values()):
             told.append(draw.choice(WAYS)(draw, drawn, files))
     if draw.random() < 0.02:
         told.append(no_file(draw, drawn, files))

@@ -12,12 +12,9 @@ ghost use Rattle.block_ledger.specs.Entries.{is_kept, places, with_count};
 
 use super::entry::{Entry, lowered, raised};
 use super::tree::LeastTree;
-use pcm_base::{NoMemory, Numbers};
+use pcm_base::{COUNTER_LIMIT, NoMemory, Numbers};
 use std::alloc::{AllocError, Global};
 use std::marker::Model;
-
-// A ledger has fewer than 2^62 places.
-const PLACES_MOST: usize = (1 << 62) - 1;
 
 /// How often each id occurs. An id that occurs no more keeps its count of 0, until it is taken out.
 ///
@@ -240,10 +237,10 @@ impl Ledger {
 // How many places are made for so many ids, and so many more: as many more as there are at least, so that they are made
 // seldom.
 fn places_for(there: usize, count: u64) -> Result<usize, NoMemory>
-    requires { there < 2 ^ 62 }
-    ensures { IfOk result (λ places. (places ≡ there + max count there) × (places < 2 ^ 62)) }
+    requires { there < COUNTER_LIMIT }
+    ensures { IfOk result (λ places. (places ≡ there + max count there) × (places < COUNTER_LIMIT)) }
 {
-    let room = PLACES_MOST - there;
+    let room = COUNTER_LIMIT as usize - 1 - there;
     if count > room as u64 || there > room {
         return Err(NoMemory);
     }
@@ -252,7 +249,7 @@ fn places_for(there: usize, count: u64) -> Result<usize, NoMemory>
 
 // How many ids were not taken out.
 fn kept_len(entries: &[Entry]) -> usize
-    requires few { length entries.now < 2 ^ 62 }
+    requires few { length entries.now < COUNTER_LIMIT }
     ensures value { result ≡ length (filter is_kept entries.now) }
     ensures most { result ≤ length entries.now }
 {

@@ -1,6 +1,7 @@
 // The least of many ids, of which some come and go.
 ghost use Rattle.std.specs.Prelude.{◌≡◌, ◌+◌, ◌*◌, ◌^◌, ◌<◌, ◌≤◌, ℕ, None, Some, [], IfOk, IfSome, IsSomeAnd, Contains};
 ghost use Rattle.std.specs.Prelude.{drop, length, replicate, slice_set, slice_index_or};
+ghost use Rattle.pcm_base.specs.declared.limits.TheConstants.{COUNTER_LIMIT};
 ghost use Rattle.block_ledger.specs.Tree.{lesser};
 
 use std::alloc::{AllocError, Global};
@@ -38,7 +39,7 @@ impl LeastTree {
 
     // A tree with so many leaves, all without an id.
     pub(crate) fn with_leaves(alloc: Global, leaves: usize) -> Result<LeastTree, AllocError>
-        requires { leaves < 2 ^ 62 }
+        requires { leaves < COUNTER_LIMIT }
         ensures { IfOk result (λ t. t ≡ replicate leaves None) }
     {
         let mut nodes = Vec::new(alloc);

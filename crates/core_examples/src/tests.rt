@@ -45,6 +45,9 @@ pub(crate) fn new_studio<S: Store + Drop>(
         next_block: 16,
         next_track: 1,
         commit_number: 0,
+        file: 0,
+        version: 1,
+        generation: 0,
         journal_end: 32,
     };
     match Studio::assemble(alloc, store, parts) {

@@ -1,5 +1,6 @@
 -- The two ways in which a strip is put into a track.
 use Rattle.std.specs.Prelude.{ℕ, ◌+◌, ◌≤◌, ◌<◌, ◌^◌, List, [], ◌∷◌}
+use Rattle.pcm_base.specs.declared.limits.TheConstants.{MAX_CELLS}
 use Rattle.pcm_base.specs.declared.edits.Placing.{Placing}
 use Rattle.pcm_base.specs.declared.edits.Placing.TheVariants.{Insert, Cover}
 pub use Rattle.pcm_base.specs.Edits.{placed}
@@ -26,4 +27,4 @@ abbrev pub LengthsFit : Placing → ℕ → List (List Item) → List (List Clip
 LengthsFit placing at [] ts = Unit {0}
 LengthsFit placing at (c ∷ cs) [] = Unit {0}
 LengthsFit placing at (c ∷ cs) (t ∷ ts) =
-    (placed_length placing at (strip_len c) (end_of 0 t) ≤ 2 ^ 32) × LengthsFit placing at cs ts
+    (placed_length placing at (strip_len c) (end_of 0 t) ≤ MAX_CELLS) × LengthsFit placing at cs ts

@@ -14,7 +14,7 @@ use std::alloc::{AllocError, Global};
 pub enum Change {
     /// It becomes 0.
     Silence,
-    /// It is put under a gain, where 65,536 is unity.
+    /// It is scaled by a gain.
     Gain { gain: u32 },
 }
 

@@ -1,5 +1,6 @@
 // A strip is laid out clip by clip.
 ghost use Rattle.std.specs.Prelude.{◌≡◌, ℕ, List, ◌+◌, ◌-◌, ◌≤◌, ◌<◌, ◌^◌, ◌++◌, ◌*◌, [], map, replicate, IfOk, OnOk};
+ghost use Rattle.pcm_base.specs.declared.limits.TheConstants.{MAX_CELLS};
 ghost use Rattle.pcm_base.specs.declared.sound.Cell.TheVariants as cell;
 ghost use Rattle.pcm_base.specs.Pieces.{Sources, total, all_samples, AllValid, AllFit};
 ghost use Rattle.pcm_base.specs.Cells.{trimmed};
@@ -31,7 +32,7 @@ fn close(
     requires valid { AllValid held.now }
     requires fit { AllFit planner.block_size held.now }
     requires size { size ≡ total held.now }
-    requires few { size ≤ 2 ^ 32 }
+    requires few { size ≤ MAX_CELLS }
     requires apart { clips.AreLaidClips planner.block_size 0 out.old.items }
     requires later { clips.laid_next 0 out.old.items ≤ start }
     ensures apart { OnOk result (clips.AreLaidClips planner.block_size 0 out.new.items) }
@@ -61,7 +62,7 @@ fn close(
 pub fn lay_strip(planner: Planner, items: &[Item]) -> Result<Vec<LaidClip>, NoMemory>
     requires ok { AreItems items.now }
     requires fit { ItemsFit planner.block_size items.now }
-    requires few { strip_len items.now ≤ 2 ^ 32 }
+    requires few { strip_len items.now ≤ MAX_CELLS }
     ensures apart { IfOk result (λ v. clips.AreLaidClips planner.block_size 0 v.items) }
     ensures end { IfOk result (λ v. clips.laid_end 0 v.items ≤ strip_len items.now) }
     ensures cells { IfOk result

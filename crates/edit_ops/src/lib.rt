@@ -20,7 +20,7 @@ mod runs;
 mod strips;
 mod types;
 
-pub use one_track::{delete, gain, insert, silence, split_delete, trim};
+pub use one_track::{edit_range, insert};
 pub use planner::{Planner, RunPlanner};
-pub use runs::{copy, cut, paste, paste_over, split_cut};
+pub use runs::{copy, cut_range, paste};
 pub use types::{NewBlock, NewBlocks, Plan, Plans, Strips};

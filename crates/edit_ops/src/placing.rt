@@ -1,5 +1,6 @@
 // The two ways in which a strip is put into a track.
 ghost use Rattle.std.specs.Prelude.{◌≡◌, ◌+◌, ◌≤◌, ◌<◌, ◌^◌, ◌++◌, length, IfOk};
+ghost use Rattle.pcm_base.specs.declared.limits.TheConstants.{MAX_CELLS};
 ghost use Rattle.clip_track.specs.Clips.{end_of, AllHalfFull};
 ghost use Rattle.clip_track.specs.Items.{strip_cells, strip_len};
 ghost use Rattle.edit_ops.specs.Placing.{placed, placed_items, placed_length};
@@ -22,7 +23,7 @@ fn strip_of(
     at: u64,
     clip: &Strip,
 ) -> Result<Strip, NoMemory>
-    requires { placed_length placing at (strip_len clip.now) (strip_len whole.now) ≤ 2 ^ 32 }
+    requires { placed_length placing at (strip_len clip.now) (strip_len whole.now) ≤ MAX_CELLS }
     ensures items { IfOk result (λ s. s ≡ placed_items placing at clip.now whole.now) }
     ensures len { IfOk result (λ s. strip_len s ≡ placed_length placing at (strip_len clip.now) (strip_len whole.now)) }
 {
@@ -42,7 +43,7 @@ pub fn plan_placed(
 ) -> Result<Plan, NoMemory>
     requires half_full { AllHalfFull planner.block_size t.now }
     requires clip { IsClip planner.block_size clip.now }
-    requires few { placed_length placing at (strip_len clip.now) (end_of 0 t.now) ≤ 2 ^ 32 }
+    requires few { placed_length placing at (strip_len clip.now) (end_of 0 t.now) ≤ MAX_CELLS }
     ensures { IfOk result (λ p. IsPaste (placed placing at) (start_of planner) clip.now t.now p) }
 {
     let whole = t.to_strip()?;

@@ -1,5 +1,6 @@
 // What an edit is planned with.
 ghost use Rattle.std.specs.Prelude.{◌≤◌, ◌<◌, ◌^◌};
+ghost use Rattle.pcm_base.specs.declared.limits.TheConstants.{COUNTER_LIMIT};
 
 use std::alloc::Global;
 
@@ -26,5 +27,5 @@ pub struct RunPlanner {
     /// The id that the first new block of the first track gets.
     pub next: u64,
     pub ghost some: { 0 < block_size },
-    pub ghost room: { next ≤ 2 ^ 62 },
+    pub ghost room: { next ≤ COUNTER_LIMIT },
 }

@@ -1,5 +1,6 @@
 // A strip is laid out in blocks.
 ghost use Rattle.std.specs.Prelude.{◌≡◌, ℕ, List, ◌+◌, ◌-◌, ◌≤◌, ◌<◌, ◌^◌, ◌++◌, ◌*◌, length, true, IfOk, OnOk};
+ghost use Rattle.pcm_base.specs.declared.limits.TheConstants.{MAX_CELLS};
 ghost use Rattle.pcm_base.specs.Pieces.{Sources};
 ghost use Rattle.pcm_base.specs.Cells.{trimmed};
 ghost use Rattle.clip_track.specs.Items.{ItemsFit, strip_len, strip_cells};
@@ -59,7 +60,7 @@ fn name_blocks(
 /// Gives the new blocks of all clips their ids, and makes the layout.
 fn name_clips(planner: Planner, clips: Vec<LaidClip>) -> Result<Plan, NoMemory>
     requires apart { laid.AreLaidClips planner.block_size 0 clips.items }
-    requires few { laid.laid_end 0 clips.items ≤ 2 ^ 32 }
+    requires few { laid.laid_end 0 clips.items ≤ MAX_CELLS }
     ensures layout { IfOk result (λ p. p.layout ≡ laid.named_clips planner.next clips.items) }
     ensures makes { IfOk result (λ p. p.makes ≡ laid.clips_new_blocks planner.next clips.items) }
     ensures next { IfOk result (λ p. p.next ≡ laid.clips_next planner.next clips.items) }
@@ -84,7 +85,7 @@ fn name_clips(planner: Planner, clips: Vec<LaidClip>) -> Result<Plan, NoMemory>
 /// Lays a strip out in blocks, none of them empty; the new ones get the ids from the planner's next one on, in order.
 pub fn plan_strip(planner: Planner, strip: &Strip) -> Result<Plan, NoMemory>
     requires fit { ItemsFit planner.block_size strip.now }
-    requires few { strip_len strip.now ≤ 2 ^ 32 }
+    requires few { strip_len strip.now ≤ MAX_CELLS }
     ensures plan { IfOk result
         (λ p. (old : List BlockRef) (count : ℕ) → ItemsFrom old count strip.now
         → IsPlan (start_of planner) old count p) }

@@ -1,6 +1,8 @@
 // Plans of edits of one track whose range or place has been tested.
 ghost use Rattle.std.specs.Prelude.{◌≡◌, ◌+◌, ◌/◌, ◌≤◌, ◌<◌, ◌^◌, [], ◌∷◌, ◌++◌, length, IfOk};
-ghost use Rattle.pcm_base.specs.Edits as edit;
+ghost use Rattle.pcm_base.specs.declared.limits.TheConstants.{MAX_CELLS};
+ghost use Rattle.pcm_base.specs.Counters.{blocks_of_edit};
+ghost use Rattle.pcm_base.specs.Edits as edits;
 ghost use Rattle.pcm_base.specs.Pieces.{Sources, stretch};
 ghost use Rattle.pcm_base.specs.Refusals.{inserted_length};
 ghost use Rattle.clip_track.specs.Clips.{end_of, layout_cells, AllHalfFull, layout_blocks};
@@ -14,14 +16,14 @@ use super::planning::plan_strip;
 use super::strips;
 use super::types::Plan;
 use clip_track::Layout;
-use pcm_base::NoMemory;
+use pcm_base::{NoMemory, RangeEdit};
 
 /// Without a range, which may end, or begin, beyond the track.
 pub fn plan_without(planner: Planner, t: &Layout, from: u64, to: u64) -> Result<Plan, NoMemory>
     requires half_full { AllHalfFull planner.block_size t.now }
     requires rising { from ≤ to }
     ensures plan { IfOk result (λ p. IsPlan (start_of planner) (layout_blocks t.now) 0 p) }
-    ensures cells { IfOk result (λ p. Means (λ src. edit.deleted from to) t.now p) }
+    ensures cells { IfOk result (λ p. Means (λ src. edits.deleted from to) t.now p) }
     ensures few_made { IfOk result (λ p. length p.makes ≤ 8) }
 {
     let whole = t.to_strip()?;
@@ -34,7 +36,7 @@ pub fn plan_with_gaps(planner: Planner, t: &Layout, from: u64, to: u64) -> Resul
     requires half_full { AllHalfFull planner.block_size t.now }
     requires rising { from ≤ to }
     ensures plan { IfOk result (λ p. IsPlan (start_of planner) (layout_blocks t.now) 0 p) }
-    ensures cells { IfOk result (λ p. Means (λ src. edit.split_deleted from to) t.now p) }
+    ensures cells { IfOk result (λ p. Means (λ src. edits.split_deleted from to) t.now p) }
     ensures few_made { IfOk result (λ p. length p.makes ≤ 8) }
 {
     let whole = t.to_strip()?;
@@ -43,12 +45,12 @@ pub fn plan_with_gaps(planner: Planner, t: &Layout, from: u64, to: u64) -> Resul
 }
 
 /// With gaps in the place of all but a range of the track.
-pub fn plan_only_part(planner: Planner, t: &Layout, from: u64, to: u64) -> Result<Plan, NoMemory>
+fn plan_only_part(planner: Planner, t: &Layout, from: u64, to: u64) -> Result<Plan, NoMemory>
     requires half_full { AllHalfFull planner.block_size t.now }
     requires rising { from ≤ to }
     requires within { to ≤ end_of 0 t.now }
     ensures plan { IfOk result (λ p. IsPlan (start_of planner) (layout_blocks t.now) 0 p) }
-    ensures cells { IfOk result (λ p. Means (λ src. edit.kept_only from to) t.now p) }
+    ensures cells { IfOk result (λ p. Means (λ src. edits.kept_only from to) t.now p) }
     ensures few_made { IfOk result (λ p. length p.makes ≤ 8) }
 {
     let whole = t.to_strip()?;
@@ -57,7 +59,7 @@ pub fn plan_only_part(planner: Planner, t: &Layout, from: u64, to: u64) -> Resul
 }
 
 /// With each sample of a range changed.
-pub fn plan_with_change(
+fn plan_with_change(
     planner: Planner,
     t: &Layout,
     from: u64,
@@ -67,9 +69,9 @@ pub fn plan_with_change(
     requires half_full { AllHalfFull planner.block_size t.now }
     requires rising { from ≤ to }
     ensures plan { IfOk result (λ p. IsPlan (start_of planner) (layout_blocks t.now) 0 p) }
-    ensures cells { IfOk result (λ p. Means (λ src. edit.changed (cell_change change) from to) t.now p) }
+    ensures cells { IfOk result (λ p. Means (λ src. edits.changed (cell_change change) from to) t.now p) }
     ensures few_made { IfOk result (λ p. (src : Sources) →
-        let cells = edit.part from to (layout_cells src t.now) in
+        let cells = edits.part from to (layout_cells src t.now) in
         length p.makes ≤ 8 + sample_count cells / planner.block_size + clip_count cells) }
 {
     let whole = t.to_strip()?;
@@ -77,13 +79,38 @@ pub fn plan_with_change(
     Ok(plan_strip(planner, &strip)?)
 }
 
+/// With the cells of a range of the track edited.
+pub fn plan_edited(
+    planner: Planner,
+    t: &Layout,
+    from: u64,
+    to: u64,
+    edit: RangeEdit,
+) -> Result<Plan, NoMemory>
+    requires half_full { AllHalfFull planner.block_size t.now }
+    requires rising { from ≤ to }
+    requires within { to ≤ end_of 0 t.now }
+    ensures plan { IfOk result (λ p. IsPlan (start_of planner) (layout_blocks t.now) 0 p) }
+    ensures cells { IfOk result (λ p. Means (λ src. edits.range_edited edit from to) t.now p) }
+    ensures few_made { IfOk result (λ p. (src : Sources) →
+        length p.makes ≤ blocks_of_edit edit planner.block_size (edits.part from to (layout_cells src t.now))) }
+{
+    match edit {
+        RangeEdit::Delete => plan_without(planner, t, from, to),
+        RangeEdit::SplitDelete => plan_with_gaps(planner, t, from, to),
+        RangeEdit::Silence => plan_with_change(planner, t, from, to, Change::Silence),
+        RangeEdit::Trim => plan_only_part(planner, t, from, to),
+        RangeEdit::Gain { gain } => plan_with_change(planner, t, from, to, Change::Gain { gain }),
+    }
+}
+
 /// With the samples that the command brings put in at a place.
 pub fn plan_with_given(planner: Planner, t: &Layout, at: u64, count: u64) -> Result<Plan, NoMemory>
     requires half_full { AllHalfFull planner.block_size t.now }
-    requires few { inserted_length at count (end_of 0 t.now) ≤ 2 ^ 32 }
+    requires few { inserted_length at count (end_of 0 t.now) ≤ MAX_CELLS }
     ensures plan { IfOk result (λ p. IsPlan (start_of planner) (layout_blocks t.now) count p) }
     ensures cells { IfOk result
-        (λ p. Means (λ src. edit.inserted at (edit.as_cells (stretch src.given 0 count))) t.now p) }
+        (λ p. Means (λ src. edits.inserted at (edits.as_cells (stretch src.given 0 count))) t.now p) }
     ensures few_made { IfOk result (λ p. length p.makes ≤ 8 + count / planner.block_size) }
 {
     let whole = t.to_strip()?;

@@ -3,7 +3,7 @@ ghost use Rattle.std.specs.Prelude.{[], ◌∷◌};
 ghost use Rattle.pcm_base.specs.Refusals.{bad_range, length_limit};
 ghost use Rattle.edit_ops.specs.Plans.{Passes};
 
-use pcm_base::Refusal;
+use pcm_base::{MAX_CELLS, Refusal};
 
 /// A range is valid in a list of this length.
 pub fn range(from: u64, to: u64, len: u64) -> Result<(), Refusal>
@@ -20,7 +20,7 @@ pub fn range(from: u64, to: u64, len: u64) -> Result<(), Refusal>
 pub fn length(len: u64) -> Result<(), Refusal>
     ensures { Passes (length_limit (len ∷ [])) result }
 {
-    if len > 4294967296 {
+    if len > MAX_CELLS {
         Err(Refusal::LengthLimit { len })
     } else {
         Ok(())

@@ -1,9 +1,7 @@
 // Edits of several tracks: copy, cut and paste.
 ghost use Rattle.std.specs.Prelude.{◌≡◌, ◌+◌, ◌*◌, ◌≤◌, ◌<◌, ◌^◌, length, take, option_copied, IfOk, IfSome};
 ghost use Rattle.std.specs.Option.{ForSome};
-ghost use Rattle.pcm_base.specs.Edits as edit;
 ghost use Rattle.pcm_base.specs.Edits.{removed};
-ghost use Rattle.pcm_base.specs.Refusals.{inserted_length, covered_length};
 ghost use Rattle.edit_ops.specs.Placing.{placed, placed_length, SumsFit, LengthsFit};
 ghost use Rattle.edit_ops.specs.Plans.{AnswersTest, run_start_of};
 ghost use Rattle.edit_ops.specs.Runs as runs;
@@ -132,7 +130,12 @@ fn cut_tracks(
     Ok((strips, plans))
 }
 
-fn cut_range(
+/// `copy`, and the range taken from each of the tracks: `Close` deletes it, `Leave` makes it gaps.
+///
+/// # Errors
+///
+/// Those of `copy`.
+pub fn cut_range(
     planner: RunPlanner,
     run: &[&Layout],
     removing: Removing,
@@ -149,48 +152,6 @@ fn cut_range(
     copy_tests(run, n, from, to)?;
     let cut = cut_tracks(planner, &run[..n as usize], removing, from, to)?;
     Ok(cut)
-}
-
-/// `copy`, and a delete of the range on each of the tracks.
-///
-/// # Errors
-///
-/// Those of `copy`.
-pub fn cut(
-    planner: RunPlanner,
-    run: &[&Layout],
-    n: u64,
-    from: u64,
-    to: u64,
-) -> Result<(Strips, Plans), Refusal>
-    requires half_full { runs.AllTracksHalfFull planner.block_size (runs.layouts run.now) }
-    ensures copies { IfOk result (λ v. runs.AreCopies from to (take n (runs.layouts run.now)) v.0) }
-    ensures plans { IfOk result
-        (λ v. runs.AreCuts (edit.deleted from to) (run_start_of planner) (take n (runs.layouts run.now)) v.1) }
-    ensures tests { AnswersTest (runs.copy_tests (runs.layouts run.now) n from to) result }
-{
-    cut_range(planner, run, Removing::Close, n, from, to)
-}
-
-/// `copy`, and a split-delete of the range on each of the tracks.
-///
-/// # Errors
-///
-/// Those of `copy`.
-pub fn split_cut(
-    planner: RunPlanner,
-    run: &[&Layout],
-    n: u64,
-    from: u64,
-    to: u64,
-) -> Result<(Strips, Plans), Refusal>
-    requires half_full { runs.AllTracksHalfFull planner.block_size (runs.layouts run.now) }
-    ensures copies { IfOk result (λ v. runs.AreCopies from to (take n (runs.layouts run.now)) v.0) }
-    ensures plans { IfOk result
-        (λ v. runs.AreCuts (edit.split_deleted from to) (run_start_of planner) (take n (runs.layouts run.now)) v.1) }
-    ensures tests { AnswersTest (runs.copy_tests (runs.layouts run.now) n from to) result }
-{
-    cut_range(planner, run, Removing::Leave, n, from, to)
 }
 
 /// Each strip put into the track that it goes to: the first into the first track of `run`, and so on.
@@ -214,8 +175,8 @@ fn place(
     Ok(plans)
 }
 
-/// Puts strip i of what was copied or cut in at a place of the i-th track of `run`; a track that is shorter is first
-/// continued by gaps.
+/// Puts strip i of what was copied or cut at a place of the i-th track of `run`: `Insert` moves the cells there, `Cover`
+/// puts it in the place of as many. A track that is shorter is first continued by gaps.
 ///
 /// # Errors
 ///
@@ -226,45 +187,20 @@ pub fn paste(
     planner: RunPlanner,
     run: &[&Layout],
     clip: Option<&Strips>,
+    placing: Placing,
     at: u64,
 ) -> Result<Plans, Refusal>
     requires half_full { runs.AllTracksHalfFull planner.block_size (runs.layouts run.now) }
     requires clips { ForSome (option_copied clip) (λ c. runs.AreClips planner.block_size c) }
     requires sums { ForSome (option_copied clip) (λ c. SumsFit at c (runs.layouts run.now)) }
     ensures plans { IfOk result (λ v. IfSome (option_copied clip.entry)
-        (λ c. runs.ArePastes (edit.inserted at) (run_start_of planner) c (take (length c) (runs.layouts run.now)) v)) }
-    ensures tests { AnswersTest
-        (runs.clipboard_tests (inserted_length at) (option_copied clip.entry) (runs.layouts run.now)) result }
-{
-    match clip {
-        None => Err(Refusal::EmptyClipboard),
-        Some(strips) => place(planner, run, strips.as_slice(), Placing::Insert, at),
-    }
-}
-
-/// Puts strip i of what was copied or cut in the place of as many cells of the i-th track of `run`; a track that is
-/// shorter is first continued by gaps.
-///
-/// # Errors
-///
-/// Those of `paste`.
-pub fn paste_over(
-    planner: RunPlanner,
-    run: &[&Layout],
-    clip: Option<&Strips>,
-    at: u64,
-) -> Result<Plans, Refusal>
-    requires half_full { runs.AllTracksHalfFull planner.block_size (runs.layouts run.now) }
-    requires clips { ForSome (option_copied clip) (λ c. runs.AreClips planner.block_size c) }
-    requires sums { ForSome (option_copied clip) (λ c. SumsFit at c (runs.layouts run.now)) }
-    ensures plans { IfOk result (λ v. IfSome (option_copied clip.entry)
-        (λ c. runs.ArePastes (edit.pasted_over at) (run_start_of planner) c
+        (λ c. runs.ArePastes (placed placing at) (run_start_of planner) c
         (take (length c) (runs.layouts run.now)) v)) }
     ensures tests { AnswersTest
-        (runs.clipboard_tests (covered_length at) (option_copied clip.entry) (runs.layouts run.now)) result }
+        (runs.clipboard_tests (placed_length placing at) (option_copied clip.entry) (runs.layouts run.now)) result }
 {
     match clip {
         None => Err(Refusal::EmptyClipboard),
-        Some(strips) => place(planner, run, strips.as_slice(), Placing::Cover, at),
+        Some(strips) => place(planner, run, strips.as_slice(), placing, at),
     }
 }

@@ -1,5 +1,6 @@
 // The strips that edits lay out, each made of a whole track's strip.
 ghost use Rattle.std.specs.Prelude.{◌≡◌, ◌+◌, ◌-◌, ◌≤◌, ◌<◌, ◌^◌, ◌++◌, [], ◌∷◌, map, min, IfOk, OnOk};
+ghost use Rattle.pcm_base.specs.declared.limits.TheConstants.{MAX_CELLS};
 ghost use Rattle.pcm_base.specs.Refusals.{inserted_length, covered_length};
 ghost use Rattle.clip_track.specs.Items.{AreItems, part_items, strip_len};
 ghost use Rattle.edit_ops.specs.Strips as strips;
@@ -108,7 +109,7 @@ pub fn with_inserted(
     at: u64,
     middle: &Strip,
 ) -> Result<Strip, NoMemory>
-    requires { inserted_length at (strip_len middle.now) (strip_len whole.now) ≤ 2 ^ 32 }
+    requires { inserted_length at (strip_len middle.now) (strip_len whole.now) ≤ MAX_CELLS }
     ensures items { IfOk result (λ s. s ≡ strips.with_inserted at middle.now whole.now) }
     ensures len { IfOk result (λ s. strip_len s ≡ inserted_length at (strip_len middle.now) (strip_len whole.now)) }
 {
@@ -138,7 +139,7 @@ pub fn with_covered(
     at: u64,
     middle: &Strip,
 ) -> Result<Strip, NoMemory>
-    requires { covered_length at (strip_len middle.now) (strip_len whole.now) ≤ 2 ^ 32 }
+    requires { covered_length at (strip_len middle.now) (strip_len whole.now) ≤ MAX_CELLS }
     ensures items { IfOk result (λ s. s ≡ strips.with_covered at middle.now whole.now) }
     ensures len { IfOk result (λ s. strip_len s ≡ covered_length at (strip_len middle.now) (strip_len whole.now)) }
 {

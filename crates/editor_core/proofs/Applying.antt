@@ -60,7 +60,7 @@ module _ {D : Type 0} (disk : Ghosts D) (s : Core D) where
     number = refl;
     rests = λ some. refl;
     len = 0;
-    records = no_record (Err why) s;
+    records = no_record s (Err why) s;
     given = tt;
     changed = changed_none s.store (others_none s.next_block s.next_block (MayRemove call s.counts)) fewer;
     frees = frees_none disk s call (Err why) s none;
@@ -82,7 +82,7 @@ module _ {D : Type 0} (disk : Ghosts D) (s : Core D) where
     number = number;
     rests = λ some. absurd (stopped_not s.stopped some going);
     len = 0;
-    records = no_record told (record s { store = store; cache = cache });
+    records = no_record s told (record s { store = store; cache = cache });
     given = none_given told s (record s { store = store; cache = cache }) refl;
     changed = changed_kept (others_none s.next_block s.next_block (MayRemove call s.counts)) kept;
     frees = frees_none disk s call told (record s { store = store; cache = cache }) none;

@@ -36,9 +36,9 @@ not_made_asks disk old new refusal.DiskFault by = tt
 not_made_asks disk old new (refusal.Damaged file at want have) by = tt
 not_made_asks disk old new why by = absurd by
 
-unprepared_asks : {D : Type 0} (s : Core D) (n tracks len : ℕ) (why : Refusal) → NotPrepared s n tracks len why
-    → IsNoVault why
-unprepared_asks s n tracks len why not = ⊎_elim
+unprepared_asks : {D : Type 0} (s : Core D) (n tracks whole len : ℕ) (why : Refusal)
+    → NotPrepared s n tracks whole len why → IsNoVault why
+unprepared_asks s n tracks whole len why not = ⊎_elim
     (λ memory. subst IsNoVault (sym memory) tt)
     (⊎_elim
     (λ spent.
@@ -49,13 +49,13 @@ unprepared_asks s n tracks len why not = ⊎_elim
     (either_asks block (track otherwise number) (spent_asks (nat_lt (2 ^ 62) (s.next_block + n)) s.next_block n)
     (either_asks track number (spent_asks (nat_lt (2 ^ 62) (s.next_track + tracks)) s.next_track tracks)
     (spent_asks (nat_lt (2 ^ 62) (s.commit_number + 1)) s.commit_number 1))))
-    (λ over. exceeding_asks s.journal_end len why over.3))
+    (λ over. ⊎_elim (exceeding_asks s.journal_end whole why) (exceeding_asks s.journal_end len why) over.3))
     not
 
 pub carried_asks : {D : Type 0} (disk : Ghosts D) (s new : Core D) (c : BlockCommit) (why : Refusal)
     → Carried disk s c (Err why) new → IsNoVault why
 carried_asks disk s new c why carried = ⊎_elim
-    (λ not. unprepared_asks s (length c.makes) c.tracks (length c.body) why not.1)
+    (λ not. unprepared_asks s (length c.makes) c.tracks c.whole (length c.body) why not.1)
     (⊎_elim
     (λ some. not_made_asks disk some.1.mid new why some.1.by)
     (λ last. subst IsNoVault (sym last.0) tt))

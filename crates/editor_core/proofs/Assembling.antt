@@ -58,6 +58,7 @@ assembles disk store p are is =
     let same : blocks ++ [] ≡ blocks = append-nil blocks in record {
       format = are.format;
       counters = are.counters;
+      journal = are.journal;
       few_points = is.few;
       few_clips = omega arith;
       points = are.points;

@@ -11,7 +11,6 @@ use Rattle.pcm_base.specs.declared.sound.Cell.{Cell}
 use Rattle.pcm_base.specs.declared.sound.Cell.TheVariants.{Gap, Sample}
 use Rattle.pcm_base.specs.Blocks.{block_samples}
 use Rattle.pcm_base.specs.Cells.{Project, trimmed}
-use Rattle.pcm_base.specs.Cells as cells
 use Rattle.pcm_base.specs.History.{IsHistory}
 use Rattle.pcm_base.specs.Pieces.{Sources}
 use Rattle.disk_model.specs.declared.store.Store.{Ghosts}

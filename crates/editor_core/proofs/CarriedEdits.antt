@@ -1,5 +1,5 @@
 -- How an edit is carried out: once a block was made, nothing but the disk refuses.
-use Rattle.std.proofs.Common.{◌≡◌, inr, refl, ap}
+use Rattle.std.proofs.Common.{◌≡◌, ◌⊎◌, inr, ⊎_elim, refl, ap}
 use Rattle.std.proofs.Common.{length, Result, Ok, Err, IfErr, arith}
 use Rattle.pcm_base.specs.declared.refusal.Refusal.{Refusal}
 use Rattle.pcm_base.specs.declared.refusal.Refusal.TheVariants as refusal
@@ -10,6 +10,9 @@ use Rattle.editor_core.specs.Edits.{Carried, IsPrepared, BlockCommit}
 use Rattle.editor_core.specs.Made.{batch_of, ids_from}
 use Rattle.editor_core.specs.Makes.{AreSynced, Making}
 
+either_one : {A : Type 0} → A ⊎ A → A
+either_one h = ⊎_elim (λ x. x) (λ x. x) h
+
 -- ---- how the code carries it out: after the first block was made nothing but the disk refuses
 
 pub carried_by : {D : Type 0} (disk : Ghosts D) (s mid new : Core D) (c : BlockCommit)
@@ -17,11 +20,12 @@ pub carried_by : {D : Type 0} (disk : Ghosts D) (s mid new : Core D) (c : BlockC
     → Making disk s (batch_of c.given c.makes) (length c.makes) mid
     → disk.read_fault_count mid.store ≡ disk.read_fault_count s.store
     → AreSynced disk (ids_from s.next_block (length c.makes)) mid.store
-    → IsPrepared s (length c.makes) c.tracks (length c.body) → Adds disk mid c.body result new → IfErr result IsNoWant
+    → IsPrepared s (length c.makes) c.tracks (length c.body) → Adds disk mid c.body (length c.body) result new
+    → Adds disk mid c.body c.whole result new → IfErr result IsNoWant
     → Carried disk s c result new
-carried_by disk s mid new c (Ok done) making reads synced prepared adds no_want =
+carried_by disk s mid new c (Ok done) making reads synced prepared exact adds no_want =
     record { mid = mid; making = making; reads = reads; synced = synced; prepared = prepared; adds = adds }
-carried_by disk s mid new c (Err refusal.DiskFault) making reads synced prepared adds no_want =
+carried_by disk s mid new c (Err refusal.DiskFault) making reads synced prepared exact adds no_want =
     inr (inr (
       refl,
       record {
@@ -33,11 +37,12 @@ carried_by disk s mid new c (Err refusal.DiskFault) making reads synced prepared
         adds = adds;
       },
     ))
-carried_by disk s mid new c (Err refusal.NoMemory) making reads synced prepared adds no_want =
+carried_by disk s mid new c (Err refusal.NoMemory) making reads synced prepared exact adds no_want =
     absurd no_want
-carried_by disk s mid new c (Err (refusal.SpaceSpent have need)) making reads synced prepared adds no_want =
-    absurd (omega (arith, adds.fields.1, prepared.place, ap (λ (z : Core _). z.journal_end) making.is))
-carried_by disk s mid new c (Err (refusal.RecordLimit n)) making reads synced prepared adds
-    no_want = absurd (omega (arith, adds.fields.2, prepared.short))
-carried_by disk s mid new c (Err why) making reads synced prepared adds no_want =
+carried_by disk s mid new c (Err (refusal.SpaceSpent have need)) making reads synced prepared exact adds no_want =
+    let over = either_one exact.fields.1 in
+    absurd (omega (arith, over.0, prepared.place, ap (λ (z : Core _). z.journal_end) making.is))
+carried_by disk s mid new c (Err (refusal.RecordLimit n)) making reads synced prepared exact adds no_want =
+    let over = either_one exact.fields.1 in absurd (omega (arith, over.1, prepared.short))
+carried_by disk s mid new c (Err why) making reads synced prepared exact adds no_want =
     absurd adds.fields

@@ -6,7 +6,7 @@ use Rattle.edit_ops.specs.declared.types.NewBlock.{NewBlock}
 use Rattle.project_state.specs.declared.body.Body.{Body}
 use Rattle.project_state.specs.declared.body.Body.TheVariants.{Edit}
 use Rattle.project_state.specs.declared.track.Track.{Track}
-use Rattle.project_state.specs.Spelling.{spelling}
+use Rattle.editor_core.specs.Bodies.{body_bytes, whole_len}
 use Rattle.editor_core.specs.Core.{Core}
 use Rattle.editor_core.specs.Edits.{BlockCommit, Carried, TaggedEdit}
 
@@ -21,7 +21,8 @@ commit_with s e makes next = record {
   makes = makes;
   given = e.given;
   tracks = e.plan.tracks;
-  body = spelling (Edit e.tag next (s.next_track + e.plan.tracks) e.plan.point);
+  body = body_bytes s (Edit e.tag next (s.next_track + e.plan.tracks) e.plan.point);
+  whole = whole_len (Edit e.tag next (s.next_track + e.plan.tracks) e.plan.point);
 }
 
 abbrev pub commit_of : {D : Type 0} → Core D → TaggedEdit → BlockCommit

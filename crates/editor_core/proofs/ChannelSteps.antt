@@ -10,7 +10,6 @@ use Rattle.pcm_base.specs.declared.command.Call.{Call}
 use Rattle.pcm_base.specs.declared.command.Call.TheVariants.{Line}
 use Rattle.pcm_base.specs.declared.command.Command.TheVariants as command
 use Rattle.pcm_base.specs.declared.refusal.Refusal.{Refusal}
-use Rattle.pcm_base.specs.declared.refusal.Refusal.TheVariants as refusal
 use Rattle.pcm_base.specs.Cells.{Project}
 use Rattle.pcm_base.specs.History.{recorded}
 use Rattle.pcm_base.specs.Pieces.{Sources}
@@ -49,7 +48,6 @@ use Rattle.editor_core.proofs.ImportTests.{channels_pass}
 use Rattle.editor_core.proofs.Lists.{all_left, all_right}
 use Rattle.editor_core.proofs.MadeStudios.{point_more, refs}
 use Rattle.editor_core.proofs.PlanBlocks.{all_readable, new_from_more}
-use Rattle.editor_core.proofs.Staying.{refuses}
 use Rattle.editor_core.proofs.Tracks.{current_is}
 use Rattle.editor_core.proofs.ChannelLaws.{channels_are, parts_are, placed, rising_append, sound_append, tests_are}
 use Rattle.editor_core.proofs.ChannelLaws.{total_lists}

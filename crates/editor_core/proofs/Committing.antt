@@ -1,5 +1,6 @@
 -- A commit whose record is not added: the journal is full, the record too long, there is no memory, or the disk fails.
-use Rattle.std.proofs.Common.{◌≡◌, inr, refl, sym, ap, subst, ℕ, ◌+◌, ◌-◌, ◌^◌, ◌≤◌, ◌<◌, IsTrue, List, Option, None, Err}
+use Rattle.std.proofs.Common.{◌≡◌, inl, inr, ⊎_elim, refl, sym, ap, subst, ℕ, ◌+◌, ◌-◌, ◌^◌, ◌≤◌, ◌<◌, IsTrue, List}
+use Rattle.std.proofs.Common.{Option, None, Err}
 use Rattle.std.proofs.Common.{length, arith}
 use Rattle.pcm_base.specs.declared.block.BlockRef.{BlockRef}
 use Rattle.pcm_base.specs.declared.command.Call.{Call}
@@ -17,8 +18,8 @@ use Rattle.clip_track.specs.declared.items.Item.{Item}
 use Rattle.project_state.specs.declared.body.Body.{Body}
 use Rattle.project_state.specs.declared.track.Track.{Track}
 use Rattle.project_state.specs.Kept.{Kept}
-use Rattle.project_state.specs.Spelling.{spelling}
-use Rattle.editor_core.specs.Adding.{Adds, Exceeds, stopped_by}
+use Rattle.editor_core.specs.Adding.{AddsBody, Exceeds, ExceedsBy, stopped_by}
+use Rattle.editor_core.specs.Bodies.{IsLength, body_bytes, whole_len}
 use Rattle.editor_core.specs.Core.{Core}
 use Rattle.editor_core.specs.Spent.{WouldMake, kept_of}
 use Rattle.editor_core.specs.Studios.{IsHeld, IsStudio, named_blocks, studio_by, studio_of}
@@ -39,10 +40,10 @@ module _ {D : Type 0} {Has : Type 0} {disk : Ghosts D} {s : Core D} {made : List
     {sound : SoundMove} {tracks : ℕ} {body : Body} {h : History (List Track)} {clip : Option (List (List Item))}
     {track_then : ℕ} (t : IsTested Has disk s made c sound tracks body h clip track_then) where
   abbrev len : ℕ
-  len = length (spelling body)
+  len = length (body_bytes s body)
 
   -- ---- the disk failed
-  module _ {Q : Type 0} (mid : Core D) (adds : Adds {R = Q} disk s (spelling body) (Err refusal.DiskFault) mid) where
+  module _ {Q : Type 0} (mid : Core D) (adds : AddsBody {R = Q} disk s body (Err refusal.DiskFault) mid) where
     abbrev pub after : Core D
     after = stopped_by disk s mid.store
 
@@ -63,7 +64,7 @@ module _ {D : Type 0} {Has : Type 0} {disk : Ghosts D} {s : Core D} {made : List
     }
     failed_state has =
         let step = adds.changed.reads (t.holds has).tells in
-        let src = sources_elsewhere (disk.reads s.store) (disk.reads mid.store) step in
+        let src = sources_elsewhere s.file (disk.reads s.store) (disk.reads mid.store) t.is.journal.among step in
         let none : s.next_block ≡ s.next_block + 0 = omega arith in
         λ i. record (studio_by (src i) disk after) { next_block = none i }
 
@@ -76,7 +77,7 @@ module _ {D : Type 0} {Has : Type 0} {disk : Ghosts D} {s : Core D} {made : List
           going = t.going;
           blocks = 0;
           len = len;
-          needs = t.move.needs has;
+          needs = t.move.needs has len (inr refl);
           room = omega (arith, t.is.counters.block_most);
           is = failed_state has;
           leaves = t.move.call.leaves (studio_of disk s);
@@ -97,11 +98,11 @@ module _ {D : Type 0} {Has : Type 0} {disk : Ghosts D} {s : Core D} {made : List
       number = refl;
       rests = λ some. absurd (stopped_not s.stopped some t.going);
       len = len;
-      needs = λ has. (0, t.move.needs has);
+      needs = λ has. (0, t.move.needs has len (inr refl));
       records = λ off. adds.fields.3;
       changed =
-          changed_wider (others_record s.next_block s.next_block NoneGoes)
-          (record_within (with_sound c sound (Err refusal.DiskFault)) (disk.reads s.store 0) s.block_size
+          changed_wider (others_record s.file s.next_block s.next_block NoneGoes t.is.journal.among)
+          (record_within (with_sound c sound (Err refusal.DiskFault)) (disk.reads s.store s.file) s.block_size
           (s.next_block - s.next_block) len t.move.call.one) adds.changed;
     }
 
@@ -125,7 +126,7 @@ module _ {D : Type 0} (disk : Ghosts D) (s : Core D) (made : List BlockRef) (c :
   }
 
   abbrev size : ℕ
-  size = length (spelling body)
+  size = length (body_bytes s body)
 
   -- ---- the journal is full, or the record too long
   -- what it would have made
@@ -152,28 +153,35 @@ module _ {D : Type 0} (disk : Ghosts D) (s : Core D) (made : List BlockRef) (c :
     );
   }
 
-  unfit : (why : Refusal) → Fewer disk s.store → Exceeds s.journal_end size why
+  unfit_by : (n : ℕ) → IsLength s body n → (why : Refusal) → Fewer disk s.store → Exceeds s.journal_end n why
+      → Took disk s (with_sound c sound (Err why)) s
+  unfit_by n one why fewer over =
+      refuses disk s c sound why is fewer (commit_frees disk s c (Err why) s move.call.one) move.call.quiet n 0
+      (λ held. move.needs held n one)
+      (exceeded (studio_of disk s) c sound tracks move.call 0 n is.counters.pin_most going own
+      (omega (arith, is.counters.block_most)) ids (number_left tested) why over)
+      (exceeding_needed disk s c sound would n one why over)
+
+  unfit : (why : Refusal) → Fewer disk s.store → ExceedsBy s.journal_end (whole_len body) size why
       → Took disk s (with_sound c sound (Err why)) s
   unfit why fewer over =
-      refuses disk s c sound why is fewer (commit_frees disk s c (Err why) s move.call.one) move.call.quiet size 0
-      move.needs
-      (exceeded (studio_of disk s) c sound tracks move.call 0 size is.counters.pin_most going own
-      (omega (arith, is.counters.block_most)) ids (number_left tested) why over) (exceeding_needed disk s c sound would why over)
+      ⊎_elim (unfit_by (whole_len body) (inl refl) why fewer) (unfit_by size (inr refl) why fewer) over
 
   -- ---- what a record that was not added leaves
   pub fails : {Q : Type 0} (why : Refusal) (mid : Core D) → Fewer disk s.store
-      → Adds {R = Q} disk s (spelling body) (Err why) mid → Took disk s (with_sound c sound (Err why)) mid
+      → AddsBody {R = Q} disk s body (Err why) mid → Took disk s (with_sound c sound (Err why)) mid
   fails (refusal.SpaceSpent have need) mid fewer adds =
       let why = refusal.SpaceSpent have need in
       subst (λ (z : Core D). Took disk s (with_sound c sound (Err why)) z) (sym adds.fields.0)
-      (unfit why fewer (adds.fields.1, adds.fields.2, adds.fields.3))
+      (unfit why fewer adds.fields.1)
   fails refusal.NoMemory mid fewer adds =
       subst (λ (z : Core D). Took disk s (with_sound c sound (Err refusal.NoMemory)) z) (sym adds.fields)
-      (wants disk s c sound is fewer (commit_removes_none c move.call.one) move.call.quiet size (λ held. (0, move.needs held)))
+      (wants disk s c sound is fewer (commit_removes_none c move.call.one) move.call.quiet size
+      (λ held. (0, move.needs held size (inr refl))))
   fails (refusal.RecordLimit n) mid fewer adds =
       let why = refusal.RecordLimit n in
       subst (λ (z : Core D). Took disk s (with_sound c sound (Err why)) z) (sym adds.fields.0)
-      (unfit why fewer (adds.fields.1, adds.fields.2, adds.fields.3))
+      (unfit why fewer adds.fields.1)
   fails refusal.DiskFault mid fewer adds =
       subst (λ (z : Core D). Took disk s (with_sound c sound (Err refusal.DiskFault)) z) (sym adds.fields.0)
       (took_so disk s c sound (Err refusal.DiskFault) (after tested mid adds) (failed tested mid adds)

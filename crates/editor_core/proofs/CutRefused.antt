@@ -23,9 +23,10 @@ use Rattle.project_state.specs.KeptSound.{IsSoundPoint}
 use Rattle.project_state.specs.Tracks.{track_of}
 use Rattle.pcm_base.specs.declared.edits.Removing.{Removing}
 use Rattle.pcm_base.specs.declared.edits.Removing.TheVariants.{Close, Leave}
+use Rattle.pcm_base.specs.Edits.{removed}
 use Rattle.editor_core.specs.declared.copies.RunRange.{RunRange}
 use Rattle.editor_core.specs.Core.{Core}
-use Rattle.editor_core.specs.Cuts.{NoCutPlan, cut_cells, cut_line, cut_refusal}
+use Rattle.editor_core.specs.Cuts.{NoCutPlan, cut_line, cut_refusal}
 use Rattle.editor_core.specs.Edits.{IsEditCall, alone}
 use Rattle.editor_core.specs.Points.{current_tracks}
 use Rattle.editor_core.specs.Studios.{IsStudio, studio_by, studio_of}
@@ -86,7 +87,7 @@ own_by Leave range out st = refl
 pub after_by : (e : Removing) (range : RunRange) (out : Outside) (st : State) → after out st (Line (cut_line e range))
     ≡ record st {
       history = edited st.history
-          (run_edited range.track (replicate range.count (cut_cells e range.from range.to)) (current st)) 0;
+          (run_edited range.track (replicate range.count (removed e range.from range.to)) (current st)) 0;
       commit = st.commit + 1;
       clipboard = Some (copied range.track range.count range.from range.to (current st));
     }

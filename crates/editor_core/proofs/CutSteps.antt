@@ -9,7 +9,7 @@ use Rattle.pcm_base.specs.declared.command.Call.TheVariants.{Line}
 use Rattle.pcm_base.specs.declared.sound.Cell.{Cell}
 use Rattle.pcm_base.specs.Cells.{Project, run_edited}
 use Rattle.pcm_base.specs.Cells as cells
-use Rattle.pcm_base.specs.Edits.{range_of}
+use Rattle.pcm_base.specs.Edits.{range_of, removed}
 use Rattle.pcm_base.specs.History.{edited, recorded}
 use Rattle.pcm_base.specs.Pieces.{Sources}
 use Rattle.pcm_base.specs.Refusals.{◌otherwise◌}
@@ -36,7 +36,7 @@ use Rattle.pcm_base.specs.declared.edits.Removing.{Removing}
 use Rattle.editor_core.specs.declared.copies.RunRange.{RunRange}
 use Rattle.editor_core.specs.Copies.{Copies, run_of, strips_blocks}
 use Rattle.editor_core.specs.Core.{Core}
-use Rattle.editor_core.specs.Cuts.{IsCutPlan, cut_cells, cut_line}
+use Rattle.editor_core.specs.Cuts.{IsCutPlan, cut_line}
 use Rattle.editor_core.specs.Edits.{AreAmong, IsEdit, IsEditCall, IsPlanned, alone, blocks_with, clip_behind, clip_then}
 use Rattle.editor_core.specs.Edits.{tagged}
 use Rattle.editor_core.specs.Points.{current_tracks, lacks}
@@ -96,7 +96,7 @@ module _ {D : Type 0} (disk : Ghosts D) (s : Core D) (is : IsStudio disk s) (e :
     ran = from_track id old
 
     abbrev f : List Cell → List Cell
-    f = cut_cells e from to
+    f = removed e from to
 
     abbrev every : List BlockRef
     every = blocks_with s makes

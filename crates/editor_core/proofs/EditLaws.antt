@@ -26,11 +26,11 @@ use Rattle.piece_store.specs.Bringing.{brought, brought_count}
 use Rattle.project_state.specs.declared.body.Body.{Body}
 use Rattle.project_state.specs.declared.body.Body.TheVariants.{Edit}
 use Rattle.project_state.specs.declared.track.Track.{Track}
-use Rattle.project_state.specs.Kept.{Kept, IsNext, meant, point_blocks, history_blocks}
+use Rattle.project_state.specs.Kept.{Kept, before_of, meant, point_blocks, history_blocks}
 use Rattle.project_state.specs.KeptSound.{IsSoundPoint, IsSoundTagged}
-use Rattle.project_state.specs.Sound.{AllSoundTracks}
-use Rattle.project_state.specs.Spelling.{spelling}
+use Rattle.project_state.specs.Sound.{AllSoundTracks, IsSound}
 use Rattle.project_state.proofs.KeptBounds.{all_append, tagged_more}
+use Rattle.editor_core.specs.Bodies.{IsLength}
 use Rattle.editor_core.specs.Core.{Core}
 use Rattle.editor_core.specs.Edits.{IsEdit, IsPlanned, alone, beside, blocks_with, TaggedEdit, clip_behind}
 use Rattle.editor_core.specs.Edits.{history_behind}
@@ -41,9 +41,9 @@ use Rattle.editor_core.specs.Studios.{IsGiven, IsHeld, IsStudio, clip_blocks, na
 use Rattle.editor_core.specs.Studios.{studio_of}
 use Rattle.editor_core.proofs.Bounds.{few_more}
 use Rattle.editor_core.proofs.Contained.{among_all}
-use Rattle.editor_core.proofs.Editing.{counts_named}
+use Rattle.editor_core.proofs.BodyBytes.{lengths_most}
+use Rattle.editor_core.proofs.Editing.{counts_named, may_come}
 use Rattle.editor_core.proofs.Flights.{IsCommit, Matches}
-use Rattle.editor_core.proofs.Lengths.{record_most}
 use Rattle.editor_core.proofs.Lists.{all_left, all_so}
 use Rattle.editor_core.proofs.MadeCommits.{has_made}
 use Rattle.editor_core.proofs.MadeStudios.{IsNewId, are_made, made_held, made_studio, refs, refs_ids}
@@ -90,9 +90,6 @@ module _ {D : Type 0} (disk : Ghosts D) (s : Core D) (is : IsStudio disk s) (goi
 
   abbrev pub edit_history : History (List Track)
   edit_history = history_behind s e
-
-  abbrev len : ℕ
-  len = length (spelling edit_body)
 
   pub pieces_there : IsHeld disk s → PiecesThere (disk.reads s.store) makes
   pieces_there held = makes_all (disk.reads s.store) (named_blocks s) (brought_count given) makes held.whole plan.origin
@@ -176,16 +173,17 @@ module _ {D : Type 0} (disk : Ghosts D) (s : Core D) (is : IsStudio disk s) (goi
         ap current (edit.means block written) ∙ current_is (alone block) edit_history
         ∙ ap (meant (alone block)) (recorded_current s.history point tag is.format.depth_least)
 
-    short_by : (block : ℕ → ℕ → ℤ) → AreWritten (beside block (brought given)) makes
+    short_by : (len : ℕ) → IsLength s edit_body len → (block : ℕ → ℕ → ℤ)
+        → AreWritten (beside block (brought given)) makes
         → len ≤ project_body_most s.block_size (project_then (by block))
-    short_by block written =
+    short_by len one block written =
         subst (λ (q : Project). len ≤ project_body_most s.block_size q) (sym (then_meant block written))
-        (record_most s.block_size (s.next_block + n) track_then (alone block) tag (s.next_block + n) track_then point
-        (omega (arith, is.format.block_least)) plan.sound)
+        (lengths_most s (s.next_block + n) track_then (alone block) s.block_size tag (s.next_block + n) track_then point
+        (omega (arith, is.format.block_least)) plan.sound len one)
 
     -- The record is as short as the call needs, also where the blocks are not made: it does not hang on samples.
-    short : len ≤ project_body_most s.block_size (project_then t)
-    short =
+    short : (len : ℕ) → IsLength s edit_body len → len ≤ project_body_most s.block_size (project_then t)
+    short len one =
         let old = samples_on (disk.reads s.store) in
         let new = supposed old (brought given) s.next_block makes in
         let below = all_so (λ (b : BlockRef). IsGiven s.next_block b.id) (λ (b : BlockRef). b.id < s.next_block)
@@ -195,11 +193,12 @@ module _ {D : Type 0} (disk : Ghosts D) (s : Core D) (is : IsStudio disk s) (goi
         let same = same_by old new disk s
         (all_so (λ (b : BlockRef). b.id < s.next_block) (λ (b : BlockRef). new b.id ≡ old b.id)
         (λ b low. old_same old (brought given) s.next_block makes b.id low) (named_blocks s) below) in
-        subst (λ (u : model.Studio). len ≤ project_body_most s.block_size (project_then u)) same (short_by new written)
+        subst (λ (u : model.Studio). len ≤ project_body_most s.block_size (project_then u)) same
+        (short_by len one new written)
 
-    pub edit_needs : (k : ℕ) → k ≤ n → Needs (outside t sound) t c k len
-    edit_needs k le =
-        edit.call.needs t.rate t k len (omega (arith, le, edit.few (samples_on (disk.reads s.store))), short)
+    pub edit_needs : (len : ℕ) → IsLength s edit_body len → (k : ℕ) → k ≤ n → Needs (outside t sound) t c k len
+    edit_needs len one k le =
+        edit.call.needs t.rate t k len (omega (arith, le, edit.few (samples_on (disk.reads s.store))), short len one)
 
     pub edit_own : call_tests (outside t sound) t.state c ≡ None
     edit_own = edit.own (samples_on (disk.reads s.store))
@@ -228,24 +227,20 @@ module _ {D : Type 0} (disk : Ghosts D) (s : Core D) (is : IsStudio disk s) (goi
             subst (AreWritten (beside (samples_on (disk.reads store)) (brought given)))
             (take_all n makes (omega arith)) first
 
-        next_then : (m : ℕ) (k : Kept) → Matches grown m k → IsNext m k (spelling edit_body) edit_body
-        next_then m k e = record {
-          spelled = refl;
-          sound = record {
-            tag_number = omega (arith, plan.tag_given, is.counters.commit_most);
-            tag_given = omega (arith, plan.tag_given, e.commit);
-            block_least = omega (arith, is.counters.block_least);
-            block_most = most;
-            block_later = e.next_block;
-            track_least = omega (arith, is.counters.track_least);
-            track_most = ids;
-            track_later = omega (arith, e.next_track);
-            few = plan.sound.few;
-            rising = plan.sound.rising;
-            sound = subst (λ (b : ℕ). AllSoundTracks b (s.next_block + n) track_then point)
-                (sym e.block_size) plan.sound.sound;
-          };
-          follows = tt;
+        sound_then : (m : ℕ) (k : Kept) → Matches grown m k → IsSound m (before_of k) edit_body
+        sound_then m k e = record {
+          tag_number = omega (arith, plan.tag_given, is.counters.commit_most);
+          tag_given = omega (arith, plan.tag_given, e.commit);
+          block_least = omega (arith, is.counters.block_least);
+          block_most = most;
+          block_later = e.next_block;
+          track_least = omega (arith, is.counters.track_least);
+          track_most = ids;
+          track_later = omega (arith, e.next_track);
+          few = plan.sound.few;
+          rising = plan.sound.rising;
+          sound = subst (λ (b : ℕ). AllSoundTracks b (s.next_block + n) track_then point)
+              (sym e.block_size) plan.sound.sound;
         }
 
         pub move : IsCommit (IsHeld disk s) disk grown made c sound tracks edit_body edit_history clip track_then
@@ -254,7 +249,7 @@ module _ {D : Type 0} (disk : Ghosts D) (s : Core D) (is : IsStudio disk s) (goi
           gives = refl;
           block_then = λ k. s.next_block + n;
           block_most = λ k le. omega arith;
-          next = next_then;
+          next = λ m k e room. may_come disk grown grown_is m k edit_body e room (sound_then m k e) tt;
           leads = λ m k e. λ i. record {
             history = recorded (e.history i) point tag;
             next_block = s.next_block + n;
@@ -270,9 +265,9 @@ module _ {D : Type 0} (disk : Ghosts D) (s : Core D) (is : IsStudio disk s) (goi
           few = recorded_few s.history point tag;
           says = (refl, refl, sym (recorded_current s.history point tag is.format.depth_least));
           model = λ held. edit.means (samples_on (disk.reads store)) (written held);
-          needs = λ held.
+          needs = λ held len one.
               edit.call.needs (studio_of disk grown).rate (studio_of disk grown) 0 len
-              (omega arith, short_by (samples_on (disk.reads store)) (written held));
+              (omega arith, short_by len one (samples_on (disk.reads store)) (written held));
         }
 
         pub grown_own : call_tests (outside (studio_of disk grown) sound) (studio_of disk grown).state c ≡ None

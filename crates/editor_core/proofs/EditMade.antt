@@ -1,5 +1,5 @@
 -- An edit whose blocks are made: what is left is one commit, and the call from there is the call from the start.
-use Rattle.std.proofs.Common.{◌≡◌, refl, subst, ℕ, ◌+◌, ◌≤◌, Option, None}
+use Rattle.std.proofs.Common.{◌≡◌, inr, refl, subst, ℕ, ◌+◌, ◌≤◌, Option, None}
 use Rattle.std.proofs.Common.{List, [], length, Result, IfErr, arith}
 use Rattle.std.specs.Prelude.{IfOk}
 use Rattle.pcm_base.specs.declared.answer.Reply.{Reply}
@@ -21,7 +21,7 @@ use Rattle.piece_store.specs.declared.given.Given as brings
 use Rattle.project_state.specs.declared.body.Body.{Body}
 use Rattle.project_state.specs.declared.body.Body.TheVariants.{Edit}
 use Rattle.project_state.specs.declared.track.Track.{Track}
-use Rattle.project_state.specs.Spelling.{spelling}
+use Rattle.editor_core.specs.Bodies.{body_bytes}
 use Rattle.editor_core.specs.Core.{Core}
 use Rattle.editor_core.specs.Edits.{IsEdit, IsPlanned, IsPrepared, TaggedEdit, clip_behind}
 use Rattle.editor_core.specs.Edits.{history_behind}
@@ -77,13 +77,13 @@ module _ {D : Type 0} (disk : Ghosts D) (s : Core D) (is : IsStudio disk s) (goi
   told_body = Edit tag (s.next_block + n) track_then point
 
   abbrev body : List ℕ
-  body = spelling told_body
+  body = body_bytes s told_body
 
   abbrev t : model.Studio
   t = studio_of disk s
 
   pub need : (k : ℕ) → k ≤ n → Needs (outside t sound) t c k (length body)
-  need = edit_needs disk s is going e plan c sound edit
+  need = edit_needs disk s is going e plan c sound edit (length body) (inr refl)
 
   module _ (prepared : IsPrepared s n tracks (length body)) (store : D) (counts : Counts)
       (making : Making disk s (batch_of given makes) n

@@ -19,8 +19,8 @@ use Rattle.project_state.specs.declared.body.Body.{Body}
 use Rattle.project_state.specs.declared.body.Body.TheVariants.{Edit}
 use Rattle.project_state.specs.declared.track.Track.{Track}
 use Rattle.project_state.specs.Kept.{history_blocks}
-use Rattle.project_state.specs.Spelling.{spelling}
-use Rattle.editor_core.specs.Adding.{Adds, stopped_by}
+use Rattle.editor_core.specs.Adding.{Adds, AddsBody, stopped_by}
+use Rattle.editor_core.specs.Bodies.{body_bytes, whole_len}
 use Rattle.editor_core.specs.Core.{Core}
 use Rattle.editor_core.specs.Edits.{Carried, Committed, IsEdit, IsPlanned, IsPrepared, TaggedEdit, clip_behind}
 use Rattle.editor_core.specs.Edits.{history_behind}
@@ -80,7 +80,7 @@ module _ {D : Type 0} (disk : Ghosts D) (s : Core D) (is : IsStudio disk s) (goi
   told_body = Edit tag (s.next_block + n) track_then point
 
   abbrev body : List ℕ
-  body = spelling told_body
+  body = body_bytes s told_body
 
   abbrev t : model.Studio
   t = studio_of disk s
@@ -101,7 +101,7 @@ module _ {D : Type 0} (disk : Ghosts D) (s : Core D) (is : IsStudio disk s) (goi
     state = mid_state disk s is going e plan c sound edit fewer prepared store counts making reads synced
 
     -- the record was not added
-    edit_failed : (new : Core D) → Adds {R = Unit {0}} disk mid body (Err refusal.DiskFault) new
+    edit_failed : (new : Core D) → AddsBody {R = Unit {0}} disk mid told_body (Err refusal.DiskFault) new
         → Took disk s (with_sound c sound (Err refusal.DiskFault)) new
     edit_failed new adds =
         let commit = edit.call.commit in
@@ -144,8 +144,8 @@ module _ {D : Type 0} (disk : Ghosts D) (s : Core D) (is : IsStudio disk s) (goi
         (all_left disk s given makes prepared.blocks c sound store counts making new.store adds.fields.2))
 
     -- it was
-    module _ {Q : Type 0} (q : Q) (new : Core D) (adds : Adds disk mid body (Ok q) new) (h' : History (List Track))
-        (counts' : Counts) (next_track : ℕ)
+    module _ {Q : Type 0} (q : Q) (new : Core D) (adds : AddsBody disk mid told_body (Ok q) new)
+        (h' : History (List Track)) (counts' : Counts) (next_track : ℕ)
         (moved : h' ≡ h) (tracked : next_track ≡ track_then)
         (counted : IsFreshCount (ids_of (history_blocks h ++ (pin_blocks s.pins ++ clip_blocks clip))) counts')
         (files : (id : ℕ) → IsSome (counts' id) ↔ IsSome (counts id)) where
@@ -210,10 +210,12 @@ module _ {D : Type 0} (disk : Ghosts D) (s : Core D) (is : IsStudio disk s) (goi
       (λ held. need disk s is going e plan c sound edit fewer) plan.origin why new some.1)
       (λ last.
       let it = last.1 in
-      let adds = subst (λ (e : Refusal). Adds {R = Unit {0}} disk it.mid body (Err e) new) last.0 it.adds in
+      let adds = subst (λ (e : Refusal). Adds {R = Unit {0}} disk it.mid body (whole_len told_body) (Err e) new) last.0
+      it.adds in
       subst (λ (e : Refusal). Took disk s (with_sound c sound (Err e)) new) (sym last.0)
       (edit_failed it.prepared it.mid.store it.mid.counts (made_so it.mid it.making) it.reads it.synced new
-      (subst (λ (z : Core D). Adds {R = Unit {0}} disk z body (Err refusal.DiskFault) new) it.making.is adds))))
+      (subst (λ (z : Core D). Adds {R = Unit {0}} disk z body (whole_len told_body) (Err refusal.DiskFault) new)
+      it.making.is adds))))
       carried
 
   pub edit_ok : (done : Unit {0}) (new : Core D) (it : Committed disk s (commit_of s e) (Ok done) new)
@@ -225,5 +227,5 @@ module _ {D : Type 0} (disk : Ghosts D) (s : Core D) (is : IsStudio disk s) (goi
       (record new { history = h'; clipboard = clip; counts = counts'; next_track = next_track })
   edit_ok done new it h' counts' next_track moved tracked counted files =
       edit_done it.prepared it.mid.store it.mid.counts (made_so it.mid it.making) it.reads it.synced done new
-      (subst (λ (z : Core D). Adds disk z body (Ok done) new) it.making.is it.adds) h' counts' next_track moved tracked
-      counted files
+      (subst (λ (z : Core D). Adds disk z body (whole_len told_body) (Ok done) new) it.making.is it.adds)
+      h' counts' next_track moved tracked counted files

@@ -1,5 +1,5 @@
 -- What any edit stands on: the current project, and a new point behind it.
-use Rattle.std.proofs.Common.{◌≡◌, refl, sym, ap, ◌∙◌, ℕ, ◌+◌, ◌^◌, ◌≤◌, List, ◌++◌, length, Option, subst, arith}
+use Rattle.std.proofs.Common.{◌≡◌, refl, sym, ap, ◌∙◌, ℕ, ◌+◌, ◌^◌, ◌≤◌, ◌<◌, List, ◌++◌, length, Option, subst, arith}
 use Rattle.std.specs.List.{AllByRecursion}
 use Rattle.pcm_base.specs.declared.block.BlockRef.{BlockRef}
 use Rattle.pcm_base.specs.declared.command.Call.{Call}
@@ -17,20 +17,24 @@ use Rattle.disk_model.specs.declared.store.Store.{Ghosts}
 use Rattle.sample_block.specs.Sources.{sources_of}
 use Rattle.block_ledger.specs.Counts.{Counts, IsFreshCount}
 use Rattle.clip_track.specs.declared.items.Item.{Item}
+use Rattle.project_state.specs.declared.body.Body.{Body}
 use Rattle.project_state.specs.declared.body.Body.TheVariants.{Edit}
 use Rattle.project_state.specs.declared.track.Track.{Track}
-use Rattle.project_state.specs.Kept.{Kept, IsNext, meant, meant_history, point_blocks, history_blocks}
+use Rattle.project_state.specs.Kept.{Kept, IsNextIn, MayFollow, before_of, meant, meant_history, point_blocks}
+use Rattle.project_state.specs.Kept.{history_blocks, version_of}
 use Rattle.project_state.specs.KeptSound.{IsSoundPoint, IsSoundTagged}
-use Rattle.project_state.specs.Sound.{AllSoundTracks}
-use Rattle.project_state.specs.Spelling.{spelling}
+use Rattle.project_state.specs.Sound.{AllSoundTracks, IsSound}
 use Rattle.project_state.specs.Tracks.{AllBelow, track_of}
 use Rattle.project_state.proofs.KeptBounds.{tagged_more}
 use Rattle.project_state.proofs.MeantHistories.{meant_edited}
-use Rattle.editor_core.specs.Core.{Core}
+use Rattle.project_state.proofs.ShortEnds.{sound_ends}
+use Rattle.editor_core.specs.Bodies.{IsLength, body_bytes}
+use Rattle.editor_core.specs.Core.{Core, form_at}
 use Rattle.editor_core.specs.Occurrences.{HasAll, Moves}
 use Rattle.editor_core.specs.Points.{current_tracks, lacks}
 use Rattle.editor_core.specs.Studios.{IsHeld, IsStudio, MayPaste, clip_blocks, clip_cells, ids_of, named_blocks}
 use Rattle.editor_core.specs.Studios.{pin_blocks, studio_of}
+use Rattle.editor_core.proofs.BodyBytes.{next_so}
 use Rattle.editor_core.proofs.Flights.{IsCommit, Matches}
 use Rattle.editor_core.proofs.Histories.{all_edited, blocks_edited, current_all, current_blocks, ending_current}
 use Rattle.editor_core.proofs.Histories.{ending_few}
@@ -134,6 +138,15 @@ module _ {D : Type 0} (disk : Ghosts D) (s : Core D) (is : IsStudio disk s) wher
   then_current p = current_is src (edited s.history p 0)
       ∙ ap (meant src) (ending_current s.history (kept s.history) p 0 is.format.depth_least)
 
+  -- the record of a sound body may come next
+  pub may_come : (m : ℕ) (k : Kept) (body : Body) → Matches s m k → s.commit_number < 2 ^ 62
+      → IsSound m (before_of k) body → MayFollow k.history body
+      → IsNextIn (version_of (form_at s)) m k (body_bytes s body) body
+  may_come m k body e room sound follows =
+      next_so s m k body is.journal e.history (omega (arith, e.block_size, is.format.block_least))
+      (omega (arith, e.block_size, is.format.block_most)) (omega (arith, e.commit, room))
+      (sound_ends s.block_size s.next_block s.next_track old is.format.block_least current_sound) sound follows
+
   -- the studio counts what its points name
   pub counts_named : HasAll s.counts (history_blocks s.history)
   counts_named = λ n. least _ _ _ _ (is.counted n)
@@ -161,24 +174,19 @@ module _ {D : Type 0} (disk : Ghosts D) (s : Core D) (is : IsStudio disk s) wher
         (s.commit_number + 1) q (omega arith) later (omega arith) h) s.history.points is.points)
         (sound, omega arith)
 
-    next_then : (m : ℕ) (k : Kept) → Matches s m k
-        → IsNext m k (spelling (Edit 0 s.next_block track_then p)) (Edit 0 s.next_block track_then p)
-    next_then m k k_is = record {
-      spelled = refl;
-      sound = record {
-        tag_number = omega arith;
-        tag_given = omega arith;
-        block_least = is.counters.block_least;
-        block_most = is.counters.block_most;
-        block_later = k_is.next_block;
-        track_least = omega (arith, is.counters.track_least, later);
-        track_most = most;
-        track_later = omega (arith, k_is.next_track, later);
-        few = sound.few;
-        rising = sound.rising;
-        sound = subst (λ (n : ℕ). AllSoundTracks n s.next_block track_then p) (sym k_is.block_size) sound.sound;
-      };
-      follows = tt;
+    sound_then : (m : ℕ) (k : Kept) → Matches s m k → IsSound m (before_of k) (Edit 0 s.next_block track_then p)
+    sound_then m k k_is = record {
+      tag_number = omega arith;
+      tag_given = omega arith;
+      block_least = is.counters.block_least;
+      block_most = is.counters.block_most;
+      block_later = k_is.next_block;
+      track_least = omega (arith, is.counters.track_least, later);
+      track_most = most;
+      track_later = omega (arith, k_is.next_track, later);
+      few = sound.few;
+      rising = sound.rising;
+      sound = subst (λ (n : ℕ). AllSoundTracks n s.next_block track_then p) (sym k_is.block_size) sound.sound;
     }
 
     -- A call whose record tells a new point is a commit.
@@ -195,8 +203,8 @@ module _ {D : Type 0} (disk : Ghosts D) (s : Core D) (is : IsStudio disk s) wher
           next_track = track_then;
           commit = s.commit_number + 1;
         })
-        → (IsHeld disk s → Needs (outside (studio_of disk s) call_sound) (studio_of disk s) c 0
-        (length (spelling (Edit 0 s.next_block track_then p))))
+        → (IsHeld disk s → (n : ℕ) → IsLength s (Edit 0 s.next_block track_then p) n
+        → Needs (outside (studio_of disk s) call_sound) (studio_of disk s) c 0 n)
         → IsCommit (IsHeld disk s) disk s made c call_sound tracks (Edit 0 s.next_block track_then p)
         (edited s.history p 0) clip track_then
     point_commit made c call_sound tracks clip call gives names clip_names few fits model needs = record {
@@ -204,7 +212,7 @@ module _ {D : Type 0} (disk : Ghosts D) (s : Core D) (is : IsStudio disk s) wher
       gives = gives;
       block_then = λ n. s.next_block;
       block_most = λ n h. omega arith;
-      next = next_then;
+      next = λ m k k_is room. may_come m k (Edit 0 s.next_block track_then p) k_is room (sound_then m k k_is) tt;
       leads = λ m k k_is. λ i. record {
         history = edited (k_is.history i) p 0;
         next_block = s.next_block;

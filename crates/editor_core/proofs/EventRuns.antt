@@ -125,9 +125,9 @@ module _ {D : Type 0} (disk : Ghosts D) (fewer : (store : D) → Fewer disk stor
           cut = refl;
           reached = studio_of disk s;
           run = refl;
-          keeps = inl (keeps_now disk s going held c now);
+          keeps = inl (keeps_now disk s is.journal.among going held c now);
         };
-    now = λ told going held c now. keeps_now disk s going held c now;
+    now = λ told going held c now. keeps_now disk s is.journal.among going held c now;
   }
 
 -- ---- one more

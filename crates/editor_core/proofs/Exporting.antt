@@ -127,7 +127,8 @@ module _ {D : Type 0} (disk : Ghosts D) (s : Core D) (is : IsStudio disk s) (nam
     still : IsHeld disk s → EachSince disk s.store store (λ c. Keeps c (shown t))
     still held c since =
         let from = kept.same_images.from c since in
-        subst (λ (f : Files). Keeps f (shown t)) (sym from.2) (keeps_now disk s going held from.0 from.1)
+        subst (λ (f : Files). Keeps f (shown t)) (sym from.2)
+        (keeps_now disk s is.journal.among going held from.0 from.1)
 
     done : (bytes : ℕ) → (IsHeld disk s → CarriesOut t call sound (reply.Wrote bytes) (studio_of disk here))
         → Took disk s (with_sound call sound (Ok (reply.Wrote bytes))) here
@@ -137,12 +138,12 @@ module _ {D : Type 0} (disk : Ghosts D) (s : Core D) (is : IsStudio disk s) (nam
       step = step;
       any_moment = λ on held c since. inl (still held c since);
       refused = λ on held left. tt;
-      now = λ left held. keeps_now disk here left (looked_held disk s is store kept cache keeps held);
+      now = λ left held. keeps_now disk here is.journal.among left (looked_held disk s is store kept cache keeps held);
       number = omega arith;
       rests = λ some. absurd (stopped_not s.stopped some going);
       len = 0;
       needs = λ held. (0, (refl, refl));
-      records = no_record (Ok (reply.Wrote bytes)) here;
+      records = no_record s (Ok (reply.Wrote bytes)) here;
       given = none_given (Ok (reply.Wrote bytes)) s here refl;
       needed = tt;
       changed = changed_kept (others_none s.next_block s.next_block NoneGoes) kept;
@@ -162,12 +163,12 @@ module _ {D : Type 0} (disk : Ghosts D) (s : Core D) (is : IsStudio disk s) (nam
       step = step;
       any_moment = λ on held c since. inl (still held c since);
       refused = λ on held left c since. still held c since;
-      now = λ left held. keeps_now disk here left (looked_held disk s is store kept cache keeps held);
+      now = λ left held. keeps_now disk here is.journal.among left (looked_held disk s is store kept cache keeps held);
       number = refl;
       rests = λ some. absurd (stopped_not s.stopped some going);
       len = 0;
       needs = λ held. (0, (refl, refl));
-      records = no_record (Err why) here;
+      records = no_record s (Err why) here;
       given = tt;
       needed = needed;
       changed = changed_kept (others_none s.next_block s.next_block NoneGoes) kept;

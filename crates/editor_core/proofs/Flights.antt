@@ -22,17 +22,17 @@ use Rattle.clip_track.specs.declared.items.Item.{Item}
 use Rattle.project_journal.specs.Gate.{EachNow, EachSince}
 use Rattle.project_state.specs.declared.body.Body.{Body}
 use Rattle.project_state.specs.declared.track.Track.{Track}
-use Rattle.project_state.specs.Kept.{Kept, after_body, IsNext, meant_history, history_blocks, Keeps}
+use Rattle.project_state.specs.Kept.{Kept, after_body, IsNextIn, meant_history, history_blocks, Keeps, version_of}
 use Rattle.project_state.specs.KeptSound.{IsSoundTagged}
-use Rattle.project_state.specs.Spelling.{spelling}
 use Rattle.project_state.proofs.KeptBounds.{all_append}
-use Rattle.editor_core.specs.Adding.{Adds}
-use Rattle.editor_core.specs.Core.{Core}
+use Rattle.editor_core.specs.Adding.{AddsBody}
+use Rattle.editor_core.specs.Bodies.{IsLength, body_bytes}
+use Rattle.editor_core.specs.Core.{Core, form_at}
 use Rattle.editor_core.specs.Records.{Says}
 use Rattle.editor_core.specs.Studios.{IsGiven, IsDurable, IsHeld, IsStudio, MayPaste, SameBlocks, clip_blocks}
 use Rattle.editor_core.specs.Studios.{clip_cells, named_blocks, pin_blocks, shown, studio_of}
 use Rattle.editor_core.specs.Took.{KeepsOneOf}
-use Rattle.editor_core.proofs.Images.{opened_by, Covers, one_of, same_since, shown_is, covers_kept}
+use Rattle.editor_core.proofs.Images.{opened_by, Covers, form_few, one_of, same_since, shown_is, covers_kept}
 use Rattle.editor_core.proofs.Lists.{all_left, all_right, all_both}
 use Rattle.editor_core.proofs.Sounds.{blocks_same, all_whole}
 use Rattle.editor_core.proofs.Spaces.{IsCommitCall, nothing}
@@ -56,7 +56,8 @@ pub record IsCommit {D : Type 0} (Has : Type 0) (disk : Ghosts D) (s : Core D) (
   -- what the record says of the next block
   pub block_then : ℕ → ℕ
   pub block_most : (n : ℕ) → n ≤ s.next_block → block_then n ≤ s.next_block
-  pub next : (m : ℕ) (k : Kept) → Matches s m k → IsNext m k (spelling body) body
+  pub next : (m : ℕ) (k : Kept) → Matches s m k → s.commit_number < 2 ^ 62
+      → IsNextIn (version_of (form_at s)) m k (body_bytes s body) body
   pub leads : (m : ℕ) (k : Kept) → Matches s m k → after_body k body ≡ record k {
     history = h;
     next_block = block_then k.next_block;
@@ -79,7 +80,7 @@ pub record IsCommit {D : Type 0} (Has : Type 0) (disk : Ghosts D) (s : Core D) (
         next_track = track_then;
         commit = s.commit_number + 1;
       }
-  pub needs : Has → Needs (outside (studio_of disk s) sound) (studio_of disk s) c 0 (length (spelling body))
+  pub needs : Has → (n : ℕ) → IsLength s body n → Needs (outside (studio_of disk s) sound) (studio_of disk s) c 0 n
 
 -- the clipboard that stays names no other blocks
 pub clip_stays : {D : Type 0} (s : Core D) (made : List BlockRef) (P : BlockRef → Type 0)
@@ -112,7 +113,7 @@ module _ {D : Type 0} {Has : Type 0} {disk : Ghosts D} {s : Core D} {made : List
   out = outside before sound
 
   abbrev len : ℕ
-  len = length (spelling body)
+  len = length (body_bytes s body)
 
   -- all blocks that matter
   abbrev every : List BlockRef
@@ -181,7 +182,7 @@ module _ {D : Type 0} {Has : Type 0} {disk : Ghosts D} {s : Core D} {made : List
   number_left = omega (arith, t.number)
 
   pub passes : s.journal_end + (6 + len) ≤ 2 ^ 62 → len ≤ LONGEST_BODY
-      → refusal_of (outside (studio_of disk s) sound) (studio_of disk s) c 0 (length (spelling body)) ≡ None
+      → refusal_of (outside (studio_of disk s) sound) (studio_of disk s) c 0 (length (body_bytes s body)) ≡ None
   passes =
       nothing before c sound tracks t.move.call 0 len t.is.counters.pin_most t.going t.own
       (omega (arith, t.is.counters.block_most)) t.ids number_left
@@ -192,7 +193,7 @@ module _ {D : Type 0} {Has : Type 0} {disk : Ghosts D} {s : Core D} {made : List
   carried has place short = record {
     blocks = 0;
     len = len;
-    needs = t.move.needs has;
+    needs = t.move.needs has len (inr refl);
     passed = passes place short;
     answers = t.move.call.done before.rate before.state;
     is = refl;
@@ -200,10 +201,10 @@ module _ {D : Type 0} {Has : Type 0} {disk : Ghosts D} {s : Core D} {made : List
   }
 
   -- ---- while a record is added
-  module _ {Q : Type 0} (answer : Result Q Refusal) (mid : Core D) (adds : Adds disk s (spelling body) answer mid)
+  module _ {Q : Type 0} (answer : Result Q Refusal) (mid : Core D) (adds : AddsBody disk s body answer mid)
       (has : Has) where
     -- each image that it may leave has the project of before or of after
-    pub flight : s.journal_end + (6 + length (spelling body)) ≤ 2 ^ 62 → length (spelling body) ≤ LONGEST_BODY
+    pub flight : s.journal_end + (6 + length (body_bytes s body)) ≤ 2 ^ 62 → length (body_bytes s body) ≤ LONGEST_BODY
         → EachSince disk s.store mid.store (KeepsOneOf (studio_of disk s) c sound)
     flight place short x since =
         let d = (t.holds has).durable t.going in
@@ -215,14 +216,16 @@ module _ {D : Type 0} {Has : Type 0} {disk : Ghosts D} {s : Core D} {made : List
           carried = carried has place short;
           keeps = subst (Keeps x) (shown_then d has) new;
         }))
-        (one_of disk s.store mid.store d.log d.kept every s.next_block d.told every_ids (every_whole has)
-        (every_same has) adds.changed.images body (spelling body) (t.move.next d.log.block_size d.kept (matches d))
+        (one_of disk s.store mid.store (form_at s) d.log d.base d.kept every s.next_block
+        (form_few s t.is.journal.among) d.begins d.told every_ids (every_whole has)
+        (every_same has) adds.changed.images body (body_bytes s body)
+        (t.move.next d.log.block_size d.kept (matches d) t.number)
         (covers_before d) (covers_after d) (adds.any_moment d.log (t.holds has).tells d.there) x since)
 
     -- the blocks read as they did
     pub reads_still : SameBlocks (named_blocks s ++ made) (disk.reads s.store) (disk.reads mid.store)
     reads_still =
-        blocks_same (disk.reads s.store) (disk.reads mid.store) s.next_block every
+        blocks_same s.file (disk.reads s.store) (disk.reads mid.store) s.next_block every t.is.journal.among
         (adds.changed.reads (t.holds has).tells)
         every_ids
 
@@ -236,7 +239,8 @@ module _ {D : Type 0} {Has : Type 0} {disk : Ghosts D} {s : Core D} {made : List
         let reads = disk.reads s.store in
         let images = adds.changed.images in
         let since =
-        same_since disk s.store mid.store d.log d.kept every s.next_block d.told every_ids (every_whole has)
+        same_since disk s.store mid.store (form_at s) d.log d.base d.kept every s.next_block
+        (form_few s t.is.journal.among) d.begins d.told every_ids (every_whole has)
         (every_same has) images x
         (images.fewer (disk.clock s.store) (disk.clock mid.store) x images.later (upto_refl (disk.clock mid.store)) now)
         in

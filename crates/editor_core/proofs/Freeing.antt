@@ -13,19 +13,19 @@ use Rattle.sample_block.specs.Sources.{sources_of, IsWhole, AllWhole}
 use Rattle.block_ledger.specs.Counts.{Counts, occurrences}
 use Rattle.block_ledger.proofs.Times.{times_here, times_other}
 use Rattle.project_journal.specs.Gate.{EachSince}
-use Rattle.project_journal.specs.Header.{version_1}
+use Rattle.project_journal.specs.Choice.{other_file}
 use Rattle.project_journal.specs.Journal.{HasLog}
 use Rattle.project_journal.proofs.Kept.{SameJournals, is_at_still, each_since}
 use Rattle.project_state.specs.Kept.{Keeps}
 use Rattle.block_cache.specs.Caches.{Entries}
 use Rattle.block_cache.specs.Carried.{HasCache}
-use Rattle.editor_core.specs.Core.{Core}
+use Rattle.editor_core.specs.Core.{Core, form_at}
 use Rattle.editor_core.specs.Occurrences.{times_named}
 use Rattle.editor_core.specs.Passes.{FreesFiles}
 use Rattle.editor_core.specs.Removals.{Forgets, Removes}
 use Rattle.editor_core.specs.Studios.{IsGiven, is_given, SameBlocks, IsDurable, IsHeld, IsStudio, ids_of, shown, studio_by}
 use Rattle.editor_core.specs.Studios.{studio_of, named_blocks}
-use Rattle.editor_core.proofs.Images.{keeps_by, shown_is, covers_kept}
+use Rattle.editor_core.proofs.Images.{form_few, keeps_by, shown_is, covers_kept}
 use Rattle.editor_core.proofs.Lists.{all_both}
 use Rattle.editor_core.proofs.Meanings.{same_studio}
 use Rattle.editor_core.proofs.NextIds.{is_among}
@@ -70,8 +70,11 @@ module _ {D : Type 0} (disk : Ghosts D) (s : Core D) (is : IsStudio disk s) (muc
       (λ gone. absurd (omega (arith, low, (is.given file (subst IsSome (sym gone.0) refl)).0)))
       (step file)
 
-  journals_same : (d c : Files) → FreesFiles s.counts d c → SameJournals 0 d c
-  journals_same d c step = (journal_same 0 d c (omega arith) step, journal_same 1 d c (omega arith) step)
+  journals_same : (d c : Files) → FreesFiles s.counts d c → SameJournals s.file d c
+  journals_same d c step = (
+    journal_same s.file d c (omega (arith, is.journal.among)) step,
+    journal_same (other_file s.file) d c (omega arith) step,
+  )
 
   same_files : IsTrue (disk.tells s.store) → SameBlocks (named_blocks s) (disk.reads s.store) (disk.reads store)
   same_files told = named_same (disk.reads s.store) (disk.reads store) (changed.reads told)
@@ -96,9 +99,10 @@ module _ {D : Type 0} (disk : Ghosts D) (s : Core D) (is : IsStudio disk s) (muc
       let files = disk.reads s.store in
       let from = changed.images.from c since in
       let same = trans_same files from.0 c (named_blocks s) (d.blocks from.0 from.1) (named_same from.0 c from.2) in
-      let has : HasLog version_1 d.log c =
-      each_since {form = version_1} journals_same changed.images d.there c since in
-      subst (Keeps c) (shown_is disk s d) (keeps_by d.log d.kept files c has d.told
+      let has : HasLog (form_at s) d.log c =
+      each_since {form = form_at s} journals_same changed.images d.there c since in
+      subst (Keeps c) (shown_is disk s d)
+      (keeps_by (form_at s) d.log d.base d.kept files c (form_few s is.journal.among) has d.begins d.told
       (covers_kept disk s d (λ b. c b.id ≡ files b.id) same) (covers_kept disk s d (IsWhole files) held.whole))
 
   -- ---- the blocks of some of them are forgotten
@@ -124,6 +128,7 @@ module _ {D : Type 0} (disk : Ghosts D) (s : Core D) (is : IsStudio disk s) (muc
     less_studio right = record {
       format = is.format;
       counters = is.counters;
+      journal = is.journal;
       few_points = is.few_points;
       few_clips = is.few_clips;
       points = is.points;
@@ -141,9 +146,12 @@ module _ {D : Type 0} (disk : Ghosts D) (s : Core D) (is : IsStudio disk s) (muc
     less_durable told removes d =
         let files = disk.reads s.store in record {
           log = d.log;
+          base = d.base;
           kept = d.kept;
-          there = is_at_still {form = version_1} journals_same
+          there = is_at_still {form = form_at s} journals_same
               (journals_same (disk.reads s.store) (disk.reads store) (changed.reads told)) changed.images d.there;
+          generation = d.generation;
+          begins = d.begins;
           told = d.told;
           rate = d.rate;
           block_size = d.block_size;
@@ -189,6 +197,7 @@ module _ {D : Type 0} (disk : Ghosts D) (s : Core D) (is : IsStudio disk s) (muc
     halted_studio faults = record {
       format = is.format;
       counters = is.counters;
+      journal = is.journal;
       few_points = is.few_points;
       few_clips = is.few_clips;
       points = is.points;

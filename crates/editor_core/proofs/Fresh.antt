@@ -32,6 +32,9 @@ parts_of rate m depth h l = record {
   next_block = 16;
   next_track = 1;
   commit_number = 0;
+  file = 0;
+  version = 1;
+  generation = 0;
   journal_end = 32;
 }
 
@@ -53,6 +56,13 @@ module _ (rate m depth : ℕ) (h : Stored (List Track)) (l : ledger.Kept) (is : 
       end_least = omega arith;
       end_most = omega arith;
     };
+    journal = record {
+      among = omega arith;
+      version_least = omega arith;
+      version_most = omega arith;
+      generation_most = omega arith;
+      first_version = λ is. refl;
+    };
     points = subst (λ (z : History (List Track)). AllByRecursion (IsSoundTagged m 16 1 0) z.points) (sym is)
         ((record { few = omega arith; rising = tt; sound = tt }, omega arith), tt);
     counted =
@@ -70,8 +80,11 @@ module _ (rate m depth : ℕ) (h : Stored (List Track)) (l : ledger.Kept) (is : 
     whole = subst (λ (z : History (List Track)). AllWhole (disk.reads store) (history_blocks z)) (sym is) tt;
     durable = record {
       log = fresh rate m depth;
+      base = new_project depth;
       kept = new_project depth;
       there = at;
+      generation = refl;
+      begins = refl;
       told = refl;
       rate = refl;
       block_size = refl;

@@ -18,14 +18,13 @@ use Rattle.disk_model.proofs.Frames.{changed_wider}
 use Rattle.sample_block.specs.Sources.{IsWhole}
 use Rattle.block_ledger.specs.Counts.{Counts, IsFreshCount}
 use Rattle.clip_track.specs.declared.items.Item.{Item}
-use Rattle.project_journal.specs.Header.{version_1}
 use Rattle.project_journal.specs.Journal.{IsAt, with_body}
 use Rattle.project_state.specs.declared.body.Body.{Body}
 use Rattle.project_state.specs.declared.track.Track.{Track}
-use Rattle.project_state.specs.Kept.{Kept, new_project, LeadTo, meant_history, history_blocks}
-use Rattle.project_state.specs.Spelling.{spelling}
-use Rattle.editor_core.specs.Adding.{Adds}
-use Rattle.editor_core.specs.Core.{Core}
+use Rattle.project_state.specs.Kept.{Kept, LeadIn, meant_history, history_blocks, version_of}
+use Rattle.editor_core.specs.Adding.{AddsBody}
+use Rattle.editor_core.specs.Bodies.{body_bytes}
+use Rattle.editor_core.specs.Core.{Core, form_at}
 use Rattle.editor_core.specs.Records.{Says}
 use Rattle.editor_core.specs.Studios.{IsDurable, IsHeld, IsStudio, clip_blocks, clip_cells, ids_of, named_blocks}
 use Rattle.editor_core.specs.Studios.{pin_blocks, studio_by, studio_of}
@@ -34,7 +33,7 @@ use Rattle.editor_core.proofs.Flights.{IsCommit, IsTested, flight, images_still,
 use Rattle.editor_core.proofs.StudioCache.{cache_by_record}
 use Rattle.editor_core.proofs.Grown.{LeadsOn, led_studio, named_led}
 use Rattle.editor_core.proofs.Images.{keeps_now}
-use Rattle.editor_core.proofs.Leading.{lead_more}
+use Rattle.editor_core.proofs.Leading.{begins_more, lead_more}
 use Rattle.editor_core.proofs.Others.{NoneGoes, others_record}
 use Rattle.editor_core.proofs.Premises.{TookWhere, took_so}
 use Rattle.editor_core.proofs.Removing.{commit_removes_none, ids_still, none_given}
@@ -51,7 +50,7 @@ module _ {D : Type 0} {Has : Type 0} {disk : Ghosts D} {s : Core D} {made : List
   out = outside before sound
 
   abbrev len : ℕ
-  len = length (spelling body)
+  len = length (body_bytes s body)
 
   -- the pins and the clipboard behind it
   abbrev rest_then : List BlockRef
@@ -72,7 +71,7 @@ module _ {D : Type 0} {Has : Type 0} {disk : Ghosts D} {s : Core D} {made : List
     few = t.move.few;
   }
 
-  module _ {Q : Type 0} (q : Q) (mid : Core D) (adds : Adds disk s (spelling body) (Ok q) mid)
+  module _ {Q : Type 0} (q : Q) (mid : Core D) (adds : AddsBody disk s body (Ok q) mid)
       (h' : History (List Track)) (counts : Counts) (next_track : ℕ) (moved : h' ≡ h)
       (tracked : next_track ≡ track_then)
       (counted : IsFreshCount (ids_of (history_blocks h ++ rest_then)) counts)
@@ -111,17 +110,21 @@ module _ {D : Type 0} {Has : Type 0} {disk : Ghosts D} {s : Core D} {made : List
           next_track = track_then;
           commit = d.kept.commit + 1;
         } in
-        let log = with_body d.log (spelling body) in
+        let log = with_body d.log (body_bytes s body) in
+        let version = version_of (form_at s) in
         let led =
-        lead_more m (new_project d.log.depth) d.kept d.log.bodies (spelling body) body d.told
-        (t.move.next m d.kept (matches t d)) in
+        lead_more version m d.base d.kept d.log.bodies (body_bytes s body) body d.told
+        (t.move.next m d.kept (matches t d) t.number) in
         let reads = disk.reads s.store in record {
           log = log;
+          base = d.base;
           kept = k;
           there =
-              subst (λ (n : ℕ). IsAt version_1 disk mid.store n log) grown_end
+              subst (λ (n : ℕ). IsAt (form_at s) disk mid.store n log) grown_end
               (adds.done d.log (t.holds has).tells d.there);
-          told = subst (λ (z : Kept). LeadTo m (new_project d.log.depth) (d.log.bodies ++ spelling body ∷ []) z)
+          generation = d.generation;
+          begins = begins_more d.log (body_bytes s body) d.base d.begins;
+          told = subst (λ (z : Kept). LeadIn version m d.base (d.log.bodies ++ body_bytes s body ∷ []) z)
               (t.move.leads m d.kept (matches t d)) led;
           rate = d.rate;
           block_size = d.block_size;
@@ -135,7 +138,7 @@ module _ {D : Type 0} {Has : Type 0} {disk : Ghosts D} {s : Core D} {made : List
           files = λ id least most.
               let was = d.files id least most in
               let same : disk.reads mid.store id ≡ reads id =
-              adds.changed.reads (t.holds has).tells id (λ e. absurd (omega (arith, e, least))) in (
+              adds.changed.reads (t.holds has).tells id (λ e. absurd (omega (arith, e, least, t.is.journal.among))) in (
                 λ have. subst IsSome (sym same) (was.0 ((files id).0 have)),
                 λ there. (files id).1 (was.1 (subst IsSome same there)),
               );
@@ -157,7 +160,8 @@ module _ {D : Type 0} {Has : Type 0} {disk : Ghosts D} {s : Core D} {made : List
     pub grown_state : Has → studio_of disk grown ≡ followed out before c 0 len
     grown_state has =
         let src =
-        sources_elsewhere (disk.reads s.store) (disk.reads mid.store) (adds.changed.reads (t.holds has).tells) in
+        sources_elsewhere s.file (disk.reads s.store) (disk.reads mid.store) t.is.journal.among
+        (adds.changed.reads (t.holds has).tells) in
         let state : (studio_of disk grown).state ≡ after out before.state c =
         (λ i. record (studio_by (src i) disk s).state {
           history = meant_history (src i) (moved i);
@@ -183,7 +187,7 @@ module _ {D : Type 0} {Has : Type 0} {disk : Ghosts D} {s : Core D} {made : List
       step = λ has. record {
         blocks = 0;
         len = len;
-        needs = t.move.needs has;
+        needs = t.move.needs has len (inr refl);
         passed = passes t adds.fields.1 adds.fields.3;
         answers = t.move.call.done before.rate before.state;
         is = grown_state has;
@@ -191,11 +195,11 @@ module _ {D : Type 0} {Has : Type 0} {disk : Ghosts D} {s : Core D} {made : List
       };
       any_moment = λ _ has. flight t (Ok q) mid adds has adds.fields.1 adds.fields.3;
       refused = λ _ has still. tt;
-      now = λ still has. keeps_now disk grown still (grown_held has);
+      now = λ still has. keeps_now disk grown grown_studio.journal.among still (grown_held has);
       number = ap (λ (k : ℕ). s.commit_number + k) (sym t.move.call.one);
       rests = λ some. absurd (stopped_not s.stopped some t.going);
       len = len;
-      needs = λ has. (0, t.move.needs has);
+      needs = λ has. (0, t.move.needs has len (inr refl));
       records = inr (
         body,
         refl,
@@ -203,8 +207,8 @@ module _ {D : Type 0} {Has : Type 0} {disk : Ghosts D} {s : Core D} {made : List
             (subst (λ (z : History (List Track)). Says s.next_block track_then z body) (sym moved) t.move.says),
       );
       changed =
-          changed_wider (others_record s.next_block s.next_block NoneGoes)
-          (record_within (with_sound c sound (Ok Done)) (disk.reads s.store 0) s.block_size
+          changed_wider (others_record s.file s.next_block s.next_block NoneGoes t.is.journal.among)
+          (record_within (with_sound c sound (Ok Done)) (disk.reads s.store s.file) s.block_size
           (s.next_block - s.next_block) len t.move.call.one) adds.changed;
     }
 
@@ -227,7 +231,7 @@ module _ {D : Type 0} (disk : Ghosts D) (s : Core D) (made : List BlockRef) (c :
     number = number;
   }
 
-  module _ {Q : Type 0} (q : Q) (mid : Core D) (adds : Adds disk s (spelling body) (Ok q) mid)
+  module _ {Q : Type 0} (q : Q) (mid : Core D) (adds : AddsBody disk s body (Ok q) mid)
       (h' : History (List Track)) (counts : Counts) (next_track : ℕ) (moved : h' ≡ h)
       (tracked : next_track ≡ track_then)
       (counted : IsFreshCount (ids_of (history_blocks h ++ (pin_blocks s.pins ++ clip_blocks clip))) counts)

@@ -45,6 +45,7 @@ module _ {D : Type 0} (disk : Ghosts D) (s : Core D) (is : IsStudio disk s) wher
   stopped_studio store = record {
     format = is.format;
     counters = is.counters;
+    journal = is.journal;
     few_points = is.few_points;
     few_clips = is.few_clips;
     points = is.points;
@@ -127,6 +128,7 @@ module _ {D : Type 0} (disk : Ghosts D) (s : Core D) (is : IsStudio disk s) wher
           end_least = omega (arith, is.counters.end_least, end_later);
           end_most = end_most;
         };
+        journal = is.journal;
         few_points = subst (λ (z : History (List Track)). length z.points ≤ z.depth) (sym moved) on.few;
         few_clips = on.clip_few;
         points = led_points;

@@ -1,5 +1,5 @@
 -- The project that each image keeps.
-use Rattle.std.proofs.Common.{◌≡◌, ◌⊎◌, inl, inr, ⊎_elim, sym, subst, ℕ, List, ◌++◌, None}
+use Rattle.std.proofs.Common.{◌≡◌, ◌⊎◌, inl, inr, ⊎_elim, sym, subst, ℕ, ◌≤◌, List, ◌++◌, None}
 use Rattle.std.specs.List.{AllByRecursion}
 use Rattle.pcm_base.specs.declared.block.BlockRef.{BlockRef}
 use Rattle.pcm_base.specs.History.{History}
@@ -8,18 +8,18 @@ use Rattle.disk_model.specs.Disk.{Files, Follows, SameElsewhere}
 use Rattle.disk_model.specs.declared.store.Store.{Ghosts}
 use Rattle.sample_block.specs.Sources.{sources_of, IsWhole, AllWhole}
 use Rattle.project_journal.specs.Gate.{EachNow, EachSince}
-use Rattle.project_journal.specs.Header.{version_1}
+use Rattle.project_journal.specs.Header.{Form, IsForm}
 use Rattle.project_journal.specs.Journal.{Log, HasLog, HasOneOf, with_body}
 use Rattle.project_journal.proofs.Kept.{each_has}
+use Rattle.project_journal.proofs.Parses.{form_known}
 use Rattle.project_state.specs.declared.body.Body.{Body}
 use Rattle.project_state.specs.declared.track.Track.{Track}
-use Rattle.project_state.specs.Kept.{Kept, new_project, after_body, IsNext, LeadTo, meant_history, history_blocks}
-use Rattle.project_state.specs.Kept.{Opened, Keeps}
-use Rattle.project_state.proofs.Unpacked.{keeps_led}
-use Rattle.editor_core.specs.Core.{Core}
+use Rattle.project_state.specs.Kept.{Begins, Kept, after_body, IsNextIn, LeadIn, meant_history, history_blocks}
+use Rattle.project_state.specs.Kept.{Opened, Keeps, version_of}
+use Rattle.editor_core.specs.Core.{Core, form_at}
 use Rattle.editor_core.specs.Studios.{IsGiven, SameBlocks, IsDurable, IsHeld, shown, studio_of, named_blocks}
 use Rattle.editor_core.specs.Studios.{pin_blocks, clip_blocks}
-use Rattle.editor_core.proofs.Leading.{lead_more}
+use Rattle.editor_core.proofs.Leading.{begins_more, lead_more}
 use Rattle.editor_core.proofs.Lists.{all_left}
 use Rattle.editor_core.proofs.Sounds.{same_history, all_sound, all_whole, blocks_same, trans_same}
 
@@ -33,58 +33,81 @@ opened_by src log k = record {
   commit = k.commit;
 }
 
-pub keeps_by : (log : Log) (k : Kept) (files c : Files) → HasLog version_1 log c
-    → LeadTo log.block_size (new_project log.depth) log.bodies k
+-- a form of journal in file 0 or 1
+pub record IsFew (form : Form) : Type 0 where
+  pub known : IsForm form
+  pub few : form.file ≤ 1
+
+pub keeps_by : (form : Form) (log : Log) (base k : Kept) (files c : Files) → IsFew form → HasLog form log c
+    → Begins log base → LeadIn (version_of form) log.block_size base log.bodies k
     → SameBlocks (history_blocks k.history) files c → AllWhole files (history_blocks k.history)
     → Keeps c (opened_by (sources_of files) log k)
-keeps_by log k files c has led same whole =
+keeps_by form log base k files c of has begins led same whole =
     let means = sym (same_history (sources_of files) (sources_of c) k.history
     (all_sound files c (history_blocks k.history) same)) in
-    keeps_led log k c (opened_by (sources_of files) log k) has led
-    (all_whole files c (history_blocks k.history) same whole)
-    (λ i. record {
-      rate = log.rate;
-      block_size = log.block_size;
-      history = means i;
-      next_track = k.next_track;
-      commit = k.commit;
-    })
+    record {
+      form = form;
+      known = of.known;
+      few = of.few;
+      keeps = record {
+        log = log;
+        base = base;
+        kept = k;
+        there = has;
+        begins = begins;
+        told = led;
+        whole = all_whole files c (history_blocks k.history) same whole;
+        is = λ i. record {
+          rate = log.rate;
+          block_size = log.block_size;
+          history = means i;
+          next_track = k.next_track;
+          commit = k.commit;
+        };
+      };
+    }
 
 -- all that holds of some blocks holds of those that a history names
 abbrev pub Covers : List BlockRef → History (List Track) → Type 1
 Covers bs h = (P : BlockRef → Type 0) → AllByRecursion P bs → AllByRecursion P (history_blocks h)
 
 -- a record in flight, over blocks that each image has as the store reads them
-module _ {D : Type 0} (disk : Ghosts D) (store new : D) (log : Log) (k : Kept) (bs : List BlockRef) (next : ℕ)
-    (told : LeadTo log.block_size (new_project log.depth) log.bodies k)
+module _ {D : Type 0} (disk : Ghosts D) (store new : D) (form : Form) (log : Log) (base k : Kept) (bs : List BlockRef)
+    (next : ℕ) (of : IsFew form) (begins : Begins log base)
+    (told : LeadIn (version_of form) log.block_size base log.bodies k)
     (ids : AllByRecursion (λ (b : BlockRef). IsGiven next b.id) bs)
     (whole : AllWhole (disk.reads store) bs)
     (same : EachNow disk store (SameBlocks bs (disk.reads store)))
-    (follows : Follows (SameElsewhere 0) (disk.clock store) (disk.clock new) (disk.may_leave store)
+    (follows : Follows (SameElsewhere form.file) (disk.clock store) (disk.clock new) (disk.may_leave store)
     (disk.may_leave new)) where
   -- each image since then has the blocks
   pub same_since : EachSince disk store new (SameBlocks bs (disk.reads store))
   same_since c since =
       let d = follows.from c since in
-      trans_same (disk.reads store) d.0 c bs (same d.0 d.1) (blocks_same d.0 c next bs d.2 ids)
+      trans_same (disk.reads store) d.0 c bs (same d.0 d.1) (blocks_same form.file d.0 c next bs of.few d.2 ids)
 
-  pub one_of : (body : Body) (bytes : List ℕ) → IsNext log.block_size k bytes body → Covers bs k.history
+  pub one_of : (body : Body) (bytes : List ℕ) → IsNextIn (version_of form) log.block_size k bytes body
+      → Covers bs k.history
       → Covers bs (after_body k body).history
-      → EachSince disk store new (HasOneOf version_1 log (with_body log bytes))
+      → EachSince disk store new (HasOneOf form log (with_body log bytes))
       → EachSince disk store new (λ c. Keeps c (opened_by (sources_of (disk.reads store)) log k)
       ⊎ Keeps c (opened_by (sources_of (disk.reads store)) log (after_body k body)))
   one_of body bytes follows_on old_covers new_covers any c since =
       let files = disk.reads store in
       let there = same_since c since in
-      let led = lead_more log.block_size (new_project log.depth) k log.bodies bytes body told follows_on in
+      let led = lead_more (version_of form) log.block_size base k log.bodies bytes body told follows_on in
       ⊎_elim
-      (λ has. inl (keeps_by log k files c has told (old_covers (λ b. c b.id ≡ files b.id) there)
+      (λ has. inl (keeps_by form log base k files c of has begins told (old_covers (λ b. c b.id ≡ files b.id) there)
       (old_covers (IsWhole files) whole)))
-      (λ has. inr (keeps_by (with_body log bytes) (after_body k body) files c has led
+      (λ has. inr (keeps_by form (with_body log bytes) base (after_body k body) files c of has
+      (begins_more log bytes base begins) led
       (new_covers (λ b. c b.id ≡ files b.id) there) (new_covers (IsWhole files) whole)))
       (any c since)
 
 -- at rest
+pub form_few : {D : Type 0} (s : Core D) → s.file ≤ 1 → IsFew (form_at s)
+form_few s few = record { known = form_known s.version s.file; few = few }
+
 module _ {D : Type 0} (disk : Ghosts D) (s : Core D) where
   pub shown_is : (d : IsDurable disk s)
       → opened_by (sources_of (disk.reads s.store)) d.log d.kept ≡ shown (studio_of disk s)
@@ -101,9 +124,11 @@ module _ {D : Type 0} (disk : Ghosts D) (s : Core D) where
       subst (λ (h : History (List Track)). AllByRecursion P (history_blocks h)) (sym d.history)
       (all_left P (history_blocks s.history) (pin_blocks s.pins ++ clip_blocks s.clipboard) all)
 
-  pub keeps_now : s.stopped ≡ None → IsHeld disk s → EachNow disk s.store (λ c. Keeps c (shown (studio_of disk s)))
-  keeps_now going held c now =
+  pub keeps_now : s.file ≤ 1 → s.stopped ≡ None → IsHeld disk s
+      → EachNow disk s.store (λ c. Keeps c (shown (studio_of disk s)))
+  keeps_now few going held c now =
       let d = held.durable going in
       let files = disk.reads s.store in
-      subst (Keeps c) (shown_is d) (keeps_by d.log d.kept files c (each_has d.there c now) d.told
+      subst (Keeps c) (shown_is d)
+      (keeps_by (form_at s) d.log d.base d.kept files c (form_few s few) (each_has d.there c now) d.begins d.told
       (covers_kept d (λ b. c b.id ≡ files b.id) (d.blocks c now)) (covers_kept d (IsWhole files) held.whole))

@@ -19,11 +19,12 @@ use Rattle.block_ledger.specs.Counts.{Counts, IsFreshCount}
 use Rattle.clip_track.specs.declared.items.Item.{Item}
 use Rattle.edit_ops.specs.declared.types.NewBlock.{NewBlock}
 use Rattle.piece_store.specs.declared.given.Given as brings
+use Rattle.project_state.specs.declared.body.Body.{Body}
 use Rattle.project_state.specs.declared.body.Body.TheVariants.{Edit}
 use Rattle.project_state.specs.declared.track.Track.{Track}
 use Rattle.project_state.specs.Kept.{history_blocks}
-use Rattle.project_state.specs.Spelling.{spelling}
-use Rattle.editor_core.specs.Adding.{Adds, stopped_by}
+use Rattle.editor_core.specs.Adding.{Adds, AddsBody, stopped_by}
+use Rattle.editor_core.specs.Bodies.{body_bytes, whole_len}
 use Rattle.editor_core.specs.Applied.{Lasts}
 use Rattle.editor_core.specs.Core.{Core}
 use Rattle.editor_core.specs.Exchanges.{is_broken_off}
@@ -65,12 +66,6 @@ module _ {D : Type 0} (disk : Ghosts D) (s : Core D) (is : IsStudio disk s) (goi
   abbrev makes : List NewBlock
   makes = e.plan.makes
 
-  abbrev tag : ℕ
-  tag = e.tag
-
-  abbrev tracks : ℕ
-  tracks = e.plan.tracks
-
   abbrev point : List Track
   point = e.plan.point
 
@@ -81,10 +76,13 @@ module _ {D : Type 0} (disk : Ghosts D) (s : Core D) (is : IsStudio disk s) (goi
   n = length makes
 
   abbrev track_then : ℕ
-  track_then = s.next_track + tracks
+  track_then = s.next_track + e.plan.tracks
+
+  abbrev told_body : Body
+  told_body = Edit e.tag (s.next_block + n) track_then point
 
   abbrev body : List ℕ
-  body = spelling (Edit tag (s.next_block + n) track_then point)
+  body = body_bytes s told_body
 
   abbrev h : History (List Track)
   h = edit_history disk s is going e plan
@@ -93,10 +91,10 @@ module _ {D : Type 0} (disk : Ghosts D) (s : Core D) (is : IsStudio disk s) (goi
   there = pieces_there disk s is going e plan
 
   lasts_going : (told : Result Reply Refusal) (new : Core D) → IsStudio disk new
-      → new.commit_number ≡ number_behind told c s.commit_number → (len : ℕ) → Records told new len
+      → new.commit_number ≡ number_behind told c s.commit_number → (len : ℕ) → Records s told new len
       → IfOk told (λ r. NamesGiven s new)
       → Changed disk (LeavesOthers s.next_block new.next_block (MayRemove c s.counts))
-      (asks (with_sound c sound told) (disk.reads s.store 0) s.block_size (new.next_block - s.next_block) len)
+      (asks (with_sound c sound told) (disk.reads s.store s.file) s.block_size (new.next_block - s.next_block) len)
       s.store new.store
       → CountsIds s [] new → Untouched disk s told new → Stops disk s told new → IfErr told (Left disk s new)
       → Lasts disk s (with_sound c sound told) new
@@ -123,7 +121,7 @@ module _ {D : Type 0} (disk : Ghosts D) (s : Core D) (is : IsStudio disk s) (goi
     unread_lasts why mid new was un off so =
         let making = making_unread disk s given makes k mid new was un in
         lasts_going (Err why) new (made_studio disk s is given makes k new making going few plan.new fits there)
-        (ap (λ (z : Core D). z.commit_number) making.is) 0 (no_record (Err why) new) tt
+        (ap (λ (z : Core D). z.commit_number) making.is) 0 (no_record s (Err why) new) tt
         (some_changed disk s given makes fits c sound why k 0 new making few)
         (some_ids disk s given makes fits c sound k new making) (off_untouched disk s.store new.store why off)
         (inl (some_stop disk s given makes fits c sound k new making, making.change_faults))
@@ -141,7 +139,7 @@ module _ {D : Type 0} (disk : Ghosts D) (s : Core D) (is : IsStudio disk s) (goi
           (λ none. absurd (cc none)) in
           subst (λ (z : Core D). Lasts disk s (with_sound c sound (Err refusal.DiskFault)) z)
           (sym (unput_is disk s given makes fits c sound k mid new was few left un))
-          (lasts_going (Err refusal.DiskFault) here studio refl 0 (no_record (Err refusal.DiskFault) here) tt
+          (lasts_going (Err refusal.DiskFault) here studio refl 0 (no_record s (Err refusal.DiskFault) here) tt
           (unput_changed disk s given makes fits c sound k mid new was few left un 0)
           (unput_ids disk s given makes fits c sound k mid new was few left un)
           (off_untouched disk s.store new.store refusal.DiskFault refl)
@@ -166,7 +164,7 @@ module _ {D : Type 0} (disk : Ghosts D) (s : Core D) (is : IsStudio disk s) (goi
 
   -- ---- all of them
 
-  module _ (prepared : IsPrepared s n tracks (length body)) (store : D) (counts : Counts)
+  module _ (prepared : IsPrepared s n e.plan.tracks (length body)) (store : D) (counts : Counts)
       (making : Making disk s (batch_of given makes) n
       (record s { store = store; counts = counts; next_block = s.next_block + n })) where
     abbrev mid : Core D
@@ -188,12 +186,12 @@ module _ {D : Type 0} (disk : Ghosts D) (s : Core D) (is : IsStudio disk s) (goi
       clip_few = plan.clip_few;
       clip_fits = plan.clip_fits;
       points = points_then disk s is going e plan;
-      depth = recorded_depth s.history point tag;
-      few = recorded_few s.history point tag;
+      depth = recorded_depth s.history point e.tag;
+      few = recorded_few s.history point e.tag;
     }
 
     -- the record was not added
-    failed_lasts : (new : Core D) → Adds {R = Unit {0}} disk mid body (Err refusal.DiskFault) new
+    failed_lasts : (new : Core D) → AddsBody {R = Unit {0}} disk mid told_body (Err refusal.DiskFault) new
         → Lasts disk s (with_sound c sound (Err refusal.DiskFault)) new
     failed_lasts new adds =
         let halted = stopped_by disk mid new.store in
@@ -202,17 +200,21 @@ module _ {D : Type 0} (disk : Ghosts D) (s : Core D) (is : IsStudio disk s) (goi
         (λ device. prepared.short) tt
         (all_changed disk s given makes prepared.blocks c sound is (Err refusal.DiskFault) (length body) mid halted
         making refl
-        (changed_wider (others_record mid.next_block mid.next_block NoneGoes)
-        (record_within (with_sound c sound (Err refusal.DiskFault)) (disk.reads store 0) mid.block_size
+        (changed_wider (others_record mid.file mid.next_block mid.next_block NoneGoes is.journal.among)
+        (record_within (with_sound c sound (Err refusal.DiskFault)) (disk.reads store s.file) mid.block_size
         (mid.next_block - mid.next_block) (length body) one) adds.changed))
         (all_ids disk s given makes prepared.blocks c sound store counts making new.store adds.fields.2)
         (off_untouched disk s.store new.store refusal.DiskFault refl)
-        (inr (refl, all_failed disk s given makes prepared.blocks c sound store counts making new.store adds.fields.2, refl))
+        (inr (
+          refl,
+          all_failed disk s given makes prepared.blocks c sound store counts making new.store adds.fields.2,
+          refl,
+        ))
         (all_left disk s given makes prepared.blocks c sound store counts making new.store adds.fields.2))
 
     -- it was
-    module _ {Q : Type 0} (q : Q) (new : Core D) (adds : Adds disk mid body (Ok q) new) (h' : History (List Track))
-        (counts' : Counts) (next_track : ℕ)
+    module _ {Q : Type 0} (q : Q) (new : Core D) (adds : AddsBody disk mid told_body (Ok q) new)
+        (h' : History (List Track)) (counts' : Counts) (next_track : ℕ)
         (moved : h' ≡ h) (tracked : next_track ≡ track_then)
         (counted : IsFreshCount (ids_of (history_blocks h ++ (pin_blocks s.pins ++ clip_blocks clip))) counts')
         (files : (id : ℕ) → IsSome (counts' id) ↔ IsSome (counts id)) where
@@ -239,19 +241,19 @@ module _ {D : Type 0} (disk : Ghosts D) (s : Core D) (is : IsStudio disk s) (goi
           let number : s.commit_number + 1 ≡ s.commit_number + commits_of c =
           ap (λ (k : ℕ). s.commit_number + k) (sym one) in
           let current : current_tracks h' ≡ point =
-          ap current_tracks moved ∙ recorded_current s.history point tag is.format.depth_least in
+          ap current_tracks moved ∙ recorded_current s.history point e.tag is.format.depth_least in
           subst (λ (z : Core D). Lasts disk s (with_sound c sound (Ok Done))
           (record z { history = h'; clipboard = clip; counts = counts'; next_track = next_track })) (sym adds.fields.0)
           (lasts_going (Ok Done) done done_studio number (length body)
           (inr (
-            Edit tag (s.next_block + n) track_then point,
+            told_body,
             refl,
             (refl, sym tracked, sym current),
           ))
           (names_given disk s e plan done done_studio current refl)
           (all_changed disk s given makes prepared.blocks c sound is (Ok Done) (length body) mid done making refl
-          (changed_wider (others_record mid.next_block mid.next_block NoneGoes)
-          (record_within (with_sound c sound (Ok Done)) (disk.reads store 0) mid.block_size
+          (changed_wider (others_record mid.file mid.next_block mid.next_block NoneGoes is.journal.among)
+          (record_within (with_sound c sound (Ok Done)) (disk.reads store s.file) mid.block_size
           (mid.next_block - mid.next_block) (length body) one) adds.changed))
           (ids_made s done counts n making.ledger files refl) tt
           (inl (refl, adds.fields.2 ∙ making.change_faults)) tt)
@@ -269,15 +271,18 @@ module _ {D : Type 0} (disk : Ghosts D) (s : Core D) (is : IsStudio disk s) (goi
   lasts_err fewer why new carried = ⊎_elim
       (λ not.
       subst (λ (z : Core D). Lasts disk s (with_sound c sound (Err why)) z) (sym not.0)
-      (lasts_idle disk s is fewer c (commit_removes_none c one) sound why (unprepared_plain s n tracks (length body) why not.1)))
+      (lasts_idle disk s is fewer c (commit_removes_none c one) sound why
+      (unprepared_plain s n e.plan.tracks (whole_len told_body) (length body) why not.1)))
       (⊎_elim
       (λ some. stuck_lasts some.0.blocks why new some.1)
       (λ last.
       let it = last.1 in
-      let adds = subst (λ (e : Refusal). Adds {R = Unit {0}} disk it.mid body (Err e) new) last.0 it.adds in
+      let adds = subst (λ (e : Refusal). Adds {R = Unit {0}} disk it.mid body (whole_len told_body) (Err e) new) last.0
+      it.adds in
       subst (λ (e : Refusal). Lasts disk s (with_sound c sound (Err e)) new) (sym last.0)
       (failed_lasts it.prepared it.mid.store it.mid.counts (made_so it.mid it.making) new
-      (subst (λ (z : Core D). Adds {R = Unit {0}} disk z body (Err refusal.DiskFault) new) it.making.is adds))))
+      (subst (λ (z : Core D). Adds {R = Unit {0}} disk z body (whole_len told_body) (Err refusal.DiskFault) new)
+      it.making.is adds))))
       carried
 
   pub lasts_ok : (done : Unit {0}) (new : Core D) (it : Committed disk s (commit_of s e) (Ok done) new)
@@ -289,5 +294,5 @@ module _ {D : Type 0} (disk : Ghosts D) (s : Core D) (is : IsStudio disk s) (goi
       (record new { history = h'; clipboard = clip; counts = counts'; next_track = next_track })
   lasts_ok done new it h' counts' next_track moved tracked counted files =
       done_lasts it.prepared it.mid.store it.mid.counts (made_so it.mid it.making) done new
-      (subst (λ (z : Core D). Adds disk z body (Ok done) new) it.making.is it.adds) h' counts' next_track moved tracked
-      counted files
+      (subst (λ (z : Core D). Adds disk z body (whole_len told_body) (Ok done) new) it.making.is it.adds)
+      h' counts' next_track moved tracked counted files

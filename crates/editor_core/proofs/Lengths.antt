@@ -9,6 +9,8 @@ use Rattle.project_state.specs.KeptSound.{IsSoundPoint}
 use Rattle.project_state.specs.Lengths.{AreHalfFull, AreLayouts}
 use Rattle.project_state.specs.Sound.{AllSoundTracks}
 use Rattle.project_state.specs.Spelling.{spelling}
+use Rattle.project_state.specs.Changes.{delta_spelling}
+use Rattle.project_state.proofs.DeltaLengths.{told_short}
 use Rattle.project_state.proofs.Lengths.{tracks_short}
 
 module _ (m next_block next_track : ℕ) where
@@ -25,3 +27,13 @@ module _ (m next_block next_track : ℕ) where
       → length (spelling (Edit tag block_then track_then ts)) ≤ project_body_most m (meant src ts)
   record_most src tag block_then track_then ts some is =
       omega (arith, tracks_short src m ts some is.few (layouts_of ts is.sound) (half_full_of ts is.sound))
+
+  -- also one that is told by a point of these tracks
+  pub told_most : (src : Sources) (current : List Track) (tag block_then track_then : ℕ) (ts : List Track) → 0 < m
+      → IsSoundPoint m next_block next_track ts
+      → length (delta_spelling current (Edit tag block_then track_then ts)) ≤ project_body_most m (meant src ts)
+  told_most src current tag block_then track_then ts some is =
+      omega (
+        arith,
+        told_short src m current ts some is.few (layouts_of ts is.sound) (half_full_of ts is.sound),
+      )

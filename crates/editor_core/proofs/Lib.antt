@@ -90,6 +90,7 @@ mod Moved
 mod Tracks
 mod Without
 mod Lengths
+mod BodyBytes
 mod Editing
 mod PlainLines
 mod PlainEdits

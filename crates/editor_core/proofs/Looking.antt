@@ -1,6 +1,6 @@
 -- A call that only reads the disk leaves the studio as it was, but for the count of failed reads and its pages.
 use Rattle.std.proofs.Common.{◌≡◌, ◌↔◌, inl, inr, refl, sym, ap, ◌∙◌, subst, ◌+◌, IsTrue, IsSome, Some, None, Ok, Err}
-use Rattle.std.proofs.Common.{arith}
+use Rattle.std.proofs.Common.{ℕ, arith}
 use Rattle.pcm_base.specs.declared.answer.Reply.{Reply}
 use Rattle.pcm_base.specs.declared.command.Call.{Call}
 use Rattle.pcm_base.specs.declared.refusal.Refusal.{Refusal}
@@ -18,12 +18,12 @@ use Rattle.block_store.specs.declared.fault.BlockFault.TheVariants as fault
 use Rattle.block_store.specs.Reads.{CountedBy}
 use Rattle.block_store.specs.Reasons.{reason_of}
 use Rattle.project_journal.specs.Gate.{EachNow, EachSince}
-use Rattle.project_journal.specs.Header.{version_1}
-use Rattle.project_journal.proofs.Kept.{is_at_still}
+use Rattle.project_journal.specs.Choice.{other_file}
+use Rattle.project_journal.proofs.Kept.{SameJournals, is_at_still}
 use Rattle.project_state.specs.Kept.{Keeps}
 use Rattle.envelope_view.specs.Answers.{IsDamagedIn}
 use Rattle.block_cache.specs.Caches.{Entries}
-use Rattle.editor_core.specs.Core.{Core}
+use Rattle.editor_core.specs.Core.{Core, form_at}
 use Rattle.editor_core.specs.Left.{IsSoOf, MayRemove}
 use Rattle.editor_core.specs.Studios.{SameBlocks, IsDurable, IsHeld, IsStudio, shown, studio_by, studio_of}
 use Rattle.editor_core.specs.Studios.{named_blocks}
@@ -38,6 +38,10 @@ use Rattle.editor_core.proofs.StudioCache.{ReadsNamed, cache_by_reads}
 use Rattle.editor_core.proofs.Spending.{own_needed}
 use Rattle.editor_core.specs.Spent.{Needed}
 
+-- the same files have the same journals
+same_journals : (file : ℕ) (d c : Files) → c ≡ d → SameJournals file d c
+same_journals file d c same = (ap (λ (f : Files). f file) same, ap (λ (f : Files). f (other_file file)) same)
+
 module _ {D : Type 0} (disk : Ghosts D) (s : Core D) (is : IsStudio disk s) (store : D)
     (kept : Kept disk s.store store) (cache : Entries) (keeps : ReadsNamed disk s cache) where
   abbrev pub looked : Core D
@@ -46,9 +50,12 @@ module _ {D : Type 0} (disk : Ghosts D) (s : Core D) (is : IsStudio disk s) (sto
   looked_durable : IsDurable disk s → IsDurable disk looked
   looked_durable d = record {
     log = d.log;
+    base = d.base;
     kept = d.kept;
-    there = is_at_still {form = version_1} (λ x y same. (ap (λ (f : Files). f 0) same, ap (λ (f : Files). f 1) same))
-        (ap (λ (f : Files). f 0) kept.same_reads, ap (λ (f : Files). f 1) kept.same_reads) kept.same_images d.there;
+    there = is_at_still {form = form_at s} (λ x y same. same_journals s.file x y same)
+        (same_journals s.file (disk.reads s.store) (disk.reads store) kept.same_reads) kept.same_images d.there;
+    generation = d.generation;
+    begins = d.begins;
     told = d.told;
     rate = d.rate;
     block_size = d.block_size;
@@ -70,6 +77,7 @@ module _ {D : Type 0} (disk : Ghosts D) (s : Core D) (is : IsStudio disk s) (sto
   looked_studio = record {
     format = is.format;
     counters = is.counters;
+    journal = is.journal;
     few_points = is.few_points;
     few_clips = is.few_clips;
     points = is.points;
@@ -100,10 +108,11 @@ module _ {D : Type 0} (disk : Ghosts D) (s : Core D) (is : IsStudio disk s) (sto
       → EachSince disk s.store store (λ c. Keeps c (shown (studio_of disk s)))
   keeps_still going held c since =
       let from = kept.same_images.from c since in
-      subst (λ (f : Files). Keeps f (shown (studio_of disk s))) (sym from.2) (keeps_now disk s going held from.0 from.1)
+      subst (λ (f : Files). Keeps f (shown (studio_of disk s))) (sym from.2)
+      (keeps_now disk s is.journal.among going held from.0 from.1)
 
   keeps_after : s.stopped ≡ None → IsHeld disk s → EachNow disk store (λ c. Keeps c (shown (studio_of disk looked)))
-  keeps_after going held = keeps_now disk looked going (looked_held held)
+  keeps_after going held = keeps_now disk looked is.journal.among going (looked_held held)
 
   module _ (c : Call) (quiet : IsQuiet c) (none : RemovesNone c) (going : s.stopped ≡ None) where
     abbrev t : model.Studio
@@ -124,7 +133,7 @@ module _ {D : Type 0} (disk : Ghosts D) (s : Core D) (is : IsStudio disk s) (sto
       rests = λ some. absurd (stopped_not s.stopped some going);
       len = 0;
       needs = λ held. (0, quiet.needs t);
-      records = no_record (Ok r) looked;
+      records = no_record s (Ok r) looked;
       given = none_given (Ok r) s looked refl;
       needed = tt;
       changed = changed_kept (others_none s.next_block s.next_block (MayRemove c s.counts)) kept;
@@ -149,7 +158,7 @@ module _ {D : Type 0} (disk : Ghosts D) (s : Core D) (is : IsStudio disk s) (sto
       rests = λ some. absurd (stopped_not s.stopped some going);
       len = 0;
       needs = λ held. (0, quiet.needs t);
-      records = no_record (Err why) looked;
+      records = no_record s (Err why) looked;
       given = tt;
       needed = needed;
       changed = changed_kept (others_none s.next_block s.next_block (MayRemove c s.counts)) kept;

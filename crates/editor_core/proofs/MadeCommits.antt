@@ -34,6 +34,7 @@ use Rattle.editor_core.proofs.MadeStudios.{IsNewId, are_made, keeps_outside, mad
 use Rattle.editor_core.proofs.Premises.{TookWhere}
 use Rattle.editor_core.proofs.Removing.{RemovesNone, frees_none}
 use Rattle.editor_core.proofs.Staying.{HasMade, stopped_not}
+use Rattle.editor_core.specs.Records.{Records}
 use Rattle.editor_core.specs.Spent.{NamesGiven, Needed}
 use Rattle.std.specs.Prelude.{IfOk}
 
@@ -134,7 +135,7 @@ module _ {D : Type 0} (disk : Ghosts D) (s : Core D) (is : IsStudio disk s) (giv
           rests = λ some. absurd (stopped_not s.stopped some going);
           len = took.len;
           needs = λ held. let need = took.needs held in (need.0, back held need.0 took.len need.1);
-          records = took.records;
+          records = subst (λ (z : Core D). Records z told_as new took.len) making.is took.records;
           given = named;
           needed = needed;
           changed = all_changed disk s given makes most c sound is told_as took.len mid new making next took.changed;

@@ -65,7 +65,7 @@ module _ {D : Type 0} (disk : Ghosts D) (s : Core D) (is : IsStudio disk s) (giv
           step = step;
           any_moment = λ _ held x since. inl (keeps_outside disk s is k new.store going held images x since);
           refused = λ _ held still. keeps_outside disk s is k new.store going held images;
-          now = λ still held. keeps_now disk new still (holds held);
+          now = λ still held. keeps_now disk new studio.journal.among still (holds held);
           number = ap (λ (z : Core D). z.commit_number) making.is;
           rests = λ some. absurd (stopped_not s.stopped some going);
           len = len;

@@ -46,13 +46,13 @@ module _ {D : Type 0} (disk : Ghosts D) (s : Core D) (given : Given) (makes : Li
 
   pub some_changed : (why : Refusal) (k len : ℕ) (new : Core D) → Making disk s (batch_of given makes) k new → k ≤ n
       → Changed disk (LeavesOthers s.next_block new.next_block may_go)
-      (asks (with_sound c sound (Err why)) (disk.reads s.store 0) s.block_size (new.next_block - s.next_block) len)
+      (asks (with_sound c sound (Err why)) (disk.reads s.store s.file) s.block_size (new.next_block - s.next_block) len)
       s.store new.store
   some_changed why k len new making few =
       let next = making_next disk s given makes k new making in
       changed_wider (λ d x w. others_made s.next_block k new.next_block may_go d x (omega (arith, next))
       (omega (arith, most, few)) w)
-      (within_some (with_sound c sound (Err why)) (disk.reads s.store 0) s.block_size k len
+      (within_some (with_sound c sound (Err why)) (disk.reads s.store s.file) s.block_size k len
       (new.next_block - s.next_block) (omega (arith, next))) making.changed
 
   pub some_stop : (k : ℕ) (new : Core D) → Making disk s (batch_of given makes) k new → new.stopped ≡ s.stopped
@@ -123,10 +123,10 @@ module _ {D : Type 0} (disk : Ghosts D) (s : Core D) (given : Given) (makes : Li
         (record { files = omega arith; bytes = omega arith; calls = omega arith }) was.changed un.changed
 
     pub unput_changed : (len : ℕ) → Changed disk (LeavesOthers s.next_block unput_here.next_block may_go)
-        (asks (with_sound c sound (Err refusal.DiskFault)) (disk.reads s.store 0) s.block_size
+        (asks (with_sound c sound (Err refusal.DiskFault)) (disk.reads s.store s.file) s.block_size
         (unput_here.next_block - s.next_block) len) s.store new.store
     unput_changed len =
-        let within = within_last c sound (disk.reads s.store 0) s.block_size mid.block_size k len
+        let within = within_last c sound (disk.reads s.store s.file) s.block_size mid.block_size k len
         (unput_here.next_block - s.next_block)
         (making_size disk s given makes k mid was) (omega arith) in
         ⊎_elim
@@ -160,15 +160,15 @@ module _ {D : Type 0} (disk : Ghosts D) (s : Core D) (given : Given) (makes : Li
   pub all_changed : IsStudio disk s → (told : Result Reply Refusal) (len : ℕ) (mid new : Core D)
       → Making disk s (batch_of given makes) n mid → new.next_block ≡ mid.next_block
       → Changed disk (Leaving mid.next_block new.next_block)
-      (asks (with_sound c sound told) (disk.reads mid.store 0) mid.block_size (new.next_block - mid.next_block) len)
-      mid.store new.store
+      (asks (with_sound c sound told) (disk.reads mid.store mid.file) mid.block_size
+      (new.next_block - mid.next_block) len) mid.store new.store
       → Changed disk (LeavesOthers s.next_block new.next_block may_go)
-      (asks (with_sound c sound told) (disk.reads s.store 0) s.block_size (new.next_block - s.next_block) len)
+      (asks (with_sound c sound told) (disk.reads s.store s.file) s.block_size (new.next_block - s.next_block) len)
       s.store new.store
   all_changed is told len mid new making next changed =
       let at_next = making_next disk s given makes n mid making in
       let one = made_room (size_of s.block_size) n in
-      let two = asks (with_sound c sound told) (disk.reads mid.store 0) mid.block_size
+      let two = asks (with_sound c sound told) (disk.reads mid.store mid.file) mid.block_size
       (new.next_block - mid.next_block) len in
       let made : (d x : Files) → SameOutside s.next_block n d x → LeavesOthers s.next_block new.next_block may_go d x =
       (λ d x w. others_made s.next_block n new.next_block may_go d x (omega (arith, next, at_next)) most w) in
@@ -182,7 +182,9 @@ module _ {D : Type 0} (disk : Ghosts D) (s : Core D) (given : Given) (makes : Li
         arith,
         next,
         at_next,
-        ap files_made (making.changed.reads tells 0 (inl (omega (arith, is.counters.block_least)))),
+        ap (λ (z : Core D). files_made (disk.reads mid.store z.file)) making.is,
+        ap files_made (making.changed.reads tells s.file
+            (inl (omega (arith, is.counters.block_least, is.journal.among)))),
       ))
       (within_then s.block_size mid.block_size n _ _ (new.next_block - mid.next_block) (new.next_block - s.next_block)
       (making_size disk s given makes n mid making) (omega (arith, next)) (omega (arith, next, at_next)))

@@ -10,7 +10,7 @@ use Rattle.disk_model.specs.declared.store.Store.{Ghosts}
 use Rattle.sample_block.specs.Sources.{sources_of, IsWhole}
 use Rattle.block_ledger.specs.Counts.{Counts}
 use Rattle.project_journal.specs.Gate.{EachNow, EachSince}
-use Rattle.project_journal.specs.Header.{version_1}
+use Rattle.project_journal.specs.Choice.{other_file}
 use Rattle.project_journal.proofs.Kept.{SameJournals, each_since, is_at_still}
 use Rattle.edit_ops.specs.declared.types.NewBlock.{NewBlock}
 use Rattle.edit_ops.specs.Plans.{AreNew, ref_of}
@@ -22,14 +22,14 @@ use Rattle.project_state.specs.KeptSound.{IsSoundPoint, IsSoundTagged}
 use Rattle.project_state.proofs.KeptBounds.{tagged_more}
 use Rattle.block_cache.specs.Carried.{HasCache}
 use Rattle.editor_core.proofs.StudioCache.{cache_by_blocks}
-use Rattle.editor_core.specs.Core.{Core}
+use Rattle.editor_core.specs.Core.{Core, form_at}
 use Rattle.editor_core.specs.Made.{AreAbsent, AreMade, PiecesThere, SameOutside, batch_of, ids_from}
 use Rattle.editor_core.specs.Makes.{AddsFree, Making}
 use Rattle.editor_core.specs.Studios.{IsGiven, is_given, SameBlocks, IsDurable, IsHeld, IsStudio, named_blocks, shown}
 use Rattle.editor_core.specs.Studios.{studio_by}
 use Rattle.editor_core.specs.Studios.{studio_of}
 use Rattle.editor_core.specs.declared.studio.Pin.{Pin}
-use Rattle.editor_core.proofs.Images.{keeps_by, shown_is, covers_kept}
+use Rattle.editor_core.proofs.Images.{form_few, keeps_by, shown_is, covers_kept}
 use Rattle.editor_core.proofs.Lists.{all_so}
 use Rattle.editor_core.proofs.NextMade.{none_where}
 use Rattle.editor_core.proofs.Meanings.{same_studio}
@@ -93,8 +93,10 @@ below_same next n bs old new ids same =
 same_back : (bs : List BlockRef) (old new : Files) → SameBlocks bs old new → SameBlocks bs new old
 same_back bs old new = all_so (λ b. new b.id ≡ old b.id) (λ b. old b.id ≡ new b.id) (λ b e. sym e) bs
 
-journals_same : (next n : ℕ) → 16 ≤ next → (d c : Files) → SameOutside next n d c → SameJournals 0 d c
-journals_same next n least d c same = (same 0 (inl (omega (arith, least))), same 1 (inl (omega (arith, least))))
+journals_same : (file next n : ℕ) → file ≤ 1 → 16 ≤ next → (d c : Files) → SameOutside next n d c
+    → SameJournals file d c
+journals_same file next n few least d c same =
+    (same file (inl (omega (arith, few, least))), same (other_file file) (inl (omega (arith, least))))
 
 module _ {D : Type 0} (disk : Ghosts D) (s : Core D) (is : IsStudio disk s) where
   abbrev bs : List BlockRef
@@ -120,9 +122,11 @@ module _ {D : Type 0} (disk : Ghosts D) (s : Core D) (is : IsStudio disk s) wher
       let reads = disk.reads s.store in
       let e = follows.from c since in
       let same = trans_same reads e.0 c bs (d.blocks e.0 e.1) (below_same s.next_block n bs e.0 c is.ids e.2) in
-      let has = each_since {form = version_1} (journals_same s.next_block n is.counters.block_least) follows d.there c since in
+      let has = each_since {form = form_at s}
+      (journals_same s.file s.next_block n is.journal.among is.counters.block_least) follows d.there c since in
       subst (Keeps c) (shown_is disk s d)
-      (keeps_by d.log d.kept reads c has d.told (covers_kept disk s d (λ b. c b.id ≡ reads b.id) same)
+      (keeps_by (form_at s) d.log d.base d.kept reads c (form_few s is.journal.among) has d.begins d.told
+      (covers_kept disk s d (λ b. c b.id ≡ reads b.id) same)
       (covers_kept disk s d (IsWhole reads) held.whole))
 
   -- a studio with other files from the next block on
@@ -149,6 +153,7 @@ module _ {D : Type 0} (disk : Ghosts D) (s : Core D) (is : IsStudio disk s) wher
             end_least = is.counters.end_least;
             end_most = is.counters.end_most;
           };
+          journal = is.journal;
           few_points = is.few_points;
           few_clips = is.few_clips;
           points = all_so Was Now
@@ -241,10 +246,14 @@ module _ {D : Type 0} (disk : Ghosts D) (s : Core D) (is : IsStudio disk s) wher
         let d = held.durable going in
         let least = is.counters.block_least in record {
           log = d.log;
+          base = d.base;
           kept = d.kept;
-          there = is_at_still {form = version_1} (journals_same s.next_block n least)
-              (journals_same s.next_block n least (disk.reads s.store) (disk.reads mid.store) (are_made held).same)
+          there = is_at_still {form = form_at s} (journals_same s.file s.next_block n is.journal.among least)
+              (journals_same s.file s.next_block n is.journal.among least (disk.reads s.store) (disk.reads mid.store)
+              (are_made held).same)
               making.changed.images d.there;
+          generation = d.generation;
+          begins = d.begins;
           told = d.told;
           rate = d.rate;
           block_size = d.block_size;

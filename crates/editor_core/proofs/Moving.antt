@@ -1,5 +1,6 @@
 -- Undo, redo and purge: their records, and what they leave.
-use Rattle.std.proofs.Common.{◌≡◌, ◌↔◌, refl, sym, ap, ◌∙◌, subst, ℕ, ◌+◌, ◌-◌, ◌^◌, ◌≤◌, ◌<◌, nat_lt, Bool, true}
+use Rattle.std.proofs.Common.{◌≡◌, ◌↔◌, ⊎_elim, refl, sym, ap, ◌∙◌, subst, ℕ, ◌+◌, ◌-◌, ◌^◌, ◌≤◌, ◌<◌, nat_lt, Bool}
+use Rattle.std.proofs.Common.{true}
 use Rattle.std.proofs.Common.{false, List, [], ◌++◌, drop, take, flat_map, length, IsSome, Option, Some, None, Ok, Err}
 use Rattle.std.proofs.Common.{arith}
 use Rattle.std.proofs.lemmas.List.{length-drop}
@@ -25,14 +26,14 @@ use Rattle.project_state.specs.declared.body.Body.TheVariants.{Undo, Redo, Purge
 use Rattle.project_state.specs.declared.track.Track.{Track}
 use Rattle.project_state.specs.Kept.{history_blocks, point_blocks}
 use Rattle.project_state.specs.KeptSound.{IsSoundTagged}
-use Rattle.project_state.specs.Spelling.{spelling}
 use Rattle.project_state.proofs.MeantHistories.{meant_purged}
-use Rattle.editor_core.specs.Adding.{Adds, IsNoWant}
+use Rattle.editor_core.specs.Adding.{AddsBody, IsNoWant}
 use Rattle.editor_core.specs.Core.{Core}
 use Rattle.editor_core.specs.Occurrences.{HasAll, Dropped, times_named}
 use Rattle.editor_core.specs.Studios.{IsHeld, IsStudio, clip_blocks, ids_of, named_blocks, pin_blocks, studio_of}
 use Rattle.editor_core.specs.Took.{Took, quietly, silent}
 use Rattle.editor_core.proofs.Flights.{IsCommit, clip_stays}
+use Rattle.editor_core.proofs.Editing.{may_come}
 use Rattle.editor_core.proofs.Growing.{grows_so}
 use Rattle.editor_core.proofs.Images.{Covers}
 use Rattle.editor_core.proofs.Lists.{all_left, all_drop, all_each, all_joined, all_so}
@@ -106,11 +107,8 @@ module _ {D : Type 0} (disk : Ghosts D) (s : Core D) (is : IsStudio disk s) wher
     gives = omega arith;
     block_then = λ n. n;
     block_most = λ n h. h;
-    next = λ m k e. record {
-      spelled = refl;
-      sound = tt;
-      follows = subst (λ (h : History (List Track)). 0 < h.cursor) (sym e.history) some;
-    };
+    next = λ m k e room. may_come disk s is m k Undo e room tt
+        (subst (λ (h : History (List Track)). 0 < h.cursor) (sym e.history) some);
     leads = λ m k e. λ i. record k {
       history = at_cursor (e.history i) ((e.history i).cursor - 1);
       next_track = e.next_track i;
@@ -125,7 +123,7 @@ module _ {D : Type 0} (disk : Ghosts D) (s : Core D) (is : IsStudio disk s) wher
     few = is.few_points;
     says = tt;
     model = λ held. refl;
-    needs = λ held. (refl, refl);
+    needs = λ held n one. (refl, ⊎_elim (λ e. e) (λ e. e) one);
   }
 
   pub redoes : s.history.cursor + 1 < length s.history.points
@@ -135,11 +133,8 @@ module _ {D : Type 0} (disk : Ghosts D) (s : Core D) (is : IsStudio disk s) wher
     gives = omega arith;
     block_then = λ n. n;
     block_most = λ n h. h;
-    next = λ m k e. record {
-      spelled = refl;
-      sound = tt;
-      follows = subst (λ (h : History (List Track)). h.cursor + 1 < length h.points) (sym e.history) some;
-    };
+    next = λ m k e room. may_come disk s is m k Redo e room tt
+        (subst (λ (h : History (List Track)). h.cursor + 1 < length h.points) (sym e.history) some);
     leads = λ m k e. λ i. record k {
       history = at_cursor (e.history i) ((e.history i).cursor + 1);
       next_track = e.next_track i;
@@ -154,7 +149,7 @@ module _ {D : Type 0} (disk : Ghosts D) (s : Core D) (is : IsStudio disk s) wher
     few = is.few_points;
     says = tt;
     model = λ held. refl;
-    needs = λ held. (refl, refl);
+    needs = λ held n one. (refl, ⊎_elim (λ e. e) (λ e. e) one);
   }
 
   purge_covers : (n : ℕ) → Covers (named_blocks s ++ []) (purged s.history n)
@@ -173,11 +168,8 @@ module _ {D : Type 0} (disk : Ghosts D) (s : Core D) (is : IsStudio disk s) wher
     gives = omega arith;
     block_then = λ n. n;
     block_most = λ n h. h;
-    next = λ m k e. record {
-      spelled = refl;
-      sound = small;
-      follows = subst (λ (h : History (List Track)). (1 ≤ n) × (n ≤ h.cursor)) (sym e.history) (some, few);
-    };
+    next = λ m k e room. may_come disk s is m k (Purge n) e room small
+        (subst (λ (h : History (List Track)). (1 ≤ n) × (n ≤ h.cursor)) (sym e.history) (some, few));
     leads =
         λ m k e. λ i. record k { history = purged (e.history i) n; next_track = e.next_track i; commit = k.commit + 1 };
     covers = purge_covers n;
@@ -192,7 +184,7 @@ module _ {D : Type 0} (disk : Ghosts D) (s : Core D) (is : IsStudio disk s) wher
     model = λ held.
         let means = meant_purged (sources_of (disk.reads s.store)) s.history n in
         λ i. record (studio_of disk s).state { history = sym means i; commit = s.commit_number + 1 };
-    needs = λ held. (refl, refl);
+    needs = λ held n one. (refl, ⊎_elim (λ e. e) (λ e. e) one);
   }
 
   -- what a move leaves, where its record was added
@@ -200,7 +192,7 @@ module _ {D : Type 0} (disk : Ghosts D) (s : Core D) (is : IsStudio disk s) wher
       (counts : Counts) → Move c body h
       → s.stopped ≡ None → call_tests (outside (studio_of disk s) silent) (studio_of disk s).state c ≡ None
       → s.commit_number < 2 ^ 62
-      → Adds disk s (spelling body) (Ok (tt {0})) mid → h' ≡ h
+      → AddsBody disk s body (Ok (tt {0})) mid → h' ≡ h
       → IsFreshCount (ids_of (history_blocks h ++ (pin_blocks s.pins ++ clip_blocks s.clipboard))) counts
       → ((id : ℕ) → IsSome (counts id) ↔ IsSome (s.counts id))
       → Took disk s (quietly c (Ok Done)) (record mid { history = h'; counts = counts })
@@ -217,7 +209,7 @@ module _ {D : Type 0} (disk : Ghosts D) (s : Core D) (is : IsStudio disk s) wher
       → Move c body h → h.points ≡ s.history.points
       → s.stopped ≡ None → call_tests (outside (studio_of disk s) silent) (studio_of disk s).state c ≡ None
       → s.commit_number < 2 ^ 62
-      → Adds disk s (spelling body) (Ok (tt {0})) mid → h' ≡ h
+      → AddsBody disk s body (Ok (tt {0})) mid → h' ≡ h
       → Took disk s (quietly c (Ok Done)) (record mid { history = h' })
   moved c body h mid h' move points going own number adds is-h =
       let counts : mid.counts ≡ s.counts = ap (λ (z : Core D). z.counts) adds.fields.0 in

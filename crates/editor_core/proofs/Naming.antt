@@ -61,6 +61,7 @@ module _ {D : Type 0} (disk : Ghosts D) (s : Core D) (is : IsStudio disk s) (cli
       end_least = is.counters.end_least;
       end_most = is.counters.end_most;
     };
+    journal = is.journal;
     few_points = is.few_points;
     few_clips = names.few_clips;
     points = is.points;
@@ -80,8 +81,11 @@ module _ {D : Type 0} (disk : Ghosts D) (s : Core D) (is : IsStudio disk s) (cli
     durable = λ going.
         let d = held.durable going in record {
           log = d.log;
+          base = d.base;
           kept = d.kept;
           there = d.there;
+          generation = d.generation;
+          begins = d.begins;
           told = d.told;
           rate = d.rate;
           block_size = d.block_size;
@@ -105,14 +109,14 @@ module _ {D : Type 0} (disk : Ghosts D) (s : Core D) (is : IsStudio disk s) (cli
     studio = renamed_studio;
     held = renamed_held;
     step = step;
-    any_moment = λ going held f now. inl (keeps_now disk s going held f now);
+    any_moment = λ going held f now. inl (keeps_now disk s is.journal.among going held f now);
     refused = λ going held still. tt;
-    now = λ going held f now. keeps_now disk s going held f now;
+    now = λ going held f now. keeps_now disk s is.journal.among going held f now;
     number = omega (arith, quiet.no_commit);
     rests = rests;
     len = 0;
     needs = λ held. (0, quiet.needs (studio_of disk s));
-    records = no_record (Ok r) new;
+    records = no_record s (Ok r) new;
     given = none_given (Ok r) s new refl;
     needed = tt;
     changed = changed_none s.store (others_none s.next_block s.next_block (MayRemove c s.counts)) fewer;

@@ -91,7 +91,7 @@ module _ {D : Type 0} (disk : Ghosts D) (s : Core D) (is : IsStudio disk s) (goi
   abbrev n : ℕ
   n = length c.makes
 
-  unprepared : NotPrepared s n c.tracks (length c.body) why → IsUndamaged why
+  unprepared : NotPrepared s n c.tracks c.whole (length c.body) why → IsUndamaged why
   unprepared not = ⊎_elim
       (λ memory. subst IsUndamaged (sym memory) tt)
       (⊎_elim
@@ -104,7 +104,8 @@ module _ {D : Type 0} (disk : Ghosts D) (s : Core D) (is : IsStudio disk s) (goi
       (either_tells track number (spent_tells (nat_lt (2 ^ 62) (s.next_track + c.tracks)) s.next_track c.tracks)
       (spent_tells (nat_lt (2 ^ 62) (s.commit_number + 1)) s.commit_number 1)))
       spent)
-      (λ over. exceeding s.journal_end (length c.body) why over.3))
+      (λ over.
+      ⊎_elim (exceeding s.journal_end c.whole why) (exceeding s.journal_end (length c.body) why) over.3))
       not
 
   pub no_damage : (new : Core D) → IsHeld disk s → PiecesThere (disk.reads s.store) c.makes

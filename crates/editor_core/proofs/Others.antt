@@ -56,9 +56,10 @@ others_more first last MayGo d c step =
     others_wider first last first last NoneGoes MayGo d c (omega arith) (omega arith) (λ file none. absurd none) step
 
 -- a record of the journal
-pub others_record : (first last : ℕ) (MayGo : ℕ → Type 0) (d c : Files) → SameElsewhere 0 d c
+pub others_record : (at first last : ℕ) (MayGo : ℕ → Type 0) → at ≤ 1 → (d c : Files) → SameElsewhere at d c
     → LeavesOthers first last MayGo d c
-others_record first last MayGo d c same = record { others = λ file other apart. inl (same file other) }
+others_record at first last MayGo few d c same =
+    record { others = λ file other apart. inl (same file (λ e. absurd (omega (arith, e, other, few)))) }
 
 -- blocks that were made, and that may be
 pub others_made : (first n last : ℕ) (MayGo : ℕ → Type 0) (d c : Files) → first + n ≤ last + 1 → first + n ≤ 2 ^ 62

@@ -12,7 +12,7 @@ use Rattle.pcm_base.specs.declared.refusal.Refusal.TheVariants as refusal
 use Rattle.pcm_base.specs.declared.sound.Cell.{Cell}
 use Rattle.pcm_base.specs.Cells.{Project, tracks_from}
 use Rattle.pcm_base.specs.Pieces.{Sources}
-use Rattle.pcm_base.specs.Refusals.{◌otherwise◌, is_empty, length_limit, pasted_lengths, refused_if}
+use Rattle.pcm_base.specs.Refusals.{is_empty, length_limit, pasted_lengths, placed_length, refused_if, ◌otherwise◌}
 use Rattle.pcm_base.specs.Refusals.{too_narrow}
 use Rattle.disk_model.specs.declared.store.Store.{Ghosts}
 use Rattle.sample_block.specs.Sources.{AllNamed, IsNamed}
@@ -37,7 +37,7 @@ use Rattle.pcm_base.specs.declared.edits.Placing.{Placing}
 use Rattle.editor_core.specs.Copies.{run_of, strips_blocks}
 use Rattle.editor_core.specs.Core.{Core}
 use Rattle.editor_core.specs.Edits.{AreAmong}
-use Rattle.editor_core.specs.Pastes.{NoPastePlan, paste_length, paste_refusal}
+use Rattle.editor_core.specs.Pastes.{NoPastePlan, paste_refusal}
 use Rattle.editor_core.specs.Points.{current_tracks, lacks}
 use Rattle.editor_core.specs.Studios.{IsClipboard, IsGiven, IsStudio, MayPaste, clip_cells}
 use Rattle.editor_core.proofs.Copying.{from_sound, from_track, layout_of, run_is, run_meant}
@@ -183,10 +183,10 @@ no_paste_tells e id at s why not =
     let clip = s.clipboard in
     let ts = current_tracks s.history in
     let lack = lacks id (track_of id ts) in
-    let board = clipboard_tests (paste_length e at) clip (run_of id ts) in
+    let board = clipboard_tests (placed_length e at) clip (run_of id ts) in
     ⊎_elim
     (λ own. tests_tell (paste_refusal e id at clip ts) why (either_tells lack board (lacks_tells id (track_of id ts))
-    (clip_tells (paste_length e at) clip (run_of id ts))) own)
+    (clip_tells (placed_length e at) clip (run_of id ts))) own)
     (λ memory. subst IsUndamaged (sym memory) tt)
     not
 

@@ -9,7 +9,7 @@ use Rattle.pcm_base.specs.declared.refusal.Refusal.TheVariants as refusal
 use Rattle.pcm_base.specs.Cells.{run_edited}
 use Rattle.pcm_base.specs.History.{edited}
 use Rattle.pcm_base.specs.Outside.{Outside}
-use Rattle.pcm_base.specs.Refusals.{◌otherwise◌, call_tests}
+use Rattle.pcm_base.specs.Refusals.{call_tests, placed_length, ◌otherwise◌}
 use Rattle.pcm_base.specs.Run.{outside, stop_of}
 use Rattle.pcm_base.specs.Sizes.{blocks_of_tracks}
 use Rattle.pcm_base.specs.State.{State, clip_of, current}
@@ -23,9 +23,10 @@ use Rattle.project_state.specs.KeptSound.{IsSoundPoint}
 use Rattle.project_state.specs.Tracks.{track_of}
 use Rattle.pcm_base.specs.declared.edits.Placing.{Placing}
 use Rattle.pcm_base.specs.declared.edits.Placing.TheVariants.{Insert, Cover}
+use Rattle.pcm_base.specs.Edits.{placed}
 use Rattle.editor_core.specs.Core.{Core}
 use Rattle.editor_core.specs.Edits.{IsEditCall, alone}
-use Rattle.editor_core.specs.Pastes.{NoPastePlan, paste_cells, paste_length, paste_line, paste_refusal}
+use Rattle.editor_core.specs.Pastes.{NoPastePlan, paste_line, paste_refusal}
 use Rattle.editor_core.specs.Points.{current_tracks}
 use Rattle.editor_core.specs.Studios.{IsStudio}
 use Rattle.editor_core.specs.Studios.{studio_by, studio_of}
@@ -72,13 +73,13 @@ paste_call Cover id at = record {
 }
 
 own_by : (e : Placing) (id at : ℕ) (out : Outside) (st : State) → call_tests out st (Line (paste_line e id at))
-    ≡ line_tests (paste_length e at) id st.clipboard (clip_of st) (current st)
+    ≡ line_tests (placed_length e at) id st.clipboard (clip_of st) (current st)
 own_by Insert id at out st = refl
 own_by Cover id at out st = refl
 
 pub after_by : (e : Placing) (id at : ℕ) (out : Outside) (st : State) → after out st (Line (paste_line e id at))
     ≡ record st {
-      history = edited st.history (run_edited id (map (paste_cells e at) (clip_of st)) (current st)) 0;
+      history = edited st.history (run_edited id (map (placed e at) (clip_of st)) (current st)) 0;
       commit = st.commit + 1;
     }
 after_by Insert id at out st = refl
@@ -106,8 +107,8 @@ module _ {D : Type 0} (disk : Ghosts D) (s : Core D) (is : IsStudio disk s) (e :
       let src = alone block in
       let u = studio_by src disk s in
       own_by e id at (outside u silent) u.state
-      ∙ ap (line_tests (paste_length e at) id u.state.clipboard (clip_of u.state)) (current_is src s.history)
-      ∙ line_tests_are src (paste_length e at) id s.block_size s.next_block s.next_track s.clipboard old
+      ∙ ap (line_tests (placed_length e at) id u.state.clipboard (clip_of u.state)) (current_is src s.history)
+      ∙ line_tests_are src (placed_length e at) id s.block_size s.next_block s.next_track s.clipboard old
       old_sound.rising old_sound.sound (track_of id old) refl
 
   -- ---- a stopped studio, a test of the edit, or memory

@@ -34,11 +34,13 @@ use Rattle.project_state.proofs.KeptBounds.{all_append}
 use Rattle.project_state.proofs.MeantHistories.{meant_recorded}
 use Rattle.editor_core.specs.declared.carrying.Planned.{Planned}
 use Rattle.pcm_base.specs.declared.edits.Placing.{Placing}
+use Rattle.pcm_base.specs.Edits.{placed}
+use Rattle.pcm_base.specs.Refusals.{placed_length}
 use Rattle.editor_core.specs.Copies.{run_of, strips_blocks}
 use Rattle.editor_core.specs.Core.{Core}
 use Rattle.editor_core.specs.Edits.{AreAmong, IsEdit, IsEditCall, IsPlanned, alone, blocks_with, clip_behind, clip_then}
 use Rattle.editor_core.specs.Edits.{tagged}
-use Rattle.editor_core.specs.Pastes.{IsPastePlan, paste_cells, paste_length, paste_line}
+use Rattle.editor_core.specs.Pastes.{IsPastePlan, paste_line}
 use Rattle.editor_core.specs.Points.{current_tracks}
 use Rattle.editor_core.specs.Studios.{IsClipboard, IsGiven, IsStudio, MayPaste, clip_blocks, clip_cells, named_blocks}
 use Rattle.editor_core.specs.Studios.{pin_blocks, studio_by}
@@ -86,7 +88,7 @@ module _ {D : Type 0} (disk : Ghosts D) (s : Core D) (is : IsStudio disk s) (e :
     ran = from_track id old
 
     abbrev edit : List Cell → List Cell → List Cell
-    edit = paste_cells e at
+    edit = placed e at
 
     abbrev fs : List CellEdit
     fs = each_strip edit v
@@ -96,7 +98,7 @@ module _ {D : Type 0} (disk : Ghosts D) (s : Core D) (is : IsStudio disk s) (e :
 
     found : (x : Track) × (track_of id old ≡ Some x)
     found =
-        there_of id old (clipboard_tests (paste_length e at) s.clipboard (run_of id old)) (track_of id old) refl p.tests
+        there_of id old (clipboard_tests (placed_length e at) s.clipboard (run_of id old)) (track_of id old) refl p.tests
 
     layouts : run_of id old ≡ map layout_of ran
     layouts = run_is id 1 old found.0 old_sound.rising found.1

@@ -30,9 +30,9 @@ use Rattle.project_state.specs.declared.track.Track.{Track}
 use Rattle.project_state.specs.Kept.{meant, meant_track, meant_history, point_blocks, history_blocks}
 use Rattle.project_state.specs.KeptSound.{IsSoundPoint}
 use Rattle.project_state.specs.Sound.{IsSoundTrack, AllClipsGiven}
-use Rattle.project_state.specs.Spelling.{spelling}
 use Rattle.pcm_base.specs.Pieces.{Sources}
-use Rattle.editor_core.specs.Adding.{Adds}
+use Rattle.editor_core.specs.Adding.{AddsBody}
+use Rattle.editor_core.specs.Bodies.{IsLength}
 use Rattle.editor_core.specs.Core.{Core}
 use Rattle.editor_core.specs.Occurrences.{Moves}
 use Rattle.editor_core.specs.Plain.{line_of, IsGood, tracks_by, refusal_by, set_by, IsSet, IsEdited, without}
@@ -47,7 +47,7 @@ use Rattle.editor_core.proofs.Committing.{fails}
 use Rattle.editor_core.proofs.Editing.{old, now, src, current_sound, current_below, current_meant, track_is, old_names}
 use Rattle.editor_core.proofs.Editing.{pointed, pointed_so, then_current, counts_then, point_commit, sound_later}
 use Rattle.editor_core.proofs.Growing.{grows_so}
-use Rattle.editor_core.proofs.Lengths.{record_most}
+use Rattle.editor_core.proofs.BodyBytes.{lengths_most}
 use Rattle.editor_core.proofs.Lists.{all_left}
 use Rattle.editor_core.proofs.Staying.{none_made}
 use Rattle.editor_core.proofs.Tracks.{put_means, layout_of, put_all, put_rising, put_sound, sound_of, id_of}
@@ -232,13 +232,13 @@ module _ {D : Type 0} (disk : Ghosts D) (s : Core D) (is : IsStudio disk s) wher
     pub names : (P : BlockRef → Type 0) → AllByRecursion P (named_blocks s) → AllByRecursion P (point_blocks p)
     names = names_by e good p ed
 
-    short : length (spelling record_of) ≤ project_body_most s.block_size
+    short : (n : ℕ) → IsLength s record_of n → n ≤ project_body_most s.block_size
         (current (after_line (outside (studio_of disk s) silent) (now disk s is) (line_of e)))
-    short =
+    short n one =
         let meant_then = ap current (model_by e good p ed) ∙ then_current disk s is p in
-        subst (λ (q : Project). length (spelling record_of) ≤ project_body_most s.block_size q) (sym meant_then)
-        (record_most s.block_size s.next_block track_then samples 0 s.next_block track_then p
-        (omega (arith, is.format.block_least)) sound)
+        subst (λ (q : Project). n ≤ project_body_most s.block_size q) (sym meant_then)
+        (lengths_most s s.next_block track_then samples s.block_size 0 s.next_block track_then p
+        (omega (arith, is.format.block_least)) sound n one)
 
     module _ (ids : track_then ≤ 2 ^ 62) where
       edits : IsCommit (IsHeld disk s) disk s [] (Line (line_of e)) silent (tracks_by e) record_of
@@ -246,7 +246,7 @@ module _ {D : Type 0} (disk : Ghosts D) (s : Core D) (is : IsStudio disk s) wher
       edits = point_commit disk s is track_then (omega arith) ids p sound [] (Line (line_of e)) silent
           (tracks_by e) s.clipboard (call_by e) refl
           (λ P all. names P (all_left P (named_blocks s) [] all)) (clip_stays s []) is.few_clips is.clipboard
-          (λ held. model_by e good p ed) (λ held. needs_so e (length (spelling record_of)) short)
+          (λ held. model_by e good p ed) (λ held n one. needs_so e n (short n one))
 
       -- ---- the call
       module _ (going : s.stopped ≡ None) (number : s.commit_number < 2 ^ 62) where
@@ -254,7 +254,7 @@ module _ {D : Type 0} (disk : Ghosts D) (s : Core D) (is : IsStudio disk s) wher
         own = sym (own_is e) ∙ none
 
         pub edit_fails : {Q : Type 0} (why : Refusal) (mid : Core D) → Fewer disk s.store
-            → Adds {R = Q} disk s (spelling record_of) (Err why) mid
+            → AddsBody {R = Q} disk s record_of (Err why) mid
             → Took disk s (quietly (Line (line_of e)) (Err why)) mid
         edit_fails why mid fewer adds =
             fails disk s [] (Line (line_of e)) silent (tracks_by e) record_of (edited s.history p 0) s.clipboard
@@ -262,7 +262,7 @@ module _ {D : Type 0} (disk : Ghosts D) (s : Core D) (is : IsStudio disk s) wher
 
         pub edit_done : {Q : Type 0} (q : Q) (mid : Core D) (h' : History (List Track)) (counts : Counts)
             (next_track : ℕ)
-            → Adds disk s (spelling record_of) (Ok q) mid → h' ≡ edited s.history p 0
+            → AddsBody disk s record_of (Ok q) mid → h' ≡ edited s.history p 0
             → Moves s.counts counts (history_blocks s.history) (history_blocks (edited s.history p 0))
             → next_track ≡ track_then → Took disk s (quietly (Line (line_of e)) (Ok Done))
             (record mid { history = h'; counts = counts; next_track = next_track })

@@ -38,9 +38,10 @@ pub record TookWhere {D : Type 0} (Has : Type 0) (disk : Ghosts D) (old : Core D
   pub rests : IsSome old.stopped → new ≡ record old { pins = new.pins; counts = new.counts }
   pub len : ℕ
   pub needs : Has → (blocks : ℕ) × Needs (outside (studio_of disk old) sound) (studio_of disk old) call blocks len
-  pub records : Records told new len
+  pub records : Records old told new len
   pub changed : Changed disk (Leaving old.next_block new.next_block)
-      (asks (with_sound call sound told) (disk.reads old.store 0) old.block_size (new.next_block - old.next_block) len)
+      (asks (with_sound call sound told) (disk.reads old.store old.file) old.block_size
+      (new.next_block - old.next_block) len)
       old.store new.store
 
 pub took_so : {D : Type 0} (disk : Ghosts D) (old : Core D) (call : Call) (sound : SoundMove)

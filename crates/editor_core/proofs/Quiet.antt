@@ -163,14 +163,14 @@ module _ {D : Type 0} (disk : Ghosts D) (s : Core D) (c : Call) (quiet : IsQuiet
     studio = is;
     held = λ held. held;
     step = step;
-    any_moment = λ going held f now. inl (keeps_now disk s going held f now);
+    any_moment = λ going held f now. inl (keeps_now disk s is.journal.among going held f now);
     refused = λ going held still. tt;
-    now = λ going held f now. keeps_now disk s going held f now;
+    now = λ going held f now. keeps_now disk s is.journal.among going held f now;
     number = omega (arith, quiet.no_commit);
     rests = λ some. refl;
     len = 0;
     needs = λ held. (0, quiet.needs t);
-    records = no_record (Ok r) s;
+    records = no_record s (Ok r) s;
     given = none_given (Ok r) s s refl;
     needed = tt;
     changed = changed_none s.store (others_none s.next_block s.next_block (MayRemove c s.counts)) fewer;

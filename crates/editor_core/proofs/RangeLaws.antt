@@ -1,12 +1,11 @@
--- Edits of a range of one track: the lines that ask for them, and how many blocks they make.
+-- Edits of a range of one track: the cells that they meet, and the lines that ask for them.
 use Rattle.std.proofs.Common.{◌≡◌, ◌∙◌, ◌⊎◌, inl, inr, refl, sym, ap, subst, ℕ, ◌+◌, ◌-◌, ◌/◌, ◌≤◌, ◌<◌, nat_lt, nat_le}
-use Rattle.std.proofs.Common.{◌&&◌, not, Bool, true, false, None, List, ◌++◌, length, replicate, Result, Ok, Err, IfOk}
+use Rattle.std.proofs.Common.{◌&&◌, not, Bool, true, false, None, List, ◌++◌, length, replicate}
 use Rattle.std.proofs.Common.{arith}
 use Rattle.std.proofs.lemmas.Bool.{cases_lt}
 use Rattle.std.proofs.lemmas.Bool.Decides.{nat_tests}
 use Rattle.std.proofs.lemmas.List.{append-nil}
 use Rattle.pcm_base.specs.declared.command.Call.TheVariants.{Line}
-use Rattle.pcm_base.specs.declared.refusal.Refusal.{Refusal}
 use Rattle.pcm_base.specs.declared.refusal.Refusal.TheVariants.{BadRange}
 use Rattle.pcm_base.specs.declared.sound.Cell.{Cell}
 use Rattle.pcm_base.specs.declared.sound.Cell.TheVariants.{Gap}
@@ -14,21 +13,18 @@ use Rattle.pcm_base.specs.Cells.{continued}
 use Rattle.pcm_base.specs.Edits.{part, range_of}
 use Rattle.pcm_base.specs.Pieces.{Sources}
 use Rattle.pcm_base.specs.Refusals.{bad_range, refused_if}
-use Rattle.pcm_base.specs.Sizes.{blocks_of_cells, blocks_of_tracks, clip_count, sample_count}
 use Rattle.clip_track.specs.declared.clips.Clip.{Clip}
 use Rattle.clip_track.specs.Clips.{IsLayout, end_of, layout_cells}
 use Rattle.clip_track.proofs.Layouts.{length-layout}
-use Rattle.edit_ops.specs.declared.types.Plan.{Plan}
-use Rattle.edit_ops.specs.Plans.{AnswersTest, Means}
 use Rattle.piece_store.specs.declared.given.Given.TheVariants.{Nothing}
 use Rattle.pcm_base.specs.declared.edits.RangeEdit.{RangeEdit}
 use Rattle.pcm_base.specs.declared.edits.RangeEdit.TheVariants.{Delete, SplitDelete, Silence, Trim, Gain}
 use Rattle.editor_core.specs.Commits.{IsCommitCall}
-use Rattle.editor_core.specs.Ranges.{range_cells, range_edit, range_line, range_most}
+use Rattle.editor_core.specs.Ranges.{range_edit, range_line}
 use Rattle.editor_core.specs.Took.{silent}
 use Rattle.editor_core.specs.TrackEdits.{IsTrackCall, track_command}
 
--- ---- how many blocks
+-- ---- the cells
 
 beyond : (to len : ℕ) (b : Bool) → refused_if (not (b && false)) BadRange ≡ None → to ≤ len
 beyond to len true e = absurd (cc e)
@@ -49,34 +45,14 @@ all_here to cells le =
     let none : to - length cells ≡ 0 = omega (arith, le) in
     ap (λ (k : ℕ). cells ++ replicate k Gap) none ∙ append-nil cells
 
--- a range of a layout that passes its test has no gaps behind the track's end
-pub cells_few : (m from to : ℕ) (cs : List Clip) (r : Result Plan Refusal) → IsLayout cs
-    → IfOk r (λ (p : Plan). (src : Sources) → length p.makes
-    ≤ 8 + sample_count (part from to (layout_cells src cs)) / m + clip_count (part from to (layout_cells src cs)))
-    → AnswersTest (bad_range from to (end_of 0 cs)) r
-    → IfOk r
-    (λ (p : Plan). (src : Sources) → length p.makes ≤ blocks_of_cells m (range_of from to (layout_cells src cs)))
-cells_few m from to cs (Err e) is few tests = tt
-cells_few m from to cs (Ok p) is few tests = λ src.
+-- a range of a layout that passes its test has no gaps after the track's end
+pub part_range : (from to : ℕ) (cs : List Clip) (src : Sources) → IsLayout cs
+    → bad_range from to (end_of 0 cs) ≡ None → part from to (layout_cells src cs) ≡ range_of from to (layout_cells src cs)
+part_range from to cs src is none =
     let cells = layout_cells src cs in
     let long : length cells ≡ end_of 0 cs = length-layout src cs is.apart in
-    let same : continued to cells ≡ cells =
-    all_here to cells (omega (arith, range_within from to (end_of 0 cs) tests, long)) in
-    subst (λ (xs : List Cell). length p.makes ≤ blocks_of_cells m (part from to xs)) (sym same) (few src)
-
-pub cut_few : (r : Result Plan Refusal) → IfOk r (λ (p : Plan). length p.makes ≤ 8)
-    → IfOk r (λ (p : Plan). (src : Sources) → length p.makes ≤ blocks_of_tracks 1)
-cut_few (Err e) few = tt
-cut_few (Ok p) few = λ src. omega (arith, few)
-
--- ---- what a plan makes, by the edit
-
-abbrev pub MakesFew : (from to m : ℕ) → List Clip → Result Plan Refusal → RangeEdit → Type 0
-MakesFew from to m cs r e =
-    IfOk r (λ (p : Plan). (src : Sources) → length p.makes ≤ range_most e from to m (layout_cells src cs))
-
-abbrev pub MeansRange : (from to : ℕ) → List Clip → Result Plan Refusal → RangeEdit → Type 0
-MeansRange from to cs r e = IfOk r (λ (p : Plan). Means (λ src. range_cells e from to) cs p)
+    sym (ap (λ (xs : List Cell). part from to xs)
+    (all_here to cells (omega (arith, range_within from to (end_of 0 cs) none, long))))
 
 -- ---- the lines
 

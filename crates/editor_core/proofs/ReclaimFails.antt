@@ -105,7 +105,7 @@ module _ {D T E : Type 0} (disk : Ghosts D) (old : Core D) (limit : Option ℕ) 
           rests = λ some. absurd (stopped_not old.stopped some going);
           len = 0;
           needs = λ on. (0, (quiet disk old limit).needs t);
-          records = no_record (Err refusal.DiskFault) new;
+          records = no_record old (Err refusal.DiskFault) new;
           given = tt;
           needed = tt;
           changed = changed_wider (freed_others old.counts limit old.next_block old.next_block)

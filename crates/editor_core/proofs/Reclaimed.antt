@@ -85,12 +85,12 @@ module _ {D : Type 0} (disk : Ghosts D) (old : Core D) (limit : Option ℕ) wher
                 (state on.tells);
             any_moment = λ _ on c since. inl (keeps_since disk old is _ mid.store was.changed going on c since);
             refused = λ _ on still. tt;
-            now = λ still on c here. keeps_now disk new still (held on) c here;
+            now = λ still on c here. keeps_now disk new studio.journal.among still (held on) c here;
             number = omega arith;
             rests = λ some. absurd (stopped_not old.stopped some going);
             len = 0;
             needs = λ on. (0, quiet.needs t);
-            records = no_record (Ok (Freed count)) new;
+            records = no_record old (Ok (Freed count)) new;
             given = none_given (Ok (Freed count)) old new refl;
             needed = tt;
             changed = changed_wider (freed_others old.counts limit old.next_block old.next_block)

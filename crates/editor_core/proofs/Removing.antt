@@ -49,9 +49,9 @@ off_untouched disk old new why off plain = absurd (true≢false (sym off ∙ pla
 -- ---- the record
 
 -- none was added
-pub no_record : {D : Type 0} (told : Result Reply Refusal) (new : Core D) → Records told new 0
-no_record (Ok r) new = inl refl
-no_record (Err why) new = λ off. omega arith
+pub no_record : {D : Type 0} (old : Core D) (told : Result Reply Refusal) (new : Core D) → Records old told new 0
+no_record old (Ok r) new = inl refl
+no_record old (Err why) new = λ off. omega arith
 
 -- ---- the ids
 

@@ -1,5 +1,5 @@
 -- What blocks mean where their files are the same.
-use Rattle.std.proofs.Common.{◌≡◌, ◌≢◌, ◌∙◌, refl, ap, ℕ, zero, suc, ◌≤◌, ◌^◌, nat_le, nat_lt, ◌&&◌, if◌then◌else◌, pos}
+use Rattle.std.proofs.Common.{◌≡◌, ◌∙◌, refl, ap, ℕ, zero, suc, ◌≤◌, ◌^◌, nat_le, nat_lt, ◌&&◌, if◌then◌else◌, pos}
 use Rattle.std.proofs.Common.{List, [], None, slice_index_or, arith}
 use Rattle.std.specs.Prelude.{unwrap_or}
 use Rattle.std.specs.Option.{option_and_then}
@@ -60,29 +60,32 @@ pub all_whole : (files other : Files) (bs : List BlockRef) → SameBlocks bs fil
 all_whole files other bs =
     all_both (λ b. other b.id ≡ files b.id) (IsWhole files) (IsWhole other) (same_whole files other) bs
 
--- blocks have ids from 16 on, so no change of the journal touches them
-not_zero : (n : ℕ) → suc n ≢ 0
-not_zero n e = absurd (omega (arith, e))
+-- blocks have ids from 16 on, so no change of a journal touches them
+blocks_elsewhere : (file : ℕ) (files other : Files) → file ≤ 1 → SameElsewhere file files other → (id : ℕ)
+    → blocks other id ≡ blocks files id
+blocks_elsewhere file files other few same zero = refl
+blocks_elsewhere file files other few same (suc zero) = refl
+blocks_elsewhere file files other few same (suc (suc n)) =
+    same_block files other (suc (suc n)) (same (suc (suc n)) (λ e. absurd (omega (arith, e, few))))
 
-blocks_elsewhere : (files other : Files) → SameElsewhere 0 files other → (id : ℕ) → blocks other id ≡ blocks files id
-blocks_elsewhere files other same zero = refl
-blocks_elsewhere files other same (suc n) = same_block files other (suc n) (same (suc n) (not_zero n))
-
-pub sources_elsewhere : (files other : Files) → SameElsewhere 0 files other → sources_of other ≡ sources_of files
-sources_elsewhere files other same =
+pub sources_elsewhere : (file : ℕ) (files other : Files) → file ≤ 1 → SameElsewhere file files other
+    → sources_of other ≡ sources_of files
+sources_elsewhere file files other few same =
     λ i. record {
-      block = λ id k. slice_index_or (unwrap_or (blocks_elsewhere files other same id i) []) k (pos 0);
+      block = λ id k. slice_index_or (unwrap_or (blocks_elsewhere file files other few same id i) []) k (pos 0);
       given = λ _. pos 0;
     }
 
-pub file_elsewhere : (files other : Files) → SameElsewhere 0 files other → (id : ℕ) → 16 ≤ id → other id ≡ files id
-file_elsewhere files other same id least = same id (λ e. absurd (omega (arith, e, least)))
+pub file_elsewhere : (file : ℕ) (files other : Files) → file ≤ 1 → SameElsewhere file files other → (id : ℕ)
+    → 16 ≤ id → other id ≡ files id
+file_elsewhere file files other few same id least = same id (λ e. absurd (omega (arith, e, least, few)))
 
-pub blocks_same : (files other : Files) (next : ℕ) (bs : List BlockRef) → SameElsewhere 0 files other
+pub blocks_same : (file : ℕ) (files other : Files) (next : ℕ) (bs : List BlockRef) → file ≤ 1
+    → SameElsewhere file files other
     → AllByRecursion (λ (b : BlockRef). IsGiven next b.id) bs → SameBlocks bs files other
-blocks_same files other next bs same =
+blocks_same file files other next bs few same =
     all_so (λ (b : BlockRef). IsGiven next b.id) (λ b. other b.id ≡ files b.id)
-    (λ b h. file_elsewhere files other same b.id h.0) bs
+    (λ b h. file_elsewhere file files other few same b.id h.0) bs
 
 pub trans_same : (files mid other : Files) (bs : List BlockRef) → SameBlocks bs files mid → SameBlocks bs mid other
     → SameBlocks bs files other

@@ -1,6 +1,6 @@
 -- The numbers of a refusal: what a counter had no room for.
 use Rattle.std.proofs.Common.{◌≡◌, ◌∙◌, ◌⊎◌, inl, inr, ⊎_elim, sym, ap, subst, ℕ, ◌+◌, Bool, true, false, Option, Some, None}
-use Rattle.std.proofs.Common.{length, arith}
+use Rattle.std.proofs.Common.{arith}
 use Rattle.std.proofs.lemmas.Bool.{true≢false}
 use Rattle.std.proofs.lemmas.Option.{none-some, same_Some}
 use Rattle.pcm_base.specs.declared.command.Call.{Call}
@@ -13,14 +13,14 @@ use Rattle.pcm_base.specs.Refusals.{◌otherwise◌, call_tests, refused_if}
 use Rattle.pcm_base.specs.Run.{outside, stop_of}
 use Rattle.pcm_base.specs.Studio as model
 use Rattle.disk_model.specs.declared.store.Store.{Ghosts}
-use Rattle.project_state.specs.Spelling.{spelling}
 use Rattle.editor_core.specs.Adding.{Exceeds}
+use Rattle.editor_core.specs.Bodies.{IsLength}
 use Rattle.editor_core.specs.Core.{Core}
 use Rattle.editor_core.specs.Exchanges.{is_broken_off}
 use Rattle.editor_core.specs.Spent.{IsNumberSpent, IsSpent, Needed, WouldMake}
 use Rattle.editor_core.specs.Studios.{studio_of}
 use Rattle.editor_core.proofs.Leaving.{IsOwn}
-use Rattle.editor_core.proofs.PlainTests.{IsOwnTest, own, own_by, stop}
+use Rattle.editor_core.proofs.PlainTests.{own, own_by, stop}
 use Rattle.editor_core.proofs.Spaces.{IsCommitCall, spends}
 
 either_of : (a b : Option Refusal) (why : Refusal) → a otherwise b ≡ Some why → (a ≡ Some why) ⊎ (b ≡ Some why)
@@ -109,16 +109,20 @@ module _ {D : Type 0} (disk : Ghosts D) (s : Core D) (c : Call) (sound : SoundMo
         (either_of (no_room s.next_block it.blocks)
         ((no_room s.next_track tracks) otherwise (no_room s.commit_number 1)) why h)
 
-  pub exceeding_needed : (it : WouldMake disk s c sound) (why : Refusal)
-      → Exceeds s.journal_end (length (spelling it.body)) why → Needed disk s c sound why
-  exceeding_needed it (refusal.SpaceSpent have need) h =
+  pub exceeding_needed : (it : WouldMake disk s c sound) (len : ℕ) → IsLength s it.body len → (why : Refusal)
+      → Exceeds s.journal_end len why → Needed disk s c sound why
+  exceeding_needed it len one (refusal.SpaceSpent have need) h =
       inr (
         it,
-        inr (spends s.journal_end (6 + length (spelling it.body)) h.0
-            ∙ sym (λ i. Some (refusal.SpaceSpent (h.1 i) (h.2 i)))),
+        inr (
+          len,
+          one,
+          spends s.journal_end (6 + len) h.0 ∙ sym (λ i. Some (refusal.SpaceSpent (h.1 i) (h.2 i))),
+        ),
       )
-  exceeding_needed it (refusal.RecordLimit n) h = (it, h.0, omega (arith, h.0, h.1))
-  exceeding_needed it why h = absurd h
+  exceeding_needed it len one (refusal.RecordLimit n) h =
+      (it, subst (IsLength s it.body) (sym h.0) one, omega (arith, h.0, h.1))
+  exceeding_needed it len one why h = absurd h
 
   -- ---- of another call that is no commit either
 

@@ -69,9 +69,9 @@ module _ {D : Type 0} (disk : Ghosts D) (s : Core D) (call : Call) (sound : Soun
     studio = is;
     held = λ held. held;
     step = step;
-    any_moment = λ going held c now. inl (keeps_now disk s going held c now);
-    refused = λ going held still c now. keeps_now disk s going held c now;
-    now = λ going held. keeps_now disk s going held;
+    any_moment = λ going held c now. inl (keeps_now disk s is.journal.among going held c now);
+    refused = λ going held still c now. keeps_now disk s is.journal.among going held c now;
+    now = λ going held. keeps_now disk s is.journal.among going held;
     number = refl;
     rests = λ some. refl;
     len = len;

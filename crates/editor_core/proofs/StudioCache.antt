@@ -47,12 +47,12 @@ module _ {D : Type 0} (disk : Ghosts D) (s : Core D) (is : IsStudio disk s) wher
       (contained (λ (d : BlockRef). IsGiven s.next_block d.id) (named_blocks s) b is.ids has)) (is.cache going)
 
   -- after a record of the journal
-  pub cache_by_record : (much : Room) (store : D) → Changed disk (SameElsewhere 0) much s.store store
+  pub cache_by_record : (much : Room) (store : D) → Changed disk (SameElsewhere s.file) much s.store store
       → s.stopped ≡ None → HasCache disk (is_given s.next_block) store s.cache
   cache_by_record much store changed going =
-      carried_change disk (is_given s.next_block) (SameElsewhere 0) much s.store store s.cache changed
+      carried_change disk (is_given s.next_block) (SameElsewhere s.file) much s.store store s.cache changed
       (λ files other same id given.
-      let here = given_is s.next_block id given in same id (λ e. omega (arith, here.0, e)))
+      let here = given_is s.next_block id given in same id (λ e. omega (arith, here.0, e, is.journal.among)))
       (is.cache going)
 
   -- after new blocks

@@ -41,11 +41,12 @@ refusal_tells (edit.Side id side) ts = lacks_tells id (track_of id ts)
 refusal_tells (edit.Mute id mute) ts = lacks_tells id (track_of id ts)
 
 -- ---- a record that was not added
-fields_tell : {D : Type 0} (R : Type 0) (disk : Ghosts D) (old new : Core D) (len : ℕ) (why : Refusal)
-    → Fields {R = R} disk old len (Err why) new → IsUndamaged why
-fields_tell R disk old new len (refusal.Damaged file at want have) fields = absurd fields
-fields_tell R disk old new len why fields = tt
+fields_tell : {D : Type 0} (R : Type 0) (disk : Ghosts D) (old new : Core D) (whole len : ℕ)
+    (why : Refusal) → Fields {R = R} disk old whole len (Err why) new → IsUndamaged why
+fields_tell R disk old new whole len (refusal.Damaged file at want have) fields = absurd fields
+fields_tell R disk old new whole len why fields = tt
 
-pub adding_tells : {D R : Type 0} (disk : Ghosts D) (old new : Core D) (body : List ℕ) (why : Refusal)
-    → Adds {R = R} disk old body (Err why) new → IsUndamaged why
-adding_tells {R = R} disk old new body why adds = fields_tell R disk old new (length body) why adds.fields
+pub adding_tells : {D R : Type 0} (disk : Ghosts D) (old new : Core D) (body : List ℕ) (whole : ℕ)
+    (why : Refusal) → Adds {R = R} disk old body whole (Err why) new → IsUndamaged why
+adding_tells {R = R} disk old new body whole why adds =
+    fields_tell R disk old new whole (length body) why adds.fields

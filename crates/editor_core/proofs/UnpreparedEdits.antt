@@ -1,5 +1,5 @@
 -- An edit that makes blocks, refused before the first of them.
-use Rattle.std.proofs.Common.{◌≡◌, inl, ⊎_elim, refl, sym, subst, ℕ, ◌+◌, ◌≤◌, None, List, length, Err, arith}
+use Rattle.std.proofs.Common.{◌≡◌, inl, inr, ⊎_elim, refl, sym, subst, ℕ, ◌+◌, ◌≤◌, None, List, length, Err, arith}
 use Rattle.pcm_base.specs.declared.command.Call.{Call}
 use Rattle.pcm_base.specs.declared.entry.SoundMove.{SoundMove}
 use Rattle.pcm_base.specs.declared.refusal.Refusal.{Refusal}
@@ -13,7 +13,8 @@ use Rattle.disk_model.proofs.Frames.{Fewer}
 use Rattle.project_state.specs.declared.body.Body.{Body}
 use Rattle.project_state.specs.declared.body.Body.TheVariants.{Edit}
 use Rattle.project_state.specs.declared.track.Track.{Track}
-use Rattle.project_state.specs.Spelling.{spelling}
+use Rattle.editor_core.specs.Adding.{Exceeds}
+use Rattle.editor_core.specs.Bodies.{IsLength, body_bytes, whole_len}
 use Rattle.editor_core.specs.Core.{Core}
 use Rattle.editor_core.specs.Edits.{IsEdit, IsPlanned, NotPrepared, TaggedEdit}
 use Rattle.editor_core.specs.Spent.{WouldMake}
@@ -52,15 +53,16 @@ module _ {D : Type 0} (disk : Ghosts D) (s : Core D) (is : IsStudio disk s) (goi
   told_body = Edit tag (s.next_block + n) track_then point
 
   abbrev body : List ℕ
-  body = spelling told_body
+  body = body_bytes s told_body
 
   abbrev t : model.Studio
   t = studio_of disk s
 
   need : (k : ℕ) → k ≤ n → Needs (outside t sound) t c k (length body)
-  need = edit_needs disk s is going e plan c sound edit
+  need = edit_needs disk s is going e plan c sound edit (length body) (inr refl)
 
-  pub not_prepared : (why : Refusal) (new : Core D) → new ≡ s → NotPrepared s n tracks (length body) why
+  pub not_prepared : (why : Refusal) (new : Core D) → new ≡ s
+      → NotPrepared s n tracks (whole_len told_body) (length body) why
       → Took disk s (with_sound c sound (Err why)) new
   not_prepared why new same not =
       let commit = edit.call.commit in
@@ -83,6 +85,12 @@ module _ {D : Type 0} (disk : Ghosts D) (s : Core D) (is : IsStudio disk s) (goi
       (⊎_elim
       (λ spent. test (counter_spent t c sound tracks commit n (length body) is.counters.pin_most going own why spent)
       (spent_needed disk s c sound tracks commit would why spent))
-      (λ over. test (exceeded t c sound tracks commit n (length body) is.counters.pin_most going own over.0 over.1
-      (omega (arith, over.2)) why over.3) (exceeding_needed disk s c sound would why over.3)))
+      (λ over.
+      let exceeds = λ (len : ℕ) (one : IsLength s told_body len) (h : Exceeds s.journal_end len why).
+      refuses disk s c sound why is (fewer s.store) (commit_frees disk s c (Err why) s commit.one) commit.quiet len n
+      (λ held. edit_needs disk s is going e plan c sound edit len one n (omega arith))
+      (exceeded t c sound tracks commit n len is.counters.pin_most going own over.0 over.1 (omega (arith, over.2))
+      why h)
+      (exceeding_needed disk s c sound would len one why h) in
+      ⊎_elim (exceeds (whole_len told_body) (inl refl)) (exceeds (length body) (inr refl)) over.3))
       not)

@@ -1,5 +1,5 @@
 -- The new blocks of a plan stand in what it lays out, and the studio that it leads to names each of them.
-use Rattle.std.proofs.Common.{◌≡◌, ⊎_elim, refl, sym, ap, ◌∙◌, subst, ℕ, ◌+◌, ◌≤◌, ◌<◌, true, eqb, if◌then◌else◌, ◌==◌, Some}
+use Rattle.std.proofs.Common.{◌≡◌, ⊎_elim, refl, sym, ap, ◌∙◌, subst, ℕ, ◌+◌, ◌≤◌, ◌<◌, true, eqb, if◌then◌else◌, Some}
 use Rattle.std.proofs.Common.{List, [], ◌∷◌, length, arith}
 use Rattle.std.specs.List.{AllByRecursion}
 use Rattle.std.proofs.lemmas.Bool.{cases_lt, eq-eqb}

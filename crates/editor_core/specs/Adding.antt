@@ -1,5 +1,6 @@
 -- What the parts of a commit do.
-use Rattle.std.specs.Prelude.{◌≡◌, ℕ, ◌+◌, ◌^◌, ◌≤◌, ◌<◌, IsTrue, Option, Some, None, List, length, Result, Ok, Err}
+use Rattle.std.specs.Prelude.{◌≡◌, ◌⊎◌, ℕ, ◌+◌, ◌^◌, ◌≤◌, ◌<◌, IsTrue, Option, Some, None, List, length, Result, Ok}
+use Rattle.std.specs.Prelude.{Err}
 use Rattle.std.specs.Prelude.{MatchResult, OnOk}
 use Rattle.pcm_base.specs.Causes.{Rose}
 use Rattle.pcm_base.specs.Counters.{no_room}
@@ -13,12 +14,13 @@ use Rattle.disk_model.specs.Disk.{SameElsewhere}
 use Rattle.disk_model.specs.Frames.{Changed}
 use Rattle.disk_model.specs.declared.store.Store.{Ghosts}
 use Rattle.project_journal.specs.Gate.{EachSince}
-use Rattle.project_journal.specs.Header.{version_1}
 use Rattle.project_journal.specs.Journal.{Log, IsAt, HasOneOf, with_body}
 use Rattle.project_journal.specs.Rooms.{append_room}
 use Rattle.project_journal.specs.declared.fault.JournalFault.{JournalFault}
 use Rattle.project_journal.specs.declared.fault.JournalFault.TheVariants as journal
-use Rattle.editor_core.specs.Core.{Core}
+use Rattle.project_state.specs.declared.body.Body.{Body}
+use Rattle.editor_core.specs.Bodies.{body_bytes, whole_len}
+use Rattle.editor_core.specs.Core.{Core, form_at}
 
 -- the first that refuses a commit that needs so many track ids: that the studio is stopped, its own tests, or that a
 -- counter has no room
@@ -33,11 +35,15 @@ abbrev pub IsNoWant : Refusal → Type 0
 IsNoWant refusal.NoMemory = ⊥
 IsNoWant why = Unit {0}
 
--- what refuses a record of so many bytes before the disk is asked
+-- what refuses a record with a body of so many bytes before the disk is asked
 abbrev pub Exceeds : ℕ → ℕ → Refusal → Type 0
 Exceeds end len (refusal.SpaceSpent have need) = (2 ^ 62 < end + (6 + len)) × (have ≡ end) × (need ≡ 6 + len)
 Exceeds end len (refusal.RecordLimit n) = (n ≡ len) × (LONGEST_BODY < len) × (end + (6 + len) ≤ 2 ^ 62)
 Exceeds end len why = ⊥
+
+-- the same of one with a body of so many bytes, or of so many written out whole
+abbrev pub ExceedsBy : (end whole len : ℕ) → Refusal → Type 0
+ExceedsBy end whole len why = Exceeds end whole why ⊎ Exceeds end len why
 
 -- the studio that a failed change of its disk has stopped
 abbrev pub stopped_by : {D : Type 0} → Ghosts D → Core D → D → Core D
@@ -52,9 +58,9 @@ pub record HasFailed {D : Type 0} (disk : Ghosts D) (old new : D) : Type 0 where
   pub rose : Rose (disk.change_fault_count old) (disk.change_fault_count new)
   pub later : disk.change_fault_count old ≤ disk.change_fault_count new
 
--- The fields after a record of so many bytes was to be added.
-abbrev pub Fields : {D R : Type 0} → Ghosts D → Core D → ℕ → Result R Refusal → Core D → Type 0
-Fields disk old len (Ok _) new =
+-- The fields after a record with a body of so many bytes, and of so many written out whole, was to be added.
+abbrev pub Fields : {D R : Type 0} → Ghosts D → Core D → (whole len : ℕ) → Result R Refusal → Core D → Type 0
+Fields disk old whole len (Ok _) new =
     (new ≡ record old {
       store = new.store;
       journal_end = old.journal_end + 5 + len;
@@ -62,15 +68,15 @@ Fields disk old len (Ok _) new =
     })
     × (old.journal_end + (6 + len) ≤ 2 ^ 62)
     × (disk.change_fault_count new.store ≡ disk.change_fault_count old.store) × (len ≤ LONGEST_BODY)
-Fields disk old len (Err (refusal.SpaceSpent have need)) new =
-    (new ≡ old) × (2 ^ 62 < old.journal_end + (6 + len)) × (have ≡ old.journal_end) × (need ≡ 6 + len)
-Fields disk old len (Err refusal.NoMemory) new = new ≡ old
-Fields disk old len (Err (refusal.RecordLimit n)) new =
-    (new ≡ old) × (n ≡ len) × (LONGEST_BODY < len) × (old.journal_end + (6 + len) ≤ 2 ^ 62)
-Fields disk old len (Err refusal.DiskFault) new =
+Fields disk old whole len (Err (refusal.SpaceSpent have need)) new =
+    (new ≡ old) × ExceedsBy old.journal_end whole len (refusal.SpaceSpent have need)
+Fields disk old whole len (Err refusal.NoMemory) new = new ≡ old
+Fields disk old whole len (Err (refusal.RecordLimit n)) new =
+    (new ≡ old) × ExceedsBy old.journal_end whole len (refusal.RecordLimit n)
+Fields disk old whole len (Err refusal.DiskFault) new =
     (new ≡ stopped_by disk old new.store) × (old.journal_end + (6 + len) ≤ 2 ^ 62)
     × HasFailed disk old.store new.store × (len ≤ LONGEST_BODY)
-Fields disk old len (Err why) new = ⊥
+Fields disk old whole len (Err why) new = ⊥
 
 -- what the answer of an append of the journal makes of a studio that has its store already
 abbrev pub Settles : {D : Type 0} → Ghosts D → Core D → Result ℕ JournalFault → Result (Unit {0}) Refusal → Core D
@@ -83,13 +89,18 @@ Settles disk old (Err (journal.SpaceSpent have need)) result new = (result ≡ E
     × (new ≡ old)
 Settles disk old (Err fault) result new = (result ≡ Err refusal.NoMemory) × (new ≡ old)
 
--- a record added to the journal, or not
-pub record Adds {D R : Type 0} (disk : Ghosts D) (old : Core D) (body : List ℕ) (result : Result R Refusal)
+-- a record with this body, of so many bytes written out whole, added to the journal, or not
+pub record Adds {D R : Type 0} (disk : Ghosts D) (old : Core D) (body : List ℕ) (whole : ℕ) (result : Result R Refusal)
     (new : Core D) : Type 0 where
-  pub fields : Fields disk old (length body) result new
-  pub any_moment : (log : Log) → IsTrue (disk.tells old.store) → IsAt version_1 disk old.store old.journal_end log
-      → EachSince disk old.store new.store (HasOneOf version_1 log (with_body log body))
-  pub done : (log : Log) → IsTrue (disk.tells old.store) → IsAt version_1 disk old.store old.journal_end log
-      → OnOk result (IsAt version_1 disk new.store new.journal_end (with_body log body))
-  pub changed : Changed disk (SameElsewhere 0) (append_room (disk.reads old.store 0) (length body)) old.store new.store
+  pub fields : Fields disk old whole (length body) result new
+  pub any_moment : (log : Log) → IsTrue (disk.tells old.store) → IsAt (form_at old) disk old.store old.journal_end log
+      → EachSince disk old.store new.store (HasOneOf (form_at old) log (with_body log body))
+  pub done : (log : Log) → IsTrue (disk.tells old.store) → IsAt (form_at old) disk old.store old.journal_end log
+      → OnOk result (IsAt (form_at old) disk new.store new.journal_end (with_body log body))
+  pub changed : Changed disk (SameElsewhere old.file) (append_room (disk.reads old.store old.file) (length body))
+      old.store new.store
   pub read_faults : disk.read_fault_count new.store ≡ disk.read_fault_count old.store
+
+-- the same of the record of a body
+abbrev pub AddsBody : {D R : Type 0} → Ghosts D → Core D → Body → Result R Refusal → Core D → Type 0
+AddsBody disk old body result new = Adds disk old (body_bytes old body) (whole_len body) result new

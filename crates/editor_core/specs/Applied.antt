@@ -36,10 +36,11 @@ pub record Lasts {D : Type 0} (disk : Ghosts D) (old : Core D) (exchange : Excha
   pub number : new.commit_number ≡ number_behind exchange.told exchange.call old.commit_number
   pub rests : IsSome old.stopped → new ≡ record old { pins = new.pins; counts = new.counts }
   pub len : ℕ
-  pub records : Records exchange.told new len
+  pub records : Records old exchange.told new len
   pub given : IfOk exchange.told (λ r. NamesGiven old new)
   pub changed : Changed disk (LeavesOthers old.next_block new.next_block (MayRemove exchange.call old.counts))
-      (asks exchange (disk.reads old.store 0) old.block_size (new.next_block - old.next_block) len) old.store new.store
+      (asks exchange (disk.reads old.store old.file) old.block_size (new.next_block - old.next_block) len)
+      old.store new.store
   pub frees : Frees disk old exchange.call exchange.told exchange.removed new
   pub ids : CountsIds old exchange.removed new
   pub untouched : Untouched disk old exchange.told new

@@ -5,6 +5,7 @@ use Rattle.block_cache.specs.Caches.{Entries}
 use Rattle.block_ledger.specs.Counts.{Counts}
 use Rattle.block_ledger.specs.Entries.{count_of}
 use Rattle.clip_track.specs.declared.items.Item.{Item}
+use Rattle.project_journal.specs.Header.{Form, form_of}
 use Rattle.project_state.specs.declared.track.Track.{Track}
 use Rattle.editor_core.specs.declared.studio.Studio.{Studio}
 use Rattle.editor_core.specs.declared.studio.Pin.{Pin}
@@ -22,6 +23,10 @@ pub record Core (D : Type 0) : Type 0 where
   pub next_track : ℕ
   pub next_pin : ℕ
   pub commit_number : ℕ
+  -- where the journal stands, and what its header says of it
+  pub file : ℕ
+  pub version : ℕ
+  pub generation : ℕ
   pub journal_end : ℕ
   -- the count of faults at which it stopped
   pub stopped : Option ℕ
@@ -40,8 +45,15 @@ core_of s = record {
   next_track = s.next_track;
   next_pin = s.next_pin;
   commit_number = s.commit_number;
+  file = s.file;
+  version = s.version;
+  generation = s.generation;
   journal_end = s.journal_end;
   stopped = s.stopped;
   rate = s.rate;
   block_size = s.buffers;
 }
+
+-- the form of its journal
+abbrev pub form_at : {D : Type 0} → Core D → Form
+form_at s = form_of s.version s.file

@@ -5,7 +5,6 @@ use Rattle.pcm_base.specs.declared.command.Command.{Command}
 use Rattle.pcm_base.specs.declared.command.Command.TheVariants as command
 use Rattle.pcm_base.specs.declared.refusal.Refusal.{Refusal}
 use Rattle.pcm_base.specs.declared.refusal.Refusal.TheVariants as refusal
-use Rattle.pcm_base.specs.declared.sound.Cell.{Cell}
 use Rattle.pcm_base.specs.Edits.{removed}
 use Rattle.pcm_base.specs.Refusals.{◌otherwise◌}
 use Rattle.clip_track.specs.declared.items.Item.{Item}
@@ -29,10 +28,6 @@ abbrev pub cut_line : Removing → RunRange → Command
 cut_line Close range = command.Cut range.track range.count range.from range.to
 cut_line Leave range = command.SplitCut range.track range.count range.from range.to
 
--- what it makes of the cells of each track
-abbrev pub cut_cells : Removing → (from to : ℕ) → List Cell → List Cell
-cut_cells e from to = removed e from to
-
 -- what refuses it
 abbrev pub cut_refusal : RunRange → List Track → Option Refusal
 cut_refusal range ts = (lacks range.track (track_of range.track ts))
@@ -43,7 +38,7 @@ cut_refusal range ts = (lacks range.track (track_of range.track ts))
 pub record IsCutPlan {D : Type 0} (e : Removing) (range : RunRange) (s : Core D) (p : Planned) : Type 0 where
   pub tests : cut_refusal range (current_tracks s.history) ≡ None
   pub plans : List Plan
-  pub cuts : AreCuts (cut_cells e range.from range.to) (plan_start s)
+  pub cuts : AreCuts (removed e range.from range.to) (plan_start s)
       (take range.count (run_of range.track (current_tracks s.history))) plans
   pub strips : List (List Item)
   pub copies : AreCopies range.from range.to (take range.count (run_of range.track (current_tracks s.history))) strips

@@ -14,7 +14,7 @@ use Rattle.pcm_base.specs.Outside.{Outside}
 use Rattle.pcm_base.specs.Pieces.{Sources}
 use Rattle.pcm_base.specs.Refusals.{◌otherwise◌, call_tests}
 use Rattle.pcm_base.specs.Run.{outside}
-use Rattle.pcm_base.specs.declared.limits.TheConstants.{LONGEST_BODY}
+use Rattle.pcm_base.specs.declared.limits.TheConstants.{COUNTER_LIMIT, LONGEST_BODY}
 use Rattle.pcm_base.specs.State.{State}
 use Rattle.pcm_base.specs.Step.{after}
 use Rattle.pcm_base.specs.Studio as model
@@ -28,7 +28,7 @@ use Rattle.project_state.specs.declared.track.Track.{Track}
 use Rattle.project_state.specs.Kept.{meant_history, point_blocks}
 use Rattle.project_state.specs.KeptSound.{IsSoundPoint}
 use Rattle.editor_core.specs.declared.carrying.Planned.{Planned}
-use Rattle.editor_core.specs.Adding.{Adds, Exceeds}
+use Rattle.editor_core.specs.Adding.{Adds, ExceedsBy}
 use Rattle.editor_core.specs.Commits.{IsCommitCall}
 use Rattle.editor_core.specs.Core.{Core}
 use Rattle.editor_core.specs.Made.{PiecesReadable, batch_of, ids_from}
@@ -130,30 +130,31 @@ Spends s count tracks why =
 -- what is prepared for so many blocks and track ids and a record with a body of this length, so that nothing but the
 -- disk can refuse
 pub record IsPrepared {D : Type 0} (s : Core D) (count tracks len : ℕ) : Type 0 where
-  pub blocks : s.next_block + count ≤ 2 ^ 62
-  pub ids : s.next_track + tracks ≤ 2 ^ 62
-  pub number : s.commit_number < 2 ^ 62
-  pub place : s.journal_end + (6 + len) ≤ 2 ^ 62
+  pub blocks : s.next_block + count ≤ COUNTER_LIMIT
+  pub ids : s.next_track + tracks ≤ COUNTER_LIMIT
+  pub number : s.commit_number < COUNTER_LIMIT
+  pub place : s.journal_end + (6 + len) ≤ COUNTER_LIMIT
   pub short : len ≤ LONGEST_BODY
 
--- a counter has no room, or else the journal has none for the record
-abbrev pub Unprepared : {D : Type 0} → Core D → ℕ → ℕ → ℕ → Refusal → Type 0
-Unprepared s count tracks len why =
+-- a counter has no room, or else the journal has none for the record, or it is too long
+abbrev pub Unprepared : {D : Type 0} → Core D → (count tracks whole len : ℕ) → Refusal → Type 0
+Unprepared s count tracks whole len why =
     Spends s count tracks why
-    ⊎ ((s.next_block + count ≤ 2 ^ 62) × (s.next_track + tracks ≤ 2 ^ 62) × (s.commit_number < 2 ^ 62)
-    × Exceeds s.journal_end len why)
+    ⊎ ((s.next_block + count ≤ COUNTER_LIMIT) × (s.next_track + tracks ≤ COUNTER_LIMIT) × (s.commit_number < COUNTER_LIMIT)
+    × ExceedsBy s.journal_end whole len why)
 
 -- why it is not prepared: that, or memory
-abbrev pub NotPrepared : {D : Type 0} → Core D → ℕ → ℕ → ℕ → Refusal → Type 0
-NotPrepared s count tracks len why = (why ≡ refusal.NoMemory) ⊎ Unprepared s count tracks len why
+abbrev pub NotPrepared : {D : Type 0} → Core D → (count tracks whole len : ℕ) → Refusal → Type 0
+NotPrepared s count tracks whole len why = (why ≡ refusal.NoMemory) ⊎ Unprepared s count tracks whole len why
 
--- a commit that makes blocks: the blocks, what its command brings for them, how many track ids it gives, and the body
--- of its record
+-- a commit that makes blocks: the blocks, what its command brings for them, how many track ids it gives, the body of
+-- its record, and how long this is written out whole
 pub record BlockCommit : Type 0 where
   pub makes : List NewBlock
   pub given : Given
   pub tracks : ℕ
   pub body : List ℕ
+  pub whole : ℕ
 
 -- blocks made, in each image from then on, and then a record added
 pub record Committed {D : Type 0} (disk : Ghosts D) (old : Core D) (c : BlockCommit)
@@ -163,12 +164,12 @@ pub record Committed {D : Type 0} (disk : Ghosts D) (old : Core D) (c : BlockCom
   pub reads : disk.read_fault_count mid.store ≡ disk.read_fault_count old.store
   pub synced : AreSynced disk (ids_from old.next_block (length c.makes)) mid.store
   pub prepared : IsPrepared old (length c.makes) c.tracks (length c.body)
-  pub adds : Adds disk mid c.body result new
+  pub adds : Adds disk mid c.body c.whole result new
 
 -- All of it: want of memory comes before the first block is made, and then the disk alone refuses.
 abbrev pub Carried : {D : Type 0} → Ghosts D → Core D → BlockCommit → Result (Unit {0}) Refusal → Core D → Type 0
 Carried disk old c (Ok done) new = Committed disk old c (Ok done) new
 Carried disk old c (Err why) new =
-    ((new ≡ old) × NotPrepared old (length c.makes) c.tracks (length c.body) why)
+    ((new ≡ old) × NotPrepared old (length c.makes) c.tracks c.whole (length c.body) why)
     ⊎ ((IsPrepared old (length c.makes) c.tracks (length c.body) × Stuck disk old (batch_of c.given c.makes) why new)
     ⊎ ((why ≡ refusal.DiskFault) × Committed disk old c (Err why) new))

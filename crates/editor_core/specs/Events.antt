@@ -73,8 +73,8 @@ events_ask disk tells old before (e ∷ es) (a ∷ rs) new after chain =
     let mid = chain.0 in
     let over = chain.3.over in
     together
-    (asks (exchange_over (spanned tells old mid before chain.1) e.call chain.3.told over.removed) (disk.reads old.store 0)
-    old.block_size (mid.next_block - old.next_block) over.lasts.len)
+    (asks (exchange_over (spanned tells old mid before chain.1) e.call chain.3.told over.removed)
+    (disk.reads old.store old.file) old.block_size (mid.next_block - old.next_block) over.lasts.len)
     (events_ask disk tells mid chain.1 es rs new after chain.4)
 
 -- a call that ended so may have reached the disk: it was carried out, or a change of the disk failed in it

@@ -4,7 +4,7 @@ use Rattle.pcm_base.specs.declared.answer.Reply.{Reply}
 use Rattle.pcm_base.specs.declared.command.Call.{Call}
 use Rattle.pcm_base.specs.declared.entry.SoundMove.{SoundMove}
 use Rattle.pcm_base.specs.declared.refusal.Refusal.{Refusal}
-use Rattle.pcm_base.specs.declared.refusal.Refusal.TheVariants as refusal
+use Rattle.pcm_base.specs.Causes.{Cause, Test, Damage, Disk, Vault, Memory, cause_of}
 
 -- no sound was named
 abbrev pub silent : SoundMove
@@ -40,30 +40,15 @@ freeing call told removed = exchange_of call silent told removed
 
 -- Whether the disk broke a call off: a read or a change of it failed, or the file of a block is not as it has to be.
 -- Each other reason comes before the disk is changed.
+abbrev pub breaks_off : Cause → Bool
+breaks_off Test = false
+breaks_off Damage = true
+breaks_off Disk = true
+breaks_off Vault = false
+breaks_off Memory = false
+
 abbrev pub is_broken_off : Refusal → Bool
-is_broken_off (refusal.BadLine column) = false
-is_broken_off (refusal.Spent turns) = false
-is_broken_off (refusal.Stopped faults) = false
-is_broken_off (refusal.NoTrack id) = false
-is_broken_off refusal.BadRange = false
-is_broken_off refusal.BadColumns = false
-is_broken_off refusal.TrackLimit = false
-is_broken_off (refusal.LengthLimit len) = false
-is_broken_off refusal.EmptyClipboard = false
-is_broken_off (refusal.TooNarrow have need) = false
-is_broken_off refusal.NothingToUndo = false
-is_broken_off refusal.NothingToRedo = false
-is_broken_off refusal.NoFile = false
-is_broken_off (refusal.BadWav fault) = false
-is_broken_off (refusal.RateDiffers have want) = false
-is_broken_off (refusal.TooLong frames) = false
-is_broken_off (refusal.SpaceSpent have need) = false
-is_broken_off (refusal.RecordLimit len) = false
-is_broken_off (refusal.Damaged file at want have) = true
-is_broken_off refusal.DiskFault = true
-is_broken_off refusal.VaultFault = false
-is_broken_off (refusal.NoPin pin) = false
-is_broken_off refusal.NoMemory = false
+is_broken_off why = breaks_off (cause_of why)
 
 -- how many blocks may be begun in vain: the next one, where the disk breaks the call off
 abbrev pub begun_in_vain : Result Reply Refusal → ℕ

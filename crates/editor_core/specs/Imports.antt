@@ -3,6 +3,7 @@
 use Rattle.std.specs.Prelude.{◌≡◌, ℕ, ◌+◌, ◌/◌, ◌^◌, ◌<◌, ◌≤◌, nat_lt, ℤ, false, Option, Some, None, List, [], ◌∷◌}
 use Rattle.std.specs.Prelude.{◌++◌, length, map, Result, Ok, Err}
 use Rattle.std.specs.List.{AllByRecursion}
+use Rattle.pcm_base.specs.declared.limits.TheConstants.{UNITY_GAIN}
 use Rattle.pcm_base.specs.declared.entry.SoundMove.{SoundMove}
 use Rattle.pcm_base.specs.declared.piece.Piece.{Piece}
 use Rattle.pcm_base.specs.declared.piece.Piece.TheVariants.{Old, Scaled, Zero, Given}
@@ -65,7 +66,7 @@ pub record IsChannelPlan (from count m next : ℕ) (p : Plan) : Type 0 where
 
 -- a track that is new, with these clips
 abbrev pub track_with : ℕ → List Clip → Track
-track_with id layout = record { id = id; gain = 65536; side = Both; mute = false; layout = layout }
+track_with id layout = record { id = id; gain = UNITY_GAIN; side = Both; mute = false; layout = layout }
 
 -- ---- all channels
 

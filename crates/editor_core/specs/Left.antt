@@ -1,6 +1,7 @@
 -- What a call leaves of all that it is not about, on every store: of other files, and of the studio that refused it.
 use Rattle.std.specs.Prelude.{◌≡◌, ◌↔◌, ◌⊎◌, ℕ, ◌^◌, ◌≤◌, ◌<◌, IsTrue, IsSome, Some, None, Result, Err, IfErr, false}
 use Rattle.std.specs.Prelude.{List, Contains}
+use Rattle.pcm_base.specs.declared.limits.TheConstants.{COUNTER_LIMIT, FIRST_BLOCK}
 use Rattle.pcm_base.specs.declared.command.Call.{Call}
 use Rattle.pcm_base.specs.declared.command.Call.TheVariants.{Line}
 use Rattle.pcm_base.specs.declared.command.Command.TheVariants.{Reclaim}
@@ -24,21 +25,21 @@ use Rattle.editor_core.specs.Studios.{named_blocks}
 pub record IsBegun (first last file : ℕ) : Type 0 where
   pub least : first ≤ file
   pub most : file ≤ last
-  pub block : file < 2 ^ 62
+  pub block : file < COUNTER_LIMIT
 
 -- the files that a call may remove: a reclaim those of blocks that nothing names, and another call none
 abbrev pub MayRemove : Call → Counts → ℕ → Type 0
 MayRemove (Line (Reclaim limit)) counts file = counts file ≡ Some 0
 MayRemove call counts file = ⊥
 
--- Each file but the journal and the blocks that were begun is as it was, or it was removed where it may be.
+-- Each file but those of a journal and of the blocks that were begun is as it was, or it was removed where it may be.
 pub record LeavesOthers (first last : ℕ) (MayGo : ℕ → Type 0) (old new : Files) : Type 0 where
-  pub others : (file : ℕ) → (file ≡ 0 → ⊥) → (IsBegun first last file → ⊥)
+  pub others : (file : ℕ) → 2 ≤ file → (IsBegun first last file → ⊥)
       → (new file ≡ old file) ⊎ (MayGo file × (new file ≡ None))
 
--- Of many calls: each file that is neither the journal nor a block's is as it was.
+-- Of many calls: each file that is neither a journal's nor a block's is as it was.
 pub record LeavesForeign (old new : Files) : Type 0 where
-  pub foreign : (file : ℕ) → (file ≡ 0 → ⊥) → ((16 ≤ file) × (file < 2 ^ 62) → ⊥) → new file ≡ old file
+  pub foreign : (file : ℕ) → 2 ≤ file → ((FIRST_BLOCK ≤ file) × (file < COUNTER_LIMIT) → ⊥) → new file ≡ old file
 
 -- ---- the studio
 

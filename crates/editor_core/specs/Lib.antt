@@ -6,6 +6,7 @@ pub mod Inserts
 pub mod Made
 pub mod Makes
 pub mod Core
+pub mod Bodies
 pub mod Adding
 pub mod Buffers
 pub mod Studios

@@ -10,7 +10,7 @@ use Rattle.project_journal.specs.Header.{IsFormat}
 use Rattle.project_state.specs.Kept.{history_blocks}
 use Rattle.project_state.specs.KeptSound.{IsSoundTagged}
 use Rattle.editor_core.specs.Core.{Core}
-use Rattle.editor_core.specs.Studios.{AreCounters, IsDurable, IsGiven, ids_of}
+use Rattle.editor_core.specs.Studios.{AreCounters, AreJournalNumbers, IsDurable, IsGiven, ids_of}
 use Rattle.editor_core.specs.declared.assembly.Parts.{Parts}
 
 -- the studio of these parts: it is not stopped, nothing was copied, there are no pins, and the next pin is 1
@@ -26,6 +26,9 @@ assembled store p = record {
   next_track = p.next_track;
   next_pin = 1;
   commit_number = p.commit_number;
+  file = p.file;
+  version = p.version;
+  generation = p.generation;
   journal_end = p.journal_end;
   stopped = None;
   rate = p.rate;
@@ -39,14 +42,15 @@ pub record AreParts (p : Parts) : Type 0 where
   pub pages_most : p.pages ≤ 1024
   pub format : IsFormat p.rate p.block_size p.history.history.depth
   pub counters : AreCounters p.next_block p.next_track 1 p.commit_number p.journal_end
+  pub journal : AreJournalNumbers p.file p.version p.generation
   pub points : AllByRecursion (IsSoundTagged p.block_size p.next_block p.next_track p.commit_number)
       p.history.history.points
   pub counted : IsFreshCount (ids_of (history_blocks p.history.history)) (count_of p.ledger)
   pub given : (id : ℕ) → IsSome (count_of p.ledger id) → IsGiven p.next_block id
 
 -- The disk has what the parts stand for: it tells its bytes, each block that the history names is whole as it reads,
--- the records of the journal lead to the history, next track and commit number, each image has the named blocks, and
--- the ledger's ids are the block files.
+-- the journal of this file, version and generation leads to the history, next track and commit number, each image has
+-- the named blocks, and the ledger's ids are the block files.
 pub record HasParts {D : Type 0} (disk : Ghosts D) (store : D) (p : Parts) : Type 0 where
   pub tells : IsTrue (disk.tells store)
   pub whole : AllWhole (disk.reads store) (history_blocks p.history.history)

@@ -3,7 +3,6 @@ use Rattle.std.specs.Prelude.{◌≡◌, ◌⊎◌, ℕ, Option, Some, None, Lis
 use Rattle.std.specs.List.{AllByRecursion}
 use Rattle.pcm_base.specs.declared.refusal.Refusal.{Refusal}
 use Rattle.pcm_base.specs.declared.refusal.Refusal.TheVariants as refusal
-use Rattle.pcm_base.specs.declared.sound.Cell.{Cell}
 use Rattle.pcm_base.specs.Edits.{placed}
 use Rattle.pcm_base.specs.Refusals.{◌otherwise◌, placed_length}
 pub use Rattle.pcm_base.specs.Shape.{paste_line}
@@ -21,18 +20,10 @@ use Rattle.editor_core.specs.Points.{current_tracks, lacks}
 use Rattle.editor_core.specs.RunEdits.{IsRunPlan}
 use Rattle.editor_core.specs.TrackEdits.{plan_start}
 
--- what it makes of a track's cells, by those of the strip
-abbrev pub paste_cells : Placing → ℕ → List Cell → List Cell → List Cell
-paste_cells e at = placed e at
-
--- and of a track's length, by the strip's
-abbrev pub paste_length : Placing → ℕ → ℕ → ℕ → ℕ
-paste_length e at = placed_length e at
-
 -- what refuses it
 abbrev pub paste_refusal : Placing → (id at : ℕ) → Option (List (List Item)) → List Track → Option Refusal
 paste_refusal e id at clip ts =
-    (lacks id (track_of id ts)) otherwise (clipboard_tests (paste_length e at) clip (run_of id ts))
+    (lacks id (track_of id ts)) otherwise (clipboard_tests (placed_length e at) clip (run_of id ts))
 
 -- of a studio's project the tracks with the strips of its clipboard put in, and the blocks that are to be made for them
 pub record IsPastePlan {D : Type 0} (e : Placing) (id at : ℕ) (s : Core D) (p : Planned) : Type 0 where
@@ -41,7 +32,7 @@ pub record IsPastePlan {D : Type 0} (e : Placing) (id at : ℕ) (s : Core D) (p 
   pub clip_is : s.clipboard ≡ Some strips
   pub items : AllByRecursion AreItems strips
   pub plans : List Plan
-  pub pastes : ArePastes (paste_cells e at) (plan_start s) strips
+  pub pastes : ArePastes (placed e at) (plan_start s) strips
       (take (length strips) (run_of id (current_tracks s.history))) plans
   pub laid : IsRunPlan id s.next_block (current_tracks s.history) plans p
 

@@ -2,6 +2,7 @@
 use Rattle.std.specs.Prelude.{◌≡◌, ℕ, ◌+◌, ◌≤◌, nat_lt, ◌==◌, if◌then◌else◌, false, List, [], ◌∷◌, ◌++◌, length, Option}
 use Rattle.std.specs.Prelude.{Some}
 use Rattle.std.specs.List.{flat_map}
+use Rattle.pcm_base.specs.declared.limits.TheConstants.{MAX_GAIN, MAX_TRACKS, UNITY_GAIN}
 use Rattle.pcm_base.specs.declared.sound.Side.TheVariants.{Both}
 use Rattle.pcm_base.specs.declared.command.Command.{Command}
 use Rattle.pcm_base.specs.declared.command.Command.TheVariants as command
@@ -25,7 +26,7 @@ line_of (edit.Mute id mute) = command.Mute id mute
 abbrev pub IsGood : PlainEdit → Type 0
 IsGood edit.Track = Unit {0}
 IsGood (edit.Drop id) = Unit {0}
-IsGood (edit.Level id gain) = gain ≤ 1048576
+IsGood (edit.Level id gain) = gain ≤ MAX_GAIN
 IsGood (edit.Side id side) = Unit {0}
 IsGood (edit.Mute id mute) = Unit {0}
 
@@ -38,7 +39,7 @@ tracks_by (edit.Mute id mute) = 0
 
 -- what refuses it
 abbrev pub refusal_by : PlainEdit → List Track → Option Refusal
-refusal_by edit.Track ts = refused_if (nat_lt 64 (length ts + 1)) TrackLimit
+refusal_by edit.Track ts = refused_if (nat_lt MAX_TRACKS (length ts + 1)) TrackLimit
 refusal_by (edit.Drop id) ts = lacks id (track_of id ts)
 refusal_by (edit.Level id gain) ts = lacks id (track_of id ts)
 refusal_by (edit.Side id side) ts = lacks id (track_of id ts)
@@ -67,7 +68,7 @@ without id ts = flat_map (other_one id) ts
 
 -- a track without clips
 abbrev pub empty_track : ℕ → Track
-empty_track id = record { id = id; gain = 65536; side = Both; mute = false; layout = [] }
+empty_track id = record { id = id; gain = UNITY_GAIN; side = Both; mute = false; layout = [] }
 
 -- the project that it makes, where the next track has this id
 abbrev pub IsEdited : PlainEdit → ℕ → List Track → List Track → Type 0

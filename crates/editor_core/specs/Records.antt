@@ -1,4 +1,4 @@
--- How long the record of a commit is: it says the studio that the commit leads to.
+-- How long the record of a commit is: it says the studio that the commit leads to, in version 2 by the one before.
 use Rattle.std.specs.Prelude.{◌≡◌, ◌⊎◌, ℕ, ◌≤◌, List, length, Result, Ok, Err, true}
 use Rattle.pcm_base.specs.declared.answer.Reply.{Reply}
 use Rattle.pcm_base.specs.declared.refusal.Refusal.{Refusal}
@@ -7,7 +7,7 @@ use Rattle.pcm_base.specs.declared.limits.TheConstants.{LONGEST_BODY}
 use Rattle.project_state.specs.declared.body.Body.{Body}
 use Rattle.project_state.specs.declared.body.Body.TheVariants as body
 use Rattle.project_state.specs.declared.track.Track.{Track}
-use Rattle.project_state.specs.Spelling.{spelling}
+use Rattle.editor_core.specs.Bodies.{bytes_by}
 use Rattle.editor_core.specs.Core.{Core}
 use Rattle.editor_core.specs.Exchanges.{is_broken_off}
 use Rattle.editor_core.specs.Points.{current_tracks}
@@ -22,7 +22,10 @@ Says next_block next_track h (body.Purge n) = Unit {0}
 
 -- The length of the body of the record that a call adds: none, or that of a body that says the studio after it. Where
 -- the disk broke the call off, it is that of a record that a commit may have.
-abbrev pub Records : {D : Type 0} → Result Reply Refusal → Core D → ℕ → Type 0
-Records (Ok r) new len = (len ≡ 0)
-    ⊎ ((b : Body) × (len ≡ length (spelling b)) × Says new.next_block new.next_track new.history b)
-Records (Err why) new len = is_broken_off why ≡ true → len ≤ LONGEST_BODY
+abbrev pub RecordsBy : {D : Type 0} → (version : ℕ) (current : List Track) → Result Reply Refusal → Core D → ℕ → Type 0
+RecordsBy version current (Ok r) new len = (len ≡ 0)
+    ⊎ ((b : Body) × (len ≡ length (bytes_by version current b)) × Says new.next_block new.next_track new.history b)
+RecordsBy version current (Err why) new len = is_broken_off why ≡ true → len ≤ LONGEST_BODY
+
+abbrev pub Records : {D : Type 0} → Core D → Result Reply Refusal → Core D → ℕ → Type 0
+Records old told new len = RecordsBy old.version (current_tracks old.history) told new len

@@ -2,6 +2,7 @@
 use Rattle.std.specs.Prelude.{◌≡◌, ◌⊎◌, ◌↔◌, ℕ, ◌≤◌, ◌<◌, ◌^◌, IsTrue, IsSome, Option, Some, None, List, [], length}
 use Rattle.std.specs.Prelude.{Contains, Result, OnOk, OnErr, IfOk, IfErr, IfSome}
 use Rattle.std.specs.List.Sorted.{IsStrictlyIncreasing}
+use Rattle.pcm_base.specs.declared.limits.TheConstants.{COUNTER_LIMIT, FIRST_BLOCK}
 use Rattle.pcm_base.specs.Causes.{HasCause}
 use Rattle.pcm_base.specs.declared.answer.Reply.{Reply}
 use Rattle.pcm_base.specs.declared.answer.Reply.TheVariants.{Freed}
@@ -64,15 +65,15 @@ pub record RemovesPart (counts : Counts) (old new : Files) (ids : List ℕ) : Ty
 
 -- a block file that nothing names
 pub record IsUnnamed {D : Type 0} (disk : Ghosts D) (s : Core D) (id : ℕ) : Type 0 where
-  pub least : 16 ≤ id
-  pub most : id < 2 ^ 62
+  pub least : FIRST_BLOCK ≤ id
+  pub most : id < COUNTER_LIMIT
   pub file : IsSome (disk.reads s.store id)
   pub unnamed : times_named id (named_blocks s) ≡ 0
 
 -- the block files are those that the studio names
 abbrev pub HasOnlyNamed : {D : Type 0} → Ghosts D → Core D → Type 0
 HasOnlyNamed disk s =
-    (id : ℕ) → 16 ≤ id → id < 2 ^ 62 → IsSome (disk.reads s.store id) ↔ (0 < times_named id (named_blocks s))
+    (id : ℕ) → FIRST_BLOCK ≤ id → id < COUNTER_LIMIT → IsSome (disk.reads s.store id) ↔ (0 < times_named id (named_blocks s))
 
 -- ---- by the call
 

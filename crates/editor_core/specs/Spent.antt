@@ -15,7 +15,7 @@ use Rattle.project_state.specs.declared.body.Body.{Body}
 use Rattle.project_state.specs.declared.body.Body.TheVariants.{Edit}
 use Rattle.project_state.specs.declared.track.Track.{Track}
 use Rattle.project_state.specs.Kept.{Kept, after_body, meant_history}
-use Rattle.project_state.specs.Spelling.{spelling}
+use Rattle.editor_core.specs.Bodies.{IsLength}
 use Rattle.editor_core.specs.Core.{Core}
 use Rattle.editor_core.specs.Edits.{IsEdit, IsPlanned, TaggedEdit}
 use Rattle.editor_core.specs.Occurrences.{times_named}
@@ -81,7 +81,7 @@ Needed disk s call sound (refusal.SpaceSpent have need) =
     IsNumberSpent disk s call sound (refusal.SpaceSpent have need)
     ⊎ ((it : WouldMake disk s call sound)
     × (IsSpent s.next_block it.blocks (refusal.SpaceSpent have need)
-    ⊎ IsSpent s.journal_end (6 + length (spelling it.body)) (refusal.SpaceSpent have need)))
+    ⊎ ((len : ℕ) × IsLength s it.body len × IsSpent s.journal_end (6 + len) (refusal.SpaceSpent have need))))
 Needed disk s call sound (refusal.RecordLimit n) =
-    (it : WouldMake disk s call sound) × (n ≡ length (spelling it.body)) × (LONGEST_BODY < n)
+    (it : WouldMake disk s call sound) × IsLength s it.body n × (LONGEST_BODY < n)
 Needed disk s call sound why = Unit {0}

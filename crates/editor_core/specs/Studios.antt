@@ -18,12 +18,12 @@ use Rattle.clip_track.specs.declared.items.Item.{Item}
 use Rattle.clip_track.specs.Items.{strip_len, strip_cells, strip_blocks}
 use Rattle.edit_ops.specs.Runs.{AreClips}
 use Rattle.project_journal.specs.Gate.{EachNow}
-use Rattle.project_journal.specs.Header.{version_1, IsFormat}
+use Rattle.project_journal.specs.Header.{IsFormat}
 use Rattle.project_journal.specs.Journal.{Log, IsAt}
-use Rattle.project_state.specs.Kept.{Kept, Opened, new_project, LeadTo, meant, meant_history, point_blocks}
-use Rattle.project_state.specs.Kept.{history_blocks}
+use Rattle.project_state.specs.Kept.{Begins, Kept, Opened, LeadIn, meant, meant_history, point_blocks}
+use Rattle.project_state.specs.Kept.{history_blocks, version_of}
 use Rattle.project_state.specs.KeptSound.{IsSoundPoint, IsSoundTagged}
-use Rattle.editor_core.specs.Core.{Core}
+use Rattle.editor_core.specs.Core.{Core, form_at}
 use Rattle.editor_core.specs.declared.studio.Pin.{Pin}
 
 -- ---- what it stands for
@@ -129,13 +129,25 @@ pub record AreCounters (next_block next_track next_pin commit end : ℕ) : Type 
   pub end_least : 32 ≤ end
   pub end_most : end ≤ 2 ^ 62
 
--- The records of the disk's journal lead to the studio's history, next track and commit number; a stop leaves each
--- block that the studio names as the store reads it; and the ids that are counted are the block files.
+-- The journal stands in file 0 or 1, and its version and its generation are within their bounds.
+pub record AreJournalNumbers (file version generation : ℕ) : Type 0 where
+  pub among : file ≤ 1
+  pub version_least : 1 ≤ version
+  pub version_most : version ≤ 2
+  pub generation_most : generation ≤ 2 ^ 62
+  pub first_version : version ≡ 1 → generation ≡ 0
+
+-- The disk's journal is of the studio's form and generation. From the project with which it begins its records lead to
+-- the studio's history, next track and commit number. A stop leaves each block that the studio names as the store reads
+-- it. The ids that are counted are the block files.
 pub record IsDurable {D : Type 0} (disk : Ghosts D) (s : Core D) : Type 0 where
   pub log : Log
+  pub base : Kept
   pub kept : Kept
-  pub there : IsAt version_1 disk s.store s.journal_end log
-  pub told : LeadTo log.block_size (new_project log.depth) log.bodies kept
+  pub there : IsAt (form_at s) disk s.store s.journal_end log
+  pub generation : log.base.generation ≡ s.generation
+  pub begins : Begins log base
+  pub told : LeadIn (version_of (form_at s)) log.block_size base log.bodies kept
   pub rate : log.rate ≡ s.rate
   pub block_size : log.block_size ≡ s.block_size
   pub history : kept.history ≡ s.history
@@ -149,6 +161,7 @@ pub record IsDurable {D : Type 0} (disk : Ghosts D) (s : Core D) : Type 0 where
 pub record IsStudio {D : Type 0} (disk : Ghosts D) (s : Core D) : Type 0 where
   pub format : IsFormat s.rate s.block_size s.history.depth
   pub counters : AreCounters s.next_block s.next_track s.next_pin s.commit_number s.journal_end
+  pub journal : AreJournalNumbers s.file s.version s.generation
   pub few_points : length s.history.points ≤ s.history.depth
   pub few_clips : length (clip_blocks s.clipboard) ≤ 2 ^ 71
   pub points : AllByRecursion (IsSoundTagged s.block_size s.next_block s.next_track s.commit_number) s.history.points

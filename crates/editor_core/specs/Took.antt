@@ -72,14 +72,15 @@ pub record Took {D : Type 0} (disk : Ghosts D) (old : Core D) (exchange : Exchan
   pub len : ℕ
   pub needs : IsHeld disk old → (blocks : ℕ)
       × Needs (outside (studio_of disk old) exchange.sound) (studio_of disk old) exchange.call blocks len
-  pub records : Records exchange.told new len
+  pub records : Records old exchange.told new len
   -- the ids of blocks that it gave are named, and where a counter or the record has no room, the numbers are those of
   -- what it would have made
   pub given : IfOk exchange.told (λ r. NamesGiven old new)
   pub needed : IfErr exchange.told (Needed disk old exchange.call exchange.sound)
   -- no file goes or comes but the journal and those of blocks, here and in each image
   pub changed : Changed disk (LeavesOthers old.next_block new.next_block (MayRemove exchange.call old.counts))
-      (asks exchange (disk.reads old.store 0) old.block_size (new.next_block - old.next_block) len) old.store new.store
+      (asks exchange (disk.reads old.store old.file) old.block_size (new.next_block - old.next_block) len)
+      old.store new.store
   -- which files of blocks are removed, and which ids are counted then
   pub frees : Frees disk old exchange.call exchange.told exchange.removed new
   pub ids : CountsIds old exchange.removed new

@@ -12,10 +12,11 @@ ghost use Rattle.editor_core.specs.Lines.{ChangesCells, UsesClipboard};
 ghost use Rattle.editor_core.specs.Studios.{IsStudio};
 ghost use Rattle.editor_core.specs.Took.{Took, freeing, quietly, told_by};
 
+use super::copies::RunRange;
 use super::studio::Studio;
 use disk_model::Store;
 use edit_ports::Vault;
-use pcm_base::{Answer, Command, Refusal, Reply};
+use pcm_base::{Answer, Command, Placing, RangeEdit, Refusal, Removing, Reply};
 use std::alloc::Global;
 
 // The reply to a commit.
@@ -193,18 +194,27 @@ impl<S: Store> Studio<S> {
                 start,
                 step,
             } => done(self.ramp(alloc, *track, *at, *count, *start, *step)),
-            Command::Delete { track, from, to } => done(self.delete(alloc, *track, *from, *to)),
-            Command::SplitDelete { track, from, to } => {
-                done(self.split_delete(alloc, *track, *from, *to))
+            Command::Delete { track, from, to } => {
+                done(self.edit_range(alloc, *track, *from, *to, RangeEdit::Delete))
             }
-            Command::Silence { track, from, to } => done(self.silence(alloc, *track, *from, *to)),
-            Command::Trim { track, from, to } => done(self.trim(alloc, *track, *from, *to)),
+            Command::SplitDelete { track, from, to } => {
+                done(self.edit_range(alloc, *track, *from, *to, RangeEdit::SplitDelete))
+            }
+            Command::Silence { track, from, to } => {
+                done(self.edit_range(alloc, *track, *from, *to, RangeEdit::Silence))
+            }
+            Command::Trim { track, from, to } => {
+                done(self.edit_range(alloc, *track, *from, *to, RangeEdit::Trim))
+            }
             Command::Gain {
                 track,
                 from,
                 to,
                 gain,
-            } => done(self.gain(alloc, *track, *from, *to, *gain)),
+            } => {
+                let edit = RangeEdit::Gain { gain: *gain };
+                done(self.edit_range(alloc, *track, *from, *to, edit))
+            }
             _ => unreachable!(),
         }
     }
@@ -222,21 +232,41 @@ impl<S: Store> Studio<S> {
                 count,
                 from,
                 to,
-            } => done(self.cut(alloc, *track, *count, *from, *to)),
+            } => {
+                let range = RunRange {
+                    track: *track,
+                    count: *count,
+                    from: *from,
+                    to: *to,
+                };
+                done(self.cut_range(alloc, range, Removing::Close))
+            }
             Command::SplitCut {
                 track,
                 count,
                 from,
                 to,
-            } => done(self.split_cut(alloc, *track, *count, *from, *to)),
+            } => {
+                let range = RunRange {
+                    track: *track,
+                    count: *count,
+                    from: *from,
+                    to: *to,
+                };
+                done(self.cut_range(alloc, range, Removing::Leave))
+            }
             Command::Copy {
                 track,
                 count,
                 from,
                 to,
             } => copied(self.copy(alloc, *track, *count, *from, *to)),
-            Command::Paste { track, at } => done(self.paste(alloc, *track, *at)),
-            Command::PasteOver { track, at } => done(self.paste_over(alloc, *track, *at)),
+            Command::Paste { track, at } => {
+                done(self.paste_strips(alloc, *track, *at, Placing::Insert))
+            }
+            Command::PasteOver { track, at } => {
+                done(self.paste_strips(alloc, *track, *at, Placing::Cover))
+            }
             _ => unreachable!(),
         }
     }

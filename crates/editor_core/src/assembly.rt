@@ -13,7 +13,8 @@ use project_state::Point;
 use std::alloc::Global;
 use undo_history::History;
 
-/// What a studio is made of: the format of its project, its history, how often each block is named, and its counters.
+/// What a studio is made of: the format of its project, its history, how often each block is named, its counters, and
+/// its journal.
 #[derive(Drop)]
 pub struct Parts {
     /// How many frames there are in a second.
@@ -27,6 +28,10 @@ pub struct Parts {
     pub next_block: u64,
     pub next_track: u64,
     pub commit_number: u64,
+    /// The file of the journal, 0 or 1, and the version and generation that its header has.
+    pub file: u64,
+    pub version: u32,
+    pub generation: u64,
     pub journal_end: u64,
 }
 
@@ -58,6 +63,9 @@ impl<S: Store> Studio<S> {
             next_track: parts.next_track,
             next_pin: 1,
             commit_number: parts.commit_number,
+            file: parts.file,
+            version: parts.version,
+            generation: parts.generation,
             journal_end: parts.journal_end,
             stopped: None,
             rate: parts.rate,

@@ -1,5 +1,6 @@
 // What a block is made in.
 ghost use Rattle.std.specs.Prelude.{◌≡◌, ◌≤◌, IfOk, IfErr, IsOkUnless, IsTrue, OnOk, None, Some};
+ghost use Rattle.pcm_base.specs.declared.limits.TheConstants.{MAX_BLOCK_SAMPLES};
 ghost use Rattle.block_store.specs.Checks.{Checks, IsWhole};
 ghost use Rattle.block_store.specs.Reads.{Counted};
 ghost use Rattle.block_store.specs.declared.fault.BlockFault.TheVariants as fault;
@@ -47,7 +48,7 @@ impl Model for BlockBuffers {
 impl BlockBuffers {
     // Room for blocks of so many samples, at most 262,144.
     pub(crate) fn new(alloc: Global, block_size: u32) -> Result<BlockBuffers, NoMemory>
-        requires { block_size ≤ 262144 }
+        requires { block_size ≤ MAX_BLOCK_SAMPLES }
         ensures { IfOk result (λ b. b ≡ block_size) }
     {
         let samples = vec![in alloc; 0i16; block_size as usize]?;
@@ -62,7 +63,7 @@ impl BlockBuffers {
     // The most samples of a block.
     pub(crate) fn block_size(&self) -> u32
         ensures value { result ≡ self.now }
-        ensures few { result ≤ 262144 }
+        ensures few { result ≤ MAX_BLOCK_SAMPLES }
     {
         self.block_size
     }

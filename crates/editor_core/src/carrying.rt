@@ -1,6 +1,7 @@
 // An edit that makes blocks, from its plan to its commit.
 ghost use Rattle.std.specs.Prelude.{◌≡◌, ℕ, ◌+◌, ◌≤◌, ◌<◌, ◌^◌, length, vec_capacity, IfErr, IfOk, MatchResult, None};
 ghost use Rattle.std.specs.Prelude.{OnOk, Some};
+ghost use Rattle.pcm_base.specs.declared.limits.TheConstants.{COUNTER_LIMIT};
 ghost use Rattle.pcm_base.specs.declared.answer.Reply.TheVariants as reply;
 ghost use Rattle.pcm_base.specs.declared.command.Call.{Call};
 ghost use Rattle.pcm_base.specs.declared.entry.SoundMove.{SoundMove};
@@ -10,8 +11,8 @@ ghost use Rattle.block_ledger.specs.Entries.{count_of};
 ghost use Rattle.edit_ops.specs.Plans.{AreNew};
 ghost use Rattle.piece_store.specs.Bringing.{brought_count};
 ghost use Rattle.envelope_view.specs.Answers.{IsUndamaged};
-ghost use Rattle.project_state.specs.Spelling.{spelling};
 ghost use Rattle.editor_core.specs.Applied.{Lasts};
+ghost use Rattle.editor_core.specs.Bodies.{body_bytes, whole_len};
 ghost use Rattle.editor_core.specs.Core.{core_of};
 ghost use Rattle.editor_core.specs.Edits.{Spends, IsPlanned, IsEdit, IsPrepared, NotPrepared, Carried, clip_then};
 ghost use Rattle.editor_core.specs.Edits.{tagged};
@@ -27,7 +28,7 @@ use disk_model::Store;
 use edit_ops::{NewBlock, NewBlocks, Strips};
 use pcm_base::{NoMemory, Refusal};
 use piece_store::Given;
-use project_state::{Body, Point, body_len, write_body};
+use project_state::{Body, Point};
 
 /// A new point, the blocks that are to be made for it, the id of the next block after them, how many track ids it
 /// gives, and what it puts into the clipboard, if anything.
@@ -41,8 +42,8 @@ pub(crate) struct Planned {
 
 // Whether a counter has room for so many more.
 fn has_room(have: u64, need: u64) -> Result<(), Refusal>
-    requires { have ≤ 2 ^ 62 }
-    ensures { MatchResult result (λ _. have + need ≤ 2 ^ 62) (λ e. no_room have need ≡ Some e) }
+    requires { have ≤ COUNTER_LIMIT }
+    ensures { MatchResult result (λ _. have + need ≤ COUNTER_LIMIT) (λ e. no_room have need ≡ Some e) }
 {
     if need > MOST - have {
         return Err(Refusal::SpaceSpent { have, need });
@@ -53,12 +54,12 @@ fn has_room(have: u64, need: u64) -> Result<(), Refusal>
 impl<S: Store> Studio<S> {
     // Whether the counters have room for so many blocks and track ids, and for a commit.
     fn may_make(&self, blocks: u64, tracks: u64) -> Result<(), Refusal>
-        requires next { self.now.next_block ≤ 2 ^ 62 }
-        requires ids { self.now.next_track ≤ 2 ^ 62 }
-        requires number { self.now.commit_number ≤ 2 ^ 62 }
-        ensures blocks { OnOk result (self.now.next_block + blocks ≤ 2 ^ 62) }
-        ensures ids { OnOk result (self.now.next_track + tracks ≤ 2 ^ 62) }
-        ensures number { OnOk result (self.now.commit_number < 2 ^ 62) }
+        requires next { self.now.next_block ≤ COUNTER_LIMIT }
+        requires ids { self.now.next_track ≤ COUNTER_LIMIT }
+        requires number { self.now.commit_number ≤ COUNTER_LIMIT }
+        ensures blocks { OnOk result (self.now.next_block + blocks ≤ COUNTER_LIMIT) }
+        ensures ids { OnOk result (self.now.next_track + tracks ≤ COUNTER_LIMIT) }
+        ensures number { OnOk result (self.now.commit_number < COUNTER_LIMIT) }
         ensures err { IfErr result (Spends (core_of self.now) blocks tracks) }
     {
         has_room(self.next_block, blocks)?;
@@ -68,14 +69,14 @@ impl<S: Store> Studio<S> {
 
     // Writes the body of a record, and makes room for the row of the journal.
     fn ready_row(&mut self, body: &Body, len: usize) -> Result<(), NoMemory>
-        requires few { len ≤ 2 ^ 44 }
+        requires few { len ≤ 2 ^ 45 }
         ensures same { core_of self.new ≡ core_of self.old }
-        ensures body { OnOk result (self.new.body.items ≡ spelling body.now) }
+        ensures body { OnOk result (self.new.body.items ≡ body_bytes (core_of self.old) body.now) }
         ensures row { OnOk result (5 + len ≤ vec_capacity self.new.row) }
         ensures history { self.new.history ≡ self.old.history }
         ensures ledger { self.new.ledger ≡ self.old.ledger }
     {
-        write_body(body, &mut self.body)?;
+        self.write_record(body)?;
         self.row.clear();
         self.row.reserve(len + 5)?;
         Ok(())
@@ -93,21 +94,22 @@ impl<S: Store> Studio<S> {
 
     // Tests the counters and the journal's places, and takes all memory that is needed. Nothing is asked of the disk.
     fn prepare(&mut self, body: &Body, blocks: u64, tracks: u64) -> Result<(), Refusal>
-        requires next { self.old.next_block ≤ 2 ^ 62 }
-        requires ids { self.old.next_track ≤ 2 ^ 62 }
-        requires number { self.old.commit_number ≤ 2 ^ 62 }
-        requires end { self.old.journal_end ≤ 2 ^ 62 }
+        requires next { self.old.next_block ≤ COUNTER_LIMIT }
+        requires ids { self.old.next_track ≤ COUNTER_LIMIT }
+        requires number { self.old.commit_number ≤ COUNTER_LIMIT }
+        requires end { self.old.journal_end ≤ COUNTER_LIMIT }
         ensures same { core_of self.new ≡ core_of self.old }
-        ensures prepared { OnOk result (IsPrepared (core_of self.old) blocks tracks (length (spelling body.now))) }
-        ensures body { OnOk result (self.new.body.items ≡ spelling body.now) }
-        ensures row { OnOk result (5 + length (spelling body.now) ≤ vec_capacity self.new.row) }
+        ensures prepared { OnOk result (IsPrepared (core_of self.old) blocks tracks
+            (length (body_bytes (core_of self.old) body.now))) }
+        ensures body { OnOk result (self.new.body.items ≡ body_bytes (core_of self.old) body.now) }
+        ensures row { OnOk result (5 + length (body_bytes (core_of self.old) body.now) ≤ vec_capacity self.new.row) }
         ensures spare { OnOk result (blocks ≤ self.new.ledger.spare) }
         ensures point { OnOk result (length self.new.history.history.points < self.new.history.capacity) }
-        ensures err { IfErr result (NotPrepared (core_of self.old) blocks tracks (length (spelling body.now))) }
+        ensures err { IfErr result (NotPrepared (core_of self.old) blocks tracks (whole_len body.now)
+            (length (body_bytes (core_of self.old) body.now))) }
     {
         self.may_make(blocks, tracks)?;
-        let len = body_len(body);
-        self.may_add(len as u64)?;
+        let len = self.may_record(body)?;
         self.ready_counts(blocks)?;
         self.ready_row(body, len)?;
         Ok(())
@@ -125,7 +127,13 @@ impl<S: Store> Studio<S> {
         requires new { AreNew self.old.buffers self.old.next_block makes.now }
         requires pieces { PiecesReadable (brought_count given.now) makes.now }
         ensures carried { Carried S.Store (core_of self.old)
-            (record { makes = makes.now; given = given.now; tracks = tracks; body = spelling body.now })
+            (record {
+              makes = makes.now;
+              given = given.now;
+              tracks = tracks;
+              body = body_bytes (core_of self.old) body.now;
+              whole = whole_len body.now;
+            })
             result (core_of self.new) }
         ensures history { self.new.history.history ≡ self.old.history.history }
         ensures point { OnOk result (length self.new.history.history.points < self.new.history.capacity) }

@@ -1,5 +1,5 @@
 // A commit: whether it may be made, and its record.
-ghost use Rattle.std.specs.Prelude.{◌≡◌, ◌+◌, ◌≤◌, ◌<◌, ◌^◌, length, vec_capacity, IfErr, OnOk};
+ghost use Rattle.std.specs.Prelude.{◌≡◌, ℕ, ◌+◌, ◌≤◌, ◌<◌, ◌^◌, length, vec_capacity, IfErr, OnOk};
 ghost use Rattle.pcm_base.specs.declared.limits.TheConstants.{LONGEST_BODY};
 ghost use Rattle.envelope_view.specs.Answers.{IsUndamaged};
 ghost use Rattle.editor_core.specs.Adding.{Adds, Exceeds, IsNoWant, Settles, Tested};
@@ -12,9 +12,6 @@ use project_journal::{JournalFault, append, append_small};
 
 // No counter passes this.
 pub(crate) const MOST: u64 = 1 << 62;
-
-// The file of the journal.
-const JOURNAL: u64 = 0;
 
 // The longest body of a record.
 const LONGEST: u64 = 4_294_901_760;
@@ -47,7 +44,7 @@ impl<S: Store> Studio<S> {
 
     // Whether the journal has the places for a record with a body of so many bytes, and the body is short enough.
     pub(crate) fn may_add(&self, len: u64) -> Result<(), Refusal>
-        requires small { len ≤ 2 ^ 44 }
+        requires small { len ≤ 2 ^ 45 }
         requires end { self.now.journal_end ≤ 2 ^ 62 }
         ensures ok { OnOk result ((self.now.journal_end + (6 + len) ≤ 2 ^ 62) × (len ≤ LONGEST_BODY)) }
         ensures err { IfErr result (Exceeds self.now.journal_end len) }
@@ -68,11 +65,11 @@ impl<S: Store> Studio<S> {
     pub(crate) fn commit_small(&mut self, body: &[u8]) -> Result<(), Refusal>
         requires small { length body.now ≤ 9 }
         requires room { self.old.commit_number < 2 ^ 62 }
-        ensures record { Adds S.Store (core_of self.old) body.now result (core_of self.new) }
+        ensures record { Adds S.Store (core_of self.old) body.now (length body.now) result (core_of self.new) }
         ensures memory { IfErr result IsNoWant }
         ensures undamaged { IfErr result IsUndamaged }
     {
-        let added = append_small(&mut self.store, JOURNAL, self.journal_end, body);
+        let added = append_small(&mut self.store, self.file, self.journal_end, body);
         self.settle(added)
     }
 
@@ -80,7 +77,8 @@ impl<S: Store> Studio<S> {
     pub(crate) fn commit_written(&mut self) -> Result<(), Refusal>
         requires room { self.old.commit_number < 2 ^ 62 }
         requires short { length self.old.body.items ≤ LONGEST_BODY }
-        ensures record { Adds S.Store (core_of self.old) self.old.body.items result (core_of self.new) }
+        ensures record { (whole : ℕ) → Adds S.Store (core_of self.old) self.old.body.items whole result
+            (core_of self.new) }
         ensures memory { 5 + length self.old.body.items ≤ vec_capacity self.old.row → IfErr result IsNoWant }
         ensures undamaged { IfErr result IsUndamaged }
         ensures history { self.new.history ≡ self.old.history }
@@ -88,7 +86,7 @@ impl<S: Store> Studio<S> {
     {
         let added = append(
             &mut self.store,
-            JOURNAL,
+            self.file,
             self.journal_end,
             &self.body,
             &mut self.row,

@@ -21,11 +21,11 @@ use std::alloc::Global;
 
 /// The cells of as many tracks as `count`, from a track on, from one place to another.
 #[derive(Clone, Copy)]
-pub(crate) struct RunRange {
-    pub(crate) track: u64,
-    pub(crate) count: u64,
-    pub(crate) from: u64,
-    pub(crate) to: u64,
+pub struct RunRange {
+    pub track: u64,
+    pub count: u64,
+    pub from: u64,
+    pub to: u64,
 }
 
 // Adds a track's layout where its id is this one or greater.

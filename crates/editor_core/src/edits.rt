@@ -1,5 +1,6 @@
 // Edits that make no blocks.
 ghost use Rattle.std.specs.Prelude.{◌≡◌, ◌+◌, ◌≤◌, IfErr, IfOk, None, nat_lt, length};
+ghost use Rattle.pcm_base.specs.declared.limits.TheConstants.{MAX_GAIN};
 ghost use Rattle.pcm_base.specs.declared.answer.Reply.TheVariants as reply;
 ghost use Rattle.pcm_base.specs.declared.command.Call.TheVariants.{Line};
 ghost use Rattle.pcm_base.specs.declared.command.Command.TheVariants as command;
@@ -17,8 +18,8 @@ use super::plain::{PlainEdit, set_track, tracks_for};
 use super::points::{with_new_track, with_track, without_track};
 use super::studio::Studio;
 use disk_model::Store;
-use pcm_base::{NoMemory, Refusal, Side};
-use project_state::{MAX_TRACKS, Point};
+use pcm_base::{MAX_TRACKS, NoMemory, Refusal, Side};
+use project_state::Point;
 use std::alloc::Global;
 
 // The project with one track changed.
@@ -79,7 +80,7 @@ impl<S: Store> Studio<S> {
     /// Those of `drop`.
     pub fn level(&mut self, alloc: Global, track: u64, gain: u32) -> Result<u64, Refusal>
         requires studio { IsStudio S.Store (core_of self.old) }
-        requires in_form { gain ≤ 1048576 }
+        requires in_form { gain ≤ MAX_GAIN }
         ensures took { Took S.Store (core_of self.old)
             (quietly (Line (command.Level track gain)) (told_by (λ _. reply.Done) result)) (core_of self.new) }
         ensures number { IfOk result (λ n. n ≡ self.new.commit_number) }
@@ -161,7 +162,7 @@ impl<S: Store> Studio<S> {
 
     // What refuses a further track.
     fn limit_refusal(&self) -> Option<Refusal>
-        ensures { result ≡ refused_if (nat_lt 64 (length (current_tracks self.now.history.history) + 1))
+        ensures { result ≡ refused_if (nat_lt MAX_TRACKS (length (current_tracks self.now.history.history) + 1))
             refusal.TrackLimit }
     {
         if self.current().len() + 1 > MAX_TRACKS {

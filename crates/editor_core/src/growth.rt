@@ -2,6 +2,7 @@
 ghost use Rattle.std.specs.Prelude.{◌≡◌, ◌+◌, ◌≤◌, ◌<◌, ◌^◌, IfErr, IfOk, OnOk};
 ghost use Rattle.std.specs.Prelude.{None, [], ◌∷◌, ◌++◌, length, map};
 ghost use Rattle.std.specs.List.{AllByRecursion};
+ghost use Rattle.pcm_base.specs.declared.limits.TheConstants.{COUNTER_LIMIT};
 ghost use Rattle.pcm_base.specs.declared.refusal.Refusal.TheVariants as refusal;
 ghost use Rattle.pcm_base.specs.Refusals.{length_limit};
 ghost use Rattle.edit_ops.specs.Plans.{AnswersTest};
@@ -13,7 +14,7 @@ use super::carrying::Planned;
 use block_sequence::Pieces;
 use clip_track::Layout;
 use edit_ops::{NewBlock, NewBlocks, Plan, Planner, insert};
-use pcm_base::{NoMemory, Piece, Refusal, Side};
+use pcm_base::{NoMemory, Piece, Refusal, Side, UNITY_GAIN};
 use project_state::{Point, Track};
 use std::alloc::Global;
 
@@ -72,7 +73,7 @@ fn moved_blocks(alloc: Global, blocks: &[NewBlock], skip: u64) -> Result<Vec<New
 
 // The plan of a new track of so many of the samples that are brought, from a place among them on.
 fn plan_channel(planner: Planner, from: u64, count: u64) -> Result<Plan, Refusal>
-    requires few { from + count ≤ 2 ^ 62 }
+    requires few { from + count ≤ COUNTER_LIMIT }
     ensures plan { IfOk result (IsChannelPlan from count planner.block_size planner.next) }
     ensures tests { AnswersTest (length_limit (count ∷ [])) result }
 {
@@ -97,7 +98,7 @@ fn add_track(point: &mut Point, id: u64, layout: Layout) -> Result<(), Refusal>
 {
     point.add(Track {
         id,
-        gain: 65_536,
+        gain: UNITY_GAIN,
         side: Side::Both,
         mute: false,
         layout,
@@ -124,7 +125,7 @@ pub(crate) fn add_channel(
 ) -> Result<(), Refusal>
     requires some { 0 < block_size }
     requires room { growing.old.next < 2 ^ 63 }
-    requires few { growing.old.brought + count ≤ 2 ^ 62 }
+    requires few { growing.old.brought + count ≤ COUNTER_LIMIT }
     requires below { AllBelow id growing.old.point }
     requires place { length growing.old.point < 64 }
     requires short { length_limit (count ∷ []) ≡ None }

@@ -1,5 +1,6 @@
 // Samples that a command brings, put in at a place of a track or at its end.
 ghost use Rattle.std.specs.Prelude.{◌≡◌, ◌≤◌, ◌<◌, ◌^◌, IfErr, IfOk, None, length};
+ghost use Rattle.pcm_base.specs.declared.limits.TheConstants.{COUNTER_LIMIT};
 ghost use Rattle.pcm_base.specs.declared.answer.Reply.TheVariants as reply;
 ghost use Rattle.pcm_base.specs.declared.command.Call.{Call};
 ghost use Rattle.pcm_base.specs.declared.command.Call.TheVariants as call;
@@ -37,7 +38,7 @@ pub(crate) enum Place {
 // How many samples there are: a sample takes two bytes.
 fn len_of(samples: &[i16]) -> u64
     ensures value { result ≡ length samples.now }
-    ensures few { result ≤ 2 ^ 62 }
+    ensures few { result ≤ COUNTER_LIMIT }
 {
     samples.len() as u64
 }
@@ -45,7 +46,7 @@ fn len_of(samples: &[i16]) -> u64
 // How many samples a command brings.
 fn count_of(given: &Given) -> u64
     ensures value { result ≡ brought_count given.now }
-    ensures few { result ≤ 2 ^ 62 }
+    ensures few { result ≤ COUNTER_LIMIT }
 {
     match *given {
         Given::Nothing => 0,
@@ -59,7 +60,7 @@ fn plan_insert(planner: Planner, layout: &Layout, place: Place, count: u64) -> R
     requires half_full { AllHalfFull planner.block_size layout.now }
     requires apart { IsLayout layout.now }
     requires place { IsPlace place }
-    requires count { count ≤ 2 ^ 62 }
+    requires count { count ≤ COUNTER_LIMIT }
     ensures plan { IfOk result (λ p. IsPlan (start_of planner) (layout_blocks layout.now) count p) }
     ensures cells { IfOk result (λ p. Means (λ src. place_cells place count src.given) layout.now p) }
     ensures few { IfOk result (λ p. length p.makes ≤ blocks_of_samples planner.block_size count) }
@@ -191,7 +192,7 @@ impl<S: Store> Studio<S> {
     ) -> Result<Planned, Refusal>
         requires studio { IsStudio S.Store (core_of self.now) }
         requires place { IsPlace place }
-        requires count { count ≤ 2 ^ 62 }
+        requires count { count ≤ COUNTER_LIMIT }
         ensures plan { IfOk result (λ p. IsTrackPlan (place_edit place count) count track (core_of self.now) p) }
         ensures tracks { IfOk result (λ p. p.tracks ≡ 0) }
         ensures clip { IfOk result (λ p. p.clip ≡ None) }

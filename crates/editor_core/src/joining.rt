@@ -3,12 +3,9 @@ ghost use Rattle.std.specs.Prelude.{◌≡◌, ◌++◌, IfOk, OnOk, length, map
 ghost use Rattle.pcm_base.specs.Refusals.{length_limit};
 ghost use Rattle.editor_core.specs.Imports.{all_of};
 
-use pcm_base::{NoMemory, Refusal, Samples};
+use pcm_base::{MAX_CELLS, NoMemory, Refusal, Samples};
 use std::alloc::Global;
 use wav_pcm::Channels;
-
-// The most cells of a track.
-const MOST_CELLS: u64 = 1 << 32;
 
 // Puts samples behind others.
 fn add_samples(all: &mut Vec<i16>, samples: &Samples) -> Result<(), NoMemory>
@@ -61,7 +58,7 @@ pub(crate) fn length_refusal(counts: &[u64]) -> Option<Refusal>
 {
     for count in counts {
         let len = *count;
-        if len > MOST_CELLS {
+        if len > MAX_CELLS {
             return Some(Refusal::LengthLimit { len });
         }
     }

@@ -1,6 +1,7 @@
 // The new project of an edit of a run of tracks, by the plans of their layouts.
 ghost use Rattle.std.specs.Prelude.{◌≡◌, ◌+◌, ◌≤◌, ◌^◌, ◌++◌, IfOk, OnOk, length};
 ghost use Rattle.std.specs.Vec.Iter.{into_iter_items, into_iter_len};
+ghost use Rattle.pcm_base.specs.declared.limits.TheConstants.{COUNTER_LIMIT};
 ghost use Rattle.clip_track.specs.Clips.{IsLayout};
 ghost use Rattle.project_state.specs.Tracks.{AreAbove};
 ghost use Rattle.editor_core.specs.Copies.{run_of};
@@ -70,7 +71,7 @@ pub(crate) fn planned_run(
 ) -> Result<Planned, NoMemory>
     requires rising { AreAbove 1 project.now }
     requires fits { length plans ≤ length (run_of id project.now) }
-    requires room { next ≤ 2 ^ 62 }
+    requires room { next ≤ COUNTER_LIMIT }
     ensures plan { IfOk result (λ p. IsRunPlan id next project.now plans p) }
     ensures tracks { IfOk result (λ p. p.tracks ≡ 0) }
     ensures clip { IfOk result (λ p. p.clip ≡ clip) }

@@ -4,6 +4,7 @@
 
 mod apply;
 mod assembly;
+mod bodies;
 mod buffers;
 mod carrying;
 mod clipboards;
@@ -44,6 +45,6 @@ mod taking;
 mod views;
 
 pub use assembly::Parts;
+pub use copies::RunRange;
 pub use facts::Facts;
-pub use shows::MAX_VIEW;
 pub use studio::{Pin, Studio};

@@ -1,5 +1,6 @@
 // New blocks, which are written and then synced before a record names them.
 ghost use Rattle.std.specs.Prelude.{◌≡◌, ℕ, IsSome, ◌+◌, ◌≤◌, ◌<◌, ◌^◌, IsTrue, IfErr, MatchResult, None, length};
+ghost use Rattle.pcm_base.specs.declared.limits.TheConstants.{COUNTER_LIMIT, MAX_BLOCK_SAMPLES};
 ghost use Rattle.pcm_base.specs.Pieces.{total};
 ghost use Rattle.pcm_base.specs.declared.refusal.Refusal.TheVariants as refusal;
 ghost use Rattle.sample_block.specs.Spelling.{IsBlock};
@@ -40,7 +41,7 @@ impl<S: Store> Studio<S> {
         requires size { block.now.len ≤ self.old.buffers }
         requires spare { 0 < self.old.ledger.spare }
         requires fresh { count_of self.old.ledger block.now.id ≡ None }
-        requires few { self.old.next_block < 2 ^ 62 }
+        requires few { self.old.next_block < COUNTER_LIMIT }
         ensures made { MatchResult result
             (λ _. MadeOne S.Store (core_of self.old) given.now block.now (core_of self.new))
             (λ e. NotMade S.Store (core_of self.old) e (core_of self.new)) }
@@ -73,8 +74,8 @@ impl<S: Store> Studio<S> {
         requires new { AreNew self.old.buffers self.old.next_block makes.now }
         requires pieces { PiecesReadable (brought_count given.now) makes.now }
         requires least { 16 ≤ self.old.next_block }
-        requires most { self.old.next_block + length makes.now ≤ 2 ^ 62 }
-        requires size { self.old.buffers ≤ 262144 }
+        requires most { self.old.next_block + length makes.now ≤ COUNTER_LIMIT }
+        requires size { self.old.buffers ≤ MAX_BLOCK_SAMPLES }
         requires spare { length makes.now ≤ self.old.ledger.spare }
         requires below { (id : ℕ) → IsSome (count_of self.old.ledger id) → id < self.old.next_block }
         ensures written { Writes S.Store (core_of self.old) (batch_of given.now makes.now) result (core_of self.new) }
@@ -90,7 +91,7 @@ impl<S: Store> Studio<S> {
 
     // Syncs the files of so many blocks from an id on. After a failed sync the studio is stopped.
     fn sync_blocks(&mut self, first: u64, count: u64) -> Result<(), Refusal>
-        requires { first + count ≤ 2 ^ 62 }
+        requires { first + count ≤ COUNTER_LIMIT }
         ensures synced { Syncs S.Store (core_of self.old) (ids_from first count) result (core_of self.new) }
         ensures history { self.new.history ≡ self.old.history }
         ensures body { self.new.body ≡ self.old.body }
@@ -112,8 +113,8 @@ impl<S: Store> Studio<S> {
         requires new { AreNew self.old.buffers self.old.next_block makes.now }
         requires pieces { PiecesReadable (brought_count given.now) makes.now }
         requires least { 16 ≤ self.old.next_block }
-        requires most { self.old.next_block + length makes.now ≤ 2 ^ 62 }
-        requires size { self.old.buffers ≤ 262144 }
+        requires most { self.old.next_block + length makes.now ≤ COUNTER_LIMIT }
+        requires size { self.old.buffers ≤ MAX_BLOCK_SAMPLES }
         requires spare { length makes.now ≤ self.old.ledger.spare }
         requires below { (id : ℕ) → IsSome (count_of self.old.ledger id) → id < self.old.next_block }
         ensures made { Makes S.Store (core_of self.old) (batch_of given.now makes.now) result (core_of self.new) }

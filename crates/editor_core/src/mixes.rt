@@ -1,6 +1,7 @@
 // What is heard of a project.
 ghost use Rattle.std.specs.Prelude.{◌≡◌, ◌+◌, ◌-◌, ◌^◌, ◌<◌, ◌≤◌, length, min, take, drop, IsTrue, IsOkUnless, IfErr};
 ghost use Rattle.std.specs.Prelude.{IfOk};
+ghost use Rattle.pcm_base.specs.declared.limits.TheConstants.{MAX_VIEW};
 ghost use Rattle.pcm_base.specs.declared.answer.Reply.TheVariants.{Frames};
 ghost use Rattle.pcm_base.specs.declared.command.Call.TheVariants.{Line, ReadPin};
 ghost use Rattle.pcm_base.specs.declared.command.Command.TheVariants.{Mix};
@@ -78,7 +79,7 @@ impl<S: Store> Studio<S> {
     pub fn mix(&mut self, from: u64, to: u64, out: &mut [Frame]) -> Result<usize, Refusal>
         requires studio { IsStudio S.Store (core_of self.old) }
         // There is room for what may be shown.
-        requires room { min 4096 (to - from) ≤ length out.old }
+        requires room { min MAX_VIEW (to - from) ≤ length out.old }
         ensures { Sees S.Store (core_of self.old)
             (record { call = Line (Mix from to); reply = Frames; out = out.new; count = result })
             (core_of self.new) }

@@ -1,14 +1,10 @@
 // The strips of the clipboard, put into a run of tracks.
-ghost use Rattle.std.specs.Prelude.{◌≡◌, ◌≤◌, ◌<◌, ◌^◌, IfErr, IfOk, None, length, take};
+ghost use Rattle.std.specs.Prelude.{◌≡◌, ◌<◌, ◌^◌, IfErr, IfOk, None};
 ghost use Rattle.pcm_base.specs.declared.answer.Reply.TheVariants as reply;
 ghost use Rattle.pcm_base.specs.declared.command.Call.TheVariants.{Line};
-ghost use Rattle.pcm_base.specs.declared.command.Command.TheVariants as command;
-ghost use Rattle.edit_ops.specs.Placing.{SumsFit};
-ghost use Rattle.edit_ops.specs.Plans.{AnswersTest, run_start_of};
-ghost use Rattle.edit_ops.specs.Runs.{AllTracksHalfFull, AreClips, ArePastes, layouts, paste_tests};
 ghost use Rattle.envelope_view.specs.Answers.{IsUndamaged};
 ghost use Rattle.editor_core.specs.Core.{core_of};
-ghost use Rattle.editor_core.specs.Pastes.{IsPastePlan, NoPastePlan, paste_cells, paste_length, paste_line};
+ghost use Rattle.editor_core.specs.Pastes.{IsPastePlan, NoPastePlan, paste_line};
 ghost use Rattle.editor_core.specs.Studios.{IsHeld, IsStudio};
 ghost use Rattle.editor_core.specs.Took.{Took, quietly, told_by};
 
@@ -17,38 +13,16 @@ use super::copies::run_from;
 use super::cuts::see_items;
 use super::laying::planned_run;
 use super::studio::Studio;
-use clip_track::Layout;
 use disk_model::Store;
-use edit_ops::{Plans, RunPlanner, Strips, paste, paste_over};
+use edit_ops::{RunPlanner, paste};
 use pcm_base::{Placing, Refusal};
 use piece_store::Given;
 use std::alloc::Global;
 
-// The plans of the tracks with the strips put in.
-fn plan_paste(
-    planner: RunPlanner,
-    run: &[&Layout],
-    clip: &Strips,
-    at: u64,
-    edit: Placing,
-) -> Result<Plans, Refusal>
-    requires half_full { AllTracksHalfFull planner.block_size (layouts run.now) }
-    requires clips { AreClips planner.block_size clip.now }
-    requires sums { SumsFit at clip.now (layouts run.now) }
-    ensures plans { IfOk result (λ v. ArePastes (paste_cells edit at) (run_start_of planner) clip.now
-        (take (length clip.now) (layouts run.now)) v) }
-    ensures tests { AnswersTest (paste_tests (paste_length edit at) clip.now (layouts run.now)) result }
-{
-    match edit {
-        Placing::Insert => paste(planner, run, Some(clip), at),
-        Placing::Cover => paste_over(planner, run, Some(clip), at),
-    }
-}
-
 impl<S: Store> Studio<S> {
-    /// Puts what was copied or cut in at a place, its first strip into this track, and each other one into the next
-    /// track: the cells behind it move on, and a shorter track is first continued by gaps. It answers the commit
-    /// number.
+    /// Puts what was copied or cut at a place, its first strip into this track, and each other one into the next track:
+    /// `Insert` moves the cells there on, `Cover` puts each strip in the place of as many. A shorter track is first
+    /// continued by gaps. It returns the commit number.
     ///
     /// # Errors
     ///
@@ -59,53 +33,24 @@ impl<S: Store> Studio<S> {
     /// has changed then. `Damaged` where the file of a block that is read is not as it has to be, and `DiskFault` where
     /// the disk failed: nothing but the next block's number has changed then, and after a failed change the studio is
     /// stopped.
-    pub fn paste(&mut self, alloc: Global, track: u64, at: u64) -> Result<u64, Refusal>
-        requires studio { IsStudio S.Store (core_of self.old) }
-        requires in_form { at < 2 ^ 63 }
-        ensures took { Took S.Store (core_of self.old)
-            (quietly (Line (command.Paste track at)) (told_by (λ _. reply.Done) result)) (core_of self.new) }
-        ensures number { IfOk result (λ n. n ≡ self.new.commit_number) }
-        ensures sound { IsHeld S.Store (core_of self.old) → IfErr result IsUndamaged }
-    {
-        self.paste_strips(alloc, track, at, Placing::Insert)
-    }
-
-    /// Puts what was copied or cut in the place of as many cells, its first strip into this track, and each other one
-    /// into the next track; a shorter track is first continued by gaps. It answers the commit number.
-    ///
-    /// # Errors
-    ///
-    /// Those of `paste`.
-    pub fn paste_over(&mut self, alloc: Global, track: u64, at: u64) -> Result<u64, Refusal>
-        requires studio { IsStudio S.Store (core_of self.old) }
-        requires in_form { at < 2 ^ 63 }
-        ensures took { Took S.Store (core_of self.old)
-            (quietly (Line (command.PasteOver track at)) (told_by (λ _. reply.Done) result)) (core_of self.new) }
-        ensures number { IfOk result (λ n. n ≡ self.new.commit_number) }
-        ensures sound { IsHeld S.Store (core_of self.old) → IfErr result IsUndamaged }
-    {
-        self.paste_strips(alloc, track, at, Placing::Cover)
-    }
-
-    // Puts the strips of the clipboard into a run.
-    fn paste_strips(
+    pub fn paste_strips(
         &mut self,
         alloc: Global,
         track: u64,
         at: u64,
-        edit: Placing,
+        placing: Placing,
     ) -> Result<u64, Refusal>
         requires studio { IsStudio S.Store (core_of self.old) }
         requires in_form { at < 2 ^ 63 }
         ensures took { Took S.Store (core_of self.old)
-            (quietly (Line (paste_line edit track at)) (told_by (λ _. reply.Done) result)) (core_of self.new) }
+            (quietly (Line (paste_line placing track at)) (told_by (λ _. reply.Done) result)) (core_of self.new) }
         ensures number { IfOk result (λ n. n ≡ self.new.commit_number) }
         ensures sound { IsHeld S.Store (core_of self.old) → IfErr result IsUndamaged }
     {
         if let Some(faults) = self.stopped {
             return Err(Refusal::Stopped { faults });
         }
-        let planned = self.planned_paste(alloc, track, at, edit)?;
+        let planned = self.planned_paste(alloc, track, at, placing)?;
         self.carry_out(planned, 0, &Given::Nothing)
     }
 
@@ -115,14 +60,14 @@ impl<S: Store> Studio<S> {
         alloc: Global,
         track: u64,
         at: u64,
-        edit: Placing,
+        placing: Placing,
     ) -> Result<Planned, Refusal>
         requires studio { IsStudio S.Store (core_of self.now) }
         requires in_form { at < 2 ^ 63 }
-        ensures plan { IfOk result (λ p. IsPastePlan edit track at (core_of self.now) p) }
+        ensures plan { IfOk result (λ p. IsPastePlan placing track at (core_of self.now) p) }
         ensures tracks { IfOk result (λ p. p.tracks ≡ 0) }
         ensures clip { IfOk result (λ p. p.clip ≡ None) }
-        ensures err { IfErr result (NoPastePlan edit track at (core_of self.now)) }
+        ensures err { IfErr result (NoPastePlan placing track at (core_of self.now)) }
     {
         let project = self.current();
         project.track(track)?;
@@ -136,7 +81,7 @@ impl<S: Store> Studio<S> {
             block_size: self.buffers.block_size(),
             next: self.next_block,
         };
-        let plans = plan_paste(planner, &run, clip, at, edit)?;
+        let plans = paste(planner, &run, Some(clip), placing, at)?;
         let planned = planned_run(alloc, project, track, plans, self.next_block, None)?;
         Ok(planned)
     }

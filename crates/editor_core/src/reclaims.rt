@@ -1,5 +1,6 @@
 // The files of blocks that nothing names.
 ghost use Rattle.std.specs.Prelude.{◌≡◌, ◌≤◌, ◌<◌, ◌^◌, ℕ, Some, IsSome};
+ghost use Rattle.pcm_base.specs.declared.limits.TheConstants.{COUNTER_LIMIT, FIRST_BLOCK};
 ghost use Rattle.block_ledger.specs.Entries.{count_of};
 ghost use Rattle.editor_core.specs.Core.{core_of};
 ghost use Rattle.editor_core.specs.Frees.{Reclaims};
@@ -43,8 +44,8 @@ impl<S: Store> Studio<S> {
     // Removes the files of the first blocks that nothing names, so many at most, and waits until they are gone. It
     // answers how many were removed, also where the disk failed.
     fn drop_first(&mut self, most: u64) -> (u64, Result<(), BlockFault>)
-        requires low { (id : ℕ) → IsSome (count_of self.old.ledger id) → 16 ≤ id }
-        requires high { (id : ℕ) → IsSome (count_of self.old.ledger id) → id < 2 ^ 62 }
+        requires low { (id : ℕ) → IsSome (count_of self.old.ledger id) → FIRST_BLOCK ≤ id }
+        requires high { (id : ℕ) → IsSome (count_of self.old.ledger id) → id < COUNTER_LIMIT }
         ensures { DropsFirst S.Store (core_of self.old) most result.0 result.1 (core_of self.new) }
     {
         let (count, removed) = self.remove_first(most);
@@ -57,8 +58,8 @@ impl<S: Store> Studio<S> {
     // Removes the files of the first blocks that nothing names, so many at most, without a sync. It answers how many
     // were removed, also where the disk failed.
     fn remove_first(&mut self, most: u64) -> (u64, Result<(), BlockFault>)
-        requires low { (id : ℕ) → IsSome (count_of self.old.ledger id) → 16 ≤ id }
-        requires high { (id : ℕ) → IsSome (count_of self.old.ledger id) → id < 2 ^ 62 }
+        requires low { (id : ℕ) → IsSome (count_of self.old.ledger id) → FIRST_BLOCK ≤ id }
+        requires high { (id : ℕ) → IsSome (count_of self.old.ledger id) → id < COUNTER_LIMIT }
         ensures { RemovesFirst S.Store (core_of self.old) 1 most result.0 result.1 (core_of self.new) }
     {
         let mut from = 0;
@@ -76,8 +77,8 @@ impl<S: Store> Studio<S> {
 
     // Removes the file of a block, without a sync, and its pages of the cache before.
     fn remove_unnamed(&mut self, id: u64) -> Result<(), BlockFault>
-        requires low { 16 ≤ id }
-        requires high { id < 2 ^ 62 }
+        requires low { FIRST_BLOCK ≤ id }
+        requires high { id < COUNTER_LIMIT }
         ensures { Drops S.Store (core_of self.old) id result (core_of self.new) }
     {
         remove_block_cached(&mut self.store, &mut self.cache, id)
@@ -85,7 +86,7 @@ impl<S: Store> Studio<S> {
 
     // Syncs the files of the first blocks that nothing names, so many at most.
     fn sync_first(&mut self, count: u64) -> Result<(), BlockFault>
-        requires { (id : ℕ) → IsSome (count_of self.old.ledger id) → id < 2 ^ 62 }
+        requires { (id : ℕ) → IsSome (count_of self.old.ledger id) → id < COUNTER_LIMIT }
         ensures { SyncsFirst S.Store (core_of self.old) count result (core_of self.new) }
     {
         let mut from = 0;

@@ -1,5 +1,6 @@
 // A point that is recorded under a tag: behind the current one, or in its place.
 ghost use Rattle.std.specs.Prelude.{◌≡◌, ℕ, ◌+◌, ◌≤◌, ◌<◌, ◌^◌, length};
+ghost use Rattle.pcm_base.specs.declared.limits.TheConstants.{COUNTER_LIMIT};
 ghost use Rattle.block_ledger.specs.Counts.{occurrences};
 ghost use Rattle.block_ledger.specs.Entries.{count_of};
 ghost use Rattle.pcm_base.specs.History.{amended, is_of_recording, recorded};
@@ -42,7 +43,7 @@ impl<S: Store> Studio<S> {
     // Records a point under a tag, with so many track ids given. Its blocks are named by it, and those of points that
     // go are named no more by them. It takes no memory.
     pub(crate) fn take_recorded(&mut self, point: Point, tag: u64, tracks: u64)
-        requires ids { self.old.next_track + tracks ≤ 2 ^ 62 }
+        requires ids { self.old.next_track + tracks ≤ COUNTER_LIMIT }
         requires there { HasIds (count_of self.old.ledger) (point_blocks point) }
         requires few { (id : ℕ) →
             occurrences (count_of self.old.ledger id) + times_named id (point_blocks point) < 2 ^ 128 }

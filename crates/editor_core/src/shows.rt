@@ -24,10 +24,7 @@ use block_store::BlockFault;
 use cell_view::read_cells;
 use clip_track::Layout;
 use disk_model::Store;
-use pcm_base::{Cell, Refusal};
-
-/// The most cells, or frames, that are shown at once.
-pub const MAX_VIEW: u64 = 4096;
+use pcm_base::{Cell, MAX_VIEW, Refusal};
 
 // Whether a range may be shown.
 pub(crate) fn may_view(from: u64, to: u64) -> Result<(), Refusal>
@@ -89,7 +86,7 @@ impl<S: Store> Studio<S> {
     ) -> Result<usize, Refusal>
         requires studio { IsStudio S.Store (core_of self.old) }
         // There is room for what may be shown.
-        requires room { min 4096 (to - from) ≤ length out.old }
+        requires room { min MAX_VIEW (to - from) ≤ length out.old }
         ensures { Sees S.Store (core_of self.old)
             (record { call = Line (Show track from to); reply = Cells; out = out.new; count = result })
             (core_of self.new) }

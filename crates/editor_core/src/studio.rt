@@ -27,6 +27,10 @@ pub struct Studio<S> {
     pub(crate) next_track: u64,
     pub(crate) next_pin: u64,
     pub(crate) commit_number: u64,
+    /// The journal's file, and the version and generation that its header has.
+    pub(crate) file: u64,
+    pub(crate) version: u32,
+    pub(crate) generation: u64,
     pub(crate) journal_end: u64,
     /// The count of the disk's faults at which a failed change stopped it.
     pub(crate) stopped: Option<u64>,

@@ -1,13 +1,13 @@
 // What an edit without new blocks does once its point is made: the record that tells it, and the point behind the
 // current one.
 ghost use Rattle.std.specs.Prelude.{◌≡◌, ℕ, ◌+◌, ◌≤◌, ◌<◌, ◌^◌, IfOk, OnOk, length};
+ghost use Rattle.pcm_base.specs.declared.limits.TheConstants.{COUNTER_LIMIT};
 ghost use Rattle.block_ledger.specs.Counts.{occurrences};
 ghost use Rattle.block_ledger.specs.Entries.{count_of};
 ghost use Rattle.pcm_base.specs.History.{edited};
 ghost use Rattle.project_state.specs.declared.body.Body.TheVariants.{Edit};
 ghost use Rattle.project_state.specs.Kept.{point_blocks, history_blocks};
-ghost use Rattle.project_state.specs.Spelling.{spelling};
-ghost use Rattle.editor_core.specs.Adding.{Adds};
+ghost use Rattle.editor_core.specs.Adding.{AddsBody};
 ghost use Rattle.editor_core.specs.Core.{core_of};
 ghost use Rattle.editor_core.specs.Occurrences.{HasAll, HasIds, Moves, times_named};
 
@@ -15,7 +15,7 @@ use super::counting::count_edit;
 use super::studio::Studio;
 use disk_model::Store;
 use pcm_base::{NoMemory, Refusal};
-use project_state::{Body, Point, body_len, write_body};
+use project_state::{Body, Point};
 
 impl<S: Store> Studio<S> {
     // Makes room in memory for one point more.
@@ -29,24 +29,24 @@ impl<S: Store> Studio<S> {
 
     // Writes the body of a record and adds it.
     pub(crate) fn commit_body(&mut self, body: &Body) -> Result<(), Refusal>
-        requires room { self.old.commit_number < 2 ^ 62 }
-        requires end { self.old.journal_end ≤ 2 ^ 62 }
-        ensures record { Adds S.Store (core_of self.old) (spelling body.now) result (core_of self.new) }
+        requires room { self.old.commit_number < COUNTER_LIMIT }
+        requires end { self.old.journal_end ≤ COUNTER_LIMIT }
+        ensures record { AddsBody S.Store (core_of self.old) body.now result (core_of self.new) }
         ensures history { self.new.history ≡ self.old.history }
         ensures ledger { self.new.ledger ≡ self.old.ledger }
     {
-        self.may_add(body_len(body) as u64)?;
-        write_body(body, &mut self.body)?;
+        self.may_record(body)?;
+        self.write_record(body)?;
         self.commit_written()
     }
 
     // The same of an edit that gives so many track ids; the point comes back.
     pub(crate) fn commit_point(&mut self, point: Point, tracks: u64) -> Result<Point, Refusal>
-        requires room { self.old.commit_number < 2 ^ 62 }
-        requires ids { self.old.next_track + tracks ≤ 2 ^ 62 }
-        requires end { self.old.journal_end ≤ 2 ^ 62 }
-        ensures record { Adds S.Store (core_of self.old)
-            (spelling (Edit 0 self.old.next_block (self.old.next_track + tracks) point)) result (core_of self.new) }
+        requires room { self.old.commit_number < COUNTER_LIMIT }
+        requires ids { self.old.next_track + tracks ≤ COUNTER_LIMIT }
+        requires end { self.old.journal_end ≤ COUNTER_LIMIT }
+        ensures record { AddsBody S.Store (core_of self.old)
+            (Edit 0 self.old.next_block (self.old.next_track + tracks) point) result (core_of self.new) }
         ensures same { IfOk result (λ p. p ≡ point) }
         ensures history { self.new.history ≡ self.old.history }
         ensures ledger { self.new.ledger ≡ self.old.ledger }
@@ -67,7 +67,7 @@ impl<S: Store> Studio<S> {
     // Puts a point behind the current one, with so many track ids given. Its blocks are named by it, and those of
     // points that go are named no more by them.
     pub(crate) fn take_point(&mut self, point: Point, tracks: u64)
-        requires ids { self.old.next_track + tracks ≤ 2 ^ 62 }
+        requires ids { self.old.next_track + tracks ≤ COUNTER_LIMIT }
         requires there { HasIds (count_of self.old.ledger) (point_blocks point) }
         requires few { (id : ℕ) →
             occurrences (count_of self.old.ledger id) + times_named id (point_blocks point) < 2 ^ 128 }

@@ -6,15 +6,14 @@ ghost use Rattle.editor_core.specs.Core.{core_of};
 ghost use Rattle.editor_core.specs.Studios.{IsStudio};
 ghost use Rattle.editor_core.specs.Took.{Took, quietly};
 
-use super::shows::MAX_VIEW;
 use super::studio::Studio;
 use disk_model::Store;
-use pcm_base::{Cell, CellList, Frame, Frames, Refusal, Reply};
+use pcm_base::{Cell, CellList, Frame, Frames, MAX_VIEW, Refusal, Reply};
 use std::alloc::Global;
 
 // How many cells or frames a range may show.
 fn view_len(from: u64, to: u64) -> usize
-    ensures value { result ≡ min 4096 (to - from) }
+    ensures value { result ≡ min MAX_VIEW (to - from) }
 {
     to.saturating_sub(from).min(MAX_VIEW) as usize
 }

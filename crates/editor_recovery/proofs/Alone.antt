@@ -1,23 +1,57 @@
--- Where no file is foreign, file 1 is absent.
-use Rattle.std.proofs.Common.{◌≡◌, ℕ, List, Option, Some, None, refl, sym, subst, arith}
-use Rattle.std.specs.Prelude.{IsSome}
+-- Whether a project is there.
+use Rattle.std.proofs.Common.{◌≡◌, ◌⊎◌, inl, inr, ⊎_elim, ◌∙◌, ℕ, Bool, true, false, refl, sym, subst, arith}
+use Rattle.std.specs.Prelude.{◌≤◌, ◌||◌, ◌↔◌, IsTrue}
 use Rattle.disk_model.specs.Disk.{Files, bytes_of}
-use Rattle.project_journal.specs.Choice.{IsNewest}
-use Rattle.project_journal.specs.Header.{IsProject}
+use Rattle.project_journal.specs.declared.fault.Damaged.{Damaged}
+use Rattle.project_journal.specs.Choice.{IsPicked}
+use Rattle.project_journal.specs.Header.{Form, IsForm, IsProject}
+use Rattle.project_journal.specs.Journal.{Log, HasLog}
 use Rattle.project_journal.specs.Start.{NoProject}
-use Rattle.editor_recovery.specs.Files.{NoForeign}
+use Rattle.project_journal.proofs.Chosen.{journal_project}
+use Rattle.project_journal.proofs.Picked.{zero_or_one}
+use Rattle.editor_recovery.specs.Opening.{HeaderFault}
+use Rattle.editor_recovery.specs.Standing.{HasNone, HasSome}
 
-none_there : (o : Option (List ℕ)) → (IsSome o → ⊥) → IsProject (bytes_of o) → ⊥
-none_there None none project = absurd (omega (arith, project.0))
-none_there (Some bytes) none project = none refl
+-- in one of both files
+pub some_in : (files : Files) (file : ℕ) → file ≤ 1 → IsProject (bytes_of (files file)) → HasSome files
+some_in files file few project = ⊎_elim
+    (λ first. inl (subst (λ (n : ℕ). IsProject (bytes_of (files n))) first project))
+    (λ second. inr (subst (λ (n : ℕ). IsProject (bytes_of (files n))) second project))
+    (zero_or_one file few)
 
--- so no project is in it
-pub alone : (files : Files) → NoForeign files → NoProject 1 files
-alone files none = none_there (files 1) (λ some. none 1 some refl)
+pub some_picked : (files : Files) (file : ℕ) → IsPicked file files → HasSome files
+some_picked files file picked = some_in files file picked.few picked.project
 
--- and a journal in file 0 is the newest
-pub newest : (generation : ℕ) (files : Files) → NoForeign files → IsNewest 0 generation files
-newest generation files none = λ project. absurd (alone files none project)
+pub some_refused : (files : Files) (file : ℕ) (d : Damaged) → HeaderFault files file d → HasSome files
+some_refused files file d (inl choice) = inl choice.first
+some_refused files file d (inr header) = some_picked files file header.picked
 
-pub alone_after : (old new : Files) → new ≡ old → NoForeign old → NoProject 1 new
-alone_after old new same none = subst (λ (f : Files). NoProject 1 f) (sym same) (alone old none)
+-- a disk without a project has no journal
+pub none_some : (files : Files) → HasNone files → HasSome files → ⊥
+none_some files none (inl first) = none.0 first
+none_some files none (inr second) = none.1 second
+
+pub none_log : (files : Files) (form : Form) (log : Log) → IsForm form → form.file ≤ 1 → HasLog form log files
+    → HasNone files → ⊥
+none_log files form log known few has none =
+    none_some files none (some_in files form.file few (journal_project form log files known has))
+
+-- neither file has one, and the second after calls that read
+pub none_after : (old new : Files) → new ≡ old → HasNone old → NoProject 1 new
+none_after old new same none = subst (λ (f : Files). NoProject 1 f) (sym same) none.1
+
+-- by a look at each
+pub either_there : (files : Files) (a b : Bool) → IsTrue a ↔ IsProject (bytes_of (files 0))
+    → IsTrue b ↔ IsProject (bytes_of (files 1)) → IsTrue (a || b) ↔ HasSome files
+either_there files true b p q = (λ t. inl (p.0 refl), λ some. refl)
+either_there files false true p q = (λ t. inr (q.0 refl), λ some. refl)
+either_there files false false p q = (
+  λ t. let no : false ≡ true = t in absurd cc,
+  λ some. ⊎_elim (λ first. p.1 first) (λ second. q.1 second) some,
+)
+
+pub none_false : (files : Files) (there : Bool) → there ≡ false → IsTrue there ↔ HasSome files → HasNone files
+none_false files there is same = (
+  λ first. let no : false ≡ true = sym is ∙ same.1 (inl first) in cc,
+  λ second. let no : false ≡ true = sym is ∙ same.1 (inr second) in cc,
+)

@@ -3,6 +3,7 @@ use Rattle.std.proofs.Common.{◌≡◌, Result, Ok, Err, refl, sym, ap, subst}
 use Rattle.std.specs.Prelude.{IfErr, IfOk}
 use Rattle.disk_model.specs.Disk.{Files}
 use Rattle.disk_model.specs.declared.store.Store.{Ghosts}
+use Rattle.project_journal.specs.Header.{Form}
 use Rattle.project_journal.specs.Journal.{Log}
 use Rattle.project_state.specs.Kept.{Kept, meant_history, opened}
 use Rattle.sample_block.specs.Sources.{sources_of}
@@ -38,10 +39,10 @@ module _ {D : Type 0} (store : D) (p : Parts) where
   new_studio = record { clipboard = refl; pins = refl; next_pin = refl; stopped = refl }
 
 -- what each image keeps is what the studio shows
-pub shows_found : {D : Type 0} (disk : Ghosts D) (store : D) (p : Parts) (files : Files) (log : Log) (kept : Kept)
-    → IsFound files log kept (found_in p) → disk.reads store ≡ files
+pub shows_found : {D : Type 0} (disk : Ghosts D) (store : D) (p : Parts) (files : Files) (form : Form) (log : Log)
+    (kept : Kept) → IsFound files form log kept (found_in p) → disk.reads store ≡ files
     → opened log kept files ≡ shown (studio_of disk (assembled store p))
-shows_found disk store p files log kept found same = λ i. record {
+shows_found disk store p files form log kept found same = λ i. record {
   rate = sym found.rate i;
   block_size = sym found.block_size i;
   history = meant_history (sources_of (sym same i)) (sym found.history i);

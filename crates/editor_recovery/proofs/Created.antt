@@ -1,5 +1,5 @@
 -- A project is made, and an honest disk stays honest.
-use Rattle.std.proofs.Common.{◌≡◌, ◌≢◌, ℕ, ◌≤◌, Bool, true, false, inl, inr, ⊎_elim, ◌⊎◌, List, [], ◌∷◌, Option, Some}
+use Rattle.std.proofs.Common.{◌≡◌, ◌≢◌, ℕ, zero, suc, ◌≤◌, Bool, true, false, inl, inr, ⊎_elim, ◌⊎◌, List, [], ◌∷◌, Option, Some}
 use Rattle.std.proofs.Common.{None, Result, Ok, Err, refl, sym, ap, subst, ◌∙◌, arith}
 use Rattle.std.specs.Prelude.{Contains, IsSome, IsTrue, IfErr, IfOk, OnOk}
 use Rattle.pcm_base.specs.declared.block.BlockRef.{BlockRef}
@@ -12,17 +12,19 @@ use Rattle.project_journal.specs.Header.{version_1}
 use Rattle.project_journal.specs.Gate.{EachNow}
 use Rattle.project_journal.specs.Journal.{Log, HasLog, IsAt, fresh}
 use Rattle.project_journal.specs.Start.{NoProject}
-use Rattle.project_journal.proofs.Kept.{is_project, each_has}
-use Rattle.project_journal.proofs.Once.{log_once}
+use Rattle.project_journal.proofs.Kept.{each_has}
 use Rattle.project_state.proofs.Unpacked.{keeps_led}
 use Rattle.project_state.specs.Kept as keeping
-use Rattle.project_state.specs.Kept.{new_project, LeadTo, history_blocks, Keeps}
+use Rattle.project_state.specs.Kept.{new_project, history_blocks, Keeps}
 use Rattle.editor_recovery.specs.declared.fault.OpenFault.{OpenFault}
 use Rattle.editor_recovery.specs.declared.fault.OpenFault.TheVariants as fault
 use Rattle.editor_recovery.specs.Listing.{TellsForeign}
 use Rattle.editor_recovery.specs.Creating.{new_opened, HasNoForeign, Creates, LeavesRefused}
 use Rattle.editor_recovery.specs.Files.{is_foreign, NoForeign}
 use Rattle.editor_recovery.specs.Honest.{Names, IsHonest}
+use Rattle.editor_recovery.specs.Standing.{HasNone, Stands}
+use Rattle.editor_recovery.proofs.Alone.{none_log}
+use Rattle.editor_recovery.proofs.Honest.{same_kept}
 
 -- the new journal is the new project
 pub keeps_new : (rate block_size depth : ℕ) (c : Files) → HasLog version_1 (fresh rate block_size depth) c
@@ -30,24 +32,48 @@ pub keeps_new : (rate block_size depth : ℕ) (c : Files) → HasLog version_1 (
 keeps_new rate block_size depth c has =
     keeps_led (fresh rate block_size depth) (new_project depth) c (new_opened rate block_size depth) has refl tt refl
 
+new_stands : (rate block_size depth : ℕ) (c : Files) → HasLog version_1 (fresh rate block_size depth) c
+    → Stands c version_1 (fresh rate block_size depth) (new_project depth)
+new_stands rate block_size depth c has = record {
+  known = inl refl;
+  few = omega arith;
+  there = has;
+  base = new_project depth;
+  begins = refl;
+  told = refl;
+}
+
 -- no point of it names a block
 no_names : (rate block_size depth : ℕ) (c : Files) (id : ℕ) → HasLog version_1 (fresh rate block_size depth) c
     → Names c id → ⊥
 no_names rate block_size depth c id has names =
-    let log = fresh rate block_size depth in
-    let same : names.log ≡ log = log_once version_1 names.log log c (inl refl) names.there has in
-    let told : names.kept ≡ new_project depth =
-    subst (λ (l : Log). LeadTo l.block_size (new_project l.depth) l.bodies names.kept) same names.told in
-    nothing (subst (λ (k : keeping.Kept). Contains (history_blocks k.history) names.block) told names.named)
+    let kept : names.kept ≡ new_project depth =
+    same_kept c names.form version_1 names.log (fresh rate block_size depth) names.kept (new_project depth) names.stands
+    (new_stands rate block_size depth c has) in
+    nothing (subst (λ (k : keeping.Kept). Contains (history_blocks k.history) names.block) kept names.named)
   where
     nothing : Contains [] names.block → ⊥
     nothing (k, lt, e) = omega (arith, lt)
 
-no_project_names : (c : Files) (id : ℕ) → NoProject 0 c → Names c id → ⊥
-no_project_names c id none names = none (is_project version_1 names.log c (omega arith) names.there)
+no_project_names : (c : Files) (id : ℕ) → HasNone c → Names c id → ⊥
+no_project_names c id none names =
+    none_log c names.form names.log names.stands.known names.stands.few names.stands.there none
 
-pub not_journal : (file : ℕ) → IsTrue (is_foreign file) → file ≢ 0
-not_journal file foreign = λ e. let no : false ≡ true = ap is_foreign (sym e) ∙ foreign in absurd cc
+pub not_journal : (file : ℕ) → IsTrue (is_foreign file) → 2 ≤ file
+not_journal zero foreign = let no : false ≡ true = foreign in absurd cc
+not_journal (suc zero) foreign = let no : false ≡ true = foreign in absurd cc
+not_journal (suc (suc file)) foreign = omega arith
+
+not_first : (file : ℕ) → 2 ≤ file → file ≢ 0
+not_first file high = λ e. omega (arith, high, e)
+
+-- at any moment no project is there, in either file, or the new one
+pub either_none : (files : Files) {P New : Type 0} → P ⊎ (NoProject 0 files ⊎ New) → P ⊎ NoProject 1 files
+    → P ⊎ (HasNone files ⊎ New)
+either_none files (inl p) other = inl p
+either_none files (inr (inr new)) other = inr (inr new)
+either_none files (inr (inl none)) (inl p) = inl p
+either_none files (inr (inl none)) (inr one) = inr (inl (none, one))
 
 module _ {D : Type 0} (disk : Ghosts D) (old new : D) where
   -- each image now was one before, but for what the calls did
@@ -76,11 +102,11 @@ module _ {D : Type 0} (disk : Ghosts D) (old new : D) where
       → Follows (SameElsewhere 0) (disk.clock old) (disk.clock new) (disk.may_leave old) (disk.may_leave new)
       → disk.keeps_model new ≡ disk.keeps_model old
       → ((c : Files) → disk.may_leave new (disk.clock old) c → disk.may_leave old (disk.clock old) c
-      ⊎ (NoProject 0 c ⊎ HasLog version_1 (fresh rate block_size depth) c))
+      ⊎ (HasNone c ⊎ HasLog version_1 (fresh rate block_size depth) c))
       → IsHonest disk old → IsHonest disk new
   made_honest rate block_size depth follows model any honest =
       let since = now_before follows in
-      let none : (c : Files) → (id : ℕ) → Names c id → NoProject 0 c ⊎ HasLog version_1 (fresh rate block_size depth) c
+      let none : (c : Files) → (id : ℕ) → Names c id → HasNone c ⊎ HasLog version_1 (fresh rate block_size depth) c
       → ⊥ =
       λ c id names other. ⊎_elim (λ none. no_project_names c id none names)
       (λ has. no_names rate block_size depth c id has names) other in
@@ -89,7 +115,7 @@ module _ {D : Type 0} (disk : Ghosts D) (old new : D) where
         foreign = λ c now file has foreign.
             let d = follows.from c (since c now) in
             honest.foreign d.0 d.1 file
-            (subst (λ (o : Option (List ℕ)). IsSome o) (d.2 file (not_journal file foreign)) has) foreign;
+            (subst (λ (o : Option (List ℕ)). IsSome o) (d.2 file (not_first file (not_journal file foreign))) has) foreign;
         whole = λ c now. ⊎_elim (honest.whole c)
             (λ other. ⊎_elim (λ none. inl none)
             (λ has. inr (new_opened rate block_size depth, keeps_new rate block_size depth c has)) other)
@@ -100,14 +126,23 @@ module _ {D : Type 0} (disk : Ghosts D) (old new : D) where
             (λ other. absurd (none c id p other)) (any c (since c nc));
       }
 
+-- what the creation of a journal says of both files
+pub any_or_none : {D : Type 0} (disk : Ghosts D) (rate block_size depth : ℕ) (mid new : D)
+    → ((c : Files) → disk.may_leave new (disk.clock mid) c → disk.may_leave mid (disk.clock mid) c
+    ⊎ (NoProject 0 c ⊎ HasLog version_1 (fresh rate block_size depth) c))
+    → ((c : Files) → disk.may_leave new (disk.clock mid) c → disk.may_leave mid (disk.clock mid) c ⊎ NoProject 1 c)
+    → (c : Files) → disk.may_leave new (disk.clock mid) c → disk.may_leave mid (disk.clock mid) c
+    ⊎ (HasNone c ⊎ HasLog version_1 (fresh rate block_size depth) c)
+any_or_none disk rate block_size depth mid new any other c since = either_none c (any c since) (other c since)
+
 -- calls that write nothing, and then a creation
 pub any_moment_both : {D : Type 0} (disk : Ghosts D) (rate block_size depth : ℕ) (old mid new : D)
     → Follows StaysStep (disk.clock old) (disk.clock mid) (disk.may_leave old) (disk.may_leave mid)
     → Follows (SameElsewhere 0) (disk.clock mid) (disk.clock new) (disk.may_leave mid) (disk.may_leave new)
     → ((c : Files) → disk.may_leave new (disk.clock mid) c → disk.may_leave mid (disk.clock mid) c
-    ⊎ (NoProject 0 c ⊎ HasLog version_1 (fresh rate block_size depth) c))
+    ⊎ (HasNone c ⊎ HasLog version_1 (fresh rate block_size depth) c))
     → (c : Files) → disk.may_leave new (disk.clock old) c → disk.may_leave old (disk.clock old) c
-    ⊎ (NoProject 0 c ⊎ Keeps c (new_opened rate block_size depth))
+    ⊎ (HasNone c ⊎ Keeps c (new_opened rate block_size depth))
 any_moment_both disk rate block_size depth old mid new f g any c since =
     ⊎_elim (λ early. inl (back early))
     (λ late.
@@ -152,7 +187,7 @@ foreign_told T files fault.NoMemory tells = tt
 foreign_told T files (fault.Foreign file) tells = tells
 foreign_told T files (fault.Damaged file at want have) tells = absurd tells
 
-pub none_there : {T : Type 0} (files : Files) (r : Result T OpenFault) → NoProject 0 files → HasNoForeign files r
+pub none_there : {T : Type 0} (files : Files) (r : Result T OpenFault) → HasNone files → HasNoForeign files r
     → Creates files r
 none_there files (Ok x) none has = (none, has)
 none_there files (Err fault.Absent) none has = absurd has
@@ -162,7 +197,7 @@ none_there files (Err fault.NoMemory) none has = tt
 none_there files (Err (fault.Foreign file)) none has = (none, has)
 none_there files (Err (fault.Damaged file at want have)) none has = absurd has
 
-pub created : {U : Type 0} (files : Files) (r : Result U OpenFault) → NoProject 0 files × NoForeign files
+pub created : {U : Type 0} (files : Files) (r : Result U OpenFault) → HasNone files × NoForeign files
     → IfErr r (λ e. e ≡ fault.DiskFault) → Creates files r
 created files (Ok y) creates e = creates
 created files (Err fault.Absent) creates is = absurd cc

@@ -1,43 +1,165 @@
 -- From the fold of a journal to what opening makes of it.
-use Rattle.std.proofs.Common.{◌≡◌, ℕ, map, Ok, subst, ◌∙◌}
+use Rattle.std.proofs.Common.{◌≡◌, ◌≤◌, ◌+◌, ◌^◌, ℕ, ◌⊎◌, inl, inr, ⊎_elim, List, [], ◌∷◌, map, length, Ok, Err, sym, ap, subst, ◌∙◌, arith}
 use Rattle.std.proofs.lemmas.List.{length-map}
 use Rattle.disk_model.specs.declared.store.Store.{Ghosts}
+use Rattle.project_journal.specs.declared.base.Base.{Base}
+use Rattle.project_journal.specs.declared.fault.JournalFault.{JournalFault}
+use Rattle.project_journal.specs.declared.fault.JournalFault.TheVariants as journal
 use Rattle.project_journal.specs.declared.reader.Reader.{Reader}
-use Rattle.project_journal.specs.Journal.{body_at}
-use Rattle.project_journal.proofs.Formats.{readable}
-use Rattle.project_state.specs.KeptSound.{IsSoundKept}
-use Rattle.project_state.proofs.KeptBounds.{kept_sound}
-use Rattle.record_fold.specs.Folds.{kept_of, Leads}
+use Rattle.project_journal.specs.Header.{Form, IsForm, form_1, form_of}
+use Rattle.project_journal.specs.Journal.{Contents, IsHeader, IsJournal, body_at, log_of}
+use Rattle.project_journal.specs.Readable.{IsReadable}
+use Rattle.project_journal.specs.Reader.{IsLater, reader_form}
+use Rattle.project_journal.proofs.AnyFormats.{HasBase, base_sound}
+use Rattle.project_journal.proofs.Bases.{plain}
+use Rattle.project_journal.proofs.Found.{read_whole}
+use Rattle.project_journal.proofs.Readables.{readable}
+use Rattle.project_state.specs.Kept.{Kept, Begins, LeadIn, new_project, version_of}
+use Rattle.project_state.proofs.KeptBounds.{lead_sound}
+use Rattle.record_fold.specs.Bases.{base_by, base_of}
+use Rattle.record_fold.specs.Folds.{kept_of, FoldsStored, IsValid, Leads}
+use Rattle.record_fold.specs.Heads.{HasFault, ReadsOn}
+use Rattle.record_fold.specs.declared.project.Project.{Project}
+use Rattle.record_fold.proofs.Based.{begun_depth, begun_valid}
+use Rattle.record_fold.proofs.Commits.{lead_commits, told_few}
+use Rattle.record_fold.proofs.Stepping.{valid_by}
+use Rattle.editor_core.specs.Studios.{AreJournalNumbers}
 use Rattle.editor_recovery.specs.declared.disk.Folded.{Folded}
-use Rattle.editor_recovery.specs.Finding.{FoldsDisk, IsSoundFolded}
+use Rattle.editor_recovery.specs.Finding.{FoldsDisk, IsSoundFolded, records_fault}
+use Rattle.editor_recovery.proofs.SoundParts.{format_of}
 
-module _ {D : Type 0} (disk : Ghosts D) where
-  -- a journal whose records have no fault
-  pub folds : (store : D) (reader : Reader) (f : Folded) → Leads disk store reader f.project → f.rate ≡ reader.rate
-      → f.block_size ≡ reader.block_size → f.end ≡ reader.at → FoldsDisk disk store (Ok f)
-  folds store reader f l rate size end = (
-    l.journal,
+-- a reader that read on reads the same form
+pub later_form : (old new : Reader) → IsLater old new → reader_form new ≡ reader_form old
+later_form old new later =
+    ap (λ (v : ℕ). form_of v new.window.file) later.version ∙ ap (form_of old.version) later.file
+
+-- the first fault of its journal, as it is told of the disk
+pub unfolded_as : {D : Type 0} (disk : Ghosts D) (store : D) (old new : Reader) (e : JournalFault)
+    → ReadsOn {T = Project} old new (Err e) → FoldsStored disk store new (Err e)
+    → FoldsDisk disk store (reader_form old) (Err (records_fault e))
+unfolded_as disk store old new (journal.Damaged file at want have) later folds =
+    subst (λ (form : Form). HasFault disk store form file (record { at = at; want = want; have = have }))
+    (later_form old new later) folds
+unfolded_as disk store old new journal.DiskFault later folds = tt
+unfolded_as disk store old new journal.NoMemory later folds = tt
+unfolded_as disk store old new journal.Absent later folds = absurd folds
+unfolded_as disk store old new journal.Exists later folds = absurd folds
+unfolded_as disk store old new (journal.SpaceSpent have need) later folds = absurd folds
+
+-- the numbers that a studio keeps of a journal
+numbers : (form : Form) (head : List ℕ) (j : Contents) (file version generation : ℕ) → IsForm form → form.file ≤ 1
+    → IsHeader form head (log_of j) → HasBase j.base → file ≡ form.file → version ≡ version_of form
+    → generation ≡ j.base.generation → AreJournalNumbers file version generation
+numbers form head j file version generation known few is bounds same version_is generation_is = ⊎_elim
+    (λ one.
+    let v : version ≡ 1 = version_is ∙ ap version_of one in
+    let none = (plain form.file head (log_of j) (subst (λ (f : Form). IsHeader f head (log_of j)) one is)).base in
+    record {
+      among = omega (arith, same, few);
+      version_least = omega (arith, v);
+      version_most = omega (arith, v);
+      generation_most = omega (arith, generation_is, bounds.generation);
+      first_version = λ first. generation_is ∙ ap (λ (b : Base). b.generation) none;
+    })
+    (λ two.
+    let v : version ≡ 2 = version_is ∙ ap version_of two in
+    record {
+      among = omega (arith, same, few);
+      version_least = omega (arith, v);
+      version_most = omega (arith, v);
+      generation_most = omega (arith, generation_is, bounds.generation);
+      first_version = λ first. absurd (omega (arith, first, v));
+    })
+    known
+
+-- a journal of version 1 begins without commits
+first_base : (j : Contents) → j.points ≡ [] → (base_of j).commit ≡ 0
+first_base j none =
+    ap (λ (ps : List (List ℕ)). (base_by ps j.depth j.base).commit) none
+
+-- records lead to 2^62 commits at most
+few_commits : (form : Form) (bytes : List ℕ) (j : Contents) (kept : Kept) → IsForm form
+    → (is : IsJournal form bytes j) → IsReadable j → HasBase j.base → Begins (log_of j) (base_of j)
+    → (base_of j).commit ≤ 2 ^ 62
+    → LeadIn (version_of form) j.block_size (base_of j) (map body_at j.records) kept → kept.commit ≤ 2 ^ 62
+few_commits form bytes j kept known is ready bounds begins base_few led = ⊎_elim
+    (λ one.
+    let head = is.spelled.head in
+    let none = (plain form.file head (log_of j) (subst (λ (f : Form). IsHeader f head (log_of j)) one
+    is.spelled.header)).points in
+    omega (
+      arith,
+      lead_commits (version_of form) j.block_size (base_of j) kept (map body_at j.records) led,
+      first_base j none,
+      length-map j.records body_at,
+      ready.records,
+      ready.end,
+    ))
+    (λ two.
+    let v : version_of form ≡ 2 = ap version_of two in
+    told_few (version_of form) j.block_size (base_of j) kept (map body_at j.records) (omega (arith, v)) base_few led)
+    known
+
+base_few : (points : List (List ℕ)) (depth : ℕ) (b : Base) → b.commit ≤ 2 ^ 62 → (base_by points depth b).commit ≤ 2 ^ 62
+base_few [] depth b few = omega arith
+base_few (p ∷ ps) depth b few = few
+
+module _ {D : Type 0} (disk : Ghosts D) (store : D) (reader : Reader) (f : Folded)
+    (l : Leads disk store reader f.project) (rate : f.rate ≡ reader.rate) (size : f.block_size ≡ reader.block_size)
+    (end : f.end ≡ reader.at) (file : f.file ≡ reader.window.file) (version : f.version ≡ version_of (reader_form reader))
+    (generation : f.generation ≡ reader.base.generation) where
+  abbrev form : Form
+  form = reader_form reader
+
+  abbrev j : Contents
+  j = l.journal
+
+  generation_is : f.generation ≡ j.base.generation
+  generation_is = generation ∙ ap (λ (b : Base). b.generation) l.base
+
+  -- a journal whose points and records have no fault
+  pub folds : FoldsDisk disk store form (Ok f)
+  folds = (
+    j,
     l.stored,
     record {
       rate = rate ∙ l.rate;
       block_size = size ∙ l.block_size;
+      file = file;
+      version = version;
+      generation = generation_is;
       end = end ∙ l.end;
       sound = l.fault;
       early = l.early;
+      begins = l.begins;
       leads = l.leads;
     },
   )
 
-  pub folded_sound : (store : D) (reader : Reader) (f : Folded) → Leads disk store reader f.project
-      → f.rate ≡ reader.rate → f.block_size ≡ reader.block_size → f.end ≡ reader.at → IsSoundFolded f
-  folded_sound store reader f l rate size end =
-      let j = l.journal in
+  pub folded_sound : IsSoundFolded f
+  folded_sound =
+      let known = l.stored.known in
+      let is = read_whole form l.stored.bytes j l.stored.read l.early in
+      let ready = readable form l.stored.bytes j known l.stored.few is in
+      let head = is.spelled.header in
+      let bounds : HasBase j.base = subst HasBase head.base (base_sound form is.spelled.head known head.sound) in
+      let base = base_of j in
+      let valid = begun_valid j.points (log_of j) base bounds l.begins in
+      let sound = lead_sound (version_of form) j.block_size base.history.depth base.commit base (kept_of f.project)
+      (map body_at j.records) l.leads valid in
+      let same_size : f.block_size ≡ j.block_size = size ∙ l.block_size in
+      let depth : f.project.history.history.depth ≡ j.depth =
+      sound.depth_is ∙ begun_depth j.points (log_of j) base l.begins in
       record {
-        journal = j;
-        readable = readable l.stored.bytes j l.stored.few l.stored.journal;
-        rate = rate ∙ l.rate;
-        block_size = size ∙ l.block_size;
-        end = end ∙ l.end;
-        kept = subst (λ (n : ℕ). IsSoundKept j.block_size j.depth n (kept_of f.project)) (length-map j.records body_at)
-            (kept_sound j.block_size j.depth (kept_of f.project) (map body_at j.records) l.leads);
+        format = format_of f.rate j.rate f.block_size j.block_size f.project.history.history.depth j.depth
+            (rate ∙ l.rate) same_size depth ready.format;
+        kept = subst (λ (m : ℕ). IsValid m (kept_of f.project)) (sym same_size)
+            (valid_by j.block_size base.history.depth (base.commit + length (map body_at j.records))
+            (kept_of f.project) sound);
+        commit = few_commits form l.stored.bytes j (kept_of f.project) known is ready bounds l.begins
+            (base_few j.points j.depth j.base bounds.commit) l.leads;
+        journal = numbers form is.spelled.head j f.file f.version f.generation known l.stored.among head bounds file
+            version generation_is;
+        end_least = omega (arith, end, l.end, ready.records);
+        end_most = omega (arith, end, l.end, ready.end);
       }

@@ -24,12 +24,12 @@ pub listed_small : (xs : List ℕ) (o : ℕ) → find is_foreign xs ≡ None →
 listed_small xs o none has = elim (cases_Bool (nat_le (2 ^ 62) o))
     [ inl t ↦ absurd (find_none is_foreign xs none o has (high_foreign o t)) | inr f ↦ leb-false (2 ^ 62) o f ]
 
-low_foreign : (o : ℕ) → nat_le 1 o ≡ true → nat_le o 15 ≡ true → is_foreign o ≡ true
+low_foreign : (o : ℕ) → nat_le 2 o ≡ true → nat_le o 15 ≡ true → is_foreign o ≡ true
 low_foreign o least most = rw least (rw most refl)
 
-pub listed_high : (xs : List ℕ) (o : ℕ) → find is_foreign xs ≡ None → Contains xs o → o ≢ 0 → 16 ≤ o
-listed_high xs o none has other = elim (cases_Bool (nat_le 1 o)) [
-  | inr f ↦ let lt = leb-false 1 o f in absurd (other (omega (arith, lt)))
+pub listed_high : (xs : List ℕ) (o : ℕ) → find is_foreign xs ≡ None → Contains xs o → 2 ≤ o → 16 ≤ o
+listed_high xs o none has other = elim (cases_Bool (nat_le 2 o)) [
+  | inr f ↦ let lt = leb-false 2 o f in absurd (omega (arith, lt, other))
   | inl t ↦ elim (cases_Bool (nat_le o 15)) [
     | inl u ↦ absurd (find_none is_foreign xs none o has (low_foreign o t u))
     | inr g ↦ let lt = leb-false o 15 g in omega (arith, lt)

@@ -14,22 +14,30 @@ use Rattle.sample_block.specs.Blocks.{blocks}
 use Rattle.sample_block.proofs.BlockLaws.{blocks_have}
 use Rattle.sample_block.proofs.Spellings.{spelled_size}
 use Rattle.sample_block.specs.Spelling.{size_of}
+use Rattle.project_journal.specs.declared.base.Base.{Base}
 use Rattle.project_journal.specs.declared.fault.Damaged.{Damaged}
+use Rattle.project_journal.specs.declared.fault.JournalFault.TheVariants as journal
+use Rattle.project_journal.specs.Fields.{field}
 use Rattle.project_journal.specs.Gate.{Each}
-use Rattle.project_journal.specs.Header.{IsProject, header_tests, first_failed, version_1}
-use Rattle.project_journal.specs.Journal.{Log, HasLog, IsAt, IsJournal, Contents, log_of, body_at}
-use Rattle.project_journal.specs.Start.{NoProject}
-use Rattle.project_journal.proofs.Found.{header_sound, whole_log}
-use Rattle.project_journal.proofs.Kept.{each_has, is_project}
-use Rattle.project_journal.proofs.Once.{log_once}
+use Rattle.project_journal.specs.Header.{Form, IsForm, form_of}
+use Rattle.project_journal.specs.Journal.{Log, HasLog, IsAt, IsRead, Contents, log_of, body_at}
+use Rattle.project_journal.proofs.AnyFormats.{HasBase, any_base, any_format}
+use Rattle.project_journal.proofs.Chosen.{one_journal}
+use Rattle.project_journal.proofs.Found.{form_told, found_header, log_picked, whole_log}
+use Rattle.project_journal.proofs.Kept.{each_has}
+use Rattle.project_journal.proofs.Picked.{picked_once}
+use Rattle.project_journal.proofs.ReadOnce.{read_form}
 use Rattle.project_state.specs.Kept as keeping
-use Rattle.project_state.specs.Kept.{Kept, new_project, LeadTo, history_blocks, meant_history, opened, Keeps}
+use Rattle.project_state.specs.Kept.{Begins, Kept, LeadIn, Keeps, history_blocks, meant_history, opened, version_of}
 use Rattle.sample_block.specs.Sources.{sources_of, IsWhole}
 use Rattle.project_state.proofs.KeptBounds.{all_append}
+use Rattle.project_state.proofs.KeptOnce.{begins_once}
+use Rattle.project_state.proofs.Leading.{lead_once_in}
 use Rattle.project_state.proofs.Meanings.{same_meaning, IsSame}
-use Rattle.project_state.proofs.Unpacked.{log_format, kept_once, led_from_new, keeps_led}
-use Rattle.record_fold.specs.Faults.{journal_fault, first_fault}
-use Rattle.record_fold.proofs.Sound.{leading_sound}
+use Rattle.record_fold.specs.Bases.{base_of}
+use Rattle.record_fold.specs.Faults.{first_fault_in, journal_fault}
+use Rattle.record_fold.proofs.HeaderSound.{points_sound}
+use Rattle.record_fold.proofs.Sound.{leading_sound_in}
 use Rattle.block_ledger.specs.Entries.{count_of}
 use Rattle.editor_core.specs.Parts.{HasParts, assembled}
 use Rattle.editor_core.specs.Studios.{SameBlocks, named_blocks}
@@ -39,8 +47,10 @@ use Rattle.editor_recovery.specs.declared.fault.OpenFault.TheVariants as fault
 use Rattle.editor_recovery.specs.Files.{NoForeign, IsFirstForeign}
 use Rattle.editor_recovery.specs.Found.{Found, found_in}
 use Rattle.editor_recovery.specs.Sizes.{HasSize, AllHaveSize, IsFirstWrong, file_size}
-use Rattle.editor_recovery.specs.Opening.{HasProject, HeaderFault, RecordFault, SizeFault, FirstFault, Finds, Opens}
+use Rattle.editor_recovery.specs.Opening.{HeaderFault, RecordFault, SizeFault, FirstFault, Finds, Opens}
 use Rattle.editor_recovery.specs.Honest.{Names, IsHonest, FindsKept, OpensHonest}
+use Rattle.editor_recovery.specs.Standing.{Stands}
+use Rattle.editor_recovery.proofs.Alone.{none_log, none_some}
 
 -- a whole block's file has its size
 pub whole_size : (files : Files) (b : BlockRef) → IsWhole files b → HasSize files b
@@ -53,65 +63,127 @@ all_sizes : (files : Files) (bs : List BlockRef) → AllByRecursion (IsWhole fil
 all_sizes files [] all = tt
 all_sizes files (b ∷ bs) all = (whole_size files b all.0, all_sizes files bs all.1)
 
--- A project by the log and the records that are known of it.
-pub record KeepsLog (log : Log) (kept : Kept) (files : Files) : Type 0 where
-  pub there : HasLog version_1 log files
-  pub told : LeadTo log.block_size (new_project log.depth) log.bodies kept
-  pub whole : AllByRecursion (IsWhole files) (history_blocks kept.history)
+-- a disk has one project at most in its journal
+pub record IsOne (f g : Form) (a b : Log) (k l : Kept) : Type 0 where
+  pub form : f ≡ g
+  pub log : a ≡ b
+  pub kept : k ≡ l
 
--- what a disk keeps is what its journal's records lead to
-pub keeps_log : (log : Log) (kept : Kept) (files : Files) (found : keeping.Opened) → HasLog version_1 log files
-    → LeadTo log.block_size (new_project log.depth) log.bodies kept → Keeps files found → KeepsLog log kept files
-keeps_log log kept files found has told keeps =
-    let same : keeps.log ≡ log = log_once version_1 keeps.log log files (inl refl) keeps.there has in
-    let lead : LeadTo log.block_size (new_project log.depth) log.bodies keeps.kept =
-    subst (λ (l : Log). LeadTo l.block_size (new_project l.depth) l.bodies keeps.kept) same
-    (led_from_new files found keeps) in
-    let one : keeps.kept ≡ kept = kept_once log keeps.kept kept files has lead told in
+pub stands_once : (files : Files) (f g : Form) (a b : Log) (k l : Kept) → Stands files f a k → Stands files g b l
+    → IsOne f g a b k l
+stands_once files f g a b k l p q =
+    let same = one_journal f g a b files p.known q.known p.few q.few p.there q.there in
+    let format = any_format g b files q.known q.there in
+    let begins : Begins b p.base = subst (λ (x : Log). Begins x p.base) same.log p.begins in
+    let base : p.base ≡ q.base = begins_once b format (any_base g b files q.known q.there) p.base q.base begins q.begins in
+    let version = version_of g in
+    let led : LeadIn version b.block_size q.base b.bodies k =
+    subst (λ (x : Kept). LeadIn version b.block_size x b.bodies k) base
+    (subst (λ (x : Log). LeadIn version x.block_size p.base x.bodies k) same.log
+    (subst (λ (x : Form). LeadIn (version_of x) a.block_size p.base a.bodies k) same.form p.told)) in
     record {
-      there = has;
-      told = told;
-      whole = subst (λ (k : Kept). AllByRecursion (IsWhole files) (history_blocks k.history)) one keeps.whole;
+      form = same.form;
+      log = same.log;
+      kept = lead_once_in version b.block_size b.bodies q.base k l format.block_least (omega (arith, format.block_most))
+          led q.told;
     }
 
--- and no other of its names
-pub leads_of : (files : Files) (found : keeping.Opened) → (keeps : Keeps files found)
-    → KeepsLog keeps.log keeps.kept files
-leads_of files found keeps =
-    record { there = keeps.there; told = led_from_new files found keeps; whole = keeps.whole }
+pub same_kept : (files : Files) (f g : Form) (a b : Log) (k l : Kept) → Stands files f a k → Stands files g b l → k ≡ l
+same_kept files f g a b k l p q = (stands_once files f g a b k l p q).kept
 
-no_header_fault : (log : Log) (kept : Kept) (files : Files) (file : ℕ) (d : Damaged) → KeepsLog log kept files
-    → HeaderFault files file d → ⊥
-no_header_fault log kept files file d keeps f =
-    let e : None ≡ Some d = sym (header_sound log files keeps.there) ∙ f.1 in absurd cc
+-- A project whose blocks are whole.
+pub record KeepsLog (form : Form) (log : Log) (kept : Kept) (files : Files) : Type 0 where
+  pub stands : Stands files form log kept
+  pub whole : AllByRecursion (IsWhole files) (history_blocks kept.history)
 
--- records that lead to a project have no fault
-pub records_sound : (log : Log) (kept : Kept) (files : Files) (j : Contents) → HasLog version_1 log files
-    → LeadTo log.block_size (new_project log.depth) log.bodies kept → IsJournal version_1 (bytes_of (files 0)) j
-    → journal_fault j ≡ None
-records_sound log kept files j there told is =
-    let same = whole_log log files j there is in
-    let format = log_format log files there in
-    let lead : LeadTo j.block_size (new_project j.depth) (map body_at j.records) kept =
-    subst (λ (l : Log). LeadTo l.block_size (new_project l.depth) l.bodies kept) (sym same.says) told in
-    let size : j.block_size ≡ log.block_size = ap (λ (l : Log). l.block_size) same.says in
-    let none : first_fault j.block_size (new_project j.depth) j.records ≡ None =
-    leading_sound j.block_size (new_project j.depth) kept j.records
-    (omega (arith, size, format.block_least)) (omega (arith, size, format.block_most)) lead in
-    ap (λ (o : Option Damaged). option_or o j.early) none ∙ same.early
+-- what a disk keeps
+pub stands_kept : (files : Files) (found : keeping.Opened) → (keeps : Keeps files found)
+    → Stands files keeps.form keeps.keeps.log keeps.keeps.kept
+stands_kept files found keeps = record {
+  known = keeps.known;
+  few = keeps.few;
+  there = keeps.keeps.there;
+  base = keeps.keeps.base;
+  begins = keeps.keeps.begins;
+  told = keeps.keeps.told;
+}
 
-no_record_fault : (log : Log) (kept : Kept) (files : Files) (file : ℕ) (d : Damaged) → KeepsLog log kept files
-    → RecordFault files file d → ⊥
-no_record_fault log kept files file d keeps f =
-    let e : None ≡ Some d = sym (records_sound log kept files f.0 keeps.there keeps.told f.1) ∙ f.3 in absurd cc
+-- is what stands in its journal
+pub keeps_log : (form : Form) (log : Log) (kept : Kept) (files : Files) (found : keeping.Opened)
+    → Stands files form log kept → Keeps files found → KeepsLog form log kept files
+keeps_log form log kept files found stands keeps = record {
+  stands = stands;
+  whole = subst (λ (k : Kept). AllByRecursion (IsWhole files) (history_blocks k.history))
+      (same_kept files keeps.form form keeps.keeps.log log keeps.keeps.kept kept (stands_kept files found keeps) stands)
+      keeps.keeps.whole;
+}
 
-no_size_fault : (log : Log) (kept : Kept) (files : Files) (file : ℕ) (d : Damaged) → KeepsLog log kept files
-    → SizeFault files file d → ⊥
-no_size_fault log kept files file d keeps f =
-    let same : log ≡ f.log = log_once version_1 log f.log files (inl refl) keeps.there f.there in
-    let lead : LeadTo f.log.block_size (new_project f.log.depth) f.log.bodies kept =
-    subst (λ (l : Log). LeadTo l.block_size (new_project l.depth) l.bodies kept) same keeps.told in
-    let one : kept ≡ f.kept = kept_once f.log kept f.kept files f.there lead f.told in
+-- and back
+keeps_as : (form : Form) (log : Log) (kept : Kept) (files : Files) (found : keeping.Opened)
+    → KeepsLog form log kept files → found ≡ opened log kept files → Keeps files found
+keeps_as form log kept files found is same = record {
+  form = form;
+  known = is.stands.known;
+  few = is.stands.few;
+  keeps = record {
+    log = log;
+    base = is.stands.base;
+    kept = kept;
+    there = is.stands.there;
+    begins = is.stands.begins;
+    told = is.stands.told;
+    whole = is.whole;
+    is = same;
+  };
+}
+
+pub no_header_fault : (files : Files) (form : Form) (log : Log) (kept : Kept) (file : ℕ) (d : Damaged)
+    → Stands files form log kept → HeaderFault files file d → ⊥
+no_header_fault files form log kept file d stands =
+    found_header form log files (Err (journal.Damaged file d.at d.want d.have)) stands.known stands.few stands.there
+
+-- points and records that lead to a project have no fault
+records_sound : (files : Files) (form : Form) (log : Log) (kept : Kept) (j : Contents) → Stands files form log kept
+    → IsRead form (bytes_of (files form.file)) j → journal_fault form j ≡ None
+records_sound files form log kept j stands is =
+    let known = stands.known in
+    let whole = whole_log form log files j known stands.there is in
+    let format = any_format form log files known stands.there in
+    let bounds = any_base form log files known stands.there in
+    let size : j.block_size ≡ log.block_size = ap (λ (l : Log). l.block_size) whole.says in
+    let begins : Begins (log_of j) stands.base =
+    subst (λ (l : Log). Begins l stands.base) (sym whole.says) stands.begins in
+    let lead : LeadIn (version_of form) j.block_size stands.base (map body_at j.records) kept =
+    subst (λ (l : Log). LeadIn (version_of form) l.block_size stands.base l.bodies kept) (sym whole.says) stands.told in
+    let least : 4 ≤ j.block_size = omega (arith, size, format.block_least) in
+    let most : j.block_size < 2 ^ 32 = omega (arith, size, format.block_most) in
+    let points = points_sound form j stands.base least most
+    (subst (λ (b : Base). HasBase b) (sym (ap (λ (l : Log). l.base) whole.says)) bounds) begins in
+    let none : first_fault_in (version_of form) j.block_size (base_of j) j.records ≡ None =
+    subst (λ (k : Kept). first_fault_in (version_of form) j.block_size k j.records ≡ None) points.same
+    (leading_sound_in (version_of form) j.block_size stands.base kept j.records least most lead) in
+    ap (λ (o : Option Damaged). option_or o
+    (option_or (first_fault_in (version_of form) j.block_size (base_of j) j.records) j.early)) points.none
+    ∙ ap (λ (o : Option Damaged). option_or o j.early) none ∙ whole.early
+
+pub no_record_fault : (files : Files) (form : Form) (log : Log) (kept : Kept) (file : ℕ) (d : Damaged)
+    → Stands files form log kept → RecordFault files file d → ⊥
+no_record_fault files form log kept file d stands f =
+    let picked = log_picked form log files stands.known stands.few stands.there in
+    let same : f.form ≡ form = sym (read_form f.form (bytes_of (files f.form.file)) f.journal f.known f.read)
+    ∙ ap (λ (n : ℕ). form_of (field 5 4 (bytes_of (files n))) n)
+    (picked_once f.form.file form.file files f.picked picked) ∙ form_told form log files stands.known stands.there in
+    let read : IsRead form (bytes_of (files form.file)) f.journal =
+    subst (λ (x : Form). IsRead x (bytes_of (files x.file)) f.journal) same f.read in
+    let first : journal_fault form f.journal ≡ Some d =
+    subst (λ (x : Form). journal_fault x f.journal ≡ Some d) same f.first in
+    let e : None ≡ Some d = sym (records_sound files form log kept f.journal stands read) ∙ first in
+    absurd cc
+
+no_size_fault : (form : Form) (log : Log) (kept : Kept) (files : Files) (file : ℕ) (d : Damaged)
+    → KeepsLog form log kept files → SizeFault files file d → ⊥
+no_size_fault form log kept files file d keeps f =
+    let one : kept ≡ f.kept = same_kept files form f.form log f.log kept f.kept keeps.stands f.stands in
     let whole : AllByRecursion (IsWhole files) (history_blocks f.kept.history) =
     subst (λ (k : Kept). AllByRecursion (IsWhole files) (history_blocks k.history)) one keeps.whole in
     f.first.wrong (All-contains (HasSize files) (history_blocks f.kept.history) f.block
@@ -122,30 +194,34 @@ no_size_fault log kept files file d keeps f =
 pub no_fault : (files : Files) (found : keeping.Opened) (file : ℕ) (d : Damaged) → Keeps files found
     → FirstFault files file d → ⊥
 no_fault files found file d keeps f =
-    let is = leads_of files found keeps in
-    ⊎_elim (no_header_fault keeps.log keeps.kept files file d is) (⊎_elim
-    (no_record_fault keeps.log keeps.kept files file d is) (no_size_fault keeps.log keeps.kept files file d is)) f
+    let form = keeps.form in
+    let log = keeps.keeps.log in
+    let kept = keeps.keeps.kept in
+    let stands = stands_kept files found keeps in
+    ⊎_elim (no_header_fault files form log kept file d stands) (⊎_elim
+    (no_record_fault files form log kept file d stands)
+    (no_size_fault form log kept files file d (record { stands = stands; whole = keeps.keeps.whole }))) f
 
 samples_same : (c d : Files) (id : ℕ) → blocks c id ≡ blocks d id → (sources_of c).block id ≡ (sources_of d).block id
 samples_same c d id e = ap (λ (b : Option (List ℤ)). λ (i : ℕ). slice_index_or (unwrap_or b []) i (pos 0)) e
 
-names : (log : Log) (kept : Kept) (files : Files) → KeepsLog log kept files → (b : BlockRef)
+names : (form : Form) (log : Log) (kept : Kept) (files : Files) → KeepsLog form log kept files → (b : BlockRef)
     → Contains (history_blocks kept.history) b → Names files b.id
-names log kept files is b has =
-    record { log = log; kept = kept; there = is.there; told = is.told; block = b; named = has; is = refl }
+names form log kept files is b has =
+    record { form = form; log = log; kept = kept; stands = is.stands; block = b; named = has; is = refl }
 
 each_of : (P : BlockRef → Type 0) (bs : List BlockRef) → ((b : BlockRef) → Contains bs b → P b) → AllByRecursion P bs
 each_of P bs f = recursion_from_All P bs (λ k d lt. f (slice_index_or bs k d) (All-contains_itself bs k d lt))
 
 -- each block that both name is the same in both
-pub opened_same : (log : Log) (kept : Kept) (c d : Files)
-    → ((id : ℕ) → Names c id → Names d id → blocks c id ≡ blocks d id) → KeepsLog log kept c → KeepsLog log kept d
-    → opened log kept c ≡ opened log kept d
-opened_same log kept c d same p q =
+pub opened_same : (form : Form) (log : Log) (kept : Kept) (c d : Files)
+    → ((id : ℕ) → Names c id → Names d id → blocks c id ≡ blocks d id) → KeepsLog form log kept c
+    → KeepsLog form log kept d → opened log kept c ≡ opened log kept d
+opened_same form log kept c d same p q =
     let bs = history_blocks kept.history in
     let all : AllByRecursion (IsSame (sources_of c) (sources_of d)) bs =
     each_of (IsSame (sources_of c) (sources_of d)) bs
-    (λ b has. samples_same c d b.id (same b.id (names log kept c p b has) (names log kept d q b has))) in
+    (λ b has. samples_same c d b.id (same b.id (names form log kept c p b has) (names form log kept d q b has))) in
     ap (λ h. record {
       rate = log.rate;
       block_size = log.block_size;
@@ -161,6 +237,13 @@ file_same c d b whole same =
     let other = blocks_have d b.id whole.0 (sym same ∙ whole.1) in
     has.file ∙ ap (λ (bytes : List ℕ). Some bytes) (has.spelled.1 ∙ sym other.spelled.1) ∙ sym other.file
 
+-- the version and the file are the form
+form_again : (form : Form) → IsForm form → form_of (version_of form) form.file ≡ form
+form_again form known = ⊎_elim
+    (λ one. ap (λ (f : Form). form_of (version_of f) form.file) one ∙ sym one)
+    (λ two. ap (λ (f : Form). form_of (version_of f) form.file) two ∙ sym two)
+    known
+
 -- Over an honest disk, calls that write nothing, and an answer that is right of the disk as it reads.
 module _ {D : Type 0} (disk : Ghosts D) (old new : D) (honest : IsHonest disk old)
     (here : disk.may_leave old (disk.clock old) (disk.reads old))
@@ -172,54 +255,68 @@ module _ {D : Type 0} (disk : Ghosts D) (old new : D) (honest : IsHonest disk ol
       subst (disk.may_leave old (disk.clock old)) (sym d.2) d.1
 
   -- each image with this journal keeps the same records and their blocks, as they read
-  image_leads : (log : Log) (kept : Kept) (c : Files) → KeepsLog log kept (disk.reads old)
-      → disk.may_leave old (disk.clock old) c → HasLog version_1 log c → KeepsLog log kept c
-  image_leads log kept c keeps image has =
+  image_leads : (form : Form) (log : Log) (kept : Kept) (c : Files) → KeepsLog form log kept (disk.reads old)
+      → disk.may_leave old (disk.clock old) c → HasLog form log c → KeepsLog form log kept c
+  image_leads form log kept c keeps image has =
+      let stands : Stands c form log kept = record {
+        known = keeps.stands.known;
+        few = keeps.stands.few;
+        there = has;
+        base = keeps.stands.base;
+        begins = keeps.stands.begins;
+        told = keeps.stands.told;
+      } in
       let found : (found : keeping.Opened) × Keeps c found = ⊎_elim
-      (λ none. absurd (none (is_project version_1 log c (omega arith) has))) (λ f. f) (honest.whole c image) in
-      keeps_log log kept c found.0 has keeps.told found.1
+      (λ none. absurd (none_log c form log stands.known stands.few has none)) (λ f. f) (honest.whole c image) in
+      keeps_log form log kept c found.0 stands found.1
 
-  image_blocks : (log : Log) (kept : Kept) (c : Files) → KeepsLog log kept (disk.reads old)
-      → disk.may_leave old (disk.clock old) c → HasLog version_1 log c
+  image_blocks : (form : Form) (log : Log) (kept : Kept) (c : Files) → KeepsLog form log kept (disk.reads old)
+      → disk.may_leave old (disk.clock old) c → HasLog form log c
       → SameBlocks (history_blocks kept.history) (disk.reads old) c
-  image_blocks log kept c keeps image has =
+  image_blocks form log kept c keeps image has =
       let files = disk.reads old in
       let bs = history_blocks kept.history in
-      let is = image_leads log kept c keeps image has in
+      let is = image_leads form log kept c keeps image has in
       each_of (λ b. c b.id ≡ files b.id) bs (λ b there. file_same c files b
       (All-contains (IsWhole c) bs b (All-from_recursion (IsWhole c) bs is.whole) there)
-      (honest.same c image files here b.id (names log kept c is b there) (names log kept files keeps b there)))
+      (honest.same c image files here b.id (names form log kept c is b there)
+      (names form log kept files keeps b there)))
 
   -- and so the same project
-  image_keeps : (log : Log) (kept : Kept) (c : Files) → KeepsLog log kept (disk.reads old)
-      → disk.may_leave old (disk.clock old) c → HasLog version_1 log c → Keeps c (opened log kept (disk.reads old))
-  image_keeps log kept c keeps image has =
-      let is = image_leads log kept c keeps image has in
-      keeps_led log kept c (opened log kept (disk.reads old)) is.there is.told is.whole
-      (opened_same log kept (disk.reads old) c (honest.same (disk.reads old) here c image) keeps is)
+  image_keeps : (form : Form) (log : Log) (kept : Kept) (c : Files) → KeepsLog form log kept (disk.reads old)
+      → disk.may_leave old (disk.clock old) c → HasLog form log c → Keeps c (opened log kept (disk.reads old))
+  image_keeps form log kept c keeps image has =
+      let is = image_leads form log kept c keeps image has in
+      keeps_as form log kept c (opened log kept (disk.reads old)) is
+      (opened_same form log kept (disk.reads old) c (honest.same (disk.reads old) here c image) keeps is)
 
   -- a disk on which a project was found keeps it
-  found_leads : (f : Found) → (opens : Finds (disk.reads old) f) → KeepsLog opens.log opens.kept (disk.reads old)
+  found_leads : (f : Found) → (opens : Finds (disk.reads old) f)
+      → KeepsLog opens.form opens.log opens.kept (disk.reads old)
   found_leads f opens =
-      let has = opens.project.there in
+      let stands = opens.project.stands in
       let found : (found : keeping.Opened) × Keeps (disk.reads old) found =
-      ⊎_elim (λ none. absurd (none (is_project version_1 opens.log (disk.reads old) (omega arith) has))) (λ f. f)
-      (honest.whole (disk.reads old) here) in
-      keeps_log opens.log opens.kept (disk.reads old) found.0 has opens.project.told found.1
+      ⊎_elim (λ none. absurd (none_log (disk.reads old) opens.form opens.log stands.known stands.few stands.there none))
+      (λ f. f) (honest.whole (disk.reads old) here) in
+      keeps_log opens.form opens.log opens.kept (disk.reads old) found.0 stands found.1
 
   pub found_kept : (r : Result Found OpenFault) → Opens (disk.reads old) r
-      → ((log : Log) → HasLog version_1 log (disk.reads old) → (f : Found) → r ≡ Ok f
-      → Each (disk.may_leave new (disk.clock new)) (HasLog version_1 log))
+      → ((form : Form) (log : Log) → IsForm form → form.file ≤ 1 → HasLog form log (disk.reads old) → (f : Found)
+      → r ≡ Ok f → Each (disk.may_leave new (disk.clock new)) (HasLog form log))
       → OpensHonest disk old new r
   found_kept (Ok f) opens rest =
+      let form = opens.form in
       let log = opens.log in
       let kept = opens.kept in
       let is = found_leads f opens in
+      let stands = is.stands in
       record {
+        form = form;
         log = log;
         kept = kept;
-        keeps = keeps_led log kept (disk.reads old) (opened log kept (disk.reads old)) is.there is.told is.whole refl;
-        each = λ c now. image_keeps log kept c is (before c now) (rest log opens.project.there f refl c now);
+        keeps = keeps_as form log kept (disk.reads old) (opened log kept (disk.reads old)) is refl;
+        each = λ c now. image_keeps form log kept c is (before c now)
+            (rest form log stands.known stands.few stands.there f refl c now);
         found = opens.found;
       }
   found_kept (Err fault.Absent) opens rest = opens
@@ -229,7 +326,7 @@ module _ {D : Type 0} (disk : Ghosts D) (old new : D) (honest : IsHonest disk ol
   found_kept (Err (fault.Foreign file)) opens rest =
       honest.foreign (disk.reads old) here file opens.1.there opens.1.foreign
   found_kept (Err (fault.Damaged file at want have)) opens rest =
-      ⊎_elim (λ none. none opens.0) (λ found. no_fault (disk.reads old) found.0 file (record {
+      ⊎_elim (λ none. none_some (disk.reads old) none opens.0) (λ found. no_fault (disk.reads old) found.0 file (record {
         at = at;
         want = want;
         have = have;
@@ -237,13 +334,13 @@ module _ {D : Type 0} (disk : Ghosts D) (old new : D) (honest : IsHonest disk ol
 
   -- what a studio of the parts asks of the disk
   module _ (p : Parts) (opens : Finds (disk.reads old) (found_in p)) (same : disk.reads new ≡ disk.reads old)
-      (tells : IsTrue (disk.tells new)) (rest : IsAt version_1 disk new p.journal_end opens.log) where
+      (tells : IsTrue (disk.tells new)) (rest : IsAt opens.form disk new p.journal_end opens.log) where
     blocks_now : (c : Files) → disk.may_leave new (disk.clock new) c
         → SameBlocks (named_blocks (assembled new p)) (disk.reads new) c
     blocks_now c now =
         let Same : BlockRef → Type 0 = λ b. c b.id ≡ disk.reads new b.id in
         let there =
-        image_blocks opens.log opens.kept c (found_leads (found_in p) opens) (before c now) (each_has rest c now) in
+        image_blocks opens.form opens.log opens.kept c (found_leads (found_in p) opens) (before c now) (each_has rest c now) in
         let read : AllByRecursion Same (history_blocks opens.kept.history) =
         subst (λ (f : Files). SameBlocks (history_blocks opens.kept.history) f c) (sym same) there in
         all_append Same (history_blocks p.history.history) []
@@ -253,6 +350,9 @@ module _ {D : Type 0} (disk : Ghosts D) (old new : D) (honest : IsHonest disk ol
     has_parts =
         let found = opens.found in
         let is = found_leads (found_in p) opens in
+        let form : form_of p.version p.file ≡ opens.form =
+        ap (λ (v : ℕ). form_of v p.file) found.version ∙ ap (form_of (version_of opens.form)) found.file
+        ∙ form_again opens.form is.stands.known in
         let whole : AllByRecursion (IsWhole (disk.reads new)) (history_blocks opens.kept.history) =
         subst (λ (f : Files). AllByRecursion (IsWhole f) (history_blocks opens.kept.history)) (sym same) is.whole in
         record {
@@ -260,9 +360,13 @@ module _ {D : Type 0} (disk : Ghosts D) (old new : D) (honest : IsHonest disk ol
           whole = subst (λ h. AllByRecursion (IsWhole (disk.reads new)) (history_blocks h)) (sym found.history) whole;
           durable = record {
             log = opens.log;
+            base = is.stands.base;
             kept = opens.kept;
-            there = rest;
-            told = opens.project.told;
+            there = subst (λ (x : Form). IsAt x disk new p.journal_end opens.log) (sym form) rest;
+            generation = sym found.generation;
+            begins = is.stands.begins;
+            told = subst (λ (x : Form). LeadIn (version_of x) opens.log.block_size is.stands.base opens.log.bodies
+                opens.kept) (sym form) is.stands.told;
             rate = sym found.rate;
             block_size = sym found.block_size;
             history = sym found.history;
@@ -274,7 +378,7 @@ module _ {D : Type 0} (disk : Ghosts D) (old new : D) (honest : IsHonest disk ol
               λ has. subst (λ (f : Files). IsSome (f id)) (sym same) (found.ledger.only id has).0,
               λ has. subst (λ (o : Option ℕ). IsSome o)
                   (sym (found.ledger.there id (subst (λ (f : Files). IsSome (f id)) same has)
-                  (λ zero_id. omega (arith, least, zero_id)))) refl,
+                  (omega (arith, least)))) refl,
             );
           };
         }

@@ -145,7 +145,7 @@ times_same (b ∷ bs) id = ap (λ (n : ℕ). (if b.id == id then 1 else 0) + n) 
 
 each_there : (files : List ℕ) (bs : List BlockRef) (counts : Counts) → IsCounted files bs counts
     → (some : List BlockRef)
-    → AllByRecursion (λ b. (b.id ≢ 0) × Contains files b.id) some → AllByRecursion (λ b. IsSome (counts b.id)) some
+    → AllByRecursion (λ b. (2 ≤ b.id) × Contains files b.id) some → AllByRecursion (λ b. IsSome (counts b.id)) some
 each_there files bs counts is [] all = tt
 each_there files bs counts is (b ∷ some) all = (
   subst (λ (o : Option ℕ). IsSome o) (sym (is.there b.id all.0.1 all.0.0)) refl,
@@ -154,7 +154,7 @@ each_there files bs counts is (b ∷ some) all = (
 
 -- each id is counted as often as the blocks name it, where each of these is a file but file 0
 pub fresh : (files : List ℕ) (bs : List BlockRef) (counts : Counts) → IsCounted files bs counts
-    → AllByRecursion (λ b. (b.id ≢ 0) × Contains files b.id) bs → IsFreshCount (ids_of bs) counts
+    → AllByRecursion (λ b. (2 ≤ b.id) × Contains files b.id) bs → IsFreshCount (ids_of bs) counts
 fresh files bs counts is all = λ id. ⊎_elim
     (λ none. ap (λ (o : Option ℕ). ledger.occurrences o) none
     ∙ sym (times_same bs id ∙ none_occurs counts id bs none (each_there files bs counts is bs all)))

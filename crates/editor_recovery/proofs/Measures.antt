@@ -83,13 +83,13 @@ pub named_listed : {T : Type 0} (files : List ℕ) (sizes : ℕ → ℕ) (ps : L
     → All (λ p. All (λ b. IsBlock b.id b.len) (point_blocks p.0)) ps
     → ((file : ℕ) → (sizes file ≡ 0) ⊎ Contains files file)
     → TestsMeasured sizes (all_blocks ps) r
-    → OnOk r (All (λ p. All (λ b. (b.id ≢ 0) × Contains files b.id) (point_blocks p.0)) ps)
+    → OnOk r (All (λ p. All (λ b. (2 ≤ b.id) × Contains files b.id) (point_blocks p.0)) ps)
 named_listed files sizes ps (Err e) blocks listed tests = tt
 named_listed files sizes ps (Ok x) blocks listed tests =
-    let P : BlockRef → Type 0 = λ b. (b.id ≢ 0) × Contains files b.id in
+    let P : BlockRef → Type 0 = λ b. (2 ≤ b.id) × Contains files b.id in
     all_points P ps (both_all IsBlockRef (IsRight sizes) P (all_blocks ps)
     (λ b block right. (
-      λ zero_id. omega (arith, block.id_low, zero_id),
+      omega (arith, block.id_low),
       ⊎_elim (λ none. absurd (omega (arith, none, right))) (λ has. has) (listed b.id),
     ))
     (all_flat IsBlockRef ps blocks) (right_there sizes (all_blocks ps) tests))

@@ -1,40 +1,24 @@
 -- The first fault of a disk is one.
-use Rattle.std.proofs.Common.{◌≡◌, ◌≤◌, ℕ, inl, inr, ⊎_elim, ◌⊎◌, List, ◌++◌, take, Option, Some, None, refl, sym, ap}
-use Rattle.std.proofs.Common.{subst, ◌∙◌, arith, append_assoc}
-use Rattle.std.proofs.lemmas.List.{take_at}
-use Rattle.std.specs.List.{flat_map}
+use Rattle.std.proofs.Common.{◌≡◌, ◌≤◌, ℕ, List, inl, inr, ◌⊎◌, Option, Some, None, sym, ap, subst, ◌∙◌, arith}
 use Rattle.pcm_base.specs.declared.block.BlockRef.{BlockRef}
 use Rattle.disk_model.specs.Disk.{Files, bytes_of}
 use Rattle.sample_block.specs.Spelling.{size_of}
 use Rattle.project_journal.specs.declared.fault.Damaged.{Damaged}
-use Rattle.project_journal.specs.Header.{header_tests, first_failed, version_1}
-use Rattle.project_journal.specs.Journal.{Log, Contents, IsJournal, entry, log_of}
-use Rattle.project_journal.proofs.Bases.{plain}
-use Rattle.project_journal.proofs.Found.{header_sound}
-use Rattle.project_journal.proofs.Once.{journal_once, log_once}
-use Rattle.project_journal.proofs.Parses.{tests_take}
-use Rattle.project_state.specs.Kept.{Kept, new_project, LeadTo, history_blocks}
-use Rattle.project_state.proofs.Unpacked.{kept_once}
+use Rattle.project_journal.specs.Choice.{FailsIn}
+use Rattle.project_journal.specs.Fields.{field}
+use Rattle.project_journal.specs.Header.{Form, first_failed, form_of}
+use Rattle.project_journal.specs.Journal.{IsRead}
+use Rattle.project_journal.proofs.Picked.{no_choice_fault, picked_once}
+use Rattle.project_journal.proofs.ReadOnce.{read_form, read_once, read_sound}
+use Rattle.project_state.specs.Kept.{Kept, history_blocks}
 use Rattle.record_fold.specs.Faults.{journal_fault}
 use Rattle.editor_recovery.specs.Laws.{HasOneFault}
 use Rattle.editor_recovery.specs.Opening.{HeaderFault, RecordFault, SizeFault}
 use Rattle.editor_recovery.specs.Sizes.{IsUpTo, IsFirstWrong, file_size}
-use Rattle.editor_recovery.proofs.Honest.{records_sound}
+use Rattle.editor_recovery.proofs.Honest.{no_header_fault, no_record_fault, same_kept}
 
 some_is : (d e : Damaged) → Some d ≡ Some e → d ≡ e
 some_is d e same = cc
-
--- a header that stands before records has no fault
-header_of : (bytes : List ℕ) (j : Contents) → IsJournal version_1 bytes j → first_failed (header_tests bytes) ≡ None
-header_of bytes j is =
-    let log = is.spelled in
-    let all = flat_map entry log.entries in
-    let parts : bytes ≡ log.head ++ (all ++ is.rest) =
-    is.parts ∙ ap (λ (l : List ℕ). l ++ is.rest) log.parts ∙ append_assoc log.head all is.rest in
-    let head : take 32 bytes ≡ log.head = ap (take 32) parts ∙ take_at log.head (all ++ is.rest) 32
-    (plain 0 log.head (log_of j) log.header).size in
-    ap first_failed (sym (tests_take bytes)) ∙ ap (λ (l : List ℕ). first_failed (header_tests l)) head
-    ∙ log.header.sound
 
 same_block : (a b : BlockRef) → IsUpTo a b → IsUpTo b a → a ≡ b
 same_block a b (inl p) (inl q) = absurd (omega (arith, p, q))
@@ -44,32 +28,63 @@ same_block a b (inr p) (inr q) =
     let len : a.len ≡ b.len = omega (arith, p.1, q.1) in
     λ i. record { id = p.0 i; len = len i }
 
+-- the first test of the choice that fails is in one file
+one_choice : (first second : List ℕ) (f g : ℕ) (d e : Damaged) → FailsIn first second f d → FailsIn first second g e
+    → (f ≡ g) × (d ≡ e)
+one_choice first second f g d e (inl p) (inl q) = (p.0 ∙ sym q.0, some_is d e (sym p.1 ∙ q.1))
+one_choice first second f g d e (inl p) (inr q) = let no : None ≡ Some d = sym q.1 ∙ p.1 in absurd cc
+one_choice first second f g d e (inr p) (inl q) = let no : None ≡ Some e = sym p.1 ∙ q.1 in absurd cc
+one_choice first second f g d e (inr p) (inr q) = (p.0 ∙ sym q.0, some_is d e (sym p.2 ∙ q.2))
+
+-- the first test that fails of the header of a file
+abbrev header_fails : Files → ℕ → Option Damaged
+header_fails files n = first_failed ((form_of (field 5 4 (bytes_of (files n))) n).tests (bytes_of (files n)))
+
 module _ (files : Files) (f g : ℕ) (d e : Damaged) where
   headers : HeaderFault files f d → HeaderFault files g e → (f ≡ g) × (d ≡ e)
-  headers p q = (p.0 ∙ sym q.0, some_is d e (sym p.1 ∙ q.1))
+  headers (inl p) (inl q) = one_choice (bytes_of (files 0)) (bytes_of (files 1)) f g d e p.fails q.fails
+  headers (inl p) (inr q) = absurd (no_choice_fault g files f d q.picked p)
+  headers (inr p) (inl q) = absurd (no_choice_fault f files g e p.picked q)
+  headers (inr p) (inr q) =
+      let same : f ≡ g = picked_once f g files p.picked q.picked in
+      (same, some_is d e (sym p.fails ∙ ap (header_fails files) same ∙ q.fails))
 
   header_records : HeaderFault files f d → RecordFault files g e → ⊥
-  header_records p q =
-      let no : None ≡ Some d = sym (header_of (bytes_of (files 0)) q.0 q.1) ∙ p.1 in absurd cc
+  header_records (inl p) q = no_choice_fault q.form.file files f d q.picked p
+  header_records (inr p) q =
+      let bytes = bytes_of (files q.form.file) in
+      let form = read_form q.form bytes q.journal q.known q.read in
+      let sound : header_fails files q.form.file ≡ None =
+      ap (λ (x : Form). first_failed (x.tests bytes)) form ∙ read_sound q.form bytes q.journal q.known q.read in
+      let no : None ≡ Some d = sym sound
+      ∙ sym (ap (header_fails files) (picked_once f q.form.file files p.picked q.picked)) ∙ p.fails in
+      absurd cc
 
   header_sizes : HeaderFault files f d → SizeFault files g e → ⊥
-  header_sizes p q = let no : None ≡ Some d = sym (header_sound q.log files q.there) ∙ p.1 in absurd cc
+  header_sizes p q = no_header_fault files q.form q.log q.kept f d q.stands p
 
   records : RecordFault files f d → RecordFault files g e → (f ≡ g) × (d ≡ e)
   records p q =
-      let same : p.0 ≡ q.0 = journal_once version_1 (bytes_of (files 0)) p.0 q.0 (inl refl) p.1 q.1 in
-      (p.2 ∙ sym q.2, some_is d e (sym p.3 ∙ ap journal_fault same ∙ q.3))
+      let file : p.form.file ≡ q.form.file = picked_once p.form.file q.form.file files p.picked q.picked in
+      let bytes = bytes_of (files q.form.file) in
+      let form : p.form ≡ q.form =
+      sym (read_form p.form (bytes_of (files p.form.file)) p.journal p.known p.read)
+      ∙ ap (λ (n : ℕ). form_of (field 5 4 (bytes_of (files n))) n) file
+      ∙ read_form q.form bytes q.journal q.known q.read in
+      let read : IsRead q.form bytes p.journal =
+      subst (λ (x : Form). IsRead x (bytes_of (files x.file)) p.journal) form p.read in
+      let one = read_once q.form bytes p.journal q.journal q.known read q.read in (
+        p.same ∙ file ∙ sym q.same,
+        some_is d e (sym p.first ∙ ap (λ (x : Form). journal_fault x p.journal) form
+            ∙ ap (journal_fault q.form) one ∙ q.first),
+      )
 
   record_sizes : RecordFault files f d → SizeFault files g e → ⊥
-  record_sizes p q =
-      let no : None ≡ Some d = sym (records_sound q.log q.kept files p.0 q.there q.told p.1) ∙ p.3 in absurd cc
+  record_sizes p q = no_record_fault files q.form q.log q.kept f d q.stands p
 
   sizes : SizeFault files f d → SizeFault files g e → (f ≡ g) × (d ≡ e)
   sizes p q =
-      let same : p.log ≡ q.log = log_once version_1 p.log q.log files (inl refl) p.there q.there in
-      let lead : LeadTo q.log.block_size (new_project q.log.depth) q.log.bodies p.kept =
-      subst (λ (l : Log). LeadTo l.block_size (new_project l.depth) l.bodies p.kept) same p.told in
-      let one : p.kept ≡ q.kept = kept_once q.log p.kept q.kept files q.there lead q.told in
+      let one : p.kept ≡ q.kept = same_kept files p.form q.form p.log q.log p.kept q.kept p.stands q.stands in
       let first : IsFirstWrong files (history_blocks q.kept.history) p.block =
       subst (λ (k : Kept). IsFirstWrong files (history_blocks k.history) p.block) one p.first in
       let block : p.block ≡ q.block = same_block p.block q.block (first.first q.block q.first.named q.first.wrong)

@@ -3,13 +3,18 @@ use Rattle.std.proofs.Common.{◌≡◌, ℕ, inl, inr, List, None, Some, Result
 use Rattle.std.specs.Prelude.{IfErr, IfOk, IsTrue}
 use Rattle.pcm_base.specs.declared.block.BlockRef.{BlockRef}
 use Rattle.disk_model.specs.Disk.{Files, bytes_of}
-use Rattle.project_journal.specs.Header.{IsProject, header_tests, first_failed, version_1}
-use Rattle.project_journal.specs.Journal.{Contents, HasLog, IsJournal, log_of}
 use Rattle.disk_model.specs.declared.store.Store.{Ghosts}
+use Rattle.project_journal.specs.Choice.{IsNewest, IsPicked}
+use Rattle.project_journal.specs.Header.{Form}
+use Rattle.project_journal.specs.Journal as journal
+use Rattle.project_journal.specs.Journal.{Contents, HasLog, log_of}
+use Rattle.project_journal.specs.Opening.{IsOpened}
 use Rattle.project_journal.specs.Reader.{IsStored}
 use Rattle.project_journal.specs.declared.fault.Damaged.{Damaged}
-use Rattle.project_journal.proofs.Found.{log_there, stored_here}
+use Rattle.project_journal.specs.declared.reader.Reader.{Reader}
+use Rattle.project_journal.proofs.Found.{journal_generation, log_there, read_whole, stored_here}
 use Rattle.project_state.specs.Kept.{history_blocks}
+use Rattle.record_fold.specs.Bases.{base_of}
 use Rattle.record_fold.specs.Folds.{kept_of}
 use Rattle.editor_recovery.specs.declared.disk.Disk.{Disk}
 use Rattle.editor_recovery.specs.declared.disk.Folded.{Folded}
@@ -19,11 +24,12 @@ use Rattle.editor_recovery.specs.declared.fault.OpenFault.TheVariants as fault
 use Rattle.editor_recovery.specs.Listing.{AreFiles, Lists, TellsForeign}
 use Rattle.editor_recovery.specs.Files.{NoForeign}
 use Rattle.editor_recovery.specs.Found.{answer_in, found_in}
-use Rattle.editor_recovery.specs.Finding.{IsFoldOf, TestsMeasured, TestsSizes, ArePartsOf}
-use Rattle.editor_recovery.specs.Opening.{Opens}
+use Rattle.editor_recovery.specs.Finding.{FoldsDisk, IsFoldOf, TestsMeasured, TestsSizes, ArePartsOf}
+use Rattle.editor_recovery.specs.Opening.{HeaderFault, Opens}
 use Rattle.editor_recovery.specs.Reading.{IsRead, ReadsDisk, Refuses}
 use Rattle.editor_recovery.specs.Sizes.{AllHaveSize, file_size}
-use Rattle.editor_recovery.proofs.Alone.{newest}
+use Rattle.editor_recovery.specs.Standing.{Stands}
+use Rattle.editor_recovery.proofs.Alone.{some_picked, some_refused}
 use Rattle.editor_recovery.proofs.Ledgers.{ledger_of}
 use Rattle.editor_recovery.proofs.Listed.{next_block}
 use Rattle.editor_recovery.proofs.Wrong.{all_right, one_wrong}
@@ -40,21 +46,63 @@ unread files fault.NoMemory read = tt
 unread files (fault.Foreign file) read = read
 unread files (fault.Damaged file at want have) read = (read.0, read.1, inl read.2)
 
--- a journal that is stored, as its files are read
-pub stored_read : {D : Type 0} (disk : Ghosts D) (store : D) (files : Files) (j : Contents) (listed : List ℕ)
-    → disk.reads store ≡ files → IsTrue (disk.tells store) → IsStored disk store j → AreFiles files listed
-    → NoForeign files
-    → IsRead files j listed
-stored_read disk store files j listed same tells stored are foreign =
-    let here = stored_here disk store j stored tells in
-    let is = subst (λ (f : Files). IsProject (bytes_of (f 0)) × IsJournal version_1 (bytes_of (f 0)) j) same here in
-    record { project = is.0; journal = is.1; listed = are; foreign = foreign }
+-- a journal that is stored in the file that is chosen, as its files are read
+pub stored_read : {D : Type 0} (disk : Ghosts D) (store : D) (files : Files) (form : Form) (j : Contents)
+    (listed : List ℕ) → disk.reads store ≡ files → IsTrue (disk.tells store) → IsStored disk store form j
+    → IsPicked form.file files → AreFiles files listed → NoForeign files → IsRead files form j listed
+stored_read disk store files form j listed same tells stored picked are foreign =
+    let here = stored_here disk store form j stored tells in
+    record {
+      known = stored.known;
+      picked = picked;
+      read = subst (λ (f : Files). journal.IsRead form (bytes_of (f form.file)) j) same here.1;
+      listed = are;
+      foreign = foreign;
+    }
+
+-- its first fault
+pub not_folded : {D : Type 0} (disk : Ghosts D) (store : D) (files : Files) (form : Form) (e : OpenFault)
+    → disk.reads store ≡ files → IsTrue (disk.tells store) → IsPicked form.file files → NoForeign files
+    → FoldsDisk disk store form (Err e) → Opens files (Err e)
+not_folded disk store files form fault.Absent same tells picked foreign folds = absurd folds
+not_folded disk store files form fault.Exists same tells picked foreign folds = absurd folds
+not_folded disk store files form fault.DiskFault same tells picked foreign folds = tt
+not_folded disk store files form fault.NoMemory same tells picked foreign folds = tt
+not_folded disk store files form (fault.Foreign file) same tells picked foreign folds = absurd folds
+not_folded disk store files form (fault.Damaged file at want have) same tells picked foreign folds = (
+  some_picked files form.file picked,
+  foreign,
+  inr (inl (record {
+    form = form;
+    known = folds.1.known;
+    picked = picked;
+    journal = folds.0;
+    read = subst (λ (f : Files). journal.IsRead form (bytes_of (f form.file)) folds.0) same
+        (stored_here disk store form folds.0 folds.1 tells).1;
+    same = folds.2;
+    first = folds.3;
+  })),
+)
 
 -- the journal that was read to a gate that is 0 is the disk's
-log_of_read : (files : Files) (j : Contents) (listed : List ℕ) → IsRead files j listed → j.early ≡ None
-    → HasLog version_1 (log_of j) files
-log_of_read files j listed is whole =
-    log_there version_1 files j is.project is.journal whole (newest j.base.generation files is.foreign)
+log_of_read : (files : Files) (form : Form) (j : Contents) (listed : List ℕ) → IsRead files form j listed
+    → j.early ≡ None → HasLog form (log_of j) files
+log_of_read files form j listed is early =
+    let bytes = bytes_of (files form.file) in
+    let whole = read_whole form bytes j is.read early in
+    log_there form files j is.picked.project whole early (subst (λ (g : ℕ). IsNewest form.file g files)
+    (journal_generation form bytes j is.known whole) is.picked.newest)
+
+stands_read : (files : Files) (form : Form) (j : Contents) (listed : List ℕ) (f : Folded) → IsRead files form j listed
+    → IsFoldOf form j f → Stands files form (log_of j) (kept_of f.project)
+stands_read files form j listed f is fold = record {
+  known = is.known;
+  few = is.picked.few;
+  there = log_of_read files form j listed is fold.early;
+  base = base_of j;
+  begins = fold.begins;
+  told = fold.leads;
+}
 
 -- the sizes of files
 pub measured : {T : Type 0} (files : Files) (sizes : ℕ → ℕ) (bs : List BlockRef) (r : Result T OpenFault)
@@ -69,38 +117,37 @@ measured files sizes bs (Err (fault.Damaged file at want have)) same tests =
     (tests.0, one_wrong files sizes bs tests.0 same tests.1, tests.2, tests.3, tests.4, tests.5 ∙ same tests.0.id)
 
 -- a block's file that has not its size
-pub unsized : (files : Files) (j : Contents) (listed : List ℕ) (f : Folded) (e : OpenFault) → IsRead files j listed
-    → IsFoldOf j f → TestsSizes {T = Unit {0}} files (history_blocks f.project.history.history) (Err e)
-    → Opens files (Err e)
-unsized files j listed f fault.Absent is fold tests = absurd tests
-unsized files j listed f fault.Exists is fold tests = absurd tests
-unsized files j listed f fault.DiskFault is fold tests = tt
-unsized files j listed f fault.NoMemory is fold tests = tt
-unsized files j listed f (fault.Foreign file) is fold tests = absurd tests
-unsized files j listed f (fault.Damaged file at want have) is fold tests =
-    let b = tests.0 in (
-      is.project,
-      is.foreign,
-      inr (inr (record {
-        log = log_of j;
-        kept = kept_of f.project;
-        there = log_of_read files j listed is fold.early;
-        told = fold.leads;
-        block = b;
-        first = tests.1;
-        tells = (tests.2, λ i. record { at = tests.3 i; want = tests.4 i; have = tests.5 i });
-      })),
-    )
+pub unsized : (files : Files) (form : Form) (j : Contents) (listed : List ℕ) (f : Folded) (e : OpenFault)
+    → IsRead files form j listed → IsFoldOf form j f
+    → TestsSizes {T = Unit {0}} files (history_blocks f.project.history.history) (Err e) → Opens files (Err e)
+unsized files form j listed f fault.Absent is fold tests = absurd tests
+unsized files form j listed f fault.Exists is fold tests = absurd tests
+unsized files form j listed f fault.DiskFault is fold tests = tt
+unsized files form j listed f fault.NoMemory is fold tests = tt
+unsized files form j listed f (fault.Foreign file) is fold tests = absurd tests
+unsized files form j listed f (fault.Damaged file at want have) is fold tests = (
+  some_picked files form.file is.picked,
+  is.foreign,
+  inr (inr (record {
+    form = form;
+    log = log_of j;
+    kept = kept_of f.project;
+    stands = stands_read files form j listed f is fold;
+    block = tests.0;
+    first = tests.1;
+    tells = (tests.2, λ i. record { at = tests.3 i; want = tests.4 i; have = tests.5 i });
+  })),
+)
 
 -- and none
-parts_open : (files : Files) (j : Contents) (listed : List ℕ) (f : Folded) (p : Parts) → IsRead files j listed
-    → IsFoldOf j f → AllHaveSize files (history_blocks f.project.history.history) → ArePartsOf listed f p
-    → Opens files (Ok (found_in p))
-parts_open files j listed f p is fold sizes parts = record {
+parts_open : (files : Files) (form : Form) (j : Contents) (listed : List ℕ) (f : Folded) (p : Parts)
+    → IsRead files form j listed → IsFoldOf form j f → AllHaveSize files (history_blocks f.project.history.history)
+    → ArePartsOf listed f p → Opens files (Ok (found_in p))
+parts_open files form j listed f p is fold sizes parts = record {
+  form = form;
   log = log_of j;
   kept = kept_of f.project;
-  project =
-      record { there = log_of_read files j listed is fold.early; told = fold.leads; sizes = sizes };
+  project = record { stands = stands_read files form j listed f is fold; sizes = sizes };
   found = record {
     rate = parts.rate ∙ fold.rate;
     block_size = parts.block_size ∙ fold.block_size;
@@ -109,56 +156,60 @@ parts_open files j listed f p is fold sizes parts = record {
     next_block = next_block files listed f.project.next_block p.next_block is.listed parts.next_block;
     next_track = parts.next_track;
     commit = parts.commit;
+    file = parts.file ∙ fold.file;
+    version = parts.version ∙ fold.version;
+    generation = parts.generation ∙ fold.generation;
   };
   foreign = is.foreign;
 }
 
-pub parts_result : (files : Files) (j : Contents) (listed : List ℕ) (f : Folded) (r : Result Parts OpenFault)
-    → IsRead files j listed → IsFoldOf j f → AllHaveSize files (history_blocks f.project.history.history)
+pub parts_result : (files : Files) (form : Form) (j : Contents) (listed : List ℕ) (f : Folded)
+    (r : Result Parts OpenFault) → IsRead files form j listed → IsFoldOf form j f
+    → AllHaveSize files (history_blocks f.project.history.history)
     → IfOk r (ArePartsOf listed f) → IfErr r (λ e. e ≡ fault.NoMemory) → Opens files (answer_in r)
-parts_result files j listed f (Ok p) is fold sizes parts memory = parts_open files j listed f p is fold sizes parts
-parts_result files j listed f (Err e) is fold sizes parts memory =
+parts_result files form j listed f (Ok p) is fold sizes parts memory =
+    parts_open files form j listed f p is fold sizes parts
+parts_result files form j listed f (Err e) is fold sizes parts memory =
     subst (λ (x : OpenFault). Opens files (Err x)) (sym memory) tt
 
 -- a listing beside a header without faults
-pub with_listing : (files : Files) (r : Result Disk OpenFault) → IsProject (bytes_of (files 0))
-    → Lists files (λ d. d.files.items) r → ReadsDisk files r
-with_listing files (Ok d) project lists = (project, lists.0, lists.1)
-with_listing files (Err fault.Absent) project lists = absurd lists
-with_listing files (Err fault.Exists) project lists = absurd lists
-with_listing files (Err fault.DiskFault) project lists = tt
-with_listing files (Err fault.NoMemory) project lists = tt
-with_listing files (Err (fault.Foreign file)) project lists = (project, lists)
-with_listing files (Err (fault.Damaged file at want have)) project lists = absurd lists
+pub with_listing : (files : Files) (reader : Reader) (r : Result Disk OpenFault) → IsOpened files reader
+    → IfOk r (λ d. d.reader ≡ reader) → Lists files (λ d. d.files.items) r → ReadsDisk files r
+with_listing files reader (Ok d) opened same lists = (subst (IsOpened files) (sym same) opened, lists.0, lists.1)
+with_listing files reader (Err fault.Absent) opened same lists = absurd lists
+with_listing files reader (Err fault.Exists) opened same lists = absurd lists
+with_listing files reader (Err fault.DiskFault) opened same lists = tt
+with_listing files reader (Err fault.NoMemory) opened same lists = tt
+with_listing files reader (Err (fault.Foreign file)) opened same lists =
+    (some_picked files reader.window.file opened.picked, lists)
+with_listing files reader (Err (fault.Damaged file at want have)) opened same lists = absurd lists
 
 -- a listing beside a header that has a fault
-pub with_fault : (files : Files) (file at want have : ℕ) (r : Result Disk OpenFault) → IsProject (bytes_of (files 0))
-    × (file ≡ 0) × (first_failed (header_tests (bytes_of (files 0))) ≡ Some (damaged at want have))
-    → Refuses files at want have r → ReadsDisk files r
+pub with_fault : (files : Files) (file at want have : ℕ) (r : Result Disk OpenFault)
+    → HeaderFault files file (damaged at want have) → Refuses files file at want have r → ReadsDisk files r
 with_fault files file at want have (Ok d) read refuses = absurd refuses
 with_fault files file at want have (Err fault.Absent) read refuses = absurd refuses
 with_fault files file at want have (Err fault.Exists) read refuses = absurd refuses
 with_fault files file at want have (Err fault.DiskFault) read refuses = tt
 with_fault files file at want have (Err fault.NoMemory) read refuses = tt
-with_fault files file at want have (Err (fault.Foreign other)) read refuses = (read.0, refuses)
+with_fault files file at want have (Err (fault.Foreign other)) read refuses =
+    (some_refused files file (damaged at want have) read, refuses)
 with_fault files file at want have (Err (fault.Damaged file' at' want' have')) read refuses = (
-  read.0,
+  some_refused files file (damaged at want have) read,
   refuses.0,
-  (
-    refuses.1,
-    read.2 ∙ (λ i. Some (record {
-      at = sym refuses.2 i;
-      want = sym refuses.3 i;
-      have = sym refuses.4 i;
-    })),
-  ),
+  subst (λ (n : ℕ). HeaderFault files n (damaged at' want' have')) (sym refuses.1)
+      (subst (λ (d : Damaged). HeaderFault files file d) (λ i. record {
+        at = sym refuses.2 i;
+        want = sym refuses.3 i;
+        have = sym refuses.4 i;
+      }) read),
 )
 
-pub refuses_list : (files : Files) (at want have : ℕ) (e : OpenFault) → TellsForeign files e
-    → Refuses files at want have (Err e)
-refuses_list files at want have fault.Absent tells = absurd tells
-refuses_list files at want have fault.Exists tells = absurd tells
-refuses_list files at want have fault.DiskFault tells = tt
-refuses_list files at want have fault.NoMemory tells = tt
-refuses_list files at want have (fault.Foreign file) tells = tells
-refuses_list files at want have (fault.Damaged file at' want' have') tells = absurd tells
+pub refuses_list : (files : Files) (file at want have : ℕ) (e : OpenFault) → TellsForeign files e
+    → Refuses files file at want have (Err e)
+refuses_list files file at want have fault.Absent tells = absurd tells
+refuses_list files file at want have fault.Exists tells = absurd tells
+refuses_list files file at want have fault.DiskFault tells = tt
+refuses_list files file at want have fault.NoMemory tells = tt
+refuses_list files file at want have (fault.Foreign other) tells = tells
+refuses_list files file at want have (fault.Damaged file' at' want' have') tells = absurd tells

@@ -95,7 +95,7 @@ pub is_held : (count : Option ℕ) (k : ℕ) → IsSome count → IsSome (held c
 is_held count zero has = has
 is_held count (suc k) has = is_held (Some (one_more count)) k refl
 
-pub noted_there : (files : List ℕ) (counts : Counts) (id : ℕ) → AreNoted files counts → (id ≢ 0) × Contains files id
+pub noted_there : (files : List ℕ) (counts : Counts) (id : ℕ) → AreNoted files counts → (2 ≤ id) × Contains files id
     → IsSome (counts id)
 noted_there files counts id noted named = subst (λ (o : Option ℕ). IsSome o) (sym (noted.there id named.1 named.0)) refl
 

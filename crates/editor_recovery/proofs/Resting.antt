@@ -1,33 +1,42 @@
 -- A journal that is at rest stays so while nothing is written.
-use Rattle.std.proofs.Common.{◌≡◌, ℕ, [], Result, Ok, Err, sym, ap, subst, ◌∙◌}
+use Rattle.std.proofs.Common.{◌≡◌, ◌≤◌, ⊎_elim, ℕ, [], Result, Ok, Err, sym, ap, subst, ◌∙◌, arith}
 use Rattle.std.specs.Prelude.{IfOk, OnOk, IsTrue}
 use Rattle.disk_model.specs.Disk.{Files}
 use Rattle.disk_model.specs.Frames.{Kept}
 use Rattle.disk_model.specs.declared.store.Store.{Ghosts}
-use Rattle.project_journal.specs.Gate.{EachNow, IsDurable}
-use Rattle.project_journal.specs.Choice.{IsNewest}
-use Rattle.project_journal.specs.Header.{version_1}
+use Rattle.project_journal.specs.Choice.{IsNewest, other_file}
+use Rattle.project_journal.specs.Gate.{IsDurable}
+use Rattle.project_journal.specs.Header.{Form, IsForm}
 use Rattle.project_journal.specs.Journal.{Log, HasLog, IsAt, log_of}
-use Rattle.project_journal.proofs.Found.{whole_log, stored_here, stored_rest}
-use Rattle.project_journal.proofs.Kept.{SameJournals, is_at_still, newest_still}
+use Rattle.project_journal.specs.Opening.{IsOpened}
+use Rattle.project_journal.specs.Reader.{IsHeading, reader_form}
 use Rattle.project_journal.specs.declared.reader.Reader.{Reader}
-use Rattle.project_journal.specs.Reader.{IsReading}
-use Rattle.project_journal.proofs.FirstReadings.{reading_kept}
+use Rattle.project_journal.proofs.FirstReadings.{heading_kept}
+use Rattle.project_journal.proofs.Found.{found_form, whole_log, stored_here, stored_rest}
+use Rattle.project_journal.proofs.Kept.{SameJournals, is_at_still}
+use Rattle.project_journal.proofs.Picked.{zero_or_one}
 use Rattle.editor_recovery.specs.declared.disk.Disk.{Disk}
 use Rattle.editor_recovery.specs.declared.disk.Folded.{Folded}
 use Rattle.editor_core.specs.declared.assembly.Parts.{Parts}
 use Rattle.editor_recovery.specs.declared.fault.OpenFault.{OpenFault}
 use Rattle.editor_recovery.specs.Finding.{FoldsDisk}
 
-both_same : (d c : Files) → c ≡ d → SameJournals 0 d c
-both_same d c same = (ap (λ (f : Files). f 0) same, ap (λ (f : Files). f 1) same)
+both_same : (file : ℕ) (d c : Files) → c ≡ d → SameJournals file d c
+both_same file d c same = (ap (λ (f : Files). f file) same, ap (λ (f : Files). f (other_file file)) same)
+
+one_durable : {D : Type 0} (disk : Ghosts D) (store : D) (file : ℕ) → file ≤ 1 → IsDurable disk store 0
+    → IsDurable disk store 1 → IsDurable disk store file
+one_durable disk store file few first second = ⊎_elim
+    (λ zero. subst (IsDurable disk store) (sym zero) first)
+    (λ one. subst (IsDurable disk store) (sym one) second)
+    (zero_or_one file few)
 
 module _ {D : Type 0} {disk : Ghosts D} where
-  still_at : (mid new : D) (at : ℕ) (log : Log) → Kept disk mid new → IsAt version_1 disk mid at log
-      → IsAt version_1 disk new at log
-  still_at mid new at log kept here =
-      is_at_still {form = version_1} both_same (both_same (disk.reads mid) (disk.reads new) kept.same_reads)
-      kept.same_images here
+  still_at : (form : Form) (mid new : D) (at : ℕ) (log : Log) → Kept disk mid new → IsAt form disk mid at log
+      → IsAt form disk new at log
+  still_at form mid new at log kept here =
+      is_at_still {form = form} (both_same form.file)
+      (both_same form.file (disk.reads mid) (disk.reads new) kept.same_reads) kept.same_images here
 
   -- a file that is on the disk stays so
   pub still_durable : (mid new : D) (file : ℕ) → Kept disk mid new → IsDurable disk mid file → IsDurable disk new file
@@ -41,30 +50,34 @@ module _ {D : Type 0} {disk : Ghosts D} where
   durable_after mid new file (Err e) kept here = tt
 
   -- and so does a reader of the journal
-  pub still_reading : (mid new : D) (reader : Reader) (r : Result Disk OpenFault) → IsReading disk mid reader []
+  pub still_heading : (mid new : D) (reader : Reader) (r : Result Disk OpenFault) → IsHeading disk mid reader []
       → IfOk r (λ d. d.reader ≡ reader) → Kept disk mid new
-      → IfOk r (λ d. IsReading disk new d.reader [])
-  still_reading mid new reader (Err e) here is kept = tt
-  still_reading mid new reader (Ok d) here is kept =
-      subst (λ (x : Reader). IsReading disk new x []) (sym is) (reading_kept reader [] kept here)
+      → IfOk r (λ d. IsHeading disk new d.reader [])
+  still_heading mid new reader (Err e) here is kept = tt
+  still_heading mid new reader (Ok d) here is kept =
+      subst (λ (x : Reader). IsHeading disk new x []) (sym is) (heading_kept reader [] kept here)
 
   -- the journal that was folded, after what was found beside it
-  pub rest_after : (old mid new : D) (f : Folded) (r : Result Parts OpenFault) → disk.reads mid ≡ disk.reads old
-      → IsTrue (disk.tells mid) → IsDurable disk mid 0 → IsDurable disk mid 1
-      → FoldsDisk disk mid (Ok f) → IfOk r (λ p. p.journal_end ≡ f.end) → Kept disk mid new
-      → IfOk r (λ p. (log : Log) → HasLog version_1 log (disk.reads old) → IsAt version_1 disk new p.journal_end log)
-  rest_after old mid new f (Err e) same tells here other fold end kept = tt
-  rest_after old mid new f (Ok p) same tells here other fold end kept = λ log has.
-      let j = fold.0 in
-      let there = subst (λ (files : Files). HasLog version_1 log files) (sym same) has in
+  pub rest_after : (old mid new : D) (reader : Reader) (f : Folded) (r : Result Parts OpenFault)
+      → disk.reads mid ≡ disk.reads old → IsTrue (disk.tells mid) → IsDurable disk mid 0 → IsDurable disk mid 1
+      → IsOpened (disk.reads old) reader → FoldsDisk disk mid (reader_form reader) (Ok f)
+      → IfOk r (λ p. p.journal_end ≡ f.end) → Kept disk mid new
+      → IfOk r (λ p. (form : Form) (log : Log) → IsForm form → form.file ≤ 1 → HasLog form log (disk.reads old)
+      → IsAt form disk new p.journal_end log)
+  rest_after old mid new reader f (Err e) same tells first second opened fold end kept = tt
+  rest_after old mid new reader f (Ok p) same tells first second opened fold end kept = λ form log known few has.
+      let is : reader_form reader ≡ form = found_form form log (disk.reads old) reader known few has opened in
+      let there = subst (λ (files : Files). HasLog form log files) (sym same) has in
+      let told = subst (λ (x : Form). FoldsDisk disk mid x (Ok f)) is fold in
+      let j = told.0 in
+      let stored = told.1 in
       let says : log_of j ≡ log =
-      (whole_log log (disk.reads mid) j there (stored_here disk mid j fold.1 tells).1).says in
-      let newest : IsNewest 0 j.base.generation (disk.reads mid) =
-      subst (λ (l : Log). IsNewest 0 l.base.generation (disk.reads mid)) (sym says) there.newest in
-      let each : EachNow disk mid (IsNewest 0 j.base.generation) =
-      λ c now. newest_still 0 j.base.generation (disk.reads mid) c (other c now) newest in
-      let place : j.end ≡ p.journal_end = sym (end ∙ fold.2.end) in
-      still_at mid new p.journal_end log kept
-      (subst (λ (n : ℕ). IsAt version_1 disk mid n log) place
-      (subst (λ (l : Log). IsAt version_1 disk mid j.end l) says
-      (stored_rest disk mid j fold.1 tells here fold.2.early newest each)))
+      (whole_log form log (disk.reads mid) j known there (stored_here disk mid form j stored tells).1).says in
+      let newest : IsNewest form.file j.base.generation (disk.reads mid) =
+      subst (λ (l : Log). IsNewest form.file l.base.generation (disk.reads mid)) (sym says) there.newest in
+      let place : j.end ≡ p.journal_end = sym (end ∙ told.2.end) in
+      still_at form mid new p.journal_end log kept
+      (subst (λ (n : ℕ). IsAt form disk mid n log) place
+      (subst (λ (l : Log). IsAt form disk mid j.end l) says
+      (stored_rest disk mid form j stored tells (one_durable disk mid form.file few first second)
+      (one_durable disk mid (other_file form.file) (omega (arith, few)) first second) told.2.early newest)))

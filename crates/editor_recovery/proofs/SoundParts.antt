@@ -1,5 +1,5 @@
 -- The parts of a sound project are sound.
-use Rattle.std.proofs.Common.{◌≡◌, ◌≢◌, ℕ, ◌≤◌, List, Result, Ok, Err, sym, ap, subst, ◌∙◌, arith}
+use Rattle.std.proofs.Common.{◌≡◌, ℕ, ◌≤◌, List, Result, Ok, Err, sym, ap, subst, ◌∙◌, arith}
 use Rattle.std.specs.Prelude.{None, IfOk, Contains, find}
 use Rattle.block_ledger.specs.Entries.{count_of}
 use Rattle.project_state.specs.Kept.{point_blocks, history_blocks}
@@ -22,7 +22,7 @@ use Rattle.editor_recovery.specs.declared.fault.OpenFault.{OpenFault}
 use Rattle.editor_recovery.specs.Bounds.{IsSoundParts}
 use Rattle.editor_recovery.specs.Finding.{ArePartsOf, IsSoundFolded}
 
-format_of : (rate rate' size size' depth depth' : ℕ) → rate ≡ rate' → size ≡ size' → depth ≡ depth'
+pub format_of : (rate rate' size size' depth depth' : ℕ) → rate ≡ rate' → size ≡ size' → depth ≡ depth'
     → IsFormat rate' size' depth' → IsFormat rate size depth
 format_of rate rate' size size' depth depth' p q r f = record {
   rate_least = omega (arith, p, f.rate_least);
@@ -41,22 +41,20 @@ tagged_at m m' block block' track track' commit commit' p size le same_track sam
 
 sound_parts : (files : List ℕ) (f : Folded) (p : Parts) → IsSoundFolded f → find is_foreign files ≡ None
     → HaveOneLength (history_blocks f.project.history.history)
-    → All (λ p. All (λ b. (b.id ≢ 0) × Contains files b.id) (point_blocks p.0)) f.project.history.history.points
+    → All (λ p. All (λ b. (2 ≤ b.id) × Contains files b.id) (point_blocks p.0)) f.project.history.history.points
     → ArePartsOf files f p → IsSoundParts p
 sound_parts files f p is known one named are =
-    let j = is.journal in
     let project = f.project in
     let sound = is.kept in
-    let rate : p.rate ≡ j.rate = are.rate ∙ is.rate in
-    let size : p.block_size ≡ j.block_size = are.block_size ∙ is.block_size in
-    let depth : p.history.history.depth ≡ j.depth =
-    ap (λ (h : History (List Track)). h.depth) are.history ∙ sound.depth_is in
+    let depth : p.history.history.depth ≡ project.history.history.depth =
+    ap (λ (h : History (List Track)). h.depth) are.history in
     let old = project.history.history.points in
     let all : All (IsSoundTagged p.block_size p.next_block p.next_track p.commit_number) old =
-    All-weaker (IsSoundTagged j.block_size project.next_block project.next_track project.commit)
+    All-weaker (IsSoundTagged f.block_size project.next_block project.next_track project.commit)
     (IsSoundTagged p.block_size p.next_block p.next_track p.commit_number)
-    (λ x s. tagged_at j.block_size p.block_size project.next_block p.next_block project.next_track p.next_track
-    project.commit p.commit_number x size are.next_block.no_lower are.next_track are.commit s) old sound.points in
+    (λ x s. tagged_at f.block_size p.block_size project.next_block p.next_block project.next_track p.next_track
+    project.commit p.commit_number x are.block_size are.next_block.no_lower are.next_track are.commit s) old
+    sound.points in
     let points : All (IsSoundTagged p.block_size p.next_block p.next_track p.commit_number) p.history.history.points =
     subst (λ (h : History (List Track)).
     All (IsSoundTagged p.block_size p.next_block p.next_track p.commit_number) h.points) (sym are.history) all in
@@ -64,8 +62,8 @@ sound_parts files f p is known one named are =
       parts = record {
         pages_least = omega (arith, are.pages);
         pages_most = omega (arith, are.pages);
-        format = format_of p.rate j.rate p.block_size j.block_size p.history.history.depth j.depth rate size depth
-            is.readable.format;
+        format = format_of p.rate f.rate p.block_size f.block_size p.history.history.depth project.history.history.depth
+            are.rate are.block_size depth is.format;
         counters = record {
           block_least = omega (arith, sound.block_least, are.next_block.no_lower);
           block_most = are.bound;
@@ -73,16 +71,23 @@ sound_parts files f p is known one named are =
           track_most = omega (arith, sound.track_most, are.next_track);
           pin_least = omega arith;
           pin_most = omega arith;
-          commit_most = omega (arith, sound.commit_is, are.commit, is.readable.records, is.readable.end);
-          end_least = omega (arith, are.end, is.end, is.readable.records);
-          end_most = omega (arith, are.end, is.end, is.readable.end);
+          commit_most = omega (arith, are.commit, is.commit);
+          end_least = omega (arith, are.end, is.end_least);
+          end_most = omega (arith, are.end, is.end_most);
+        };
+        journal = record {
+          among = omega (arith, are.file, is.journal.among);
+          version_least = omega (arith, are.version, is.journal.version_least);
+          version_most = omega (arith, are.version, is.journal.version_most);
+          generation_most = omega (arith, are.generation, is.journal.generation_most);
+          first_version = λ first. are.generation ∙ is.journal.first_version (sym are.version ∙ first);
         };
         points = recursion_from_All
             (IsSoundTagged p.block_size p.next_block p.next_track p.commit_number) p.history.history.points points;
         counted = subst (λ (h : History (List Track)). IsFreshCount (ids_of (history_blocks h)) (count_of p.ledger))
             (sym are.history)
             (fresh files (history_blocks project.history.history) (count_of p.ledger) are.ledger
-            (all_flat (λ b. (b.id ≢ 0) × Contains files b.id) old named));
+            (all_flat (λ b. (2 ≤ b.id) × Contains files b.id) old named));
         given = given files (history_blocks project.history.history)
             (count_of p.ledger) project.next_block p.next_block are.ledger known are.next_block;
       };
@@ -92,7 +97,7 @@ sound_parts files f p is known one named are =
 pub sound_result : (files : List ℕ) (f : Folded) (r : Result Parts OpenFault) → IsSoundFolded f
     → find is_foreign files ≡ None
     → HaveOneLength (history_blocks f.project.history.history)
-    → All (λ p. All (λ b. (b.id ≢ 0) × Contains files b.id) (point_blocks p.0)) f.project.history.history.points
+    → All (λ p. All (λ b. (2 ≤ b.id) × Contains files b.id) (point_blocks p.0)) f.project.history.history.points
     → IfOk r (ArePartsOf files f) → IfOk r IsSoundParts
 sound_result files f (Ok p) is known one named are = sound_parts files f p is known one named are
 sound_result files f (Err e) is known one named are = tt

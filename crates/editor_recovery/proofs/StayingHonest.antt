@@ -13,15 +13,11 @@ use Rattle.disk_model.specs.MomentLaws.{upto_refl}
 use Rattle.disk_model.specs.declared.store.Store.{Ghosts}
 use Rattle.sample_block.specs.Blocks.{block_in, blocks}
 use Rattle.project_journal.specs.Gate.{EachNow}
-use Rattle.project_journal.specs.Header.{version_1}
-use Rattle.project_journal.specs.Journal.{Log}
 use Rattle.project_journal.proofs.Kept.{each_has}
-use Rattle.project_journal.proofs.Once.{log_once}
-use Rattle.project_journal.specs.Start.{NoProject}
+use Rattle.project_journal.proofs.Parses.{form_known}
 use Rattle.project_state.specs.Kept as keeping
-use Rattle.project_state.specs.Kept.{LeadTo, history_blocks, new_project}
-use Rattle.project_state.proofs.Unpacked.{kept_once}
-use Rattle.editor_core.specs.Core.{Core}
+use Rattle.project_state.specs.Kept.{history_blocks}
+use Rattle.editor_core.specs.Core.{Core, form_at}
 use Rattle.editor_core.specs.Left.{IsBegun, LeavesOthers, MayRemove}
 use Rattle.editor_core.specs.Studios.{IsDurable, IsHeld, IsStudio, clip_blocks, named_blocks, pin_blocks, shown}
 use Rattle.editor_core.specs.Studios.{studio_of}
@@ -29,7 +25,9 @@ use Rattle.editor_core.specs.Took.{Exchange, Took}
 use Rattle.editor_recovery.specs.Files.{NoForeign, is_foreign}
 use Rattle.editor_recovery.specs.Honest.{IsHonest, Names}
 use Rattle.editor_recovery.specs.StayingHonest.{IsHonestImage, StaysHonest}
+use Rattle.editor_recovery.specs.Standing.{HasNone, Stands}
 use Rattle.editor_recovery.proofs.Created.{not_journal}
+use Rattle.editor_recovery.proofs.Honest.{same_kept}
 
 -- ---- no foreign file comes
 
@@ -44,7 +42,7 @@ own : (file : ℕ) → 16 ≤ file → file < 2 ^ 62 → IsTrue (is_foreign file
 own file least most foreign = ⊎_elim
     (λ low. absurd (omega (arith, leb-true file 15 low, least)))
     (λ high. absurd (omega (arith, leb-true (2 ^ 62) file high, most)))
-    (of_two (nat_le 1 file) (nat_le file 15) (nat_le (2 ^ 62) file) foreign)
+    (of_two (nat_le 2 file) (nat_le file 15) (nat_le (2 ^ 62) file) foreign)
 
 none_there : (o : Option (List ℕ)) → o ≡ None → IsSome o → ⊥
 none_there None none some = absurd (cc some)
@@ -68,16 +66,22 @@ same_block : (c d : Files) (id : ℕ) → c id ≡ d id → blocks c id ≡ bloc
 same_block c d id same = ap
     (λ (o : Option (List ℕ)). if nat_le 16 id && nat_lt id (2 ^ 62) then option_and_then (block_in id) o else None) same
 
-module _ {D : Type 0} (disk : Ghosts D) (s : Core D) (durable : IsDurable disk s) where
+module _ {D : Type 0} (disk : Ghosts D) (s : Core D) (few : s.file ≤ 1) (durable : IsDurable disk s) where
   -- what an image names is as the store reads
   named_same : (c : Files) → disk.may_leave s.store (disk.clock s.store) c → (id : ℕ) → Names c id
       → c id ≡ disk.reads s.store id
   named_same c now id names =
       let has = each_has durable.there c now in
-      let log : names.log ≡ durable.log = log_once version_1 names.log durable.log c (inl refl) names.there has in
-      let told : LeadTo durable.log.block_size (new_project durable.log.depth) durable.log.bodies names.kept =
-      subst (λ (l : Log). LeadTo l.block_size (new_project l.depth) l.bodies names.kept) log names.told in
-      let kept : names.kept ≡ durable.kept = kept_once durable.log names.kept durable.kept c has told durable.told in
+      let stands : Stands c (form_at s) durable.log durable.kept = record {
+        known = form_known s.version s.file;
+        few = few;
+        there = has;
+        base = durable.base;
+        begins = durable.begins;
+        told = durable.told;
+      } in
+      let kept : names.kept ≡ durable.kept =
+      same_kept c names.form (form_at s) names.log durable.log names.kept durable.kept names.stands stands in
       let there : Contains (history_blocks s.history) names.block =
       subst (λ h. Contains (history_blocks h) names.block) durable.history
       (subst (λ (k : keeping.Kept). Contains (history_blocks k.history) names.block) kept names.named) in
@@ -101,6 +105,7 @@ module _ {D : Type 0} (disk : Ghosts D) (old new : Core D) (exchange : Exchange)
   goes_on still =
       let images = took.changed.images in
       let durable = (took.held held).durable still in
+      let few = took.studio.journal.among in
       let keeps = took.now still held in record {
         model = subst IsTrue (sym took.changed.model) honest.model;
         foreign = λ c now.
@@ -108,7 +113,7 @@ module _ {D : Type 0} (disk : Ghosts D) (old new : Core D) (exchange : Exchange)
             (upto_refl (disk.clock new.store)) now);
         whole = λ c now. inr (shown (studio_of disk new), keeps c now);
         same = λ c nc d nd id p q.
-            same_block c d id (named_same disk new durable c nc id p ∙ sym (named_same disk new durable d nd id q));
+            same_block c d id (named_same disk new few durable c nc id p ∙ sym (named_same disk new few durable d nd id q));
       }
 
   pub stays_honest : StaysHonest disk old new
@@ -131,7 +136,7 @@ pub alone_honest : {D : Type 0} (disk : Ghosts D) (store : D) (files : Files) �
 alone_honest disk store files image model alone = record {
   model = model;
   foreign = λ c now. subst NoForeign (sym (alone c now)) image.foreign;
-  whole = λ c now. subst (λ (f : Files). NoProject 0 f ⊎ ((found : keeping.Opened) × keeping.Keeps f found))
+  whole = λ c now. subst (λ (f : Files). HasNone f ⊎ ((found : keeping.Opened) × keeping.Keeps f found))
       (sym (alone c now)) image.whole;
   same = λ c nc d nd id p q. ap (λ (f : Files). blocks f id) (alone c nc ∙ sym (alone d nd));
 }

@@ -1,15 +1,14 @@
 -- When each answer of a creation comes.
 use Rattle.std.specs.Prelude.{◌≡◌, ℕ, List, [], ◌∷◌, Result, Ok, Err}
 use Rattle.pcm_base.specs.History.{history_of_one}
-use Rattle.disk_model.specs.Disk.{Files, bytes_of}
+use Rattle.disk_model.specs.Disk.{Files}
 use Rattle.disk_model.specs.Frames.{Kept}
 use Rattle.disk_model.specs.declared.store.Store.{Ghosts}
-use Rattle.project_journal.specs.Header.{IsProject}
-use Rattle.project_journal.specs.Start.{NoProject}
 use Rattle.project_state.specs.Kept.{Opened}
 use Rattle.editor_recovery.specs.declared.fault.OpenFault.{OpenFault}
 use Rattle.editor_recovery.specs.declared.fault.OpenFault.TheVariants as fault
 use Rattle.editor_recovery.specs.Files.{IsFirstForeign, NoForeign}
+use Rattle.editor_recovery.specs.Standing.{HasNone, HasSome}
 
 -- a project without commits, whose one point has no tracks
 abbrev pub new_opened : ℕ → ℕ → ℕ → Opened
@@ -30,9 +29,9 @@ HasNoForeign files (Err _) = ⊥
 
 -- First whether a project is there, then a foreign file.
 abbrev pub Creates : {T : Type 0} → Files → Result T OpenFault → Type 0
-Creates files (Ok _) = NoProject 0 files × NoForeign files
-Creates files (Err fault.Exists) = IsProject (bytes_of (files 0))
-Creates files (Err (fault.Foreign file)) = NoProject 0 files × IsFirstForeign files file
+Creates files (Ok _) = HasNone files × NoForeign files
+Creates files (Err fault.Exists) = HasSome files
+Creates files (Err (fault.Foreign file)) = HasNone files × IsFirstForeign files file
 Creates files (Err fault.DiskFault) = Unit {0}
 Creates files (Err fault.NoMemory) = Unit {0}
 Creates files (Err _) = ⊥

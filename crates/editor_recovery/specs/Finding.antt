@@ -6,15 +6,17 @@ use Rattle.sample_block.specs.Spelling.{size_of}
 use Rattle.disk_model.specs.declared.store.Store.{Ghosts}
 use Rattle.project_journal.specs.declared.fault.JournalFault.{JournalFault}
 use Rattle.project_journal.specs.declared.fault.JournalFault.TheVariants as journal
-use Rattle.project_journal.specs.Journal.{Contents, body_at}
-use Rattle.project_journal.specs.Readable.{IsReadable}
+use Rattle.project_journal.specs.Header.{Form, IsFormat}
+use Rattle.project_journal.specs.Journal.{Contents, body_at, log_of}
 use Rattle.project_journal.specs.Reader.{IsStored}
 use Rattle.block_ledger.specs.Entries.{count_of}
-use Rattle.project_state.specs.Kept.{new_project, LeadTo, history_blocks}
-use Rattle.project_state.specs.KeptSound.{IsSoundKept}
+use Rattle.project_state.specs.Kept.{Begins, LeadIn, history_blocks, version_of}
+use Rattle.record_fold.specs.Bases.{base_of}
 use Rattle.record_fold.specs.Faults.{journal_fault}
-use Rattle.record_fold.specs.Folds.{kept_of}
+use Rattle.record_fold.specs.Folds.{kept_of, IsValid}
+use Rattle.record_fold.specs.Heads.{HasFault}
 use Rattle.editor_recovery.specs.declared.disk.Folded.{Folded}
+use Rattle.editor_core.specs.Studios.{AreJournalNumbers}
 use Rattle.editor_core.specs.declared.assembly.Parts.{Parts}
 use Rattle.editor_recovery.specs.declared.fault.OpenFault.{OpenFault}
 use Rattle.editor_recovery.specs.declared.fault.OpenFault.TheVariants as fault
@@ -22,23 +24,27 @@ use Rattle.editor_recovery.specs.Files.{IsAbove}
 use Rattle.editor_recovery.specs.Ledgers.{IsCounted}
 use Rattle.editor_recovery.specs.Sizes.{AllHaveSize, IsFirstWrong, file_size, first_wrong}
 
--- what a journal says whose records have no fault
-pub record IsFoldOf (j : Contents) (f : Folded) : Type 0 where
+-- what a journal of this form says whose points and records have no fault
+pub record IsFoldOf (form : Form) (j : Contents) (f : Folded) : Type 0 where
   pub rate : f.rate ≡ j.rate
   pub block_size : f.block_size ≡ j.block_size
+  pub file : f.file ≡ form.file
+  pub version : f.version ≡ version_of form
+  pub generation : f.generation ≡ j.base.generation
   pub end : f.end ≡ j.end
-  pub sound : journal_fault j ≡ None
+  pub sound : journal_fault form j ≡ None
   pub early : j.early ≡ None
-  pub leads : LeadTo j.block_size (new_project j.depth) (map body_at j.records) (kept_of f.project)
+  pub begins : Begins (log_of j) (base_of j)
+  pub leads : LeadIn (version_of form) j.block_size (base_of j) (map body_at j.records) (kept_of f.project)
 
--- that of the store's journal, or the first fault of its records, which is in file 0
-abbrev pub FoldsDisk : {D : Type 0} → Ghosts D → D → Result Folded OpenFault → Type 0
-FoldsDisk disk store (Ok f) = (j : Contents) × IsStored disk store j × IsFoldOf j f
-FoldsDisk disk store (Err (fault.Damaged file at want have)) = (j : Contents) × IsStored disk store j × (file ≡ 0)
-    × (journal_fault j ≡ Some (record { at = at; want = want; have = have }))
-FoldsDisk disk store (Err fault.NoMemory) = Unit {0}
-FoldsDisk disk store (Err fault.DiskFault) = Unit {0}
-FoldsDisk disk store (Err _) = ⊥
+-- that of the store's journal, or its first fault, which is in its file
+abbrev pub FoldsDisk : {D : Type 0} → Ghosts D → D → Form → Result Folded OpenFault → Type 0
+FoldsDisk disk store form (Ok f) = (j : Contents) × IsStored disk store form j × IsFoldOf form j f
+FoldsDisk disk store form (Err (fault.Damaged file at want have)) =
+    HasFault disk store form file (record { at = at; want = want; have = have })
+FoldsDisk disk store form (Err fault.NoMemory) = Unit {0}
+FoldsDisk disk store form (Err fault.DiskFault) = Unit {0}
+FoldsDisk disk store form (Err _) = ⊥
 
 -- why records are not folded, as it is told
 abbrev pub records_fault : JournalFault → OpenFault
@@ -49,12 +55,12 @@ records_fault _ = fault.Exists
 
 -- whatever the store tells, a project that was folded is sound
 pub record IsSoundFolded (f : Folded) : Type 0 where
-  pub journal : Contents
-  pub readable : IsReadable journal
-  pub rate : f.rate ≡ journal.rate
-  pub block_size : f.block_size ≡ journal.block_size
-  pub end : f.end ≡ journal.end
-  pub kept : IsSoundKept journal.block_size journal.depth (length journal.records) (kept_of f.project)
+  pub format : IsFormat f.rate f.block_size f.project.history.history.depth
+  pub kept : IsValid f.block_size (kept_of f.project)
+  pub commit : f.project.commit ≤ 2 ^ 62
+  pub journal : AreJournalNumbers f.file f.version f.generation
+  pub end_least : 32 ≤ f.end
+  pub end_most : f.end ≤ 2 ^ 62
 
 -- no file has another size than its block asks, by the sizes that were measured, or the first that has
 abbrev pub TestsMeasured : {T : Type 0} → (ℕ → ℕ) → List BlockRef → Result T OpenFault → Type 0
@@ -86,4 +92,7 @@ pub record ArePartsOf (files : List ℕ) (f : Folded) (p : Parts) : Type 0 where
   pub bound : p.next_block ≤ 2 ^ 62
   pub next_track : p.next_track ≡ f.project.next_track
   pub commit : p.commit_number ≡ f.project.commit
+  pub file : p.file ≡ f.file
+  pub version : p.version ≡ f.version
+  pub generation : p.generation ≡ f.generation
   pub end : p.journal_end ≡ f.end

@@ -18,7 +18,10 @@ pub record Found : Type 0 where
   pub next_block : ℕ
   pub next_track : ℕ
   pub commit_number : ℕ
-  -- the place of the journal's first gate that is 0
+  -- where the journal stands, its version, its generation, and the place of its first gate that is 0
+  pub file : ℕ
+  pub version : ℕ
+  pub generation : ℕ
   pub journal_end : ℕ
 
 abbrev pub found_in : Parts → Found
@@ -30,6 +33,9 @@ found_in p = record {
   next_block = p.next_block;
   next_track = p.next_track;
   commit_number = p.commit_number;
+  file = p.file;
+  version = p.version;
+  generation = p.generation;
   journal_end = p.journal_end;
 }
 
@@ -42,6 +48,9 @@ found_by s = record {
   next_block = s.next_block;
   next_track = s.next_track;
   commit_number = s.commit_number;
+  file = s.file;
+  version = s.version;
+  generation = s.generation;
   journal_end = s.journal_end;
 }
 

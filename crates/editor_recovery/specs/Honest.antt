@@ -5,23 +5,23 @@ use Rattle.disk_model.specs.Disk.{Files}
 use Rattle.disk_model.specs.declared.store.Store.{Ghosts}
 use Rattle.sample_block.specs.Blocks.{blocks}
 use Rattle.project_journal.specs.Gate.{EachNow}
-use Rattle.project_journal.specs.Header.{version_1}
-use Rattle.project_journal.specs.Journal.{Log, HasLog}
-use Rattle.project_journal.specs.Start.{NoProject}
+use Rattle.project_journal.specs.Header.{Form}
+use Rattle.project_journal.specs.Journal.{Log}
 use Rattle.project_state.specs.Kept as kept
-use Rattle.project_state.specs.Kept.{Kept, new_project, LeadTo, history_blocks, opened, Keeps}
+use Rattle.project_state.specs.Kept.{Kept, history_blocks, opened, Keeps}
 use Rattle.editor_recovery.specs.declared.fault.OpenFault.{OpenFault}
 use Rattle.editor_recovery.specs.declared.fault.OpenFault.TheVariants as fault
 use Rattle.editor_recovery.specs.Files.{NoForeign}
 use Rattle.editor_recovery.specs.Found.{Found}
 use Rattle.editor_recovery.specs.Opening.{IsFound}
+use Rattle.editor_recovery.specs.Standing.{HasNone, Stands}
 
 -- a point of the project that stands in a disk's journal names this id
 pub record Names (files : Files) (id : ℕ) : Type 0 where
+  pub form : Form
   pub log : Log
   pub kept : Kept
-  pub there : HasLog version_1 log files
-  pub told : LeadTo log.block_size (new_project log.depth) log.bodies kept
+  pub stands : Stands files form log kept
   pub block : BlockRef
   pub named : Contains (history_blocks kept.history) block
   pub is : block.id ≡ id
@@ -31,22 +31,23 @@ pub record Names (files : Files) (id : ℕ) : Type 0 where
 pub record IsHonest {D : Type 0} (disk : Ghosts D) (store : D) : Type 0 where
   pub model : IsTrue (disk.keeps_model store)
   pub foreign : EachNow disk store NoForeign
-  pub whole : EachNow disk store (λ c. NoProject 0 c ⊎ ((found : kept.Opened) × Keeps c found))
+  pub whole : EachNow disk store (λ c. HasNone c ⊎ ((found : kept.Opened) × Keeps c found))
   pub same : EachNow disk store
       (λ c. EachNow disk store (λ d. (id : ℕ) → Names c id → Names d id → blocks c id ≡ blocks d id))
 
 -- The disk keeps one project, which is what was found, and each image after the opening keeps it.
 pub record FindsKept {D : Type 0} (disk : Ghosts D) (old new : D) (f : Found) : Type 0 where
+  pub form : Form
   pub log : Log
   pub kept : Kept
   pub keeps : Keeps (disk.reads old) (opened log kept (disk.reads old))
   pub each : EachNow disk new (λ c. Keeps c (opened log kept (disk.reads old)))
-  pub found : IsFound (disk.reads old) log kept f
+  pub found : IsFound (disk.reads old) form log kept f
 
 -- An honest disk has no fault and no foreign file.
 abbrev pub OpensHonest : {D : Type 0} → Ghosts D → (old new : D) → Result Found OpenFault → Type 0
 OpensHonest disk old new (Ok f) = FindsKept disk old new f
-OpensHonest disk old new (Err fault.Absent) = NoProject 0 (disk.reads old)
+OpensHonest disk old new (Err fault.Absent) = HasNone (disk.reads old)
 OpensHonest disk old new (Err fault.DiskFault) = Unit {0}
 OpensHonest disk old new (Err fault.NoMemory) = Unit {0}
 OpensHonest disk old new (Err _) = ⊥

@@ -1,5 +1,6 @@
 pub mod Files
 pub mod Sizes
+pub mod Standing
 pub mod Ledgers
 pub mod Measured
 pub mod Listing

@@ -3,18 +3,18 @@ use Rattle.std.specs.Prelude.{◌≡◌, ◌⊎◌, IsTrue, IsSome, None}
 use Rattle.disk_model.specs.Disk.{Files}
 use Rattle.disk_model.specs.declared.store.Store.{Ghosts}
 use Rattle.project_journal.specs.Gate.{EachNow, EachSince}
-use Rattle.project_journal.specs.Start.{NoProject}
 use Rattle.project_state.specs.Kept.{Opened, Keeps}
 use Rattle.editor_core.specs.Core.{Core}
 use Rattle.editor_core.specs.Studios.{IsHeld, IsStudio}
 use Rattle.editor_core.specs.Took.{Exchange, Took}
 use Rattle.editor_recovery.specs.Files.{NoForeign}
 use Rattle.editor_recovery.specs.Honest.{IsHonest}
+use Rattle.editor_recovery.specs.Standing.{HasNone}
 
 -- what an honest disk asks of one image: no foreign file, and no project or one that it keeps
 pub record IsHonestImage (files : Files) : Type 0 where
   pub foreign : NoForeign files
-  pub whole : NoProject 0 files ⊎ ((found : Opened) × Keeps files found)
+  pub whole : HasNone files ⊎ ((found : Opened) × Keeps files found)
 
 -- A disk that was honest before a call stays so where the studio goes on, and where it had stopped before. At any
 -- moment of a call that found the studio going each image is one of an honest disk, also where the call stopped it.

@@ -1,5 +1,5 @@
 // How often points name each block.
-ghost use Rattle.std.specs.Prelude.{◌≡◌, ◌⊎◌, ◌≢◌, ◌+◌, ◌^◌, ◌≤◌, ◌<◌, ℕ, None, Some, IsSome, IfOk, Contains, length};
+ghost use Rattle.std.specs.Prelude.{◌≡◌, ◌⊎◌, ◌+◌, ◌^◌, ◌≤◌, ◌<◌, ℕ, None, Some, IsSome, IfOk, Contains, length};
 ghost use Rattle.std.specs.List.{All};
 ghost use Rattle.block_ledger.specs.Counts.{SetsCount, one_more};
 ghost use Rattle.block_ledger.specs.Entries.{count_of};
@@ -24,14 +24,14 @@ fn note_file(ledger: &mut Ledger, file: u64)
     ledger.drop_one(file);
 }
 
-// Each of these files but file 0, which no block names yet.
+// Each of these files but 0 and 1, which no block names yet.
 fn note_files(alloc: Global, files: &[u64]) -> Result<Ledger, NoMemory>
     ensures { IfOk result (λ l. AreNoted files.now (count_of l)) }
 {
     let mut ledger = Ledger::new(alloc);
     ledger.reserve(files.len() as u64)?;
     for i in 0..files.len() {
-        if files[i] != 0 {
+        if files[i] > 1 {
             note_file(&mut ledger, files[i]);
         }
     }
@@ -56,14 +56,14 @@ fn hold_blocks(ledger: &mut Ledger, blocks: &[BlockRef])
     }
 }
 
-/// The ledger of these files, of which file 0 is none of a block, and of the blocks that points name.
+/// The ledger of these files, of which 0 and 1 are none of a block, and of the blocks that points name.
 pub(crate) fn count_blocks(
     alloc: Global,
     files: &[u64],
     history: &History<Point>,
 ) -> Result<Ledger, NoMemory>
     requires { All
-        (λ p. All (λ b. (b.id ≢ 0) × Contains files.now b.id) (point_blocks p.0)) history.now.history.points }
+        (λ p. All (λ b. (2 ≤ b.id) × Contains files.now b.id) (point_blocks p.0)) history.now.history.points }
     ensures { IfOk result (λ l. IsCounted files.now (history_blocks history.now.history) (count_of l)) }
 {
     let mut ledger = note_files(alloc, files)?;

@@ -1,5 +1,5 @@
 // Makes a project.
-ghost use Rattle.std.specs.Prelude.{◌≡◌, ◌⊎◌, ◌↔◌, ◌+◌, ◌≤◌, ℕ, Option, List, length, min, slice_index};
+ghost use Rattle.std.specs.Prelude.{◌≡◌, ◌||◌, ◌⊎◌, ◌↔◌, ◌+◌, ◌≤◌, ℕ, Option, List, length, min, slice_index};
 ghost use Rattle.std.specs.Prelude.{IsTrue, IfOk, IfErr, OnOk};
 ghost use Rattle.disk_model.specs.Disk.{bytes_of, SameElsewhere};
 ghost use Rattle.disk_model.specs.Frames.{Kept, Changed};
@@ -13,6 +13,7 @@ ghost use Rattle.editor_recovery.specs.Causes.{Causes};
 ghost use Rattle.editor_recovery.specs.Creating.{Creates, HasNoForeign, IsCreateRefusal, LeavesRefused, new_opened};
 ghost use Rattle.editor_recovery.specs.Honest.{IsHonest};
 ghost use Rattle.editor_recovery.specs.Listing.{IsRefusal};
+ghost use Rattle.editor_recovery.specs.Standing.{HasNone, HasSome};
 
 use super::fault::OpenFault;
 use super::listing::list_files;
@@ -20,18 +21,38 @@ use disk_model::Store;
 use project_journal::JournalFault;
 use std::alloc::Global;
 
-/// Whether a project is there.
-fn is_there<S: Store>(store: &mut S) -> Result<bool, OpenFault>
+/// Whether a project is in this file.
+fn is_in<S: Store>(store: &mut S, file: u64) -> Result<bool, OpenFault>
     ensures there { IsTrue (S.tells store.old)
-        → IfOk result (λ there. IsTrue there ↔ IsProject (bytes_of (S.reads store.old 0))) }
+        → IfOk result (λ there. IsTrue there ↔ IsProject (bytes_of (S.reads store.old file))) }
     ensures refused { IfErr result IsRefusal }
     ensures kept { Kept S.Store store.old store.new }
     ensures cause { Causes S.Store store.old store.new result }
 {
-    let size = store.size(0)?.unwrap_or(0);
+    let size = store.size(file)?.unwrap_or(0);
     let mut gate = [0u8; 1];
-    let count = store.read_at(0, 0, &mut gate)?;
+    let count = store.read_at(file, 0, &mut gate)?;
     Ok(is_open(size, count, gate[0]))
+}
+
+/// Whether a project is there, in file 0 or 1.
+fn is_there<S: Store>(store: &mut S) -> Result<bool, OpenFault>
+    ensures there { IsTrue (S.tells store.old)
+        → IfOk result (λ there. IsTrue there ↔ HasSome (S.reads store.old)) }
+    ensures refused { IfErr result IsRefusal }
+    ensures kept { Kept S.Store store.old store.new }
+    ensures cause { Causes S.Store store.old store.new result }
+{
+    let first = is_in(store, 0)?;
+    let second = is_in(store, 1)?;
+    Ok(one_of(first, second))
+}
+
+/// Whether one of them holds.
+fn one_of(first: bool, second: bool) -> bool
+    ensures { result ≡ (first || second) }
+{
+    first || second
 }
 
 /// The same by the file's size, how many bytes a read of its first gave, and that byte.
@@ -75,6 +96,8 @@ fn make<S: Store>(store: &mut S, rate: u32, block_size: u32, depth: u32) -> Resu
     ensures any_moment { IsTrue (S.tells store.old) → NoProject 1 (S.reads store.old) → EachSince S.Store store.old store.new
         (λ c. S.may_leave store.old (S.clock store.old) c
         ⊎ (NoProject 0 c ⊎ HasLog version_1 (fresh rate block_size depth) c)) }
+    ensures other_moment { IsTrue (S.tells store.old) → NoProject 1 (S.reads store.old)
+        → EachSince S.Store store.old store.new (λ c. S.may_leave store.old (S.clock store.old) c ⊎ NoProject 1 c) }
     ensures done { IsTrue (S.tells store.old) → NoProject 1 (S.reads store.old)
         → OnOk result (IsAt version_1 S.Store store.new 32 (fresh rate block_size depth)) }
     ensures answer { IsTrue (S.tells store.old) → NoProject 0 (S.reads store.old)
@@ -98,7 +121,7 @@ fn make<S: Store>(store: &mut S, rate: u32, block_size: u32, depth: u32) -> Resu
 ///
 /// # Errors
 ///
-/// Exists: a project is there. Foreign: a file is there that is neither the journal nor a block, the least of them.
+/// Exists: a project is there. Foreign: a file is there that is neither of a journal nor a block, the least of them.
 /// Both leave the store as it was, and so does NoMemory. After DiskFault a stop leaves no project, the new one, or what
 /// it could leave before.
 pub fn create<S: Store>(
@@ -113,11 +136,14 @@ pub fn create<S: Store>(
     // At any moment each image, but one that the store could already leave, has no project or keeps the new one.
     ensures any_moment { IsTrue (S.tells store.old) → EachSince S.Store store.old store.new
         (λ c. S.may_leave store.old (S.clock store.old) c
-        ⊎ (NoProject 0 c ⊎ Keeps c (new_opened rate block_size depth))) }
+        ⊎ (HasNone c ⊎ Keeps c (new_opened rate block_size depth))) }
     // After it the store and each image keep the new one.
     ensures done { IsTrue (S.tells store.old)
         → OnOk result (Keeps (S.reads store.new) (new_opened rate block_size depth)
         × EachNow S.Store store.new (λ c. Keeps c (new_opened rate block_size depth))) }
+    // Its journal is a header of version 1 in file 0.
+    ensures journal { IsTrue (S.tells store.old)
+        → OnOk result (IsAt version_1 S.Store store.new 32 (fresh rate block_size depth)) }
     ensures answer { IsTrue (S.tells store.old) → Creates (S.reads store.old) result }
     // An honest disk stays so, whatever is answered.
     ensures honest { IsHonest S.Store store.old → IsHonest S.Store store.new }

@@ -1,15 +1,15 @@
 // What the journal and the files of a disk amount to.
-ghost use Rattle.std.specs.Prelude.{◌≡◌, ◌^◌, ◌≤◌, ◌≢◌, [], None, IsTrue, IfOk, IfErr, IsErrOf, OnOk, Contains, find};
+ghost use Rattle.std.specs.Prelude.{◌≡◌, ◌^◌, ◌≤◌, [], None, IsTrue, IfOk, IfErr, IsErrOf, OnOk, Contains, find};
 ghost use Rattle.std.specs.List.{All};
 ghost use Rattle.std.specs.List.Sorted.{IsStrictlyIncreasing};
 ghost use Rattle.sample_block.specs.Spelling.{IsBlock, size_of};
 ghost use Rattle.project_journal.specs.Gate.{IsDurable};
-ghost use Rattle.project_journal.specs.Header.{IsProject, version_1};
+ghost use Rattle.project_journal.specs.Header.{Form, IsForm};
 ghost use Rattle.project_journal.specs.Journal.{Contents, Log, HasLog, IsAt};
-ghost use Rattle.project_journal.specs.Reader.{IsReading};
+ghost use Rattle.project_journal.specs.Opening.{IsOpened};
+ghost use Rattle.project_journal.specs.Reader.{IsHeading, reader_form};
 ghost use Rattle.project_state.specs.Kept.{point_blocks, history_blocks};
 ghost use Rattle.disk_model.specs.Frames.{Kept};
-ghost use Rattle.disk_model.specs.Disk.{bytes_of};
 ghost use Rattle.editor_recovery.specs.Bounds.{IsSoundParts};
 ghost use Rattle.editor_recovery.specs.Listing.{AreFiles, IsOpenRefusal};
 ghost use Rattle.editor_recovery.specs.Files.{is_foreign, NoForeign};
@@ -33,7 +33,7 @@ use editor_core::Parts;
 use pcm_base::BlockRef;
 use project_journal::{JournalFault, Reader};
 use project_state::Point;
-use record_fold::fold_journal;
+use record_fold::{fold_journal, version_in};
 use sample_block::file_size;
 use std::alloc::Global;
 use undo_history::History;
@@ -69,8 +69,8 @@ fn unfolded(fault: JournalFault) -> OpenFault
 /// The project to which the records lead, and what the journal says beside it. The reader's bytes are given back with
 /// its return.
 fn fold_disk<S: Store>(alloc: Global, store: &mut S, reader: Reader) -> Result<Folded, OpenFault>
-    requires { IsReading S.Store store.old reader [] }
-    ensures folds { FoldsDisk S.Store store.new result }
+    requires { IsHeading S.Store store.old reader [] }
+    ensures folds { FoldsDisk S.Store store.new (reader_form reader) result }
     ensures opening { IfErr result IsOpenRefusal }
     ensures sound { IfOk result IsSoundFolded }
     ensures kept { Kept S.Store store.old store.new }
@@ -81,6 +81,9 @@ fn fold_disk<S: Store>(alloc: Global, store: &mut S, reader: Reader) -> Result<F
         Ok(project) => Ok(Folded {
             rate: reader.rate(),
             block_size: reader.block_size(),
+            file: reader.file(),
+            version: version_in(&reader),
+            generation: reader.base().generation,
             end: reader.end(),
             project,
         }),
@@ -125,7 +128,7 @@ fn test_files<S: Store>(
         → TestsSizes (S.reads store.old) (history_blocks history.now.history) result }
     ensures one_length { OnOk result (HaveOneLength (history_blocks history.now.history)) }
     ensures named { OnOk result
-        (All (λ p. All (λ b. (b.id ≢ 0) × Contains files.now b.id) (point_blocks p.0)) history.now.history.points) }
+        (All (λ p. All (λ b. (2 ≤ b.id) × Contains files.now b.id) (point_blocks p.0)) history.now.history.points) }
     ensures opening { IfErr result IsOpenRefusal }
     ensures kept { Kept S.Store store.old store.new }
     ensures cause { Causes S.Store store.old store.new result }
@@ -141,7 +144,7 @@ fn parts_of(alloc: Global, files: &[u64], folded: Folded) -> Result<Parts, OpenF
     requires known { find is_foreign files.now ≡ None }
     requires rising { IsStrictlyIncreasing files.now }
     requires block { folded.project.next_block ≤ 2 ^ 62 }
-    requires named { All (λ p. All (λ b. (b.id ≢ 0) × Contains files.now b.id) (point_blocks p.0))
+    requires named { All (λ p. All (λ b. (2 ≤ b.id) × Contains files.now b.id) (point_blocks p.0))
         folded.project.history.history.points }
     ensures parts { IfOk result (ArePartsOf files.now folded) }
     ensures memory { IfErr result (λ e. e ≡ OpenFault.NoMemory) }
@@ -151,6 +154,9 @@ fn parts_of(alloc: Global, files: &[u64], folded: Folded) -> Result<Parts, OpenF
     let Folded {
         rate,
         block_size,
+        file,
+        version,
+        generation,
         end,
         project,
     } = folded;
@@ -163,6 +169,9 @@ fn parts_of(alloc: Global, files: &[u64], folded: Folded) -> Result<Parts, OpenF
         next_block,
         next_track: project.next_track,
         commit_number: project.commit,
+        file,
+        version,
+        generation,
         journal_end: end,
     })
 }
@@ -177,8 +186,8 @@ fn size_parts<S: Store>(
     requires known { find is_foreign files.now ≡ None }
     requires rising { IsStrictlyIncreasing files.now }
     requires sound { IsSoundFolded folded }
-    ensures opens { (j : Contents) → IsTrue (S.tells store.old) → IsRead (S.reads store.old) j files.now
-        → IsFoldOf j folded → Opens (S.reads store.old) (answer_in result) }
+    ensures opens { (form : Form) (j : Contents) → IsTrue (S.tells store.old)
+        → IsRead (S.reads store.old) form j files.now → IsFoldOf form j folded → Opens (S.reads store.old) (answer_in result) }
     ensures sound { IfOk result IsSoundParts }
     ensures opening { IfErr result IsOpenRefusal }
     ensures end { IfOk result (λ p. p.journal_end ≡ folded.end) }
@@ -199,13 +208,14 @@ pub(crate) fn find_parts<S: Store>(
 ) -> Result<Parts, OpenFault>
     requires known { find is_foreign disk.files.items ≡ None }
     requires rising { IsStrictlyIncreasing disk.files.items }
-    requires reading { IsReading S.Store store.old disk.reader [] }
+    requires heading { IsHeading S.Store store.old disk.reader [] }
     ensures opens { IsTrue (S.tells store.old) → AreFiles (S.reads store.old) disk.files.items
-        → NoForeign (S.reads store.old) → IsProject (bytes_of (S.reads store.old 0))
+        → NoForeign (S.reads store.old) → IsOpened (S.reads store.old) disk.reader
         → Opens (S.reads store.old) (answer_in result) }
     ensures at_rest { IsTrue (S.tells store.old) → IsDurable S.Store store.old 0 → IsDurable S.Store store.old 1
-        → IfOk result (λ p. (log : Log) → HasLog version_1 log (S.reads store.old)
-        → IsAt version_1 S.Store store.new p.journal_end log) }
+        → IsOpened (S.reads store.old) disk.reader
+        → IfOk result (λ p. (form : Form) (log : Log) → IsForm form → form.file ≤ 1
+        → HasLog form log (S.reads store.old) → IsAt form S.Store store.new p.journal_end log) }
     ensures sound { IfOk result IsSoundParts }
     ensures opening { IfErr result IsOpenRefusal }
     ensures kept { Kept S.Store store.old store.new }

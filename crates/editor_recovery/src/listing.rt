@@ -12,11 +12,11 @@ use super::fault::OpenFault;
 use disk_model::{ListFault, Store};
 use std::alloc::Global;
 
-/// Whether a file is neither the journal nor a block.
+/// Whether a file is neither that of a journal nor of a block.
 fn is_foreign(file: u64) -> bool
     ensures { result ≡ is_foreign file }
 {
-    (file >= 1 && file <= 15) || file >= 1 << 62
+    (file >= 2 && file <= 15) || file >= 1 << 62
 }
 
 /// The first number that is foreign.

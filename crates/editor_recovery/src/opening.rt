@@ -1,8 +1,8 @@
 // Opens a project.
-ghost use Rattle.std.specs.Prelude.{◌≡◌, IsTrue, IfOk, IfErr, OnOk};
+ghost use Rattle.std.specs.Prelude.{◌≡◌, ◌≤◌, IsTrue, IfOk, IfErr, OnOk};
 ghost use Rattle.disk_model.specs.Disk.{StaysStep};
 ghost use Rattle.disk_model.specs.Frames.{Changed};
-ghost use Rattle.project_journal.specs.Header.{version_1};
+ghost use Rattle.project_journal.specs.Header.{Form, IsForm};
 ghost use Rattle.project_journal.specs.Journal.{Log, HasLog, IsAt};
 ghost use Rattle.project_journal.specs.Gate.{EachNow, IsDurable};
 ghost use Rattle.project_state.specs.Kept.{Keeps, history_blocks};
@@ -29,11 +29,12 @@ use std::alloc::Global;
 fn open_parts<S: Store>(alloc: Global, store: &mut S) -> Result<Parts, OpenFault>
     ensures opens { IsTrue (S.tells store.old) → Opens (S.reads store.old) (answer_in result) }
     ensures at_rest { IsTrue (S.tells store.old)
-        → IfOk result (λ p. (log : Log) → HasLog version_1 log (S.reads store.old)
-        → IsAt version_1 S.Store store.new p.journal_end log) }
+        → IfOk result (λ p. (form : Form) (log : Log) → IsForm form → form.file ≤ 1
+        → HasLog form log (S.reads store.old) → IsAt form S.Store store.new p.journal_end log) }
     ensures sound { IfOk result IsSoundParts }
     ensures opening { IfErr result IsOpenRefusal }
     ensures durable { OnOk result (IsDurable S.Store store.new 0) }
+    ensures other { OnOk result (IsDurable S.Store store.new 1) }
     ensures cause { Causes S.Store store.old store.new result }
     ensures reads { S.reads store.new ≡ S.reads store.old }
     ensures changed { Changed S.Store StaysStep (record { files = 0; bytes = 0; calls = 2 }) store.old store.new }
@@ -66,20 +67,22 @@ fn make_studio<S: Store>(alloc: Global, store: S, parts: Parts) -> Result<Studio
 ///
 /// # Errors
 ///
-/// The first of these. Absent: no project is there. Foreign: a file is there that is neither the journal nor a block,
+/// The first of these. Absent: no project is there. Foreign: a file is there that is neither of a journal nor a block,
 /// the least of them. Damaged: the first field in the order of the files that is not as it has to be. DiskFault and
 /// NoMemory may come in place of each.
 pub fn open_store<S: Store>(alloc: Global, store: S) -> Result<Studio<S>, (OpenFault, S)>
     ensures opens { IsTrue (S.tells store) → Opens (S.reads store) (answer_of result) }
-    // Whatever the store tells, it is a studio of which nothing was asked yet, each block has one length, and the
-    // journal is on the disk.
+    // Whatever the store tells, it is a studio of which nothing was asked yet, each block has one length, and files 0
+    // and 1 are on the disk.
     ensures studio { IfOk result (λ s. IsStudio S.Store (core_of s)) }
     ensures fresh { IfOk result (λ s. IsNew (core_of s)) }
     ensures one_length { IfOk result (λ s. HaveOneLength (history_blocks (core_of s).history)) }
     ensures durable { IfOk result (λ s. IsDurable S.Store (core_of s).store 0) }
+    ensures other { IfOk result (λ s. IsDurable S.Store (core_of s).store 1) }
     // The journal of the store and of each image ends where the studio says.
-    ensures at_rest { IsTrue (S.tells store) → IfOk result (λ s. (log : Log) → HasLog version_1 log (S.reads store)
-        → IsAt version_1 S.Store (core_of s).store (core_of s).journal_end log) }
+    ensures at_rest { IsTrue (S.tells store) → IfOk result (λ s. (form : Form) (log : Log) → IsForm form
+        → form.file ≤ 1 → HasLog form log (S.reads store)
+        → IsAt form S.Store (core_of s).store (core_of s).journal_end log) }
     // The error names a foreign file only by a foreign number, and never says that a project is there.
     ensures refusals { IfErr result (λ e. IsOpenRefusal e.0) }
     // Over an honest disk no fault is found, what is found is what each image keeps, and the disk holds the studio.

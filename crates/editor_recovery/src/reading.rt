@@ -2,7 +2,7 @@
 ghost use Rattle.std.specs.Prelude.{◌≡◌, [], None, IsTrue, IfOk, OnOk, find, IfErr};
 ghost use Rattle.std.specs.List.Sorted.{IsStrictlyIncreasing};
 ghost use Rattle.project_journal.specs.Gate.{IsDurable};
-ghost use Rattle.project_journal.specs.Reader.{IsReading};
+ghost use Rattle.project_journal.specs.Reader.{IsHeading};
 ghost use Rattle.disk_model.specs.Disk.{StaysStep};
 ghost use Rattle.disk_model.specs.Frames.{Kept, Changed};
 ghost use Rattle.editor_recovery.specs.Listing.{IsOpenRefusal, Lists};
@@ -33,15 +33,16 @@ fn with_files<S: Store>(alloc: Global, store: &mut S, reader: Reader) -> Result<
     }
 }
 
-/// The fault of a header, which is told where no file is foreign.
+/// The fault of the choice between the files or of a header, which is reported where no file is foreign.
 fn refused<S: Store>(
     alloc: Global,
     store: &mut S,
+    file: u64,
     at: u64,
     want: u128,
     have: u128,
 ) -> Result<Disk, OpenFault>
-    ensures refuses { IsTrue (S.tells store.old) → Refuses (S.reads store.old) at want have result }
+    ensures refuses { IsTrue (S.tells store.old) → Refuses (S.reads store.old) file at want have result }
     ensures none { IfOk result (λ d. ⊥) }
     ensures opening { IfErr result IsOpenRefusal }
     ensures kept { Kept S.Store store.old store.new }
@@ -49,7 +50,7 @@ fn refused<S: Store>(
 {
     match list_files(alloc, store) {
         Ok(_files) => Err(OpenFault::Damaged {
-            file: 0,
+            file,
             at,
             want,
             have,
@@ -62,7 +63,7 @@ fn refused<S: Store>(
 /// header's fault.
 pub(crate) fn read_disk<S: Store>(alloc: Global, store: &mut S) -> Result<Disk, OpenFault>
     ensures reads { IsTrue (S.tells store.old) → ReadsDisk (S.reads store.old) result }
-    ensures reading { IfOk result (λ d. IsReading S.Store store.new d.reader []) }
+    ensures heading { IfOk result (λ d. IsHeading S.Store store.new d.reader []) }
     ensures known { IfOk result (λ d. find is_foreign d.files.items ≡ None) }
     ensures rising { IfOk result (λ d. IsStrictlyIncreasing d.files.items) }
     ensures opening { IfErr result IsOpenRefusal }
@@ -74,7 +75,14 @@ pub(crate) fn read_disk<S: Store>(alloc: Global, store: &mut S) -> Result<Disk, 
 {
     match open_journal(alloc, store) {
         Ok(reader) => with_files(alloc, store, reader),
-        Err(JournalFault::Damaged { at, want, have, .. }) => refused(alloc, store, at, want, have),
+        Err(
+            JournalFault::Damaged {
+                file,
+                at,
+                want,
+                have,
+            },
+        ) => refused(alloc, store, file, at, want, have),
         Err(JournalFault::Absent) => Err(OpenFault::Absent),
         Err(JournalFault::DiskFault) => Err(OpenFault::DiskFault),
         Err(JournalFault::NoMemory) => Err(OpenFault::NoMemory),

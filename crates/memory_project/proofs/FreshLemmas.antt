@@ -1,12 +1,14 @@
 -- A disk without files, and a project that was made on it.
-use Rattle.std.proofs.Common.{◌≡◌, ◌≢◌, ℕ, zero, suc, IsTrue, IsSome, Option, Some, None, Err, List, length, refl}
-use Rattle.std.proofs.Common.{sym, ap, ◌∙◌, subst, arith}
+use Rattle.std.proofs.Common.{◌≡◌, ◌≢◌, ⊎_elim, ℕ, zero, suc, IsTrue, IsSome, Option, Some, None, Err, refl}
+use Rattle.std.proofs.Common.{sym, ◌∙◌, subst, arith}
 use Rattle.std.proofs.lemmas.Bool.{true≢false}
-use Rattle.disk_model.specs.Disk.{SameElsewhere, bytes_of}
+use Rattle.disk_model.specs.Disk.{SameElsewhere}
 use Rattle.disk_model.specs.Frames.{Changed}
 use Rattle.disk_model.specs.Room.{IsWithin}
 use Rattle.disk_model.specs.declared.store.Store.{Ghosts}
 use Rattle.project_journal.specs.Gate.{EachNow}
+use Rattle.project_journal.specs.Header.{version_1}
+use Rattle.project_journal.specs.Journal.{IsAt, fresh}
 use Rattle.project_journal.specs.Rooms.{create_room}
 use Rattle.project_state.specs.Kept.{Keeps}
 use Rattle.editor_recovery.specs.declared.fault.OpenFault.{OpenFault}
@@ -14,9 +16,10 @@ use Rattle.editor_recovery.specs.declared.fault.OpenFault.TheVariants as fault
 use Rattle.editor_recovery.specs.Causes.{Causes}
 use Rattle.editor_recovery.specs.Creating.{Creates}
 use Rattle.editor_recovery.specs.Honest.{IsHonest}
+use Rattle.editor_recovery.specs.Standing.{HasNone}
 use Rattle.memory_project.specs.declared.fresh.FreshProject.{FreshProject}
 use Rattle.memory_project.specs.Fresh.{CanBeMade, IsEmpty, IsMade, found_of, left_behind, made_room, room_of_project}
-use Rattle.memory_project.proofs.RoomLemmas.{Takes, asked_by, files_few, no_fault_within, room_left}
+use Rattle.memory_project.proofs.RoomLemmas.{Takes, asked_by, files_few, no_fault_within, no_project, room_left}
 
 pub absent : {A : Type 0} (x : Option A) → x ≡ None → IsSome x → ⊥
 absent None e some = true≢false (sym some)
@@ -31,15 +34,14 @@ module _ {D : Type 0} (disk : Ghosts D) (p : FreshProject) (can : CanBeMade p) (
       let files = can.files_least in let bytes = can.bytes_least in let calls = can.calls_least in
       (omega (arith, few, files), omega (arith, bytes), omega (arith, calls))
 
+  none_there : HasNone (disk.reads store)
+  none_there = no_project (disk.reads store) empty.none
+
   -- making it fails for want of memory alone
   pub making_wants : (why : OpenFault) → Creates {T = Unit {0}} (disk.reads store) (Err why)
       → Causes {T = Unit {0}} disk store new (Err why) → why ≡ fault.NoMemory
   making_wants fault.Absent creates cause = absurd creates
-  making_wants fault.Exists creates cause =
-      let long = creates.0 in
-      let short : length (bytes_of (disk.reads store 0)) ≡ 0 =
-      ap (λ (x : Option (List ℕ)). length (bytes_of x)) (empty.none 0) in
-      absurd (omega (arith, long, short))
+  making_wants fault.Exists creates cause = absurd (⊎_elim none_there.0 none_there.1 creates)
   making_wants (fault.Damaged file at want have) creates cause = absurd creates
   making_wants (fault.Foreign file) creates cause =
       absurd (absent (disk.reads store file) (empty.none file) creates.1.there)
@@ -55,10 +57,11 @@ module _ {D : Type 0} (disk : Ghosts D) (p : FreshProject) (can : CanBeMade p) (
       absurd (absent (disk.reads new (suc n)) (changed.reads empty.tells (suc n) other ∙ empty.none (suc n)) some)
 
   pub is_made : IsHonest disk new → Keeps (disk.reads new) (found_of p) → EachNow disk new (λ c. Keeps c (found_of p))
-      → IsMade disk p new
-  is_made honest keeps each = record {
+      → IsAt version_1 disk new 32 (fresh p.rate p.block_size p.depth) → IsMade disk p new
+  is_made honest keeps each at = record {
     tells = subst IsTrue (sym changed.tells) empty.tells;
     honest = honest;
+    there = record { front = at.front; spelled = at.spelled; shut = at.read; newest = at.newest };
     keeps = keeps;
     each = each;
     only = only_journal;

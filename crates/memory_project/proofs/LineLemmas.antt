@@ -144,7 +144,7 @@ module _ {D : Type 0} (disk : Ghosts D) (old new : Core D) (c : Command) (may : 
     exchange = quietly (Line c) told
 
     abbrev journal : Option (List ℕ)
-    journal = disk.reads old.store 0
+    journal = disk.reads old.store old.file
 
     abbrev blocks_made : ℕ
     blocks_made = new.next_block - old.next_block

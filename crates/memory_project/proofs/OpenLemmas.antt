@@ -1,5 +1,5 @@
 -- A fresh project, opened: its studio is that of the model's fresh project.
-use Rattle.std.proofs.Common.{◌≡◌, ⊎_elim, ℕ, ◌+◌, IsTrue, IsSome, Err, Ok, List, [], ◌∷◌, ◌++◌, length, map, refl}
+use Rattle.std.proofs.Common.{◌≡◌, inl, ⊎_elim, ℕ, ◌+◌, ◌≤◌, IsTrue, IsSome, Err, Ok, List, [], ◌∷◌, ◌++◌, length, map, refl}
 use Rattle.std.proofs.Common.{sym, ap, ◌∙◌, subst, arith}
 use Rattle.std.specs.List.{flat_map}
 use Rattle.std.proofs.lemmas.List.{append-nil}
@@ -9,12 +9,12 @@ use Rattle.disk_model.specs.Room.{IsWithin, Room}
 use Rattle.disk_model.specs.declared.store.Store.{Ghosts}
 use Rattle.pcm_base.specs.Studio as model
 use Rattle.project_journal.specs.Gate.{EachNow}
-use Rattle.project_journal.specs.Header.{version_1}
-use Rattle.project_journal.specs.Journal.{Entry, HasLog, IsAt, IsLog, Log, body_of, entry}
+use Rattle.project_journal.specs.Header.{Form, IsForm, version_1}
+use Rattle.project_journal.specs.Journal.{Entry, HasLog, IsAt, IsLog, Log, body_of, entry, fresh}
 use Rattle.project_journal.proofs.Bases.{plain}
+use Rattle.project_journal.proofs.Chosen.{one_journal}
 use Rattle.project_journal.proofs.Kept.{is_project}
-use Rattle.project_state.specs.Kept.{Keeps, Kept, LeadTo, Opened, new_project}
-use Rattle.project_state.proofs.KeptBounds.{kept_sound}
+use Rattle.project_state.specs.Kept.{Begins, Keeps, Kept, LeadIn, new_project, version_of}
 use Rattle.project_state.proofs.KeptOnce.{keeps_once}
 use Rattle.editor_core.specs.Core.{Core}
 use Rattle.editor_core.specs.Studios.{IsHeld, IsStudio, clip_cells, pin_at, shown, studio_of}
@@ -34,27 +34,11 @@ use Rattle.memory_project.proofs.RoomLemmas.{Takes, asked_by, no_fault_within, r
 abbrev two_calls : Room
 two_calls = record { files = 0; bytes = 0; calls = 2 }
 
--- ---- records that make no commit are none
-
 none_of_none : {A B : Type 0} (f : A → B) (xs : List A) → map f xs ≡ [] → xs ≡ []
 none_of_none f [] e = refl
 none_of_none f (x ∷ xs) e = cc
 
-no_bodies : (m depth : ℕ) (bodies : List (List ℕ)) (end : Kept) → LeadTo m (new_project depth) bodies end → end.commit
-    ≡ 0
-    → bodies ≡ []
-no_bodies m depth [] end told none = refl
-no_bodies m depth (b ∷ bs) end told none =
-    let sound = kept_sound m depth end (b ∷ bs) told in
-    let is = sound.commit_is in absurd (omega (arith, is, none))
-
-led_nowhere : (m depth : ℕ) (bodies : List (List ℕ)) (end : Kept) → LeadTo m (new_project depth) bodies end → bodies ≡
-    []
-    → end ≡ new_project depth
-led_nowhere m depth bodies end told none =
-    subst (λ (bs : List (List ℕ)). LeadTo m (new_project depth) bs end) none told
-
--- such a journal is its header alone
+-- a journal without records is its header alone
 header_alone : (front : List ℕ) (log : Log) → IsLog version_1 front log → log.bodies ≡ [] → length front ≡ 32
 header_alone front log is none =
     let entries : is.entries ≡ [] = none_of_none body_of is.entries (is.bodies ∙ none) in
@@ -78,8 +62,8 @@ pub record Opened_to {D : Type 0} (disk : Ghosts D) (store : D) (start : Core D)
   pub opens : IsTrue (disk.tells store) → Opens (disk.reads store) (Ok (found_by start))
   pub studio : IsStudio disk start
   pub new : IsNew start
-  pub at_rest : IsTrue (disk.tells store) → (log : Log) → HasLog version_1 log (disk.reads store)
-      → IsAt version_1 disk start.store start.journal_end log
+  pub at_rest : IsTrue (disk.tells store) → (form : Form) (log : Log) → IsForm form → form.file ≤ 1
+      → HasLog form log (disk.reads store) → IsAt form disk start.store start.journal_end log
   pub held : IsHonest disk store → IsHeld disk start
   pub keeps : IsHonest disk store → EachNow disk start.store (λ c. Keeps c (shown (studio_of disk start)))
   pub stays_honest : IsHonest disk store → IsHonest disk start.store
@@ -104,22 +88,30 @@ module _ {D : Type 0} (disk : Ghosts D) (p : FreshProject) (can : CanBeMade p) (
         subst (λ (f : Files). Keeps f (found_of p)) (sym to.reads) made.keeps in
         keeps_once (disk.reads start.store) (shown (studio_of disk start)) (found_of p) keeps new
 
-    bodies_none : finds.log.bodies ≡ []
-    bodies_none = no_bodies finds.log.block_size finds.log.depth finds.log.bodies finds.kept finds.project.told
-        (sym finds.found.commit ∙ ap (λ (o : Opened). o.commit) shows)
+    abbrev log : Log
+    log = fresh p.rate p.block_size p.depth
+
+    -- nothing was recorded yet
+    kept_is : finds.kept ≡ new_project p.depth
+    kept_is =
+        let is = finds.project.stands in
+        let same : finds.log ≡ log = (one_journal finds.form version_1 finds.log log (disk.reads store) is.known
+        (inl refl) is.few (omega arith) is.there made.there).log in
+        let begins : Begins log is.base = subst (λ (l : Log). Begins l is.base) same is.begins in
+        let led : LeadIn (version_of finds.form) log.block_size is.base log.bodies finds.kept =
+        subst (λ (l : Log). LeadIn (version_of finds.form) l.block_size is.base l.bodies finds.kept) same is.told in
+        led ∙ begins
 
     next_is : start.next_block ≡ 16
     next_is =
-        let kept : finds.kept ≡ new_project finds.log.depth =
-        led_nowhere finds.log.block_size finds.log.depth finds.log.bodies finds.kept finds.project.told bodies_none in
         first_block (disk.reads store) start.next_block made.only
-        (subst (λ (n : ℕ). IsNextBlock (disk.reads store) n start.next_block) (ap (λ (k : Kept). k.next_block) kept)
+        (subst (λ (n : ℕ). IsNextBlock (disk.reads store) n start.next_block) (ap (λ (k : Kept). k.next_block) kept_is)
         finds.found.next_block)
 
     end_is : start.journal_end ≡ 32
     end_is =
-        let at = to.at_rest made.tells finds.log finds.project.there in
-        sym at.place ∙ header_alone at.front finds.log at.spelled bodies_none
+        let at = to.at_rest made.tells version_1 log (inl refl) (omega arith) made.there in
+        sym at.place ∙ header_alone at.front log at.spelled refl
 
     room_is : HasRoom disk start.store (left_behind 10 p)
     room_is = room_left disk store start.store StaysStep two_calls (left_behind 8 p) (left_behind 10 p) to.changed
@@ -168,8 +160,8 @@ module _ {D : Type 0} (disk : Ghosts D) (p : FreshProject) (can : CanBeMade p) (
   -- it is refused for want of memory alone
   pub opening_wants : (new : D) (why : OpenFault) → (IsHonest disk store → OpensHonest disk store new (Err why))
       → Causes {T = Found} disk store new (Err why) → Changed disk StaysStep two_calls store new → why ≡ fault.NoMemory
-  opening_wants new fault.Absent honest cause changed = absurd (honest made.honest
-      (is_project version_1 made.keeps.log (disk.reads store) (omega arith) made.keeps.there))
+  opening_wants new fault.Absent honest cause changed = absurd ((honest made.honest).0
+      (is_project version_1 (fresh p.rate p.block_size p.depth) (disk.reads store) (omega arith) made.there))
   opening_wants new fault.Exists honest cause changed = absurd (honest made.honest)
   opening_wants new (fault.Damaged file at want have) honest cause changed = absurd (honest made.honest)
   opening_wants new (fault.Foreign file) honest cause changed = absurd (honest made.honest)

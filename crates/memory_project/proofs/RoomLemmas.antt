@@ -1,14 +1,15 @@
 -- What is left of the room of a disk.
 use Rattle.std.proofs.Common.{◌≡◌, ◌⊎◌, inl, ⊎_elim, ℕ, ◌+◌, ◌≤◌, ◌<◌, ◌^◌, ◌-◌, IsTrue, IsSome, Option, Some, None}
-use Rattle.std.proofs.Common.{refl, sym, ◌∙◌, subst, arith}
+use Rattle.std.proofs.Common.{List, length, refl, sym, ap, ◌∙◌, subst, arith}
 use Rattle.std.proofs.lemmas.Bool.{true≢false}
-use Rattle.disk_model.specs.Disk.{Files}
+use Rattle.disk_model.specs.Disk.{Files, bytes_of}
 use Rattle.disk_model.specs.Frames.{Changed, Kept, asked}
 use Rattle.disk_model.specs.Room.{IsOver, IsSpent, IsWithin, Room, StaysRoom, files_made, together}
 use Rattle.disk_model.specs.declared.store.Store.{Ghosts}
 use Rattle.project_journal.specs.Answer.{HasFault}
 use Rattle.project_journal.specs.Gate.{EachNow}
 use Rattle.editor_recovery.specs.Honest.{IsHonest}
+use Rattle.editor_recovery.specs.Standing.{HasNone}
 use Rattle.editor_recovery.specs.StayingHonest.{ImagesAreHonest, IsHonestImage}
 use Rattle.memory_project.specs.Memory.{Fits, HasAsked, HasRoom}
 
@@ -16,11 +17,17 @@ use Rattle.memory_project.specs.Memory.{Fits, HasAsked, HasRoom}
 abbrev pub nothing : Files
 nothing = λ _. None
 
+-- so no project is
+pub no_project : (files : Files) → ((file : ℕ) → files file ≡ None) → HasNone files
+no_project files none = (λ project. absent 0 project.0, λ project. absent 1 project.0)
+  where
+    absent : (file : ℕ) → 33 ≤ length (bytes_of (files file)) → ⊥
+    absent file long = omega (arith, long, ap (λ (x : Option (List ℕ)). length (bytes_of x)) (none file))
+
 bare : IsHonestImage nothing
 bare = record {
   foreign = λ file there foreign. absurd (true≢false (sym there));
-  whole = inl
-      (λ h. let long = h.0 in absurd (omega (arith, long)));
+  whole = inl (no_project nothing (λ file. refl));
 }
 
 -- a disk without files is honest

@@ -4,7 +4,8 @@ use Rattle.disk_model.specs.Room.{Room}
 use Rattle.disk_model.specs.declared.store.Store.{Ghosts}
 use Rattle.pcm_base.specs.Studio.{fresh}
 use Rattle.project_journal.specs.Gate.{EachNow}
-use Rattle.project_journal.specs.Header.{IsFormat}
+use Rattle.project_journal.specs.Header.{IsFormat, version_1}
+use Rattle.project_journal.specs.Journal as journal
 use Rattle.project_state.specs.Kept.{Keeps, Opened}
 use Rattle.editor_core.specs.Core.{Core}
 use Rattle.editor_core.specs.Studios.{IsHeld, IsStudio, studio_of}
@@ -47,10 +48,11 @@ pub record IsEmpty {D : Type 0} (disk : Ghosts D) (p : FreshProject) (store : D)
   pub room : HasRoom disk store (room_of_project p)
   pub asked_none : HasAsked disk store no_room
 
--- The disk keeps it, and so does each image; no file is there but the journal.
+-- The disk has its journal, of version 1, and keeps it, and so does each image; no file is there but the journal.
 pub record IsMade {D : Type 0} (disk : Ghosts D) (p : FreshProject) (store : D) : Type 0 where
   pub tells : IsTrue (disk.tells store)
   pub honest : IsHonest disk store
+  pub there : journal.HasLog version_1 (journal.fresh p.rate p.block_size p.depth) (disk.reads store)
   pub keeps : Keeps (disk.reads store) (found_of p)
   pub each : EachNow disk store (λ c. Keeps c (found_of p))
   pub only : (file : ℕ) → IsSome (disk.reads store file) → file ≡ 0

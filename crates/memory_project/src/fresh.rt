@@ -23,7 +23,7 @@ pub struct FreshProject {
     pub files: usize,
     /// How many bytes: from 34.
     pub bytes: usize,
-    /// How many changing calls it serves: from 8.
+    /// How many changing calls it serves: from 10.
     pub calls: usize,
 }
 

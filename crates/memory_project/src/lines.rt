@@ -9,7 +9,7 @@ ghost use Rattle.memory_project.specs.Lines.{Asked, IsOfScript, MayCome, Went};
 
 use disk_model::Store;
 use editor_core::Studio;
-use pcm_base::{Command, NoMemory, Refusal};
+use pcm_base::{Command, NoMemory, Placing, RangeEdit, Refusal};
 use std::alloc::Global;
 
 // Whether there was an answer, or why there was none.
@@ -59,21 +59,30 @@ fn carry_line<S: Store>(
             start,
             step,
         } => ask_ramp(alloc, studio, *track, *at, *count, *start, *step),
-        Command::Delete { track, from, to } => told(studio.delete(alloc, *track, *from, *to)),
+        Command::Delete { track, from, to } => {
+            told(studio.edit_range(alloc, *track, *from, *to, RangeEdit::Delete))
+        }
         Command::Gain {
             track,
             from,
             to,
             gain,
-        } => told(studio.gain(alloc, *track, *from, *to, *gain)),
-        Command::Silence { track, from, to } => told(studio.silence(alloc, *track, *from, *to)),
+        } => {
+            let edit = RangeEdit::Gain { gain: *gain };
+            told(studio.edit_range(alloc, *track, *from, *to, edit))
+        }
+        Command::Silence { track, from, to } => {
+            told(studio.edit_range(alloc, *track, *from, *to, RangeEdit::Silence))
+        }
         Command::Copy {
             track,
             count,
             from,
             to,
         } => told(studio.copy(alloc, *track, *count, *from, *to)),
-        Command::Paste { track, at } => told(studio.paste(alloc, *track, *at)),
+        Command::Paste { track, at } => {
+            told(studio.paste_strips(alloc, *track, *at, Placing::Insert))
+        }
         Command::Undo => told(studio.undo()),
         Command::Redo => told(studio.redo()),
         Command::Tracks => told(studio.tracks(alloc)),

@@ -1,6 +1,7 @@
 // The numbered files of a folder, by calls of the system. No fault is counted here.
 ghost use Rattle.std.specs.Prelude.{◌≡◌, ◌≤◌, ◌^◌, ◌+◌, true, false, IfOk, OnOk, OnErr, IfSome, IsSome, length};
 ghost use Rattle.project_folder.specs.Entries.{waits_of};
+ghost use Rattle.project_folder.specs.Open.{IsNoneOpen};
 ghost use Rattle.project_folder.specs.Unsynced.{IsSynced};
 
 use crate::entries::Entries;
@@ -70,19 +71,27 @@ where
         Failed
     }
 
+    fn open_once(&mut self, how: &OpenOptions, file: u64) -> Result<Opened<R::File>, Failed>
+        ensures entries { self.new.entries ≡ self.old.entries }
+        ensures open { self.new.open_files ≡ self.old.open_files }
+    {
+        open_at(&self.files, how, self.paths.numbered(file)?)
+    }
+
     // Opens the file, or makes it, as the options say. Where that fails others may take up all descriptors: it is tried
     // once more when they are synced and closed. By then it may be there, made by the call that failed.
     fn open_as(&mut self, how: &OpenOptions, file: u64) -> Result<Opened<R::File>, Failed>
-        ensures { self.new.entries.folder ≡ self.old.entries.folder }
+        ensures folder { self.new.entries.folder ≡ self.old.entries.folder }
+        ensures closed { OnErr result (self.new.is_lost ≡ false → IsNoneOpen self.new.open_files) }
     {
-        if let Ok(opened) = open_at(&self.files, how, self.paths.numbered(file)?) {
+        if let Ok(opened) = self.open_once(how, file) {
             return Ok(opened);
         }
         match self.open_files.close_all(&self.how) {
             Ok(false) => Err(Failed),
             Ok(true) => {
                 self.entries.note(file);
-                open_at(&self.files, how, self.paths.numbered(file)?)
+                self.open_once(how, file)
             }
             Err(_) => Err(self.lose()),
         }

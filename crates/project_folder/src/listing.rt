@@ -1,5 +1,6 @@
 // The numbers of the files that a folder lists.
 ghost use Rattle.std.specs.Prelude.{◌≡◌, IfSome, OnOk, decimal};
+ghost use Rattle.std.specs.Io.KnownBytes.{IsAtEnd};
 ghost use Rattle.std.specs.List.Sorted.{IsStrictlyIncreasing};
 
 use crate::folder::Folder;
@@ -71,13 +72,15 @@ fn add_numbers<R: Files>(
     Ok(())
 }
 
-// Adds the numbers among all names.
+// Adds the numbers among all names, up to their end.
 fn add_all<R: Files>(
     files: &R,
     paths: &mut Paths,
     names: &mut R::Dir,
     out: &mut Vec<u64>,
-) -> Result<(), ListFault> {
+) -> Result<(), ListFault>
+    ensures ended { OnOk result (IsAtEnd (R.Dir.remaining names.new)) }
+{
     let mut buf = [0u8; NAME_BYTES];
     for _ in 0..u64::MAX {
         match names.read(&mut buf) {

@@ -1,6 +1,7 @@
 // The files that are kept open.
 ghost use Rattle.std.specs.Prelude.{◌≡◌, ◌≢◌, ◌<◌, [], IfSome, IfNone, OnOk, All, length};
 ghost use Rattle.project_folder.specs.Unsynced.{IsEmpty, IsSynced};
+ghost use Rattle.project_folder.specs.Open.{IsNoneOpen};
 
 use crate::span::Span;
 use crate::syncing::SyncFiles;
@@ -237,7 +238,9 @@ impl<F: OpenFile + Drop> OpenFiles<F> {
 
     // Closes all files, once they are synced, and says whether there were any. From then on no more than a quarter of their
     // number is kept of those that are written, and of the others, so that half of the descriptors stay free.
-    pub(crate) fn close_all<W: SyncFiles<F>>(&mut self, how: &W) -> Result<bool, Failed> {
+    pub(crate) fn close_all<W: SyncFiles<F>>(&mut self, how: &W) -> Result<bool, Failed>
+        ensures { OnOk result (IsNoneOpen self.new) }
+    {
         self.sync_waiting(how)?;
         self.sync_first()?;
         let count = self.synced.len().saturating_add(self.read.len());

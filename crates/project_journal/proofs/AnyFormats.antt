@@ -1,11 +1,13 @@
 -- A header of either version has a format that a header may have.
-use Rattle.std.proofs.Common.{◌≡◌, ℕ, ◌%◌, ◌^◌, ◌≤◌, min, max, List, ◌++◌, None, subst, ⊎_elim, arith}
+use Rattle.std.proofs.Common.{◌≡◌, ◌⊎◌, ℕ, zero, suc, ◌-◌, ◌%◌, ◌^◌, ◌<◌, ◌≤◌, min, max, List, [], ◌∷◌, ◌++◌, None, eqb, refl, sym}
+use Rattle.std.proofs.Common.{arith, subst, inl, inr, ⊎_elim}
 use Rattle.std.proofs.lemmas.Bool.{eqb-true}
 use Rattle.project_journal.specs.Fields.{field}
 use Rattle.disk_model.specs.Disk.{Files}
-use Rattle.project_journal.specs.Header.{Form, IsForm, IsFormat, first_failed, number_tests, base_tests}
-use Rattle.project_journal.specs.Header.{zero_tests, the_zeros, base_fields}
+use Rattle.project_journal.specs.Header.{Form, IsForm, IsFormat, first_failed, number_tests, base_tests, base_tests_in}
+use Rattle.project_journal.specs.Header.{last_tests, the_zeros, base_fields, base_header_tests}
 use Rattle.project_journal.specs.declared.base.Base.{Base}
+use Rattle.project_journal.specs.declared.fault.Damaged.{Damaged}
 use Rattle.project_journal.specs.Journal.{Log, HasLog, IsHeader}
 use Rattle.project_journal.proofs.Formats.{passed, is_size}
 use Rattle.project_journal.proofs.Seen.{both_pass}
@@ -31,23 +33,22 @@ numbers_format version head e =
       depth_most = omega (arith, d);
     }
 
-numbers_pass : (form : Form) (head : List ℕ) (log : Log) → IsForm form → IsHeader form head log
+-- of either version
+pub numbers_sound : (form : Form) (head : List ℕ) → IsForm form → first_failed (form.tests head) ≡ None
     → IsFormat (field 9 4 head) (field 13 4 head) (field 17 4 head)
-numbers_pass form head log known is = ⊎_elim
+numbers_sound form head known sound = ⊎_elim
     (λ one.
-    let sound = (subst (λ (f : Form). IsHeader f head log) one is).sound in
-    numbers_format 1 head (both_pass (number_tests 1 head) (the_zeros head) sound).0)
+    let is = subst (λ (f : Form). first_failed (f.tests head) ≡ None) one sound in
+    numbers_format 1 head (both_pass (number_tests 1 head) (the_zeros head) is).0)
     (λ two.
-    let sound = (subst (λ (f : Form). IsHeader f head log) two is).sound in
-    numbers_format 2 head (both_pass (number_tests 2 head) (base_tests head ++ zero_tests 3 61 head) sound).0)
+    let is = subst (λ (f : Form). first_failed (f.tests head) ≡ None) two sound in
+    numbers_format 2 head (both_pass (number_tests 2 head) (base_tests head ++ last_tests head) is).0)
     known
 
-pub any_format : (form : Form) (log : Log) (c : Files) → IsForm form → HasLog form log c
+pub header_format : (form : Form) (head : List ℕ) (log : Log) → IsForm form → IsHeader form head log
     → IsFormat log.rate log.block_size log.depth
-any_format form log c known has =
-    let head = has.spelled.head in
-    let is = has.spelled.header in
-    let format = numbers_pass form head log known is in
+header_format form head log known is =
+    let format = numbers_sound form head known is.sound in
     record {
       rate_least = omega (arith, format.rate_least, is.rate);
       even = subst (λ (m : ℕ). m % 2 ≡ 0) is.block_size format.even;
@@ -56,6 +57,10 @@ any_format form log c known has =
       depth_least = omega (arith, format.depth_least, is.depth);
       depth_most = omega (arith, format.depth_most, is.depth);
     }
+
+pub any_format : (form : Form) (log : Log) (c : Files) → IsForm form → HasLog form log c
+    → IsFormat log.rate log.block_size log.depth
+any_format form log c known has = header_format form has.spelled.head log known has.spelled.header
 
 -- the base of either version is in its bounds
 pub record HasBase (b : Base) : Type 0 where
@@ -67,12 +72,15 @@ pub record HasBase (b : Base) : Type 0 where
   pub track_most : b.next_track ≤ 2 ^ 62
 
 base_bounds : (head : List ℕ) → first_failed (base_tests head) ≡ None → HasBase (base_fields head)
-unfolding base_tests
+unfolding base_tests_in
 base_bounds head e =
     let generation = passed _ _ _ e in
-    let commit = passed _ _ _ generation.1 in
-    let block = passed _ _ _ commit.1 in
-    let track = passed _ _ _ block.1 in
+    let commit_there = passed _ _ _ generation.1 in
+    let commit = passed _ _ _ commit_there.1 in
+    let block_there = passed _ _ _ commit.1 in
+    let block = passed _ _ _ block_there.1 in
+    let track_there = passed _ _ _ block.1 in
+    let track = passed _ _ _ track_there.1 in
     let g : min (2 ^ 62) (field 21 8 head) ≡ field 21 8 head = eqb-true _ _ generation.0 in
     let c : min (2 ^ 62) (field 29 8 head) ≡ field 29 8 head = eqb-true _ _ commit.0 in
     let b : min (2 ^ 62) (max 16 (field 37 8 head)) ≡ field 37 8 head = eqb-true _ _ block.0 in
@@ -86,13 +94,43 @@ base_bounds head e =
       track_most = omega (arith, t);
     }
 
-pub any_base : (form : Form) (log : Log) (c : Files) → IsForm form → HasLog form log c → HasBase log.base
-any_base form log c known has =
-    let head = has.spelled.head in
-    ⊎_elim
-    (λ one.
-    let is = subst (λ (f : Form). IsHeader f head log) one has.spelled.header in
-    subst HasBase is.base (record {
+-- and so are its counts, where it has points
+pub record HasCounts (depth : ℕ) (b : Base) : Type 0 where
+  pub few : b.count ≤ depth
+  pub current : (b.count ≡ 0) ⊎ (b.cursor < b.count)
+
+zero_or_below : (n k : ℕ) → min (n - 1) k ≡ k → (n ≡ 0) ⊎ (k < n)
+zero_or_below zero k e = inl refl
+zero_or_below (suc n) k e = inr (omega (arith, e))
+
+-- each test finds what it wants
+abbrev Pass : List Damaged → Type 0
+Pass [] = Unit {0}
+Pass (test ∷ tests) = (test.want ≡ test.have) × Pass tests
+
+all_pass : (tests : List Damaged) → first_failed tests ≡ None → Pass tests
+all_pass [] none = tt
+all_pass (test ∷ tests) none =
+    let here = passed (eqb test.want test.have) (first_failed tests) test none in
+    (eqb-true test.want test.have here.0, all_pass tests here.1)
+
+base_counts : (head : List ℕ) → first_failed (base_tests head) ≡ None → HasCounts (field 17 4 head) (base_fields head)
+unfolding base_tests_in
+base_counts head e =
+    let pass = all_pass (base_tests head) e in
+    let count : min (field 17 4 head) (max 1 (field 53 4 head)) ≡ field 53 4 head = pass.1.1.1.1.1.1.1.1.0 in
+    let cursor : min (field 53 4 head - 1) (field 57 4 head) ≡ field 57 4 head = pass.1.1.1.1.1.1.1.1.1.1.0 in
+    record { few = omega (arith, count); current = zero_or_below (field 53 4 head) (field 57 4 head) cursor }
+
+second_base : (head : List ℕ) → first_failed (base_header_tests head) ≡ None → first_failed (base_tests head) ≡ None
+second_base head sound =
+    (both_pass (base_tests head) (last_tests head)
+    (both_pass (number_tests 2 head) (base_tests head ++ last_tests head) sound).1).0
+
+pub base_sound : (form : Form) (head : List ℕ) → IsForm form → first_failed (form.tests head) ≡ None
+    → HasBase (form.base_at head)
+base_sound form head known sound = ⊎_elim
+    (λ one. subst (λ (f : Form). HasBase (f.base_at head)) (sym one) (record {
       generation = omega arith;
       commit = omega arith;
       block_least = omega arith;
@@ -101,8 +139,21 @@ any_base form log c known has =
       track_most = omega arith;
     }))
     (λ two.
-    let is = subst (λ (f : Form). IsHeader f head log) two has.spelled.header in
-    subst HasBase is.base (base_bounds head
-    (both_pass (base_tests head) (zero_tests 3 61 head)
-    (both_pass (number_tests 2 head) (base_tests head ++ zero_tests 3 61 head) is.sound).1).0))
+    let is = subst (λ (f : Form). first_failed (f.tests head) ≡ None) two sound in
+    subst (λ (f : Form). HasBase (f.base_at head)) (sym two) (base_bounds head (second_base head is)))
     known
+
+pub counts_sound : (form : Form) (head : List ℕ) → IsForm form → first_failed (form.tests head) ≡ None
+    → HasCounts (field 17 4 head) (form.base_at head)
+counts_sound form head known sound = ⊎_elim
+    (λ one. subst (λ (f : Form). HasCounts (field 17 4 head) (f.base_at head)) (sym one)
+    (record { few = omega arith; current = inl refl }))
+    (λ two.
+    let is = subst (λ (f : Form). first_failed (f.tests head) ≡ None) two sound in
+    subst (λ (f : Form). HasCounts (field 17 4 head) (f.base_at head)) (sym two) (base_counts head (second_base head is)))
+    known
+
+pub any_base : (form : Form) (log : Log) (c : Files) → IsForm form → HasLog form log c → HasBase log.base
+any_base form log c known has =
+    let is = has.spelled.header in
+    subst HasBase is.base (base_sound form has.spelled.head known is.sound)

@@ -1,13 +1,13 @@
 -- What is said of the points of a header.
-use Rattle.std.proofs.Common.{◌≡◌, ℕ, List, [], ◌∷◌, ◌++◌, length, map, take, drop, refl, sym, ◌∙◌, ap, subst}
-use Rattle.std.proofs.Common.{arith, append_assoc, length-append, length-drop, take-append-drop, ⊎_elim}
+use Rattle.std.proofs.Common.{◌≡◌, ℕ, List, [], ◌∷◌, ◌++◌, length, map, take, drop, refl, sym, ◌∙◌, ap}
+use Rattle.std.proofs.Common.{arith, append_assoc, length-append, length-drop, take-append-drop}
 use Rattle.std.proofs.lemmas.List.{take_at, drop_at, length-take-le}
 use Rattle.std.specs.List.{flat_map, AllByRecursion}
 use Rattle.byteorder.specs.Endian.{little_number}
-use Rattle.project_journal.specs.Header.{Form, IsForm, no_base, base_fields, form_1}
+use Rattle.project_journal.specs.Header.{Form, IsForm, no_base, form_1}
 use Rattle.project_journal.specs.declared.base.Base.{Base}
 use Rattle.project_journal.specs.Journal.{Log, Row, row, bytes_in, IsRow, IsHeader, points_size, header_end}
-use Rattle.project_journal.proofs.Parses.{field_take}
+use Rattle.project_journal.proofs.Parses.{form_base}
 
 -- two cuts of one list at the same place
 pub front_same : (a b x y : List ℕ) → length a ≡ length b → a ++ x ≡ b ++ y → a ≡ b
@@ -89,24 +89,6 @@ same_rows (a ∷ xs) (b ∷ ys) x y len p q e =
       rest = more.rest;
     }
 
-take_base : (bytes : List ℕ) → base_fields (take 64 bytes) ≡ base_fields bytes
-take_base bytes = λ i. record {
-  generation = field_take 21 8 64 bytes (omega arith) i;
-  commit = field_take 29 8 64 bytes (omega arith) i;
-  next_block = field_take 37 8 64 bytes (omega arith) i;
-  next_track = field_take 45 8 64 bytes (omega arith) i;
-  count = field_take 53 4 64 bytes (omega arith) i;
-  cursor = field_take 57 4 64 bytes (omega arith) i;
-}
-
--- the base is told by the bytes in front of the points
-base_front : (form : Form) (bytes : List ℕ) → IsForm form
-    → form.base_at (take form.header_size bytes) ≡ form.base_at bytes
-base_front form bytes is = ⊎_elim
-    (λ one. subst (λ (f : Form). f.base_at (take f.header_size bytes) ≡ f.base_at bytes) (sym one) refl)
-    (λ two. subst (λ (f : Form). f.base_at (take f.header_size bytes) ≡ f.base_at bytes) (sym two) (take_base bytes))
-    is
-
 pub record SameHead (a b : Log) (g h x y : List ℕ) : Type 0 where
   pub head : g ≡ h
   pub base : a.base ≡ b.base
@@ -130,8 +112,8 @@ same_head form a b g h x y known p q e =
     let long : length g-fields ≡ length h-fields =
     length-take-le n g p.least ∙ sym (length-take-le n h q.least) in
     let fields : g-fields ≡ h-fields = front_same g-fields h-fields _ _ long whole in
-    let base : a.base ≡ b.base = sym p.base ∙ sym (base_front form g known) ∙ ap form.base_at fields
-    ∙ base_front form h known ∙ q.base in
+    let base : a.base ≡ b.base = sym p.base ∙ sym (form_base form n g known (omega arith)) ∙ ap form.base_at fields
+    ∙ form_base form n h known (omega arith) ∙ q.base in
     let rows = same_rows p.rows q.rows x y (p.count ∙ ap (λ (z : Base). z.count) base ∙ sym q.count) p.each q.each
     (rest_same g-fields h-fields _ _ long whole) in
     record {

@@ -10,13 +10,8 @@ use Rattle.project_journal.specs.Header.{Form, IsForm, IsProject, form_1, form_2
 use Rattle.project_journal.specs.Journal.{Log, entry, HasLog}
 use Rattle.project_journal.proofs.Kept.{is_project}
 use Rattle.project_journal.proofs.Once.{log_once}
+use Rattle.project_journal.proofs.Parses.{form_least}
 use Rattle.project_journal.proofs.Seen.{log_seen, version_of, least_head, field_front}
-
-form_least : (form : Form) → IsForm form → 32 ≤ form.header_size
-form_least form known = ⊎_elim
-    (λ one. subst (λ (f : Form). 32 ≤ f.header_size) (sym one) (omega arith))
-    (λ two. subst (λ (f : Form). 32 ≤ f.header_size) (sym two) (omega arith))
-    known
 
 -- a disk that has a journal has a project in its file
 pub journal_project : (form : Form) (log : Log) (c : Files) → IsForm form → HasLog form log c

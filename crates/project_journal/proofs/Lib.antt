@@ -17,6 +17,14 @@ mod Splits
 mod RowParts
 mod Standing
 pub mod Begun
+pub mod Headed
+mod Padded
+mod PointStanding
+pub mod Choices
+pub mod Picked
+mod Cuts
+pub mod ReadOnce
+pub mod Readables
 pub mod Readings
 pub mod FirstReadings
 mod Headers

@@ -10,7 +10,7 @@ use Rattle.project_journal.specs.Fields.{field}
 use Rattle.project_journal.specs.Gate.{IsShut}
 use Rattle.project_journal.specs.Header.{Form, IsForm, first_failed, form_1, form_2, number_tests}
 use Rattle.project_journal.specs.declared.base.Base.{Base}
-use Rattle.project_journal.specs.Header.{base_tests, the_zeros, zero_tests}
+use Rattle.project_journal.specs.Header.{base_tests, base_tests_in, last_tests, the_zeros}
 use Rattle.project_journal.specs.declared.fault.Damaged.{Damaged}
 use Rattle.project_journal.specs.Journal.{Log, entry, IsHeader, IsLog}
 use Rattle.project_journal.proofs.Formats.{passed}
@@ -50,7 +50,7 @@ pub record Numbers (version : ℕ) (bytes : List ℕ) : Type 0 where
   pub magic : field 1 4 bytes ≡ 827214401
   pub version_is : field 5 4 bytes ≡ version
 
-numbers_pass : (version : ℕ) (bytes : List ℕ) → first_failed (number_tests version bytes) ≡ None
+pub numbers_pass : (version : ℕ) (bytes : List ℕ) → first_failed (number_tests version bytes) ≡ None
     → Numbers version bytes
 unfolding number_tests
 numbers_pass version bytes e =
@@ -59,7 +59,7 @@ numbers_pass version bytes e =
     record { magic = sym (eqb-true _ _ magic.0); version_is = sym (eqb-true _ _ is.0) }
 
 bound_passes : (bytes : List ℕ) → first_failed (base_tests bytes) ≡ None → field 21 8 bytes ≤ 2 ^ 62
-unfolding base_tests
+unfolding base_tests_in
 bound_passes bytes e =
     let first = passed _ _ _ e in
     let most : min (2 ^ 62) (field 21 8 bytes) ≡ field 21 8 bytes = eqb-true _ _ first.0 in
@@ -80,9 +80,9 @@ chosen_1 file head log is =
 chosen_2 : (file : ℕ) (head : List ℕ) (log : Log) → IsHeader (form_2 file) head log
     → Chosen head log.base.generation
 chosen_2 file head log is =
-    let parts = both_pass (number_tests 2 head) (base_tests head ++ zero_tests 3 61 head) is.sound in
+    let parts = both_pass (number_tests 2 head) (base_tests head ++ last_tests head) is.sound in
     let numbers = numbers_pass 2 head parts.0 in
-    let bound = bound_passes head (both_pass (base_tests head) (zero_tests 3 61 head) parts.1).0 in
+    let bound = bound_passes head (both_pass (base_tests head) (last_tests head) parts.1).0 in
     let same : field 21 8 head ≡ log.base.generation = ap (λ (b : Base). b.generation) is.base in
     record {
       magic = numbers.magic;
@@ -91,7 +91,7 @@ chosen_2 file head log is =
       is = second_version head numbers.version_is ∙ same;
     }
 
-chosen : (form : Form) (head : List ℕ) (log : Log) → IsForm form → IsHeader form head log
+pub chosen : (form : Form) (head : List ℕ) (log : Log) → IsForm form → IsHeader form head log
     → Chosen head log.base.generation
 chosen form head log known is = ⊎_elim
     (λ one. chosen_1 form.file head log (subst (λ (f : Form). IsHeader f head log) one is))
@@ -109,7 +109,7 @@ version_of form head log known is = ⊎_elim
     inr (
       two,
       (numbers_pass 2 head
-          (both_pass (number_tests 2 head) (base_tests head ++ zero_tests 3 61 head) sound).0).version_is,
+          (both_pass (number_tests 2 head) (base_tests head ++ last_tests head) sound).0).version_is,
     ))
     known
 
@@ -121,7 +121,7 @@ least_head form head log known is = ⊎_elim
     omega (arith, least))
     known
 
-choice_passes : (bytes : List ℕ) (g : ℕ) → Chosen bytes g → first_failed (choice_tests bytes) ≡ None
+pub choice_passes : (bytes : List ℕ) (g : ℕ) → Chosen bytes g → first_failed (choice_tests bytes) ≡ None
 unfolding choice_tests
 choice_passes bytes g is =
     let version : min 2 (max 1 (field 5 4 bytes)) ≡ field 5 4 bytes = ⊎_elim
@@ -133,7 +133,7 @@ choice_passes bytes g is =
       eq-eqb (min (2 ^ 62) (generation_at bytes)) (generation_at bytes) bound,
     ) refl
 
-generation_front : (head rest : List ℕ) → 32 ≤ length head → generation_at (head ++ rest) ≡ generation_at head
+pub generation_front : (head rest : List ℕ) → 32 ≤ length head → generation_at (head ++ rest) ≡ generation_at head
 unfolding generation_at
 generation_front head rest least =
     rw (field_front 5 4 head rest (omega arith) least, field_front 21 8 head rest (omega arith) least) refl

@@ -1,5 +1,5 @@
 -- A header of version 2 as it is written.
-use Rattle.std.proofs.Common.{◌≡◌, ◌≢◌, ℕ, ◌-◌, ◌^◌, ◌<◌, min, max, None, List, [], ◌∷◌, ◌++◌, length, map}
+use Rattle.std.proofs.Common.{◌≡◌, ◌≢◌, ℕ, ◌+◌, ◌-◌, ◌^◌, ◌<◌, ◌≤◌, min, max, None, List, [], ◌∷◌, ◌++◌, length, map}
 use Rattle.std.proofs.Common.{replicate, refl, sym, ◌∙◌, ap, subst, arith}
 use Rattle.std.proofs.lemmas.Bool.{eq-eqb}
 use Rattle.std.proofs.lemmas.List.{append-nil, length-map}
@@ -7,9 +7,9 @@ use Rattle.std.specs.List.{flat_map, AllByRecursion}
 use Rattle.byteorder.specs.Endian.{little_number, little_bytes}
 use Rattle.byteorder.specs.Numbers.{little_number-reads_back}
 use Rattle.project_journal.specs.Fields.{field}
-use Rattle.project_journal.specs.Header.{IsFormat, IsBase, first_failed, nearest_size, number_tests, base_tests}
+use Rattle.project_journal.specs.Header.{IsFormat, IsBase, first_failed, nearest_size, number_tests, base_tests_in}
 use Rattle.project_journal.specs.declared.base.Base.{Base}
-use Rattle.project_journal.specs.Header.{base_header_tests, base_fields, zero_tests, form_2}
+use Rattle.project_journal.specs.Header.{base_header_tests, base_fields, last_tests_in, zero_tests, form_2}
 use Rattle.project_journal.specs.Journal.{Log, Row, row, bytes_in, IsRow, IsHeader}
 use Rattle.project_journal.specs.Packing.{sized, header_row, IsText, AreShort}
 
@@ -47,9 +47,9 @@ sound_base : (bytes : List ℕ) → field 1 4 bytes ≡ 827214401 → field 5 4 
     → min (2 ^ 62) (max 1 (field 45 8 bytes)) ≡ field 45 8 bytes
     → min (field 17 4 bytes) (max 1 (field 53 4 bytes)) ≡ field 53 4 bytes
     → min (field 53 4 bytes - 1) (field 57 4 bytes) ≡ field 57 4 bytes
-    → first_failed (zero_tests 3 61 bytes) ≡ None → first_failed (base_header_tests bytes) ≡ None
-unfolding number_tests base_tests
-sound_base bytes magic version rate block_size depth generation commit block track count cursor zeros =
+    → 64 ≤ length bytes → first_failed (zero_tests 3 61 bytes) ≡ None → first_failed (base_header_tests bytes) ≡ None
+unfolding number_tests base_tests_in last_tests_in
+sound_base bytes magic version rate block_size depth generation commit block track count cursor long zeros =
     rw (
       eq-eqb 827214401 (field 1 4 bytes) (sym magic),
       eq-eqb 2 (field 5 4 bytes) (sym version),
@@ -57,11 +57,17 @@ sound_base bytes magic version rate block_size depth generation commit block tra
       eq-eqb (nearest_size (field 13 4 bytes)) (field 13 4 bytes) block_size,
       eq-eqb (min 4096 (max 1 (field 17 4 bytes))) (field 17 4 bytes) depth,
       eq-eqb (min (2 ^ 62) (field 21 8 bytes)) (field 21 8 bytes) generation,
+      eq-eqb (29 + 8) (min (29 + 8) (length bytes)) (omega (arith, long)),
       eq-eqb (min (2 ^ 62) (field 29 8 bytes)) (field 29 8 bytes) commit,
+      eq-eqb (37 + 8) (min (37 + 8) (length bytes)) (omega (arith, long)),
       eq-eqb (min (2 ^ 62) (max 16 (field 37 8 bytes))) (field 37 8 bytes) block,
+      eq-eqb (45 + 8) (min (45 + 8) (length bytes)) (omega (arith, long)),
       eq-eqb (min (2 ^ 62) (max 1 (field 45 8 bytes))) (field 45 8 bytes) track,
+      eq-eqb (53 + 4) (min (53 + 4) (length bytes)) (omega (arith, long)),
       eq-eqb (min (field 17 4 bytes) (max 1 (field 53 4 bytes))) (field 53 4 bytes) count,
+      eq-eqb (57 + 4) (min (57 + 4) (length bytes)) (omega (arith, long)),
       eq-eqb (min (field 53 4 bytes - 1) (field 57 4 bytes)) (field 57 4 bytes) cursor,
+      eq-eqb (61 + 3) (min (61 + 3) (length bytes)) (omega (arith, long)),
     ) zeros
 
 module _ (log : Log) (gate : ℕ) (format : IsFormat log.rate log.block_size log.depth) (rate_fits : log.rate < 2 ^ 32)
@@ -141,7 +147,8 @@ module _ (log : Log) (gate : ℕ) (format : IsFormat log.rate log.block_size log
       (subst (λ (n : ℕ). min 4096 (max 1 n) ≡ n) (sym depth_is) depth)
       (omega (arith, generation_is, is.generation)) (omega (arith, commit_is, is.commit))
       (omega (arith, block_is, is.block_least, is.block_most)) (omega (arith, track_is, is.track_least, is.track_most))
-      (omega (arith, count_is, depth_is, is.some, is.few)) (omega (arith, cursor_is, count_is, is.current)) refl
+      (omega (arith, count_is, depth_is, is.some, is.few)) (omega (arith, cursor_is, count_is, is.current))
+      (omega arith) refl
 
   written_header : (file : ℕ) → gate ≢ 0 → length log.points ≡ log.base.count → AreShort log.points
       → IsHeader (form_2 file) head log

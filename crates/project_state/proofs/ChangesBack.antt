@@ -1,41 +1,29 @@
 -- Each way to tell a track passes its tests and is read back.
-use Rattle.std.proofs.Common.{◌≡◌, ℕ, zero, suc, ◌+◌, ◌-◌, ◌^◌, ◌≤◌, ◌<◌, ◌==◌, ◌&&◌, Bool, true, false, inl, inr, List, []}
-use Rattle.std.proofs.Common.{◌∷◌, ◌++◌, length, map, take, drop, Option, Some, None, nat_lt, refl, sym, ap, ap₂, subst, ◌∙◌}
-use Rattle.std.proofs.Common.{arith, append_assoc, length-append, length-drop, slice_index, if◌then◌else◌}
-use Rattle.std.proofs.lemmas.Bool.{cases_Bool, eqb-true, lt-ltb, le-ltb}
+use Rattle.std.proofs.Common.{◌≡◌, ℕ, ◌+◌, ◌-◌, ◌≤◌, ◌<◌, ◌==◌, ◌&&◌, Bool, true, false, List, []}
+use Rattle.std.proofs.Common.{◌∷◌, ◌++◌, length, drop, Option, Some, None, nat_lt, refl, sym, ap, ap₂, subst, ◌∙◌}
+use Rattle.std.proofs.Common.{arith, slice_index, if◌then◌else◌}
+use Rattle.std.proofs.lemmas.Bool.{eqb-true}
 use Rattle.std.specs.List.{flat_map}
 use Rattle.byteorder.specs.Endian.{little_bytes}
 use Rattle.pcm_base.specs.Blocks.{blocks_len}
 use Rattle.pcm_base.specs.declared.block.BlockRef.{BlockRef}
-use Rattle.clip_track.specs.declared.clips.Clip.{Clip}
-use Rattle.clip_track.specs.Clips.{clip_end}
 use Rattle.project_journal.specs.Fields.{field}
 use Rattle.project_state.specs.declared.limits.Limits.{Limits}
 use Rattle.project_state.specs.declared.track.Track.{Track}
-use Rattle.project_state.specs.Changes.{Change, Same, Whole, Tail, change_of, changed, change_bytes, heard_bytes, told_bytes}
-use Rattle.project_state.specs.Changes.{is_block, common, last_blocks, last_start, same_settings, same_clips, same_but_last}
-use Rattle.project_state.specs.ChangePlaces.{mark_at, gone_at, fresh_at, whole_at, change_at, told_size, told_at}
-use Rattle.project_state.specs.ChangePlaces.{all_told_at}
-use Rattle.project_state.specs.ChangeTests.{id_tests, mark_want, mark_tests, how_tests, whole_tests, is_lone, kept_blocks}
-use Rattle.project_state.specs.ChangeTests.{tail_head_tests, marked_tests, change_tests, told_tests, all_told_tests}
-use Rattle.project_state.specs.FirstFault.{least_len, place, blocks_tests, clips_tests}
+use Rattle.project_state.specs.Changes.{Change, Same, Whole, Tail, change_bytes, heard_bytes}
+use Rattle.project_state.specs.Changes.{last_blocks, last_start}
+use Rattle.project_state.specs.ChangePlaces.{mark_at, gone_at, fresh_at, whole_at, change_at, told_size}
+use Rattle.project_state.specs.ChangeTests.{mark_want, mark_tests, how_tests, whole_tests, is_lone, kept_blocks}
+use Rattle.project_state.specs.ChangeTests.{tail_head_tests, marked_tests, change_tests}
+use Rattle.project_state.specs.FirstFault.{place, blocks_tests, clips_tests}
 use Rattle.project_state.specs.Places.{blocks_at, side_of, clip_count, clips_at, clips_size}
 use Rattle.project_state.specs.Spelling.{block_bytes, clip_bytes, side_byte, mute_byte}
-use Rattle.project_state.specs.Tracks.{track_of}
-use Rattle.project_state.proofs.ClipsBack.{AreNarrow, AreGoodBlocks, AreGoodClips, has_blocks, blocks_pass, has_clips}
+use Rattle.project_state.proofs.ClipsBack.{AreNarrow, has_blocks, blocks_pass, has_clips}
 use Rattle.project_state.proofs.ClipsBack.{clips_pass}
 use Rattle.project_state.proofs.FieldsBack.{NoneFails, both_pass, passes, byte_there, least_passes, most_passes, no_test}
 use Rattle.project_state.proofs.FieldsBack.{number_there, past}
 use Rattle.project_state.proofs.Parts.{length_blocks}
-use Rattle.project_state.proofs.TracksBack.{IsGoodTrack, AreGoodTracks, side_back, side_most, mute_back, mute_most}
-use Rattle.project_state.proofs.ChangeLaws.{choice_says, HasId, last_starts, common_take, block_same, both}
-use Rattle.project_state.proofs.Commons.{common_least, common_most}
-use Rattle.project_state.specs.Widths.{total_width}
-use Rattle.project_state.specs.ChangePlaces.{told_widths, all_told_widths}
-use Rattle.project_state.proofs.Measured.{rest_known, sum_told}
-use Rattle.project_state.proofs.Passing.{all_pass}
-use Rattle.project_state.proofs.Reaching.{total_width-append}
-use Rattle.project_state.proofs.ToldTracks.{found_id, known_mark}
+use Rattle.project_state.proofs.TracksBack.{IsGoodTrack, side_back, side_most, mute_back, mute_most}
 use Rattle.project_state.proofs.GoodTails.{IsGoodTail}
 
 -- a change that passes its tests

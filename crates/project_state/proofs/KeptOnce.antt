@@ -7,7 +7,7 @@ use Rattle.byteorder.specs.Endian.{little_bytes}
 use Rattle.disk_model.specs.Disk.{Files}
 use Rattle.sample_block.specs.Sources.{IsWhole}
 use Rattle.project_journal.specs.Choice.{other_file}
-use Rattle.project_journal.specs.Header.{Form, IsForm, IsFormat, form_2, version_1}
+use Rattle.project_journal.specs.Header.{Form, IsForm, IsFormat, form_2}
 use Rattle.project_journal.specs.Journal.{Log}
 use Rattle.project_journal.specs.Packing.{HasEither}
 use Rattle.project_journal.proofs.Chosen.{one_journal}
@@ -16,12 +16,12 @@ use Rattle.project_state.specs.declared.body.Body.{Body}
 use Rattle.project_state.specs.declared.body.Body.TheVariants.{Edit}
 use Rattle.project_state.specs.declared.limits.Before.{Before}
 use Rattle.project_state.specs.declared.track.Track.{Track}
-use Rattle.project_state.specs.Kept.{Kept, Opened, opened, LeadTo, Keeps, KeepsAny, Begins, BeginsBy, IsTold, IsPacked}
-use Rattle.project_state.specs.Kept.{point_bytes, history_blocks}
+use Rattle.project_state.specs.Kept.{Kept, Opened, opened, LeadIn, Keeps, Begins, BeginsBy, IsTold, IsPacked}
+use Rattle.project_state.specs.Kept.{point_bytes, history_blocks, version_of}
 use Rattle.project_state.specs.Places.{body_at}
 use Rattle.project_state.specs.Sound.{IsSoundTagged, IsSound}
 use Rattle.project_state.specs.Spelling.{spelling, project_bytes}
-use Rattle.project_state.proofs.Leading.{lead_once}
+use Rattle.project_state.proofs.Leading.{lead_once_in}
 use Rattle.project_state.proofs.ReadBack.{read_back}
 
 -- ---- points in a header
@@ -154,8 +154,8 @@ module _ (log : Log) (format : IsFormat log.rate log.block_size log.depth) (boun
   pub begins_once : (a b : Kept) → Begins log a → Begins log b → a ≡ b
   begins_once = begins_by log.points
 
-pub any_once : (files : Files) (a b : Opened) → KeepsAny files a → KeepsAny files b → a ≡ b
-any_once files a b one two =
+pub keeps_once : (files : Files) (a b : Opened) → Keeps files a → Keeps files b → a ≡ b
+keeps_once files a b one two =
     let p = one.keeps in
     let q = two.keeps in
     let same = one_journal one.form two.form p.log q.log files one.known two.known one.few two.few p.there q.there in
@@ -163,25 +163,20 @@ any_once files a b one two =
     let begins : Begins q.log p.base = subst (λ (l : Log). Begins l p.base) same.log p.begins in
     let base : p.base ≡ q.base =
     begins_once q.log format (any_base two.form q.log files two.known q.there) p.base q.base begins q.begins in
-    let led : LeadTo q.log.block_size q.base q.log.bodies p.kept =
-    subst (λ (k : Kept). LeadTo q.log.block_size k q.log.bodies p.kept) base
-    (subst (λ (l : Log). LeadTo l.block_size p.base l.bodies p.kept) same.log p.told) in
-    let kept : p.kept ≡ q.kept = lead_once q.log.block_size q.log.bodies q.base p.kept q.kept format.block_least
-    (omega (arith, format.block_most)) led q.told in
+    let version = version_of two.form in
+    let led : LeadIn version q.log.block_size q.base q.log.bodies p.kept =
+    subst (λ (k : Kept). LeadIn version q.log.block_size k q.log.bodies p.kept) base
+    (subst (λ (l : Log). LeadIn version l.block_size p.base l.bodies p.kept) same.log
+    (subst (λ (f : Form). LeadIn (version_of f) p.log.block_size p.base p.log.bodies p.kept) same.form p.told)) in
+    let kept : p.kept ≡ q.kept = lead_once_in version q.log.block_size q.log.bodies q.base p.kept q.kept
+    format.block_least (omega (arith, format.block_most)) led q.told in
     p.is ∙ ap (λ (l : Log). opened l p.kept files) same.log ∙ ap (λ (k : Kept). opened q.log k files) kept ∙ sym q.is
-
--- a project that is opened is one of any form
-pub keeps_any : (files : Files) (a : Opened) → Keeps files a → KeepsAny files a
-keeps_any files a keeps = record { form = version_1; known = inl refl; few = omega arith; keeps = keeps }
-
-pub keeps_once : (files : Files) (a b : Opened) → Keeps files a → Keeps files b → a ≡ b
-keeps_once files a b p q = any_once files a b (keeps_any files a p) (keeps_any files b q)
 
 -- at each moment of putting it into one header
 pub either_keeps : (form : Form) (log packed : Log) (base kept : Kept) (c : Files) → IsForm form → form.file ≤ 1
-    → Begins log base → LeadTo log.block_size base log.bodies kept → IsPacked log kept packed
+    → Begins log base → LeadIn (version_of form) log.block_size base log.bodies kept → IsPacked log kept packed
     → AllByRecursion (IsWhole c) (history_blocks kept.history) → HasEither form log packed c
-    → KeepsAny c (opened log kept c)
+    → Keeps c (opened log kept c)
 either_keeps form log packed base kept c known few begins told is whole = ⊎_elim
     (λ has. record {
       form = form;
@@ -208,7 +203,7 @@ either_keeps form log packed base kept c known few begins told is whole = ⊎_el
         kept = kept;
         there = has;
         begins = is.begins;
-        told = subst (λ (bs : List (List ℕ)). LeadTo packed.block_size kept bs kept) (sym is.none) refl;
+        told = subst (λ (bs : List (List ℕ)). LeadIn 2 packed.block_size kept bs kept) (sym is.none) refl;
         whole = whole;
         is = λ i. record {
           rate = sym is.rate i;

@@ -12,6 +12,7 @@ pub mod ClipsBack
 pub mod TracksBack
 pub mod SoundBounds
 pub mod ReadBack
+pub mod HeaderPoints
 pub mod Lengths
 pub mod KeptBounds
 pub mod KeptOnce
@@ -29,3 +30,8 @@ mod GoodTails
 mod ChangesBack
 pub mod ToldBack
 pub mod DeltaBack
+pub mod ShortEnds
+pub mod ToldSound
+pub mod SaysOnce
+pub mod DeltaLengths
+pub mod Moved

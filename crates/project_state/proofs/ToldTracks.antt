@@ -19,7 +19,7 @@ use Rattle.project_state.specs.Lengths.{AreHalfFull}
 use Rattle.project_state.specs.Tracks.{track_of}
 use Rattle.project_state.proofs.Passing.{Pass, pass_parts, passed}
 
-some_is : {A : Type 0} (x y : A) → Some x ≡ Some y → x ≡ y
+pub some_is : {A : Type 0} (x y : A) → Some x ≡ Some y → x ≡ y
 some_is x y e = cc
 
 none_some : {A : Type 0} (x : A) → None ≡ Some x → ⊥

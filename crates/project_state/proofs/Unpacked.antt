@@ -35,25 +35,22 @@ base_new : (log : Log) (base : Kept) (files : Files) → HasLog version_1 log fi
 base_new log base files has begins =
     subst (λ (points : List (List ℕ)). BeginsBy points log base) (no_points log files has) begins
 
--- the records of a project that is kept lead to it
-pub led_from_new : (files : Files) (found : Opened) → (keeps : Keeps files found)
-    → LeadTo keeps.log.block_size (new_project keeps.log.depth) keeps.log.bodies keeps.kept
-led_from_new files found keeps =
-    let log = keeps.log in
-    subst (λ (k : Kept). LeadTo log.block_size k log.bodies keeps.kept)
-    (base_new log keeps.base files keeps.there keeps.begins) keeps.told
-
 -- a project to which records lead is kept
 pub keeps_led : (log : Log) (kept : Kept) (files : Files) (found : Opened) → HasLog version_1 log files
     → LeadTo log.block_size (new_project log.depth) log.bodies kept
     → AllByRecursion (IsWhole files) (history_blocks kept.history) → found ≡ opened log kept files → Keeps files found
 keeps_led log kept files found has told whole is = record {
-  log = log;
-  base = new_project log.depth;
-  kept = kept;
-  there = has;
-  begins = begins_new log files has;
-  told = told;
-  whole = whole;
-  is = is;
+  form = version_1;
+  known = inl refl;
+  few = omega arith;
+  keeps = record {
+    log = log;
+    base = new_project log.depth;
+    kept = kept;
+    there = has;
+    begins = begins_new log files has;
+    told = told;
+    whole = whole;
+    is = is;
+  };
 }

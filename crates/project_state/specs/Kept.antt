@@ -1,5 +1,6 @@
 -- What the records of a journal lead to, one after another, and the project that a disk keeps.
-use Rattle.std.specs.Prelude.{◌≡◌, ℕ, ◌+◌, ◌-◌, ◌≤◌, ◌<◌, List, [], ◌∷◌, ◌++◌, length, map}
+use Rattle.std.specs.Prelude.{◌≡◌, ℕ, zero, suc, ◌+◌, ◌-◌, ◌≤◌, ◌<◌, ◌==◌, if◌then◌else◌, List, [], ◌∷◌, ◌++◌, length, map}
+use Rattle.std.specs.Prelude.{drop, None}
 use Rattle.std.specs.List.{flat_map, AllByRecursion}
 use Rattle.pcm_base.specs.declared.block.BlockRef.{BlockRef}
 use Rattle.pcm_base.specs.Pieces.{Sources}
@@ -11,12 +12,14 @@ use Rattle.clip_track.specs.Clips.{layout_blocks}
 use Rattle.disk_model.specs.Disk.{Files}
 use Rattle.sample_block.specs.Sources.{sources_of, IsWhole}
 use Rattle.byteorder.specs.Endian.{little_bytes}
-use Rattle.project_journal.specs.Header.{Form, IsForm, version_1}
+use Rattle.project_journal.specs.Header.{Form, IsForm, first_failed}
 use Rattle.project_journal.specs.Journal.{Log, HasLog}
 use Rattle.project_state.specs.declared.track.Track.{Track}
 use Rattle.project_state.specs.declared.body.Body.{Body}
 use Rattle.project_state.specs.declared.body.Body.TheVariants.{Edit, Undo, Redo, Purge}
 use Rattle.project_state.specs.declared.limits.Before.{Before}
+use Rattle.project_state.specs.ChangeTests.{delta_tests}
+use Rattle.project_state.specs.DeltaBodies.{SaysBody}
 use Rattle.project_state.specs.Sound.{IsSound, IsSoundTagged}
 use Rattle.project_state.specs.Spelling.{project_bytes, spelling}
 
@@ -59,10 +62,38 @@ pub record IsNext (m : ℕ) (k : Kept) (bytes : List ℕ) (body : Body) : Type 0
   pub sound : IsSound m (before_of k) body
   pub follows : MayFollow k.history body
 
--- from one project the records lead to another
+-- the tracks of the first of some points, and those of the current point
+abbrev pub first_tracks : List (List Track × ℕ) → List Track
+first_tracks [] = []
+first_tracks (p ∷ ps) = p.0
+
+abbrev pub current_tracks : History (List Track) → List Track
+current_tracks h = first_tracks (drop h.cursor h.points)
+
+-- a record that may come next and tells an edit by the current point: its bytes pass their tests, and say this
+pub record IsNextTold (m : ℕ) (k : Kept) (bytes : List ℕ) (body : Body) : Type 0 where
+  pub tests : first_failed (delta_tests m (before_of k) (current_tracks k.history) bytes) ≡ None
+  pub says : SaysBody (current_tracks k.history) bytes body
+  pub sound : IsSound m (before_of k) body
+  pub follows : MayFollow k.history body
+
+-- one that may come next in a journal of this version, 1 or else 2
+abbrev pub IsNextIn : ℕ → ℕ → Kept → List ℕ → Body → Type 0
+IsNextIn zero = IsNext
+IsNextIn (suc zero) = IsNext
+IsNextIn (suc (suc version)) = IsNextTold
+
+-- from one project the records lead to another, each by what may come next
+abbrev pub LeadBy : (Kept → List ℕ → Body → Type 0) → Kept → List (List ℕ) → Kept → Type 0
+LeadBy next k [] end = end ≡ k
+LeadBy next k (bytes ∷ more) end = (body : Body) × next k bytes body × LeadBy next (after_body k body) more end
+
+-- in a journal of this version, and in one of version 1
+abbrev pub LeadIn : ℕ → ℕ → Kept → List (List ℕ) → Kept → Type 0
+LeadIn version m = LeadBy (IsNextIn version m)
+
 abbrev pub LeadTo : ℕ → Kept → List (List ℕ) → Kept → Type 0
-LeadTo m k [] end = end ≡ k
-LeadTo m k (bytes ∷ more) end = (body : Body) × IsNext m k bytes body × LeadTo m (after_body k body) more end
+LeadTo m = LeadBy (IsNext m)
 
 -- what tracks of blocks mean
 abbrev pub meant_track : Sources → Track → cells.Track
@@ -122,6 +153,10 @@ BeginsBy (point ∷ points) log base = IsTold log base
 abbrev pub Begins : Log → Kept → Type 0
 Begins log base = BeginsBy log.points log base
 
+-- the version of a form
+abbrev pub version_of : Form → ℕ
+version_of form = if form.header_size == 32 then 1 else 2
+
 -- The disk keeps this project in a journal of this form: it begins with a project, from which its records lead to this
 -- one, and each block that a point names is whole.
 pub record KeepsIn (form : Form) (files : Files) (found : Opened) : Type 0 where
@@ -130,20 +165,16 @@ pub record KeepsIn (form : Form) (files : Files) (found : Opened) : Type 0 where
   pub kept : Kept
   pub there : HasLog form log files
   pub begins : Begins log base
-  pub told : LeadTo log.block_size base log.bodies kept
+  pub told : LeadIn (version_of form) log.block_size base log.bodies kept
   pub whole : AllByRecursion (IsWhole files) (history_blocks kept.history)
   pub is : found ≡ opened log kept files
 
 -- in file 0 or 1, and in any version
-pub record KeepsAny (files : Files) (found : Opened) : Type 0 where
+pub record Keeps (files : Files) (found : Opened) : Type 0 where
   pub form : Form
   pub known : IsForm form
   pub few : form.file ≤ 1
   pub keeps : KeepsIn form files found
-
--- in the form that is opened
-abbrev pub Keeps : Files → Opened → Type 0
-Keeps files found = KeepsIn version_1 files found
 
 -- a journal without records that begins with the project to which this one leads
 pub record IsPacked (log : Log) (kept : Kept) (packed : Log) : Type 0 where

@@ -1,5 +1,5 @@
 -- What is proved of the definitions themselves.
-use Rattle.std.specs.Prelude.{◌≡◌, ◌-◌, ◌<◌, ◌≤◌, ◌^◌, ℕ, List, length, Option, Some, None}
+use Rattle.std.specs.Prelude.{◌≡◌, ◌-◌, ◌<◌, ◌≤◌, ◌^◌, ℕ, List, length, Option, Some, None, slice_index}
 use Rattle.pcm_base.specs.declared.block.BlockRef.{BlockRef}
 use Rattle.project_state.specs.declared.track.Track.{Track}
 use Rattle.project_journal.specs.Header.{first_failed}
@@ -8,7 +8,7 @@ use Rattle.project_state.specs.declared.limits.Before.{Before}
 use Rattle.project_state.specs.Changes.{Same, change_of, changed, common, delta_spelling, last_blocks, tailed}
 use Rattle.project_state.specs.ChangeTests.{delta_tests}
 use Rattle.project_state.specs.DeltaBodies.{SaysBody}
-use Rattle.project_state.specs.Sound.{IsSound}
+use Rattle.project_state.specs.Sound.{IsSound, IsSoundPoint}
 use Rattle.project_state.specs.Tracks.{track_of}
 use Rattle.disk_model.specs.Disk.{Files}
 use Rattle.std.specs.List.{AllByRecursion}
@@ -16,19 +16,20 @@ use Rattle.sample_block.specs.Sources.{IsWhole}
 use Rattle.project_journal.specs.Header.{Form, IsForm}
 use Rattle.project_journal.specs.Journal.{Log}
 use Rattle.project_journal.specs.Packing.{HasEither}
-use Rattle.project_state.specs.Kept.{Kept, Opened, KeepsAny, Begins, LeadTo, IsPacked, opened, history_blocks}
+use Rattle.project_state.specs.Kept.{Kept, Opened, Keeps, Begins, LeadIn, IsPacked, MayFollow, IsNextTold, opened}
+use Rattle.project_state.specs.Kept.{before_of, current_tracks, history_blocks, version_of}
 
 -- a disk keeps one project at most, whichever file and version its journal is in
 abbrev pub KeepsOne : Type 0
-KeepsOne = (files : Files) (a b : Opened) → KeepsAny files a → KeepsAny files b → a ≡ b
+KeepsOne = (files : Files) (a b : Opened) → Keeps files a → Keeps files b → a ≡ b
 
 -- a journal and the one into which it was put, as a header alone, are one project
 abbrev pub PackedIsKept : Type 0
 PackedIsKept =
     (form : Form) (log packed : Log) (base kept : Kept) (c : Files) → IsForm form → form.file ≤ 1 → Begins log base
-    → LeadTo log.block_size base log.bodies kept → IsPacked log kept packed
+    → LeadIn (version_of form) log.block_size base log.bodies kept → IsPacked log kept packed
     → AllByRecursion (IsWhole c) (history_blocks kept.history) → HasEither form log packed c
-    → KeepsAny c (opened log kept c)
+    → Keeps c (opened log kept c)
 
 -- a track of the current point has this id
 abbrev pub HasId : ℕ → Option Track → Type 0
@@ -59,10 +60,19 @@ EndsShort (Some old) = length (last_blocks old.layout) < 2 ^ 32
 abbrev pub HasShortEnds : List Track → Type 0
 HasShortEnds current = (id : ℕ) → EndsShort (track_of id current)
 
--- A sound body that is written by the current point passes the tests, and its bytes say that body.
+-- A sound body that is written by the current point passes the tests where the record may follow, and its bytes say
+-- that body.
 abbrev pub WrittenIsRead : Type 0
 WrittenIsRead =
-    (m : ℕ) (before : Before) (current : List Track) (body : Body) → 4 ≤ m → m < 2 ^ 32 → HasShortEnds current
-    → IsSound m before body
+    (m : ℕ) (before : Before) (current : List Track) (body : Body) → 4 ≤ m → m < 2 ^ 32
+    → before.commits < 2 ^ 62 → HasShortEnds current → IsSound m before body
     → (first_failed (delta_tests m before current (delta_spelling current body)) ≡ None)
     × SaysBody current (delta_spelling current body) body
+
+-- What bytes say by a valid point may come next, where they pass their tests and the history has room for it.
+abbrev pub PassedIsNext : Type 0
+PassedIsNext =
+    (m : ℕ) (k : Kept) (bytes : List ℕ) (body : Body) → ((i : ℕ) → slice_index bytes i < 256)
+    → IsSoundPoint m k.next_block k.next_track (current_tracks k.history)
+    → first_failed (delta_tests m (before_of k) (current_tracks k.history) bytes) ≡ None
+    → SaysBody (current_tracks k.history) bytes body → MayFollow k.history body → IsNextTold m k bytes body

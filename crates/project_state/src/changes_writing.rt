@@ -5,7 +5,8 @@ ghost use Rattle.std.specs.List.{flat_map};
 ghost use Rattle.byteorder.specs.Endian.{little_bytes};
 ghost use Rattle.project_state.specs.Changes as change;
 ghost use Rattle.project_state.specs.Choices.{change_by, LiesWithin};
-ghost use Rattle.project_state.specs.Spelling.{block_bytes, side_byte, mute_byte};
+ghost use Rattle.project_state.specs.Lengths.{told_tracks};
+ghost use Rattle.project_state.specs.Spelling.{block_bytes, side_byte, mute_byte, spelling};
 ghost use Rattle.project_state.specs.Tracks.{track_of};
 
 use super::body::Body;
@@ -174,6 +175,8 @@ fn write_edit_by(
 pub fn delta_len(body: &Body, current: &Point) -> usize
     ensures value { result ≡ length (change.delta_spelling current.now body.now) }
     ensures few { result ≤ 2 ^ 45 }
+    // It passes the length of the body that is told by no point by one byte a track at most.
+    ensures more { result ≤ length (spelling body.now) + length (told_tracks body.now) }
 {
     match body {
         Body::Edit { point, .. } => 29 + all_told_len(current, point),

@@ -1,5 +1,6 @@
 // Laws, each the contract of a function that does nothing.
 ghost use Rattle.project_state.specs.Laws.{KeepsOne, PackedIsKept, ChoiceTellsTheTrack, SameStays, FewestGo, WrittenIsRead};
+ghost use Rattle.project_state.specs.Laws.{PassedIsNext};
 
 /// A disk keeps one project at most.
 pub fn disks_keep_one_project()
@@ -22,4 +23,9 @@ pub fn the_writer_tells_each_track()
 /// A sound body that is written by the current point passes the tests of a reader, and its bytes say that body.
 pub fn what_is_written_is_read()
     ensures { WrittenIsRead }
+{}
+
+/// What bytes say by a valid point may come next, where they pass their tests and the history has room for it.
+pub fn what_passes_may_come_next()
+    ensures { PassedIsNext }
 {}

@@ -18,6 +18,7 @@ mod laws;
 mod limits;
 mod measuring;
 mod point;
+mod point_reading;
 mod reading;
 mod reading_clips;
 mod tails_reading;
@@ -29,10 +30,11 @@ pub use changes_writing::{delta_len, write_delta_body};
 pub use delta_reading::read_delta_body;
 pub use laws::{
     a_packed_journal_keeps_its_project, disks_keep_one_project, the_writer_tells_each_track,
-    what_is_written_is_read,
+    what_is_written_is_read, what_passes_may_come_next,
 };
 pub use limits::{BadBody, Before};
 pub use point::{MAX_TRACKS, Point};
+pub use point_reading::read_point;
 pub use reading::read_body;
 pub use track::Track;
 pub use writing::{body_len, write_body};

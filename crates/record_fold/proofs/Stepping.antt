@@ -11,75 +11,90 @@ use Rattle.project_journal.specs.Journal.{body_at}
 use Rattle.project_journal.specs.Reader.{IsReading}
 use Rattle.project_state.specs.declared.body.Body.{Body}
 use Rattle.project_state.specs.declared.body.Body.TheVariants.{Edit, Undo, Redo, Purge}
-use Rattle.project_state.specs.Kept.{Kept, new_project, after_body, IsNext, LeadTo}
-use Rattle.record_fold.specs.Faults.{record_tests, first_fault, says}
+use Rattle.project_state.specs.Kept.{Kept, after_body, IsNextIn, LeadIn}
+use Rattle.project_state.specs.KeptSound.{IsSoundKept}
+use Rattle.project_state.proofs.KeptBounds.{next_kept}
+use Rattle.record_fold.specs.Faults.{record_tests, first_fault_in, says}
+use Rattle.record_fold.specs.Folds.{IsValid}
 
 -- where the first record has no fault, the others decide
-pub fault_behind : (m : ℕ) (k : Kept) (r : ℕ × List ℕ) (rs : List (ℕ × List ℕ))
-    → first_failed (record_tests m k r) ≡ None → first_fault m k (r ∷ rs) ≡ first_fault m (after_body k (says r.1)) rs
-fault_behind m k r rs none = ap (λ o. option_or o (first_fault m (after_body k (says r.1)) rs)) none
+pub fault_behind : (version m : ℕ) (k : Kept) (r : ℕ × List ℕ) (rs : List (ℕ × List ℕ))
+    → first_failed (record_tests version m k r) ≡ None
+    → first_fault_in version m k (r ∷ rs) ≡ first_fault_in version m (after_body k (says version k r.1)) rs
+fault_behind version m k r rs none =
+    ap (λ o. option_or o (first_fault_in version m (after_body k (says version k r.1)) rs)) none
 
-pub fault_here : (m : ℕ) (k : Kept) (r : ℕ × List ℕ) (rs : List (ℕ × List ℕ)) (d : Damaged)
-    → first_failed (record_tests m k r) ≡ Some d → first_fault m k (r ∷ rs) ≡ Some d
-fault_here m k r rs d some = ap (λ o. option_or o (first_fault m (after_body k (says r.1)) rs)) some
+pub fault_here : (version m : ℕ) (k : Kept) (r : ℕ × List ℕ) (rs : List (ℕ × List ℕ)) (d : Damaged)
+    → first_failed (record_tests version m k r) ≡ Some d → first_fault_in version m k (r ∷ rs) ≡ Some d
+fault_here version m k r rs d some =
+    ap (λ o. option_or o (first_fault_in version m (after_body k (says version k r.1)) rs)) some
 
 -- How far a fold of records has come: those that are left decide, and where they lead, all lead.
-pub record Folded (m : ℕ) (first : Kept) (all : List (ℕ × List ℕ)) (now : Kept)
+pub record Folded (version m : ℕ) (first : Kept) (all : List (ℕ × List ℕ)) (now : Kept)
     (left : List (ℕ × List ℕ)) : Type 0 where
-  pub fault : first_fault m now left ≡ first_fault m first all
-  pub leads : (end : Kept) → LeadTo m now (map body_at left) end → LeadTo m first (map body_at all) end
+  pub fault : first_fault_in version m now left ≡ first_fault_in version m first all
+  pub leads : (end : Kept) → LeadIn version m now (map body_at left) end → LeadIn version m first (map body_at all) end
 
-pub folded_none : (m : ℕ) (first now : Kept) (all : List (ℕ × List ℕ)) → now ≡ first → Folded m first all now all
-folded_none m first now all e = record {
-  fault = ap (λ k. first_fault m k all) e;
-  leads = λ end lead. subst (λ (k : Kept). LeadTo m k (map body_at all) end) e lead;
+-- a record that has no fault, and what it makes of a project
+pub record IsStep (version m : ℕ) (now : Kept) (r : ℕ × List ℕ) (next : Kept) : Type 0 where
+  pub none : first_failed (record_tests version m now r) ≡ None
+  pub one : IsNextIn version m now r.1 (says version now r.1)
+  pub is : next ≡ after_body now (says version now r.1)
+
+pub folded_none : (version m : ℕ) (first now : Kept) (all : List (ℕ × List ℕ)) → now ≡ first
+    → Folded version m first all now all
+folded_none version m first now all e = record {
+  fault = ap (λ k. first_fault_in version m k all) e;
+  leads = λ end lead. subst (λ (k : Kept). LeadIn version m k (map body_at all) end) e lead;
 }
 
-pub folded_more : (m : ℕ) (first now next : Kept) (all left more : List (ℕ × List ℕ)) (r : ℕ × List ℕ) → left ≡ r ∷ more
-    → Folded m first all now left
-    → first_failed (record_tests m now r) ≡ None → IsNext m now r.1 (says r.1) → next ≡ after_body now (says r.1)
-    → Folded m first all next more
-folded_more m first now next all left more r is folded none one e = record {
-  fault = ap (λ k. first_fault m k more) e ∙ sym (fault_behind m now r more none) ∙ ap (first_fault m now) (sym is)
-      ∙ folded.fault;
+pub folded_more : (version m : ℕ) (first now next : Kept) (all left more : List (ℕ × List ℕ)) (r : ℕ × List ℕ)
+    → left ≡ r ∷ more → Folded version m first all now left → IsStep version m now r next
+    → Folded version m first all next more
+folded_more version m first now next all left more r is folded step = record {
+  fault = ap (λ k. first_fault_in version m k more) step.is ∙ sym (fault_behind version m now r more step.none)
+      ∙ ap (first_fault_in version m now) (sym is) ∙ folded.fault;
   leads = λ end lead. folded.leads end
-      (subst (λ (rs : List (ℕ × List ℕ)). LeadTo m now (map body_at rs) end) (sym is)
-      (says r.1, one, subst (λ (k : Kept). LeadTo m k (map body_at more) end) e lead));
+      (subst (λ (rs : List (ℕ × List ℕ)). LeadIn version m now (map body_at rs) end) (sym is) (
+        says version now r.1,
+        step.one,
+        subst (λ (k : Kept). LeadIn version m k (map body_at more) end) step.is lead,
+      ));
 }
 
 -- Records that were folded, whatever follows them.
-pub record Came (m : ℕ) (first : Kept) (records : List (ℕ × List ℕ)) (now : Kept) : Type 0 where
-  pub folded : (more : List (ℕ × List ℕ)) → Folded m first (records ++ more) now more
+pub record Came (version m : ℕ) (first : Kept) (records : List (ℕ × List ℕ)) (now : Kept) : Type 0 where
+  pub folded : (more : List (ℕ × List ℕ)) → Folded version m first (records ++ more) now more
 
-pub came_none : (m : ℕ) (first now : Kept) → now ≡ first → Came m first [] now
-came_none m first now e = record { folded = λ more. folded_none m first now more e }
+pub came_none : (version m : ℕ) (first now : Kept) → now ≡ first → Came version m first [] now
+came_none version m first now e = record { folded = λ more. folded_none version m first now more e }
 
-pub came_more : (m : ℕ) (first now next : Kept) (records : List (ℕ × List ℕ)) (r : ℕ × List ℕ)
-    → Came m first records now
-    → first_failed (record_tests m now r) ≡ None → IsNext m now r.1 (says r.1) → next ≡ after_body now (says r.1)
-    → Came m first (records ++ r ∷ []) next
-came_more m first now next records r came none one e = record {
-  folded = λ more. subst (λ (all : List (ℕ × List ℕ)). Folded m first all next more)
+pub came_more : (version m : ℕ) (first now next : Kept) (records : List (ℕ × List ℕ)) (r : ℕ × List ℕ)
+    → Came version m first records now → IsStep version m now r next → Came version m first (records ++ r ∷ []) next
+came_more version m first now next records r came step = record {
+  folded = λ more. subst (λ (all : List (ℕ × List ℕ)). Folded version m first all next more)
       (sym (append_assoc records (r ∷ []) more))
-      (folded_more m first now next (records ++ r ∷ more) (r ∷ more) more r refl (came.folded (r ∷ more)) none one e);
+      (folded_more version m first now next (records ++ r ∷ more) (r ∷ more) more r refl (came.folded (r ∷ more))
+      step);
 }
 
 -- none of them has a fault, and they lead here
-pub came_all : (m : ℕ) (first now : Kept) (records : List (ℕ × List ℕ)) → Came m first records now
-    → (first_fault m first records ≡ None) × LeadTo m first (map body_at records) now
-came_all m first now records came =
+pub came_all : (version m : ℕ) (first now : Kept) (records : List (ℕ × List ℕ)) → Came version m first records now
+    → (first_fault_in version m first records ≡ None) × LeadIn version m first (map body_at records) now
+came_all version m first now records came =
     let folded = came.folded [] in
-    subst (λ (all : List (ℕ × List ℕ)). (first_fault m first all ≡ None) × LeadTo m first (map body_at all) now)
+    subst (λ (all : List (ℕ × List ℕ)). (first_fault_in version m first all ≡ None)
+    × LeadIn version m first (map body_at all) now)
     (append-nil records)
     (sym folded.fault, folded.leads now refl)
 
 -- the next has the first fault
-pub came_fault : (m : ℕ) (first now : Kept) (records more : List (ℕ × List ℕ)) (r : ℕ × List ℕ) (d : Damaged)
-    → Came m first records now
-    → first_failed (record_tests m now r) ≡ Some d → first_fault m first ((records ++ r ∷ []) ++ more) ≡ Some d
-came_fault m first now records more r d came some =
-    ap (first_fault m first) (append_assoc records (r ∷ []) more) ∙ sym (came.folded (r ∷ more)).fault
-    ∙ fault_here m now r more d some
+pub came_fault : (version m : ℕ) (first now : Kept) (records more : List (ℕ × List ℕ)) (r : ℕ × List ℕ) (d : Damaged)
+    → Came version m first records now → first_failed (record_tests version m now r) ≡ Some d
+    → first_fault_in version m first ((records ++ r ∷ []) ++ more) ≡ Some d
+came_fault version m first now records more r d came some =
+    ap (first_fault_in version m first) (append_assoc records (r ∷ []) more) ∙ sym (came.folded (r ∷ more)).fault
+    ∙ fault_here version m now r more d some
 
 pub after_commit : (k : Kept) (body : Body) → (after_body k body).commit ≡ k.commit + 1
 after_commit k (Edit tag next_block next_track point) = refl
@@ -87,8 +102,30 @@ after_commit k Undo = refl
 after_commit k Redo = refl
 after_commit k (Purge n) = refl
 
--- The records that a reader has read were folded.
-pub record SoFar {D : Type 0} (disk : Ghosts D) (store : D) (reader : Reader) (m depth : ℕ) (now : Kept) : Type 0 where
+-- after so many records it is as records may leave it
+pub valid_by : (m depth count : ℕ) (k : Kept) → IsSoundKept m depth count k → IsValid m k
+valid_by m depth count k s = record {
+  points = s.points;
+  depth_is = refl;
+  commit_is = refl;
+  block_least = s.block_least;
+  block_most = s.block_most;
+  track_least = s.track_least;
+  track_most = s.track_most;
+}
+
+-- what a valid project becomes is valid
+pub valid_next : (version m : ℕ) (now next : Kept) (r : ℕ × List ℕ) → IsStep version m now r next → IsValid m now
+    → IsValid m next
+valid_next version m now next r step valid =
+    subst (IsValid m) (sym step.is)
+    (valid_by m now.history.depth (now.commit + 1) (after_body now (says version now r.1))
+    (next_kept version m now.history.depth now.commit now r.1 (says version now r.1) step.one valid))
+
+-- The records that a reader has read were folded, from the project that the header brings.
+pub record SoFar {D : Type 0} (disk : Ghosts D) (store : D) (reader : Reader) (version m : ℕ) (points : List (List ℕ))
+    (first now : Kept) : Type 0 where
   pub records : List (ℕ × List ℕ)
-  pub reading : IsReading disk store reader records
-  pub came : Came m (new_project depth) records now
+  pub reading : IsReading disk store reader points records
+  pub came : Came version m first records now
+  pub valid : IsValid m now

@@ -1,21 +1,62 @@
 -- The first fault of a journal's records.
-use Rattle.std.specs.Prelude.{ℕ, ◌-◌, ◌==◌, min, max, if◌then◌else◌, Option, None, List, [], ◌∷◌, ◌++◌, length}
+use Rattle.std.specs.Prelude.{◌≡◌, ℕ, zero, suc, ◌-◌, ◌==◌, min, max, if◌then◌else◌, Option, None, Some, List, [], ◌∷◌}
+use Rattle.std.specs.Prelude.{◌++◌, length, slice_index}
 use Rattle.std.specs.Option.{option_or}
 use Rattle.pcm_base.specs.History.{History}
 use Rattle.project_journal.specs.declared.fault.Damaged.{Damaged}
-use Rattle.project_journal.specs.Header.{first_failed}
+use Rattle.project_journal.specs.Fields.{field}
+use Rattle.project_journal.specs.Header.{Form, first_failed}
 use Rattle.project_journal.specs.Journal.{Contents}
 use Rattle.project_state.specs.declared.track.Track.{Track}
 use Rattle.project_state.specs.declared.body.Body.{Body}
 use Rattle.project_state.specs.declared.body.Body.TheVariants.{Edit, Undo, Redo, Purge}
 use Rattle.project_state.specs.declared.limits.Before.{Before}
-use Rattle.project_state.specs.Places.{body_at}
+use Rattle.project_state.specs.ChangePlaces.{all_told_at}
+use Rattle.project_state.specs.ChangeTests.{delta_tests}
+use Rattle.project_state.specs.DeltaBodies.{SaysBody}
 use Rattle.project_state.specs.FirstFault.{body_tests, least, place}
-use Rattle.project_state.specs.Kept.{Kept, after_body, new_project}
+use Rattle.project_state.specs.Kept.{Kept, after_body, current_tracks, version_of}
+use Rattle.project_state.specs.Places.{body_at, track_count}
+use Rattle.project_state.specs.Sound.{IsSound}
+use Rattle.project_state.specs.Spelling.{spelling}
+use Rattle.record_fold.specs.Bases.{base_of, points_fault}
 
--- what a body's bytes say
-unfoldable pub says : List ℕ → Body
-says bytes = body_at bytes
+-- the tracks that can be told
+abbrev pub known : List (Option Track) → List Track
+known [] = []
+known (None ∷ ts) = known ts
+known (Some t ∷ ts) = t ∷ known ts
+
+-- what a body's bytes say by the current point
+abbrev pub told_body : List Track → List ℕ → Body
+told_body current bytes =
+    if slice_index bytes 0 == 5 then Edit (field 1 8 bytes) (field 9 8 bytes) (field 17 8 bytes)
+    (known (all_told_at current (track_count bytes) 29 bytes))
+    else if slice_index bytes 0 == 2 then Undo
+    else if slice_index bytes 0 == 3 then Redo
+    else Purge (field 1 8 bytes)
+
+-- in a journal of this version, 1 or else 2
+abbrev pub said : ℕ → List Track → List ℕ → Body
+said zero current bytes = body_at bytes
+said (suc zero) current bytes = body_at bytes
+said (suc (suc version)) current bytes = told_body current bytes
+
+-- what a body's bytes say after a project
+unfoldable pub says : ℕ → Kept → List ℕ → Body
+says version k bytes = said version (current_tracks k.history) bytes
+
+-- the tests of a body's fields in a journal of this version
+abbrev pub field_tests : ℕ → ℕ → Before → List Track → List ℕ → List Damaged
+field_tests zero m b current bytes = body_tests m b bytes
+field_tests (suc zero) m b current bytes = body_tests m b bytes
+field_tests (suc (suc version)) m b current bytes = delta_tests m b current bytes
+
+-- a sound body that these bytes say
+abbrev pub IsSaid : ℕ → ℕ → Before → List Track → List ℕ → Body → Type 0
+IsSaid zero m b current bytes body = (spelling body ≡ bytes) × IsSound m b body
+IsSaid (suc zero) m b current bytes body = (spelling body ≡ bytes) × IsSound m b body
+IsSaid (suc (suc version)) m b current bytes body = SaysBody current bytes body × IsSound m b body
 
 -- what comes before a record whose body stands at this place
 abbrev pub before_at : Kept → ℕ → Before
@@ -35,17 +76,26 @@ history_tests h at (Purge n) =
     least at 1 h.cursor ∷ record { at = place at 1; want = max 1 (min n h.cursor); have = n } ∷ []
 
 -- The tests of a record at a place, with the bytes of its body: those of its fields, and what the history asks.
-unfoldable pub record_tests : ℕ → Kept → ℕ × List ℕ → List Damaged
-record_tests m k r = body_tests m (before_at k r.0) r.1 ++ history_tests k.history r.0 (says r.1)
+unfoldable pub record_tests : ℕ → ℕ → Kept → ℕ × List ℕ → List Damaged
+record_tests version m k r = field_tests version m (before_at k r.0) (current_tracks k.history) r.1
+    ++ history_tests k.history r.0 (says version k r.1)
 
--- The first fault of records that follow a project: the first test that fails of the first record that has one.
+-- The first fault of records that follow a project in a journal of this version: the first test that fails of the first
+-- record that has one.
+abbrev pub first_fault_in : ℕ → ℕ → Kept → List (ℕ × List ℕ) → Option Damaged
+first_fault_in version m k [] = None
+first_fault_in version m k (r ∷ rs) = option_or (first_failed (record_tests version m k r))
+    (first_fault_in version m (after_body k (says version k r.1)) rs)
+
+-- in one of version 1
 abbrev pub first_fault : ℕ → Kept → List (ℕ × List ℕ) → Option Damaged
-first_fault m k [] = None
-first_fault m k (r ∷ rs) = option_or (first_failed (record_tests m k r)) (first_fault m (after_body k (says r.1)) rs)
+first_fault m = first_fault_in 1 m
 
--- the first fault of a journal whose header is sound: an early end of the file stands behind all records
-abbrev pub journal_fault : Contents → Option Damaged
-journal_fault j = option_or (first_fault j.block_size (new_project j.depth) j.records) j.early
+-- The first fault of a journal the fields of whose header are sound: its points come before its records, and an early
+-- end of the file stands behind all of them.
+abbrev pub journal_fault : Form → Contents → Option Damaged
+journal_fault form j = option_or (points_fault j.block_size j.base form.header_size j.points)
+    (option_or (first_fault_in (version_of form) j.block_size (base_of j) j.records) j.early)
 
 -- what is told of a purge that is out of its range
 abbrev pub out_of_range : (at n most : ℕ) → Damaged

@@ -1,15 +1,18 @@
 -- What a fold of records answers.
-use Rattle.std.specs.Prelude.{◌≡◌, ℕ, Some, None, List, map, Result, Ok, Err}
+use Rattle.std.specs.Prelude.{◌≡◌, ℕ, Some, None, List, [], map, Result, Ok, Err}
 use Rattle.disk_model.specs.declared.store.Store.{Ghosts}
-use Rattle.project_journal.specs.Journal.{Contents, body_at}
+use Rattle.project_journal.specs.Journal.{Contents, body_at, log_of}
 use Rattle.project_journal.specs.declared.fault.JournalFault.{JournalFault}
 use Rattle.project_journal.specs.declared.fault.JournalFault.TheVariants as journal
 use Rattle.project_journal.specs.declared.reader.Reader.{Reader}
 use Rattle.project_journal.specs.Header.{first_failed}
-use Rattle.project_journal.specs.Reader.{IsStored}
-use Rattle.project_state.specs.Kept.{Kept, new_project, after_body, IsNext, LeadTo}
+use Rattle.project_journal.specs.Reader.{IsReading, IsStored, contents, reader_form}
+use Rattle.project_state.specs.Kept.{Kept, Begins, after_body, IsNextIn, LeadIn, version_of}
+use Rattle.project_state.specs.KeptSound.{IsSoundKept}
 use Rattle.record_fold.specs.declared.project.Project.{Project}
+use Rattle.record_fold.specs.Bases.{base_by, base_of, points_fault}
 use Rattle.record_fold.specs.Faults.{record_tests, journal_fault, says}
+use Rattle.record_fold.specs.Heads.{HasFault}
 
 abbrev pub kept_of : Project → Kept
 kept_of p = record {
@@ -20,34 +23,58 @@ kept_of p = record {
       p.commit;
 }
 
--- a project after a record that has no fault, or the record's first fault, which is in the journal's file
-abbrev pub FoldsOne : {T : Type 0} → ℕ → Kept → ℕ × List ℕ → Kept → Result T JournalFault → Type 0
-FoldsOne m now r next (Ok x) =
-    (first_failed (record_tests m now r) ≡ None) × IsNext m now r.1 (says r.1) × (next ≡ after_body now (says r.1))
-FoldsOne m now r next (Err (journal.Damaged file at want have)) =
-    (file ≡ 0) × (first_failed (record_tests m now r) ≡ Some (record { at = at; want = want; have = have }))
-FoldsOne m now r next (Err journal.DiskFault) = Unit {0}
-FoldsOne m now r next (Err journal.NoMemory) = Unit {0}
-FoldsOne m now r next (Err _) = ⊥
+-- it is as records may leave it
+abbrev pub IsValid : ℕ → Kept → Type 0
+IsValid m k = IsSoundKept m k.history.depth k.commit k
 
--- The project to which a journal's records lead, where none has a fault and the file does not end too early.
+-- a project after a record that has no fault, or the record's first fault, which is in the journal's file
+abbrev pub FoldsOne : {T : Type 0} → ℕ → ℕ → Kept → ℕ → ℕ × List ℕ → Kept → Result T JournalFault → Type 0
+FoldsOne version m now in_file r next (Ok x) =
+    (first_failed (record_tests version m now r) ≡ None) × IsNextIn version m now r.1 (says version now r.1)
+    × (next ≡ after_body now (says version now r.1))
+FoldsOne version m now in_file r next (Err (journal.Damaged file at want have)) =
+    (file ≡ in_file) × (first_failed (record_tests version m now r) ≡ Some (record { at = at; want = want; have = have }))
+FoldsOne version m now in_file r next (Err journal.DiskFault) = Unit {0}
+FoldsOne version m now in_file r next (Err journal.NoMemory) = Unit {0}
+FoldsOne version m now in_file r next (Err _) = ⊥
+
+-- The project before the first record, of a reader that has read all points.
+pub record IsBrought {D : Type 0} (disk : Ghosts D) (store : D) (m : ℕ) (r : Reader) (now : Kept) : Type 0 where
+  pub points : List (List ℕ)
+  pub reading : IsReading disk store r points []
+  pub none : points_fault m r.base (reader_form r).header_size points ≡ None
+  pub is : now ≡ base_by points r.depth r.base
+  pub begins : Begins (log_of (contents r points [] None)) now
+
+abbrev pub Brings : {D : Type 0} → Ghosts D → D → ℕ → Reader → Result Project JournalFault → Type 0
+Brings disk store m r (Ok p) = IsBrought disk store m r (kept_of p)
+Brings disk store m r (Err (journal.Damaged file at want have)) =
+    HasFault disk store (reader_form r) file (record { at = at; want = want; have = have })
+Brings disk store m r (Err journal.DiskFault) = Unit {0}
+Brings disk store m r (Err journal.NoMemory) = Unit {0}
+Brings disk store m r (Err _) = ⊥
+
+-- The project to which a journal's records lead from the one that its header brings, where none of its points and
+-- records has a fault and the file does not end too early.
 pub record Leads {D : Type 0} (disk : Ghosts D) (store : D) (reader : Reader) (p : Project) : Type 0 where
   pub journal : Contents
-  pub stored : IsStored disk store journal
+  pub stored : IsStored disk store (reader_form reader) journal
   pub rate : reader.rate ≡ journal.rate
   pub block_size : reader.block_size ≡ journal.block_size
+  pub base : reader.base ≡ journal.base
   pub end : reader.at ≡ journal.end
-  pub fault : journal_fault journal ≡ None
+  pub fault : journal_fault (reader_form reader) journal ≡ None
   pub early : journal.early ≡ None
-  pub leads : LeadTo journal.block_size (new_project journal.depth) (map body_at journal.records) (kept_of p)
+  pub begins : Begins (log_of journal) (base_of journal)
+  pub leads : LeadIn (version_of (reader_form reader)) journal.block_size (base_of journal)
+      (map body_at journal.records) (kept_of p)
 
 -- That of a store's journal, or its first fault, which is in the journal's file. A store that does not tell its bytes
 -- may have given any journal.
 abbrev pub FoldsStored : {D : Type 0} → Ghosts D → D → Reader → Result Project JournalFault → Type 0
 FoldsStored disk store reader (Ok p) = Leads disk store reader p
 FoldsStored disk store reader (Err (journal.Damaged file at want have)) =
-    (j : Contents) × IsStored disk store j × (file ≡ 0)
-    × (journal_fault j ≡ Some (record { at = at; want = want; have = have }))
+    HasFault disk store (reader_form reader) file (record { at = at; want = want; have = have })
 FoldsStored disk store reader (Err journal.DiskFault) = Unit {0}
 FoldsStored disk store reader (Err journal.NoMemory) = Unit {0}
 FoldsStored disk store reader (Err _) = ⊥

@@ -1,12 +1,12 @@
 -- What is proved of the definitions themselves.
 use Rattle.std.specs.Prelude.{◌≡◌, ℕ, ◌≤◌, ◌<◌, ◌^◌, None, List, map}
 use Rattle.project_journal.specs.Journal.{body_at}
-use Rattle.project_state.specs.Kept.{Kept, LeadTo}
-use Rattle.record_fold.specs.Faults.{first_fault}
+use Rattle.project_state.specs.Kept.{Kept, LeadIn}
+use Rattle.record_fold.specs.Faults.{first_fault_in}
 
--- Records that lead from one project to another have no fault, wherever they stand, at each block size that is a u32
--- from 4 on.
+-- Records that lead from one project to another in a journal of any version have no fault, wherever they stand, at each
+-- block size that is a u32 from 4 on.
 abbrev pub NoSoundRecordIsRefused : Type 0
 NoSoundRecordIsRefused =
-    (m : ℕ) (from to : Kept) (records : List (ℕ × List ℕ)) → 4 ≤ m → m < 2 ^ 32 → LeadTo m from (map body_at records) to
-    → first_fault m from records ≡ None
+    (version m : ℕ) (from to : Kept) (records : List (ℕ × List ℕ)) → 4 ≤ m → m < 2 ^ 32
+    → LeadIn version m from (map body_at records) to → first_fault_in version m from records ≡ None

@@ -1,33 +1,39 @@
 // The records of a journal, one after another.
-ghost use Rattle.std.specs.Prelude.{◌≡◌, ◌≤◌, ◌<◌, ◌^◌, ◌-◌, [], IsErrOf, MatchResult};
+ghost use Rattle.std.specs.Prelude.{◌≡◌, ◌≤◌, ◌<◌, ◌^◌, ◌-◌, [], IfOk, IsErrOf, MatchResult};
 ghost use Rattle.disk_model.specs.Frames.{Kept as IsKept};
 ghost use Rattle.project_journal.specs.Answer.{Causes};
-ghost use Rattle.project_journal.specs.Reader.{IsPlaced, IsReading, last_record};
+ghost use Rattle.project_journal.specs.Reader.{IsHeading, IsPlaced, last_record, reader_form};
 ghost use Rattle.project_state.specs.FirstFault.{Finds};
-ghost use Rattle.project_state.specs.Kept.{new_project, after_body, IsNext};
+ghost use Rattle.project_state.specs.Kept.{new_project, after_body, version_of, IsNextIn};
 ghost use Rattle.record_fold.specs.Faults.{record_tests, says};
-ghost use Rattle.record_fold.specs.Folds.{kept_of, FoldsOne, FoldsStored};
+ghost use Rattle.record_fold.specs.Folds.{kept_of, Brings, FoldsOne, FoldsStored, IsBrought, IsValid};
+ghost use Rattle.record_fold.specs.Heads.{ReadsOn};
 
+use super::heading::{in_journal, read_points};
 use super::project::Project;
+use super::reading::{current_of, read_record};
 use super::steps::take_body;
 use disk_model::Store;
-use project_journal::{Damaged, JournalFault, Next, Reader};
-use project_state::{BadBody, Before, read_body};
+use project_journal::{JournalFault, Next, Reader};
+use project_state::{BadBody, Before};
 use std::alloc::Global;
 
 /// Folds one record more, whose body stands at this place of the file.
 fn take_record(
     alloc: Global,
     project: &mut Project,
+    version: u32,
     m: u32,
     at: u64,
     bytes: &[u8],
 ) -> Result<(), BadBody>
     requires least { 4 ≤ m }
     requires commit { project.old.commit < 2 ^ 64 - 1 }
-    ensures { Finds (record_tests m (kept_of project.old) (at, bytes.now))
-        (λ _. IsNext m (kept_of project.old) bytes.now (says bytes.now)
-        × (kept_of project.new ≡ after_body (kept_of project.old) (says bytes.now))) result }
+    requires valid { IsValid m (kept_of project.old) }
+    ensures { Finds (record_tests version m (kept_of project.old) (at, bytes.now))
+        (λ _. IsNextIn version m (kept_of project.old) bytes.now (says version (kept_of project.old) bytes.now)
+        × (kept_of project.new ≡ after_body (kept_of project.old) (says version (kept_of project.old) bytes.now)))
+        result }
 {
     let before = Before {
         at,
@@ -35,13 +41,14 @@ fn take_record(
         next_track: project.next_track,
         commits: project.commit,
     };
-    match read_body(alloc, bytes, m, before) {
+    let current = current_of(&project.history);
+    match read_record(alloc, bytes, version, m, before, current) {
         Ok(body) => take_body(project, at, body),
         Err(fault) => Err(fault),
     }
 }
 
-/// The project before the first record.
+/// The project before the first record, where the header has no points.
 fn no_records(alloc: Global, depth: u32) -> Result<Project, JournalFault>
     requires { 1 ≤ depth }
     ensures { MatchResult result (λ p. kept_of p ≡ new_project depth) (λ e. e ≡ JournalFault.NoMemory) }
@@ -52,66 +59,118 @@ fn no_records(alloc: Global, depth: u32) -> Result<Project, JournalFault>
     }
 }
 
-/// A fault of a record, told of the journal's file.
-fn in_journal(fault: Damaged) -> JournalFault
-    ensures { result ≡ JournalFault.Damaged 0 fault.at fault.want fault.have }
+/// The project before the first record, as the header brings it.
+fn bring<S: Store>(
+    alloc: Global,
+    store: &mut S,
+    reader: &mut Reader,
+    m: u32,
+) -> Result<Project, JournalFault>
+    requires heading { IsHeading S.Store store.old reader.old [] }
+    requires size { m ≡ reader.old.block_size }
+    ensures brings { Brings S.Store store.new m reader.new result }
+    ensures later { ReadsOn reader.old reader.new result }
+    ensures commit { IfOk result (λ p. p.commit ≤ 2 ^ 62) }
+    ensures cause { Causes S.Store store.old store.new result }
+    ensures kept { IsKept S.Store store.old store.new }
 {
-    JournalFault::Damaged {
-        file: 0,
-        at: fault.at,
-        want: fault.want,
-        have: fault.have,
+    let base = reader.base();
+    if base.count == 0 {
+        return no_records(alloc, reader.depth());
     }
+    let history = read_points(alloc, store, reader, m)?;
+    Ok(Project {
+        history,
+        next_block: base.next_block,
+        next_track: base.next_track,
+        commit: base.commit,
+    })
+}
+
+/// The version of the journal's form, 1 or 2.
+pub fn version_in(reader: &Reader) -> u32
+    ensures { result ≡ version_of (reader_form reader.now) }
+{
+    if reader.version() < 2 { 1 } else { 2 }
 }
 
 /// Folds the record that was read last.
 fn fold_last(
     alloc: Global,
     project: &mut Project,
+    version: u32,
     m: u32,
     reader: &Reader,
 ) -> Result<(), JournalFault>
     requires least { 4 ≤ m }
     requires commit { project.old.commit < 2 ^ 64 - 1 }
+    requires valid { IsValid m (kept_of project.old) }
     requires placed { IsPlaced reader.now }
-    ensures folds { FoldsOne m (kept_of project.old) (last_record reader.now) (kept_of project.new) result }
+    ensures folds { FoldsOne version m (kept_of project.old) reader.now.window.file (last_record reader.now)
+        (kept_of project.new) result }
     ensures no_fault { IsErrOf result JournalFault.DiskFault → ⊥ }
 {
     let (at, bytes) = reader.record();
-    match take_record(alloc, project, m, at, bytes) {
+    match take_record(alloc, project, version, m, at, bytes) {
         Ok(()) => Ok(()),
         Err(BadBody::NoMemory) => Err(JournalFault::NoMemory),
-        Err(BadBody::Damaged { fault }) => Err(in_journal(fault)),
+        Err(BadBody::Damaged { fault }) => Err(in_journal(reader.file(), fault)),
     }
 }
 
-/// The project to which the records of a journal lead from the one without records. It reads each record once, and
-/// takes memory for the points that the history keeps, for the point of one record and for the bytes that the reader
-/// holds, which are those of 64 KiB or of the longest record.
+/// Folds the records of a journal into the project that its header brings.
+fn fold_records<S: Store>(
+    alloc: Global,
+    store: &mut S,
+    reader: &mut Reader,
+    version: u32,
+    m: u32,
+    project: Project,
+) -> Result<Project, JournalFault>
+    requires version { version ≡ version_of (reader_form reader.old) }
+    requires brought { IsBrought S.Store store.old m reader.old (kept_of project) }
+    requires size { m ≡ reader.old.block_size }
+    requires least { 4 ≤ m }
+    requires commit { project.commit ≤ 2 ^ 62 }
+    ensures folds { FoldsStored S.Store store.new reader.new result }
+    ensures later { ReadsOn reader.old reader.new result }
+    ensures cause { Causes S.Store store.old store.new result }
+    ensures kept { IsKept S.Store store.old store.new }
+{
+    let mut project = project;
+    'records: loop {
+        let next = reader.next(store)?;
+        match next {
+            Next::Whole(_len) => fold_last(alloc, &mut project, version, m, reader)?,
+            Next::Shut => return Ok(project),
+            Next::Early(fault) => return Err(in_journal(reader.file(), fault)),
+        }
+    }
+}
+
+/// The project to which the records of a journal lead from the one that its header brings. It reads each point and
+/// record once, and takes memory for the points that the history keeps, for the point of one record and for the bytes
+/// that the reader holds, which are those of 64 KiB or of the longest record or point.
 ///
 /// # Errors
 ///
 /// `Damaged`: the first field, by its place in the file, that is not as `docs/FORMATS.md` asks. Where the file ends too
-/// early, that is told behind all faults of the records before. `DiskFault`: the disk failed. `NoMemory`: there is no
-/// memory for the points, or for a record's bytes.
+/// early, that is told behind all faults of the points and records before. `DiskFault`: the disk failed. `NoMemory`:
+/// there is no memory for the points, or for a record's bytes.
 pub fn fold_journal<S: Store>(
     alloc: Global,
     store: &mut S,
     reader: &mut Reader,
 ) -> Result<Project, JournalFault>
-    requires { IsReading S.Store store.old reader.old [] }
+    requires { IsHeading S.Store store.old reader.old [] }
     ensures folds { FoldsStored S.Store store.new reader.new result }
+    // What is found is found in the reader's journal.
+    ensures later { ReadsOn reader.old reader.new result }
     ensures cause { Causes S.Store store.old store.new result }
     ensures kept { IsKept S.Store store.old store.new }
 {
     let m = reader.block_size();
-    let mut project = no_records(alloc, reader.depth())?;
-    'records: loop {
-        let next = reader.next(store)?;
-        match next {
-            Next::Whole(_len) => fold_last(alloc, &mut project, m, reader)?,
-            Next::Shut => return Ok(project),
-            Next::Early(fault) => return Err(in_journal(fault)),
-        }
-    }
+    let project = bring(alloc, store, reader, m)?;
+    let version = version_in(reader);
+    fold_records(alloc, store, reader, version, m, project)
 }

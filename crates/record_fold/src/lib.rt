@@ -7,10 +7,12 @@
 #![tactic(auto)]
 
 mod folding;
+mod heading;
 mod laws;
 mod project;
+mod reading;
 mod steps;
 
-pub use folding::fold_journal;
+pub use folding::{fold_journal, version_in};
 pub use laws::records_that_lead_have_no_fault;
 pub use project::Project;

@@ -1,5 +1,5 @@
 -- How far a session has come.
-use Rattle.std.specs.Prelude.{◌≡◌, ℕ, ◌^◌, ◌<◌, ◌≤◌, List, [], ◌∷◌, ◌++◌, length, Bool, Option, Result, Ok, Err}
+use Rattle.std.specs.Prelude.{◌≡◌, ℕ, ◌<◌, ◌≤◌, List, [], ◌∷◌, ◌++◌, length, Bool, Option, Result, Ok, Err}
 use Rattle.std.specs.Prelude.{MatchResult, take, flat_map}
 use Rattle.std.specs.List.{list_any}
 use Rattle.std.specs.Io.KnownBytes.{IsAtEnd}
@@ -10,6 +10,7 @@ use Rattle.pcm_base.specs.Causes.{Rose}
 use Rattle.edit_ports.specs.Told.{grown, preceded}
 use Rattle.script_text.specs.Lines.{lines_of, ended_lines}
 use Rattle.script_text.specs.Text.{text_of}
+use Rattle.script_session.specs.declared.read.TheConstants.{MAX_SCRIPT}
 use Rattle.script_session.specs.declared.stop.Stop.{Stop}
 use Rattle.script_session.specs.declared.stop.Stop.TheVariants as stop
 use Rattle.script_session.specs.Change.{Change}
@@ -85,9 +86,9 @@ pub record Halted (r : Reached) (failed : Failed) (read : List ℕ) : Type 0 whe
 
 -- which lines of the bytes that were read a session has carried out, by what stopped it
 abbrev pub IsCut : Stop → List ℕ → List (List ℕ) → Option (List ℕ) → Type 0
-IsCut stop.End read lines left = (lines ≡ lines_of read) × (length read < 2 ^ 32) × IsAtEnd left
+IsCut stop.End read lines left = (lines ≡ lines_of read) × (length read < MAX_SCRIPT) × IsAtEnd left
 IsCut stop.SourceFault read lines left = lines ≡ ended_lines read
-IsCut stop.Limit read lines left = (lines ≡ ended_lines read) × (length read ≡ 2 ^ 32)
+IsCut stop.Limit read lines left = (lines ≡ ended_lines read) × (length read ≡ MAX_SCRIPT)
 IsCut stop.OutFault read lines left = (later : List (List ℕ)) × (lines_of read ≡ lines ++ later)
 
 abbrev pub outcome_of : Stop → Result (Unit {0}) Failed

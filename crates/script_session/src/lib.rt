@@ -16,6 +16,6 @@ pub use answer::Session;
 pub use editor::Editor;
 pub use laws::{sessions_add, sessions_are_served, sessions_spend};
 pub use line::LineBuffer;
-pub use read::read_script;
+pub use read::{MAX_SCRIPT, read_script};
 pub use seat::DeskEditor;
 pub use stop::Stop;

@@ -2,10 +2,9 @@
 ghost use Rattle.std.specs.Prelude.{◌≡◌, ◌<◌, ◌≤◌, [], ◌∷◌, ◌++◌, List, ℕ, length, IfOk, MatchOption, MatchBool};
 ghost use Rattle.script_session.specs.Kept.{Holds};
 
+use script_text::MAX_LINE;
 use std::alloc::{AllocError, Global};
 use std::marker::Model;
-
-const MAX_LINE: usize = 65536;
 
 /// A line as far as it has come. Its room is taken once, so it grows without memory.
 #[derive(Drop)]
@@ -16,13 +15,14 @@ pub struct LineBuffer {
 
 impl Model for LineBuffer {
     ghost use Rattle.std.specs.Prelude.{◌≤◌, vec_len, vec_capacity};
+    ghost use Rattle.script_text.specs.declared.parsing.TheConstants.{MAX_LINE};
     ghost use Rattle.script_session.specs.Kept.{Kept};
 
     ghost Value = { Kept };
 
     ghost view = { λ s. record { bytes = s.bytes.items; long = s.long } };
 
-    ghost invariant = { λ s. (65536 ≤ vec_capacity s.bytes) × (vec_len s.bytes ≤ 65536) };
+    ghost invariant = { λ s. (MAX_LINE ≤ vec_capacity s.bytes) × (vec_len s.bytes ≤ MAX_LINE) };
 }
 
 impl LineBuffer {
@@ -63,8 +63,8 @@ impl LineBuffer {
     /// The bytes, or nothing where they are too many for a line.
     pub fn get(&self) -> Option<&[u8]>
         ensures { MatchOption result
-            ((part : List ℕ) → Holds self.now part → 65536 < length part)
-            (λ bytes. (length bytes.now ≤ 65536) × ((part : List ℕ) → Holds self.now part → part ≡ bytes.now)) }
+            ((part : List ℕ) → Holds self.now part → MAX_LINE < length part)
+            (λ bytes. (length bytes.now ≤ MAX_LINE) × ((part : List ℕ) → Holds self.now part → part ≡ bytes.now)) }
     {
         if self.long {
             None

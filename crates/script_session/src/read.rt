@@ -15,7 +15,8 @@ use pcm_base::Failed;
 use std::alloc::Global;
 use std::sync::Wait;
 
-const LIMIT: u64 = 4294967296;
+/// How many bytes of a script are read at most.
+pub const MAX_SCRIPT: u64 = 4_294_967_296;
 
 // The rest of a line and its LF: the line is answered.
 fn end_line<R: Wait, E: Editor, O: Sink, G: Gate>(
@@ -114,8 +115,8 @@ pub fn read_script<R: Wait, E: Editor, A: Source, O: Sink, G: Gate>(
 {
     let mut buffer = [0u8; 16384];
     let mut total: u64 = 0;
-    while total < LIMIT {
-        let most = (LIMIT - total).min(16384) as usize;
+    while total < MAX_SCRIPT {
+        let most = (MAX_SCRIPT - total).min(16384) as usize;
         match script.read(&mut buffer[..most]) {
             Err(_) => return Stop::SourceFault,
             Ok(count) => {

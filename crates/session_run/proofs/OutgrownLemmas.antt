@@ -96,12 +96,12 @@ module _ {D V : Type 0} (disk : Ghosts D) (vaults : vault.Ghosts V) (from : Room
   asked_begun : (b : Began t u d.call d.sound)
       → HasAskedFor from (asked disk new.store) (plus sum (one_of b)) gone (begun_in_vain d.what)
   asked_begun b =
-      let there : files_made (disk.reads old.store 0) ≡ 0 =
+      let there : files_made (disk.reads old.store old.file) ≡ 0 =
       ap files_made (fine.held.durable fine.going).there.read.1 in
       let vain : ℕ = begun_in_vain d.what in
       let made : ℕ = new.next_block - old.next_block in
       let few : made ≤ b.blocks = let most = b.most in omega (arith, most) in
-      let journal : Option (List ℕ) = disk.reads old.store 0 in
+      let journal : Option (List ℕ) = disk.reads old.store old.file in
       let length_is : (asks (exchange_of d.call d.sound d.what does.removed) journal old.block_size made took.len).bytes
       ≡ places_of d.call took.len + (made + vain) * 48 =
       ap (λ (m : ℕ). (asks (exchange_of d.call d.sound d.what does.removed) journal m made took.len).bytes)

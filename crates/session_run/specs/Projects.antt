@@ -8,7 +8,6 @@ use Rattle.disk_model.specs.Frames.{Changed}
 use Rattle.disk_model.specs.declared.store.Store.{Ghosts}
 use Rattle.project_journal.specs.Gate.{EachNow, EachSince, IsDurable}
 use Rattle.project_journal.specs.Rooms.{create_room}
-use Rattle.project_journal.specs.Start.{NoProject}
 use Rattle.project_state.specs.Kept.{Keeps}
 use Rattle.call_words.specs.declared.asked.NewProject.{NewProject}
 use Rattle.editor_core.specs.Core.{Core}
@@ -18,6 +17,7 @@ use Rattle.editor_recovery.specs.Causes.{Causes}
 use Rattle.editor_recovery.specs.Checking.{ChecksStudio}
 use Rattle.editor_recovery.specs.Creating.{Creates, LeavesRefused, new_opened}
 use Rattle.editor_recovery.specs.Honest.{IsHonest}
+use Rattle.editor_recovery.specs.Standing.{HasNone}
 use Rattle.script_text.specs.declared.call_fault.CallFault.TheVariants as call
 use Rattle.script_text.specs.declared.project.ProjectLines.{ProjectLines}
 use Rattle.script_text.specs.Project.{checked_text, made_text, project_text}
@@ -32,7 +32,7 @@ pub record Created {D : Type 0} (disk : Ghosts D) (project : NewProject) (old ne
     : Type 0 where
   -- at any moment each image, but one that the store could already leave, has no project or keeps the new one
   pub any_moment : IsTrue (disk.tells old) → EachSince disk old new (λ c. disk.may_leave old (disk.clock old) c
-      ⊎ (NoProject 0 c ⊎ Keeps c (new_opened project.rate project.block_size project.depth)))
+      ⊎ (HasNone c ⊎ Keeps c (new_opened project.rate project.block_size project.depth)))
   -- after it the store and each image keep the new one
   pub made : IsTrue (disk.tells old) → OnOk answer
       (Keeps (disk.reads new) (new_opened project.rate project.block_size project.depth)

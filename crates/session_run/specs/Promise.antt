@@ -104,7 +104,9 @@ pub record Promise {D : Type 0} (disk : Ghosts D) (m : Met D) : Type 0 where
   -- its counts of faults are the disk's, before and at the end
   pub faults_before : HasFaults disk m.store.before start
   pub faults_now : HasFaults disk m.store.now final
-  -- ONE RUN of the plain array editor, by the script, which is the actor 0, the recorder and the player
+  -- ONE RUN of the plain array editor, by the script, which is the actor 0, the recorder and the player. A refused entry
+  -- leaves the editor's state as it was and takes no number. It may use up ids of blocks, and an export that is broken
+  -- off may leave a part of its sound. The exit status is said in Call (EndsAs).
   pub run : Run start ((track ++ pin) ++ entries) final
   pub makers : Each (λ e. (is_by 0 e || (is_by end.recorder e || is_by end.player e)) ≡ true) entries
   pub apart : (0 ≢ end.recorder) × (0 ≢ end.player) × (end.recorder ≢ end.player)
@@ -115,7 +117,8 @@ pub record Promise {D : Type 0} (disk : Ghosts D) (m : Met D) : Type 0 where
   pub lines : Answered (last_number start.state.commit (track ++ pin))
       (last_number start.state.commit (track ++ pin)) end.lines answers entries
   pub sounds : Follows m.sounds.before (entries_by 0 entries) m.sounds.now
-  -- and the recorded PIECES, after a track of their own; the recorder frees what they replaced
+  -- And the recorded PIECES, after a track of their own: the first chunks that the microphone gave, all of them unless
+  -- one was refused. The recorder frees what they replaced. Lines of the script may change or undo them as any sound.
   pub track_is : MakesSide (Line Track)
       (λ tag r. (tag ≡ last_number start.state.commit track) × (is_refusal r ≡ false)) end.recording track
   pub pieces : RecordsSide (length ((track ++ pin) ++ entries) ≡ 2 ^ 62) end.recording start.state.next_track m.mic
@@ -145,11 +148,12 @@ pub record Promise {D : Type 0} (disk : Ghosts D) (m : Met D) : Type 0 where
       ⊎ KeepsPrefix start ((track ++ pin) ++ entries) c)
   -- At the end it has the project after all entries. Where the disk stopped the studio, the entry broken off may be in
   -- flight. A disk that stops is one whose calls fail from some call on, and the clause is about each such disk. So
-  -- what a stop leaves holds every entry that was answered before it.
+  -- what a stop leaves holds every entry that was answered before it. No field times the output against the disk: an
+  -- answer printed before its commit is on the disk would break `broken` on the disk that fails from the next call on.
   pub going : final.stopped ≡ None → EachNow disk m.store.now (λ c. Keeps c (shown final))
   pub broken : IsSome final.stopped
       → EachNow disk m.store.now (λ c. Keeps c (shown final) ⊎ StopsInFlight start ((track ++ pin) ++ entries) c)
-  -- Files that are neither the journal nor a block's stay as they are, and no entry found a damaged file.
+  -- Files that are neither a journal's nor a block's stay as they are, and no entry found a damaged file.
   pub foreign : LeavesForeign (disk.reads m.store.before) (disk.reads m.store.now)
   pub whole : Each (λ e. IfErr (result_of e.reply) IsUnharmed) ((track ++ pin) ++ entries)
   -- WHERE NO DEVICE FAILED the studio goes on, and no entry of the script has a device's reply

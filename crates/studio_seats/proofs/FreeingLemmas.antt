@@ -1,5 +1,5 @@
 -- Pieces and the reclaims between them, list by list.
-use Rattle.std.proofs.Common.{◌≡◌, ℕ, ◌+◌, ◌==◌, ◌&&◌, if◌then◌else◌, ℤ, Bool, true, false, List, [], ◌∷◌, ◌++◌}
+use Rattle.std.proofs.Common.{◌≡◌, ℕ, ◌≤◌, ◌==◌, ◌&&◌, if◌then◌else◌, ℤ, Bool, true, false, List, [], ◌∷◌, ◌++◌}
 use Rattle.std.proofs.Common.{refl, sym, ◌∙◌, ap, arith}
 use Rattle.std.proofs.lemmas.Bool.Decides.{nat_tests}
 use Rattle.pcm_base.specs.declared.command.Call.{Call}
@@ -33,16 +33,14 @@ unfreed_append n (e ∷ es) ys = unfreed_append (unfreed_by n e.call) es ys
 
 pub freed_append : (n : ℕ) (xs ys : List Entry) → AreFreed n xs → AreFreed (unfreed n xs) ys → AreFreed n (xs ++ ys)
 freed_append n [] ys h k = k
-freed_append n (e ∷ es) ys h k = (h.0, freed_append (unfreed_by n e.call) es ys h.1 k)
+freed_append n (e ∷ es) ys h k = (h.0, h.1, freed_append (unfreed_by n e.call) es ys h.2 k)
 
-none_by : (n : ℕ) (c : Call) → IsFullReclaim c → unfreed_by n c ≡ 0
+pub none_by : (n : ℕ) (c : Call) → IsFullReclaim c → unfreed_by n c ≡ 0
 none_by n c is = ap (unfreed_by n) is
 
--- reclaims alone
-pub reclaims_free : (n : ℕ) (ds : List Deed) → Each (λ d. IsFullReclaim d.call) ds → AreFreed n (entries_of ds)
-reclaims_free n [] h = tt
-reclaims_free n (d ∷ ds) h =
-    let none = none_by n d.call h.0 in (omega (arith, none), reclaims_free (unfreed_by n d.call) ds h.1)
+-- a reclaim after a piece
+pub reclaim_frees : (n : ℕ) (d : Deed) → IsFullReclaim d.call → 1 ≤ n → AreFreed n (entries_of (d ∷ []))
+reclaim_frees n d is some = let none = none_by n d.call is in ((λ other. some), omega (arith, none), tt)
 
 pub no_piece_among : (ds : List Deed) → Each (λ d. IsFullReclaim d.call) ds → deeds_of asks_piece ds ≡ []
 no_piece_among [] h = refl

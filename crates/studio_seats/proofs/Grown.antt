@@ -244,9 +244,9 @@ led_none o is = record {
     cut = refl;
     reached = studio_of o.disk o.start;
     run = refl;
-    keeps = inl (keeps_now o.disk o.start going held c since);
+    keeps = inl (keeps_now o.disk o.start is.journal.among going held c since);
   };
-  going = λ tell still held c now. keeps_now o.disk o.start still held c now;
+  going = λ tell still held c now. keeps_now o.disk o.start is.journal.among still held c now;
   stopped = λ tell going some held c now. absurd (stopped_not o.start.stopped some going);
 }
 

@@ -28,10 +28,11 @@ use Rattle.studio_seats.specs.Freeing.{AreFreed, IsFullReclaim, unfreed}
 use Rattle.studio_seats.specs.Merge.{by_seat, deeds_of}
 use Rattle.studio_seats.specs.Onward.{AreDone, Asks, EndsBy, Onward}
 use Rattle.studio_seats.specs.Pieces.{pieces_by}
-use Rattle.studio_seats.specs.Recording.{Frees, FreesTo, Recorder, RecorderAsks, RecordsOn, asks_piece, recorder}
+use Rattle.studio_seats.specs.Recording.{Frees, FreesOnce, FreesTo, Recorder, RecorderAsks, RecordsOn, asks_piece}
+use Rattle.studio_seats.specs.Recording.{recorder}
 use Rattle.studio_seats.specs.Stands.{origin}
-use Rattle.studio_seats.proofs.FreeingLemmas.{asked_own, freed_append, no_piece_among, no_pieces_by, reclaims_free}
-use Rattle.studio_seats.proofs.FreeingLemmas.{unfreed_append}
+use Rattle.studio_seats.proofs.FreeingLemmas.{asked_own, freed_append, no_piece_among, no_pieces_by, none_by}
+use Rattle.studio_seats.proofs.FreeingLemmas.{reclaim_frees, unfreed_append}
 use Rattle.studio_seats.proofs.Grown.{entries_append}
 use Rattle.studio_seats.proofs.MergeLemmas.{deeds_append}
 use Rattle.studio_seats.proofs.OnwardLemmas.{onward_on, onward_self, onward_spent, onward_taken}
@@ -111,7 +112,8 @@ module _ {D V : Type 0} (track tag : ℕ) (disk : Ghosts D) (vaults : vault.Ghos
         unrefused = unrefused;
         ends = λ none. subst (λ (l : List Deed). EndsBy w.used_up new' l) (sym (pieces_more r at t)) (ends none);
         freed = subst (λ (l : List Entry). AreFreed a.since l) (sym (entries_more r at t))
-            (freed_append a.since (entries_of own) (e ∷ []) h.freed (one, tt));
+            (freed_append a.since (entries_of own) (e ∷ []) h.freed
+            ((λ other. absurd (true≢false other)), one, tt));
         since = inl (ap (unfreed a.since) (entries_more r at t)
             ∙ (unfreed_append a.since (entries_of own) (e ∷ []) ∙ ap (λ (n : ℕ). n + 1) is));
       }
@@ -168,12 +170,11 @@ frees_turn {D} {V} disk vaults start v w what said says = ⊎_elim
     (λ (x : Turned (origin disk vaults start) (asked (Line (Reclaim None)) what silent) said.at (views v w)).
     let e : Deed = deed v.number (Line (Reclaim None)) what silent in record {
       onward = onward_taken IsFullReclaim disk vaults start v w (Line (Reclaim None)) what silent said.at refl x;
-      freed = λ n. inl (ap (λ (l : List Deed). unfreed n (entries_of l))
-          (own_turn IsFullReclaim v v (onward_self IsFullReclaim v) x.between e refl x.by_others));
+      freed = inl (x.unspent, e, own_turn IsFullReclaim v v (onward_self IsFullReclaim v) x.between e refl x.by_others);
     })
     (λ (x : Spends v said w). record {
       onward = onward_spent IsFullReclaim disk vaults start v w (Line (Reclaim None)) what silent x.view;
-      freed = λ n. inr (ap (λ (z : View (Held D V) Deed). z.used_up) x.view);
+      freed = inr (ap (λ (z : View (Held D V) Deed). z.used_up) x.view, refl);
     })
     says
 
@@ -184,14 +185,41 @@ module _ {D V : Type 0} (track tag : ℕ) (v w : View (Held D V) Deed) where
     abbrev before : List Deed
     before = deeds_of (by_seat a.view.number) h.onward.added
 
-    frees : Frees v w → RecordsOn track tag failed a (recorder w refused 0)
-    frees f =
+    abbrev since_before : ℕ
+    since_before = unfreed a.since (entries_of before)
+
+    -- as a turn was taken, the count is right
+    counted_before : v.used_up ≡ false → since_before ≡ since
+    counted_before unspent = ⊎_elim (λ (is : since_before ≡ since). is)
+        (λ (used : v.used_up ≡ true). absurd (true≢false (sym used ∙ unspent))) h.since
+
+    -- the entry of the reclaim, if one was made, comes after a piece
+    freed_more : (more : List Deed) → Each (λ d. IsFullReclaim d.call) more → 1 ≤ since → FreesOnce v w more
+        → AreFreed since_before (entries_of more)
+    freed_more more reclaims some (inl x) =
+        subst (λ (l : List Deed). AreFreed since_before (entries_of l)) (sym x.2)
+        (reclaim_frees since_before x.1 (subst (λ (l : List Deed). Each (λ d. IsFullReclaim d.call) l) x.2 reclaims).0
+        (subst (λ (n : ℕ). 1 ≤ n) (sym (counted_before x.0)) some))
+    freed_more more reclaims some (inr x) =
+        subst (λ (l : List Deed). AreFreed since_before (entries_of l)) (sym x.1) tt
+
+    -- and after it no piece stands
+    none_more : (more : List Deed) → Each (λ d. IsFullReclaim d.call) more → FreesOnce v w more
+        → (unfreed since_before (entries_of more) ≡ 0) ⊎ (w.used_up ≡ true)
+    none_more more reclaims (inl x) = inl (ap (λ (l : List Deed). unfreed since_before (entries_of l)) x.2
+        ∙ none_by since_before x.1.call (subst (λ (l : List Deed). Each (λ d. IsFullReclaim d.call) l) x.2 reclaims).0)
+    none_more more reclaims (inr x) = inr x.0
+
+    frees : 1 ≤ since → Frees v w → RecordsOn track tag failed a (recorder w refused 0)
+    frees some f =
         let n : ℕ = a.view.number in
         let more : List Deed = deeds_of (by_seat n) f.onward.added in
         let own : deeds_of (by_seat n) (h.onward.added ++ f.onward.added) ≡ before ++ more =
         deeds_append (by_seat n) h.onward.added f.onward.added in
         let reclaims : Each (λ d. IsFullReclaim d.call) more = asked_own IsFullReclaim n f.onward.added
         (subst (λ (m : ℕ). Asks IsFullReclaim m f.onward.added) h.onward.number f.onward.asks) in
+        let once : FreesOnce v w more =
+        subst (λ (m : ℕ). FreesOnce v w (deeds_of (by_seat m) f.onward.added)) h.onward.number f.freed in
         let pieces : deeds_of asks_piece (deeds_of (by_seat n) (h.onward.added ++ f.onward.added))
         ≡ deeds_of asks_piece before =
         ap (deeds_of asks_piece) own ∙ (deeds_append asks_piece before more
@@ -206,17 +234,12 @@ module _ {D V : Type 0} (track tag : ℕ) (v w : View (Held D V) Deed) where
           ends = λ none. subst (λ (l : List Deed). EndsBy w.used_up refused l) (sym pieces)
               (ends_later v.used_up w.used_up refused (deeds_of asks_piece before) f.onward.used_up (h.ends none));
           freed = subst (λ (l : List Entry). AreFreed a.since l) (sym entries)
-              (freed_append a.since (entries_of before) (entries_of more) h.freed
-              (reclaims_free (unfreed a.since (entries_of before)) more reclaims));
+              (freed_append a.since (entries_of before) (entries_of more) h.freed (freed_more more reclaims some once));
           since = ⊎_elim
-              (λ (none : unfreed (unfreed a.since (entries_of before))
-              (entries_of (deeds_of (by_seat v.number) f.onward.added)) ≡ 0).
-              inl (ap (unfreed a.since) entries
-              ∙ (unfreed_append a.since (entries_of before) (entries_of more)
-              ∙ subst (λ (m : ℕ). unfreed (unfreed a.since (entries_of before))
-              (entries_of (deeds_of (by_seat m) f.onward.added)) ≡ 0) h.onward.number none)))
+              (λ (none : unfreed since_before (entries_of more) ≡ 0). inl (ap (unfreed a.since) entries
+              ∙ (unfreed_append a.since (entries_of before) (entries_of more) ∙ none)))
               (λ (used : w.used_up ≡ true). inr used)
-              (f.freed (unfreed a.since (entries_of before)));
+              (none_more more reclaims once);
         }
 
     -- the same where it may have made none
@@ -225,7 +248,7 @@ module _ {D V : Type 0} (track tag : ℕ) (v w : View (Held D V) Deed) where
         subst (λ (z : ℕ × View (Held D V) Deed). RecordsOn track tag failed a (recorder z.1 refused z.0))
         (λ i. (sym stays.0 i, sym stays.1 i)) h
     records_free left (inr made) = subst (λ (n : ℕ). RecordsOn track tag failed a (recorder w refused n)) (sym made.0)
-        (frees made.1)
+        (frees made.1 made.2)
 
   module _ (since left : ℕ) where
     -- its pieces are the same
@@ -234,7 +257,7 @@ module _ {D V : Type 0} (track tag : ℕ) (v w : View (Held D V) Deed) where
     pieces_free first (inl stays) =
         ap (λ (z : View (Held D V) Deed). pieces_by track tag z.number first z.seen) stays.1
     pieces_free first (inr made) =
-        let on : Onward IsFullReclaim v w = made.1.onward in
+        let on : Onward IsFullReclaim v w = made.2.onward in
         (λ i. pieces_by track tag (on.number i) first (on.seen i))
         ∙ (pieces_append track tag v.number first v.seen on.added
         ∙ (ap (λ (l : List (List ℤ × ℕ)). pieces_by track tag v.number first v.seen ++ l)
@@ -247,7 +270,7 @@ module _ {D V : Type 0} (track tag : ℕ) (v w : View (Held D V) Deed) where
     number_free first least (inl stays) low =
         subst (λ (z : View (Held D V) Deed). least ≤ number_after first z.seen) (sym stays.1) low
     number_free first least (inr made) low =
-        let on = number_on first v.seen made.1.onward.added in
-        let same : number_after first w.seen ≡ number_after first (v.seen ++ made.1.onward.added) =
-        ap (number_after first) made.1.onward.seen in
+        let on = number_on first v.seen made.2.onward.added in
+        let same : number_after first w.seen ≡ number_after first (v.seen ++ made.2.onward.added) =
+        ap (number_after first) made.2.onward.seen in
         omega (arith, low, on, same)

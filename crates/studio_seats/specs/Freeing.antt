@@ -32,7 +32,9 @@ abbrev pub unfreed : ℕ → List Entry → ℕ
 unfreed n [] = n
 unfreed n (e ∷ es) = unfreed (unfreed_by n e.call) es
 
--- after each of these entries there are 64 at most
+-- After each of these entries there are 64 at most. Each other call comes after a piece, so between two of them stands
+-- one.
 abbrev pub AreFreed : ℕ → List Entry → Type 0
 AreFreed n [] = Unit {0}
-AreFreed n (e ∷ es) = (unfreed_by n e.call ≤ 64) × AreFreed (unfreed_by n e.call) es
+AreFreed n (e ∷ es) =
+    (makes_piece e.call ≡ false → 1 ≤ n) × (unfreed_by n e.call ≤ 64) × AreFreed (unfreed_by n e.call) es

@@ -84,7 +84,7 @@ abbrev pub chain_asks : {D V : Type 0} (disk : Ghosts D) (vaults : vault.Ghosts 
     (new : Core D) → Chain disk vaults old deeds new → Room
 chain_asks disk vaults old [] new chain = record { files = 0; bytes = 0; calls = 0 }
 chain_asks disk vaults old (d ∷ ds) new chain = together
-    (asks (exchange_of d.call d.sound d.what chain.1.removed) (disk.reads old.store 0) old.block_size
+    (asks (exchange_of d.call d.sound d.what chain.1.removed) (disk.reads old.store old.file) old.block_size
     (chain.0.next_block - old.next_block) chain.1.lasts.len)
     (chain_asks disk vaults chain.0 ds new chain.2)
 

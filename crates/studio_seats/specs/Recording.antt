@@ -1,5 +1,5 @@
 -- How what the seat of a recorder knows goes on: by pieces of its recording, and by reclaims.
-use Rattle.std.specs.Prelude.{◌≡◌, ◌⊎◌, ℕ, Bool, true, false, Option, None}
+use Rattle.std.specs.Prelude.{◌≡◌, ◌⊎◌, ℕ, ◌≤◌, Bool, true, false, List, [], ◌∷◌, Option, None}
 use Rattle.pcm_base.specs.declared.command.Call.{Call}
 use Rattle.pcm_base.specs.declared.refusal.Refusal.{Refusal}
 use Rattle.pin_turn.specs.declared.view.View.{View}
@@ -28,19 +28,23 @@ abbrev pub recorder : {D V : Type 0} → View (Held D V) Deed → Option Refusal
 recorder view refused since = record { view = view; refused = refused; since = since }
 
 module _ {D V : Type 0} where
-  -- A seat made a reclaim, unless no turn was left.
+  -- these are one deed of a seat that knew of no end of the turns, or none as it now knows that no turn is left
+  abbrev pub FreesOnce : View (Held D V) Deed → View (Held D V) Deed → List Deed → Type 0
+  FreesOnce v w own = ((v.used_up ≡ false) × (d : Deed) × (own ≡ d ∷ [])) ⊎ ((w.used_up ≡ true) × (own ≡ []))
+
+  -- a seat made one reclaim, or none as no turn was left
   pub record Frees (v w : View (Held D V) Deed) : Type 0 where
     pub onward : Onward IsFullReclaim v w
-    pub freed : (n : ℕ)
-        → (unfreed n (entries_of (deeds_of (by_seat v.number) onward.added)) ≡ 0) ⊎ (w.used_up ≡ true)
+    pub freed : FreesOnce v w (deeds_of (by_seat v.number) onward.added)
 
-  -- A seat that had asked for so many pieces since its last reclaim did nothing, or made one; then it has so many.
+  -- A seat that had asked for so many pieces since its last reclaim did nothing, or made one after at least one piece.
+  -- Then it has so many.
   abbrev pub FreesTo : ℕ → View (Held D V) Deed → ℕ → View (Held D V) Deed → Type 0
-  FreesTo since v left w = ((left ≡ since) × (w ≡ v)) ⊎ ((left ≡ 0) × Frees v w)
+  FreesTo since v left w = ((left ≡ since) × (w ≡ v)) ⊎ ((left ≡ 0) × (1 ≤ since) × Frees v w)
 
   -- The seat of a recorder went on by pieces and reclaims, each a turn of its own, but for one for which no turn was
   -- left. Of the pieces none was refused but the last, where it `failed`. At no time there were more than 64 since the
-  -- last reclaim, and it counts them, until no turn is left.
+  -- last reclaim, and it counts them, until no turn is left. Each reclaim comes after a piece.
   pub record RecordsOn (track tag : ℕ) (failed : Bool) (v w : Recorder D V) : Type 0 where
     pub onward : Onward (RecorderAsks track tag) v.view w.view
     pub unrefused : failed ≡ false → w.refused ≡ v.refused

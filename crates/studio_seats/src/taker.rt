@@ -39,8 +39,9 @@ impl<'a, S: Store, V: Vault> PieceTaker for DeskTaker<'a, S, V> {
 
     ghost refused = { λ s. s.refused };
 
-    // It is of the same desk, and its seat went on by turns of its own: pieces of this recording, none of them after one
-    // that was refused, and reclaims. At no time there were more than 64 pieces since the last reclaim.
+    // It is of the same desk, and its seat went on by turns of its own: pieces of this recording, none of them after
+    // one that was refused, and reclaims. At no time there were more than 64 pieces since the last reclaim, and each
+    // reclaim comes after a piece.
     ghost follows = { λ first failed s. (s.desk.now ≡ first.desk.now) × (s.track ≡ first.track) × (s.tag ≡ first.tag)
         × RecordsOn first.track first.tag failed (recorder (known first.seat) first.refused first.since)
         (recorder (known s.seat) s.refused s.since) };

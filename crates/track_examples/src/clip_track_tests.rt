@@ -3,7 +3,7 @@ ghost use Rattle.std.specs.Prelude.{◌≡◌, ◌<◌, [], ◌∷◌, IfOk};
 
 use super::block_sequence_tests::part;
 use block_sequence::Sequence;
-use clip_track::{Clip, Item, Layout, Stretch, Strip, StripClip};
+use clip_track::{Clip, Item, Layout, Strip, StripClip};
 use pcm_base::{BlockRef, NoMemory, Piece};
 use std::alloc::Global;
 use std::test::Fail;
@@ -23,15 +23,6 @@ fn three_clips(alloc: Global) -> Result<Layout, NoMemory> {
     let second = clip_of(alloc, 6, BlockRef { id: 17, len: 3 })?;
     let third = clip_of(alloc, 12, BlockRef { id: 18, len: 4 })?;
     Layout::from_clips(vec![in alloc; first, second, third]?)
-}
-
-fn gaps(len: u64) -> Option<Stretch> {
-    Some(Stretch::Gaps { len })
-}
-
-fn block(id: u64, len: u32, from: u32) -> Option<Stretch> {
-    let block = BlockRef { id, len };
-    Some(Stretch::Block { block, from })
 }
 
 fn is_clip(clip: &StripClip, start: u64, pieces: &[Piece]) -> bool {
@@ -73,31 +64,6 @@ fn slices_and_replaces(rt: HostRuntime) -> Result<(), Fail> {
                 _ => false,
             }
         );
-    }
-    Ok(())
-}
-
-#[test]
-fn what_stands_at_a_place(rt: HostRuntime) -> Result<(), Fail> {
-    let layout = three_clips(rt.alloc())?;
-    let rows = [
-        (0, block(16, 4, 0)),
-        (3, block(16, 4, 3)),
-        (4, gaps(2)),
-        (5, gaps(1)),
-        (6, block(17, 3, 0)),
-        (8, block(17, 3, 2)),
-        (9, gaps(3)),
-        (15, block(18, 4, 3)),
-        (16, None),
-        (20, None),
-    ];
-    for (place, stretch) in rows {
-        assert!(rt; layout.rest(place).next() == stretch);
-    }
-    let mut rest = layout.rest(5);
-    for stretch in [gaps(1), block(17, 3, 0), gaps(3), block(18, 4, 0), None] {
-        assert!(rt; rest.next() == stretch);
     }
     Ok(())
 }

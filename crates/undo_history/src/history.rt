@@ -1,5 +1,5 @@
 // Points behind one another.
-ghost use Rattle.std.specs.Prelude.{◌≡◌, ◌⊎◌, ◌+◌, ◌-◌, ◌<◌, ◌≤◌, Some, IfOk, IfErr, OnOk, OnErr, length, slice_index};
+ghost use Rattle.std.specs.Prelude.{◌≡◌, ◌⊎◌, ◌+◌, ◌-◌, ◌<◌, ◌≤◌, ◌∷◌, ◌++◌, [], Some, IfOk, IfErr, OnOk, OnErr, length, slice_index};
 ghost use Rattle.std.specs.Prelude.{slice_get};
 ghost use Rattle.pcm_base.specs.History.{IsHistory, history_of_one, points_of, tags_of, edited, amended, at_cursor};
 ghost use Rattle.pcm_base.specs.History.{purged};
@@ -82,6 +82,29 @@ impl<P: Drop> History<P> {
         }
         self.cursor = self.points.len() - 1;
         Ok(())
+    }
+
+    /// Adds a point behind all others, of which there are fewer than the depth. The current one stays. Where there is no
+    /// memory the point comes back.
+    pub fn add_last(&mut self, last: P, tag: u64) -> Result<(), P>
+        requires { length self.old.history.points < self.old.history.depth }
+        ensures ok { OnOk result (self.new.history
+            ≡ record self.old.history { points = self.old.history.points ++ (last, tag) ∷ [] }) }
+        ensures err { IfErr result (λ p. p ≡ last) }
+    {
+        if self.points.reserve(1).is_err() {
+            return Err(last);
+        }
+        self.points.push_back_reserved((last, tag));
+        Ok(())
+    }
+
+    /// Makes the point at a place current.
+    pub fn go_to(&mut self, cursor: usize)
+        requires { cursor < length self.old.history.points }
+        ensures { self.new ≡ record self.old { history = at_cursor self.old.history cursor } }
+    {
+        self.cursor = cursor;
     }
 
     /// Puts a point in the place of the current one, which keeps its tag. Points that could be redone are dropped.

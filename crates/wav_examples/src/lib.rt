@@ -4,11 +4,7 @@
 #[cfg(test)]
 mod edit_ports_tests;
 #[cfg(test)]
-mod foreign;
-#[cfg(test)]
 mod sound_export_tests;
-#[cfg(test)]
-mod sound_import_tests;
 #[cfg(test)]
 mod wav_parts_tests;
 #[cfg(test)]

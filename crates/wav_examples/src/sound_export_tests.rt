@@ -169,16 +169,3 @@ fn a_block_is_damaged(rt: HostRuntime) -> Result<(), Fail> {
     assert!(rt; told == (Err(ExportFault::Block { fault }), Some(56)));
     Ok(())
 }
-
-#[test]
-fn the_longest_file(rt: HostRuntime) -> Result<(), Fail> {
-    let point = project(rt.alloc(), 1_073_741_812)?;
-    let mut vault = MemVault::new(rt.alloc(), 4, 4096, Numbers::new(Vec::new(rt.alloc())))?;
-    let mut store = disk(rt.alloc(), Vec::new(rt.alloc()))?;
-    let told = export(rt.alloc(), &mut store, &mut vault, &point)?;
-    let fault = ExportFault::TooLong {
-        frames: 1_073_741_815,
-    };
-    assert!(rt; told == (Err(fault), None));
-    Ok(())
-}

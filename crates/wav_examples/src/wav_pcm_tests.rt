@@ -1,8 +1,8 @@
-// Files byte by byte: worked ones, each reason once, and files that follow a rule.
-use pcm_base::{Frame, WavFault};
+// Files byte by byte: worked ones that are written, and files that follow a rule.
+use pcm_base::Frame;
 use std::alloc::{AllocError, Global};
 use std::test::*;
-use wav_pcm::{BadWav, Wav, read, write};
+use wav_pcm::{Wav, read, write};
 
 /// One channel of the samples 1 and -1, at 8,000 frames in a second.
 pub(crate) const MONO: [u8; 48] = [
@@ -34,36 +34,11 @@ pub(crate) const THREE: [u8; 44] = [
     0x06, 0x00, 0x10, 0x00, 0x64, 0x61, 0x74, 0x61, 0xFF, 0xFF, 0xFF, 0xFF,
 ];
 
-pub(crate) fn refusal(alloc: Global, bytes: &[u8]) -> Option<WavFault> {
-    match read(alloc, bytes) {
-        Err(BadWav::Fault { fault }) => Some(fault),
-        _ => None,
-    }
-}
-
-pub(crate) fn has_channel(wav: &Wav, channel: usize, want: &[i16]) -> bool {
+fn has_channel(wav: &Wav, channel: usize, want: &[i16]) -> bool {
     match wav.channels.as_slice().get(channel) {
         Some(samples) => samples.as_slice() == want,
         None => false,
     }
-}
-
-pub(crate) fn is_mono(alloc: Global, bytes: &[u8], rate: u32, want: &[i16]) -> bool {
-    match read(alloc, bytes) {
-        Ok(wav) => {
-            wav.rate == rate && wav.channels.as_slice().len() == 1 && has_channel(&wav, 0, want)
-        }
-        Err(_) => false,
-    }
-}
-
-/// The refusal of the worked file with one byte changed.
-fn changed(alloc: Global, place: usize, byte: u8) -> Option<WavFault> {
-    let mut bytes = MONO;
-    if place < bytes.len() {
-        bytes[place] = byte;
-    }
-    refusal(alloc, &bytes)
 }
 
 /// The 16 bits of a sample of three channels: 31 times the frame's number and 10,007 times the channel's.
@@ -129,48 +104,6 @@ fn pieces(rt: HostRuntime) {
     assert!(rt; reads_three(alloc, 1025));
     assert!(rt; reads_three(alloc, 2048));
     assert!(rt; reads_three(alloc, 2500));
-}
-
-#[test]
-fn worked_files(rt: HostRuntime) -> Result<(), Fail> {
-    let alloc = rt.alloc();
-    assert!(rt; is_mono(alloc, &MONO, 8000, &[1, -1]));
-    assert!(rt; is_mono(alloc, &LISTED, 8000, &[1, -1]));
-    let mut open = MONO;
-    open[40] = 0xFF;
-    open[41] = 0xFF;
-    open[42] = 0xFF;
-    open[43] = 0xFF;
-    assert!(rt; is_mono(alloc, &open, 8000, &[1, -1]));
-    let mut odd = MONO;
-    odd[40] = 3;
-    assert!(rt; is_mono(alloc, &odd, 8000, &[1]));
-    odd[40] = 0;
-    assert!(rt; is_mono(alloc, &odd, 8000, &[]));
-    Ok(())
-}
-
-#[test]
-fn each_reason(rt: HostRuntime) {
-    let alloc = rt.alloc();
-    let truncated = WavFault::Truncated { want: 4, have: 3 };
-    assert!(rt; refusal(alloc, &[]) == Some(WavFault::NotRiff));
-    assert!(rt; refusal(alloc, &MONO[..11]) == Some(WavFault::NotRiff));
-    assert!(rt; changed(alloc, 11, b'e') == Some(WavFault::NotRiff));
-    assert!(rt; refusal(alloc, &MONO[..12]) == Some(WavFault::NoFmt));
-    assert!(rt; changed(alloc, 12, b'F') == Some(WavFault::NoFmt));
-    assert!(rt; refusal(alloc, &MONO[..36]) == Some(WavFault::NoData));
-    assert!(rt; changed(alloc, 16, 14) == Some(WavFault::FmtShort));
-    assert!(rt; changed(alloc, 20, 3) == Some(WavFault::BadTag { tag: 3 }));
-    assert!(rt; changed(alloc, 34, 24) == Some(WavFault::BadBits { bits: 24 }));
-    assert!(rt; changed(alloc, 22, 0) == Some(WavFault::BadChannels { count: 0 }));
-    assert!(rt; changed(alloc, 22, 9) == Some(WavFault::BadChannels { count: 9 }));
-    assert!(rt; changed(alloc, 32, 4) == Some(WavFault::BadAlign { align: 4 }));
-    assert!(rt; refusal(alloc, &MONO[..47]) == Some(truncated));
-    let mut still = MONO;
-    still[24] = 0;
-    still[25] = 0;
-    assert!(rt; refusal(alloc, &still) == Some(WavFault::BadRate { rate: 0 }));
 }
 
 #[test]

@@ -1,5 +1,5 @@
 -- The blocks of one point more are held.
-use Rattle.std.proofs.Common.{ℕ, ◌≢◌, ◌+◌, ◌≡◌, ◌++◌, List, [], length, length-append, drop, sym, ap, subst, ◌∙◌, arith}
+use Rattle.std.proofs.Common.{ℕ, ◌≤◌, ◌+◌, ◌≡◌, ◌++◌, List, [], length, length-append, drop, sym, ap, subst, ◌∙◌, arith}
 use Rattle.std.specs.Prelude.{IsSome, Contains}
 use Rattle.std.specs.List.{All}
 use Rattle.std.proofs.lemmas.List.{drop_all}
@@ -16,7 +16,7 @@ use Rattle.editor_recovery.proofs.counting.count_blocks.Goals as goal
 pub hold_blocks-requires : goal.hold_blocks-requires
 hold_blocks-requires c =
     let files = c.args.files.now in
-    let P : BlockRef → Type 0 = λ b. (b.id ≢ 0) × Contains files b.id in
+    let P : BlockRef → Type 0 = λ b. (2 ≤ b.id) × Contains files b.id in
     let Q : BlockRef → Type 0 = λ b. IsSome (count_of c.loop-i.ledger b.id) in
     let ts = c.point.result.now in
     let here : All P (point_blocks ts) = all_at
@@ -54,7 +54,7 @@ returns c =
     let files = c.args.files.now in
     let ps = c.args.history.now.history.points in
     let old = count_of c.in_ok-ledger.ledger in
-    let P : BlockRef → Type 0 = λ b. (b.id ≢ 0) × Contains files b.id in
+    let P : BlockRef → Type 0 = λ b. (2 ≤ b.id) × Contains files b.id in
     let Q : BlockRef → Type 0 = λ b. IsSome (old b.id) in
     let all = both_all P P Q (all_blocks ps) (λ b named other. noted_there files old b.id c.in_ok-ledger.ensures named)
     (all_flat P ps c.requires) (all_flat P ps c.requires) in

@@ -4,36 +4,46 @@ use Rattle.disk_model.specs.Disk.{Files}
 use Rattle.disk_model.specs.Room.{files_made}
 use Rattle.disk_model.proofs.Frames.{changed_kept, changed_turn}
 use Rattle.project_journal.specs.Rooms.{create_room}
-use Rattle.editor_recovery.proofs.Alone.{alone_after}
+use Rattle.editor_recovery.proofs.Alone.{none_after}
 use Rattle.editor_recovery.proofs.Counted.{causes_turn}
-use Rattle.editor_recovery.proofs.Created.{any_moment_both, still_honest, made_honest, made_done, left_turn}
+use Rattle.editor_recovery.proofs.Created.{any_moment_both, any_or_none, still_honest, made_honest, made_done, left_turn}
 use Rattle.editor_recovery.proofs.creating.create.Goals as goal
 
 pub returns-in-Ok-clause-any_moment : goal.returns-in-Ok-clause-any_moment
 returns-in-Ok-clause-any_moment g c = λ tells.
     let kept = c.may_create.ensures.kept in
+    let alone = none_after (g.S.Store.reads c.args.store.now) (g.S.Store.reads c.may_create.new.store) kept.same_reads
+    (c.in-Ok.ensures.answer tells).0 in
     any_moment_both g.S.Store c.args.rate c.args.block_size c.args.depth c.args.store.now c.may_create.new.store
     c.make.new.store
-    kept.same_images c.make.ensures.changed.images (c.make.ensures.any_moment (kept.same_tells ∙ tells)
-    (alone_after (g.S.Store.reads c.args.store.now) (g.S.Store.reads c.may_create.new.store) kept.same_reads
-    (c.in-Ok.ensures.answer tells).1))
+    kept.same_images c.make.ensures.changed.images (any_or_none g.S.Store c.args.rate c.args.block_size c.args.depth
+    c.may_create.new.store c.make.new.store (c.make.ensures.any_moment (kept.same_tells ∙ tells) alone)
+    (c.make.ensures.other_moment (kept.same_tells ∙ tells) alone))
 
 pub returns-in-Ok-clause-done : goal.returns-in-Ok-clause-done
 returns-in-Ok-clause-done g c = λ tells.
     made_done g.S.Store c.args.rate c.args.block_size c.args.depth c.make.new.store c.make.result
     (c.make.ensures.done (c.may_create.ensures.kept.same_tells ∙ tells)
-    (alone_after (g.S.Store.reads c.args.store.now) (g.S.Store.reads c.may_create.new.store)
-    c.may_create.ensures.kept.same_reads (c.in-Ok.ensures.answer tells).1))
+    (none_after (g.S.Store.reads c.args.store.now) (g.S.Store.reads c.may_create.new.store)
+    c.may_create.ensures.kept.same_reads (c.in-Ok.ensures.answer tells).0))
+
+pub returns-in-Ok-clause-journal : goal.returns-in-Ok-clause-journal
+returns-in-Ok-clause-journal g c = λ tells.
+    c.make.ensures.done (c.may_create.ensures.kept.same_tells ∙ tells)
+    (none_after (g.S.Store.reads c.args.store.now) (g.S.Store.reads c.may_create.new.store)
+    c.may_create.ensures.kept.same_reads (c.in-Ok.ensures.answer tells).0)
 
 pub returns-in-Ok-clause-honest : goal.returns-in-Ok-clause-honest
 returns-in-Ok-clause-honest g c = λ honest.
     let kept = c.may_create.ensures.kept in
     let told = (g.met.S.Store.may_stay c.args.store.now honest.model).0 in
+    let alone = none_after (g.S.Store.reads c.args.store.now) (g.S.Store.reads c.may_create.new.store) kept.same_reads
+    (c.in-Ok.ensures.answer told).0 in
     made_honest g.S.Store c.may_create.new.store c.make.new.store c.args.rate c.args.block_size c.args.depth
     c.make.ensures.changed.images c.make.ensures.changed.model
-    (c.make.ensures.any_moment (kept.same_tells ∙ told)
-    (alone_after (g.S.Store.reads c.args.store.now) (g.S.Store.reads c.may_create.new.store) kept.same_reads
-    (c.in-Ok.ensures.answer told).1))
+    (any_or_none g.S.Store c.args.rate c.args.block_size c.args.depth c.may_create.new.store c.make.new.store
+    (c.make.ensures.any_moment (kept.same_tells ∙ told) alone)
+    (c.make.ensures.other_moment (kept.same_tells ∙ told) alone))
     (still_honest g.S.Store c.args.store.now c.may_create.new.store kept.same_images kept.same_model honest)
 
 pub returns-in-Ok-clause-cause : goal.returns-in-Ok-clause-cause

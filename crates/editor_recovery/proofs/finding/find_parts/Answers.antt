@@ -2,36 +2,45 @@
 use Rattle.std.proofs.Common.{◌∙◌, List, ℕ, sym, subst}
 use Rattle.disk_model.specs.Disk.{Files}
 use Rattle.disk_model.proofs.Frames.{kept_turn}
+use Rattle.project_journal.specs.Reader.{reader_form}
 use Rattle.editor_recovery.specs.Found.{answer_in}
 use Rattle.editor_recovery.specs.Listing.{AreFiles}
 use Rattle.editor_recovery.specs.Opening.{Opens}
 use Rattle.editor_recovery.specs.Reading.{IsRead}
 use Rattle.editor_recovery.proofs.Counted.{causes_turn}
-use Rattle.editor_recovery.proofs.Opens.{stored_read}
+use Rattle.editor_recovery.proofs.Opens.{not_folded, stored_read}
 use Rattle.editor_recovery.proofs.Resting.{rest_after, still_durable}
 use Rattle.editor_recovery.proofs.finding.find_parts.Goals as goal
 
 pub returns-in-Ok-clause-opens : goal.returns-in-Ok-clause-opens
-returns-in-Ok-clause-opens g c = λ tells are foreign project.
+returns-in-Ok-clause-opens g c = λ tells are foreign opened.
     let old = g.S.Store.reads c.args.store.now in
     let mid = c.fold_disk.new.store in
     let kept = c.fold_disk.ensures.kept in
     let told = kept.same_tells ∙ tells in
+    let form = reader_form c.args.disk.reader in
     let fold = c.in-Ok.ensures.folds in
     let listed = subst (λ (l : List ℕ). AreFiles old l) (sym c.deref.ensures.value) are in
-    let is = stored_read g.S.Store mid old fold.0 c.deref.result.now kept.same_reads told fold.1 listed foreign in
+    let is = stored_read g.S.Store mid old form fold.0 c.deref.result.now kept.same_reads told fold.1 opened.picked listed
+    foreign in
     subst (λ (f : Files). Opens f (answer_in c.size_parts.result)) kept.same_reads
-    (c.size_parts.ensures.opens fold.0 told
-    (subst (λ (f : Files). IsRead f fold.0 c.deref.result.now) (sym kept.same_reads) is) fold.2)
+    (c.size_parts.ensures.opens form fold.0 told
+    (subst (λ (f : Files). IsRead f form fold.0 c.deref.result.now) (sym kept.same_reads) is) fold.2)
 
 pub returns-in-Ok-clause-at_rest : goal.returns-in-Ok-clause-at_rest
-returns-in-Ok-clause-at_rest g c = λ tells here other.
+returns-in-Ok-clause-at_rest g c = λ tells here other opened.
     let kept = c.fold_disk.ensures.kept in
-    rest_after {disk = g.S.Store} c.args.store.now c.fold_disk.new.store c.size_parts.new.store c.in-Ok.folded
-    c.size_parts.result kept.same_reads (kept.same_tells ∙ tells)
+    rest_after {disk = g.S.Store} c.args.store.now c.fold_disk.new.store c.size_parts.new.store c.args.disk.reader
+    c.in-Ok.folded c.size_parts.result kept.same_reads (kept.same_tells ∙ tells)
     (still_durable {disk = g.S.Store} c.args.store.now c.fold_disk.new.store 0 kept here)
-    (still_durable {disk = g.S.Store} c.args.store.now c.fold_disk.new.store 1 kept other) c.in-Ok.ensures.folds
+    (still_durable {disk = g.S.Store} c.args.store.now c.fold_disk.new.store 1 kept other) opened c.in-Ok.ensures.folds
     c.size_parts.ensures.end c.size_parts.ensures.kept
+
+pub returns-clause-opens : goal.returns-clause-opens
+returns-clause-opens g c = λ tells are foreign opened.
+    let kept = c.fold_disk.ensures.kept in
+    not_folded g.S.Store c.fold_disk.new.store (g.S.Store.reads c.args.store.now) (reader_form c.args.disk.reader)
+    c.in-Err.fault kept.same_reads (kept.same_tells ∙ tells) opened.picked foreign c.in-Err.ensures.folds
 
 pub returns-in-Ok-clause-kept : goal.returns-in-Ok-clause-kept
 returns-in-Ok-clause-kept g c = kept_turn c.fold_disk.ensures.kept c.size_parts.ensures.kept

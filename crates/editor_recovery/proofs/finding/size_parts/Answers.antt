@@ -1,5 +1,5 @@
 -- The sizes, and then the parts.
-use Rattle.std.proofs.Common.{length, arith}
+use Rattle.std.proofs.Common.{arith}
 use Rattle.project_state.proofs.KeptBounds.{sound_blocks}
 use Rattle.record_fold.specs.Folds.{kept_of}
 use Rattle.editor_recovery.proofs.Counted.{causes_none, memory_none}
@@ -11,18 +11,17 @@ use Rattle.editor_recovery.proofs.finding.size_parts.Goals as goal
 pub test_files-requires : goal.test_files-requires
 test_files-requires g c =
     let s = c.requires.sound in
-    let j = s.journal in
-    sound_blocks j.block_size j.depth (length j.records) (kept_of c.args.folded.project)
-    (omega (arith, s.readable.format.block_most)) s.kept
+    let kept = kept_of c.args.folded.project in
+    sound_blocks c.args.folded.block_size kept.history.depth kept.commit kept (omega (arith, s.format.block_most)) s.kept
 
 pub returns-in-Ok-clause-opens : goal.returns-in-Ok-clause-opens
-returns-in-Ok-clause-opens g c = λ j tells is fold.
-    parts_result (g.S.Store.reads c.args.store.now) j c.args.files.now c.args.folded c.parts_of.result is fold
+returns-in-Ok-clause-opens g c = λ form j tells is fold.
+    parts_result (g.S.Store.reads c.args.store.now) form j c.args.files.now c.args.folded c.parts_of.result is fold
     (c.in-Ok.ensures.tests tells is.listed) c.parts_of.ensures.parts c.parts_of.ensures.memory
 
 pub returns-in-Err-clause-opens : goal.returns-in-Err-clause-opens
-returns-in-Err-clause-opens g c = λ j tells is fold.
-    unsized (g.S.Store.reads c.args.store.now) j c.args.files.now c.args.folded c.in-Err.fault is fold
+returns-in-Err-clause-opens g c = λ form j tells is fold.
+    unsized (g.S.Store.reads c.args.store.now) form j c.args.files.now c.args.folded c.in-Err.fault is fold
     (c.in-Err.ensures.tests tells is.listed)
 
 pub returns-in-Ok-clause-sound : goal.returns-in-Ok-clause-sound

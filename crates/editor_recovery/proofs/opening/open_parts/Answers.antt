@@ -1,10 +1,11 @@
 -- The journal's header and the files, and then what they amount to.
-use Rattle.std.proofs.Common.{◌∙◌, refl, subst, arith}
+use Rattle.std.proofs.Common.{◌∙◌, ◌≤◌, refl, sym, subst, arith}
 use Rattle.std.specs.Prelude.{IfOk}
-use Rattle.disk_model.specs.Disk.{Files, bytes_of}
+use Rattle.disk_model.specs.Disk.{Files}
 use Rattle.disk_model.proofs.Frames.{changed_kept, changed_then_stays}
-use Rattle.project_journal.specs.Header.{IsProject, version_1}
+use Rattle.project_journal.specs.Header.{Form, IsForm}
 use Rattle.project_journal.specs.Journal.{Log, HasLog, IsAt}
+use Rattle.project_journal.specs.Opening.{IsOpened}
 use Rattle.editor_recovery.specs.Files.{NoForeign}
 use Rattle.editor_recovery.specs.Found.{answer_in}
 use Rattle.editor_recovery.specs.Listing.{AreFiles}
@@ -16,20 +17,26 @@ use Rattle.editor_recovery.proofs.opening.open_parts.Goals as goal
 pub returns-in-Ok-clause-opens : goal.returns-in-Ok-clause-opens
 returns-in-Ok-clause-opens g c = λ tells.
     let read = c.in-Ok.ensures.reads tells in
-    subst (λ (f : Files). AreFiles f c.in-Ok.disk.files.items → NoForeign f → IsProject (bytes_of (f 0))
-    → Opens f (answer_in c.find_parts.result)) c.read_disk.ensures.reads_same
+    subst (λ (f : Files). AreFiles f c.in-Ok.disk.files.items → NoForeign f
+    → IsOpened f c.in-Ok.disk.reader → Opens f (answer_in c.find_parts.result)) c.read_disk.ensures.reads_same
     (c.find_parts.ensures.opens (c.read_disk.ensures.changed.tells ∙ tells)) read.1 read.2 read.0
 
 pub returns-in-Ok-clause-at_rest : goal.returns-in-Ok-clause-at_rest
 returns-in-Ok-clause-at_rest g c = λ tells.
-    subst (λ (f : Files). IfOk c.find_parts.result (λ p. (log : Log) → HasLog version_1 log f
-    → IsAt version_1 g.S.Store c.find_parts.new.store p.journal_end log)) c.read_disk.ensures.reads_same
+    let same = c.read_disk.ensures.reads_same in
+    subst (λ (f : Files). IfOk c.find_parts.result (λ p. (form : Form) (log : Log) → IsForm form → form.file ≤ 1
+    → HasLog form log f → IsAt form g.S.Store c.find_parts.new.store p.journal_end log)) same
     (c.find_parts.ensures.at_rest (c.read_disk.ensures.changed.tells ∙ tells) c.in-Ok.ensures.durable
-    c.in-Ok.ensures.other)
+    c.in-Ok.ensures.other
+    (subst (λ (f : Files). IsOpened f c.in-Ok.disk.reader) (sym same) (c.in-Ok.ensures.reads tells).0))
 
 pub returns-in-Ok-clause-durable : goal.returns-in-Ok-clause-durable
 returns-in-Ok-clause-durable g c = durable_after c.read_disk.new.store c.find_parts.new.store 0 c.find_parts.result
     c.find_parts.ensures.kept c.in-Ok.ensures.durable
+
+pub returns-in-Ok-clause-other : goal.returns-in-Ok-clause-other
+returns-in-Ok-clause-other g c = durable_after c.read_disk.new.store c.find_parts.new.store 1 c.find_parts.result
+    c.find_parts.ensures.kept c.in-Ok.ensures.other
 
 pub returns-in-Ok-clause-cause : goal.returns-in-Ok-clause-cause
 returns-in-Ok-clause-cause g c = causes_turn g.S.Store c.args.store.now c.read_disk.new.store c.find_parts.new.store

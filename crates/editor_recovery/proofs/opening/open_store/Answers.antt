@@ -1,9 +1,9 @@
 -- A studio of what was found, and what an honest disk has of it.
-use Rattle.std.proofs.Common.{◌≡◌, Result, Ok, Err, sym, ap, subst, ◌∙◌}
+use Rattle.std.proofs.Common.{◌≡◌, ◌≤◌, Result, Ok, Err, sym, ap, subst, ◌∙◌}
 use Rattle.disk_model.specs.Disk.{Files, StaysStep}
 use Rattle.disk_model.specs.Frames.{Changed}
 use Rattle.project_journal.specs.Gate.{EachNow, IsDurable}
-use Rattle.project_journal.specs.Header.{version_1}
+use Rattle.project_journal.specs.Header.{Form, IsForm}
 use Rattle.project_journal.specs.Journal.{Log, HasLog, IsAt}
 use Rattle.project_journal.proofs.Kept.{each_has}
 use Rattle.project_state.specs.Kept.{Keeps, history_blocks}
@@ -45,11 +45,16 @@ returns-in-Ok-clause-durable g c =
     each c.open_parts.new.store c.in-Ok.parts (λ s. IsDurable g.S.Store s.store 0) c.make_studio.result
     c.make_studio.ensures.fields c.in-Ok.ensures.durable
 
+pub returns-in-Ok-clause-other : goal.returns-in-Ok-clause-other
+returns-in-Ok-clause-other g c =
+    each c.open_parts.new.store c.in-Ok.parts (λ s. IsDurable g.S.Store s.store 1) c.make_studio.result
+    c.make_studio.ensures.fields c.in-Ok.ensures.other
+
 pub returns-in-Ok-clause-at_rest : goal.returns-in-Ok-clause-at_rest
 returns-in-Ok-clause-at_rest g c = λ tells.
     each c.open_parts.new.store c.in-Ok.parts
-    (λ s. (log : Log) → HasLog version_1 log (g.S.Store.reads c.args.store) → IsAt version_1
-    g.S.Store s.store s.journal_end log)
+    (λ s. (form : Form) (log : Log) → IsForm form → form.file ≤ 1 → HasLog form log (g.S.Store.reads c.args.store)
+    → IsAt form g.S.Store s.store s.journal_end log)
     c.make_studio.result c.make_studio.ensures.fields (c.in-Ok.ensures.at_rest tells)
 
 pub returns-in-Ok-clause-honest : goal.returns-in-Ok-clause-honest
@@ -63,7 +68,7 @@ returns-in-Ok-clause-honest g c = λ honest.
     (answers store c.in-Ok.parts (OpensHonest g.S.Store old store) r c.make_studio.ensures.fields
     c.make_studio.ensures.refused
     (found_kept g.S.Store old store honest stays.1 c.open_parts.ensures.changed.images (Ok (found_in c.in-Ok.parts))
-    (c.in-Ok.ensures.opens stays.0) (λ log has f e. each_has (c.in-Ok.ensures.at_rest stays.0 log has))) tt)
+    (c.in-Ok.ensures.opens stays.0) (λ form log known few has f e. each_has (c.in-Ok.ensures.at_rest stays.0 form log known few has))) tt)
 
 pub returns-in-Ok-clause-held : goal.returns-in-Ok-clause-held
 returns-in-Ok-clause-held g c = λ honest.
@@ -76,7 +81,8 @@ returns-in-Ok-clause-held g c = λ honest.
     c.make_studio.ensures.held (has_parts g.S.Store old store honest stays.1 c.open_parts.ensures.changed.images
     c.in-Ok.parts opens
     c.open_parts.ensures.reads (g.met.S.Store.may_stay store still.model).0
-    (c.in-Ok.ensures.at_rest stays.0 opens.log opens.project.there))
+    (c.in-Ok.ensures.at_rest stays.0 opens.form opens.log opens.project.stands.known opens.project.stands.few
+    opens.project.stands.there))
 
 pub returns-in-Ok-clause-keeps : goal.returns-in-Ok-clause-keeps
 returns-in-Ok-clause-keeps g c = λ honest.
@@ -87,11 +93,11 @@ returns-in-Ok-clause-keeps g c = λ honest.
     let opens = c.in-Ok.ensures.opens stays.0 in
     let found : FindsKept g.S.Store old store (found_in p) =
     found_kept g.S.Store old store honest stays.1 c.open_parts.ensures.changed.images (Ok (found_in p)) opens
-    (λ log has f e. each_has (c.in-Ok.ensures.at_rest stays.0 log has)) in
+    (λ form log known few has f e. each_has (c.in-Ok.ensures.at_rest stays.0 form log known few has)) in
     each store p (λ s. EachNow g.S.Store s.store (λ image. Keeps image (shown (studio_of g.S.Store s))))
     c.make_studio.result c.make_studio.ensures.fields
     (λ image now. subst (Keeps image)
-    (shows_found g.S.Store store p (g.S.Store.reads old) found.log found.kept found.found
+    (shows_found g.S.Store store p (g.S.Store.reads old) found.form found.log found.kept found.found
     c.open_parts.ensures.reads) (found.each image now))
 
 pub returns-in-Ok-clause-stays_honest : goal.returns-in-Ok-clause-stays_honest
@@ -133,7 +139,7 @@ returns-in-Err-clause-honest g c = λ honest.
     let stays = g.met.S.Store.may_stay c.args.store honest.model in
     found_kept g.S.Store c.args.store c.open_parts.new.store honest stays.1 c.open_parts.ensures.changed.images
     (Err c.in-Err.fault)
-    (c.in-Err.ensures.opens stays.0) (λ log has f e. absurd cc)
+    (c.in-Err.ensures.opens stays.0) (λ form log known few has f e. absurd cc)
 
 pub returns-in-Err-clause-stays_honest : goal.returns-in-Err-clause-stays_honest
 returns-in-Err-clause-stays_honest g c = λ honest.

@@ -1,25 +1,29 @@
 -- An opening of the journal, and then a listing.
-use Rattle.std.proofs.Common.{◌∙◌, refl, subst, arith}
+use Rattle.std.proofs.Common.{◌∙◌, Err, refl, subst, arith}
 use Rattle.disk_model.specs.Disk.{Files}
 use Rattle.disk_model.proofs.Frames.{changed_kept, changed_then_stays}
+use Rattle.project_journal.specs.Opening as journal
+use Rattle.project_journal.specs.declared.fault.JournalFault.{JournalFault}
 use Rattle.project_journal.specs.declared.reader.Reader.{Reader}
 use Rattle.editor_recovery.specs.declared.disk.Disk.{Disk}
 use Rattle.editor_recovery.specs.Listing.{Lists}
-use Rattle.editor_recovery.proofs.Opens.{with_listing}
+use Rattle.editor_recovery.specs.Reading.{Refuses}
+use Rattle.editor_recovery.proofs.Opens.{with_fault, with_listing}
 use Rattle.editor_recovery.proofs.Counted.{causes_turn, journal_none}
-use Rattle.editor_recovery.proofs.Resting.{still_reading, durable_after}
+use Rattle.editor_recovery.proofs.Resting.{still_heading, durable_after}
 use Rattle.editor_recovery.proofs.reading.read_disk.Goals as goal
 
 pub returns-in-Ok-clause-reads : goal.returns-in-Ok-clause-reads
 returns-in-Ok-clause-reads g c = λ tells.
-    with_listing (g.S.Store.reads c.args.store.now) c.with_files.result (c.in-Ok.ensures.starts tells).0
+    with_listing (g.S.Store.reads c.args.store.now) c.in-Ok.reader c.with_files.result (c.in-Ok.ensures.opens tells)
+    c.with_files.ensures.reader
     (subst (λ (f : Files). Lists f (λ (d : Disk). d.files.items) c.with_files.result) c.open_journal.ensures.reads
     (c.with_files.ensures.lists (c.open_journal.ensures.changed.tells ∙ tells)))
 
-pub returns-in-Ok-clause-reading : goal.returns-in-Ok-clause-reading
-returns-in-Ok-clause-reading g c =
-    still_reading {disk = g.S.Store} c.open_journal.new.store c.with_files.new.store c.in-Ok.reader c.with_files.result
-    c.in-Ok.ensures.reading c.with_files.ensures.reader c.with_files.ensures.kept
+pub returns-in-Ok-clause-heading : goal.returns-in-Ok-clause-heading
+returns-in-Ok-clause-heading g c =
+    still_heading {disk = g.S.Store} c.open_journal.new.store c.with_files.new.store c.in-Ok.reader c.with_files.result
+    c.in-Ok.ensures.heading c.with_files.ensures.reader c.with_files.ensures.kept
 
 pub returns-in-Ok-clause-durable : goal.returns-in-Ok-clause-durable
 returns-in-Ok-clause-durable g c = durable_after c.open_journal.new.store c.with_files.new.store 0 c.with_files.result
@@ -57,3 +61,14 @@ returns-in-Err-Damaged-clause-changed g c =
       calls = omega arith;
     })
     c.open_journal.ensures.changed (changed_kept (λ d. refl) c.refused.ensures.kept)
+
+pub returns-in-Err-Damaged-clause-reads : goal.returns-in-Err-Damaged-clause-reads
+returns-in-Err-Damaged-clause-reads g c = λ tells.
+    let files = g.S.Store.reads c.args.store.now in
+    with_fault files c.in-Err-Damaged.file c.in-Err-Damaged.at c.in-Err-Damaged.want c.in-Err-Damaged.have
+    c.refused.result
+    (subst (λ (e : JournalFault). journal.Opens files (Err e)) c.in-Err-Damaged.field-0-is
+    (c.in-Err-Damaged.ensures.opens tells))
+    (subst (λ (f : Files). Refuses f c.in-Err-Damaged.file c.in-Err-Damaged.at c.in-Err-Damaged.want
+    c.in-Err-Damaged.have c.refused.result) c.open_journal.ensures.reads
+    (c.refused.ensures.refuses (c.open_journal.ensures.changed.tells ∙ tells)))

@@ -1,10 +1,10 @@
 -- A sync of file 1, and then the gate.
-use Rattle.std.proofs.Common.{◌∙◌, sym, ap, subst, inl, arith}
+use Rattle.std.proofs.Common.{◌∙◌, sym, ap, subst, inl, inr, arith}
 use Rattle.disk_model.specs.Disk.{Files}
 use Rattle.disk_model.specs.Room.{files_made}
 use Rattle.project_journal.specs.Start.{IsUnset, NoProject}
 use Rattle.project_journal.proofs.Changes.{stays_changed, stays_then}
-use Rattle.project_journal.proofs.Starts.{settled, none_now, none_same}
+use Rattle.project_journal.proofs.Starts.{settled, none_now, none_same, none_since, then_since}
 use Rattle.project_journal.proofs.creating.settle_both.Goals as goal
 
 pub returns-in_err-sync_file-clause-any_moment : goal.returns-in_err-sync_file-clause-any_moment
@@ -50,3 +50,24 @@ returns-clause-changed g c =
     let same = ap (λ (f : Files). files_made (f 0)) c.sync_file.ensures.reads in
     stays_then (λ d e s. s) (record { files = omega (arith, same); bytes = omega arith; calls = omega arith })
     c.sync_file.ensures.changed c.settle.ensures.changed
+
+pub returns-in_err-sync_file-clause-other_moment : goal.returns-in_err-sync_file-clause-other_moment
+returns-in_err-sync_file-clause-other_moment g c = λ tells none d since.
+    let e = c.sync_file.ensures.changed.images.from d since in
+    inl (subst (g.S.Store.may_leave c.args.store.now (g.S.Store.clock c.args.store.now)) (sym e.2) e.1)
+
+pub returns-in_err-settle-clause-other_moment : goal.returns-in_err-settle-clause-other_moment
+returns-in_err-settle-clause-other_moment g c = λ tells none.
+    let alone = subst (λ (f : Files). NoProject 1 f) (sym c.sync_file.ensures.reads) none in
+    then_since (NoProject 1) c.sync_file.ensures.changed.images c.settle.ensures.changed.images
+    (λ d since. inr (none_since c.settle.ensures.changed
+    (λ e now. none_same 1 (g.S.Store.reads c.sync_file.new.store) e (c.in_ok-sync_file.ensures.durable e now) alone)
+    d since))
+
+pub returns-clause-other_moment : goal.returns-clause-other_moment
+returns-clause-other_moment g c = λ tells none.
+    let alone = subst (λ (f : Files). NoProject 1 f) (sym c.sync_file.ensures.reads) none in
+    then_since (NoProject 1) c.sync_file.ensures.changed.images c.settle.ensures.changed.images
+    (λ d since. inr (none_since c.settle.ensures.changed
+    (λ e now. none_same 1 (g.S.Store.reads c.sync_file.new.store) e (c.in_ok-sync_file.ensures.durable e now) alone)
+    d since))

@@ -1,5 +1,5 @@
 -- What is told of a project.
-use Rattle.std.proofs.Common.{inl, ◌∙◌, List, subst}
+use Rattle.std.proofs.Common.{inl, inr, ◌∙◌, List, subst}
 use Rattle.pcm_base.specs.declared.sound.TrackLine.{TrackLine}
 use Rattle.script_text.specs.declared.project.ProjectLines.{ProjectLines}
 use Rattle.script_text.specs.Project.{project_text}
@@ -36,3 +36,9 @@ returns-clause-listed g c = λ source. inl (
       commits = c.without_commits.ensures.commits.3;
       pieces = c.without_commits.ensures.commits.4;
     })
+
+pub returns-in_default-clause-listed : goal.returns-in_default-clause-listed
+returns-in_default-clause-listed g c = λ source. inr (record {
+  printed = c.refuse.ensures.printed;
+  done_is = c.refuse.ensures.done;
+})

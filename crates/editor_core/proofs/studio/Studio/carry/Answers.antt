@@ -1,8 +1,8 @@
 -- Blocks, and then a record.
 use Rattle.std.proofs.Common.{◌≡◌, ◌∙◌, sym, ap, subst, ℕ, ◌+◌, ◌≤◌, ◌<◌, IsSome, List, length, vec_capacity, arith}
-use Rattle.project_state.specs.Spelling.{spelling}
 use Rattle.editor_core.specs.Edits.{BlockCommit}
 use Rattle.editor_core.specs.Adding.{Adds}
+use Rattle.editor_core.specs.Bodies.{body_bytes, whole_len}
 use Rattle.editor_core.specs.Core.{Core, core_of}
 use Rattle.editor_core.specs.Made.{batch_of, ids_from}
 use Rattle.editor_core.specs.Makes.{AreSynced, Making}
@@ -31,10 +31,11 @@ returns-clause-carried g c =
     let reads = made.1 ∙ ap (λ (z : Core g.row.S.Denot). g.S.Store.read_fault_count z.store) same in
     let synced =
     subst (λ (z : Core g.row.S.Denot). AreSynced g.S.Store (ids_from z.next_block (length bs)) mid.store) same made.2 in
-    let body : c.make_blocks.new.self.body.items ≡ spelling c.args.body.now =
+    let bytes = body_bytes s c.args.body.now in
+    let body : c.make_blocks.new.self.body.items ≡ bytes =
     ap (λ b. b.items) c.in_ok-make_blocks.ensures.body ∙ c.in_ok-prepare.ensures.body in
-    let adds = subst (λ (b : List ℕ). Adds g.S.Store mid b c.commit_written.result (core_of c.commit_written.new.self))
-    body c.commit_written.ensures.record in
+    let adds = subst (λ (b : List ℕ). (whole : ℕ) → Adds g.S.Store mid b whole c.commit_written.result
+    (core_of c.commit_written.new.self)) body c.commit_written.ensures.record in
     let row = ap vec_capacity c.in_ok-make_blocks.ensures.row in
     let room : 5 + length c.make_blocks.new.self.body.items ≤ vec_capacity c.make_blocks.new.self.row =
     omega (arith, ap (λ (b : List ℕ). length b) body, row, c.in_ok-prepare.ensures.row) in
@@ -42,7 +43,9 @@ returns-clause-carried g c =
       makes = bs;
       given = c.args.given.now;
       tracks = c.args.tracks;
-      body = spelling c.args.body.now;
+      body = bytes;
+      whole = whole_len c.args.body.now;
     } in
     carried_by g.S.Store s mid (core_of c.commit_written.new.self) commit c.commit_written.result making reads synced
-    c.in_ok-prepare.ensures.prepared adds (c.commit_written.ensures.memory room)
+    c.in_ok-prepare.ensures.prepared (adds (length bytes)) (adds (whole_len c.args.body.now))
+    (c.commit_written.ensures.memory room)

@@ -13,47 +13,47 @@ use Rattle.editor_core.proofs.studio.Studio.cells_reply.Goals as goal
 pub returns-in-Delete : goal.returns-in-Delete
 returns-in-Delete g c =
     let s = core_of c.args.self.now in
-    subst (λ (k : Command). Took g.S.Store s (quietly (Line k) c.done-in-Delete.result) (core_of c.delete.new.self))
+    subst (λ (k : Command). Took g.S.Store s (quietly (Line k) c.done-in-Delete.result) (core_of c.edit_range.new.self))
     (sym c.in-Delete.is)
     (subst (λ (r : Result Reply Refusal).
     Took g.S.Store s (quietly (Line (command.Delete c.in-Delete.track c.in-Delete.from c.in-Delete.to)) r)
-    (core_of c.delete.new.self)) (sym c.done-in-Delete.ensures) c.delete.ensures.took)
+    (core_of c.edit_range.new.self)) (sym c.done-in-Delete.ensures) c.edit_range.ensures.took)
 
 pub returns-in-SplitDelete : goal.returns-in-SplitDelete
 returns-in-SplitDelete g c =
     let s = core_of c.args.self.now in
     subst (λ (k : Command). Took g.S.Store s (quietly (Line k) c.done-in-SplitDelete.result)
-    (core_of c.split_delete.new.self)) (sym c.in-SplitDelete.is)
+    (core_of c.edit_range-in-SplitDelete.new.self)) (sym c.in-SplitDelete.is)
     (subst (λ (r : Result Reply Refusal). Took g.S.Store s
     (quietly (Line (command.SplitDelete c.in-SplitDelete.track c.in-SplitDelete.from c.in-SplitDelete.to)) r)
-    (core_of c.split_delete.new.self)) (sym c.done-in-SplitDelete.ensures) c.split_delete.ensures.took)
+    (core_of c.edit_range-in-SplitDelete.new.self)) (sym c.done-in-SplitDelete.ensures) c.edit_range-in-SplitDelete.ensures.took)
 
 pub returns-in-Silence : goal.returns-in-Silence
 returns-in-Silence g c =
     let s = core_of c.args.self.now in
-    subst (λ (k : Command). Took g.S.Store s (quietly (Line k) c.done-in-Silence.result) (core_of c.silence.new.self))
+    subst (λ (k : Command). Took g.S.Store s (quietly (Line k) c.done-in-Silence.result) (core_of c.edit_range-in-Silence.new.self))
     (sym c.in-Silence.is)
     (subst (λ (r : Result Reply Refusal).
     Took g.S.Store s (quietly (Line (command.Silence c.in-Silence.track c.in-Silence.from c.in-Silence.to)) r)
-    (core_of c.silence.new.self)) (sym c.done-in-Silence.ensures) c.silence.ensures.took)
+    (core_of c.edit_range-in-Silence.new.self)) (sym c.done-in-Silence.ensures) c.edit_range-in-Silence.ensures.took)
 
 pub returns-in-Trim : goal.returns-in-Trim
 returns-in-Trim g c =
     let s = core_of c.args.self.now in
-    subst (λ (k : Command). Took g.S.Store s (quietly (Line k) c.done-in-Trim.result) (core_of c.trim.new.self))
+    subst (λ (k : Command). Took g.S.Store s (quietly (Line k) c.done-in-Trim.result) (core_of c.edit_range-in-Trim.new.self))
     (sym c.in-Trim.is)
     (subst (λ (r : Result Reply Refusal). Took g.S.Store s
-    (quietly (Line (command.Trim c.in-Trim.track c.in-Trim.from c.in-Trim.to)) r) (core_of c.trim.new.self))
-    (sym c.done-in-Trim.ensures) c.trim.ensures.took)
+    (quietly (Line (command.Trim c.in-Trim.track c.in-Trim.from c.in-Trim.to)) r) (core_of c.edit_range-in-Trim.new.self))
+    (sym c.done-in-Trim.ensures) c.edit_range-in-Trim.ensures.took)
 
 pub returns-in-Gain : goal.returns-in-Gain
 returns-in-Gain g c =
     let s = core_of c.args.self.now in
-    subst (λ (k : Command). Took g.S.Store s (quietly (Line k) c.done-in-Gain.result) (core_of c.gain.new.self))
+    subst (λ (k : Command). Took g.S.Store s (quietly (Line k) c.done-in-Gain.result) (core_of c.edit_range-in-Gain.new.self))
     (sym c.in-Gain.is)
     (subst (λ (r : Result Reply Refusal). Took g.S.Store s
     (quietly (Line (command.Gain c.in-Gain.track c.in-Gain.from c.in-Gain.to c.in-Gain.gain)) r)
-    (core_of c.gain.new.self)) (sym c.done-in-Gain.ensures) c.gain.ensures.took)
+    (core_of c.edit_range-in-Gain.new.self)) (sym c.done-in-Gain.ensures) c.edit_range-in-Gain.ensures.took)
 
 pub returns-in-Put : goal.returns-in-Put
 returns-in-Put g c =

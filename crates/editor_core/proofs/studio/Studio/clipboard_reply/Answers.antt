@@ -13,20 +13,20 @@ use Rattle.editor_core.proofs.studio.Studio.clipboard_reply.Goals as goal
 pub returns-in-Cut : goal.returns-in-Cut
 returns-in-Cut g c =
     let s = core_of c.args.self.now in
-    subst (λ (k : Command). Took g.S.Store s (quietly (Line k) c.done.result) (core_of c.cut.new.self))
+    subst (λ (k : Command). Took g.S.Store s (quietly (Line k) c.done.result) (core_of c.cut_range.new.self))
     (sym c.in-Cut.is)
     (subst (λ (r : Result Reply Refusal).
     Took g.S.Store s (quietly (Line (command.Cut c.in-Cut.track c.in-Cut.count c.in-Cut.from c.in-Cut.to)) r)
-    (core_of c.cut.new.self)) (sym c.done.ensures) c.cut.ensures.took)
+    (core_of c.cut_range.new.self)) (sym c.done.ensures) c.cut_range.ensures.took)
 
 pub returns-in-SplitCut : goal.returns-in-SplitCut
 returns-in-SplitCut g c =
     let s = core_of c.args.self.now in
     subst (λ (k : Command). Took g.S.Store s (quietly (Line k) c.done-in-SplitCut.result)
-    (core_of c.split_cut.new.self)) (sym c.in-SplitCut.is)
+    (core_of c.cut_range-in-SplitCut.new.self)) (sym c.in-SplitCut.is)
     (subst (λ (r : Result Reply Refusal). Took g.S.Store s
     (quietly (Line (command.SplitCut c.in-SplitCut.track c.in-SplitCut.count c.in-SplitCut.from c.in-SplitCut.to)) r)
-    (core_of c.split_cut.new.self)) (sym c.done-in-SplitCut.ensures) c.split_cut.ensures.took)
+    (core_of c.cut_range-in-SplitCut.new.self)) (sym c.done-in-SplitCut.ensures) c.cut_range-in-SplitCut.ensures.took)
 
 pub returns-in-Copy : goal.returns-in-Copy
 returns-in-Copy g c =
@@ -40,23 +40,20 @@ returns-in-Copy g c =
 pub returns-in-Paste : goal.returns-in-Paste
 returns-in-Paste g c =
     let s = core_of c.args.self.now in
-    subst (λ (k : Command). Took g.S.Store s (quietly (Line k) c.done-in-Paste.result) (core_of c.paste.new.self))
+    subst (λ (k : Command). Took g.S.Store s (quietly (Line k) c.done-in-Paste.result) (core_of c.paste_strips.new.self))
     (sym c.in-Paste.is)
     (subst (λ (r : Result Reply Refusal). Took g.S.Store s
     (quietly (Line (command.Paste c.in-Paste.track c.in-Paste.at)) r)
-    (core_of c.paste.new.self)) (sym c.done-in-Paste.ensures) c.paste.ensures.took)
+    (core_of c.paste_strips.new.self)) (sym c.done-in-Paste.ensures) c.paste_strips.ensures.took)
 
 pub returns-in-PasteOver : goal.returns-in-PasteOver
 returns-in-PasteOver g c =
     let s = core_of c.args.self.now in
     subst (λ (k : Command). Took g.S.Store s (quietly (Line k) c.done-in-PasteOver.result)
-    (core_of c.paste_over.new.self)) (sym c.in-PasteOver.is)
+    (core_of c.paste_strips-in-PasteOver.new.self)) (sym c.in-PasteOver.is)
     (subst (λ (r : Result Reply Refusal).
     Took g.S.Store s (quietly (Line (command.PasteOver c.in-PasteOver.track c.in-PasteOver.at)) r)
-    (core_of c.paste_over.new.self)) (sym c.done-in-PasteOver.ensures) c.paste_over.ensures.took)
+    (core_of c.paste_strips-in-PasteOver.new.self)) (sym c.done-in-PasteOver.ensures) c.paste_strips-in-PasteOver.ensures.took)
 
-pub paste-requires-clause-in_form : goal.paste-requires-clause-in_form
-paste-requires-clause-in_form g c = (subst IsInForm c.in-Paste.is c.requires.in_form).1
-
-pub paste_over-requires-clause-in_form : goal.paste_over-requires-clause-in_form
-paste_over-requires-clause-in_form g c = (subst IsInForm c.in-PasteOver.is c.requires.in_form).1
+pub paste_strips-requires-clause-in_form : goal.paste_strips-requires-clause-in_form
+paste_strips-requires-clause-in_form g c = (subst IsInForm c.in-Paste.is c.requires.in_form).1

@@ -1,26 +1,41 @@
--- Nothing was asked of the disk.
-use Rattle.std.proofs.Common.{◌∙◌, refl, sym, ap, subst, ℕ, length, Err}
+-- Nothing was asked of the disk, or the record was added whose body was written.
+use Rattle.std.proofs.Common.{◌∙◌, refl, sym, ap, subst, List, ℕ, length, Err}
 use Rattle.std.proofs.lemmas.Result.{err_from_is_err_and}
 use Rattle.pcm_base.specs.declared.refusal.Refusal.TheVariants as refusal
-use Rattle.project_state.specs.Spelling.{spelling}
-use Rattle.editor_core.specs.Adding.{Adds, Exceeds}
-use Rattle.editor_core.specs.Core.{core_of}
+use Rattle.editor_core.specs.Adding.{Adds, AddsBody}
+use Rattle.editor_core.specs.Bodies.{body_bytes, whole_len}
+use Rattle.editor_core.specs.Core.{Core, core_of}
 use Rattle.editor_core.proofs.Idle.{adds_nothing, exceeds}
 use Rattle.editor_core.proofs.studio.Studio.commit_body.Goals as goal
 
-pub returns-in_err-may_add-clause-record : goal.returns-in_err-may_add-clause-record
-returns-in_err-may_add-clause-record g c =
+pub returns-in_err-may_record-clause-record : goal.returns-in_err-may_record-clause-record
+returns-in_err-may_record-clause-record g c =
     let p = err_from_is_err_and c.from_residual.result c.from_residual.ensures.1 in
     let s = core_of c.args.self.now in
-    let why = c.in_err-may_add.field-0.0 in
-    let over = subst (λ (n : ℕ). Exceeds s.journal_end n why) c.body_len.ensures.value c.in_err-may_add.ensures.err in
-    subst (λ r. Adds g.S.Store s (spelling c.args.body.now) r s) (sym (p.1 ∙ ap Err p.2))
-    (adds_nothing g.S.Store s (spelling c.args.body.now) why (g.met.S.Store.may_fewer s.store)
-    (exceeds (Unit {0}) g.S.Store s (length (spelling c.args.body.now)) why over))
+    let body = c.args.body.now in
+    let why = c.in_err-may_record.field-0.0 in
+    subst (λ r. AddsBody g.S.Store s body r s) (sym (p.1 ∙ ap Err p.2))
+    (adds_nothing g.S.Store s (body_bytes s body) (whole_len body) why (g.met.S.Store.may_fewer s.store)
+    (exceeds (Unit {0}) g.S.Store s (whole_len body) (length (body_bytes s body)) why c.in_err-may_record.ensures.err))
 
-pub returns-in_err-write_body-clause-record : goal.returns-in_err-write_body-clause-record
-returns-in_err-write_body-clause-record g c =
-    let p = err_from_is_err_and c.from_residual-in_err-write_body.result c.from_residual-in_err-write_body.ensures.1 in
+pub returns-in_err-write_record-clause-record : goal.returns-in_err-write_record-clause-record
+returns-in_err-write_record-clause-record g c =
+    let p = err_from_is_err_and c.from_residual-in_err-write_record.result
+    c.from_residual-in_err-write_record.ensures.1 in
     let s = core_of c.args.self.now in
-    subst (λ r. Adds g.S.Store s (spelling c.args.body.now) r s) (sym (p.1 ∙ ap Err p.2))
-    (adds_nothing g.S.Store s (spelling c.args.body.now) refusal.NoMemory (g.met.S.Store.may_fewer s.store) refl)
+    let body = c.args.body.now in
+    subst (λ (z : Core g.row.S.Denot). AddsBody g.S.Store s body c.from_residual-in_err-write_record.result z)
+    (sym c.write_record.ensures.same)
+    (subst (λ r. AddsBody g.S.Store s body r s) (sym (p.1 ∙ ap Err p.2))
+    (adds_nothing g.S.Store s (body_bytes s body) (whole_len body) refusal.NoMemory
+    (g.met.S.Store.may_fewer s.store) refl))
+
+pub returns-clause-record : goal.returns-clause-record
+returns-clause-record g c =
+    let body = c.args.body.now in
+    let bytes = body_bytes (core_of c.args.self.now) body in
+    let new = core_of c.commit_written.new.self in
+    subst (λ (z : Core g.row.S.Denot). Adds g.S.Store z bytes (whole_len body) c.commit_written.result new)
+    c.write_record.ensures.same
+    (subst (λ (b : List ℕ). Adds g.S.Store (core_of c.write_record.new.self) b (whole_len body)
+    c.commit_written.result new) c.in_ok-write_record.ensures.body (c.commit_written.ensures.record (whole_len body)))

@@ -1,17 +1,17 @@
 -- What the journal answers.
 use Rattle.std.proofs.Common.{refl}
-use Rattle.project_journal.specs.Header.{version_1}
-use Rattle.editor_core.specs.Core.{core_of}
+use Rattle.editor_core.specs.Core.{core_of, form_at}
 use Rattle.editor_core.proofs.Idle.{settled}
 use Rattle.editor_core.proofs.RowRoom.{no_want, undamaged_settle}
 use Rattle.editor_core.proofs.studio.Studio.commit_written.Goals as goal
 
 pub returns-clause-record : goal.returns-clause-record
-returns-clause-record g c =
+returns-clause-record g c whole =
     let a = rw c.deref.ensures.value at c.append-added.ensures in
-    settled g.S.Store (core_of c.args.self.now) c.append-added.new.store c.args.self.now.body.items
-    (λ log. a.any_moment version_1 log refl) a.changed a.read_faults c.requires.short
-    c.append-added.result c.settle.result _ a.answer a.cause a.rose (λ log. a.done version_1 log refl) a.untouched
+    let s = core_of c.args.self.now in
+    settled g.S.Store s c.append-added.new.store c.args.self.now.body.items whole
+    (λ log. a.any_moment (form_at s) log refl) a.changed a.read_faults c.requires.short
+    c.append-added.result c.settle.result _ a.answer a.cause a.rose (λ log. a.done (form_at s) log refl) a.untouched
     c.settle.ensures.fields
 
 pub returns-clause-memory : goal.returns-clause-memory

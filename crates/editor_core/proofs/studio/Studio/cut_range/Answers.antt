@@ -15,17 +15,17 @@ use Rattle.editor_core.proofs.studio.Studio.cut_range.Goals as goal
 pub returns-in-Some-clause-took : goal.returns-in-Some-clause-took
 returns-in-Some-clause-took g c =
     let s = core_of c.args.self.now in
-    cut_stopped g.S.Store s c.requires c.args.edit c.args.range
+    cut_stopped g.S.Store s c.requires c.args.removing c.args.range
     (g.met.S.Store.may_fewer s.store) c.in-Some.faults c.in-Some.is
 
 pub returns-in_err-planned-clause-took : goal.returns-in_err-planned-clause-took
 returns-in_err-planned-clause-took g c =
     let s = core_of c.args.self.now in
-    let call = Line (cut_line c.args.edit c.args.range) in
+    let call = Line (cut_line c.args.removing c.args.range) in
     let r = err_from_is_err_and c.from_residual.result c.from_residual.ensures.1 in
     let why = c.in_err-planned.field-0.0 in
     subst (λ x. Took g.S.Store s (quietly call (told_by (λ (n : ℕ). Done) x)) s) (sym (r.1 ∙ ap Err r.2))
-    (cut_refused g.S.Store s c.requires c.args.edit c.args.range
+    (cut_refused g.S.Store s c.requires c.args.removing c.args.range
     (g.met.S.Store.may_fewer s.store) why c.in_default.is c.in_err-planned.ensures.err)
 
 pub returns-in_err-planned-clause-sound : goal.returns-in_err-planned-clause-sound
@@ -39,7 +39,7 @@ pub carry_out-requires-clause-planned : goal.carry_out-requires-clause-planned
 carry_out-requires-clause-planned g c =
     let s = core_of c.args.self.now in
     let planned = c.in_ok-planned.ensures in
-    cut_planned g.S.Store s c.requires c.args.edit c.args.range (g.met.S.Store.may_fewer s.store) c.in_default.is
+    cut_planned g.S.Store s c.requires c.args.removing c.args.range (g.met.S.Store.may_fewer s.store) c.in_default.is
     c.in_ok-planned.planned planned.plan planned.tracks
 
 pub carry_out-requires-clause-next : goal.carry_out-requires-clause-next
@@ -48,8 +48,8 @@ carry_out-requires-clause-next g c = c.in_ok-planned.ensures.plan.laid.after_is
 pub returns-clause-took : goal.returns-clause-took
 returns-clause-took g c =
     let s = core_of c.args.self.now in
-    let call = Line (cut_line c.args.edit c.args.range) in
+    let call = Line (cut_line c.args.removing c.args.range) in
     let planned = c.in_ok-planned.ensures in
     c.carry_out.ensures.took call silent
-    (cut_edit g.S.Store s c.requires c.args.edit c.args.range (g.met.S.Store.may_fewer s.store) c.in_default.is
+    (cut_edit g.S.Store s c.requires c.args.removing c.args.range (g.met.S.Store.may_fewer s.store) c.in_default.is
     c.in_ok-planned.planned planned.plan planned.tracks)

@@ -12,9 +12,9 @@ use Rattle.envelope_view.specs.Answers.{IsUndamaged}
 use Rattle.project_state.specs.declared.body.Body.TheVariants.{Edit}
 use Rattle.project_state.specs.declared.track.Track.{Track}
 use Rattle.project_state.specs.Kept.{point_blocks, history_blocks}
-use Rattle.project_state.specs.Spelling.{spelling}
 use Rattle.project_state.specs.Tracks.{AreAbove, AllBelow}
-use Rattle.editor_core.specs.Adding.{Adds, Tested}
+use Rattle.editor_core.specs.Adding.{AddsBody, Tested}
+use Rattle.editor_core.specs.Bodies.{body_bytes, whole_len}
 use Rattle.editor_core.specs.Core.{Core, core_of}
 use Rattle.editor_core.specs.Occurrences.{HasAll, HasIds, Moves}
 use Rattle.editor_core.specs.Plain.{line_of, tracks_by, refusal_by, IsEdited}
@@ -104,10 +104,10 @@ returns-in_err-point-2-clause-took g c =
     (λ (z : Core g.row.S.Denot). IsEdited e z.next_track (current_tracks z.history) p) same c.in_ok-point.ensures in
     let mid = core_of c.commit_point.new.self in
     let why = c.in_err-point-2.field-0.0 in
-    let adds' = subst (λ (z : Core g.row.S.Denot). Adds {R = List Track} g.S.Store z
-    (spelling (Edit 0 z.next_block (z.next_track + c.tracks_for-tracks.result) p)) (Err why) mid) same
+    let adds' = subst (λ (z : Core g.row.S.Denot). AddsBody {R = List Track} g.S.Store z
+    (Edit 0 z.next_block (z.next_track + c.tracks_for-tracks.result) p) (Err why) mid) same
     c.in_err-point-2.ensures.record in
-    let adds = subst (λ (n : ℕ). Adds {R = List Track} g.S.Store s (spelling (Edit 0 s.next_block (s.next_track + n) p))
+    let adds = subst (λ (n : ℕ). AddsBody {R = List Track} g.S.Store s (Edit 0 s.next_block (s.next_track + n) p)
     (Err why) mid) c.tracks_for-tracks.ensures adds' in
     subst (λ x. Took g.S.Store s (quietly (Line (line_of e)) (told_by (λ (n : ℕ). Done) x))
     mid) (sym (r.1 ∙ ap Err r.2))
@@ -187,10 +187,10 @@ returns-clause-took g c =
     c.in_ok-point-2.ensures.ledger ∙ c.make_room.ensures.ledger in
     let mid = core_of c.commit_point.new.self in
     let tracks : c.tracks_for-tracks.result ≡ tracks_by e = c.tracks_for-tracks.ensures in
-    let adds' = subst (λ (z : Core g.row.S.Denot). Adds {R = List Track} g.S.Store z
-    (spelling (Edit 0 z.next_block (z.next_track + c.tracks_for-tracks.result) p)) (Ok c.in_ok-point-2.point) mid)
+    let adds' = subst (λ (z : Core g.row.S.Denot). AddsBody {R = List Track} g.S.Store z
+    (Edit 0 z.next_block (z.next_track + c.tracks_for-tracks.result) p) (Ok c.in_ok-point-2.point) mid)
     same c.in_ok-point-2.ensures.record in
-    let adds = subst (λ (n : ℕ). Adds {R = List Track} g.S.Store s (spelling (Edit 0 s.next_block (s.next_track + n) p))
+    let adds = subst (λ (n : ℕ). AddsBody {R = List Track} g.S.Store s (Edit 0 s.next_block (s.next_track + n) p)
     (Ok c.in_ok-point-2.point) mid) tracks adds' in
     let was : mid.history ≡ s.history = ap (λ (z : Stored (List Track)). z.history) c.in_ok-point-2.ensures.history
     ∙ ap (λ (z : Core g.row.S.Denot). z.history) same in
@@ -252,7 +252,7 @@ pub returns-in_err-point-2-clause-undamaged : goal.returns-in_err-point-2-clause
 returns-in_err-point-2-clause-undamaged g c =
     let p = err_from_is_err_and c.from_residual-in_err-point-2.result c.from_residual-in_err-point-2.ensures.1 in
     let s = core_of c.make_room.new.self in
-    let body = spelling (Edit 0 s.next_block (s.next_track + c.tracks_for-tracks.result) c.in_ok-point.point) in
+    let body = Edit 0 s.next_block (s.next_track + c.tracks_for-tracks.result) c.in_ok-point.point in
     subst (λ r. IfErr r IsUndamaged) (sym (p.1 ∙ ap Err p.2))
-    (adding_tells g.S.Store s
-    (core_of c.commit_point.new.self) body c.in_err-point-2.field-0.0 c.in_err-point-2.ensures.record)
+    (adding_tells g.S.Store s (core_of c.commit_point.new.self) (body_bytes s body) (whole_len body)
+    c.in_err-point-2.field-0.0 c.in_err-point-2.ensures.record)

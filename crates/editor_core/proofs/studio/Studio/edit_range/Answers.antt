@@ -18,59 +18,53 @@ use Rattle.editor_core.proofs.studio.Studio.edit_range.Goals as goal
 pub returns-in-Some-clause-took : goal.returns-in-Some-clause-took
 returns-in-Some-clause-took g c =
     let s = core_of c.args.self.now in
-    let range = c.args.range in
-    let e = range_edit c.args.edit range.from range.to in
-    let line = range_call c.args.edit range.track range.from range.to in
-    track_stopped g.S.Store s c.requires (Line (range_line c.args.edit range.track range.from range.to)) silent e
-    Nothing range.track 0 line c.in-Some.faults (g.met.S.Store.may_fewer s.store) c.in-Some.is
+    let e = range_edit c.args.edit c.args.from c.args.to in
+    let line = range_call c.args.edit c.args.track c.args.from c.args.to in
+    track_stopped g.S.Store s c.requires (Line (range_line c.args.edit c.args.track c.args.from c.args.to)) silent e
+    Nothing c.args.track 0 line c.in-Some.faults (g.met.S.Store.may_fewer s.store) c.in-Some.is
 
 pub returns-in_err-planned-clause-took : goal.returns-in_err-planned-clause-took
 returns-in_err-planned-clause-took g c =
     let s = core_of c.args.self.now in
-    let range = c.args.range in
-    let e = range_edit c.args.edit range.from range.to in
-    let call = Line (range_line c.args.edit range.track range.from range.to) in
-    let line = range_call c.args.edit range.track range.from range.to in
+    let e = range_edit c.args.edit c.args.from c.args.to in
+    let call = Line (range_line c.args.edit c.args.track c.args.from c.args.to) in
+    let line = range_call c.args.edit c.args.track c.args.from c.args.to in
     let r = err_from_is_err_and c.from_residual.result c.from_residual.ensures.1 in
     let why = c.in_err-planned.field-0.0 in
     subst (λ x. Took g.S.Store s (quietly call (told_by (λ (n : ℕ). Done) x)) s) (sym (r.1 ∙ ap Err r.2))
-    (track_refused g.S.Store s c.requires call silent e Nothing range.track 0 line why
+    (track_refused g.S.Store s c.requires call silent e Nothing c.args.track 0 line why
     (g.met.S.Store.may_fewer s.store) c.in_default.is c.in_err-planned.ensures.err)
 
 pub returns-in_err-planned-clause-sound : goal.returns-in_err-planned-clause-sound
 returns-in_err-planned-clause-sound g c = λ held.
     let s = core_of c.args.self.now in
-    let range = c.args.range in
-    let e = range_edit c.args.edit range.from range.to in
+    let e = range_edit c.args.edit c.args.from c.args.to in
     let r = err_from_is_err_and c.from_residual.result c.from_residual.ensures.1 in
     subst (λ x. IfErr x IsUndamaged) (sym (r.1 ∙ ap Err r.2))
-    (no_plan_tells e range.track (current_tracks s.history) c.in_err-planned.field-0.0
-    (λ len. range_tells range.from range.to len) c.in_err-planned.ensures.err)
+    (no_plan_tells e c.args.track (current_tracks s.history) c.in_err-planned.field-0.0
+    (λ len. range_tells c.args.from c.args.to len) c.in_err-planned.ensures.err)
 
 pub carry_out-requires-clause-planned : goal.carry_out-requires-clause-planned
 carry_out-requires-clause-planned g c =
     let s = core_of c.args.self.now in
-    let range = c.args.range in
-    let e = range_edit c.args.edit range.from range.to in
+    let e = range_edit c.args.edit c.args.from c.args.to in
     let planned = c.in_ok-planned.ensures in
-    track_planned g.S.Store s c.requires e Nothing range.track c.in_ok-planned.planned planned.plan planned.tracks
+    track_planned g.S.Store s c.requires e Nothing c.args.track c.in_ok-planned.planned planned.plan planned.tracks
     planned.clip 0 (omega arith)
 
 pub carry_out-requires-clause-next : goal.carry_out-requires-clause-next
 carry_out-requires-clause-next g c =
     let s = core_of c.args.self.now in
-    let range = c.args.range in
-    track_next g.S.Store s c.requires (range_edit c.args.edit range.from range.to) Nothing range.track
+    track_next g.S.Store s c.requires (range_edit c.args.edit c.args.from c.args.to) Nothing c.args.track
     c.in_ok-planned.planned c.in_ok-planned.ensures.plan
 
 pub returns-clause-took : goal.returns-clause-took
 returns-clause-took g c =
     let s = core_of c.args.self.now in
-    let range = c.args.range in
-    let e = range_edit c.args.edit range.from range.to in
-    let call = Line (range_line c.args.edit range.track range.from range.to) in
-    let line = range_call c.args.edit range.track range.from range.to in
+    let e = range_edit c.args.edit c.args.from c.args.to in
+    let call = Line (range_line c.args.edit c.args.track c.args.from c.args.to) in
+    let line = range_call c.args.edit c.args.track c.args.from c.args.to in
     let planned = c.in_ok-planned.ensures in
     c.carry_out.ensures.took call silent
-    (track_edit g.S.Store s c.requires call silent e Nothing range.track 0 line c.in_ok-planned.planned planned.plan
+    (track_edit g.S.Store s c.requires call silent e Nothing c.args.track 0 line c.in_ok-planned.planned planned.plan
     planned.tracks planned.clip)

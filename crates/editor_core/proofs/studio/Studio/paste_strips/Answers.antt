@@ -15,17 +15,17 @@ use Rattle.editor_core.proofs.studio.Studio.paste_strips.Goals as goal
 pub returns-in-Some-clause-took : goal.returns-in-Some-clause-took
 returns-in-Some-clause-took g c =
     let s = core_of c.args.self.now in
-    paste_stopped g.S.Store s c.requires.studio c.args.edit c.args.track c.args.at c.in-Some.faults
+    paste_stopped g.S.Store s c.requires.studio c.args.placing c.args.track c.args.at c.in-Some.faults
     (g.met.S.Store.may_fewer s.store) c.in-Some.is
 
 pub returns-in_err-planned-clause-took : goal.returns-in_err-planned-clause-took
 returns-in_err-planned-clause-took g c =
     let s = core_of c.args.self.now in
-    let call = Line (paste_line c.args.edit c.args.track c.args.at) in
+    let call = Line (paste_line c.args.placing c.args.track c.args.at) in
     let r = err_from_is_err_and c.from_residual.result c.from_residual.ensures.1 in
     let why = c.in_err-planned.field-0.0 in
     subst (λ x. Took g.S.Store s (quietly call (told_by (λ (n : ℕ). Done) x)) s) (sym (r.1 ∙ ap Err r.2))
-    (paste_refused g.S.Store s c.requires.studio c.args.edit c.args.track c.args.at why
+    (paste_refused g.S.Store s c.requires.studio c.args.placing c.args.track c.args.at why
     (g.met.S.Store.may_fewer s.store) c.in_default.is c.in_err-planned.ensures.err)
 
 pub returns-in_err-planned-clause-sound : goal.returns-in_err-planned-clause-sound
@@ -33,13 +33,13 @@ returns-in_err-planned-clause-sound g c = λ held.
     let s = core_of c.args.self.now in
     let r = err_from_is_err_and c.from_residual.result c.from_residual.ensures.1 in
     subst (λ x. IfErr x IsUndamaged) (sym (r.1 ∙ ap Err r.2))
-    (no_paste_tells c.args.edit c.args.track c.args.at s c.in_err-planned.field-0.0 c.in_err-planned.ensures.err)
+    (no_paste_tells c.args.placing c.args.track c.args.at s c.in_err-planned.field-0.0 c.in_err-planned.ensures.err)
 
 pub carry_out-requires-clause-planned : goal.carry_out-requires-clause-planned
 carry_out-requires-clause-planned g c =
     let s = core_of c.args.self.now in
     let planned = c.in_ok-planned.ensures in
-    paste_planned g.S.Store s c.requires.studio c.args.edit c.args.track c.args.at c.in_ok-planned.planned planned.plan
+    paste_planned g.S.Store s c.requires.studio c.args.placing c.args.track c.args.at c.in_ok-planned.planned planned.plan
     planned.tracks planned.clip
 
 pub carry_out-requires-clause-next : goal.carry_out-requires-clause-next
@@ -48,8 +48,8 @@ carry_out-requires-clause-next g c = c.in_ok-planned.ensures.plan.laid.after_is
 pub returns-clause-took : goal.returns-clause-took
 returns-clause-took g c =
     let s = core_of c.args.self.now in
-    let call = Line (paste_line c.args.edit c.args.track c.args.at) in
+    let call = Line (paste_line c.args.placing c.args.track c.args.at) in
     let planned = c.in_ok-planned.ensures in
     c.carry_out.ensures.took call silent
-    (paste_edit g.S.Store s c.requires.studio c.args.edit c.args.track c.args.at c.in_ok-planned.planned planned.plan
+    (paste_edit g.S.Store s c.requires.studio c.args.placing c.args.track c.args.at c.in_ok-planned.planned planned.plan
     planned.tracks planned.clip)

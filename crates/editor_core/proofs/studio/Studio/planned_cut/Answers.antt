@@ -5,13 +5,13 @@ use Rattle.edit_ops.specs.Runs.{AllTracksHalfFull, layouts}
 use Rattle.project_state.specs.Tracks.{track_of}
 use Rattle.editor_core.specs.Copies.{run_of}
 use Rattle.editor_core.specs.Core.{core_of}
-use Rattle.editor_core.specs.Cuts.{cut_cells}
 use Rattle.editor_core.specs.Points.{current_tracks}
 use Rattle.editor_core.proofs.CutLaws.{cuts_few, run_half_full}
 use Rattle.editor_core.proofs.studio.Studio.planned_cut.Goals as goal
+use Rattle.pcm_base.specs.Edits.{removed}
 
-pub plan_cut-requires : goal.plan_cut-requires
-plan_cut-requires g c =
+pub cut_range-requires : goal.cut_range-requires
+cut_range-requires g c =
     let s = core_of c.args.self.now in
     let id = c.args.range.track in
     let project = c.current-project.ensures in
@@ -32,6 +32,6 @@ planned_run-requires-clause-fits g c =
     let run : layouts c.deref.result.now ≡ run_of range.track c.current-project.result.now =
     ap layouts c.deref.ensures.value ∙ c.in_ok-run.ensures in
     subst (λ (z : List (List Clip)). length c.in_ok-strips.plans ≤ length z) run
-    (cuts_few (cut_cells c.args.edit range.from range.to)
+    (cuts_few (removed c.args.removing range.from range.to)
     (record { block_size = c.block_size.result; next = s.next_block }) range.count (layouts c.deref.result.now)
     c.in_ok-strips.plans c.in_ok-strips.ensures.plans)

@@ -1,19 +1,20 @@
 -- The tracks of the run are half full, and each has at most one plan.
 use Rattle.std.proofs.Common.{◌≡◌, ◌∙◌, sym, ap, subst, ℕ, ◌≤◌, length, List, Some}
 use Rattle.clip_track.specs.declared.clips.Clip.{Clip}
+use Rattle.clip_track.specs.declared.items.Item.{Item}
 use Rattle.edit_ops.specs.Placing.{SumsFit}
 use Rattle.edit_ops.specs.Runs.{AllTracksHalfFull, layouts}
 use Rattle.project_state.specs.Tracks.{track_of}
 use Rattle.editor_core.specs.Copies.{run_of}
 use Rattle.editor_core.specs.Core.{core_of}
-use Rattle.editor_core.specs.Pastes.{paste_cells}
 use Rattle.editor_core.specs.Points.{current_tracks}
 use Rattle.editor_core.proofs.CutLaws.{run_half_full}
 use Rattle.editor_core.proofs.PasteLaws.{pastes_few, sums_fit}
 use Rattle.editor_core.proofs.studio.Studio.planned_paste.Goals as goal
+use Rattle.pcm_base.specs.Edits.{placed}
 
-pub plan_paste-requires-clause-half_full : goal.plan_paste-requires-clause-half_full
-plan_paste-requires-clause-half_full g c =
+pub paste-requires-clause-half_full : goal.paste-requires-clause-half_full
+paste-requires-clause-half_full g c =
     let s = core_of c.args.self.now in
     let id = c.args.track in
     let project = c.current-project.ensures in
@@ -25,8 +26,8 @@ plan_paste-requires-clause-half_full g c =
     (subst (AllTracksHalfFull s.block_size) (sym run)
     (run_half_full g.S.Store s c.requires.studio id c.in_ok-track.field-0.now found))
 
-pub plan_paste-requires-clause-sums : goal.plan_paste-requires-clause-sums
-plan_paste-requires-clause-sums g c =
+pub paste-requires-clause-sums : goal.paste-requires-clause-sums
+paste-requires-clause-sums g c = λ x e.
     let s = core_of c.args.self.now in
     let id = c.args.track in
     let project = c.current-project.ensures in
@@ -34,9 +35,11 @@ plan_paste-requires-clause-sums g c =
     ap (track_of id) (sym project) ∙ c.in_ok-track.ensures in
     let run : layouts c.deref.result.now ≡ run_of id (current_tracks s.history) =
     ap layouts c.deref.ensures.value ∙ c.in_ok-run.ensures ∙ ap (run_of id) project in
-    subst (SumsFit c.args.at c.in-Some.clip) (sym run)
+    let same : c.in-Some.clip ≡ x = cc in
+    subst (λ (strips : List (List Item)). SumsFit c.args.at strips (layouts c.deref.result.now)) same
+    (subst (SumsFit c.args.at c.in-Some.clip) (sym run)
     (sums_fit g.S.Store s c.requires.studio id c.args.at c.in_ok-track.field-0.now found c.requires.in_form
-    c.in-Some.clip c.in-Some.is)
+    c.in-Some.clip c.in-Some.is))
 
 pub planned_run-requires-clause-fits : goal.planned_run-requires-clause-fits
 planned_run-requires-clause-fits g c =
@@ -45,5 +48,5 @@ planned_run-requires-clause-fits g c =
     let run : layouts c.deref.result.now ≡ run_of c.args.track c.current-project.result.now =
     ap layouts c.deref.ensures.value ∙ c.in_ok-run.ensures in
     subst (λ (z : List (List Clip)). length c.in_ok-plans.plans ≤ length z) run
-    (pastes_few (paste_cells c.args.edit c.args.at) (record { block_size = c.block_size.result; next = s.next_block })
+    (pastes_few (placed c.args.placing c.args.at) (record { block_size = c.block_size.result; next = s.next_block })
     (length strips) strips (layouts c.deref.result.now) c.in_ok-plans.plans c.in_ok-plans.ensures.plans)

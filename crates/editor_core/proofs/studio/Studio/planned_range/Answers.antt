@@ -1,34 +1,33 @@
 -- The track is sound, and its new layout is planned.
-use Rattle.std.proofs.Common.{◌≡◌, ◌∙◌, inr, refl, sym, ap, subst, ℕ, ◌≤◌, length, Some, None, IfErr, Err, arith}
+use Rattle.std.proofs.Common.{◌≡◌, ◌∙◌, inr, refl, sym, ap, subst, ℕ, ◌≤◌, List, length, Some, None, IfErr, Err, arith}
 use Rattle.std.proofs.lemmas.Result.{err_from_is_err_and}
+use Rattle.pcm_base.specs.declared.sound.Cell.{Cell}
+use Rattle.pcm_base.specs.Counters.{blocks_of_edit}
+use Rattle.pcm_base.specs.Edits.{range_of}
 use Rattle.clip_track.specs.Clips.{AllHalfFull, layout_blocks, layout_cells}
 use Rattle.edit_ops.specs.Plans.{IsPlan}
 use Rattle.project_state.specs.Tracks.{AreAbove, track_of}
 use Rattle.editor_core.specs.Core.{core_of}
 use Rattle.editor_core.specs.Points.{current_tracks, put_in}
-use Rattle.editor_core.specs.Ranges.{range_edit, range_most}
+use Rattle.editor_core.specs.Ranges.{range_edit}
 use Rattle.editor_core.specs.TrackEdits.{NoTrackPlan, with_layout}
 use Rattle.editor_core.proofs.Editing.{current_sound}
+use Rattle.editor_core.proofs.RangeLaws.{part_range}
 use Rattle.editor_core.proofs.TrackPlans.{current_track, no_such_track, test_fails}
 use Rattle.editor_core.proofs.studio.Studio.planned_range.Goals as goal
 
 pub invariant_of-planner-clause-some : goal.invariant_of-planner-clause-some
 invariant_of-planner-clause-some g c = omega (arith, c.requires.format.block_least, c.block_size.ensures.value)
 
-pub plan_range-requires-clause-half_full : goal.plan_range-requires-clause-half_full
-plan_range-requires-clause-half_full g c =
+pub edit_range-requires : goal.edit_range-requires
+edit_range-requires g c =
     let s = core_of c.args.self.now in
-    let found : track_of c.args.range.track (current_tracks s.history) ≡ Some c.in_ok-old.old.now =
-    ap (track_of c.args.range.track) (sym c.current-project.ensures) ∙ c.in_ok-old.ensures in
-    subst (λ (m : ℕ). AllHalfFull m c.in_ok-old.old.now.layout) (sym c.block_size.ensures.value)
-    (current_track g.S.Store s c.requires c.args.range.track c.in_ok-old.old.now found).half_full
-
-pub plan_range-requires-clause-apart : goal.plan_range-requires-clause-apart
-plan_range-requires-clause-apart g c =
-    let s = core_of c.args.self.now in
-    let found : track_of c.args.range.track (current_tracks s.history) ≡ Some c.in_ok-old.old.now =
-    ap (track_of c.args.range.track) (sym c.current-project.ensures) ∙ c.in_ok-old.ensures in
-    (current_track g.S.Store s c.requires c.args.range.track c.in_ok-old.old.now found).layout
+    let found : track_of c.args.track (current_tracks s.history) ≡ Some c.in_ok-old.old.now =
+    ap (track_of c.args.track) (sym c.current-project.ensures) ∙ c.in_ok-old.ensures in
+    record {
+      half_full = subst (λ (m : ℕ). AllHalfFull m c.in_ok-old.old.now.layout) (sym c.block_size.ensures.value)
+          (current_track g.S.Store s c.requires c.args.track c.in_ok-old.old.now found).half_full;
+    }
 
 pub planned-requires : goal.planned-requires
 planned-requires g c =
@@ -39,54 +38,56 @@ pub returns-in_err-old-clause-err : goal.returns-in_err-old-clause-err
 returns-in_err-old-clause-err g c =
     let s = core_of c.args.self.now in
     let old = current_tracks s.history in
-    let range = c.args.range in
-    let e = range_edit c.args.edit range.from range.to in
+    let e = range_edit c.args.edit c.args.from c.args.to in
     let r = err_from_is_err_and c.from_residual.result c.from_residual.ensures.1 in
     let not = c.in_err-old.ensures in
-    let none : track_of range.track old ≡ None = ap (track_of range.track) (sym c.current-project.ensures) ∙ not.1 in
-    subst (λ x. IfErr x (NoTrackPlan e range.track old)) (sym (r.1 ∙ ap Err r.2))
-    (no_such_track e range.track old c.in_err-old.field-0.0 not.0 none)
+    let none : track_of c.args.track old ≡ None = ap (track_of c.args.track) (sym c.current-project.ensures) ∙ not.1 in
+    subst (λ x. IfErr x (NoTrackPlan e c.args.track old)) (sym (r.1 ∙ ap Err r.2))
+    (no_such_track e c.args.track old c.in_err-old.field-0.0 not.0 none)
 
 pub returns-in_err-plan-clause-err : goal.returns-in_err-plan-clause-err
 returns-in_err-plan-clause-err g c =
     let s = core_of c.args.self.now in
     let old = current_tracks s.history in
-    let range = c.args.range in
-    let e = range_edit c.args.edit range.from range.to in
+    let e = range_edit c.args.edit c.args.from c.args.to in
     let t = c.in_ok-old.old.now in
     let r = err_from_is_err_and c.from_residual-in_err-plan.result c.from_residual-in_err-plan.ensures.1 in
-    let found : track_of range.track old ≡ Some t =
-    ap (track_of range.track) (sym c.current-project.ensures) ∙ c.in_ok-old.ensures in
-    subst (λ x. IfErr x (NoTrackPlan e range.track old)) (sym (r.1 ∙ ap Err r.2))
-    (test_fails e range.track old t c.in_err-plan.field-0.0 found c.in_err-plan.ensures.tests)
+    let found : track_of c.args.track old ≡ Some t =
+    ap (track_of c.args.track) (sym c.current-project.ensures) ∙ c.in_ok-old.ensures in
+    subst (λ x. IfErr x (NoTrackPlan e c.args.track old)) (sym (r.1 ∙ ap Err r.2))
+    (test_fails e c.args.track old t c.in_err-plan.field-0.0 found c.in_err-plan.ensures.tests)
 
 pub returns-in_err-planned-clause-err : goal.returns-in_err-planned-clause-err
 returns-in_err-planned-clause-err g c =
     let s = core_of c.args.self.now in
-    let range = c.args.range in
-    let e = range_edit c.args.edit range.from range.to in
+    let e = range_edit c.args.edit c.args.from c.args.to in
     let r = err_from_is_err_and c.from_residual-in_err-planned.result c.from_residual-in_err-planned.ensures.1 in
-    subst (λ x. IfErr x (NoTrackPlan e range.track (current_tracks s.history))) (sym (r.1 ∙ ap Err r.2)) (inr refl)
+    subst (λ x. IfErr x (NoTrackPlan e c.args.track (current_tracks s.history))) (sym (r.1 ∙ ap Err r.2)) (inr refl)
 
 pub returns-clause-plan : goal.returns-clause-plan
 returns-clause-plan g c =
     let s = core_of c.args.self.now in
-    let range = c.args.range in
     let t = c.in_ok-old.old.now in
     let old = current_tracks s.history in
     let plan = c.in_ok-plan.plan in
     let size = c.block_size.ensures.value in
+    let found : track_of c.args.track old ≡ Some t =
+    ap (track_of c.args.track) (sym c.current-project.ensures) ∙ c.in_ok-old.ensures in
+    let layout = (current_track g.S.Store s c.requires c.args.track t found).layout in
     record {
       track = t;
-      found = ap (track_of range.track) (sym c.current-project.ensures) ∙ c.in_ok-old.ensures;
+      found = found;
       tests = c.in_ok-plan.ensures.tests;
       plan = plan;
       is_plan = subst (λ (m : ℕ). IsPlan (record { block_size = m; next = s.next_block }) (layout_blocks t.layout)
           0 plan) size c.in_ok-plan.ensures.plan;
       means = c.in_ok-plan.ensures.cells;
       layout = c.in_ok-planned.ensures.layout;
-      few = λ src. subst (λ (m : ℕ). length plan.makes ≤ range_most c.args.edit range.from range.to m
-          (layout_cells src t.layout)) size (c.in_ok-plan.ensures.few src);
+      few = λ src. subst (λ (m : ℕ). length plan.makes ≤ blocks_of_edit c.args.edit m
+          (range_of c.args.from c.args.to (layout_cells src t.layout))) size
+          (subst (λ (cells : List Cell). length plan.makes ≤ blocks_of_edit c.args.edit c.block_size.result cells)
+          (part_range c.args.from c.args.to t.layout src layout c.in_ok-plan.ensures.tests)
+          (c.in_ok-plan.ensures.few_made src));
       is = c.in_ok-planned.ensures.point ∙ ap (put_in (with_layout t plan.layout)) c.current-project.ensures;
       makes_is = c.in_ok-planned.ensures.makes;
       after_is = c.in_ok-planned.ensures.next;

@@ -76,7 +76,8 @@ returns-in_err-commit_small-clause-took g c =
     let some = in_range c.args.count s.history.cursor own in
     let why = c.in_err-commit_small.field-0.0 in
     let adds =
-    subst (λ b. Adds g.S.Store s b (Err why) mid) c.purge_body.ensures c.in_err-commit_small.ensures.record in
+    subst (λ b. Adds g.S.Store s b (length b) (Err why) mid) c.purge_body.ensures
+    c.in_err-commit_small.ensures.record in
     subst (λ r. Took g.S.Store s (quietly (Line (command.Purge c.args.count)) (told_by (λ (n : ℕ). Done) r)) mid)
     (sym (p.1 ∙ ap Err p.2))
     (fails g.S.Store s [] (Line (command.Purge c.args.count)) silent 0 (Purge c.args.count)
@@ -110,8 +111,9 @@ drop_points-requires-clause-within g c =
     let may = c.in_ok-may_commit.ensures in
     let own = sym c.purge_refusal.ensures.value ∙ may.1 in
     let some = in_range n s.history.cursor own in
-    let adds = subst (λ r. Adds g.S.Store s (4 ∷ little_bytes 8 n) r mid) c.in_ok-commit_small.was (subst
-    (λ b. Adds g.S.Store s b c.commit_small.result mid) c.purge_body.ensures c.commit_small.ensures.record) in
+    let adds = subst (λ r. Adds g.S.Store s (4 ∷ little_bytes 8 n) 9 r mid) c.in_ok-commit_small.was (subst
+    (λ b. Adds g.S.Store s b (length b) c.commit_small.result mid) c.purge_body.ensures
+    c.commit_small.ensures.record) in
     let same : mid.history ≡ s.history = ap (λ (z : Core g.row.S.Denot). z.history) adds.fields.0 in
     subst (λ (h : History (List Track)). n ≤ length h.points) (sym same)
     (omega (arith, some.1, c.purge_refusal.ensures.whole.current))
@@ -124,8 +126,9 @@ drop_points-requires-clause-all g c =
     let may = c.in_ok-may_commit.ensures in
     let own = sym c.purge_refusal.ensures.value ∙ may.1 in
     let some = in_range n s.history.cursor own in
-    let adds = subst (λ r. Adds g.S.Store s (4 ∷ little_bytes 8 n) r mid) c.in_ok-commit_small.was (subst
-    (λ b. Adds g.S.Store s b c.commit_small.result mid) c.purge_body.ensures c.commit_small.ensures.record) in
+    let adds = subst (λ r. Adds g.S.Store s (4 ∷ little_bytes 8 n) 9 r mid) c.in_ok-commit_small.was (subst
+    (λ b. Adds g.S.Store s b (length b) c.commit_small.result mid) c.purge_body.ensures
+    c.commit_small.ensures.record) in
     let same : mid.history ≡ s.history = ap (λ (z : Core g.row.S.Denot). z.history) adds.fields.0 in
     let counts : mid.counts ≡ s.counts = ap (λ (z : Core g.row.S.Denot). z.counts) adds.fields.0 in
     subst (λ (h : History (List Track)). HasAll mid.counts (flat_map point_blocks (drop 0 (take n (points_of h)))))
@@ -141,8 +144,9 @@ returns-clause-took g c =
     let may = c.in_ok-may_commit.ensures in
     let own = sym c.purge_refusal.ensures.value ∙ may.1 in
     let some = in_range n s.history.cursor own in
-    let adds = subst (λ r. Adds g.S.Store s (4 ∷ little_bytes 8 n) r mid) c.in_ok-commit_small.was (subst
-    (λ b. Adds g.S.Store s b c.commit_small.result mid) c.purge_body.ensures c.commit_small.ensures.record) in
+    let adds = subst (λ r. Adds g.S.Store s (4 ∷ little_bytes 8 n) 9 r mid) c.in_ok-commit_small.was (subst
+    (λ b. Adds g.S.Store s b (length b) c.commit_small.result mid) c.purge_body.ensures
+    c.commit_small.ensures.record) in
     let same : mid.history ≡ s.history = ap (λ (z : Core g.row.S.Denot). z.history) adds.fields.0 in
     let was : mid.counts ≡ s.counts = ap (λ (z : Core g.row.S.Denot). z.counts) adds.fields.0 in
     let counts = count_of c.drop_points.new.ledger in

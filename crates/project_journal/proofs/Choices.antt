@@ -1,0 +1,245 @@
+-- The choice of a file, by the front of each.
+use Rattle.std.proofs.Common.{◌≡◌, inl, inr, ℕ, zero, suc, ◌^◌, ◌<◌, ◌≤◌, min, Option, Some, None}
+use Rattle.std.proofs.Common.{Result, Ok, Err, List, [], ◌∷◌, ◌++◌, length, take, drop, refl, sym, ◌∙◌, ap, subst}
+use Rattle.std.proofs.Common.{arith, if◌then◌else◌, Bool, true, false}
+use Rattle.std.specs.Prelude.{◌==◌}
+use Rattle.std.proofs.lemmas.Bool.{eq-eqb}
+use Rattle.std.proofs.lemmas.List.{get_or-take, length-take, take_at, take_min}
+use Rattle.disk_model.specs.Disk.{Files, bytes_of}
+use Rattle.project_journal.specs.declared.fault.Damaged.{Damaged as Fault}
+use Rattle.project_journal.specs.declared.fault.JournalFault.{JournalFault}
+use Rattle.project_journal.specs.declared.fault.JournalFault.TheVariants.{Absent, Exists, Damaged, SpaceSpent}
+use Rattle.project_journal.specs.declared.fault.JournalFault.TheVariants.{DiskFault, NoMemory}
+use Rattle.project_journal.specs.declared.reader.Reader.{Reader}
+use Rattle.project_journal.specs.Choice.{FailsIn, IsOlder, IsPicked, choice_tests, generation_at}
+use Rattle.project_journal.specs.Choice.{newer_test, other_file}
+use Rattle.project_journal.specs.Fields.{field}
+use Rattle.project_journal.specs.Header.{IsProject, first_failed, form_of}
+use Rattle.project_journal.specs.Opening.{Chooses, ChoosesSome, Opens, OpensSome, StartsIn}
+use Rattle.project_journal.specs.Opening.{StartsSome, two_files}
+use Rattle.project_journal.proofs.Headers.{differ}
+use Rattle.project_journal.proofs.Parses.{field_take}
+
+-- what is read at the front of a file
+pub front_read : (bytes buf : List ℕ) (n : ℕ) → n ≡ min 33 (length bytes) → take n (take n bytes ++ drop n buf) ≡ take 33 bytes
+front_read bytes buf n is =
+    take_at (take n bytes) (drop n buf) n (length-take n bytes ∙ omega (arith, is))
+    ∙ ap (λ (k : ℕ). take k bytes) is ∙ take_min 33 bytes
+
+project_front : (bytes : List ℕ) → IsProject (take 33 bytes) → IsProject bytes
+project_front bytes p =
+    let long : 33 ≤ length bytes = omega (arith, p.0, length-take 33 bytes) in
+    (long, λ shut. p.1 (get_or-take 33 bytes 0 0 (omega arith) ∙ shut))
+
+front_project : (bytes : List ℕ) → IsProject bytes → IsProject (take 33 bytes)
+front_project bytes p = (
+  omega (arith, p.0, length-take 33 bytes),
+  λ shut. p.1 (sym (get_or-take 33 bytes 0 0 (omega arith)) ∙ shut),
+)
+
+generation_front : (bytes : List ℕ) → generation_at (take 33 bytes) ≡ generation_at bytes
+unfolding generation_at
+generation_front bytes = rw (field_take 5 4 33 bytes (omega arith), field_take 21 8 33 bytes (omega arith)) refl
+
+choice_front : (bytes : List ℕ) → choice_tests (take 33 bytes) ≡ choice_tests bytes
+unfolding choice_tests
+choice_front bytes = rw (
+  field_take 1 4 33 bytes (omega arith),
+  field_take 5 4 33 bytes (omega arith),
+  generation_front bytes,
+) refl
+
+newer_front : (a b : List ℕ) → newer_test (take 33 a) (take 33 b) ≡ newer_test a b
+newer_front a b = rw (generation_front a, generation_front b) refl
+
+-- files that have the fronts of others
+abbrev AreFronts : Files → Files → Type 0
+AreFronts c d = (n : ℕ) → n ≤ 1 → bytes_of (c n) ≡ take 33 (bytes_of (d n))
+
+older_front : (g : ℕ) (bytes : List ℕ) → IsOlder g (take 33 bytes) → IsOlder g bytes
+older_front g bytes is = record {
+  sound = ap first_failed (sym (choice_front bytes)) ∙ is.sound;
+  lower = omega (arith, is.lower, generation_front bytes);
+}
+
+pub picked_front : (file : ℕ) (c d : Files) → AreFronts c d → IsPicked file c → IsPicked file d
+picked_front file c d fronts is =
+    let mine = fronts file is.few in
+    let other = fronts (other_file file) (omega arith) in
+    let there : IsProject (bytes_of (d (other_file file))) → IsProject (bytes_of (c (other_file file))) =
+    λ p. subst IsProject (sym other) (front_project (bytes_of (d (other_file file))) p) in
+    record {
+      few = is.few;
+      project = project_front (bytes_of (d file)) (subst IsProject mine is.project);
+      sound = λ p. ap first_failed (sym (choice_front (bytes_of (d file))))
+          ∙ ap (λ (b : List ℕ). first_failed (choice_tests b)) (sym mine) ∙ is.sound (there p);
+      newest = λ p.
+          older_front (generation_at (bytes_of (d file))) (bytes_of (d (other_file file)))
+          (subst (λ (g : ℕ). IsOlder g (take 33 (bytes_of (d (other_file file)))))
+          (ap generation_at mine ∙ generation_front (bytes_of (d file)))
+          (subst (IsOlder (generation_at (bytes_of (c file)))) other (is.newest (there p))));
+    }
+
+fails_front : (a b : List ℕ) (file : ℕ) (fault : Fault) → FailsIn (take 33 a) (take 33 b) file fault
+    → FailsIn a b file fault
+fails_front a b file fault (inl here) = inl (here.0, ap first_failed (sym (choice_front a)) ∙ here.1)
+fails_front a b file fault (inr there) = inr (
+  there.0,
+  ap first_failed (sym (choice_front a)) ∙ there.1,
+  ap (λ (t : Fault). first_failed (choice_tests b ++ t ∷ [])) (sym (newer_front a b))
+      ∙ ap (λ (ts : List Fault). first_failed (ts ++ newer_test (take 33 a) (take 33 b) ∷ [])) (sym (choice_front b))
+      ∙ there.2,
+)
+
+pub chooses_front : (c d : Files) (r : Result (Option ℕ) JournalFault) → AreFronts c d → Chooses c r → Chooses d r
+chooses_front c d (Ok None) fronts is = (
+  λ p. is.0 (subst IsProject (sym (fronts 0 (omega arith))) (front_project (bytes_of (d 0)) p)),
+  λ p. is.1 (subst IsProject (sym (fronts 1 (omega arith))) (front_project (bytes_of (d 1)) p)),
+)
+chooses_front c d (Ok (Some file)) fronts is = picked_front file c d fronts is
+chooses_front c d (Err (Damaged file at want have)) fronts is = record {
+  first = project_front (bytes_of (d 0)) (subst IsProject (fronts 0 (omega arith)) is.first);
+  second = project_front (bytes_of (d 1)) (subst IsProject (fronts 1 (omega arith)) is.second);
+  fails = fails_front (bytes_of (d 0)) (bytes_of (d 1)) file (record { at = at; want = want; have = have })
+      (subst (λ (b : List ℕ). FailsIn (take 33 (bytes_of (d 0))) b file (record { at = at; want = want; have = have }))
+      (fronts 1 (omega arith))
+      (subst (λ (a : List ℕ). FailsIn a (bytes_of (c 1)) file (record { at = at; want = want; have = have }))
+      (fronts 0 (omega arith)) is.fails));
+}
+chooses_front c d (Err DiskFault) fronts is = tt
+chooses_front c d (Err Absent) fronts is = is
+chooses_front c d (Err Exists) fronts is = is
+chooses_front c d (Err NoMemory) fronts is = is
+chooses_front c d (Err (SpaceSpent have need)) fronts is = is
+
+-- the fronts of files 0 and 1
+pub two_fronts : (a b : List ℕ) (d : Files) → a ≡ take 33 (bytes_of (d 0)) → b ≡ take 33 (bytes_of (d 1))
+    → AreFronts (two_files a b) d
+two_fronts a b d first second zero few = first
+two_fronts a b d first second (suc zero) few = second
+two_fronts a b d first second (suc (suc n)) few = absurd (omega (arith, few))
+
+pub two_few : (a b : List ℕ) → length a ≤ 2 ^ 62 → length b ≤ 2 ^ 62 → (file : ℕ)
+    → length (bytes_of (two_files a b file)) ≤ 2 ^ 62
+two_few a b first second zero = first
+two_few a b first second (suc zero) = second
+two_few a b first second (suc (suc n)) = omega arith
+
+-- the first of two projects, or the second
+pub picked_first : (a b : List ℕ) → IsProject a → (IsProject b → first_failed (choice_tests a) ≡ None)
+    → (IsProject b → first_failed (choice_tests b) ≡ None) → (IsProject b → generation_at b < generation_at a)
+    → IsPicked 0 (two_files a b)
+picked_first a b project first second lower = record {
+  few = omega arith;
+  project = project;
+  sound = first;
+  newest = λ p. record { sound = second p; lower = lower p };
+}
+
+pub picked_second : (a b : List ℕ) → IsProject b → (IsProject a → first_failed (choice_tests a) ≡ None)
+    → (IsProject a → first_failed (choice_tests b) ≡ None) → (IsProject a → generation_at a < generation_at b)
+    → IsPicked 1 (two_files a b)
+picked_second a b project first second lower = record {
+  few = omega arith;
+  project = project;
+  sound = second;
+  newest = λ p. record { sound = first p; lower = lower p };
+}
+
+-- a reader of the chosen file
+pub opens_from : (file : ℕ) (files : Files) (r : Result Reader JournalFault) → IsPicked file files
+    → StartsIn file (bytes_of (files file)) r → Opens files r
+opens_from file files (Ok r) picked s = record {
+  picked = subst (λ (n : ℕ). IsPicked n files) (sym s.same) picked;
+  version = s.version ∙ ap (λ (n : ℕ). field 5 4 (bytes_of (files n))) (sym s.same);
+  sound = ap (λ (v : ℕ). first_failed ((form_of v r.window.file).tests (bytes_of (files r.window.file)))) (s.version
+      ∙ ap (λ (n : ℕ). field 5 4 (bytes_of (files n))) (sym s.same))
+      ∙ ap (λ (n : ℕ). first_failed ((form_of (field 5 4 (bytes_of (files n))) n).tests (bytes_of (files n)))) s.same
+      ∙ s.sound;
+}
+opens_from file files (Err Absent) picked s = absurd (s picked.project)
+opens_from file files (Err (Damaged told at want have)) picked s = inr (record {
+  picked = subst (λ (n : ℕ). IsPicked n files) (sym s.same) picked;
+  fails = ap (λ (n : ℕ). first_failed ((form_of (field 5 4 (bytes_of (files n))) n).tests (bytes_of (files n)))) s.same
+      ∙ s.fails;
+})
+opens_from file files (Err DiskFault) picked s = tt
+opens_from file files (Err NoMemory) picked s = tt
+opens_from file files (Err Exists) picked s = s
+opens_from file files (Err (SpaceSpent have need)) picked s = s
+
+-- and where no file is chosen
+pub opens_none : (files : Files) (e : JournalFault) → Chooses files (Err e) → Opens files (Err e)
+opens_none files (Damaged file at want have) is = inl is
+opens_none files DiskFault is = tt
+opens_none files Absent is = absurd is
+opens_none files Exists is = absurd is
+opens_none files NoMemory is = absurd is
+opens_none files (SpaceSpent have need) is = absurd is
+
+abbrev no_files : Files
+no_files = λ n. None
+
+-- a file alone
+abbrev one_file : ℕ → List ℕ → Files
+one_file file bytes = λ n. if n == file then Some bytes else None
+
+alone_here : (file : ℕ) (bytes : List ℕ) → bytes_of (one_file file bytes file) ≡ bytes
+alone_here file bytes = rw (eq-eqb file file refl) refl
+
+alone_other : (file : ℕ) (bytes : List ℕ) → file ≤ 1 → bytes_of (one_file file bytes (other_file file)) ≡ []
+alone_other file bytes few = rw (differ (other_file file) file (λ e. omega (arith, e, few))) refl
+
+alone_few : (file : ℕ) (bytes : List ℕ) → length bytes ≤ 2 ^ 62 → (n : ℕ)
+    → length (bytes_of (one_file file bytes n)) ≤ 2 ^ 62
+alone_few file bytes few n = by_file (n == file)
+  where
+    by_file : (b : Bool) → length (bytes_of (if b then Some bytes else None)) ≤ 2 ^ 62
+    by_file true = few
+    by_file false = omega arith
+
+picked_alone : (file : ℕ) (bytes : List ℕ) → file ≤ 1 → IsProject bytes → IsPicked file (one_file file bytes)
+picked_alone file bytes few project =
+    let none : IsProject (bytes_of (one_file file bytes (other_file file))) → ⊥ =
+    λ p. omega (arith, (subst IsProject (alone_other file bytes few) p).0) in
+    record {
+      few = few;
+      project = subst IsProject (sym (alone_here file bytes)) project;
+      sound = λ p. absurd (none p);
+      newest = λ p. absurd (none p);
+    }
+
+starts_alone : (file : ℕ) (bytes : List ℕ) (r : Result Reader JournalFault) → StartsIn file bytes r
+    → StartsIn file (bytes_of (one_file file bytes file)) r
+starts_alone file bytes r = subst (λ (b : List ℕ). StartsIn file b r) (sym (alone_here file bytes))
+
+pub opens_some : (file : ℕ) (r : Result Reader JournalFault) → file ≤ 1 → StartsSome file r → OpensSome r
+opens_some file (Ok r) few s = record {
+  files = one_file file s.bytes;
+  few = alone_few file s.bytes s.few;
+  opens = opens_from file (one_file file s.bytes) (Ok r) (picked_alone file s.bytes few s.starts.project)
+      (starts_alone file s.bytes (Ok r) s.starts);
+}
+opens_some file (Err Absent) few s = record {
+  files = no_files;
+  few = λ n. omega arith;
+  opens = (λ p. omega (arith, p.0), λ p. omega (arith, p.0));
+}
+opens_some file (Err (Damaged told at want have)) few s = record {
+  files = one_file file s.bytes;
+  few = alone_few file s.bytes s.few;
+  opens = opens_from file (one_file file s.bytes) (Err (Damaged told at want have))
+      (picked_alone file s.bytes few s.starts.project)
+      (starts_alone file s.bytes (Err (Damaged told at want have)) s.starts);
+}
+opens_some file (Err DiskFault) few s = record { files = no_files; few = λ n. omega arith; opens = tt }
+opens_some file (Err NoMemory) few s = record { files = no_files; few = λ n. omega arith; opens = tt }
+opens_some file (Err Exists) few s = absurd s.starts
+opens_some file (Err (SpaceSpent have need)) few s = absurd s.starts
+
+-- a fault of the disk comes of any files
+pub chooses_fault : ChoosesSome (Err DiskFault)
+chooses_fault = record { files = no_files; few = λ n. omega arith; chooses = tt }
+
+pub opens_fault : OpensSome (Err DiskFault)
+opens_fault = record { files = no_files; few = λ n. omega arith; opens = tt }

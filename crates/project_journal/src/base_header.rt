@@ -1,0 +1,131 @@
+// The fields of a header of version 2, and their tests.
+ghost use Rattle.std.specs.Prelude.{◌≡◌, ◌+◌, ◌-◌, ◌≤◌, ◌^◌, ◌++◌, ℕ, List, length, take, replicate};
+ghost use Rattle.project_journal.specs.Header.{base_tests, base_tests_in, last_tests, last_tests_in, base_header_tests};
+ghost use Rattle.project_journal.specs.Header.{base_fields, ends, Tested};
+
+use super::base::Base;
+use super::fault::Damaged;
+use super::fields::{u8_at, u32_at, u64_at};
+use super::form::BASE_VERSION;
+use super::header::{first_failure, test, tests_of};
+
+// No number of a header passes this.
+const MOST: u64 = 1 << 62;
+
+// The first 64 bytes, with zeros where there are fewer.
+pub(crate) fn head_of(bytes: &[u8]) -> [u8; 64]
+    ensures { result ≡ take 64 bytes.now ++ replicate (64 - length bytes.now) 0 }
+{
+    let mut head = [0u8; 64];
+    fill_head(&mut head, bytes);
+    head
+}
+
+fn fill_head(head: &mut [u8], bytes: &[u8])
+    requires { head.old ≡ replicate 64 0 }
+    ensures { head.new ≡ take 64 bytes.now ++ replicate (64 - length bytes.now) 0 }
+{
+    let len = bytes.len().min(64);
+    head[..len].copy_from_slice(&bytes[..len]);
+}
+
+// What a header of version 2 says of the project before the first record.
+pub(crate) fn base_of(head: &[u8]) -> Base
+    requires { 64 ≤ length head.now }
+    ensures { result ≡ base_fields head.now }
+{
+    Base {
+        generation: u64_at(head, 21),
+        commit: u64_at(head, 29),
+        next_block: u64_at(head, 37),
+        next_track: u64_at(head, 45),
+        count: u32_at(head, 53),
+        cursor: u32_at(head, 57),
+    }
+}
+
+// The first test of version 2 that fails.
+pub(crate) fn test_second(bytes: &[u8]) -> Result<(), Damaged>
+    requires { 32 ≤ length bytes.now }
+    ensures { Tested (base_header_tests bytes.now) result }
+{
+    match first_failure(&tests_of(bytes, BASE_VERSION)) {
+        Ok(()) => test_base(bytes),
+        Err(damaged) => Err(damaged),
+    }
+}
+
+// The same behind the fields that all versions have.
+fn test_base(bytes: &[u8]) -> Result<(), Damaged>
+    ensures { Tested (base_tests bytes.now ++ last_tests bytes.now) result }
+{
+    let head = head_of(bytes);
+    match first_failure(&base_tests_of(&head, bytes.len())) {
+        Ok(()) => first_failure(&last_tests_of(&head, bytes.len())),
+        Err(damaged) => Err(damaged),
+    }
+}
+
+// In a file of so many bytes, a field has to be there.
+fn ends_in(at: u64, size: u64, len: usize) -> Damaged
+    requires { at + size ≤ 2 ^ 62 }
+    ensures { result ≡ ends at size len }
+{
+    let end = at + size;
+    Damaged {
+        at,
+        want: end as u128,
+        have: end.min(len as u64) as u128,
+    }
+}
+
+fn test_long(at: u64, want: u64, have: u64) -> Damaged
+    ensures { result ≡ record { at = at; want = want; have = have } }
+{
+    Damaged {
+        at,
+        want: want as u128,
+        have: have as u128,
+    }
+}
+
+// For each field that it has to be there, and then its value.
+#[tactic(auto, unfolding(crate::specs::Header::base_tests_in))]
+fn base_tests_of(head: &[u8], len: usize) -> [Damaged; 11]
+    requires { 64 ≤ length head.now }
+    ensures { result ≡ base_tests_in len head.now }
+{
+    let base = base_of(head);
+    let depth = u32_at(head, 17);
+    [
+        test_long(21, base.generation.min(MOST), base.generation),
+        ends_in(29, 8, len),
+        test_long(29, base.commit.min(MOST), base.commit),
+        ends_in(37, 8, len),
+        test_long(37, base.next_block.max(16).min(MOST), base.next_block),
+        ends_in(45, 8, len),
+        test_long(45, base.next_track.max(1).min(MOST), base.next_track),
+        ends_in(53, 4, len),
+        test(53, base.count.max(1).min(depth), base.count),
+        ends_in(57, 4, len),
+        test(
+            57,
+            base.cursor.min(base.count.saturating_sub(1)),
+            base.cursor,
+        ),
+    ]
+}
+
+// 3 zeros, that they are there, and then their values.
+#[tactic(auto, unfolding(crate::specs::Header::last_tests_in))]
+fn last_tests_of(head: &[u8], len: usize) -> [Damaged; 4]
+    requires { 64 ≤ length head.now }
+    ensures { result ≡ last_tests_in len head.now }
+{
+    [
+        ends_in(61, 3, len),
+        test(61, 0, u8_at(head, 61) as u32),
+        test(62, 0, u8_at(head, 62) as u32),
+        test(63, 0, u8_at(head, 63) as u32),
+    ]
+}

@@ -1,0 +1,155 @@
+-- The project that a header brings is valid.
+use Rattle.std.proofs.Common.{◌≡◌, ◌≤◌, ◌^◌, ℕ, List, [], ◌∷◌, None, length, map, refl, sym, ap, subst, ◌∙◌, arith}
+use Rattle.std.proofs.Common.{Result, Ok, Err}
+use Rattle.std.specs.Prelude.{IfOk, MatchResult}
+use Rattle.std.specs.List.{AllByRecursion}
+use Rattle.pcm_base.specs.History.{History}
+use Rattle.std.proofs.lemmas.List.Elements.{All-from_recursion}
+use Rattle.disk_model.specs.declared.store.Store.{Ghosts}
+use Rattle.project_journal.specs.declared.base.Base.{Base}
+use Rattle.project_journal.specs.declared.fault.JournalFault.{JournalFault}
+use Rattle.project_journal.specs.declared.fault.JournalFault.TheVariants as journal
+use Rattle.project_journal.specs.declared.reader.Reader.{Reader}
+use Rattle.project_journal.specs.Journal.{Log, log_of}
+use Rattle.project_journal.specs.Reader.{IsHeading, contents, reader_form}
+use Rattle.project_journal.proofs.AnyFormats.{HasBase, base_sound}
+use Rattle.project_journal.proofs.Parses.{form_known}
+use Rattle.project_journal.proofs.Readings.{heading_read}
+use Rattle.project_state.specs.Kept.{BeginsBy, IsTold, Kept, new_project, point_bytes}
+use Rattle.project_state.specs.PointTests.{point_at}
+use Rattle.project_state.specs.declared.track.Track.{Track}
+use Rattle.project_state.specs.Sound.{IsSoundTagged}
+use Rattle.project_state.proofs.KeptBounds.{new_sound}
+use Rattle.record_fold.specs.Bases.{base_by}
+use Rattle.record_fold.specs.Folds.{kept_of, Brings, FoldsStored, IsBrought, IsValid}
+use Rattle.record_fold.specs.Heads.{HasPoints}
+use Rattle.record_fold.specs.declared.project.Project.{Project}
+
+told_valid : (log : Log) (base : Kept) → HasBase log.base → IsTold log base → IsValid log.block_size base
+told_valid log base bounds told = record {
+  points = All-from_recursion (IsSoundTagged log.block_size base.next_block base.next_track base.commit)
+      base.history.points told.sound;
+  depth_is = refl;
+  commit_is = refl;
+  block_least = omega (arith, told.next_block, bounds.block_least);
+  block_most = omega (arith, told.next_block, bounds.block_most);
+  track_least = omega (arith, told.next_track, bounds.track_least);
+  track_most = omega (arith, told.next_track, bounds.track_most);
+}
+
+pub begun_valid : (points : List (List ℕ)) (log : Log) (base : Kept) → HasBase log.base → BeginsBy points log base
+    → IsValid log.block_size base
+begun_valid [] log base bounds begins =
+    subst (IsValid log.block_size) (sym begins) (new_sound log.block_size log.depth)
+begun_valid (point ∷ points) log base bounds begins = told_valid log base bounds begins
+
+pub begun_depth : (points : List (List ℕ)) (log : Log) (base : Kept) → BeginsBy points log base
+    → base.history.depth ≡ log.depth
+begun_depth [] log base begins = ap (λ (k : Kept). k.history.depth) begins
+begun_depth (point ∷ points) log base begins = begins.depth
+
+pub brought_valid : {D : Type 0} (disk : Ghosts D) (store : D) (m : ℕ) (r : Reader) (now : Kept)
+    → IsBrought disk store m r now → m ≡ r.block_size → IsValid m now
+brought_valid disk store m r now brought size =
+    let log = log_of (contents r brought.points [] None) in
+    let spelled = brought.reading.begun.spelled in
+    let bounds : HasBase log.base = subst HasBase spelled.header.base
+    (base_sound (reader_form r) spelled.head (form_known r.version r.window.file) spelled.header.sound) in
+    subst (λ (n : ℕ). IsValid n now) (sym size) (begun_valid brought.points log now bounds brought.begins)
+
+-- where a header has no points, a project without commits
+pub brought_none : {D : Type 0} (disk : Ghosts D) (store : D) (m : ℕ) (r : Reader) (now : Kept)
+    → IsHeading disk store r [] → r.base.count ≡ 0 → now ≡ new_project r.depth → IsBrought disk store m r now
+brought_none disk store m r now heading none is = record {
+  points = [];
+  reading = heading_read disk store r [] heading (sym none);
+  none = refl;
+  is = is;
+  begins = is;
+}
+
+module _ {D : Type 0} (disk : Ghosts D) (store : D) (m : ℕ) (r : Reader) (h : History (List Track))
+    (has : HasPoints disk store m r h) where
+  -- the points, with the other numbers of the header
+  abbrev told : Kept
+  told = record {
+    history = h;
+    next_block = r.base.next_block;
+    next_track = r.base.next_track;
+    commit = r.base.commit;
+  }
+
+  told_is : (ps : List (List ℕ)) → 1 ≤ length ps → h.points ≡ map point_at ps → told ≡ base_by ps r.depth r.base
+  told_is [] some same = absurd (omega (arith, some))
+  told_is (p ∷ ps) some same = λ i. record {
+    history = record { points = same i; cursor = has.cursor i; depth = has.depth i };
+    next_block = r.base.next_block;
+    next_track = r.base.next_track;
+    commit = r.base.commit;
+  }
+
+  is_told : m ≡ r.block_size → IsTold (log_of (contents r has.points [] None)) told
+  is_told size = record {
+    points = has.spelled;
+    cursor = has.cursor;
+    depth = has.depth;
+    next_block = refl;
+    next_track = refl;
+    commit = refl;
+    sound = subst (λ (n : ℕ). AllByRecursion (IsSoundTagged n r.base.next_block r.base.next_track r.base.commit) h.points)
+        size has.sound;
+  }
+
+  begins_told : (ps : List (List ℕ)) (log : Log) → 1 ≤ length ps → IsTold log told → BeginsBy ps log told
+  begins_told [] log some is = absurd (omega (arith, some))
+  begins_told (p ∷ ps) log some is = is
+
+  -- else its points
+  pub brought_told : 1 ≤ r.base.count → m ≡ r.block_size → IsBrought disk store m r told
+  brought_told some size =
+      let there : 1 ≤ length has.points = omega (arith, some, has.all) in
+      record {
+        points = has.points;
+        reading = heading_read disk store r has.points has.heading has.all;
+        none = has.none;
+        is = told_is has.points there has.told;
+        begins = begins_told has.points (log_of (contents r has.points [] None)) there (is_told size);
+      }
+
+pub brings_told : {D : Type 0} (disk : Ghosts D) (store : D) (m : ℕ) (r : Reader) (h : History (List Track)) (b : Base)
+    → b ≡ r.base → HasPoints disk store m r h → 1 ≤ r.base.count → m ≡ r.block_size → IsBrought disk store m r (record {
+      history = h;
+      next_block = b.next_block;
+      next_track = b.next_track;
+      commit = b.commit;
+    })
+brings_told disk store m r h b same has some size = subst (λ (c : Base). IsBrought disk store m r (record {
+  history = h;
+  next_block = c.next_block;
+  next_track = c.next_track;
+  commit = c.commit;
+})) (sym same) (brought_told disk store m r h has some size)
+
+pub brings_none : {D : Type 0} (disk : Ghosts D) (store : D) (m : ℕ) (r : Reader) (result : Result Project JournalFault)
+    → IsHeading disk store r [] → r.base.count ≡ 0
+    → MatchResult result (λ p. kept_of p ≡ new_project r.depth) (λ e. e ≡ journal.NoMemory)
+    → Brings disk store m r result
+brings_none disk store m r (Ok p) heading none is = brought_none disk store m r (kept_of p) heading none is
+brings_none disk store m r (Err e) heading none is =
+    subst (λ (x : JournalFault). Brings disk store m r (Err x)) (sym is) tt
+
+pub none_few : (depth : ℕ) (result : Result Project JournalFault)
+    → MatchResult result (λ p. kept_of p ≡ new_project depth) (λ e. e ≡ journal.NoMemory)
+    → IfOk result (λ p. p.commit ≤ 2 ^ 62)
+none_few depth (Ok p) is = omega (arith, ap (λ (k : Kept). k.commit) is)
+none_few depth (Err e) is = tt
+
+-- what the header brings in the place of a project
+pub brings_err : {D : Type 0} (disk : Ghosts D) (store : D) (m : ℕ) (r : Reader) (e : JournalFault)
+    → Brings disk store m r (Err e) → FoldsStored disk store r (Err e)
+brings_err disk store m r (journal.Damaged file at want have) brings = brings
+brings_err disk store m r journal.DiskFault brings = tt
+brings_err disk store m r journal.NoMemory brings = tt
+brings_err disk store m r journal.Absent brings = brings
+brings_err disk store m r journal.Exists brings = brings
+brings_err disk store m r (journal.SpaceSpent have need) brings = brings

@@ -1,0 +1,49 @@
+-- The version of a journal, 1 or else 2, and its current point.
+use Rattle.std.proofs.Common.{◌≡◌, ℕ, zero, suc, ◌≤◌, ◌<◌, List, [], ◌∷◌, map, drop, Some, slice_get, sym, arith}
+use Rattle.std.proofs.Common.{Result, Ok, Err}
+use Rattle.std.proofs.lemmas.Option.{none-some, same_Some}
+use Rattle.pcm_base.specs.History.{point_of}
+use Rattle.project_state.specs.declared.body.Body.{Body}
+use Rattle.project_state.specs.declared.limits.BadBody.{BadBody}
+use Rattle.project_state.specs.declared.limits.BadBody.TheVariants as bad
+use Rattle.project_state.specs.declared.limits.Before.{Before}
+use Rattle.project_state.specs.declared.track.Track.{Track}
+use Rattle.project_state.specs.ChangeTests.{delta_tests}
+use Rattle.project_state.specs.DeltaBodies.{SaysBody}
+use Rattle.project_state.specs.FirstFault.{body_tests, Finds}
+use Rattle.project_state.specs.Kept.{first_tracks}
+use Rattle.project_state.specs.Sound.{IsSound}
+use Rattle.project_state.specs.Spelling.{spelling}
+use Rattle.std.specs.Prelude.{IfOk}
+use Rattle.record_fold.specs.Faults.{field_tests, IsSaid}
+
+pub at_cursor : (i : ℕ) (ps : List (List Track × ℕ)) (x : List Track) → slice_get (map point_of ps) i ≡ Some x
+    → x ≡ first_tracks (drop i ps)
+at_cursor zero [] x h = absurd (none-some x h)
+at_cursor (suc i) [] x h = absurd (none-some x h)
+at_cursor zero (p ∷ ps) x h = sym (same_Some p.0 x h)
+at_cursor (suc i) (p ∷ ps) x h = at_cursor i ps x h
+
+-- what reading a record answers
+abbrev pub Reads : ℕ → ℕ → Before → List Track → List ℕ → Result Body BadBody → Type 0
+Reads version m b current bytes r = Finds (field_tests version m b current bytes) (IsSaid version m b current bytes) r
+
+pub reads_old : (version m : ℕ) (b : Before) (current : List Track) (bytes : List ℕ) (r : Result Body BadBody)
+    → version < 2 → Finds (body_tests m b bytes) (λ x. (spelling x ≡ bytes) × IsSound m b x) r
+    → Reads version m b current bytes r
+reads_old zero m b current bytes (Ok x) low found = found
+reads_old zero m b current bytes (Err bad.NoMemory) low found = tt
+reads_old zero m b current bytes (Err (bad.Damaged d)) low found = found
+reads_old (suc zero) m b current bytes (Ok x) low found = found
+reads_old (suc zero) m b current bytes (Err bad.NoMemory) low found = tt
+reads_old (suc zero) m b current bytes (Err (bad.Damaged d)) low found = found
+reads_old (suc (suc version)) m b current bytes r low found = absurd (omega (arith, low))
+
+pub reads_told : (version m : ℕ) (b : Before) (current : List Track) (bytes : List ℕ) (r : Result Body BadBody)
+    → 2 ≤ version → Finds (delta_tests m b current bytes) (SaysBody current bytes) r
+    → IfOk r (λ x. IsSound m b x) → Reads version m b current bytes r
+reads_told zero m b current bytes r high found valid = absurd (omega (arith, high))
+reads_told (suc zero) m b current bytes r high found valid = absurd (omega (arith, high))
+reads_told (suc (suc version)) m b current bytes (Ok x) high found valid = (found.0, (found.1, valid))
+reads_told (suc (suc version)) m b current bytes (Err bad.NoMemory) high found valid = tt
+reads_told (suc (suc version)) m b current bytes (Err (bad.Damaged d)) high found valid = found

@@ -1,0 +1,23 @@
+-- How far the fold has come.
+use Rattle.std.proofs.Common.{◌≤◌, ◌+◌, ◌-◌, ◌^◌}
+use Rattle.disk_model.specs.Frames.{Kept as IsKept}
+use Rattle.project_journal.specs.Answer.{NoFault}
+use Rattle.project_journal.specs.Reader.{IsPlaced, IsLater, reader_form}
+use Rattle.project_state.specs.Kept.{version_of}
+use Rattle.record_fold.specs.Folds.{kept_of}
+use Rattle.record_fold.proofs.Journals.{FoldedSoFar}
+use Rattle.record_fold.proofs.folding.fold_records.Given as goal
+
+abbrev pub invariant-records : goal.invariant-records
+invariant-records g l = record {
+  kept : IsKept g.S.Store l.fn.store l.store;
+  no_fault : NoFault g.S.Store l.fn.store l.store;
+  placed : IsPlaced l.reader;
+  later : IsLater l.fn.reader l.reader;
+  commits : l.project.commit ≤ 2 ^ 62 + l.reader.at;
+  so_far : FoldedSoFar g.S.Store l.fn.store l.fn.reader l.store l.reader (version_of (reader_form l.fn.reader)) l.fn.m
+      (kept_of l.fn.project) (kept_of l.project);
+}
+
+abbrev pub decreases-records : goal.decreases-records
+decreases-records g l = l.reader.window.size - l.reader.at

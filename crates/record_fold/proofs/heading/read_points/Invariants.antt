@@ -1,0 +1,18 @@
+-- How far the points were read.
+use Rattle.std.proofs.Common.{◌≡◌, length}
+use Rattle.disk_model.specs.Frames.{Kept as IsKept}
+use Rattle.project_journal.specs.Answer.{NoFault}
+use Rattle.project_journal.specs.Reader.{IsLater, reader_form}
+use Rattle.record_fold.proofs.Pointed.{PointsSoFar}
+use Rattle.record_fold.proofs.heading.read_points.Given as goal
+
+abbrev pub invariant-loop : goal.invariant-loop
+invariant-loop g l = record {
+  kept : IsKept g.S.Store l.fn.store l.store;
+  no_fault : NoFault g.S.Store l.fn.store l.store;
+  later : IsLater l.fn.reader l.reader;
+  so_far : PointsSoFar g.S.Store l.store l.reader l.fn.m (reader_form l.fn.reader).header_size l.fn.reader.base
+      l.history.history.points;
+  count : length l.history.history.points ≡ l.counter;
+  depth : l.history.history.depth ≡ l.fn.reader.depth;
+}

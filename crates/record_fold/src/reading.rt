@@ -1,0 +1,37 @@
+// A record's body, by the version of its journal.
+ghost use Rattle.std.specs.Prelude.{◌≡◌};
+ghost use Rattle.project_state.specs.FirstFault.{Finds};
+ghost use Rattle.project_state.specs.Kept.{current_tracks};
+ghost use Rattle.project_state.specs.Sound.{IsSoundPoint};
+ghost use Rattle.record_fold.specs.Faults.{field_tests, IsSaid};
+
+use project_state::{BadBody, Before, Body, Point, read_body, read_delta_body};
+use std::alloc::Global;
+use undo_history::History;
+
+/// The current point.
+pub(crate) fn current_of(history: &History<Point>) -> &Point
+    ensures { result.now ≡ current_tracks history.now.history }
+{
+    history.point(history.cursor())
+}
+
+/// Reads the body of a record in a journal of this version, 1 or else 2. In version 2 an edit may be told by the current
+/// point.
+pub(crate) fn read_record(
+    alloc: Global,
+    bytes: &[u8],
+    version: u32,
+    m: u32,
+    before: Before,
+    current: &Point,
+) -> Result<Body, BadBody>
+    requires { IsSoundPoint m before.next_block before.next_track current.now }
+    ensures { Finds (field_tests version m before current.now bytes.now) (IsSaid version m before current.now bytes.now)
+        result }
+{
+    if version < 2 {
+        return read_body(alloc, bytes, m, before);
+    }
+    read_delta_body(alloc, bytes, m, before, current)
+}
