@@ -1,5 +1,6 @@
 // Files of blocks are removed, and their entries before them.
 ghost use Rattle.std.specs.Prelude.{◌≡◌, ◌^◌, ◌<◌, ◌≤◌, IsTrue, None, OnOk, IsOkUnless};
+ghost use Rattle.pcm_base.specs.declared.limits.TheConstants.{COUNTER_LIMIT, FIRST_BLOCK};
 ghost use Rattle.pcm_base.specs.Causes.{HasCause};
 ghost use Rattle.disk_model.specs.Disk.{RemoveStep};
 ghost use Rattle.disk_model.specs.Frames.{Changed};
@@ -17,8 +18,8 @@ pub fn remove_block_cached<S: Store>(
     cache: &mut Cache,
     id: u64,
 ) -> Result<(), BlockFault>
-    requires low { 16 ≤ id }
-    requires high { id < 2 ^ 62 }
+    requires low { FIRST_BLOCK ≤ id }
+    requires high { id < COUNTER_LIMIT }
     // After any answer the block has no entry left, and the others are there. What was right of the files is right.
     ensures dropped { IsCacheWithout id cache.old cache.new }
     ensures right { IsTrue (S.tells store.old) → IsCacheOf (S.reads store.old) cache.old

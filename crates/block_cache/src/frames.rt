@@ -19,6 +19,7 @@ use block_store::{BlockFault, Level, read_compared_frames};
 use disk_model::Store;
 use pcm_base::BlockRef;
 use peak_summary::{NOTHING, Summary};
+use sample_block::LONG_FRAME;
 
 /// How many frames a page has, but for the last of a level of a block.
 const PAGE: usize = 256;
@@ -29,7 +30,7 @@ fn frames_in(level: Level, len: usize) -> usize
 {
     match level {
         Level::Short => len.div_ceil(256),
-        Level::Long => len.div_ceil(65_536),
+        Level::Long => len.div_ceil(LONG_FRAME as usize),
     }
 }
 

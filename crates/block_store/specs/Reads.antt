@@ -2,6 +2,7 @@
 use Rattle.std.specs.Prelude.{◌≡◌, ◌<◌, ◌≤◌, ◌⊎◌, ℕ, zero, suc, ◌+◌, ◌*◌, ◌-◌, min, map, List, length, Contains, Option}
 use Rattle.std.specs.Prelude.{Some, None, Result, MatchResult}
 use Rattle.std.specs.List.{range_with_len}
+use Rattle.sample_block.specs.declared.levels.TheConstants.{LONG_FRAME}
 use Rattle.disk_model.specs.Disk.{Files, bytes_of}
 use Rattle.pcm_base.specs.declared.block.BlockRef.{BlockRef}
 use Rattle.pcm_base.specs.Causes.{Rose}
@@ -69,7 +70,7 @@ end_of (suc n) place = place
 -- how many samples a frame of this level has, but for the last
 abbrev pub frame_len : Level → ℕ
 frame_len Short = 256
-frame_len Long = 65536
+frame_len Long = LONG_FRAME
 
 -- how many samples frame i has, of a block of so many
 abbrev pub frame_samples : Level → ℕ → ℕ → ℕ

@@ -1,6 +1,7 @@
 // Files of blocks are compared with what they have to be.
 ghost use Rattle.std.specs.Prelude.{◌≡◌, ◌≤◌, ℕ, length, vec_capacity, IsTrue, IsOkUnless, ℤ, List, Some, None, OnOk};
 ghost use Rattle.std.specs.Prelude.{IfErr};
+ghost use Rattle.pcm_base.specs.declared.limits.TheConstants.{MAX_BLOCK_SAMPLES};
 ghost use Rattle.disk_model.specs.Disk.{bytes_of};
 ghost use Rattle.disk_model.specs.Frames.{Kept};
 ghost use Rattle.sample_block.specs.Spelling.{size_of, IsBlock, IsSpelled};
@@ -37,7 +38,7 @@ pub fn check_size<S: Store>(store: &mut S, block: BlockRef) -> Result<(), BlockF
 
 /// Whether this is the size that the block asks.
 fn test_size(block: BlockRef, size: u64) -> Result<(), BlockFault>
-    requires { block.len ≤ 262144 }
+    requires { block.len ≤ MAX_BLOCK_SAMPLES }
     ensures checked { (bytes : List ℕ) → size ≡ length bytes
         → Checks block.id (size_difference block.len bytes None) result }
     ensures sized { OnOk result (size ≡ size_of block.len) }
@@ -52,7 +53,7 @@ fn test_size(block: BlockRef, size: u64) -> Result<(), BlockFault>
 
 /// Makes the buffer the bytes of the file of a block, which has the size that the block asks.
 fn load<S: Store>(store: &mut S, block: BlockRef, buffer: &mut Vec<u8>) -> Result<(), BlockFault>
-    requires len { block.len ≤ 262144 }
+    requires len { block.len ≤ MAX_BLOCK_SAMPLES }
     requires room { size_of block.len ≤ vec_capacity buffer.old }
     ensures bytes { IsTrue (S.tells store.old) → length (bytes_of (S.reads store.old block.id)) ≡ size_of block.len
         → OnOk result (buffer.new.items ≡ bytes_of (S.reads store.old block.id)) }

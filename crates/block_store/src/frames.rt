@@ -2,6 +2,7 @@
 ghost use Rattle.std.specs.Prelude.{◌≡◌, ◌^◌, ◌+◌, ◌*◌, ◌<◌, ◌≤◌, length, take, drop, map, List, ℤ, IsTrue, IsOkUnless};
 ghost use Rattle.std.specs.Prelude.{None, Some, OnOk, IfErr};
 ghost use Rattle.std.specs.List.{range_with_len};
+ghost use Rattle.pcm_base.specs.declared.limits.TheConstants.{MAX_BLOCK_SAMPLES};
 ghost use Rattle.disk_model.specs.Disk.{bytes_of};
 ghost use Rattle.peak_summary.specs.Peaks.{frame_count, frames_of};
 ghost use Rattle.sample_block.specs.Faults.{difference, frame_in};
@@ -17,7 +18,7 @@ use super::parts::{compare_header, read_part};
 use disk_model::Store;
 use pcm_base::BlockRef;
 use peak_summary::Summary;
-use sample_block::frame_at;
+use sample_block::{LONG_FRAME, frame_at};
 
 /// How many frames are read at a time.
 const PIECE: usize = 256;
@@ -34,11 +35,11 @@ pub enum Level {
 fn samples_each(level: Level) -> usize
     ensures value { result ≡ frame_len level }
     ensures some { 0 < result }
-    ensures few { result ≤ 65536 }
+    ensures few { result ≤ LONG_FRAME }
 {
     match level {
         Level::Short => 256,
-        Level::Long => 65_536,
+        Level::Long => LONG_FRAME as usize,
     }
 }
 
@@ -53,7 +54,7 @@ fn samples_of_frame(level: Level, len: usize, i: usize) -> usize
 
 /// Where the frames of a level begin.
 fn place_of(level: Level, len: usize) -> usize
-    requires { len ≤ 262144 }
+    requires { len ≤ MAX_BLOCK_SAMPLES }
     ensures value { result ≡ level_place level len }
     ensures within { result + 12 * frame_count (frame_len level) len ≤ size_of len }
 {
@@ -86,7 +87,7 @@ fn read_piece<S: Store>(
     buf: &mut [u8],
     out: &mut [Summary],
 ) -> Result<(), BlockFault>
-    requires len { block.len ≤ 262144 }
+    requires len { block.len ≤ MAX_BLOCK_SAMPLES }
     requires within { from + length out.old ≤ frame_count (frame_len level) block.len }
     requires some { 0 < length out.old }
     requires few { length out.old ≤ 256 }
@@ -121,7 +122,7 @@ fn read_pieces<S: Store>(
     from: usize,
     out: &mut [Summary],
 ) -> Result<(), BlockFault>
-    requires len { block.len ≤ 262144 }
+    requires len { block.len ≤ MAX_BLOCK_SAMPLES }
     requires within { from + length out.old ≤ frame_count (frame_len level) block.len }
     ensures whole { IsTrue (S.tells store.old) → OnOk result (0 < length out.old
         → level_place level block.len + 12 * (from + length out.old) ≤ length (bytes_of (S.reads store.old block.id))) }

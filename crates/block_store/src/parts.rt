@@ -1,6 +1,7 @@
 // Parts of a block's file are read, and its header is compared.
 ghost use Rattle.std.specs.Prelude.{◌≡◌, ◌^◌, ◌+◌, ◌<◌, ◌≤◌, true, false, ℕ, ℤ, List, length, take, drop, IsTrue};
 ghost use Rattle.std.specs.Prelude.{IsOkUnless, Some, None, IfOk, OnOk, IfErr};
+ghost use Rattle.pcm_base.specs.declared.limits.TheConstants.{COUNTER_LIMIT, MAX_BLOCK_SAMPLES};
 ghost use Rattle.pcm_base.specs.Causes.{HasCause};
 ghost use Rattle.disk_model.specs.Disk.{bytes_of};
 ghost use Rattle.disk_model.specs.Frames.{Kept};
@@ -16,7 +17,7 @@ use sample_block::{Damaged, check_header, file_size};
 
 /// Fills the buffer from a place on, and says whether the file had all of it.
 fn fill<S: Store>(store: &mut S, file: u64, at: u64, buf: &mut [u8]) -> Result<bool, Failed>
-    requires within { at + length buf.old ≤ 2 ^ 62 }
+    requires within { at + length buf.old ≤ COUNTER_LIMIT }
     requires some { 0 < length buf.old }
     ensures whole { IsTrue (S.tells store.old) → IfOk result (λ all. all ≡ true
         → (at + length buf.old ≤ length (bytes_of (S.reads store.old file)))
@@ -35,7 +36,7 @@ fn fill<S: Store>(store: &mut S, file: u64, at: u64, buf: &mut [u8]) -> Result<b
 
 /// The fault of a file that ends before a place of it is reached.
 fn ends_early<S: Store>(store: &mut S, block: BlockRef) -> BlockFault
-    requires { block.len ≤ 262144 }
+    requires { block.len ≤ MAX_BLOCK_SAMPLES }
     ensures damaged { (end : ℕ) → IsTrue (S.tells store.old) → length (bytes_of (S.reads store.old block.id)) < end
         → IsEarly block.id block.len end (bytes_of (S.reads store.old block.id)) result }
     ensures kept { Kept S.Store store.old store.new }
@@ -49,7 +50,7 @@ fn ends_early<S: Store>(store: &mut S, block: BlockRef) -> BlockFault
 }
 
 pub(crate) fn wrong_size(block: BlockRef, size: u64) -> BlockFault
-    requires { block.len ≤ 262144 }
+    requires { block.len ≤ MAX_BLOCK_SAMPLES }
     ensures { result ≡ fault.Damaged block.id (record { at = 0; want = size_of block.len; have = size }) }
 {
     BlockFault::Damaged {
@@ -69,7 +70,7 @@ pub(crate) fn read_part<S: Store>(
     at: u64,
     buf: &mut [u8],
 ) -> Result<(), BlockFault>
-    requires len { block.len ≤ 262144 }
+    requires len { block.len ≤ MAX_BLOCK_SAMPLES }
     requires within { at + length buf.old ≤ size_of block.len }
     requires some { 0 < length buf.old }
     ensures ok { IsTrue (S.tells store.old)
@@ -90,7 +91,7 @@ pub(crate) fn read_part<S: Store>(
 
 // As `compare_header`, whose other clause is a law on what these say.
 fn read_header<S: Store>(store: &mut S, block: BlockRef) -> Result<(), BlockFault>
-    requires { block.len ≤ 262144 }
+    requires { block.len ≤ MAX_BLOCK_SAMPLES }
     ensures header { IsTrue (S.tells store.old)
         → OnOk result (HasHeader block.id block.len (bytes_of (S.reads store.old block.id))) }
     ensures damaged { IsTrue (S.tells store.old)

@@ -1,6 +1,7 @@
 // Samples of a block are read from its file.
 ghost use Rattle.std.specs.Prelude.{◌≡◌, ◌+◌, ◌*◌, ◌<◌, ◌≤◌, length, take, drop, IsTrue, IsOkUnless, List, ℤ, Some};
 ghost use Rattle.std.specs.Prelude.{None, OnOk, IfErr};
+ghost use Rattle.pcm_base.specs.declared.limits.TheConstants.{MAX_BLOCK_SAMPLES};
 ghost use Rattle.disk_model.specs.Disk.{bytes_of};
 ghost use Rattle.disk_model.specs.Frames.{Kept};
 ghost use Rattle.sample_block.specs.Spelling.{header_fields, IsBlock};
@@ -26,7 +27,7 @@ fn read_piece<S: Store>(
     buf: &mut [u8],
     out: &mut [i16],
 ) -> Result<(), BlockFault>
-    requires len { block.len ≤ 262144 }
+    requires len { block.len ≤ MAX_BLOCK_SAMPLES }
     requires within { from + length out.old ≤ block.len }
     requires some { 0 < length out.old }
     requires room { 2 * length out.old ≤ length buf.old }
@@ -55,7 +56,7 @@ fn read_pieces<S: Store>(
     from: usize,
     out: &mut [i16],
 ) -> Result<(), BlockFault>
-    requires len { block.len ≤ 262144 }
+    requires len { block.len ≤ MAX_BLOCK_SAMPLES }
     requires within { from + length out.old ≤ block.len }
     ensures whole { IsTrue (S.tells store.old) → OnOk result (0 < length out.old
         → 16 + 2 * (from + length out.old) ≤ length (bytes_of (S.reads store.old block.id))) }

@@ -1,5 +1,6 @@
 // Blocks are written once, synced and removed.
 ghost use Rattle.std.specs.Prelude.{◌≡◌, ◌^◌, ◌<◌, ◌≤◌, length, vec_capacity, IsTrue, None, Some, OnOk, IsOkUnless};
+ghost use Rattle.pcm_base.specs.declared.limits.TheConstants.{COUNTER_LIMIT, FIRST_BLOCK};
 ghost use Rattle.pcm_base.specs.Causes.{HasCause};
 ghost use Rattle.disk_model.specs.Disk.{Files, bytes_of, written, SameElsewhere, WriteStep, RemoveStep, StaysStep};
 ghost use Rattle.disk_model.specs.Room.{files_made};
@@ -15,7 +16,7 @@ use sample_block::encode;
 
 // `write_at` at the front of a file, with its frame.
 fn write_front<S: Store>(store: &mut S, id: u64, bytes: &[u8]) -> Result<(), Failed>
-    requires { length bytes.now ≤ 2 ^ 62 }
+    requires { length bytes.now ≤ COUNTER_LIMIT }
     ensures written { IsTrue (S.tells store.old)
         → OnOk result (S.reads store.new id ≡ Some (written (bytes_of (S.reads store.old id)) 0 bytes.now)) }
     ensures changed { Changed S.Store (WriteStep id 0 (length bytes.now)) (record {
@@ -128,8 +129,8 @@ fn remove_file<S: Store>(store: &mut S, id: u64) -> Result<(), Failed>
 /// Removes the file of a block, which may be absent, and does not wait until it is gone: `sync_block` does. The id is
 /// from 16 to below 2^62. After an error the file is there as it was, or not.
 pub fn remove_block<S: Store>(store: &mut S, id: u64) -> Result<(), BlockFault>
-    requires low { 16 ≤ id }
-    requires high { id < 2 ^ 62 }
+    requires low { FIRST_BLOCK ≤ id }
+    requires high { id < COUNTER_LIMIT }
     ensures gone { IsTrue (S.tells store.old) → OnOk result (S.reads store.new id ≡ None) }
     // A stop at any moment of the call leaves what it could leave before, or that without this file, and after an error
     // it is as it was or absent. No room is asked but for the call.
@@ -147,8 +148,8 @@ pub fn remove_block<S: Store>(store: &mut S, id: u64) -> Result<(), BlockFault>
 /// Removes the file of a block, which may be absent, and waits until it is gone. The id is from 16 to below 2^62. After
 /// an error the file is there as it was, or not.
 pub fn drop_block<S: Store>(store: &mut S, id: u64) -> Result<(), BlockFault>
-    requires low { 16 ≤ id }
-    requires high { id < 2 ^ 62 }
+    requires low { FIRST_BLOCK ≤ id }
+    requires high { id < COUNTER_LIMIT }
     ensures gone { IsTrue (S.tells store.old) → OnOk result (S.reads store.new id ≡ None) }
     // In every image from then on it is absent.
     ensures durable { IsTrue (S.tells store.old) → OnOk result ((c : Files)

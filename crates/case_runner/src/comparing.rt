@@ -1,6 +1,41 @@
 // Texts that are printed, beside what they are to be.
 
-/// Whether a text is as wanted. Three dots stand for any bytes.
+// What follows a byte that a text begins with.
+fn after_byte(text: &[u8], byte: u8) -> Option<&[u8]> {
+    let (first, rest) = text.split_first()?;
+    if *first == byte { Some(rest) } else { None }
+}
+
+// What follows a number that a text begins with.
+fn after_number(text: &[u8]) -> Option<&[u8]> {
+    let mut count = 0usize;
+    for byte in text {
+        if !byte.is_ascii_digit() {
+            break;
+        }
+        count = count.saturating_add(1);
+    }
+    if count == 0 { None } else { text.get(count..) }
+}
+
+// Whether a text is as wanted, where each `#` stands for a number.
+fn is_numbered(wanted: &[u8], text: &[u8]) -> bool {
+    let mut rest = text;
+    for byte in wanted {
+        let after = if *byte == b'#' {
+            after_number(rest)
+        } else {
+            after_byte(rest, *byte)
+        };
+        match after {
+            Some(after) => rest = after,
+            None => return false,
+        }
+    }
+    rest.is_empty()
+}
+
+/// Whether a text is as wanted. Three dots stand for any bytes. Where there are none, each `#` stands for a number.
 pub(crate) fn is_like(wanted: &str, text: &[u8]) -> bool {
     match wanted.split_once("...") {
         Some((begins, ends)) => {
@@ -8,7 +43,7 @@ pub(crate) fn is_like(wanted: &str, text: &[u8]) -> bool {
                 && text.starts_with(begins.as_bytes())
                 && text.ends_with(ends.as_bytes())
         }
-        None => text == wanted.as_bytes(),
+        None => is_numbered(wanted.as_bytes(), text),
     }
 }
 

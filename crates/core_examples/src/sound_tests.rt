@@ -1,15 +1,16 @@
-// Lists of events, of a studio on a disk in memory.
+// Lists of events, and a vault that lies, of a studio on a disk in memory.
 ghost use Rattle.std.specs.Prelude.{ℕ};
 ghost use Rattle.pcm_base.specs.Form.{IsCallInForm, IsInForm};
 ghost use Rattle.editor_core.specs.Core.{core_of};
 ghost use Rattle.editor_core.specs.Studios.{IsStudio};
 
 use super::tests::{disk, new_studio};
-use super::vaults::vault;
+use super::vaults::{LyingVault, vault};
 use disk_model::Store;
 use edit_ports::Vault;
 use editor_core::*;
-use pcm_base::{Answer, Call, Command, Event, Reply, Samples};
+use pcm_base::{Answer, Call, Command, Event, Refusal, Reply, Samples, WavFault};
+use sound_import::{ImportFault, read_sound};
 use std::alloc::Global;
 use std::process::Abort;
 use std::test::*;
@@ -113,4 +114,27 @@ fn answers_to_events(rt: &impl Abort, alloc: Global) -> Result<(), Fail> {
 #[test]
 fn events_are_answered(rt: HostRuntime) -> Result<(), Fail> {
     answers_to_events(&rt, rt.alloc())
+}
+
+// It wants the bytes that the vault said, and has those that it gave.
+static SHORT: WavFault = WavFault::Truncated { want: 48, have: 0 };
+
+fn refuses_what_is_short(rt: &impl Abort, alloc: Global) -> Result<(), Fail> {
+    let mut vault = LyingVault {};
+    let Err(fault) = read_sound(alloc, &mut vault, "a", 8000) else {
+        return Err("a sound was read".into());
+    };
+    assert!(rt; fault == ImportFault::BadWav { fault: SHORT });
+    let mut studio = new_studio(alloc, disk(alloc)?, 3)?;
+    let Err(reason) = studio.import(alloc, &mut vault, "a") else {
+        return Err("a sound was imported".into());
+    };
+    assert!(rt; reason == Refusal::BadWav { fault: SHORT });
+    assert!(rt; studio.commit_number() == 0);
+    Ok(())
+}
+
+#[test]
+fn sound_that_is_shorter_than_its_vault_says(rt: HostRuntime) -> Result<(), Fail> {
+    refuses_what_is_short(&rt, rt.alloc())
 }

@@ -46,9 +46,9 @@ pub(crate) fn new_studio<S: Store + Drop>(
         next_track: 1,
         commit_number: 0,
         file: 0,
-        version: 1,
+        version: 2,
         generation: 0,
-        journal_end: 32,
+        journal_end: 80,
     };
     match Studio::assemble(alloc, store, parts) {
         Ok(studio) => Ok(studio),

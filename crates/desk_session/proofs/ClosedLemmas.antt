@@ -1,10 +1,9 @@
 -- What a session did to a studio, once its desk is closed.
-use Rattle.std.proofs.Common.{◌≡◌, inl, inr, ℕ, ◌^◌, Bool, true, List, [], ◌∷◌, ◌++◌, length, Option, Some, None, Result, Ok, Err}
+use Rattle.std.proofs.Common.{◌≡◌, inl, inr, ℕ, ◌^◌, Bool, true, List, [], ◌∷◌, ◌++◌, length, Option, Some, None}
 use Rattle.std.proofs.Common.{refl, sym, ◌∙◌, ap, subst}
 use Rattle.std.specs.Prelude.{IsSomeAnd}
 use Rattle.pcm_base.specs.declared.command.Call.{Call}
 use Rattle.pcm_base.specs.declared.command.Call.TheVariants.{Unpin}
-use Rattle.pcm_base.specs.declared.refusal.Refusal.{Refusal}
 use Rattle.pcm_base.specs.Counters.{commits_of}
 use Rattle.pcm_base.specs.Run.{Follows}
 use Rattle.disk_model.specs.declared.store.Store.{Ghosts}
@@ -31,21 +30,23 @@ use Rattle.studio_seats.proofs.Grown.{leads}
 use Rattle.studio_seats.proofs.MergeLemmas.{merged_numbers}
 use Rattle.script_session.specs.Served.{IsUndisturbed, TellsNoDevice}
 use Rattle.script_session.proofs.ServedLemmas.{sessions_serve}
-use Rattle.script_session.specs.Added.{Adds, OfLines}
+use Rattle.script_session.specs.Added.{Adds}
 use Rattle.script_session.specs.Change.{Change, change}
 use Rattle.script_session.specs.Place.{Place, place_of}
 use Rattle.script_session.specs.Session.{Session}
 use Rattle.script_session.proofs.AddedLemmas.{sessions_add}
 use Rattle.script_session.proofs.SpentLemmas.{sessions_spend}
 use Rattle.desk_session.specs.declared.opening.Opened.{Opened}
+use Rattle.desk_session.specs.declared.side.Side.{Side}
+use Rattle.desk_session.specs.declared.side.Side.TheVariants as side
 use Rattle.desk_session.specs.declared.told.Kept.{Kept}
 use Rattle.desk_session.specs.declared.told.Told.{Told}
 use Rattle.desk_session.specs.Lent.{Kinds, Lent, Outcome}
-use Rattle.desk_session.specs.Opening.{IsOpening, Opens, PinDeed, TrackDeed, WhereMade, play_calls, record_calls}
-use Rattle.desk_session.specs.Opening.{record_commits}
+use Rattle.desk_session.specs.Opening.{IsOpening, Opens, PinDeed, TrackDeed, play_calls, record_calls, record_commits}
 use Rattle.desk_session.specs.Parts.{NewPart, Parted}
 use Rattle.desk_session.specs.Sat.{Sat}
 use Rattle.desk_session.specs.Sessions.{IsMadeOf, IsScripted, IsSession, place_behind}
+use Rattle.desk_session.specs.Sides.{WhereMade}
 use Rattle.desk_session.specs.Sounds.{AreRecorded, IsRecorded, Recorded, piece_numbers}
 use Rattle.desk_session.proofs.EndLemmas.{reads_later, recorded_later}
 use Rattle.desk_session.proofs.ListLemmas as list
@@ -57,15 +58,15 @@ use Rattle.desk_session.proofs.RejoinLemmas.{own_mine}
 use Rattle.desk_session.proofs.SideLemmas.{some_as, where_both}
 
 -- the player's calls are no commits
-pub quiet : (pin : Option (Result ℕ Refusal)) (c : Call) → play_calls pin c → commits_of c ≡ 0
-quiet None c h = absurd h
-quiet (Some (Ok pin)) c (inl (from, count, is)) = ap commits_of is
-quiet (Some (Ok pin)) c (inr is) = ap commits_of is
-quiet (Some (Err why)) c h = absurd h
+pub quiet : (pin : Side) (c : Call) → play_calls pin c → commits_of c ≡ 0
+quiet side.NotAsked c h = absurd h
+quiet (side.Made pin) c (inl (from, count, is)) = ap commits_of is
+quiet (side.Made pin) c (inr is) = ap commits_of is
+quiet (side.Refused why) c h = absurd h
 
 module _ {D V M : Type 0} (mics : source.Ghosts M) (mic : Change M) (first track : ℕ)
     (v w : View (Held D V) Deed) (spent : Bool) (own : List Deed) where
-  abbrev IsRecording : Option (Result ℕ Refusal) → Option Kept → Type 0
+  abbrev IsRecording : Side → Option Kept → Type 0
   IsRecording made kept = WhereMade made
       (λ tag. IsSomeAnd kept
       (Recorded mics mic (change [] (pieces_by track tag w.number first w.seen)) spent own))
@@ -78,13 +79,13 @@ module _ {D V M : Type 0} (mics : source.Ghosts M) (mic : Change M) (first track
       no_numbers fits never w.number (number_after first v.seen) h.part.added h.part.asks ∙ sym (ap piece_numbers none)
 
   -- the numbers of the recorder's seat are those of the pieces
-  pieces_are : (made : Option (Result ℕ Refusal)) (kept : Option Kept) (h : NewPart (record_calls track made) v w)
+  pieces_are : (made : Side) (kept : Option Kept) (h : NewPart (record_calls track made) v w)
       → IsRecording made kept → numbers_of (by_seat w.number) (number_after first v.seen) h.part.added ≡ piece_numbers kept
-  pieces_are None kept h r = no_pieces (record_calls track None) (λ c k. k) kept h r.0
-  pieces_are (Some (Ok tag)) None h r = absurd r
-  pieces_are (Some (Ok tag)) (Some kept) h r =
+  pieces_are side.NotAsked kept h r = no_pieces (record_calls track side.NotAsked) (λ c k. k) kept h r.0
+  pieces_are (side.Made tag) None h r = absurd r
+  pieces_are (side.Made tag) (Some kept) h r =
       sym (piece_commits first track tag v w h r.told _ _ r.is.takes)
-  pieces_are (Some (Err why)) kept h r = no_pieces (record_calls track (Some (Err why))) (λ c k. k) kept h r.0
+  pieces_are (side.Refused why) kept h r = no_pieces (record_calls track (side.Refused why)) (λ c k. k) kept h r.0
 
 module _ {D V M P : Type 0} (k : Kinds D V M P) (start final : Core D) (mid : V) (lent : Lent V M P) (out : Outcome)
     (u v w : View (Held D V) Deed) (last : ℕ) (first : IsFirst u) (o : Opens start.commit_number out.opened u v)
@@ -201,7 +202,7 @@ module _ {D V M P : Type 0} (k : Kinds D V M P) (start final : Core D) (mid : V)
   session : Session p s.ran.1.lines s.ran.1.printed.answers q
   session = subst (λ (z : Place). Session z s.ran.1.lines s.ran.1.printed.answers q) begins s.ran.1.printed.session
 
-  adds : Adds p q s.ran.1.lines s.ran.1.printed.answers
+  adds : Adds p q
   adds = sessions_add s.ran.1.lines s.ran.1.printed.answers p q session
 
   more_is : adds.added ≡ s.seats.by_script.added
@@ -231,7 +232,6 @@ module _ {D V M P : Type 0} (k : Kinds D V M P) (start final : Core D) (mid : V)
     seen = sym whole ∙ s.seats.script_is;
     by_others = subst (λ (a : ℕ). ByOthers actor_of (a ∷ []) s.seats.more_script) is_zero
         (list.made n pieces reads x s.seats (quiet opened.pin) own counts).script;
-    are = subst (λ (l : List Deed). OfLines 0 s.ran.1.lines s.ran.1.printed.answers l) own_is adds.own;
     numbers = script_numbers
         ∙ subst (λ (a : ℕ). numbers_of (by_seat a) (number_after n v.seen) s.seats.by_script.added
         ≡ numbers_of (by_seat a) (number_after n v.seen) rest) is_zero

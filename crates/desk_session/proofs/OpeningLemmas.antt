@@ -1,6 +1,6 @@
 -- What the turns of an opening add to the list.
-use Rattle.std.proofs.Common.{◌≡◌, inl, inr, ⊎_elim, ℕ, ◌+◌, ◌≤◌, max, if◌then◌else◌, Bool, true, List, [], ◌∷◌, ◌++◌, Option}
-use Rattle.std.proofs.Common.{Some, None, Result, Ok, Err, refl, sym, ◌∙◌, ap, subst, arith, append_assoc, eq-eqb}
+use Rattle.std.proofs.Common.{◌≡◌, inl, inr, ⊎_elim, ℕ, ◌+◌, ◌≤◌, max, if◌then◌else◌, Bool, true, List, [], ◌∷◌, ◌++◌}
+use Rattle.std.proofs.Common.{Result, Ok, Err, refl, sym, ◌∙◌, ap, subst, arith, append_assoc, eq-eqb}
 use Rattle.std.proofs.lemmas.List.{append-nil}
 use Rattle.pcm_base.specs.declared.answer.Reply.{Reply}
 use Rattle.pcm_base.specs.declared.answer.Reply.TheVariants as reply
@@ -26,8 +26,11 @@ use Rattle.studio_seats.proofs.MergeLemmas.{deeds_append, deeds_others, numbers_
 use Rattle.studio_seats.proofs.OnwardLemmas.{onward_on, onward_self, onward_turn}
 use Rattle.studio_seats.proofs.Turns.{number_on, turned_number}
 use Rattle.desk_session.specs.declared.opening.Opened.{Opened}
-use Rattle.desk_session.specs.Opening.{IfMade, IsOpening, LetsGo, MakesCall, Opens, OwnDeed, PinDeed, TellsNumber, TrackDeed}
+use Rattle.desk_session.specs.declared.side.Side.{Side}
+use Rattle.desk_session.specs.declared.side.Side.TheVariants as side
+use Rattle.desk_session.specs.Opening.{IsOpening, LetsGo, MakesCall, Opens, OwnDeed, PinDeed, TellsNumber, TrackDeed}
 use Rattle.desk_session.specs.Opening.{record_commits}
+use Rattle.desk_session.specs.Sides.{IfMade, made_by}
 use Rattle.desk_session.proofs.ListLemmas.{same_rest}
 
 own_one : (seat : ℕ) (call : Call) (what : Result Reply Refusal)
@@ -125,17 +128,17 @@ own_later a b n call what own later (inl is) = inl is
 own_later a b n call what own later (inr h) = inr (h.0, h.1, later h.2)
 
 -- a seat that found that no turn is left still knows
-pub track_later : (a b : Bool) (n : ℕ) (made : Option (Result ℕ Refusal)) (own : List Deed) → (a ≡ true → b ≡ true)
+pub track_later : (a b : Bool) (n : ℕ) (made : Side) (own : List Deed) → (a ≡ true → b ≡ true)
     → TrackDeed a n made own → TrackDeed b n made own
-track_later a b n None own later h = h
-track_later a b n (Some (Ok tag)) own later (r, h) = (r, own_later a b n (Line Track) (Ok r) own later h)
-track_later a b n (Some (Err why)) own later h = own_later a b n (Line Track) (Err why) own later h
+track_later a b n side.NotAsked own later h = h
+track_later a b n (side.Made tag) own later (r, h) = (r, own_later a b n (Line Track) (Ok r) own later h)
+track_later a b n (side.Refused why) own later h = own_later a b n (Line Track) (Err why) own later h
 
-pub pin_later : (a b : Bool) (n : ℕ) (made : Option (Result ℕ Refusal)) (own : List Deed) → (a ≡ true → b ≡ true)
+pub pin_later : (a b : Bool) (n : ℕ) (made : Side) (own : List Deed) → (a ≡ true → b ≡ true)
     → PinDeed a n made own → PinDeed b n made own
-pin_later a b n None own later h = h
-pin_later a b n (Some (Ok pin)) own later h = own_later a b n Pin (Ok (reply.Pinned pin)) own later h
-pin_later a b n (Some (Err why)) own later h = own_later a b n Pin (Err why) own later h
+pin_later a b n side.NotAsked own later h = h
+pin_later a b n (side.Made pin) own later h = own_later a b n Pin (Ok (reply.Pinned pin)) own later h
+pin_later a b n (side.Refused why) own later h = own_later a b n Pin (Err why) own later h
 
 -- both, one after the other
 pub opens_both : {D V : Type 0} (first : ℕ) (opened : Opened) (u v w : View (Held D V) Deed)
@@ -166,15 +169,15 @@ opens_both {D} {V} first opened u v w h k =
     }
 
 -- a tag that is no higher than a number to which deeds lead stays so
-pub tag_on : (made : Option (Result ℕ Refusal)) (first : ℕ) (seen seen' more : List Deed) → seen' ≡ seen ++ more
+pub tag_on : (made : Side) (first : ℕ) (seen seen' more : List Deed) → seen' ≡ seen ++ more
     → IfMade made (λ tag. (1 ≤ tag) × (tag ≤ number_after first seen))
     → IfMade made (λ tag. (1 ≤ tag) × (tag ≤ number_after first seen'))
-tag_on None first seen seen' more is h = tt
-tag_on (Some (Ok tag)) first seen seen' more is h =
+tag_on side.NotAsked first seen seen' more is h = tt
+tag_on (side.Made tag) first seen seen' more is h =
     let on = number_on first seen more in
     let same = ap (number_after first) is in
     let low = h.1 in (h.0, omega (arith, low, on, same))
-tag_on (Some (Err why)) first seen seen' more is h = tt
+tag_on (side.Refused why) first seen seen' more is h = tt
 
 module _ {D V A : Type 0} (disk : Ghosts D) (vaults : vault.Ghosts V) (start : Core D) (v w : View (Held D V) Deed)
     (call : Call)
@@ -216,10 +219,10 @@ module _ {D V A : Type 0} (disk : Ghosts D) (vaults : vault.Ghosts V) (start : C
 
   -- a new track
   pub track_made : (x : A) → said.what ≡ Ok x
-      → MakesCall IsOpening start.commit_number (TrackDeed w.used_up v.number (Some (Ok said.at)))
-      (record_commits (Some (Ok said.at))) v w
+      → MakesCall IsOpening start.commit_number (TrackDeed w.used_up v.number (side.Made said.at))
+      (record_commits (side.Made said.at)) v w
   track_made x is = opens_as start.commit_number (OwnDeed w.used_up v.number (Line Track) told)
-      (TrackDeed w.used_up v.number (Some (Ok said.at))) (numbers_told (commits told (Line Track)) said.at) (said.at ∷ []) v w
+      (TrackDeed w.used_up v.number (side.Made said.at)) (numbers_told (commits told (Line Track)) said.at) (said.at ∷ []) v w
       (λ own h. (f x, subst (λ (r : Result A Refusal). OwnDeed w.used_up v.number (Line Track) (told_by f r) own) is h))
       (ap (λ (r : Result A Refusal). numbers_told (commits (told_by f r) (Line Track)) said.at) is) called
 
@@ -249,15 +252,15 @@ module _ {D V A : Type 0} (disk : Ghosts D) (vaults : vault.Ghosts V) (start : C
       no_answer x is = cc
 
   pub track_refused : (why : Refusal) → said.what ≡ Err why
-      → MakesCall IsOpening start.commit_number (TrackDeed w.used_up v.number (Some (Err why)))
-      (record_commits (Some (Err why))) v w
+      → MakesCall IsOpening start.commit_number (TrackDeed w.used_up v.number (side.Refused why))
+      (record_commits (side.Refused why)) v w
   track_refused why is = opens_as start.commit_number (OwnDeed w.used_up v.number (Line Track) told)
-      (TrackDeed w.used_up v.number (Some (Err why))) (numbers_told (commits told (Line Track)) said.at) [] v w
+      (TrackDeed w.used_up v.number (side.Refused why)) (numbers_told (commits told (Line Track)) said.at) [] v w
       (λ own h. subst (λ (r : Result A Refusal). OwnDeed w.used_up v.number (Line Track) (told_by f r) own) is h)
       (ap (λ (r : Result A Refusal). numbers_told (commits (told_by f r) (Line Track)) said.at) is) called
 
 pin_deed : (used_up : Bool) (seat : ℕ) (r : Result ℕ Refusal) (own : List Deed)
-    → OwnDeed used_up seat Pin (told_by reply.Pinned r) own → PinDeed used_up seat (Some r) own
+    → OwnDeed used_up seat Pin (told_by reply.Pinned r) own → PinDeed used_up seat (made_by r) own
 pin_deed used_up seat (Ok pin) own h = h
 pin_deed used_up seat (Err why) own h = h
 
@@ -269,11 +272,11 @@ no_numbers (Err why) at = refl
 pub pinned : {D V : Type 0} (disk : Ghosts D) (vaults : vault.Ghosts V) (start : Core D) (v w : View (Held D V) Deed)
     (said : Said ℕ)
     → Says (origin disk vaults start) (asked Pin (told_by reply.Pinned said.what) silent) said (views v w)
-    → MakesCall IsOpening start.commit_number (PinDeed w.used_up v.number (Some said.what)) [] v w
+    → MakesCall IsOpening start.commit_number (PinDeed w.used_up v.number (made_by said.what)) [] v w
 pinned {D} {V} disk vaults start v w said says =
     let told = told_by reply.Pinned said.what in
     opens_as start.commit_number (OwnDeed w.used_up v.number Pin told)
-    (PinDeed w.used_up v.number (Some said.what)) (numbers_told (commits told Pin) said.at) [] v w
+    (PinDeed w.used_up v.number (made_by said.what)) (numbers_told (commits told Pin) said.at) [] v w
     (pin_deed w.used_up v.number said.what) (no_numbers said.what said.at)
     (opens_call disk vaults start v w IsOpening Pin told said (inr refl)
     (λ why is. ap (λ (r : Result ℕ Refusal). told_by reply.Pinned r) is) says)

@@ -1,9 +1,8 @@
 -- What each seat of a session asked, by what was opened for it.
-use Rattle.std.proofs.Common.{◌≡◌, inl, inr, ℕ, ◌<◌, List, [], Option, Some, None, Result, Ok, Err, sym, ◌∙◌, ap}
+use Rattle.std.proofs.Common.{◌≡◌, inl, inr, ℕ, ◌<◌, List, [], sym, ◌∙◌, ap}
 use Rattle.std.proofs.Common.{subst}
 use Rattle.pcm_base.specs.declared.command.Call.{Call}
 use Rattle.pcm_base.specs.declared.command.Call.TheVariants.{Unpin}
-use Rattle.pcm_base.specs.declared.refusal.Refusal.{Refusal}
 use Rattle.pin_turn.specs.declared.view.View.{View}
 use Rattle.pin_turn.specs.Counts.{Each}
 use Rattle.studio_seats.specs.declared.deed.Deed.{Deed}
@@ -14,31 +13,34 @@ use Rattle.studio_seats.specs.Recording.{RecorderAsks}
 use Rattle.studio_seats.proofs.OnwardLemmas.{onward_on, onward_self}
 use Rattle.studio_seats.proofs.PieceLemmas.{pieces_others}
 use Rattle.studio_seats.proofs.WorkLemmas.{onward_as}
-use Rattle.desk_session.specs.Opening.{WhereMade, play_calls, record_calls}
+use Rattle.desk_session.specs.declared.side.Side.{Side}
+use Rattle.desk_session.specs.declared.side.Side.TheVariants as side
+use Rattle.desk_session.specs.Opening.{play_calls, record_calls}
+use Rattle.desk_session.specs.Sides.{WhereMade}
 use Rattle.desk_session.proofs.RejoinLemmas.{lower}
 
 module _ {D V : Type 0} where
-  pub recorder_goes : (made : Option (Result ℕ Refusal)) (track : ℕ) (v w : View (Held D V) Deed)
+  pub recorder_goes : (made : Side) (track : ℕ) (v w : View (Held D V) Deed)
       → WhereMade made (λ tag. Onward (RecorderAsks track tag) v w) (w ≡ v) → Onward (record_calls track made) v w
-  recorder_goes None track v w h =
-      subst (λ (z : View (Held D V) Deed). Onward (record_calls track None) v z) (sym h)
-      (onward_self (record_calls track None) v)
-  recorder_goes (Some (Ok tag)) track v w h = h
-  recorder_goes (Some (Err why)) track v w h =
-      subst (λ (z : View (Held D V) Deed). Onward (record_calls track (Some (Err why))) v z)
-      (sym h) (onward_self (record_calls track (Some (Err why))) v)
+  recorder_goes side.NotAsked track v w h =
+      subst (λ (z : View (Held D V) Deed). Onward (record_calls track side.NotAsked) v z) (sym h)
+      (onward_self (record_calls track side.NotAsked) v)
+  recorder_goes (side.Made tag) track v w h = h
+  recorder_goes (side.Refused why) track v w h =
+      subst (λ (z : View (Held D V) Deed). Onward (record_calls track (side.Refused why)) v z)
+      (sym h) (onward_self (record_calls track (side.Refused why)) v)
 
   idle : (fits : Call → Type 0) (v u w : View (Held D V) Deed) → u ≡ v → w ≡ u → Onward fits v w
   idle fits v u w one two = subst (λ (z : View (Held D V) Deed). Onward fits v z) (sym (two ∙ one)) (onward_self fits v)
 
-  pub player_goes : (made : Option (Result ℕ Refusal)) (v u w : View (Held D V) Deed)
+  pub player_goes : (made : Side) (v u w : View (Held D V) Deed)
       → WhereMade made (λ pin. Onward (IsReadOf pin) v u) (u ≡ v)
       → WhereMade made (λ pin. Onward (λ call. call ≡ Unpin pin) u w) (w ≡ u) → Onward (play_calls made) v w
-  player_goes None v u w h k = idle (play_calls None) v u w h k
-  player_goes (Some (Ok pin)) v u w h k = onward_on (play_calls (Some (Ok pin))) v u w
-      (onward_as (IsReadOf pin) (play_calls (Some (Ok pin))) v u (λ c is. inl is) h)
-      (onward_as (λ call. call ≡ Unpin pin) (play_calls (Some (Ok pin))) u w (λ c is. inr is) k)
-  player_goes (Some (Err why)) v u w h k = idle (play_calls (Some (Err why))) v u w h k
+  player_goes side.NotAsked v u w h k = idle (play_calls side.NotAsked) v u w h k
+  player_goes (side.Made pin) v u w h k = onward_on (play_calls (side.Made pin)) v u w
+      (onward_as (IsReadOf pin) (play_calls (side.Made pin)) v u (λ c is. inl is) h)
+      (onward_as (λ call. call ≡ Unpin pin) (play_calls (side.Made pin)) u w (λ c is. inr is) k)
+  player_goes (side.Refused why) v u w h k = idle (play_calls (side.Refused why)) v u w h k
 
   -- a seat that was split off has no pieces yet
   pub no_piece : (track tag first : ℕ) (v o : View (Held D V) Deed)

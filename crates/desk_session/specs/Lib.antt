@@ -1,8 +1,8 @@
 -- What the contracts cite, lowest first.
 pub mod Makers
 pub mod Parts
-pub mod Opening
 pub mod Sides
+pub mod Opening
 pub mod Sounds
 pub mod Lent
 pub mod Works

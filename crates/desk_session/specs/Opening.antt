@@ -1,6 +1,5 @@
 -- What a session does before its script: a new track for a recording, and a pin for a playback.
-use Rattle.std.specs.Prelude.{◌≡◌, ◌⊎◌, ℕ, ◌≤◌, max, Bool, true, List, [], ◌∷◌, ◌++◌, Option, Some, None, Result, Ok}
-use Rattle.std.specs.Prelude.{Err, IsTrue}
+use Rattle.std.specs.Prelude.{◌≡◌, ◌⊎◌, ℕ, ◌≤◌, max, Bool, true, List, [], ◌∷◌, ◌++◌, Result, Ok, Err, IsTrue}
 use Rattle.pcm_base.specs.declared.answer.Reply.{Reply}
 use Rattle.pcm_base.specs.declared.answer.Reply.TheVariants as reply
 use Rattle.pcm_base.specs.declared.command.Call.{Call}
@@ -19,6 +18,9 @@ use Rattle.studio_seats.specs.Onward.{IsReadOf, Onward}
 use Rattle.studio_seats.specs.Pins.{is_made}
 use Rattle.studio_seats.specs.Recording.{RecorderAsks}
 use Rattle.desk_session.specs.declared.opening.Opened.{Opened}
+use Rattle.desk_session.specs.declared.side.Side.{Side}
+use Rattle.desk_session.specs.declared.side.Side.TheVariants as side
+use Rattle.desk_session.specs.Sides.{IfMade, WhereMade}
 
 -- the seat's own deed of a call that was answered so; it is none where no turn was left, as the seat then knows
 abbrev pub OwnDeed : Bool → ℕ → Call → Result Reply Refusal → List Deed → Type 0
@@ -26,37 +28,27 @@ OwnDeed used_up seat call what own =
     (own ≡ deed seat call what silent ∷ []) ⊎ ((what ≡ Err spent) × (own ≡ []) × (used_up ≡ true))
 
 -- a new track: it was not asked for, or it was made, or it was refused
-abbrev pub TrackDeed : Bool → ℕ → Option (Result ℕ Refusal) → List Deed → Type 0
-TrackDeed used_up seat None own = own ≡ []
-TrackDeed used_up seat (Some (Ok tag)) own = (reply : Reply) × OwnDeed used_up seat (Line Track) (Ok reply) own
-TrackDeed used_up seat (Some (Err why)) own = OwnDeed used_up seat (Line Track) (Err why) own
+abbrev pub TrackDeed : Bool → ℕ → Side → List Deed → Type 0
+TrackDeed used_up seat side.NotAsked own = own ≡ []
+TrackDeed used_up seat (side.Made tag) own = (reply : Reply) × OwnDeed used_up seat (Line Track) (Ok reply) own
+TrackDeed used_up seat (side.Refused why) own = OwnDeed used_up seat (Line Track) (Err why) own
 
 -- a pin: it was not asked for, or it was made and has this number, or it was refused
-abbrev pub PinDeed : Bool → ℕ → Option (Result ℕ Refusal) → List Deed → Type 0
-PinDeed used_up seat None own = own ≡ []
-PinDeed used_up seat (Some (Ok pin)) own = OwnDeed used_up seat Pin (Ok (reply.Pinned pin)) own
-PinDeed used_up seat (Some (Err why)) own = OwnDeed used_up seat Pin (Err why) own
+abbrev pub PinDeed : Bool → ℕ → Side → List Deed → Type 0
+PinDeed used_up seat side.NotAsked own = own ≡ []
+PinDeed used_up seat (side.Made pin) own = OwnDeed used_up seat Pin (Ok (reply.Pinned pin)) own
+PinDeed used_up seat (side.Refused why) own = OwnDeed used_up seat Pin (Err why) own
 
 -- one of both calls
 abbrev pub IsOpening : Call → Type 0
 IsOpening c = (c ≡ Line Track) ⊎ (c ≡ Pin)
 
--- what was made, where something was, or else
-abbrev pub WhereMade : {A : Type 0} → Option (Result A Refusal) → (A → Type 0) → Type 0 → Type 0
-WhereMade None P else_ = else_
-WhereMade (Some (Ok x)) P else_ = P x
-WhereMade (Some (Err why)) P else_ = else_
-
--- a fact of what was made
-abbrev pub IfMade : {A : Type 0} → Option (Result A Refusal) → (A → Type 0) → Type 0
-IfMade made P = WhereMade made P (Unit {0})
-
 -- the number of a recording is a commit number up to this one
-abbrev pub IsTagTo : Option (Result ℕ Refusal) → ℕ → Type 0
+abbrev pub IsTagTo : Side → ℕ → Type 0
 IsTagTo recording number = IfMade recording (λ tag. (1 ≤ tag) × (tag ≤ number))
 
 -- a pin was made by these deeds
-abbrev pub IsPinIn : Option (Result ℕ Refusal) → List Deed → Type 0
+abbrev pub IsPinIn : Side → List Deed → Type 0
 IsPinIn pin seen = IfMade pin (λ number. IsTrue (is_made number (entries_of seen)))
 
 -- the commit number behind what a seat has seen of a desk that began so
@@ -64,10 +56,10 @@ abbrev pub number_seen : {D V : Type 0} → Core D → View (Held D V) Deed → 
 number_seen start v = number_after start.commit_number v.seen
 
 -- the commit number of a new track, which is the recording's own
-abbrev pub record_commits : Option (Result ℕ Refusal) → List ℕ
-record_commits None = []
-record_commits (Some (Ok tag)) = tag ∷ []
-record_commits (Some (Err why)) = []
+abbrev pub record_commits : Side → List ℕ
+record_commits side.NotAsked = []
+record_commits (side.Made tag) = tag ∷ []
+record_commits (side.Refused why) = []
 
 module _ {D V : Type 0} where
   -- what was told is the commit number behind a turn, where there was one, and else 0
@@ -99,9 +91,9 @@ module _ {D V : Type 0} where
         ≡ record_commits opened.recording
 
 -- what the recorder's seat asks: pieces of the recording, where there is one, and reclaims
-abbrev pub record_calls : ℕ → Option (Result ℕ Refusal) → Call → Type 0
+abbrev pub record_calls : ℕ → Side → Call → Type 0
 record_calls track recording c = WhereMade recording (λ tag. RecorderAsks track tag c) ⊥
 
 -- what the player's seat asks: reads of the pin, where there is one, and to let it go
-abbrev pub play_calls : Option (Result ℕ Refusal) → Call → Type 0
+abbrev pub play_calls : Side → Call → Type 0
 play_calls pin c = WhereMade pin (λ number. IsReadOf number c ⊎ (c ≡ Unpin number)) ⊥

@@ -10,8 +10,9 @@ use Rattle.studio_seats.specs.Shows.{IsMixOf}
 use Rattle.studio_seats.specs.Stands.{origin}
 use Rattle.script_session.specs.Change.{change}
 use Rattle.desk_session.specs.Lent.{Kinds, Lent, Outcome}
-use Rattle.desk_session.specs.Opening.{WhereMade, play_calls, record_calls}
+use Rattle.desk_session.specs.Opening.{play_calls, record_calls}
 use Rattle.desk_session.specs.Parts.{Rejoined}
+use Rattle.desk_session.specs.Sides.{WhereMade}
 use Rattle.desk_session.specs.Sounds.{Played, Recorded}
 use Rattle.desk_session.specs.Works.{RanScript}
 

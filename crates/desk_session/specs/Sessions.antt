@@ -18,7 +18,6 @@ use Rattle.studio_seats.specs.Onward.{Asks, IsLine}
 use Rattle.studio_seats.specs.Pieces.{pieces_by}
 use Rattle.studio_seats.specs.Shows.{IsMixOf}
 use Rattle.studio_seats.specs.Stands.{StandsFor, origin}
-use Rattle.script_session.specs.Added.{OfLines}
 use Rattle.script_session.specs.Change.{change}
 use Rattle.script_session.specs.Place.{Place}
 use Rattle.script_session.specs.Progress.{IsCut, WritesAnswers, outcome_of, says_no}
@@ -29,7 +28,8 @@ use Rattle.desk_session.specs.declared.opening.Opened.{Opened}
 use Rattle.desk_session.specs.declared.told.Told.{Told}
 use Rattle.desk_session.specs.Lent.{Kinds, Lent, Outcome}
 use Rattle.desk_session.specs.Makers.{Apart, Seats, is_by}
-use Rattle.desk_session.specs.Opening.{PinDeed, TrackDeed, WhereMade, play_calls, record_calls, record_commits}
+use Rattle.desk_session.specs.Opening.{PinDeed, TrackDeed, play_calls, record_calls, record_commits}
+use Rattle.desk_session.specs.Sides.{WhereMade}
 use Rattle.desk_session.specs.Sounds.{Played, Recorded, piece_numbers}
 
 -- The deeds of a session, by their makers: the first seat made the opening, and then the lines; a second one made the
@@ -73,7 +73,7 @@ pub record Split : Type 0 where
   pub rest : List Deed
 
 -- What a script did, of the deeds of a session: the bytes that it read are these lines, their answers were written, and
--- the deeds of its seat are those of its lines.
+-- the deeds of its seat are those of its lines, as `session` says from its first place to its last.
 pub record IsScripted {V M P : Type 0} (vaults : vault.Ghosts V) (spent : Bool) (deeds : Split) (lent : Lent V M P)
     (told : Told) : Type 0 where
   pub read : List ℕ
@@ -92,7 +92,6 @@ pub record IsScripted {V M P : Type 0} (vaults : vault.Ghosts V) (spent : Bool) 
   pub later : List Deed
   pub seen : deeds.opening ++ deeds.rest ≡ last.seen ++ later
   pub by_others : ByOthers actor_of (0 ∷ []) later
-  pub are : OfLines 0 lines answers (deeds_of (by_seat 0) deeds.rest)
   pub numbers : told.commits ≡ numbers_of (by_seat 0) (number_after deeds.first deeds.opening) deeds.rest
   -- where the seat found that no turn is left, none was; and if no deed was refused so, an answer is Spent only then
   pub found : last.used_up ≡ true → spent ≡ true

@@ -18,7 +18,7 @@ use Rattle.script_session.specs.Place.{place_of}
 use Rattle.script_session.specs.Progress.{Ran, reached}
 use Rattle.desk_session.specs.declared.told.Told.{Told}
 use Rattle.desk_session.specs.Lent.{Kinds, Lent, Outcome}
-use Rattle.desk_session.specs.Opening.{WhereMade}
+use Rattle.desk_session.specs.Sides.{WhereMade}
 use Rattle.desk_session.specs.Sounds.{IsPlayed, IsRecorded}
 
 -- The studio with which a desk began, the commit number that was told last before a script, and what the script's seat

@@ -14,9 +14,11 @@ mod script;
 mod seated;
 mod seats;
 mod setting;
+mod side;
 mod told;
 mod work;
 
 pub use opening::{Beside, Opened};
 pub use seated::{Ended, Seated};
+pub use side::Side;
 pub use told::{Heard, Kept, Told};

@@ -1,5 +1,5 @@
 // What a session does before its script: a new track for a recording, and a pin for a playback.
-ghost use Rattle.std.specs.Prelude.{◌≡◌, [], Some, is_some};
+ghost use Rattle.std.specs.Prelude.{◌≡◌, []};
 ghost use Rattle.pin_turn.specs.Calls.{known};
 ghost use Rattle.studio_seats.specs.Desks.{IsAt, start_at};
 ghost use Rattle.desk_session.specs.Opening.{
@@ -14,10 +14,12 @@ ghost use Rattle.desk_session.specs.Opening.{
   number_seen,
   record_commits,
 };
+ghost use Rattle.desk_session.specs.Sides.{is_asked, made_by};
 
+use super::side::Side;
 use disk_model::Store;
 use edit_ports::Vault;
-use pcm_base::{Answer, Command, Refusal, Reply, Said};
+use pcm_base::{Answer, Command, Reply, Said};
 use std::alloc::Global;
 use std::sync::Wait;
 use studio_seats::{Desk, DeskSeat};
@@ -31,13 +33,11 @@ pub struct Beside {
     pub plays: bool,
 }
 
-/// What was made for a recording and a playback, where they were asked for, or why it was refused.
+/// What was made for a recording and for a playback.
 #[derive(Clone, Copy, Debug)]
 pub struct Opened {
-    /// The recording's number, which is the commit number of its new track.
-    pub recording: Option<Result<u64, Refusal>>,
-    /// The number of the pin.
-    pub pin: Option<Result<u64, Refusal>>,
+    pub recording: Side,
+    pub pin: Side,
 }
 
 // Makes a new track, and answers its commit number.
@@ -51,9 +51,9 @@ fn open_track<R: Wait, S: Store, V: Vault>(
     requires { IsAt desk.now seat.old }
     ensures same { IsAt desk.now seat.new }
     ensures opens { MakesCall IsOpening (start_at desk.now).commit_number
-        (TrackDeed (known seat.new).used_up (known seat.old).number (Some result.what))
-        (record_commits (Some result.what)) (known seat.old) (known seat.new) }
-    ensures tag { IsTagTo (Some result.what) (number_seen (start_at desk.now) (known seat.new)) }
+        (TrackDeed (known seat.new).used_up (known seat.old).number (made_by result.what))
+        (record_commits (made_by result.what)) (known seat.old) (known seat.new) }
+    ensures tag { IsTagTo (made_by result.what) (number_seen (start_at desk.now) (known seat.new)) }
     ensures at { TellsNumber (start_at desk.now).commit_number (known seat.old) result.at (known seat.new) }
     ensures untouched { vault.new ≡ vault.old }
 {
@@ -80,7 +80,7 @@ fn open_recording<R: Wait, S: Store, V: Vault>(
     vault: &mut V,
     last: u64,
     records: bool,
-) -> (Option<Result<u64, Refusal>>, u64)
+) -> (Side, u64)
     requires at { IsAt desk.now seat.old }
     requires last { last ≡ number_seen (start_at desk.now) (known seat.old) }
     ensures same { IsAt desk.now seat.new }
@@ -89,14 +89,14 @@ fn open_recording<R: Wait, S: Store, V: Vault>(
         (known seat.old) (known seat.new) }
     ensures tag { IsTagTo result.0 (number_seen (start_at desk.now) (known seat.new)) }
     ensures last { result.1 ≡ number_seen (start_at desk.now) (known seat.new) }
-    ensures asked { is_some result.0 ≡ records }
+    ensures asked { is_asked result.0 ≡ records }
     ensures untouched { vault.new ≡ vault.old }
 {
     if records {
         let Said { at, what } = open_track(rt, alloc, desk, seat, vault);
-        (Some(what), last.max(at))
+        (Side::made_by(what), last.max(at))
     } else {
-        (None, last)
+        (Side::NotAsked, last)
     }
 }
 
@@ -107,7 +107,7 @@ fn open_playback<R: Wait, S: Store, V: Vault>(
     seat: &mut DeskSeat<S, V>,
     last: u64,
     plays: bool,
-) -> (Option<Result<u64, Refusal>>, u64)
+) -> (Side, u64)
     requires at { IsAt desk.now seat.old }
     requires last { last ≡ number_seen (start_at desk.now) (known seat.old) }
     ensures same { IsAt desk.now seat.new }
@@ -115,13 +115,13 @@ fn open_playback<R: Wait, S: Store, V: Vault>(
         (PinDeed (known seat.new).used_up (known seat.old).number result.0) [] (known seat.old) (known seat.new) }
     ensures made { IsPinIn result.0 (known seat.new).seen }
     ensures last { result.1 ≡ number_seen (start_at desk.now) (known seat.new) }
-    ensures asked { is_some result.0 ≡ plays }
+    ensures asked { is_asked result.0 ≡ plays }
 {
     if plays {
         let Said { at, what } = desk.pin(rt, seat);
-        (Some(what), last.max(at))
+        (Side::made_by(what), last.max(at))
     } else {
-        (None, last)
+        (Side::NotAsked, last)
     }
 }
 
@@ -143,7 +143,7 @@ pub fn open<R: Wait, S: Store, V: Vault>(
     ensures tag { IsTagTo result.0.recording (number_seen (start_at desk.now) (known seat.new)) }
     ensures made { IsPinIn result.0.pin (known seat.new).seen }
     ensures last { result.1 ≡ number_seen (start_at desk.now) (known seat.new) }
-    ensures asked { (is_some result.0.recording ≡ beside.records) × (is_some result.0.pin ≡ beside.plays) }
+    ensures asked { (is_asked result.0.recording ≡ beside.records) × (is_asked result.0.pin ≡ beside.plays) }
     ensures untouched { vault.new ≡ vault.old }
 {
     let (recording, last) = open_recording(rt, alloc, desk, seat, vault, last, beside.records);

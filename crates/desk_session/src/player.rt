@@ -3,12 +3,12 @@ ghost use Rattle.std.specs.Prelude.{◌≡◌, IsSomeAnd, MatchResult, None, is_
 ghost use Rattle.pin_turn.specs.Calls.{known};
 ghost use Rattle.studio_seats.specs.Desks.{IsAt};
 ghost use Rattle.desk_session.specs.Opening.{IsPinIn};
-ghost use Rattle.desk_session.specs.Sides.{Lends};
+ghost use Rattle.desk_session.specs.Sides.{Lends, is_asked};
 
+use super::side::Side;
 use super::told::Heard;
 use disk_model::Store;
 use edit_ports::{Sink, Vault};
-use pcm_base::Refusal;
 use sound_run::Played;
 use sound_session::{LentSink, PlayRing, Playback};
 use studio_seats::{Desk, DeskGiver, DeskSeat};
@@ -19,11 +19,11 @@ pub fn lend_player<'a, 'b, S: Store, V: Vault, P: Sink>(
     seat: DeskSeat<S, V>,
     speaker: &'b mut P,
     ring: Option<PlayRing>,
-    pin: Option<Result<u64, Refusal>>,
+    pin: Side,
 ) -> Result<Playback<DeskGiver<'a, S, V>, LentSink<'b, P>>, (DeskSeat<S, V>, &'b mut P)>
     requires at { IsAt desk.now seat }
     requires made { IsPinIn pin (known seat).seen }
-    requires ring { is_some ring ≡ is_some pin }
+    requires ring { is_some ring ≡ is_asked pin }
     ensures { Lends pin
         (λ number w. (w.speaker.sink.ghost_name ≡ speaker.entry.ghost_name) × (w.speaker.sink.now ≡ speaker.old)
         × (w.giver.desk.now ≡ desk.now) × (known w.giver.seat ≡ known seat) × (w.giver.pin ≡ number)
@@ -33,8 +33,8 @@ pub fn lend_player<'a, 'b, S: Store, V: Vault, P: Sink>(
         result }
 {
     match (pin, ring) {
-        (Some(Ok(pin)), Some(ring)) => {
-            let giver = DeskGiver::new(desk, seat, pin);
+        (Side::Made { number }, Some(ring)) => {
+            let giver = DeskGiver::new(desk, seat, number);
             Ok(Playback::new(ring, giver, LentSink { sink: speaker }))
         }
         _ => Err((seat, speaker)),

@@ -4,12 +4,12 @@ ghost use Rattle.pin_turn.specs.Calls.{known};
 ghost use Rattle.studio_seats.specs.Desks.{IsAt, start_at};
 ghost use Rattle.studio_seats.specs.Recording.{FreesTo};
 ghost use Rattle.desk_session.specs.Opening.{IsTagTo, number_seen};
-ghost use Rattle.desk_session.specs.Sides.{Lends};
+ghost use Rattle.desk_session.specs.Sides.{Lends, is_asked};
 
+use super::side::Side;
 use super::told::Kept;
 use disk_model::Store;
 use edit_ports::{Source, Vault};
-use pcm_base::Refusal;
 use sound_run::Recorded;
 use sound_session::{LentSource, RecordRing, Recording};
 use std::sync::Wait;
@@ -22,11 +22,11 @@ pub fn lend_recorder<'a, 'b, S: Store, V: Vault, M: Source>(
     mic: &'b mut M,
     ring: Option<RecordRing>,
     track: u64,
-    recording: Option<Result<u64, Refusal>>,
+    recording: Side,
 ) -> Result<Recording<LentSource<'b, M>, DeskTaker<'a, S, V>>, (DeskSeat<S, V>, &'b mut M)>
     requires at { IsAt desk.now seat }
     requires tag { IsTagTo recording (number_seen (start_at desk.now) (known seat)) }
-    requires ring { is_some ring ≡ is_some recording }
+    requires ring { is_some ring ≡ is_asked recording }
     ensures { Lends recording
         (λ tag w. (w.mic.source.ghost_name ≡ mic.entry.ghost_name) × (w.mic.source.now ≡ mic.old)
         × (w.taker.desk.now ≡ desk.now) × (known w.taker.seat ≡ known seat) × (w.taker.track ≡ track)
@@ -36,7 +36,7 @@ pub fn lend_recorder<'a, 'b, S: Store, V: Vault, M: Source>(
         result }
 {
     match (recording, ring) {
-        (Some(Ok(tag)), Some(ring)) => {
+        (Side::Made { number: tag }, Some(ring)) => {
             let taker = DeskTaker::new(desk, seat, track, tag);
             Ok(Recording::new(ring, LentSource { source: mic }, taker))
         }

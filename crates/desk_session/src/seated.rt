@@ -8,6 +8,7 @@ ghost use Rattle.script_session.specs.Change.{change};
 ghost use Rattle.script_session.specs.Progress.{IsCauseOf};
 ghost use Rattle.desk_session.specs.Lent.{kinds};
 ghost use Rattle.desk_session.specs.Sessions.{IsSession};
+ghost use Rattle.desk_session.specs.Sides.{is_asked};
 
 use super::devices::Devices;
 use super::opening::{Beside, Opened, open};
@@ -116,8 +117,8 @@ impl<S: Store, V: Vault> Seated<S, V> {
             (record { told = result.told; opened = result.opened; kept = result.kept; heard = result.heard }) }
         ensures cause { IsCauseOf result.told.stop (change (A.fault_count script.old) (A.fault_count script.new))
             (change (O.fault_count out.old) (O.fault_count out.new)) }
-        ensures asked { (is_some result.opened.recording ≡ self.beside.records)
-            × (is_some result.opened.pin ≡ self.beside.plays) }
+        ensures asked { (is_asked result.opened.recording ≡ self.beside.records)
+            × (is_asked result.opened.pin ≡ self.beside.plays) }
         ensures track { result.track ≡ (start_at self.desk).next_track }
     {
         let Seated {

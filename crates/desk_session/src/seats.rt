@@ -1,20 +1,21 @@
 // One seat at a desk is split in three, and joined again.
-ghost use Rattle.std.specs.Prelude.{◌≡◌, [], None, Some};
+ghost use Rattle.std.specs.Prelude.{◌≡◌, []};
 ghost use Rattle.pin_turn.specs.Calls.{known};
 ghost use Rattle.studio_seats.specs.Desks.{IsAt, start_at};
 ghost use Rattle.script_session.specs.Change.{change};
 ghost use Rattle.script_session.specs.Kept.{Holds};
 ghost use Rattle.desk_session.specs.Lent.{AreSame, IsCausedIn, kinds, lent_by};
-ghost use Rattle.desk_session.specs.Opening.{IsPinIn, IsTagTo, LetsGo, WhereMade, number_seen};
+ghost use Rattle.desk_session.specs.Opening.{IsPinIn, IsTagTo, LetsGo, number_seen};
 ghost use Rattle.desk_session.specs.Sat.{Sat};
+ghost use Rattle.desk_session.specs.Sides.{WhereMade};
 
 use super::devices::Devices;
 use super::setting::Setting;
+use super::side::Side;
 use super::told::{Heard, Kept, Told};
 use super::work::{Seats, Worked, run_work};
 use disk_model::Store;
 use edit_ports::{Gate, Sink, Source, Vault};
-use pcm_base::Refusal;
 use std::alloc::Global;
 use std::sync::Wait;
 use std::thread::Threads;
@@ -29,29 +30,19 @@ pub struct Rejoined<S: Store, V: Vault> {
     pub heard: Option<Heard>,
 }
 
-// The number of the pin, where there is one.
-fn pin_number(pin: Option<Result<u64, Refusal>>) -> Option<u64>
-    ensures { WhereMade pin (λ number. result ≡ Some number) (result ≡ None) }
-{
-    match pin {
-        Some(Ok(number)) => Some(number),
-        _ => None,
-    }
-}
-
 // Lets the pin go, where there is one. A refusal changes nothing.
 fn let_go<R: Wait, S: Store, V: Vault>(
     rt: &R,
     desk: &Desk<S, V>,
     seat: &mut DeskSeat<S, V>,
-    pin: Option<Result<u64, Refusal>>,
+    pin: Side,
 )
     requires { IsAt desk.now seat.old }
     ensures same { IsAt desk.now seat.new }
     ensures goes { WhereMade pin (λ number. LetsGo (start_at desk.now).commit_number number (known seat.old)
         (known seat.new)) (known seat.new ≡ known seat.old) }
 {
-    match pin_number(pin) {
+    match pin.number() {
         Some(number) => {
             let _ = desk.unpin(rt, seat, number);
         }

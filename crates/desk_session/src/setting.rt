@@ -1,5 +1,6 @@
 // What is set before the first line of a session.
 ghost use Rattle.std.specs.Prelude.{◌≡◌, is_some};
+ghost use Rattle.desk_session.specs.Sides.{is_asked};
 
 use super::opening::Opened;
 use super::rings::Rings;
@@ -16,5 +17,5 @@ pub struct Setting {
     pub last: u64,
     pub line: LineBuffer,
     // A ring for each that was asked for.
-    ghost ringed: { (is_some rings.record ≡ is_some opened.recording) × (is_some rings.play ≡ is_some opened.pin) },
+    ghost ringed: { (is_some rings.record ≡ is_asked opened.recording) × (is_some rings.play ≡ is_asked opened.pin) },
 }

@@ -11,10 +11,10 @@ use std::test::*;
 fn stopped(alloc: Global, calls: u64) -> Result<RamStore, Fail> {
     let mut store = disk(alloc, Vec::new(alloc))?;
     store.stop_after(calls);
-    let mut scratch = Vec::with_capacity(alloc, 52)?;
+    let mut scratch = Vec::with_capacity(alloc, 53)?;
     let _ = create(&mut store, 8000, 4, 256);
-    let _ = append(&mut store, 0, 32, &JOURNAL[37..84], &mut scratch);
-    let _ = append_small(&mut store, 0, 84, &[2]);
+    let _ = append(&mut store, 0, 80, &JOURNAL[85..133], &mut scratch);
+    let _ = append_small(&mut store, 0, 133, &[2]);
     Ok(store)
 }
 
@@ -28,7 +28,7 @@ fn progress(rt: &impl Abort, alloc: Global, store: &RamStore, choice: u64) -> Re
     };
     assert!(rt; journal.early == None);
     if journal.count >= 1 {
-        assert!(rt; journal.bodies[0].as_slice() == &JOURNAL[37..84]);
+        assert!(rt; journal.bodies[0].as_slice() == &JOURNAL[85..133]);
     }
     if journal.count >= 2 {
         assert!(rt; journal.bodies[1].as_slice() == [2].as_slice());

@@ -10,11 +10,13 @@ use project_journal::{
 use std::alloc::Global;
 use std::test::*;
 
-// The journal of a new project with one record, that of a track added: as the format's tables spell it.
-pub(crate) const JOURNAL: [u8; 85] = [
-    1, 0x41, 0x4A, 0x4E, 0x31, 1, 0, 0, 0, 0x40, 0x1F, 0, 0, 4, 0, 0, 0, 0, 1, 0, 0, 0, 0, 0, 0, 0,
-    0, 0, 0, 0, 0, 0, 1, 0x2F, 0, 0, 0, 1, 0, 0, 0, 0, 0, 0, 0, 0, 0x10, 0, 0, 0, 0, 0, 0, 0, 2, 0,
-    0, 0, 0, 0, 0, 0, 1, 0, 0, 0, 1, 0, 0, 0, 0, 0, 0, 0, 0, 0, 1, 0, 0, 0, 0, 0, 0, 0, 0,
+// A new project's journal with one record, that of a track added: as the format's tables spell it.
+pub(crate) const JOURNAL: [u8; 134] = [
+    1, 0x41, 0x4A, 0x4E, 0x31, 2, 0, 0, 0, 0x40, 0x1F, 0, 0, 4, 0, 0, 0, 0, 1, 0, 0, 0, 0, 0, 0, 0,
+    0, 0, 0, 0, 0, 0, 0, 0, 0, 0, 0, 0x10, 0, 0, 0, 0, 0, 0, 0, 1, 0, 0, 0, 0, 0, 0, 0, 1, 0, 0, 0,
+    0, 0, 0, 0, 0, 0, 0, 0x0C, 0, 0, 0, 0, 0, 0, 0, 0, 0, 0, 0, 0, 0, 0, 0, 1, 0x30, 0, 0, 0, 5, 0,
+    0, 0, 0, 0, 0, 0, 0, 0x10, 0, 0, 0, 0, 0, 0, 0, 2, 0, 0, 0, 0, 0, 0, 0, 1, 0, 0, 0, 1, 0, 0, 0,
+    0, 0, 0, 0, 1, 0, 0, 1, 0, 0, 0, 0, 0, 0, 0, 0,
 ];
 
 // A journal that was read, of at most two records: their bodies, and its end.
@@ -46,6 +48,13 @@ pub(crate) fn read_two(alloc: Global, store: &mut RamStore) -> Result<Read, Jour
         end: 0,
         early: None,
     };
+    // The header of version 2 has 64 bytes, and then its points: here one.
+    if reader.end() == 64 {
+        let point = reader.next_point(store)?;
+        if !matches!(point, Next::Whole(_)) {
+            return Ok(ended(read, &reader, point));
+        }
+    }
     let first = reader.next(store)?;
     if !matches!(first, Next::Whole(_)) {
         return Ok(ended(read, &reader, first));
@@ -94,10 +103,10 @@ fn records_of_several_pieces(rt: HostRuntime) -> Result<(), Fail> {
         .ok()
         .ok_or("no memory")?;
     let mut scratch = Vec::new(alloc);
-    let short = sevens(alloc, 65_490)?;
+    let short = sevens(alloc, 65_442)?;
     let long = sevens(alloc, 200_000)?;
     assert!(rt; create(&mut store, 8000, 4, 256).is_ok());
-    assert!(rt; append(&mut store, 0, 32, &short, &mut scratch) == Ok(65_527));
+    assert!(rt; append(&mut store, 0, 80, &short, &mut scratch) == Ok(65_527));
     assert!(rt; append(&mut store, 0, 65_527, &long, &mut scratch) == Ok(265_532));
     let two = read_two(alloc, &mut store).ok().ok_or("a journal")?;
     assert!(rt; (two.count, two.end, two.early) == (2, 265_532, None));

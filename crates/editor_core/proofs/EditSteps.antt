@@ -189,7 +189,8 @@ module _ {D : Type 0} (disk : Ghosts D) (s : Core D) (is : IsStudio disk s) (goi
             heard = edit.call.commit.heard t.rate t.state;
           }) (ids_made s done counts n making.ledger files refl)
           (names_given disk s e plan done done_took.studio
-          (ap current_tracks moved ∙ recorded_current s.history point tag is.format.depth_least) refl) tt tt (inl (refl, adds.fields.2 ∙ making.change_faults)) tt)
+          (ap current_tracks moved ∙ recorded_current s.history point tag is.format.depth_least) refl) tt tt
+          (inl (refl, adds.fields.2 ∙ making.change_faults)) tt)
 
   -- a studio with blocks that were made, by its parts
   made_so : (it : Core D) → Making disk s (batch_of given makes) n it

@@ -8,10 +8,11 @@ use Rattle.sample_block.specs.Sources.{AllWhole}
 use Rattle.block_ledger.specs.Counts.{IsFreshCount, occurrences}
 use Rattle.block_ledger.specs.Entries as ledger
 use Rattle.undo_history.specs.Stored.{Stored}
-use Rattle.project_journal.specs.Header.{IsFormat, version_1}
+use Rattle.project_journal.specs.Header.{IsFormat, form_2}
 use Rattle.project_journal.specs.Journal.{IsAt, fresh}
 use Rattle.project_state.specs.Kept.{history_blocks, new_project}
 use Rattle.project_state.specs.KeptSound.{IsSoundTagged}
+use Rattle.project_state.proofs.NewProjects.{fresh_begins}
 use Rattle.project_state.specs.declared.track.Track.{Track}
 use Rattle.editor_core.specs.Parts.{AreParts, HasParts}
 use Rattle.editor_core.specs.Studios.{SameBlocks, ids_of}
@@ -33,9 +34,9 @@ parts_of rate m depth h l = record {
   next_track = 1;
   commit_number = 0;
   file = 0;
-  version = 1;
+  version = 2;
   generation = 0;
-  journal_end = 32;
+  journal_end = 80;
 }
 
 module _ (rate m depth : ℕ) (h : Stored (List Track)) (l : ledger.Kept) (is : h.history ≡ history_of_one [] 0 depth)
@@ -73,7 +74,7 @@ module _ (rate m depth : ℕ) (h : Stored (List Track)) (l : ledger.Kept) (is : 
 
   -- a disk with the journal of a new project, and no block
   pub fresh_has : {D : Type 0} (disk : Ghosts D) (store : D) → IsTrue (disk.tells store)
-      → IsAt version_1 disk store 32 (fresh rate m depth) → ((id : ℕ) → 16 ≤ id → disk.reads store id ≡ None)
+      → IsAt (form_2 0) disk store 80 (fresh rate m depth) → ((id : ℕ) → 16 ≤ id → disk.reads store id ≡ None)
       → HasParts disk store (parts_of rate m depth h l)
   fresh_has disk store tells at absent = record {
     tells = tells;
@@ -84,7 +85,7 @@ module _ (rate m depth : ℕ) (h : Stored (List Track)) (l : ledger.Kept) (is : 
       kept = new_project depth;
       there = at;
       generation = refl;
-      begins = refl;
+      begins = fresh_begins rate m depth;
       told = refl;
       rate = refl;
       block_size = refl;

@@ -28,7 +28,7 @@ module _ (m next_block next_track : ℕ) where
   record_most src tag block_then track_then ts some is =
       omega (arith, tracks_short src m ts some is.few (layouts_of ts is.sound) (half_full_of ts is.sound))
 
-  -- also one that is told by a point of these tracks
+  -- also one that is written by a point of these tracks
   pub told_most : (src : Sources) (current : List Track) (tag block_then track_then : ℕ) (ts : List Track) → 0 < m
       → IsSoundPoint m next_block next_track ts
       → length (delta_spelling current (Edit tag block_then track_then ts)) ≤ project_body_most m (meant src ts)

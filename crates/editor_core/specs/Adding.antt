@@ -22,7 +22,7 @@ use Rattle.project_state.specs.declared.body.Body.{Body}
 use Rattle.editor_core.specs.Bodies.{body_bytes, whole_len}
 use Rattle.editor_core.specs.Core.{Core, form_at}
 
--- the first that refuses a commit that needs so many track ids: that the studio is stopped, its own tests, or that a
+-- the first that refuses a commit that needs `tracks` track ids: that the studio is stopped, its own tests, or that a
 -- counter has no room
 abbrev pub Tested : {D : Type 0} → Core D → Option Refusal → ℕ → Result (Unit {0}) Refusal → Type 0
 Tested s own tracks result = MatchResult result
@@ -35,13 +35,13 @@ abbrev pub IsNoWant : Refusal → Type 0
 IsNoWant refusal.NoMemory = ⊥
 IsNoWant why = Unit {0}
 
--- what refuses a record with a body of so many bytes before the disk is asked
+-- what refuses a record with a body of `len` bytes before the disk is asked
 abbrev pub Exceeds : ℕ → ℕ → Refusal → Type 0
 Exceeds end len (refusal.SpaceSpent have need) = (2 ^ 62 < end + (6 + len)) × (have ≡ end) × (need ≡ 6 + len)
 Exceeds end len (refusal.RecordLimit n) = (n ≡ len) × (LONGEST_BODY < len) × (end + (6 + len) ≤ 2 ^ 62)
 Exceeds end len why = ⊥
 
--- the same of one with a body of so many bytes, or of so many written out whole
+-- the same of one with a body of `len` bytes, which written out whole has `whole`
 abbrev pub ExceedsBy : (end whole len : ℕ) → Refusal → Type 0
 ExceedsBy end whole len why = Exceeds end whole why ⊎ Exceeds end len why
 
@@ -58,7 +58,7 @@ pub record HasFailed {D : Type 0} (disk : Ghosts D) (old new : D) : Type 0 where
   pub rose : Rose (disk.change_fault_count old) (disk.change_fault_count new)
   pub later : disk.change_fault_count old ≤ disk.change_fault_count new
 
--- The fields after a record with a body of so many bytes, and of so many written out whole, was to be added.
+-- The fields after a record was to be added whose body has `len` bytes, and written out whole has `whole`.
 abbrev pub Fields : {D R : Type 0} → Ghosts D → Core D → (whole len : ℕ) → Result R Refusal → Core D → Type 0
 Fields disk old whole len (Ok _) new =
     (new ≡ record old {
@@ -89,7 +89,7 @@ Settles disk old (Err (journal.SpaceSpent have need)) result new = (result ≡ E
     × (new ≡ old)
 Settles disk old (Err fault) result new = (result ≡ Err refusal.NoMemory) × (new ≡ old)
 
--- a record with this body, of so many bytes written out whole, added to the journal, or not
+-- a record with this body, which written out whole has `whole` bytes, added to the journal, or not
 pub record Adds {D R : Type 0} (disk : Ghosts D) (old : Core D) (body : List ℕ) (whole : ℕ) (result : Result R Refusal)
     (new : Core D) : Type 0 where
   pub fields : Fields disk old whole (length body) result new

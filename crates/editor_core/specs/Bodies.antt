@@ -8,7 +8,7 @@ use Rattle.project_state.specs.Spelling.{spelling}
 use Rattle.editor_core.specs.Core.{Core}
 use Rattle.editor_core.specs.Points.{current_tracks}
 
--- its bytes, by the version and the current point: in version 2 an edit is told by this point
+-- its bytes, by the version and the current point: in version 2 an edit is written by this point
 abbrev pub bytes_by : ℕ → List Track → Body → List ℕ
 bytes_by version current (Edit tag next_block next_track point) =
     spelling_in version current (Edit tag next_block next_track point)

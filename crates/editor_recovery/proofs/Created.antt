@@ -1,19 +1,18 @@
 -- A project is made, and an honest disk stays honest.
-use Rattle.std.proofs.Common.{◌≡◌, ◌≢◌, ℕ, zero, suc, ◌≤◌, Bool, true, false, inl, inr, ⊎_elim, ◌⊎◌, List, [], ◌∷◌, Option, Some}
-use Rattle.std.proofs.Common.{None, Result, Ok, Err, refl, sym, ap, subst, ◌∙◌, arith}
-use Rattle.std.specs.Prelude.{Contains, IsSome, IsTrue, IfErr, IfOk, OnOk}
-use Rattle.pcm_base.specs.declared.block.BlockRef.{BlockRef}
+use Rattle.std.proofs.Common.{◌≡◌, ◌≢◌, ℕ, zero, suc, ◌≤◌, true, false, inl, inr, ⊎_elim, ◌⊎◌, List, [], Option}
+use Rattle.std.proofs.Common.{Result, Ok, Err, refl, sym, subst, arith}
+use Rattle.std.specs.Prelude.{Contains, IsSome, IsTrue, IfErr, OnOk}
 use Rattle.disk_model.specs.MomentLaws.{upto_refl}
-use Rattle.disk_model.specs.Disk.{Files, bytes_of, Follows, StaysStep, SameElsewhere}
+use Rattle.disk_model.specs.Disk.{Files, Follows, StaysStep, SameElsewhere}
 use Rattle.disk_model.specs.Frames.{Kept}
 use Rattle.disk_model.proofs.Frames.{kept_turn}
 use Rattle.disk_model.specs.declared.store.Store.{Ghosts}
-use Rattle.project_journal.specs.Header.{version_1}
+use Rattle.project_journal.specs.Header.{form_2}
 use Rattle.project_journal.specs.Gate.{EachNow}
-use Rattle.project_journal.specs.Journal.{Log, HasLog, IsAt, fresh}
+use Rattle.project_journal.specs.Journal.{HasLog, IsAt, fresh}
 use Rattle.project_journal.specs.Start.{NoProject}
 use Rattle.project_journal.proofs.Kept.{each_has}
-use Rattle.project_state.proofs.Unpacked.{keeps_led}
+use Rattle.project_state.proofs.NewProjects.{fresh_begins}
 use Rattle.project_state.specs.Kept as keeping
 use Rattle.project_state.specs.Kept.{new_project, history_blocks, Keeps}
 use Rattle.editor_recovery.specs.declared.fault.OpenFault.{OpenFault}
@@ -27,29 +26,43 @@ use Rattle.editor_recovery.proofs.Alone.{none_log}
 use Rattle.editor_recovery.proofs.Honest.{same_kept}
 
 -- the new journal is the new project
-pub keeps_new : (rate block_size depth : ℕ) (c : Files) → HasLog version_1 (fresh rate block_size depth) c
+pub keeps_new : (rate block_size depth : ℕ) (c : Files) → HasLog (form_2 0) (fresh rate block_size depth) c
     → Keeps c (new_opened rate block_size depth)
-keeps_new rate block_size depth c has =
-    keeps_led (fresh rate block_size depth) (new_project depth) c (new_opened rate block_size depth) has refl tt refl
+keeps_new rate block_size depth c has = record {
+  form = form_2 0;
+  known = inr refl;
+  few = omega arith;
+  keeps = record {
+    log = fresh rate block_size depth;
+    base = new_project depth;
+    kept = new_project depth;
+    there = has;
+    begins = fresh_begins rate block_size depth;
+    told = refl;
+    whole = tt;
+    is = refl;
+  };
+}
 
-new_stands : (rate block_size depth : ℕ) (c : Files) → HasLog version_1 (fresh rate block_size depth) c
-    → Stands c version_1 (fresh rate block_size depth) (new_project depth)
+-- and stands in file 0
+pub new_stands : (rate block_size depth : ℕ) (c : Files) → HasLog (form_2 0) (fresh rate block_size depth) c
+    → Stands c (form_2 0) (fresh rate block_size depth) (new_project depth)
 new_stands rate block_size depth c has = record {
-  known = inl refl;
+  known = inr refl;
   few = omega arith;
   there = has;
   base = new_project depth;
-  begins = refl;
+  begins = fresh_begins rate block_size depth;
   told = refl;
 }
 
 -- no point of it names a block
-no_names : (rate block_size depth : ℕ) (c : Files) (id : ℕ) → HasLog version_1 (fresh rate block_size depth) c
+no_names : (rate block_size depth : ℕ) (c : Files) (id : ℕ) → HasLog (form_2 0) (fresh rate block_size depth) c
     → Names c id → ⊥
 no_names rate block_size depth c id has names =
     let kept : names.kept ≡ new_project depth =
-    same_kept c names.form version_1 names.log (fresh rate block_size depth) names.kept (new_project depth) names.stands
-    (new_stands rate block_size depth c has) in
+    same_kept c names.form (form_2 0) names.log (fresh rate block_size depth) names.kept (new_project depth)
+    names.stands (new_stands rate block_size depth c has) in
     nothing (subst (λ (k : keeping.Kept). Contains (history_blocks k.history) names.block) kept names.named)
   where
     nothing : Contains [] names.block → ⊥
@@ -102,11 +115,11 @@ module _ {D : Type 0} (disk : Ghosts D) (old new : D) where
       → Follows (SameElsewhere 0) (disk.clock old) (disk.clock new) (disk.may_leave old) (disk.may_leave new)
       → disk.keeps_model new ≡ disk.keeps_model old
       → ((c : Files) → disk.may_leave new (disk.clock old) c → disk.may_leave old (disk.clock old) c
-      ⊎ (HasNone c ⊎ HasLog version_1 (fresh rate block_size depth) c))
+      ⊎ (HasNone c ⊎ HasLog (form_2 0) (fresh rate block_size depth) c))
       → IsHonest disk old → IsHonest disk new
   made_honest rate block_size depth follows model any honest =
       let since = now_before follows in
-      let none : (c : Files) → (id : ℕ) → Names c id → HasNone c ⊎ HasLog version_1 (fresh rate block_size depth) c
+      let none : (c : Files) → (id : ℕ) → Names c id → HasNone c ⊎ HasLog (form_2 0) (fresh rate block_size depth) c
       → ⊥ =
       λ c id names other. ⊎_elim (λ none. no_project_names c id none names)
       (λ has. no_names rate block_size depth c id has names) other in
@@ -129,10 +142,10 @@ module _ {D : Type 0} (disk : Ghosts D) (old new : D) where
 -- what the creation of a journal says of both files
 pub any_or_none : {D : Type 0} (disk : Ghosts D) (rate block_size depth : ℕ) (mid new : D)
     → ((c : Files) → disk.may_leave new (disk.clock mid) c → disk.may_leave mid (disk.clock mid) c
-    ⊎ (NoProject 0 c ⊎ HasLog version_1 (fresh rate block_size depth) c))
+    ⊎ (NoProject 0 c ⊎ HasLog (form_2 0) (fresh rate block_size depth) c))
     → ((c : Files) → disk.may_leave new (disk.clock mid) c → disk.may_leave mid (disk.clock mid) c ⊎ NoProject 1 c)
     → (c : Files) → disk.may_leave new (disk.clock mid) c → disk.may_leave mid (disk.clock mid) c
-    ⊎ (HasNone c ⊎ HasLog version_1 (fresh rate block_size depth) c)
+    ⊎ (HasNone c ⊎ HasLog (form_2 0) (fresh rate block_size depth) c)
 any_or_none disk rate block_size depth mid new any other c since = either_none c (any c since) (other c since)
 
 -- calls that write nothing, and then a creation
@@ -140,7 +153,7 @@ pub any_moment_both : {D : Type 0} (disk : Ghosts D) (rate block_size depth : �
     → Follows StaysStep (disk.clock old) (disk.clock mid) (disk.may_leave old) (disk.may_leave mid)
     → Follows (SameElsewhere 0) (disk.clock mid) (disk.clock new) (disk.may_leave mid) (disk.may_leave new)
     → ((c : Files) → disk.may_leave new (disk.clock mid) c → disk.may_leave mid (disk.clock mid) c
-    ⊎ (HasNone c ⊎ HasLog version_1 (fresh rate block_size depth) c))
+    ⊎ (HasNone c ⊎ HasLog (form_2 0) (fresh rate block_size depth) c))
     → (c : Files) → disk.may_leave new (disk.clock old) c → disk.may_leave old (disk.clock old) c
     ⊎ (HasNone c ⊎ Keeps c (new_opened rate block_size depth))
 any_moment_both disk rate block_size depth old mid new f g any c since =
@@ -156,7 +169,7 @@ any_moment_both disk rate block_size depth old mid new f g any c since =
 
 -- after it each image keeps the new project
 pub made_done : {D T : Type 0} (disk : Ghosts D) (rate block_size depth : ℕ) (new : D) (r : Result T OpenFault)
-    → OnOk r (IsAt version_1 disk new 32 (fresh rate block_size depth))
+    → OnOk r (IsAt (form_2 0) disk new 80 (fresh rate block_size depth))
     → OnOk r (Keeps (disk.reads new) (new_opened rate block_size depth)
     × EachNow disk new (λ c. Keeps c (new_opened rate block_size depth)))
 made_done disk rate block_size depth new (Err e) here = tt

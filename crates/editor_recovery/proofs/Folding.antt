@@ -33,7 +33,7 @@ pub later_form : (old new : Reader) → IsLater old new → reader_form new ≡ 
 later_form old new later =
     ap (λ (v : ℕ). form_of v new.window.file) later.version ∙ ap (form_of old.version) later.file
 
--- the first fault of its journal, as it is told of the disk
+-- the first fault of its journal, as it is reported of the disk
 pub unfolded_as : {D : Type 0} (disk : Ghosts D) (store : D) (old new : Reader) (e : JournalFault)
     → ReadsOn {T = Project} old new (Err e) → FoldsStored disk store new (Err e)
     → FoldsDisk disk store (reader_form old) (Err (records_fault e))

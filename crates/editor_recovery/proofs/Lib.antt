@@ -5,7 +5,7 @@ pub mod Points
 pub mod Ledgers
 pub mod SoundParts
 pub mod Opens
-mod Alone
+pub mod Alone
 pub mod Honest
 pub mod Created
 pub mod Highest

@@ -4,7 +4,7 @@ ghost use Rattle.std.specs.Prelude.{IsTrue, IfOk, IfErr, OnOk};
 ghost use Rattle.disk_model.specs.Disk.{bytes_of, SameElsewhere};
 ghost use Rattle.disk_model.specs.Frames.{Kept, Changed};
 ghost use Rattle.project_journal.specs.Gate.{EachNow, EachSince, IsDurable};
-ghost use Rattle.project_journal.specs.Header.{IsFormat, IsProject, version_1};
+ghost use Rattle.project_journal.specs.Header.{IsFormat, IsProject, form_2};
 ghost use Rattle.project_journal.specs.Journal.{HasLog, IsAt, fresh};
 ghost use Rattle.project_journal.specs.Rooms.{create_room};
 ghost use Rattle.project_journal.specs.Start.{NoProject, IsFront};
@@ -95,11 +95,11 @@ fn make<S: Store>(store: &mut S, rate: u32, block_size: u32, depth: u32) -> Resu
     requires { IsFormat rate block_size depth }
     ensures any_moment { IsTrue (S.tells store.old) → NoProject 1 (S.reads store.old) → EachSince S.Store store.old store.new
         (λ c. S.may_leave store.old (S.clock store.old) c
-        ⊎ (NoProject 0 c ⊎ HasLog version_1 (fresh rate block_size depth) c)) }
+        ⊎ (NoProject 0 c ⊎ HasLog (form_2 0) (fresh rate block_size depth) c)) }
     ensures other_moment { IsTrue (S.tells store.old) → NoProject 1 (S.reads store.old)
         → EachSince S.Store store.old store.new (λ c. S.may_leave store.old (S.clock store.old) c ⊎ NoProject 1 c) }
     ensures done { IsTrue (S.tells store.old) → NoProject 1 (S.reads store.old)
-        → OnOk result (IsAt version_1 S.Store store.new 32 (fresh rate block_size depth)) }
+        → OnOk result (IsAt (form_2 0) S.Store store.new 80 (fresh rate block_size depth)) }
     ensures answer { IsTrue (S.tells store.old) → NoProject 0 (S.reads store.old)
         → IfErr result (λ e. e ≡ OpenFault.DiskFault) }
     ensures refusals { IfErr result IsCreateRefusal }
@@ -141,9 +141,9 @@ pub fn create<S: Store>(
     ensures done { IsTrue (S.tells store.old)
         → OnOk result (Keeps (S.reads store.new) (new_opened rate block_size depth)
         × EachNow S.Store store.new (λ c. Keeps c (new_opened rate block_size depth))) }
-    // Its journal is a header of version 1 in file 0.
+    // Its journal is a header of version 2 in file 0, with one point.
     ensures journal { IsTrue (S.tells store.old)
-        → OnOk result (IsAt version_1 S.Store store.new 32 (fresh rate block_size depth)) }
+        → OnOk result (IsAt (form_2 0) S.Store store.new 80 (fresh rate block_size depth)) }
     ensures answer { IsTrue (S.tells store.old) → Creates (S.reads store.old) result }
     // An honest disk stays so, whatever is answered.
     ensures honest { IsHonest S.Store store.old → IsHonest S.Store store.new }

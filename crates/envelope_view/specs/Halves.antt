@@ -1,5 +1,6 @@
 -- The two sides of an edge inside a long frame, and what is known of a block from them.
 use Rattle.std.specs.Prelude.{◌≡◌, ℕ, ◌+◌, ◌*◌, ◌^◌, ◌<◌, ◌≤◌, ℤ, List, length, Option, Some, None, Result, IfOk}
+use Rattle.sample_block.specs.declared.levels.TheConstants.{LONG_FRAME}
 use Rattle.disk_model.specs.Disk.{Files}
 use Rattle.pcm_base.specs.declared.block.BlockRef.{BlockRef}
 use Rattle.pcm_base.specs.Edits.{part}
@@ -38,7 +39,7 @@ IsKnown files (Some k) = (xs : List ℤ) → blocks files k.block.id ≡ Some xs
 
 -- a part ends inside long frame k of a block of so many samples, and begins before the frame or with it
 pub record IsEdgeIn (len from to k : ℕ) : Type 0 where
-  pub front : from ≤ 65536 * k
-  pub before : 65536 * k < to
-  pub behind : to < 65536 * k + 65536
+  pub front : from ≤ LONG_FRAME * k
+  pub before : LONG_FRAME * k < to
+  pub behind : to < LONG_FRAME * k + LONG_FRAME
   pub inside : to < len

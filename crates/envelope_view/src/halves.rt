@@ -18,6 +18,7 @@ use block_store::{BlockFault, Level};
 use disk_model::Store;
 use pcm_base::BlockRef;
 use peak_summary::{NOTHING, Summary, join};
+use sample_block::LONG_FRAME;
 
 /// How many long frames a block has at most.
 const MOST: usize = 4;
@@ -59,7 +60,7 @@ fn other_side<S: Store>(
     requires cached { IsTrue (S.tells store.old) → IsCacheOf (S.reads store.old) cache.old }
     requires rising { from ≤ to }
     requires within { to ≤ block.len }
-    requires few { to ≤ from + 65536 }
+    requires few { to ≤ from + LONG_FRAME }
     requires rest { IsTrue (S.tells store.old) → (xs : List ℤ) → blocks (S.reads store.old) block.id ≡ Some xs
         → length xs ≡ block.len → IsRest whole side (summary_of (part_of from to xs)) }
     ensures cache { KeepsCache (S.tells store.old) (S.reads store.old) (block ∷ []) cache.old cache.new }
@@ -90,7 +91,7 @@ fn sides<S: Store>(
     requires before { from < edge }
     requires behind { edge < to }
     requires within { to ≤ block.len }
-    requires few { to ≤ from + 65536 }
+    requires few { to ≤ from + LONG_FRAME }
     requires whole { IsTrue (S.tells store.old) → (xs : List ℤ) → blocks (S.reads store.old) block.id ≡ Some xs
         → length xs ≡ block.len → whole ≡ summary_of (part_of from to xs) }
     ensures cache { KeepsCache (S.tells store.old) (S.reads store.old) (block ∷ []) cache.old cache.new }
@@ -122,11 +123,11 @@ fn long_frames<S: Store>(
     requires block { IsBlock block.id block.len }
     requires cached { IsTrue (S.tells store.old) → IsCacheOf (S.reads store.old) cache.old }
     requires rising { first ≤ last }
-    requires within { last < frame_count 65536 block.len }
+    requires within { last < frame_count LONG_FRAME block.len }
     ensures cache { KeepsCache (S.tells store.old) (S.reads store.old) (block ∷ []) cache.old cache.new }
     ensures read { IsTrue (S.tells store.old)
         → AreHalves (S.reads store.old) block
-        (record { from = 65536 * first; edge = 65536 * last; to = 65536 * last + 65536 }) result }
+        (record { from = LONG_FRAME * first; edge = LONG_FRAME * last; to = LONG_FRAME * last + LONG_FRAME }) result }
     ensures damaged { IsTrue (S.tells store.old)
         → IfErr result (λ e. IsFault block.id block.len (bytes_of (S.reads store.old block.id)) e) }
     ensures kept { Kept S.Store store.old store.new }
@@ -154,12 +155,12 @@ pub(crate) fn up_to_edge<S: Store>(
 ) -> Result<Halves, BlockFault>
     requires block { IsBlock block.id block.len }
     requires cached { IsTrue (S.tells store.old) → IsCacheOf (S.reads store.old) cache.old }
-    requires rising { from ≤ 65536 * frame }
-    requires before { 65536 * frame < edge }
+    requires rising { from ≤ LONG_FRAME * frame }
+    requires before { LONG_FRAME * frame < edge }
     requires behind { edge < to }
     requires within { to ≤ block.len }
-    requires few { to ≤ 65536 * frame + 65536 }
-    requires last { to < 65536 * frame + 65536 → to ≡ block.len }
+    requires few { to ≤ LONG_FRAME * frame + LONG_FRAME }
+    requires last { to < LONG_FRAME * frame + LONG_FRAME → to ≡ block.len }
     ensures cache { KeepsCache (S.tells store.old) (S.reads store.old) (block ∷ []) cache.old cache.new }
     ensures read { IsTrue (S.tells store.old)
         → AreHalves (S.reads store.old) block (record { from = from; edge = edge; to = to }) result }
@@ -168,10 +169,18 @@ pub(crate) fn up_to_edge<S: Store>(
     ensures kept { Kept S.Store store.old store.new }
     ensures faults { Counted result (S.read_fault_count store.old) (S.read_fault_count store.new) }
 {
-    let first = from.div_ceil(65536);
-    let front = by_short(store, cache, block, from, 65536 * first)?;
+    let first = from.div_ceil(LONG_FRAME);
+    let front = by_short(store, cache, block, from, LONG_FRAME * first)?;
     let long = long_frames(store, cache, block, first, frame)?;
-    let halves = sides(store, cache, block, 65536 * frame, edge, to, long.after)?;
+    let halves = sides(
+        store,
+        cache,
+        block,
+        LONG_FRAME * frame,
+        edge,
+        to,
+        long.after,
+    )?;
     let before = join(join(front, long.before), halves.before);
     Ok(Halves {
         before,

@@ -1,5 +1,6 @@
 // What is known of a block behind the part that was summarized last.
 ghost use Rattle.std.specs.Prelude.{◌≡◌, ◌≤◌, ◌<◌, ◌+◌, ◌*◌, [], ◌∷◌, IsTrue, IfErr, IfSome, Some};
+ghost use Rattle.pcm_base.specs.declared.limits.TheConstants.{MAX_BLOCK_SAMPLES};
 ghost use Rattle.disk_model.specs.Disk.{Files, bytes_of};
 ghost use Rattle.disk_model.specs.Frames.{Kept};
 ghost use Rattle.sample_block.specs.Spelling.{IsBlock};
@@ -15,6 +16,7 @@ use block_store::BlockFault;
 use disk_model::Store;
 use pcm_base::BlockRef;
 use peak_summary::{NOTHING, Summary};
+use sample_block::LONG_FRAME;
 
 /// The summary of a part of a block that was not asked for yet.
 #[derive(Clone, Copy)]
@@ -51,21 +53,21 @@ pub(crate) fn front_of(known: Option<Known>, block: BlockRef, from: u32, to: u32
 fn frame_stop(len: u32, frame: u32) -> u32
     requires { frame ≤ 4 }
     ensures within { result ≤ len }
-    ensures few { result ≤ 65536 * frame + 65536 }
-    ensures last { result < 65536 * frame + 65536 → result ≡ len }
+    ensures few { result ≤ LONG_FRAME * frame + LONG_FRAME }
+    ensures last { result < LONG_FRAME * frame + LONG_FRAME → result ≡ len }
 {
-    len.min(65536 * frame + 65536)
+    len.min(LONG_FRAME * frame + LONG_FRAME)
 }
 
 /// The number of the long frame inside which a part ends, if the part has all that is before its end, and the next
 /// `reach` cells all that is behind it.
 fn frame_at(len: u32, from: u32, to: u32, reach: u64) -> Option<u32>
     requires within { to ≤ len }
-    requires few { len ≤ 262144 }
+    requires few { len ≤ MAX_BLOCK_SAMPLES }
     ensures { IfSome result (IsEdgeIn len from to) }
 {
-    let frame = to / 65536;
-    let start = 65536 * frame;
+    let frame = to / LONG_FRAME;
+    let start = LONG_FRAME * frame;
     let stop = frame_stop(len, frame);
     if from <= start && start < to && to < stop && u64::from(stop - to) <= reach {
         return Some(frame);

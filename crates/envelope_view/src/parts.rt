@@ -1,5 +1,6 @@
 // The summary of a part of a block, from whole frames and the samples at its edges.
 ghost use Rattle.std.specs.Prelude.{◌≡◌, ◌≤◌, ◌<◌, ◌+◌, ◌-◌, ◌*◌, [], ◌∷◌, length, fold, IsTrue, IfErr};
+ghost use Rattle.pcm_base.specs.declared.limits.TheConstants.{MAX_BLOCK_SAMPLES};
 ghost use Rattle.disk_model.specs.Disk.{bytes_of};
 ghost use Rattle.disk_model.specs.Frames.{Kept};
 ghost use Rattle.sample_block.specs.Spelling.{IsBlock};
@@ -14,6 +15,7 @@ use block_store::{BlockFault, Level};
 use disk_model::Store;
 use pcm_base::BlockRef;
 use peak_summary::{NOTHING, Summary, join, of};
+use sample_block::LONG_FRAME;
 
 /// How many samples, or frames, are read at once.
 const PIECE: usize = 512;
@@ -33,7 +35,7 @@ pub(crate) fn join_all(summaries: &[Summary]) -> Summary
 /// may be of fewer samples, is whole where the part ends with the block.
 fn short_end(len: u32, to: u32) -> u32
     requires within { to ≤ len }
-    requires few { len ≤ 262144 }
+    requires few { len ≤ MAX_BLOCK_SAMPLES }
     ensures frames { result ≤ frame_count 256 len }
     ensures low { 256 * result < to + 256 }
     ensures high { to < 256 * result + 256 }
@@ -48,16 +50,16 @@ fn short_end(len: u32, to: u32) -> u32
 /// The same of the frames of 65,536 samples.
 fn long_end(len: u32, to: u32) -> u32
     requires within { to ≤ len }
-    requires few { len ≤ 262144 }
-    ensures frames { result ≤ frame_count 65536 len }
-    ensures low { 65536 * result < to + 65536 }
-    ensures high { to < 65536 * result + 65536 }
-    ensures last { to < 65536 * result → to ≡ len }
+    requires few { len ≤ MAX_BLOCK_SAMPLES }
+    ensures frames { result ≤ frame_count LONG_FRAME len }
+    ensures low { LONG_FRAME * result < to + LONG_FRAME }
+    ensures high { to < LONG_FRAME * result + LONG_FRAME }
+    ensures last { to < LONG_FRAME * result → to ≡ len }
 {
     if to == len {
-        return to.div_ceil(65536);
+        return to.div_ceil(LONG_FRAME);
     }
-    to / 65536
+    to / LONG_FRAME
 }
 
 /// From the samples alone.
@@ -193,19 +195,19 @@ fn long_then_short<S: Store>(
     requires cached { IsTrue (S.tells store.old) → IsCacheOf (S.reads store.old) cache.old }
     requires rising { first < end }
     requires within { to ≤ block.len }
-    requires frames { end ≤ frame_count 65536 block.len }
-    requires behind { 65536 * end < to + 65536 }
-    requires rest { to < 65536 * end + 65536 }
-    requires last { to < 65536 * end → to ≡ block.len }
+    requires frames { end ≤ frame_count LONG_FRAME block.len }
+    requires behind { LONG_FRAME * end < to + LONG_FRAME }
+    requires rest { to < LONG_FRAME * end + LONG_FRAME }
+    requires last { to < LONG_FRAME * end → to ≡ block.len }
     ensures cache { KeepsCache (S.tells store.old) (S.reads store.old) (block ∷ []) cache.old cache.new }
-    ensures read { IsTrue (S.tells store.old) → Summarizes (S.reads store.old) block (65536 * first) to result }
+    ensures read { IsTrue (S.tells store.old) → Summarizes (S.reads store.old) block (LONG_FRAME * first) to result }
     ensures damaged { IsTrue (S.tells store.old)
         → IfErr result (λ e. IsFault block.id block.len (bytes_of (S.reads store.old block.id)) e) }
     ensures kept { Kept S.Store store.old store.new }
     ensures faults { Counted result (S.read_fault_count store.old) (S.read_fault_count store.new) }
 {
     let front = by_frames(store, cache, block, Level::Long, first, end)?;
-    let from = to.min(65536 * end);
+    let from = to.min(LONG_FRAME * end);
     let back = by_short(store, cache, block, from, to)?;
     Ok(join(front, back))
 }
@@ -230,12 +232,12 @@ pub(crate) fn summarize<S: Store>(
     ensures kept { Kept S.Store store.old store.new }
     ensures faults { Counted result (S.read_fault_count store.old) (S.read_fault_count store.new) }
 {
-    let first = from.div_ceil(65536);
+    let first = from.div_ceil(LONG_FRAME);
     let end = long_end(block.len, to);
     if first >= end {
         return by_short(store, cache, block, from, to);
     }
-    let front = by_short(store, cache, block, from, 65536 * first)?;
+    let front = by_short(store, cache, block, from, LONG_FRAME * first)?;
     let back = long_then_short(store, cache, block, first, end, to)?;
     Ok(join(front, back))
 }

@@ -1,6 +1,6 @@
 -- A fresh project, opened: its studio is that of the model's fresh project.
-use Rattle.std.proofs.Common.{◌≡◌, inl, ⊎_elim, ℕ, ◌+◌, ◌≤◌, IsTrue, IsSome, Err, Ok, List, [], ◌∷◌, ◌++◌, length, map, refl}
-use Rattle.std.proofs.Common.{sym, ap, ◌∙◌, subst, arith}
+use Rattle.std.proofs.Common.{◌≡◌, inr, ⊎_elim, ℕ, ◌+◌, IsTrue, IsSome, Err, Ok, List, [], ◌∷◌, ◌++◌, length, map, refl}
+use Rattle.std.proofs.Common.{◌≤◌, sym, ap, ◌∙◌, subst, arith}
 use Rattle.std.specs.List.{flat_map}
 use Rattle.std.proofs.lemmas.List.{append-nil}
 use Rattle.disk_model.specs.Disk.{Files, StaysStep}
@@ -9,12 +9,11 @@ use Rattle.disk_model.specs.Room.{IsWithin, Room}
 use Rattle.disk_model.specs.declared.store.Store.{Ghosts}
 use Rattle.pcm_base.specs.Studio as model
 use Rattle.project_journal.specs.Gate.{EachNow}
-use Rattle.project_journal.specs.Header.{Form, IsForm, version_1}
+use Rattle.project_journal.specs.Header.{Form, IsForm, form_2}
 use Rattle.project_journal.specs.Journal.{Entry, HasLog, IsAt, IsLog, Log, body_of, entry, fresh}
-use Rattle.project_journal.proofs.Bases.{plain}
-use Rattle.project_journal.proofs.Chosen.{one_journal}
+use Rattle.project_journal.proofs.Bases.{length-head}
 use Rattle.project_journal.proofs.Kept.{is_project}
-use Rattle.project_state.specs.Kept.{Begins, Keeps, Kept, LeadIn, new_project, version_of}
+use Rattle.project_state.specs.Kept.{Keeps, Kept, new_project}
 use Rattle.project_state.proofs.KeptOnce.{keeps_once}
 use Rattle.editor_core.specs.Core.{Core}
 use Rattle.editor_core.specs.Studios.{IsHeld, IsStudio, clip_cells, pin_at, shown, studio_of}
@@ -26,6 +25,8 @@ use Rattle.editor_recovery.specs.Files.{IsNextBlock}
 use Rattle.editor_recovery.specs.Found.{Found, IsNew, found_by}
 use Rattle.editor_recovery.specs.Honest.{IsHonest, OpensHonest}
 use Rattle.editor_recovery.specs.Opening.{Finds, Opens}
+use Rattle.editor_recovery.proofs.Created.{new_stands}
+use Rattle.editor_recovery.proofs.Honest.{same_kept}
 use Rattle.memory_project.specs.declared.fresh.FreshProject.{FreshProject}
 use Rattle.memory_project.specs.Fresh.{CanBeMade, IsFresh, IsMade, found_of, left_behind, made_room}
 use Rattle.memory_project.specs.Memory.{HasAsked, HasRoom}
@@ -38,12 +39,12 @@ none_of_none : {A B : Type 0} (f : A → B) (xs : List A) → map f xs ≡ [] �
 none_of_none f [] e = refl
 none_of_none f (x ∷ xs) e = cc
 
--- a journal without records is its header alone
-header_alone : (front : List ℕ) (log : Log) → IsLog version_1 front log → log.bodies ≡ [] → length front ≡ 32
-header_alone front log is none =
-    let entries : is.entries ≡ [] = none_of_none body_of is.entries (is.bodies ∙ none) in
+-- the journal of a new project is its header alone
+header_alone : (front : List ℕ) (rate m depth : ℕ) → IsLog (form_2 0) front (fresh rate m depth) → length front ≡ 80
+header_alone front rate m depth is =
+    let entries : is.entries ≡ [] = none_of_none body_of is.entries is.bodies in
     ap length is.parts ∙ ap (λ (es : List Entry). length (is.head ++ flat_map entry es)) entries
-    ∙ ap length (append-nil is.head) ∙ (plain 0 is.head log is.header).size
+    ∙ ap length (append-nil is.head) ∙ length-head (form_2 0) is.head (fresh rate m depth) is.header
 
 -- where no file is there but the journal, the next block is the first
 first_block : (files : Files) (next : ℕ) → ((file : ℕ) → IsSome (files file) → file ≡ 0) → IsNextBlock files 16 next
@@ -88,19 +89,11 @@ module _ {D : Type 0} (disk : Ghosts D) (p : FreshProject) (can : CanBeMade p) (
         subst (λ (f : Files). Keeps f (found_of p)) (sym to.reads) made.keeps in
         keeps_once (disk.reads start.store) (shown (studio_of disk start)) (found_of p) keeps new
 
-    abbrev log : Log
-    log = fresh p.rate p.block_size p.depth
-
     -- nothing was recorded yet
     kept_is : finds.kept ≡ new_project p.depth
-    kept_is =
-        let is = finds.project.stands in
-        let same : finds.log ≡ log = (one_journal finds.form version_1 finds.log log (disk.reads store) is.known
-        (inl refl) is.few (omega arith) is.there made.there).log in
-        let begins : Begins log is.base = subst (λ (l : Log). Begins l is.base) same is.begins in
-        let led : LeadIn (version_of finds.form) log.block_size is.base log.bodies finds.kept =
-        subst (λ (l : Log). LeadIn (version_of finds.form) l.block_size is.base l.bodies finds.kept) same is.told in
-        led ∙ begins
+    kept_is = same_kept (disk.reads store) finds.form (form_2 0) finds.log (fresh p.rate p.block_size p.depth)
+        finds.kept (new_project p.depth) finds.project.stands
+        (new_stands p.rate p.block_size p.depth (disk.reads store) made.there)
 
     next_is : start.next_block ≡ 16
     next_is =
@@ -108,10 +101,11 @@ module _ {D : Type 0} (disk : Ghosts D) (p : FreshProject) (can : CanBeMade p) (
         (subst (λ (n : ℕ). IsNextBlock (disk.reads store) n start.next_block) (ap (λ (k : Kept). k.next_block) kept_is)
         finds.found.next_block)
 
-    end_is : start.journal_end ≡ 32
+    end_is : start.journal_end ≡ 80
     end_is =
-        let at = to.at_rest made.tells version_1 log (inl refl) (omega arith) made.there in
-        sym at.place ∙ header_alone at.front log at.spelled refl
+        let at = to.at_rest made.tells (form_2 0) (fresh p.rate p.block_size p.depth) (inr refl) (omega arith)
+        made.there in
+        sym at.place ∙ header_alone at.front p.rate p.block_size p.depth at.spelled
 
     room_is : HasRoom disk start.store (left_behind 10 p)
     room_is = room_left disk store start.store StaysStep two_calls (left_behind 8 p) (left_behind 10 p) to.changed
@@ -161,7 +155,7 @@ module _ {D : Type 0} (disk : Ghosts D) (p : FreshProject) (can : CanBeMade p) (
   pub opening_wants : (new : D) (why : OpenFault) → (IsHonest disk store → OpensHonest disk store new (Err why))
       → Causes {T = Found} disk store new (Err why) → Changed disk StaysStep two_calls store new → why ≡ fault.NoMemory
   opening_wants new fault.Absent honest cause changed = absurd ((honest made.honest).0
-      (is_project version_1 (fresh p.rate p.block_size p.depth) (disk.reads store) (omega arith) made.there))
+      (is_project (form_2 0) (fresh p.rate p.block_size p.depth) (disk.reads store) (omega arith) made.there))
   opening_wants new fault.Exists honest cause changed = absurd (honest made.honest)
   opening_wants new (fault.Damaged file at want have) honest cause changed = absurd (honest made.honest)
   opening_wants new (fault.Foreign file) honest cause changed = absurd (honest made.honest)

@@ -4,7 +4,7 @@ use Rattle.disk_model.specs.Room.{Room}
 use Rattle.disk_model.specs.declared.store.Store.{Ghosts}
 use Rattle.pcm_base.specs.Studio.{fresh}
 use Rattle.project_journal.specs.Gate.{EachNow}
-use Rattle.project_journal.specs.Header.{IsFormat, version_1}
+use Rattle.project_journal.specs.Header.{IsFormat, form_2}
 use Rattle.project_journal.specs.Journal as journal
 use Rattle.project_state.specs.Kept.{Keeps, Opened}
 use Rattle.editor_core.specs.Core.{Core}
@@ -19,7 +19,7 @@ pub record CanBeMade (p : FreshProject) : Type 0 where
   pub format : IsFormat p.rate p.block_size p.depth
   pub files_least : 1 ≤ p.files
   pub files_most : p.files < 2 ^ 62
-  pub bytes_least : 34 ≤ p.bytes
+  pub bytes_least : 82 ≤ p.bytes
   pub bytes_most : p.bytes < 2 ^ 62
   pub calls_least : 10 ≤ p.calls
   pub calls_most : p.calls < 2 ^ 62
@@ -34,11 +34,11 @@ room_of_project p = record { files = p.files; bytes = p.bytes; calls = p.calls }
 
 -- what it takes to make it, where so many calls were served
 abbrev pub made_room : ℕ → Room
-made_room calls = record { files = 1; bytes = 34; calls = calls }
+made_room calls = record { files = 1; bytes = 82; calls = calls }
 
 -- and the room that it leaves
 abbrev pub left_behind : ℕ → FreshProject → Room
-left_behind calls p = record { files = p.files - 1; bytes = p.bytes - 34; calls = p.calls - calls }
+left_behind calls p = record { files = p.files - 1; bytes = p.bytes - 82; calls = p.calls - calls }
 
 -- A disk without files, with this room.
 pub record IsEmpty {D : Type 0} (disk : Ghosts D) (p : FreshProject) (store : D) : Type 0 where
@@ -48,11 +48,11 @@ pub record IsEmpty {D : Type 0} (disk : Ghosts D) (p : FreshProject) (store : D)
   pub room : HasRoom disk store (room_of_project p)
   pub asked_none : HasAsked disk store no_room
 
--- The disk has its journal, of version 1, and keeps it, and so does each image; no file is there but the journal.
+-- The disk has its journal, and keeps it, and so does each image; no file is there but the journal.
 pub record IsMade {D : Type 0} (disk : Ghosts D) (p : FreshProject) (store : D) : Type 0 where
   pub tells : IsTrue (disk.tells store)
   pub honest : IsHonest disk store
-  pub there : journal.HasLog version_1 (journal.fresh p.rate p.block_size p.depth) (disk.reads store)
+  pub there : journal.HasLog (form_2 0) (journal.fresh p.rate p.block_size p.depth) (disk.reads store)
   pub keeps : Keeps (disk.reads store) (found_of p)
   pub each : EachNow disk store (λ c. Keeps c (found_of p))
   pub only : (file : ℕ) → IsSome (disk.reads store file) → file ≡ 0

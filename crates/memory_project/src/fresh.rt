@@ -21,7 +21,7 @@ pub struct FreshProject {
     pub depth: u32,
     /// How many files the disk has room for: from 1.
     pub files: usize,
-    /// How many bytes: from 34.
+    /// How many bytes: from 82.
     pub bytes: usize,
     /// How many changing calls it serves: from 10.
     pub calls: usize,

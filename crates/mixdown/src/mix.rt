@@ -1,6 +1,7 @@
 // The frames of a mix.
 ghost use Rattle.std.specs.Prelude.{◌≡◌, ◌≤◌, ◌+◌, ◌*◌, ℕ, length, map};
 ghost use Rattle.std.specs.List.{range_with_len};
+ghost use Rattle.pcm_base.specs.declared.limits.TheConstants.{MAX_TRACKS};
 ghost use Rattle.pcm_base.specs.Arithmetic.{counted_from};
 ghost use Rattle.pcm_base.specs.Cells.{Project};
 ghost use Rattle.pcm_base.specs.Mix.{frame_at, unmuted};
@@ -19,7 +20,7 @@ fn mix_piece(
     at: usize,
     out: &mut [Frame],
 )
-    requires few { length gains.now ≤ 64 }
+    requires few { length gains.now ≤ MAX_TRACKS }
     requires sides { length sides.now ≡ length gains.now }
     requires stretches { length stretches.now ≡ length gains.now * len }
     requires piece { length out.old ≤ 256 }
@@ -43,7 +44,7 @@ fn mix_piece(
 /// behind a track's end, the frames are the project's from that place on. Muted tracks may be left out, or stand as
 /// stretches of gaps.
 pub fn mix_into(stretches: &[Cell], gains: &[u32], sides: &[Side], out: &mut [Frame])
-    requires few { length gains.now ≤ 64 }
+    requires few { length gains.now ≤ MAX_TRACKS }
     requires sides { length sides.now ≡ length gains.now }
     requires stretches { length stretches.now ≡ length gains.now * length out.old }
     ensures frames { out.new ≡ map (frame_at (laid (length out.old) stretches.now gains.now sides.now))
@@ -62,7 +63,7 @@ pub fn mix_into(stretches: &[Cell], gains: &[u32], sides: &[Side], out: &mut [Fr
 
 /// The frames of [`mix_into`], piece by piece.
 fn mix_pieces(stretches: &[Cell], gains: &[u32], sides: &[Side], out: &mut [Frame])
-    requires few { length gains.now ≤ 64 }
+    requires few { length gains.now ≤ MAX_TRACKS }
     requires sides { length sides.now ≡ length gains.now }
     requires stretches { length stretches.now ≡ length gains.now * length out.old }
     ensures { out.new ≡ map (frame_at (laid (length out.old) stretches.now gains.now sides.now))

@@ -4,10 +4,7 @@ ghost use Rattle.pcm_base.specs.Arithmetic.{scaled as scaled_of};
 ghost use Rattle.pcm_base.specs.Mix.{weight as weight_of};
 ghost use Rattle.mixdown.specs.Sums.{AreWithin, Grows, IsAdded};
 
-use pcm_base::{Cell, scaled};
-
-/// The gain that leaves a sample as it is.
-const UNITY: u32 = 65_536;
+use pcm_base::{Cell, UNITY_GAIN, scaled};
 
 /// A sample under a gain: at most 2^32 in size.
 fn weigh_sample(gain: u32, sample: i16) -> i64
@@ -30,7 +27,7 @@ fn weigh(gain: u32, cell: Cell) -> i64
 
 /// What a cell adds at unity gain: its sample as it is.
 fn weigh_at_unity(cell: Cell) -> i64
-    ensures value { result ≡ weight_of 65536 cell }
+    ensures value { result ≡ weight_of UNITY_GAIN cell }
     ensures bound { nat_abs result ≤ 2 ^ 32 }
 {
     match cell {
@@ -53,7 +50,7 @@ pub(crate) fn add(a: i64, b: i64) -> i64
 fn add_at_unity(cells: &[Cell], sums: &mut [i64])
     requires room { length cells.now ≤ length sums.old }
     requires small { AreWithin (2 ^ 39) (length cells.now) sums.old }
-    ensures added { IsAdded 65536 cells.now sums.old sums.new }
+    ensures added { IsAdded UNITY_GAIN cells.now sums.old sums.new }
     ensures bound { Grows (length cells.now) sums.old sums.new }
 {
     for k in 0..cells.len() {
@@ -80,7 +77,7 @@ pub(crate) fn add_cells(gain: u32, cells: &[Cell], sums: &mut [i64])
     ensures added { IsAdded gain cells.now sums.old sums.new }
     ensures bound { Grows (length cells.now) sums.old sums.new }
 {
-    if gain == UNITY {
+    if gain == UNITY_GAIN {
         add_at_unity(cells, sums);
     } else {
         add_scaled(gain, cells, sums);

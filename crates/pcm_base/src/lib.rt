@@ -31,8 +31,8 @@ pub use edits::{Placing, RangeEdit, Removing};
 pub use entry::{Entry, Event, SoundMove};
 pub use failed::{Failed, NoMemory};
 pub use limits::{
-    COUNTER_LIMIT, FIRST_BLOCK, FIRST_RECORD, LONGEST_BODY, MAX_BLOCK_SAMPLES, MAX_CELLS,
-    MAX_DEPTH, MAX_GAIN, MAX_RAMP, MAX_TRACKS, MAX_VIEW, UNITY_GAIN,
+    COUNTER_LIMIT, FIRST_BLOCK, FIRST_RECORD, LEAST_END, LONGEST_BODY, MAX_BLOCK_SAMPLES,
+    MAX_CELLS, MAX_DEPTH, MAX_GAIN, MAX_RAMP, MAX_TRACKS, MAX_VIEW, UNITY_GAIN,
 };
 pub use lists::{Bytes, CellList, Columns, Frames, Items, Numbers, Samples, TrackLines};
 pub use name::Name;

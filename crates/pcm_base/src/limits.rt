@@ -30,8 +30,11 @@ pub const MAX_BLOCK_SAMPLES: u32 = 262_144;
 /// The id of the first block.
 pub const FIRST_BLOCK: u64 = 16;
 
-/// The place in the journal where its records begin.
-pub const FIRST_RECORD: u64 = 32;
+/// The place in the journal of a new project where its records begin.
+pub const FIRST_RECORD: u64 = 80;
+
+/// No journal ends before this place: there the records of version 1 begin.
+pub const LEAST_END: u64 = 32;
 
 /// The longest body of a record.
 pub const LONGEST_BODY: u64 = 4_294_901_760;

@@ -12,6 +12,7 @@ pub mod Texts
 pub mod Chosen
 pub mod AnyFormats
 mod Starts
+mod Made
 pub mod Parses
 mod Splits
 mod RowParts

@@ -1,4 +1,4 @@
--- A body that is told by the current point is hardly longer than one that is written out: by a byte a track.
+-- A body that is written by the current point is hardly longer than one that is written out: by a byte a track.
 use Rattle.std.proofs.Common.{◌≡◌, ℕ, ◌+◌, ◌*◌, ◌≤◌, ◌<◌, ◌&&◌, inl, inr, List, [], ◌∷◌, length, drop, Option}
 use Rattle.std.proofs.Common.{Some, None, arith, length-append, length-drop}
 use Rattle.std.proofs.lemmas.Bool.{cases_Bool}

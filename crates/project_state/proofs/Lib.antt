@@ -17,6 +17,7 @@ pub mod Lengths
 pub mod KeptBounds
 pub mod KeptOnce
 pub mod Unpacked
+pub mod NewProjects
 pub mod Leading
 pub mod Meanings
 pub mod MeantHistories

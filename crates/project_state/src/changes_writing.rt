@@ -175,7 +175,7 @@ fn write_edit_by(
 pub fn delta_len(body: &Body, current: &Point) -> usize
     ensures value { result ≡ length (change.delta_spelling current.now body.now) }
     ensures few { result ≤ 2 ^ 45 }
-    // It passes the length of the body that is told by no point by one byte a track at most.
+    // It passes the length of the body that is written by no point by one byte a track at most.
     ensures more { result ≤ length (spelling body.now) + length (told_tracks body.now) }
 {
     match body {

@@ -77,7 +77,7 @@ fn read_point_fields(
     Ok((tracks, u64_at(bytes, 0)))
 }
 
-/// The same, and where they have another length, that is told.
+/// The same, and if they have another length, that is reported.
 fn read_point_whole(
     alloc: Global,
     bytes: &[u8],

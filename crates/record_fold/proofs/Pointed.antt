@@ -235,7 +235,7 @@ points_all disk store r m size b h so count cursor depth = record {
   depth = depth;
 }
 
--- a reader of a header stands behind its gate
+-- a reader of a header stands after its gate
 pub heading_least : {D : Type 0} (disk : Ghosts D) (store : D) (r : Reader) (points : List (List ℕ))
     → IsHeading disk store r points → 1 ≤ r.at
 heading_least disk store r points is =

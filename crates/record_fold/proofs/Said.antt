@@ -52,7 +52,7 @@ unfolding says
 says_is version m at k bytes body least most is =
     said_is version m (before_at k at) (current_tracks k.history) bytes body least most is
 
--- The place of a record bears on where its faults are told alone.
+-- The place of a record bears only on where its faults are reported.
 sound_at : (m : ℕ) (k : Kept) (at there : ℕ) (body : Body) → IsSound m (before_at k at) body
     → IsSound m (before_at k there) body
 sound_at m k at there (Edit tag next_block next_track ts) s = record {

@@ -102,7 +102,7 @@ after_commit k Undo = refl
 after_commit k Redo = refl
 after_commit k (Purge n) = refl
 
--- after so many records it is as records may leave it
+-- after these records it is as records may leave it
 pub valid_by : (m depth count : ℕ) (k : Kept) → IsSoundKept m depth count k → IsValid m k
 valid_by m depth count k s = record {
   points = s.points;

@@ -92,7 +92,7 @@ abbrev pub first_fault : ℕ → Kept → List (ℕ × List ℕ) → Option Dama
 first_fault m = first_fault_in 1 m
 
 -- The first fault of a journal the fields of whose header are sound: its points come before its records, and an early
--- end of the file stands behind all of them.
+-- end of the file stands after all of them.
 abbrev pub journal_fault : Form → Contents → Option Damaged
 journal_fault form j = option_or (points_fault j.block_size j.base form.header_size j.points)
     (option_or (first_fault_in (version_of form) j.block_size (base_of j) j.records) j.early)

@@ -155,7 +155,7 @@ fn fold_records<S: Store>(
 /// # Errors
 ///
 /// `Damaged`: the first field, by its place in the file, that is not as `docs/FORMATS.md` asks. Where the file ends too
-/// early, that is told behind all faults of the points and records before. `DiskFault`: the disk failed. `NoMemory`:
+/// early, that is reported after all faults of the points and records before. `DiskFault`: the disk failed. `NoMemory`:
 /// there is no memory for the points, or for a record's bytes.
 pub fn fold_journal<S: Store>(
     alloc: Global,

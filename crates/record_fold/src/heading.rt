@@ -90,7 +90,7 @@ fn one_point(
     }
 }
 
-/// Adds a point behind all others.
+/// Adds a point after all others.
 fn add_last(history: &mut History<Point>, point: Point, tag: u64) -> Result<(), JournalFault>
     requires { length history.old.history.points < history.old.history.depth }
     ensures { MatchResult result (λ _. history.new.history

@@ -3,6 +3,8 @@ use Rattle.std.specs.Prelude.{◌≡◌, ℕ, ◌+◌, ◌*◌, ◌≤◌, ◌<�
 use Rattle.std.specs.Int.{w16, cast_unsigned}
 use Rattle.std.specs.List.{flat_map}
 use Rattle.byteorder.specs.Endian.{little_bytes}
+use Rattle.pcm_base.specs.declared.limits.TheConstants.{COUNTER_LIMIT, FIRST_BLOCK, MAX_BLOCK_SAMPLES}
+use Rattle.sample_block.specs.declared.levels.TheConstants.{LONG_FRAME}
 use Rattle.peak_summary.specs.Peaks.{AreSamples, frames_of, frame_count}
 use Rattle.peak_summary.specs.declared.stretch.Summary.{Summary}
 
@@ -37,7 +39,7 @@ level_fields n xs = flat_map frame_fields (frames_of n xs)
 
 -- the samples, and the frames of both levels
 abbrev pub body_fields : List ℤ → List Field
-body_fields xs = map sample_field xs ++ (level_fields 256 xs ++ level_fields 65536 xs)
+body_fields xs = map sample_field xs ++ (level_fields 256 xs ++ level_fields LONG_FRAME xs)
 
 -- all the fields of the file, in order
 abbrev pub fields_of : ℕ → List ℤ → List Field
@@ -47,14 +49,14 @@ abbrev pub spelling : ℕ → List ℤ → List ℕ
 spelling id xs = flat_map field_bytes (fields_of id xs)
 
 abbrev pub size_of : ℕ → ℕ
-size_of n = 16 + 2 * n + 12 * (frame_count 256 n + frame_count 65536 n)
+size_of n = 16 + 2 * n + 12 * (frame_count 256 n + frame_count LONG_FRAME n)
 
 -- the ids that blocks may have, and how many samples
 pub record IsBlock (id count : ℕ) : Type 0 where
-  pub id_low : 16 ≤ id
-  pub id_high : id < 2 ^ 62
+  pub id_low : FIRST_BLOCK ≤ id
+  pub id_high : id < COUNTER_LIMIT
   pub some : 1 ≤ count
-  pub few : count ≤ 262144
+  pub few : count ≤ MAX_BLOCK_SAMPLES
 
 -- these bytes are the block with this id and these samples
 abbrev pub IsSpelled : ℕ → List ℤ → List ℕ → Type 0

@@ -1,6 +1,7 @@
 // A block from bytes, whole or a field of it.
 ghost use Rattle.std.specs.Prelude.{◌≡◌, ◌≤◌, ◌+◌, ◌*◌, ◌∷◌, ◌++◌, [], length, ℤ, List, None, IfOk, IfErr, OnOk};
 ghost use Rattle.std.specs.Int.{w16, cast_signed};
+ghost use Rattle.pcm_base.specs.declared.limits.TheConstants.{MAX_BLOCK_SAMPLES};
 ghost use Rattle.sample_block.specs.Faults.{number_at, difference, size_difference, damage_of, samples_in, Tells};
 ghost use Rattle.sample_block.specs.Faults.{Gives, IsFoundAs};
 ghost use Rattle.peak_summary.specs.Peaks.{frame_count, frames_of};
@@ -10,7 +11,7 @@ ghost use Rattle.std.specs.List.{flat_map};
 
 use super::block::{Block, Header};
 use super::damage::{BadBlock, Damaged};
-use super::levels::{MAX_LONG_FRAMES, MAX_SHORT_FRAMES};
+use super::levels::{LONG_FRAME, MAX_LONG_FRAMES, MAX_SHORT_FRAMES};
 use super::samples::take_frame;
 use super::writing::file_size;
 use byteorder::{ByteOrder, LittleEndian};
@@ -180,7 +181,7 @@ fn take_samples(
     len: usize,
     short: &mut [Summary],
 ) -> Result<Vec<i16>, AllocError>
-    requires few { len ≤ 262144 }
+    requires few { len ≤ MAX_BLOCK_SAMPLES }
     requires whole { 16 + 2 * len ≤ length bytes.now }
     requires count { length short.old ≡ frame_count 256 len }
     ensures samples { IfOk result (λ v. v.items ≡ samples_in bytes.now 16 len) }
@@ -201,13 +202,13 @@ fn take_measured(
     short: &mut [Summary],
     long: &mut [Summary],
 ) -> Result<Vec<i16>, AllocError>
-    requires few { len ≤ 262144 }
+    requires few { len ≤ MAX_BLOCK_SAMPLES }
     requires whole { 16 + 2 * len ≤ length bytes.now }
     requires short { length short.old ≡ frame_count 256 len }
-    requires long { length long.old ≡ frame_count 65536 len }
+    requires long { length long.old ≡ frame_count LONG_FRAME len }
     ensures samples { IfOk result (λ v. v.items ≡ samples_in bytes.now 16 len) }
     ensures short { OnOk result (short.new ≡ frames_of 256 (samples_in bytes.now 16 len)) }
-    ensures long { OnOk result (long.new ≡ frames_of 65536 (samples_in bytes.now 16 len)) }
+    ensures long { OnOk result (long.new ≡ frames_of LONG_FRAME (samples_in bytes.now 16 len)) }
 {
     let samples = take_samples(alloc, bytes, len, short)?;
     all_fit(&samples);
@@ -217,18 +218,18 @@ fn take_measured(
 
 /// The samples of a file whose size and header are right, where its frames are those of the samples.
 fn take_checked(alloc: Global, bytes: &[u8], len: usize) -> Result<Vec<i16>, BadBlock>
-    requires few { len ≤ 262144 }
+    requires few { len ≤ MAX_BLOCK_SAMPLES }
     requires size { length bytes.now ≡ size_of len }
     ensures samples { IfOk result (λ v. v.items ≡ samples_in bytes.now 16 len) }
     ensures none { OnOk result (difference bytes.now (16 + 2 * len) (level_fields 256
-        (samples_in bytes.now 16 len) ++ level_fields 65536 (samples_in bytes.now 16 len)) ≡ None) }
+        (samples_in bytes.now 16 len) ++ level_fields LONG_FRAME (samples_in bytes.now 16 len)) ≡ None) }
     ensures fault { IfErr result (IsFoundAs (difference bytes.now (16 + 2 * len) (level_fields 256
-        (samples_in bytes.now 16 len) ++ level_fields 65536 (samples_in bytes.now 16 len)))) }
+        (samples_in bytes.now 16 len) ++ level_fields LONG_FRAME (samples_in bytes.now 16 len)))) }
 {
     let mut short = [NOTHING; MAX_SHORT_FRAMES];
     let mut long = [NOTHING; MAX_LONG_FRAMES];
     let short = &mut short[..len.div_ceil(256)];
-    let long = &mut long[..len.div_ceil(65536)];
+    let long = &mut long[..len.div_ceil(LONG_FRAME as usize)];
     let samples = match take_measured(alloc, bytes, len, short, long) {
         Ok(samples) => samples,
         Err(_) => return Err(BadBlock::NoMemory),
@@ -241,7 +242,7 @@ fn take_checked(alloc: Global, bytes: &[u8], len: usize) -> Result<Vec<i16>, Bad
 
 /// The size of the file and its first 16 bytes.
 pub(crate) fn check_front(bytes: &[u8], id: u64, len: u32) -> Result<(), Damaged>
-    requires { len ≤ 262144 }
+    requires { len ≤ MAX_BLOCK_SAMPLES }
     ensures size { OnOk result (length bytes.now ≡ size_of len) }
     ensures fields { Tells result (size_difference len bytes.now (difference bytes.now 0 (header_fields id len))) }
 {
@@ -258,7 +259,7 @@ pub(crate) fn check_front(bytes: &[u8], id: u64, len: u32) -> Result<(), Damaged
 
 // As `decode`, whose other clauses are laws on what this one says.
 fn read(alloc: Global, bytes: &[u8], id: u64, len: u32) -> Result<Block, BadBlock>
-    requires { len ≤ 262144 }
+    requires { len ≤ MAX_BLOCK_SAMPLES }
     ensures exact { Gives result (damage_of id len bytes.now, samples_in bytes.now 16 len) }
     ensures id { IfOk result (λ b. b.id ≡ id) }
 {

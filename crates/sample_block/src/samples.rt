@@ -1,5 +1,6 @@
 // The samples of a block file, and those of one frame of 256.
 ghost use Rattle.std.specs.Prelude.{◌≡◌, ◌≤◌, ◌<◌, ◌+◌, ◌*◌, ◌++◌, length, take, drop, IfOk, OnOk};
+ghost use Rattle.pcm_base.specs.declared.limits.TheConstants.{MAX_BLOCK_SAMPLES};
 ghost use Rattle.peak_summary.specs.Peaks.{frame_count, frame_of};
 ghost use Rattle.sample_block.specs.Faults.{samples_in};
 
@@ -17,7 +18,7 @@ fn read_samples(bytes: &[u8], at: usize, out: &mut [i16])
 
 /// Reads the samples of frame `i` of 256 into `room`, and returns the part that has them. The file has `len` samples.
 fn read_frame<'a>(bytes: &[u8], len: usize, i: usize, room: &'a mut [i16; 256]) -> &'a [i16]
-    requires few { len ≤ 262144 }
+    requires few { len ≤ MAX_BLOCK_SAMPLES }
     requires whole { 16 + 2 * len ≤ length bytes.now }
     requires within { i < frame_count 256 len }
     ensures samples { result.now ≡ take 256 (drop (256 * i) (samples_in bytes.now 16 len)) }
@@ -31,7 +32,7 @@ fn read_frame<'a>(bytes: &[u8], len: usize, i: usize, room: &'a mut [i16; 256]) 
 
 /// The summary of the samples of frame `i` of 256, in a file of `len` samples.
 pub(crate) fn short_frame(bytes: &[u8], len: usize, i: usize) -> Summary
-    requires few { len ≤ 262144 }
+    requires few { len ≤ MAX_BLOCK_SAMPLES }
     requires whole { 16 + 2 * len ≤ length bytes.now }
     requires within { i < frame_count 256 len }
     ensures { result ≡ frame_of 256 (samples_in bytes.now 16 len) i }
@@ -47,7 +48,7 @@ pub(crate) fn take_frame(
     i: usize,
     out: &mut Vec<i16>,
 ) -> Result<Summary, AllocError>
-    requires few { len ≤ 262144 }
+    requires few { len ≤ MAX_BLOCK_SAMPLES }
     requires whole { 16 + 2 * len ≤ length bytes.now }
     requires within { i < frame_count 256 len }
     ensures frame { IfOk result (λ s. s ≡ frame_of 256 (samples_in bytes.now 16 len) i) }

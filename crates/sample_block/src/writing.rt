@@ -3,22 +3,23 @@ ghost use Rattle.std.specs.Prelude.{◌≡◌, ◌≤◌, ◌<◌, ◌^◌, ◌+
 ghost use Rattle.std.specs.Prelude.{vec_len, IsOk};
 ghost use Rattle.std.specs.Prelude.{OnOk, OnErr};
 ghost use Rattle.std.specs.List.{flat_map};
+ghost use Rattle.pcm_base.specs.declared.limits.TheConstants.{MAX_BLOCK_SAMPLES};
 ghost use Rattle.peak_summary.specs.Peaks.{frame_count, frames_of};
 ghost use Rattle.sample_block.specs.Spelling.{IsBlock, IsSpelled, spelling, size_of, field_bytes, frame_fields};
 ghost use Rattle.sample_block.specs.Spelling.{header_fields, body_fields, sample_bytes};
 
-use super::levels::{MAX_LONG_FRAMES, MAX_SHORT_FRAMES};
+use super::levels::{LONG_FRAME, MAX_LONG_FRAMES, MAX_SHORT_FRAMES};
 use byteorder::{ByteOrder, LittleEndian};
 use pcm_base::NoMemory;
 use peak_summary::{NOTHING, Summary, all_fit, fill_long, of};
 
 /// The size in bytes of the file of a block of `count` samples, at most 262,144.
 pub fn file_size(count: usize) -> usize
-    requires { count ≤ 262144 }
+    requires { count ≤ MAX_BLOCK_SAMPLES }
     ensures value { result ≡ size_of count }
     ensures bound { result ≤ 2 ^ 20 }
 {
-    16 + 2 * count + 12 * (count.div_ceil(256) + count.div_ceil(65536))
+    16 + 2 * count + 12 * (count.div_ceil(256) + count.div_ceil(LONG_FRAME as usize))
 }
 
 /// Magic, id and count.
@@ -73,7 +74,7 @@ fn frame_samples(samples: &[i16], i: usize) -> &[i16]
 
 /// The samples, and their frames of 256. Those of a frame are written and then summed, while they are near.
 fn write_samples(samples: &[i16], out: &mut [u8], short: &mut [Summary])
-    requires few { length samples.now ≤ 262144 }
+    requires few { length samples.now ≤ MAX_BLOCK_SAMPLES }
     requires room { length out.old ≡ 2 * length samples.now }
     requires count { length short.old ≡ frame_count 256 (length samples.now) }
     ensures written { out.new ≡ flat_map sample_bytes samples.now }
@@ -88,13 +89,13 @@ fn write_samples(samples: &[i16], out: &mut [u8], short: &mut [Summary])
 
 /// The samples, and their frames of both levels.
 fn write_measured(samples: &[i16], out: &mut [u8], short: &mut [Summary], long: &mut [Summary])
-    requires few { length samples.now ≤ 262144 }
+    requires few { length samples.now ≤ MAX_BLOCK_SAMPLES }
     requires room { length out.old ≡ 2 * length samples.now }
     requires short { length short.old ≡ frame_count 256 (length samples.now) }
-    requires long { length long.old ≡ frame_count 65536 (length samples.now) }
+    requires long { length long.old ≡ frame_count LONG_FRAME (length samples.now) }
     ensures written { out.new ≡ flat_map sample_bytes samples.now }
     ensures short { short.new ≡ frames_of 256 samples.now }
-    ensures long { long.new ≡ frames_of 65536 samples.now }
+    ensures long { long.new ≡ frames_of LONG_FRAME samples.now }
 {
     all_fit(samples);
     write_samples(samples, out, short);
@@ -103,14 +104,14 @@ fn write_measured(samples: &[i16], out: &mut [u8], short: &mut [Summary], long: 
 
 /// What follows the header: the samples and both levels.
 fn write_body(samples: &[i16], out: &mut [u8])
-    requires few { length samples.now ≤ 262144 }
+    requires few { length samples.now ≤ MAX_BLOCK_SAMPLES }
     requires room { length out.old + 16 ≡ size_of (length samples.now) }
     ensures { out.new ≡ flat_map field_bytes (body_fields samples.now) }
 {
     let mut short = [NOTHING; MAX_SHORT_FRAMES];
     let mut long = [NOTHING; MAX_LONG_FRAMES];
     let short = &mut short[..samples.len().div_ceil(256)];
-    let long = &mut long[..samples.len().div_ceil(65536)];
+    let long = &mut long[..samples.len().div_ceil(LONG_FRAME as usize)];
     let at = 2 * samples.len();
     write_measured(samples, &mut out[..at], short, long);
     write_both(short, long, &mut out[at..]);
@@ -118,7 +119,7 @@ fn write_body(samples: &[i16], out: &mut [u8])
 
 /// The whole file.
 fn write_file(id: u64, samples: &[i16], out: &mut [u8])
-    requires few { length samples.now ≤ 262144 }
+    requires few { length samples.now ≤ MAX_BLOCK_SAMPLES }
     requires room { length out.old ≡ size_of (length samples.now) }
     ensures { out.new ≡ spelling id samples.now }
 {

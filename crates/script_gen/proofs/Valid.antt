@@ -31,7 +31,7 @@ pub record IsBehind (made : ℕ) (P : State → Type 0) (t : Studio) : Type 0 wh
   pub pins : t.state.next_pin ≤ 1
   pub commits : t.state.commit ≤ made
   pub ids : t.next_block ≤ 16 + 2009 * made
-  pub places : t.journal_end ≤ 32 + 2450110 * made
+  pub places : t.journal_end ≤ 80 + 2450110 * made
 
 behind-room : (made : ℕ) (P : State → Type 0) (t : Studio) → made ≤ 4096 → IsBehind made P t → HasRoom t
 behind-room made P t few b =

@@ -25,7 +25,7 @@ use Rattle.studio_seats.specs.Merge.{by_seat, deeds_of, numbers_of, number_if}
 use Rattle.studio_seats.proofs.FaultLemmas.{rose_first, rose_last}
 use Rattle.studio_seats.proofs.Grown.{entries_append, number_append}
 use Rattle.studio_seats.proofs.MergeLemmas.{deeds_append, deeds_others, numbers_append, numbers_others}
-use Rattle.script_session.specs.Added.{Adds, OfLine, OfLines, SessionsAdd, SparesVault}
+use Rattle.script_session.specs.Added.{Adds, SessionsAdd, SparesVault}
 use Rattle.script_session.specs.Place.{CountsFaults, Enters, Place, line_deed, seen_after}
 use Rattle.script_session.specs.Session.{Next, Session, Turn}
 
@@ -70,35 +70,32 @@ spares_vault (Some name) (Ok r) old new h calm some = tt
 spares_vault (Some name) (Err why) old new h calm some = spares_by why old new h calm
 
 -- what one line adds
-record AddsOne (p q : Place) (said : Result Command ℕ) (a : Answer) : Type 0 where
+record AddsOne (p q : Place) : Type 0 where
   added : List Deed
   seen : q.seen ≡ p.seen ++ added
   seat : q.seat ≡ p.seat
   first : q.first ≡ p.first
   tells : q.tells ≡ p.tells
-  own : OfLine p.seat said a (deeds_of (by_seat p.seat) added)
   numbers : q.commits ≡ p.commits ++ numbers_of (by_seat p.seat) (number_after p.first p.seen) added
   sounds : IsTrue p.tells → Follows p.sounds (entries_of (deeds_of (by_seat p.seat) added)) q.sounds
   faults : p.faults ≤ q.faults
   spares : (Rose p.faults q.faults → ⊥) → Each SparesVault (deeds_of (by_seat p.seat) added)
 
 -- a line that took no turn
-adds_none : (p q : Place) (used : Bool) (said : Result Command ℕ) (a : Answer) → OfLine p.seat said a []
-    → q ≡ record p { used_up = used } → AddsOne p q said a
-adds_none p q used said a none is = record {
+adds_none : (p q : Place) (used : Bool) → q ≡ record p { used_up = used } → AddsOne p q
+adds_none p q used is = record {
   added = [];
   seen = ap (λ (z : Place). z.seen) is ∙ sym (append-nil p.seen);
   seat = ap (λ (z : Place). z.seat) is;
   first = ap (λ (z : Place). z.first) is;
   tells = ap (λ (z : Place). z.tells) is;
-  own = none;
   numbers = ap (λ (z : Place). z.commits) is ∙ sym (append-nil p.commits);
   sounds = λ told. ap (λ (z : Place). z.sounds) is;
   faults = let same = ap (λ (z : Place). z.faults) is in omega (arith, same);
   spares = λ calm. tt;
 }
 
-module _ (p q : Place) (c : Command) (a : Answer) (h : Enters p c a.reply q) where
+module _ (p q : Place) (c : Command) (r : Reply) (h : Enters p c r q) where
   abbrev e : Deed
   e = line_deed p c h.what q.sounds
 
@@ -120,14 +117,13 @@ module _ (p q : Place) (c : Command) (a : Answer) (h : Enters p c a.reply q) whe
   told_at = number_append p.first (p.seen ++ h.between) (e ∷ [])
       ∙ ap (λ (m : ℕ). number_after m (e ∷ [])) (number_append p.first p.seen h.between)
 
-  adds_turn : AddsOne p q (Ok c) a
+  adds_turn : AddsOne p q
   adds_turn = record {
     added = h.between ++ e ∷ [];
     seen = ap (λ (z : Place). z.seen) h.after ∙ append_assoc p.seen h.between (e ∷ []);
     seat = ap (λ (z : Place). z.seat) h.after;
     first = ap (λ (z : Place). z.first) h.after;
     tells = ap (λ (z : Place). z.tells) h.after;
-    own = inl (record { what = h.what; sound = e.sound; reply = h.reply; is = own_is });
     numbers = ap (λ (z : Place). z.commits) h.after ∙ ap (λ (l : List ℕ). p.commits ++ l)
         (ap (λ (m : ℕ). if commits h.what (Line c) then m ∷ [] else []) told_at ∙ sym numbers_are);
     sounds = λ told. subst (λ (l : List Deed). Follows p.sounds (entries_of l) q.sounds) (sym own_is)
@@ -137,23 +133,20 @@ module _ (p q : Place) (c : Command) (a : Answer) (h : Enters p c a.reply q) whe
         (spares_vault (name_in_line c) h.what p.faults q.faults h.counted calm, tt);
   }
 
-adds_one : (p q : Place) (said : Result Command ℕ) (a : Answer) → Turn p said a.reply q → AddsOne p q said a
-adds_one p q (Err column) a h = adds_none p q p.used_up (Err column) a (refl, h.0) h.1
-adds_one p q (Ok c) a (inl h) = adds_turn p q c a h
-adds_one p q (Ok c) a (inr (inl h)) = adds_none p q true (Ok c) a (inr (refl, inl h.0)) h.1
-adds_one p q (Ok c) a (inr (inr h)) = adds_none p q p.used_up (Ok c) a (inr (refl, inr h.0)) h.1
+adds_one : (p q : Place) (said : Result Command ℕ) (r : Reply) → Turn p said r q → AddsOne p q
+adds_one p q (Err column) r h = adds_none p q p.used_up h.1
+adds_one p q (Ok c) r (inl h) = adds_turn p q c r h
+adds_one p q (Ok c) r (inr (inl h)) = adds_none p q true h.1
+adds_one p q (Ok c) r (inr (inr h)) = adds_none p q p.used_up h.1
 
 -- one line, and the rest
-module _ (p mid q : Place) (line : List ℕ) (lines : List (List ℕ)) (a : Answer) (answers : List Answer) where
+module _ (p mid q : Place) where
   abbrev deeds_in : List Deed → List Deed
   deeds_in l = deeds_of (by_seat p.seat) l
 
-  adds_both : is_silent line ≡ false → AddsOne p mid (line_of line) a → Adds mid q lines answers
-      → Adds p q (line ∷ lines) (a ∷ answers)
-  adds_both spoken h k =
+  adds_both : AddsOne p mid → Adds mid q → Adds p q
+  adds_both h k =
       let seat = h.seat in
-      let own : OfLines p.seat lines answers (deeds_in k.added) =
-      subst (λ (n : ℕ). OfLines n lines answers (deeds_of (by_seat n) k.added)) seat k.own in
       let n = number_after p.first p.seen in
       let at : number_after mid.first mid.seen ≡ number_after n h.added =
       (λ i. number_after (h.first i) (h.seen i)) ∙ number_append p.first p.seen h.added in
@@ -165,7 +158,6 @@ module _ (p mid q : Place) (line : List ℕ) (lines : List (List ℕ)) (a : Answ
         seat = k.seat ∙ seat;
         first = k.first ∙ h.first;
         tells = k.tells ∙ h.tells;
-        own = rw spoken (deeds_in h.added, deeds_in k.added, parts, h.own, own);
         numbers = k.numbers ∙ (λ i. h.numbers i ++ numbers_of (by_seat (seat i)) (at i) k.added)
             ∙ append_assoc p.commits (numbers_of (by_seat p.seat) n h.added)
             (numbers_of (by_seat p.seat) (number_after n h.added) k.added)
@@ -190,30 +182,14 @@ module _ (p mid q : Place) (line : List ℕ) (lines : List (List ℕ)) (a : Answ
             (Each-append SparesVault (deeds_in h.added) (deeds_in k.added) front back);
       }
 
-adds_silent : (p q : Place) (line : List ℕ) (lines : List (List ℕ)) (answers : List Answer) → is_silent line ≡ true
-    → Adds p q lines answers → Adds p q (line ∷ lines) answers
-adds_silent p q line lines answers silent h = record {
-  added = h.added;
-  seen = h.seen;
-  seat = h.seat;
-  first = h.first;
-  tells = h.tells;
-  own = rw silent h.own;
-  numbers = h.numbers;
-  sounds = h.sounds;
-  faults = h.faults;
-  spares = h.spares;
-}
-
 adds_next : (b : Bool) (p q : Place) (line : List ℕ) (lines : List (List ℕ)) (answers : List Answer)
-    → is_silent line ≡ b
-    → ((mid : Place) (later : List Answer) → Session mid lines later q → Adds mid q lines later)
+    → ((mid : Place) (later : List Answer) → Session mid lines later q → Adds mid q)
     → MatchBool b (Session p lines answers q) (Next p line answers (λ mid later. Session mid lines later q))
-    → Adds p q (line ∷ lines) answers
-adds_next true p q line lines answers is goes h = adds_silent p q line lines answers is (goes p answers h)
-adds_next false p q line lines [] is goes h = absurd h
-adds_next false p q line lines (a ∷ answers) is goes (mid, turn, h) =
-    adds_both p mid q line lines a answers is (adds_one p mid (line_of line) a turn.0) (goes mid answers h)
+    → Adds p q
+adds_next true p q line lines answers goes h = goes p answers h
+adds_next false p q line lines [] goes h = absurd h
+adds_next false p q line lines (a ∷ answers) goes (mid, turn, h) =
+    adds_both p mid q (adds_one p mid (line_of line) a.reply turn.0) (goes mid answers h)
 
 pub sessions_add : SessionsAdd
 sessions_add [] answers p q h = record {
@@ -222,11 +198,10 @@ sessions_add [] answers p q h = record {
   seat = ap (λ (z : Place). z.seat) h.1;
   first = ap (λ (z : Place). z.first) h.1;
   tells = ap (λ (z : Place). z.tells) h.1;
-  own = (h.0, refl);
   numbers = ap (λ (z : Place). z.commits) h.1 ∙ sym (append-nil p.commits);
   sounds = λ told. ap (λ (z : Place). z.sounds) h.1;
   faults = let same = ap (λ (z : Place). z.faults) h.1 in omega (arith, same);
   spares = λ calm. tt;
 }
 sessions_add (line ∷ lines) answers p q h =
-    adds_next (is_silent line) p q line lines answers refl (λ mid later k. sessions_add lines later mid q k) h
+    adds_next (is_silent line) p q line lines answers (λ mid later k. sessions_add lines later mid q k) h

@@ -1,7 +1,6 @@
 -- Where no device fails, a script's deeds tell of none.
 use Rattle.std.proofs.Common.{subst, ℕ, if◌then◌else◌, Bool, true, false, IsSome, IfErr, List, [], ◌∷◌, ◌++◌, Result}
 use Rattle.std.proofs.Common.{Ok, Err}
-use Rattle.pcm_base.specs.declared.answer.Answer.{Answer}
 use Rattle.pcm_base.specs.declared.answer.Reply.{Reply}
 use Rattle.pcm_base.specs.declared.command.Call.{Call}
 use Rattle.pcm_base.specs.declared.refusal.Refusal.{Refusal}
@@ -55,13 +54,12 @@ fair_each (d ∷ ds) served unharmed spares =
     (fair_one d.call d.what served.0 unharmed.0 spares.0, fair_each ds served.1 unharmed.1 spares.1)
 
 -- of what a script added
-pub fair_added : {D V : Type 0} (disk : Ghosts D) (vaults : vault.Ghosts V) (lines : List (List ℕ))
-    (answers : List Answer) (p q : Place)
-    (start now : Core D) (later : List Deed) (adds : Adds p q lines answers)
+pub fair_added : {D V : Type 0} (disk : Ghosts D) (vaults : vault.Ghosts V) (p q : Place) (start now : Core D)
+    (later : List Deed) (adds : Adds p q)
     → StandsFor (origin disk vaults start) now (q.seen ++ later)
     → IsUndisturbed (origin disk vaults start) now (q.seen ++ later) (change p.faults q.faults)
     → Each TellsNoDevice (deeds_of (by_seat p.seat) adds.added)
-fair_added disk vaults lines answers p q start now later adds stands quiet =
+fair_added disk vaults p q start now later adds stands quiet =
     let all = desks_serve disk vaults start now (q.seen ++ later) stands quiet.told quiet.held quiet.going quiet.calm in
     let Served : Deed → Type 0 = λ d. IfErr d.what (IsServed d.call) in
     let Unharmed : Deed → Type 0 = λ d. IfErr d.what IsUnharmed in
@@ -81,6 +79,5 @@ sessions_serve disk vaults lines answers p q start now later session stands quie
     record {
       added = adds.added;
       seen = adds.seen;
-      own = adds.own;
-      fair = fair_added disk vaults lines answers p q start now later adds stands quiet;
+      fair = fair_added disk vaults p q start now later adds stands quiet;
     }

@@ -13,7 +13,6 @@ use Rattle.studio_seats.specs.declared.deed.Deed.{Deed}
 use Rattle.studio_seats.specs.Faults.{IsCalm}
 use Rattle.studio_seats.specs.Merge.{by_seat, deeds_of}
 use Rattle.studio_seats.specs.Stands.{AreTold, Origin, StandsFor, origin}
-use Rattle.script_session.specs.Added.{OfLines}
 use Rattle.script_session.specs.Change.{Change, change}
 use Rattle.script_session.specs.Place.{Place}
 use Rattle.script_session.specs.Session.{Session}
@@ -29,8 +28,8 @@ IsOfNoDevice why = Unit {0}
 abbrev pub TellsNoDevice : Deed → Type 0
 TellsNoDevice d = IfErr d.what IsOfNoDevice
 
--- Vaults report their bytes where a deed names a sound, the disk held a studio that goes on, and no count of faults rose,
--- of the store or of the vault that the script had.
+-- Vaults report their bytes where a deed names a sound, the disk held a studio that goes on, and no count of faults
+-- rose, of the store or of the vault that the script had.
 pub record IsUndisturbed {D V : Type 0} (o : Origin D V) (now : Core D) (deeds : List Deed) (vault_faults : Change ℕ)
     : Type 0 where
   pub told : AreTold o.vaults deeds
@@ -39,15 +38,13 @@ pub record IsUndisturbed {D V : Type 0} (o : Origin D V) (now : Core D) (deeds :
   pub calm : IsCalm (studio_of o.disk o.start) (studio_of o.disk now)
   pub vault : Rose vault_faults.before vault_faults.now → ⊥
 
--- a script's own deeds are those of its lines, and tell of no device
-pub record Serves (p q : Place) (lines : List (List ℕ)) (answers : List Answer) : Type 0 where
+-- a script's own deeds say of no device that it failed
+pub record Serves (p q : Place) : Type 0 where
   pub added : List Deed
   pub seen : q.seen ≡ p.seen ++ added
-  pub own : OfLines p.seat lines answers (deeds_of (by_seat p.seat) added)
   pub fair : Each TellsNoDevice (deeds_of (by_seat p.seat) added)
 
 abbrev pub SessionsServe : {D V : Type 0} → Ghosts D → vault.Ghosts V → Type 0
 SessionsServe {D} disk vaults = (lines : List (List ℕ)) (answers : List Answer) (p q : Place) (start now : Core D)
     (later : List Deed) → Session p lines answers q → StandsFor (origin disk vaults start) now (q.seen ++ later)
-    → IsUndisturbed (origin disk vaults start) now (q.seen ++ later) (change p.faults q.faults)
-    → Serves p q lines answers
+    → IsUndisturbed (origin disk vaults start) now (q.seen ++ later) (change p.faults q.faults) → Serves p q

@@ -6,14 +6,14 @@ ghost use Rattle.script_session.specs.Spent.{SessionsSpend};
 use disk_model::Store;
 use edit_ports::Vault;
 
-/// What a script adds to the list of a desk: its own deeds are those of its lines, in order, its numbers are those of
-/// its commits, and the sounds of the vault follow its deeds. Where the vault's count of faults did not rise, no deed
-/// that names a sound tells that it failed.
+/// What a script adds to the list of a desk: its numbers are those of its commits, and the sounds of the vault follow
+/// its deeds. If the vault's count of faults did not rise, no deed that names a sound says that it failed.
 pub fn sessions_add()
     ensures { SessionsAdd }
 {}
 
-/// If no deed was refused because no turn was left, as none of a run is, an answer is Spent only after the seat found it.
+/// If no deed was refused because no turn was left, as none of a run is, an answer is Spent only after the seat found
+/// it.
 pub fn sessions_spend()
     ensures { SessionsSpend }
 {}

@@ -1,7 +1,10 @@
 -- The call keeps the promise.
-use Rattle.std.proofs.Common.{◌≡◌, inl, inr, ◌∙◌, refl, sym, subst, ℕ, if◌then◌else◌, Bool, true, false, List, Option}
+use Rattle.std.proofs.Common.{◌≡◌, inl, inr, ◌∙◌, refl, sym, subst, ℕ, if◌then◌else◌, Bool, true, false, List}
+use Rattle.std.proofs.Common.{Option, Some}
 use Rattle.editor_recovery.specs.Honest.{IsHonest}
 use Rattle.call_words.specs.declared.asked.Words.{Words}
+use Rattle.call_words.specs.declared.asked.Words.TheVariants as words
+use Rattle.call_words.specs.Words.{words_of}
 use Rattle.call_words.specs.Texts.{Text}
 use Rattle.script_session.specs.Change.{change}
 use Rattle.studio_seats.specs.Leads.{DeedsAsk}
@@ -15,7 +18,8 @@ use Rattle.session_run.specs.Ports.{Handed, job}
 use Rattle.session_run.specs.Promise.{Met, Promise}
 use Rattle.session_run.specs.Runs.{Runs}
 use Rattle.session_run.specs.Streams.{input, output}
-use Rattle.session_run.proofs.Promised.{promised}
+use Rattle.session_run.proofs.Promised.{met, promised}
+use Rattle.session_run.proofs.StatusLemmas.{Counted}
 
 -- what the call leaves of what a word left
 pub ended_as : {D M P : Type 0} (rose : Bool) (done : Done D) (status : ℕ) (mic : M) (speaker : P)
@@ -47,35 +51,46 @@ not_opened : (a b : Bool) → a ≡ b → b ≡ false → a ≡ true → ⊥
 not_opened a b same none is = cc
 
 module _ {D V M P : Type 0} (k : Kinds D V M P) (ask : DeedsAsk k.disk k.vaults) (h : Handed D V M P) (rose : Bool)
-    (done : Done D) (e : Ending D M P) (ends : EndsAs rose done e) (opened : e.opened ≡ true) (honest : IsHonest k.disk h.store)
-    (told : AllTell k.vaults) where
-  pub run_promised : (beside : Beside) → Runs k h.store (job h.ports beside) done
-      → Promise k.disk (met_of k h beside.records beside.plays e)
-  run_promised beside (inl (start, opens, (final, at, inl r))) = subst (λ (m : Met D). Promise k.disk m) (λ i. record {
-    records = beside.records;
-    plays = beside.plays;
-    store = change h.store (sym (ends.store ∙ at) i);
-    script = h.ports.streams.source;
-    out = h.ports.streams.sink;
-    mic = input k.mics h.ports.mic;
-    speaker = output k.speakers h.ports.speaker;
-    sounds = change (k.vaults.holds h.ports.vault.before) (k.vaults.holds h.ports.vault.now);
-    vault_faults = change (k.vaults.fault_count h.ports.vault.before) (k.vaults.fault_count h.ports.vault.now);
-    first_commit = sym (ends.first ∙ r.first) i;
-    last_commit = sym (ends.last ∙ r.last) i;
-    record_commit = sym (ends.record_is ∙ r.record_is) i;
-    script_commits = sym (ends.script ∙ r.commits) i;
-    piece_commits = sym (ends.pieces ∙ r.pieces) i;
-  }) (promised k ask h.store start final (job h.ports beside) opens r.ran honest told)
-  run_promised beside (inl (start, opens, (final, at, inr w))) =
+    (done : Done D) (e : Ending D M P) (ends : EndsAs rose done e) (opened : e.opened ≡ true)
+    (honest : IsHonest k.disk h.store) (told : AllTell k.vaults) where
+  pub run_promised : (beside : Beside) → Counted k.disk (met_of k h beside.records beside.plays e)
+      → Runs k h.store (job h.ports beside) done → Promise k.disk (met_of k h beside.records beside.plays e)
+  run_promised beside counted (inl (start, opens, (final, at, inl r))) =
+      let j = job h.ports beside in
+      let same : met k ask h.store start final j opens r.ran honest told e.status
+      ≡ met_of k h beside.records beside.plays e = λ i. record {
+        records = beside.records;
+        plays = beside.plays;
+        store = change h.store (sym (ends.store ∙ at) i);
+        script = h.ports.streams.source;
+        out = h.ports.streams.sink;
+        mic = input k.mics h.ports.mic;
+        speaker = output k.speakers h.ports.speaker;
+        sounds = change (k.vaults.holds h.ports.vault.before) (k.vaults.holds h.ports.vault.now);
+        vault_faults = change (k.vaults.fault_count h.ports.vault.before) (k.vaults.fault_count h.ports.vault.now);
+        status = e.status;
+        first_commit = sym (ends.first ∙ r.first) i;
+        last_commit = sym (ends.last ∙ r.last) i;
+        record_commit = sym (ends.record_is ∙ r.record_is) i;
+        script_commits = sym (ends.script ∙ r.commits) i;
+        piece_commits = sym (ends.pieces ∙ r.pieces) i;
+      } in
+      subst (λ (m : Met D). Promise k.disk m) same
+      (promised k ask h.store start final j opens r.ran honest told e.status
+      (subst (λ (m : Met D). Counted k.disk m) (sym same) counted))
+  run_promised beside counted (inl (start, opens, (final, at, inr w))) =
       absurd (not_opened e.opened done.opened ends.opened w.refused.done_is.opened opened)
-  run_promised beside (inr (f, looks, refusal, unread, idle, vault_)) =
+  run_promised beside counted (inr (f, looks, refusal, unread, idle, vault_)) =
       absurd (not_opened e.opened done.opened ends.opened refusal.done_is.opened opened)
 
 pub promises : {R D V M P : Type 0} (w : World R D V M P) (ask : DeedsAsk w.kinds.disk w.kinds.vaults)
-    (texts : List Text) (h : Handed D V M P) (rose : Bool) (done : Done D) (e : Ending D M P) → Does w texts h done → EndsAs rose done e → Promises w.kinds texts h e
-promises w ask texts h rose done e (inl does) ends records plays is opened honest told =
+    (texts : List Text) (h : Handed D V M P) (rose : Bool) (done : Done D) (e : Ending D M P)
+    → Does w texts h done → EndsAs rose done e
+    → ((records plays : Bool) → words_of texts ≡ Some (words.Run records plays)
+    → Counted w.kinds.disk (met_of w.kinds h records plays e))
+    → Promises w.kinds texts h e
+promises w ask texts h rose done e (inl does) ends counted records plays is opened honest told =
     run_promised w.kinds ask h rose done e ends opened honest told (record { records = records; plays = plays })
-    (subst (λ (said : Option Words). DoesWords w said h done) is does)
-promises w ask texts h rose done e (inr (new, turned, rest)) ends records plays is opened honest told =
+    (counted records plays is) (subst (λ (said : Option Words). DoesWords w said h done) is does)
+promises w ask texts h rose done e (inr (new, turned, rest)) ends counted records plays is opened honest told =
     absurd (not_opened e.opened done.opened ends.opened turned.0.done_is.opened opened)

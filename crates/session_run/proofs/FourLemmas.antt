@@ -33,7 +33,9 @@ use Rattle.script_text.specs.Project.{checked_text, made_text}
 use Rattle.desk_session.specs.declared.told.Heard.{Heard}
 use Rattle.desk_session.specs.declared.told.Kept.{Kept}
 use Rattle.desk_session.specs.Lent.{Kinds}
-use Rattle.desk_session.specs.Opening.{WhereMade}
+use Rattle.desk_session.specs.declared.side.Side.{Side}
+use Rattle.desk_session.specs.declared.side.Side.TheVariants as side
+use Rattle.desk_session.specs.Sides.{WhereMade}
 use Rattle.desk_session.specs.declared.opening.Beside.{Beside}
 use Rattle.desk_session.specs.Sounds.{Played, Recorded}
 use Rattle.session_run.specs.declared.counts.FaultCounts.{FaultCounts}
@@ -145,26 +147,26 @@ mic_ended mic_end.End bytes mics m h is = cc
 mic_ended mic_end.Fault bytes mics m h is = h.1
 mic_ended mic_end.Limit bytes mics m h is = cc
 
-mic_rose : {M : Type 0} (mics : source.Ghosts M) (m : Change M) (made : Option (Result ℕ Refusal)) (kept : Option Kept)
+mic_rose : {M : Type 0} (mics : source.Ghosts M) (m : Change M) (made : Side) (kept : Option Kept)
     (pieces : ℕ → Change (List (List ℤ × ℕ))) (spent : Bool) (own : List Deed)
     → WhereMade made (λ tag. IsSomeAnd kept (Recorded mics m (pieces tag) spent own))
     ((kept ≡ None) × (m.now ≡ m.before))
     → mic_failed kept ≡ true → Rose (mics.fault_count m.before) (mics.fault_count m.now)
 mic_rose mics m made None pieces spent own h is = cc
-mic_rose mics m None (Some kept) pieces spent own h is = absurd (none-some _ (sym h.0))
-mic_rose mics m (Some (Ok tag)) (Some kept) pieces spent own h is =
+mic_rose mics m side.NotAsked (Some kept) pieces spent own h is = absurd (none-some _ (sym h.0))
+mic_rose mics m (side.Made tag) (Some kept) pieces spent own h is =
     mic_ended kept.end h.is.bytes mics m h.is.stopped is
-mic_rose mics m (Some (Err why)) (Some kept) pieces spent own h is = absurd (none-some _ (sym h.0))
+mic_rose mics m (side.Refused why) (Some kept) pieces spent own h is = absurd (none-some _ (sym h.0))
 
-speaker_rose : {P : Type 0} (speakers : sink.Ghosts P) (p : Change P) (made : Option (Result ℕ Refusal))
+speaker_rose : {P : Type 0} (speakers : sink.Ghosts P) (p : Change P) (made : Side)
     (heard : Option Heard) (shows : ℕ → List Frame → Type 0) (spent : Bool) (player : ℕ) (own : List Deed)
     → WhereMade made (λ pin. IsSomeAnd heard (Played speakers p (shows pin) pin spent player own))
     ((heard ≡ None) × (p.now ≡ p.before))
     → speaker_failed heard ≡ true → Rose (speakers.fault_count p.before) (speakers.fault_count p.now)
 speaker_rose speakers p made None shows spent player own h is = cc
-speaker_rose speakers p None (Some heard) shows spent player own h is = absurd (none-some _ (sym h.0))
-speaker_rose speakers p (Some (Ok pin)) (Some heard) shows spent player own h is = h.is.writes.cause is
-speaker_rose speakers p (Some (Err why)) (Some heard) shows spent player own h is = absurd (none-some _ (sym h.0))
+speaker_rose speakers p side.NotAsked (Some heard) shows spent player own h is = absurd (none-some _ (sym h.0))
+speaker_rose speakers p (side.Made pin) (Some heard) shows spent player own h is = h.is.writes.cause is
+speaker_rose speakers p (side.Refused why) (Some heard) shows spent player own h is = absurd (none-some _ (sym h.0))
 
 module _ {A O D V M P : Type 0} (sources : source.Ghosts A) (sinks : sink.Ghosts O) (k : Kinds D V M P)
     (script : Change A) (out : Change O) (store : Change D) (vault : Change V) (mic : Change M) (speaker : Change P) where

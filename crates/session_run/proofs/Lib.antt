@@ -21,5 +21,6 @@ pub mod GoneLemmas
 pub mod RoomLemmas
 pub mod OutgrownLemmas
 pub mod TryLemmas
+pub mod StatusLemmas
 pub mod Promised
 pub mod CallPromise

@@ -25,11 +25,12 @@ use Rattle.studio_seats.proofs.Grown.{all_told, entries_append, leads}
 use Rattle.studio_seats.proofs.OnwardLemmas.{each_append}
 use Rattle.desk_session.specs.Lent.{Kinds}
 use Rattle.desk_session.specs.Sessions.{IsSession, place_behind}
+use Rattle.desk_session.specs.Sides.{side_number}
 use Rattle.desk_session.specs.Sounds.{piece_numbers}
 use Rattle.script_text.specs.Last.{last_text}
 use Rattle.session_run.specs.Answered.{Answered}
 use Rattle.session_run.specs.Entries.{last_number, numbers_by}
-use Rattle.session_run.specs.Last.{play_line, record_commit, record_line}
+use Rattle.session_run.specs.Last.{play_line, record_line}
 use Rattle.session_run.specs.Opening.{OpensTo}
 use Rattle.session_run.specs.Ports.{Job, lent_of}
 use Rattle.session_run.specs.Promise.{Ended, Met, Promise}
@@ -38,19 +39,19 @@ use Rattle.session_run.specs.Sides.{PlaysSide, RecordsSide}
 use Rattle.session_run.specs.Streams.{input, output}
 use Rattle.session_run.proofs.AnsweredLemmas.{answered}
 use Rattle.session_run.proofs.FourLemmas.{out_stays}
+use Rattle.session_run.proofs.StatusLemmas.{Counted}
 use Rattle.session_run.proofs.EntryLemmas.{IsPlain, entries_as, entries_length, last_as, numbers_as}
 use Rattle.session_run.proofs.PrintedLemmas.{broke, printed}
 use Rattle.session_run.proofs.PromiseLemmas.{each_maker, each_own, each_reply, plain_deeds, stopped_for}
 use Rattle.session_run.proofs.SeatEntries.{plays_side, records_side}
 use Rattle.session_run.proofs.SessionLemmas.{found_spent, quiet, recorded}
-use Rattle.session_run.proofs.SideEntries.{asked_as, number_as, pin_actor, pin_side, side_of, track_actor}
-use Rattle.session_run.proofs.SideEntries.{track_side}
+use Rattle.session_run.proofs.SideEntries.{pin_actor, pin_side, track_actor, track_side}
 use Rattle.session_run.proofs.SurviveLemmas.{Survives, opened_keeps, survives}
 
 module _ {D V M P : Type 0} (k : Kinds D V M P) (ask : DeedsAsk k.disk k.vaults) (store : D)
     (start final : Core D) (j : Job V M P)
     (opens : OpensTo k.disk store start) (ran : RunsOn k (change start final) j) (honest : IsHonest k.disk store)
-    (told : AllTell k.vaults) where
+    (told : AllTell k.vaults) (status : ℕ) where
   abbrev disk : Ghosts D
   disk = k.disk
 
@@ -125,8 +126,8 @@ module _ {D V M P : Type 0} (k : Kinds D V M P) (ask : DeedsAsk k.disk k.vaults)
     stop = ran.out.told.stop;
     read = s.scripted.read;
     lines = s.scripted.lines;
-    recording = side_of ran.out.opened.recording;
-    playback = side_of ran.out.opened.pin;
+    recording = ran.out.opened.recording;
+    playback = ran.out.opened.pin;
     recorder = s.made.seats.recorder;
     player = s.made.seats.player;
     record_line = record_line start.next_track ran.out.opened.recording ran.out.kept;
@@ -144,9 +145,10 @@ module _ {D V M P : Type 0} (k : Kinds D V M P) (ask : DeedsAsk k.disk k.vaults)
     speaker = output k.speakers j.ports.speaker;
     sounds = change (k.vaults.holds j.ports.vault.before) (k.vaults.holds j.ports.vault.now);
     vault_faults = change (k.vaults.fault_count j.ports.vault.before) (k.vaults.fault_count j.ports.vault.now);
+    status = status;
     first_commit = n;
     last_commit = final.commit_number;
-    record_commit = record_commit ran.out.opened.recording;
+    record_commit = side_number ran.out.opened.recording;
     script_commits = ran.out.told.commits;
     piece_commits = piece_numbers ran.out.kept;
   }
@@ -202,8 +204,8 @@ module _ {D V M P : Type 0} (k : Kinds D V M P) (ask : DeedsAsk k.disk k.vaults)
   foreign = subst (λ (files : Files). LeavesForeign files (disk.reads final.store)) opens.looks.reads
       ((ask start final s.deeds s.stands).reads held.tells)
 
-  pub promised : Promise disk met
-  promised = record {
+  pub promised : Counted disk met → Promise disk met
+  promised counted = record {
     start = studio_of disk start;
     final = studio_of disk final;
     track = entries_of track;
@@ -229,8 +231,8 @@ module _ {D V M P : Type 0} (k : Kinds D V M P) (ask : DeedsAsk k.disk k.vaults)
       s.made.apart.recorder_player,
     );
     asked = (
-      asked_as ran.out.opened.recording ∙ ran.asked.0,
-      asked_as ran.out.opened.pin ∙ ran.asked.1,
+      ran.asked.0,
+      ran.asked.1,
     );
     read = s.scripted.bytes;
     carried = s.scripted.cut;
@@ -240,7 +242,7 @@ module _ {D V M P : Type 0} (k : Kinds D V M P) (ask : DeedsAsk k.disk k.vaults)
     track_is = track_side s.spent n ran.out.opened.recording track pin s.made.track_is
         (ap (numbers_of any_seat n) (sym s.made.opening_is) ∙ s.opening_numbers)
         (Each-left IsPlain track pin plain_opening);
-    pieces = subst (λ (l : List Entry). RecordsSide (length all_entries ≡ 2 ^ 62) (side_of ran.out.opened.recording)
+    pieces = subst (λ (l : List Entry). RecordsSide (length all_entries ≡ 2 ^ 62) ran.out.opened.recording
         start.next_track (input k.mics j.ports.mic) ended.record_line (piece_numbers ran.out.kept) l)
         (sym (entries_as s.made.seats.recorder rest))
         (records_side s.made.seats.recorder n s.made.opening rest apart_recorder by_first
@@ -257,7 +259,7 @@ module _ {D V M P : Type 0} (k : Kinds D V M P) (ask : DeedsAsk k.disk k.vaults)
         ran.faults j.ports.streams.sink.faults.now ran.cause
         (out_stays ran.out.told.stop _ (last_text ended.record_line ended.play_line final.commit_number) ran.ended);
     pin_is = pin_side s.spent ran.out.opened.pin pin s.made.pin_is;
-    played = subst (λ (l : List Entry). PlaysSide (length all_entries ≡ 2 ^ 62) (side_of ran.out.opened.pin)
+    played = subst (λ (l : List Entry). PlaysSide (length all_entries ≡ 2 ^ 62) ran.out.opened.pin
         (λ number mix. pin_frames start.rate (studio_of disk start).state opening_entries number ≡ Some mix)
         (output k.speakers j.ports.speaker) ended.play_line l)
         (sym (entries_as s.made.seats.player rest))
@@ -277,7 +279,7 @@ module _ {D V M P : Type 0} (k : Kinds D V M P) (ask : DeedsAsk k.disk k.vaults)
       refl,
       led.number ∙ (sym (last_as n s.deeds plain) ∙ ap (last_number n) entries_are),
     );
-    record_is = number_as ran.out.opened.recording;
+    record_is = refl;
     script_numbers = s.scripted.numbers
         ∙ (sym (numbers_as 0 (number_after n s.made.opening) rest plain_rest)
         ∙ ap (λ (m : ℕ). numbers_by 0 m (entries_of rest)) (sym opened_number));
@@ -293,6 +295,8 @@ module _ {D V M P : Type 0} (k : Kinds D V M P) (ask : DeedsAsk k.disk k.vaults)
         (images.stopped some c now);
     foreign = foreign;
     whole = unharmed;
+    failed = counted.failed;
+    status = counted.status;
     served = quiet k start final j ran tell held opens.fresh.stopped (plain_by 0);
     turns = λ any. no_turn (found_spent k start final j ran had_split had_track had_pin had_rest any);
   }

@@ -26,7 +26,7 @@ much_more a b calls blocks journal (inr (inr x)) = inr (inr (omega (arith, calls
 pub record IsRoom (from room : Room) : Type 0 where
   pub few : IsWithin from (made_room 10)
   pub files : from.files + 65535 ≤ room.files
-  pub bytes : from.bytes + 67108830 ≤ room.bytes
+  pub bytes : from.bytes + 67108782 ≤ room.bytes
   pub calls : from.calls + 1048566 ≤ room.calls
 
 -- No more than this was asked since, where so many files were removed; and the next block may be begun in vain.

@@ -1,9 +1,8 @@
 -- The recording and the playback of a session, by what was made for them.
 use Rattle.std.proofs.Common.{◌≡◌, ◌≢◌, ◌∙◌, refl, sym, ap, ℕ, ◌==◌, if◌then◌else◌, Bool, true, false}
-use Rattle.std.proofs.Common.{List, [], ◌∷◌, ◌++◌, Option, Some, None, Result, Ok, Err}
+use Rattle.std.proofs.Common.{List, [], ◌∷◌, ◌++◌, Option, Some, None}
 use Rattle.std.specs.Prelude.{IsSomeAnd}
 use Rattle.pcm_base.specs.declared.command.Call.{Call}
-use Rattle.pcm_base.specs.declared.refusal.Refusal.{Refusal}
 use Rattle.pcm_base.specs.declared.sound.Frame.{Frame}
 use Rattle.edit_ports.specs.declared.sink.Sink as sink
 use Rattle.edit_ports.specs.declared.source.Source as source
@@ -20,7 +19,10 @@ use Rattle.studio_seats.proofs.OnwardLemmas.{each_append}
 use Rattle.studio_seats.proofs.MergeLemmas.{deeds_append}
 use Rattle.desk_session.specs.declared.told.Heard.{Heard}
 use Rattle.desk_session.specs.declared.told.Kept.{Kept}
-use Rattle.desk_session.specs.Opening.{WhereMade, play_calls, record_calls}
+use Rattle.desk_session.specs.declared.side.Side.{Side}
+use Rattle.desk_session.specs.declared.side.Side.TheVariants as side
+use Rattle.desk_session.specs.Opening.{play_calls, record_calls}
+use Rattle.desk_session.specs.Sides.{WhereMade}
 use Rattle.desk_session.specs.Sounds.{Played, Recorded, piece_numbers}
 use Rattle.session_run.specs.Last.{play_line, record_line}
 use Rattle.session_run.specs.Sides.{PlaysSide, RecordsSide}
@@ -29,7 +31,6 @@ use Rattle.session_run.proofs.EntryLemmas.{IsPlain}
 use Rattle.session_run.proofs.PieceEntries.{done_samples, own_samples}
 use Rattle.session_run.proofs.PlayLemmas.{plays}
 use Rattle.session_run.proofs.RecordLemmas.{records}
-use Rattle.session_run.proofs.SideEntries.{side_of}
 
 -- a seat that may ask nothing has no deeds
 none_own : (fits : Call → Type 0) → ((c : Call) → fits c → ⊥) → (seat : ℕ) (ds : List Deed) → Asks fits seat ds
@@ -63,27 +64,27 @@ module _ (seat first : ℕ) (opening rest : List Deed) (apart : 0 ≢ seat)
 
   -- the recording
   pub records_side : {M : Type 0} (mics : source.Ghosts M) (mic : Change M) (track : ℕ) (NoTurn : Type 0) (used : Bool)
-      (none : used ≡ true → NoTurn) (made : Option (Result ℕ Refusal)) (kept : Option Kept)
+      (none : used ≡ true → NoTurn) (made : Side) (kept : Option Kept)
       → WhereMade made (λ tag. IsSomeAnd kept
       (Recorded mics mic (change [] (pieces_by track tag seat first (opening ++ rest))) used own))
       ((kept ≡ None) × (mic.now ≡ mic.before))
       → Asks (record_calls track made) seat rest
-      → RecordsSide NoTurn (side_of made) track (input mics mic) (record_line track made kept) (piece_numbers kept)
+      → RecordsSide NoTurn made track (input mics mic) (record_line track made kept) (piece_numbers kept)
       (entries_of own)
-  records_side mics mic track NoTurn used none None kept h asks = (
+  records_side mics mic track NoTurn used none side.NotAsked kept h asks = (
     refl,
     ap piece_numbers h.0,
-    ap entries_of (none_own (record_calls track None) (λ c x. x) seat rest asks),
+    ap entries_of (none_own (record_calls track side.NotAsked) (λ c x. x) seat rest asks),
     (ap mics.left h.1, ap mics.fault_count h.1),
   )
-  records_side mics mic track NoTurn used none (Some (Err why)) kept h asks = (
+  records_side mics mic track NoTurn used none (side.Refused why) kept h asks = (
     refl,
     ap piece_numbers h.0,
-    ap entries_of (none_own (record_calls track (Some (Err why))) (λ c x. x) seat rest asks),
+    ap entries_of (none_own (record_calls track (side.Refused why)) (λ c x. x) seat rest asks),
     (ap mics.left h.1, ap mics.fault_count h.1),
   )
-  records_side mics mic track NoTurn used none (Some (Ok tag)) None h asks = absurd h
-  records_side mics mic track NoTurn used none (Some (Ok tag)) (Some kept) h asks = (
+  records_side mics mic track NoTurn used none (side.Made tag) None h asks = absurd h
+  records_side mics mic track NoTurn used none (side.Made tag) (Some kept) h asks = (
     _,
     refl,
     records mics mic track tag seat first (opening ++ rest) own NoTurn used none kept h
@@ -98,24 +99,24 @@ module _ (seat first : ℕ) (opening rest : List Deed) (apart : 0 ≢ seat)
   pub plays_side : {P : Type 0} (speakers : sink.Ghosts P) (speaker : Change P) (NoTurn : Type 0) (used : Bool)
       (none : used ≡ true → NoTurn)
       (shows : ℕ → List Frame → Type 0) (Shown : ℕ → List Frame → Type 0)
-      (made : Option (Result ℕ Refusal)) (heard : Option Heard)
+      (made : Side) (heard : Option Heard)
       → WhereMade made (λ pin. IsSomeAnd heard (Played speakers speaker (shows pin) pin used seat own))
       ((heard ≡ None) × (speaker.now ≡ speaker.before))
       → Asks (play_calls made) seat rest
       → ((pin : ℕ) (mix : List Frame) → Shown pin mix → shows pin mix)
-      → PlaysSide NoTurn (side_of made) Shown (output speakers speaker) (play_line made heard) (entries_of own)
-  plays_side speakers speaker NoTurn used none shows Shown None heard h asks shown = (
+      → PlaysSide NoTurn made Shown (output speakers speaker) (play_line made heard) (entries_of own)
+  plays_side speakers speaker NoTurn used none shows Shown side.NotAsked heard h asks shown = (
     refl,
-    ap entries_of (none_own (play_calls None) (λ c x. x) seat rest asks),
+    ap entries_of (none_own (play_calls side.NotAsked) (λ c x. x) seat rest asks),
     (ap speakers.written h.1, ap speakers.fault_count h.1),
   )
-  plays_side speakers speaker NoTurn used none shows Shown (Some (Err why)) heard h asks shown = (
+  plays_side speakers speaker NoTurn used none shows Shown (side.Refused why) heard h asks shown = (
     refl,
-    ap entries_of (none_own (play_calls (Some (Err why))) (λ c x. x) seat rest asks),
+    ap entries_of (none_own (play_calls (side.Refused why)) (λ c x. x) seat rest asks),
     (ap speakers.written h.1, ap speakers.fault_count h.1),
   )
-  plays_side speakers speaker NoTurn used none shows Shown (Some (Ok pin)) None h asks shown = absurd h
-  plays_side speakers speaker NoTurn used none shows Shown (Some (Ok pin)) (Some heard) h asks shown = (
+  plays_side speakers speaker NoTurn used none shows Shown (side.Made pin) None h asks shown = absurd h
+  plays_side speakers speaker NoTurn used none shows Shown (side.Made pin) (Some heard) h asks shown = (
     _,
     refl,
     λ mix is. plays speakers speaker (shows pin) pin seat NoTurn used none own heard mix h (shown pin mix is),

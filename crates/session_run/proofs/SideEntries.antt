@@ -1,7 +1,6 @@
 -- The entries that a session's opening made.
-use Rattle.std.proofs.Common.{◌≡◌, inl, inr, ◌∙◌, refl, sym, ap, subst, ℕ, ◌+◌, Bool, true, false, List, [], ◌∷◌, ◌++◌, Option, Some}
-use Rattle.std.proofs.Common.{None, Result, Ok, Err}
-use Rattle.std.specs.Prelude.{is_some}
+use Rattle.std.proofs.Common.{◌≡◌, inl, inr, ◌∙◌, refl, sym, ap, subst, ℕ, ◌+◌, Bool, true, false, List, [], ◌∷◌}
+use Rattle.std.proofs.Common.{◌++◌, Result, Ok, Err}
 use Rattle.pcm_base.specs.declared.answer.Reply.{Reply}
 use Rattle.pcm_base.specs.declared.answer.Reply.TheVariants as reply
 use Rattle.pcm_base.specs.declared.command.Call.{Call}
@@ -17,26 +16,12 @@ use Rattle.studio_seats.specs.Desks.{spent}
 use Rattle.studio_seats.specs.Leads.{HadTurn}
 use Rattle.studio_seats.specs.Merge.{any_seat, numbers_of}
 use Rattle.script_session.specs.Session.{is_refusal}
+use Rattle.desk_session.specs.declared.side.Side.{Side}
+use Rattle.desk_session.specs.declared.side.Side.TheVariants.{Made, NotAsked, Refused}
 use Rattle.desk_session.specs.Opening.{OwnDeed, PinDeed, TrackDeed, record_commits}
 use Rattle.session_run.specs.Entries.{last_number}
-use Rattle.session_run.specs.Last.{record_commit}
-use Rattle.session_run.specs.Sides.{IsOne, MakesSide, Side, NotAsked, Refused, Made, is_asked, side_number}
+use Rattle.session_run.specs.Sides.{IsOne, MakesSide}
 use Rattle.session_run.proofs.EntryLemmas.{IsPlain, last_as, plain_reply}
-
-abbrev pub side_of : Option (Result ℕ Refusal) → Side
-side_of None = NotAsked
-side_of (Some (Ok number)) = Made number
-side_of (Some (Err why)) = Refused why
-
-pub number_as : (made : Option (Result ℕ Refusal)) → record_commit made ≡ side_number (side_of made)
-number_as None = refl
-number_as (Some (Ok number)) = refl
-number_as (Some (Err why)) = refl
-
-pub asked_as : (made : Option (Result ℕ Refusal)) → is_asked (side_of made) ≡ is_some made
-asked_as None = refl
-asked_as (Some (Ok number)) = refl
-asked_as (Some (Err why)) = refl
 
 -- the entry of a call of the first seat
 one_of : (call : Call) (what : Result Reply Refusal) (own : List Deed) → own ≡ deed 0 call what silent ∷ []
@@ -67,14 +52,14 @@ made_of spent_ call r own (inr h) = absurd (no h.0)
     no is = cc
 
 -- the recording's track
-pub track_side : (spent_ : Bool) (n : ℕ) (made : Option (Result ℕ Refusal)) (own more : List Deed)
+pub track_side : (spent_ : Bool) (n : ℕ) (made : Side) (own more : List Deed)
     → TrackDeed spent_ 0 made own → numbers_of any_seat n (own ++ more) ≡ record_commits made → Each IsPlain own
-    → MakesSide (Line Track) (λ tag r. (tag ≡ last_number n (entries_of own)) × (is_refusal r ≡ false)) (side_of made)
+    → MakesSide (Line Track) (λ tag r. (tag ≡ last_number n (entries_of own)) × (is_refusal r ≡ false)) made
     (entries_of own)
-track_side spent_ n None own more h numbers plain = ap entries_of h
-track_side spent_ n (Some (Err why)) own more h numbers plain =
+track_side spent_ n NotAsked own more h numbers plain = ap entries_of h
+track_side spent_ n (Refused why) own more h numbers plain =
     refused_of spent_ (Line Track) why own h (λ tag r. (tag ≡ last_number n (entries_of own)) × (is_refusal r ≡ false))
-track_side spent_ n (Some (Ok tag)) own more (r, h) numbers plain =
+track_side spent_ n (Made tag) own more (r, h) numbers plain =
     let is = made_of spent_ (Line Track) r own h in
     let first : (n + 1) ∷ numbers_of any_seat (n + 1) more ≡ tag ∷ [] =
     sym (ap (λ (l : List Deed). numbers_of any_seat n (l ++ more)) is) ∙ numbers in
@@ -91,11 +76,11 @@ track_side spent_ n (Some (Ok tag)) own more (r, h) numbers plain =
     head_inj a b l is = cc
 
 -- the pin
-pub pin_side : (spent_ : Bool) (made : Option (Result ℕ Refusal)) (own : List Deed) → PinDeed spent_ 0 made own
-    → MakesSide Pin (λ number r. r ≡ reply.Pinned number) (side_of made) (entries_of own)
-pin_side spent_ None own h = ap entries_of h
-pin_side spent_ (Some (Err why)) own h = refused_of spent_ Pin why own h (λ number r. r ≡ reply.Pinned number)
-pin_side spent_ (Some (Ok pin)) own h =
+pub pin_side : (spent_ : Bool) (made : Side) (own : List Deed) → PinDeed spent_ 0 made own
+    → MakesSide Pin (λ number r. r ≡ reply.Pinned number) made (entries_of own)
+pin_side spent_ NotAsked own h = ap entries_of h
+pin_side spent_ (Refused why) own h = refused_of spent_ Pin why own h (λ number r. r ≡ reply.Pinned number)
+pin_side spent_ (Made pin) own h =
     let is = made_of spent_ Pin (reply.Pinned pin) own h in
     (reply.Pinned pin, refl, one_of Pin (Ok (reply.Pinned pin)) own is)
 
@@ -106,20 +91,15 @@ own_spent spent_ call own (inl is) had =
     absurd ((subst (λ (l : List Deed). Each HadTurn l) is had).0 refl)
 own_spent spent_ call own (inr h) had = h.2
 
-refused_inj : (made : Option (Result ℕ Refusal)) → side_of made ≡ Refused spent → made ≡ Some (Err spent)
-refused_inj None is = cc
-refused_inj (Some (Ok n)) is = cc
-refused_inj (Some (Err why)) is = cc
-
-pub track_spent : (spent_ : Bool) (made : Option (Result ℕ Refusal)) (own : List Deed) → TrackDeed spent_ 0 made own
-    → Each HadTurn own → side_of made ≡ Refused spent → spent_ ≡ true
+pub track_spent : (spent_ : Bool) (made : Side) (own : List Deed) → TrackDeed spent_ 0 made own
+    → Each HadTurn own → made ≡ Refused spent → spent_ ≡ true
 track_spent spent_ made own h had is = own_spent spent_ (Line Track) own
-    (subst (λ (m : Option (Result ℕ Refusal)). TrackDeed spent_ 0 m own) (refused_inj made is) h) had
+    (subst (λ (m : Side). TrackDeed spent_ 0 m own) is h) had
 
-pub pin_spent : (spent_ : Bool) (made : Option (Result ℕ Refusal)) (own : List Deed) → PinDeed spent_ 0 made own
-    → Each HadTurn own → side_of made ≡ Refused spent → spent_ ≡ true
+pub pin_spent : (spent_ : Bool) (made : Side) (own : List Deed) → PinDeed spent_ 0 made own
+    → Each HadTurn own → made ≡ Refused spent → spent_ ≡ true
 pin_spent spent_ made own h had is = own_spent spent_ Pin own
-    (subst (λ (m : Option (Result ℕ Refusal)). PinDeed spent_ 0 m own) (refused_inj made is) h) had
+    (subst (λ (m : Side). PinDeed spent_ 0 m own) is h) had
 
 -- ---- whose the opening's deeds are
 
@@ -128,14 +108,14 @@ by_first : (spent_ : Bool) (call : Call) (what : Result Reply Refusal) (own : Li
 by_first spent_ call what own (inl is) = subst (λ (l : List Deed). Each (λ d. d.actor ≡ 0) l) (sym is) (refl, tt)
 by_first spent_ call what own (inr h) = subst (λ (l : List Deed). Each (λ d. d.actor ≡ 0) l) (sym h.1) tt
 
-pub track_actor : (spent_ : Bool) (made : Option (Result ℕ Refusal)) (own : List Deed) → TrackDeed spent_ 0 made own
+pub track_actor : (spent_ : Bool) (made : Side) (own : List Deed) → TrackDeed spent_ 0 made own
     → Each (λ d. d.actor ≡ 0) own
-track_actor spent_ None own h = subst (λ (l : List Deed). Each (λ d. d.actor ≡ 0) l) (sym h) tt
-track_actor spent_ (Some (Ok tag)) own h = by_first spent_ (Line Track) (Ok h.0) own h.1
-track_actor spent_ (Some (Err why)) own h = by_first spent_ (Line Track) (Err why) own h
+track_actor spent_ NotAsked own h = subst (λ (l : List Deed). Each (λ d. d.actor ≡ 0) l) (sym h) tt
+track_actor spent_ (Made tag) own h = by_first spent_ (Line Track) (Ok h.0) own h.1
+track_actor spent_ (Refused why) own h = by_first spent_ (Line Track) (Err why) own h
 
-pub pin_actor : (spent_ : Bool) (made : Option (Result ℕ Refusal)) (own : List Deed) → PinDeed spent_ 0 made own
+pub pin_actor : (spent_ : Bool) (made : Side) (own : List Deed) → PinDeed spent_ 0 made own
     → Each (λ d. d.actor ≡ 0) own
-pin_actor spent_ None own h = subst (λ (l : List Deed). Each (λ d. d.actor ≡ 0) l) (sym h) tt
-pin_actor spent_ (Some (Ok pin)) own h = by_first spent_ Pin (Ok (reply.Pinned pin)) own h
-pin_actor spent_ (Some (Err why)) own h = by_first spent_ Pin (Err why) own h
+pin_actor spent_ NotAsked own h = subst (λ (l : List Deed). Each (λ d. d.actor ≡ 0) l) (sym h) tt
+pin_actor spent_ (Made pin) own h = by_first spent_ Pin (Ok (reply.Pinned pin)) own h
+pin_actor spent_ (Refused why) own h = by_first spent_ Pin (Err why) own h

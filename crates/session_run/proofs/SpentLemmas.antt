@@ -1,6 +1,6 @@
 -- A recording or a playback that found no turn left found so after as many as there are.
 use Rattle.std.proofs.Common.{◌≡◌, ◌⊎◌, inl, inr, ap, ◌∙◌, subst, ℕ, ℤ, Bool, true, false, List, [], ◌∷◌, ◌++◌, Option}
-use Rattle.std.proofs.Common.{Some, None, Result, Ok, Err}
+use Rattle.std.proofs.Common.{Some, None}
 use Rattle.std.specs.Prelude.{IsSomeAnd}
 use Rattle.pcm_base.specs.declared.answer.Reply.TheVariants as reply
 use Rattle.pcm_base.specs.declared.refusal.Refusal.{Refusal}
@@ -27,10 +27,12 @@ use Rattle.studio_seats.specs.Onward.{EndsBy}
 use Rattle.studio_seats.specs.Reads.{EndReads, ReadsTo}
 use Rattle.desk_session.specs.declared.told.Heard.{Heard}
 use Rattle.desk_session.specs.declared.told.Kept.{Kept}
-use Rattle.desk_session.specs.Opening.{PinDeed, TrackDeed, WhereMade}
+use Rattle.desk_session.specs.declared.side.Side.{Side}
+use Rattle.desk_session.specs.declared.side.Side.TheVariants as side
+use Rattle.desk_session.specs.Opening.{PinDeed, TrackDeed}
+use Rattle.desk_session.specs.Sides.{WhereMade}
 use Rattle.desk_session.specs.Sounds.{Played, Recorded}
 use Rattle.session_run.specs.Last.{play_end, play_line, record_end, record_line}
-use Rattle.session_run.specs.Sides.{Refused}
 use Rattle.session_run.proofs.EntryLemmas.{each_of}
 use Rattle.session_run.proofs.SideEntries.{pin_spent, track_spent}
 
@@ -71,19 +73,19 @@ spent_memory : spent ≡ NoMemory → ⊥
 spent_memory is = cc
 
 pub recording_spent : {M : Type 0} (mics : source.Ghosts M) (mic : Change M)
-    (pieces : ℕ → Change (List (List ℤ × ℕ))) (track : ℕ) (used : Bool) (made : Option (Result ℕ Refusal))
+    (pieces : ℕ → Change (List (List ℤ × ℕ))) (track : ℕ) (used : Bool) (made : Side)
     (kept : Option Kept) (opening own : List Deed) (else_ : Type 0)
     → WhereMade made (λ tag. IsSomeAnd kept (Recorded mics mic (pieces tag) used own)) else_
     → TrackDeed used 0 made opening → Each HadTurn opening → Each HadTurn own
     → IsSomeAnd (record_line track made kept) (λ line. line.end ≡ rec.Refused spent) → used ≡ true
-recording_spent mics mic pieces track used None kept opening own else_ h opened had_opening had is = absurd is
-recording_spent mics mic pieces track used (Some (Err why)) kept opening own else_ h opened had_opening had is =
-    track_spent used (Some (Err why)) opening opened had_opening (same why spent is)
+recording_spent mics mic pieces track used side.NotAsked kept opening own else_ h opened had_opening had is = absurd is
+recording_spent mics mic pieces track used (side.Refused why) kept opening own else_ h opened had_opening had is =
+    track_spent used (side.Refused why) opening opened had_opening (same why spent is)
   where
-    same : (a b : Refusal) → rec.Refused a ≡ rec.Refused b → Refused a ≡ Refused b
+    same : (a b : Refusal) → rec.Refused a ≡ rec.Refused b → side.Refused a ≡ side.Refused b
     same a b is = cc
-recording_spent mics mic pieces track used (Some (Ok tag)) None opening own else_ h opened had_opening had is = absurd h
-recording_spent mics mic pieces track used (Some (Ok tag)) (Some kept) opening own else_ h opened had_opening had is =
+recording_spent mics mic pieces track used (side.Made tag) None opening own else_ h opened had_opening had is = absurd h
+recording_spent mics mic pieces track used (side.Made tag) (Some kept) opening own else_ h opened had_opening had is =
     by ((h.is.takes.some spent (record_refusal kept.refused kept.end spent is)).1)
   where
     by : (h.told ≡ Some spent) ⊎ ((spent ≡ NoMemory) × (h.told ≡ None)) → used ≡ true
@@ -93,20 +95,20 @@ recording_spent mics mic pieces track used (Some (Ok tag)) (Some kept) opening o
     by (inr memory) = absurd (spent_memory memory.0)
 
 pub playback_spent : {P : Type 0} (speakers : sink.Ghosts P) (speaker : Change P)
-    (shows : ℕ → List Frame → Type 0) (used : Bool) (player : ℕ) (made : Option (Result ℕ Refusal))
+    (shows : ℕ → List Frame → Type 0) (used : Bool) (player : ℕ) (made : Side)
     (heard : Option Heard) (opening own : List Deed) (else_ : Type 0)
     → WhereMade made (λ pin. IsSomeAnd heard (Played speakers speaker (shows pin) pin used player own)) else_
     → PinDeed used 0 made opening → Each HadTurn opening → Each HadTurn own
     → IsSomeAnd (play_line made heard) (λ line. line.end ≡ play.Refused spent) → used ≡ true
-playback_spent speakers speaker shows used player None heard opening own else_ h opened had_opening had is = absurd is
-playback_spent speakers speaker shows used player (Some (Err why)) heard opening own else_ h opened had_opening had is =
-    pin_spent used (Some (Err why)) opening opened had_opening (same why spent is)
+playback_spent speakers speaker shows used player side.NotAsked heard opening own else_ h opened had_opening had is = absurd is
+playback_spent speakers speaker shows used player (side.Refused why) heard opening own else_ h opened had_opening had is =
+    pin_spent used (side.Refused why) opening opened had_opening (same why spent is)
   where
-    same : (a b : Refusal) → play.Refused a ≡ play.Refused b → Refused a ≡ Refused b
+    same : (a b : Refusal) → play.Refused a ≡ play.Refused b → side.Refused a ≡ side.Refused b
     same a b is = cc
-playback_spent speakers speaker shows used player (Some (Ok pin)) None opening own else_ h opened had_opening had is =
+playback_spent speakers speaker shows used player (side.Made pin) None opening own else_ h opened had_opening had is =
     absurd h
-playback_spent speakers speaker shows used player (Some (Ok pin)) (Some heard) opening own else_ h opened had_opening
+playback_spent speakers speaker shows used player (side.Made pin) (Some heard) opening own else_ h opened had_opening
     had is =
     reads_spent used pin h.reads
     (subst (λ (r : Option Refusal). ReadsTo used pin r (reads_to r) h.reads)

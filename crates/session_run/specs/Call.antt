@@ -123,6 +123,7 @@ met_of k h records plays e = record {
   speaker = output k.speakers h.ports.speaker;
   sounds = change (k.vaults.holds h.ports.vault.before) (k.vaults.holds h.ports.vault.now);
   vault_faults = change (k.vaults.fault_count h.ports.vault.before) (k.vaults.fault_count h.ports.vault.now);
+  status = e.status;
   first_commit = e.first_commit;
   last_commit = e.last_commit;
   record_commit = e.record_commit;

@@ -1,6 +1,5 @@
 -- What is told of a session at its end.
-use Rattle.std.specs.Prelude.{◌≡◌, ℕ, if◌then◌else◌, Bool, true, false, List, length, Option, Some, None, Result, Ok}
-use Rattle.std.specs.Prelude.{Err}
+use Rattle.std.specs.Prelude.{◌≡◌, ℕ, if◌then◌else◌, Bool, true, false, List, length, Option, Some, None}
 use Rattle.pcm_base.specs.declared.refusal.Refusal.{Refusal}
 use Rattle.recorder_work.specs.declared.microphone.MicEnd.{MicEnd}
 use Rattle.recorder_work.specs.declared.microphone.MicEnd.TheVariants as mic
@@ -12,6 +11,8 @@ use Rattle.script_text.specs.declared.last.PlayLine.{PlayLine}
 use Rattle.script_text.specs.declared.last.RecordEnd.{RecordEnd}
 use Rattle.script_text.specs.declared.last.RecordEnd.TheVariants as rec
 use Rattle.script_text.specs.declared.last.RecordLine.{RecordLine}
+use Rattle.desk_session.specs.declared.side.Side.{Side}
+use Rattle.desk_session.specs.declared.side.Side.TheVariants as side
 use Rattle.desk_session.specs.declared.told.Heard.{Heard}
 use Rattle.desk_session.specs.declared.told.Kept.{Kept}
 use Rattle.session_run.specs.Streams.{Output, PrintsFrom}
@@ -40,20 +41,20 @@ kept_line track (Some kept) = Some (record {
 })
 
 -- the line of a recording, where one was asked for: without its track it has none
-abbrev pub record_line : ℕ → Option (Result ℕ Refusal) → Option Kept → Option RecordLine
-record_line track None kept = None
-record_line track (Some (Ok tag)) kept = kept_line track kept
-record_line track (Some (Err why)) kept = Some (record { track = 0; pieces = 0; samples = 0; end = rec.Refused why })
+abbrev pub record_line : ℕ → Side → Option Kept → Option RecordLine
+record_line track side.NotAsked kept = None
+record_line track (side.Made tag) kept = kept_line track kept
+record_line track (side.Refused why) kept = Some (record { track = 0; pieces = 0; samples = 0; end = rec.Refused why })
 
 abbrev pub heard_line : Option Heard → Option PlayLine
 heard_line None = None
 heard_line (Some heard) = Some (record { frames = heard.frames; end = play_end heard.refused heard.fault })
 
 -- the line of a playback, where one was asked for
-abbrev pub play_line : Option (Result ℕ Refusal) → Option Heard → Option PlayLine
-play_line None heard = None
-play_line (Some (Ok pin)) heard = heard_line heard
-play_line (Some (Err why)) heard = Some (record { frames = 0; end = play.Refused why })
+abbrev pub play_line : Side → Option Heard → Option PlayLine
+play_line side.NotAsked heard = None
+play_line (side.Made pin) heard = heard_line heard
+play_line (side.Refused why) heard = Some (record { frames = 0; end = play.Refused why })
 
 abbrev pub is_record_refusal : RecordEnd → Bool
 is_record_refusal rec.Whole = false
@@ -103,9 +104,3 @@ WritesEnd stop.End sink text = PrintsFrom sink text
 WritesEnd stop.Limit sink text = PrintsFrom sink text
 WritesEnd stop.SourceFault sink text = PrintsFrom sink text
 WritesEnd stop.OutFault sink text = (sink.written.now ≡ sink.written.before) × (sink.faults.now ≡ sink.faults.before)
-
--- the commit number of the recording's track
-abbrev pub record_commit : Option (Result ℕ Refusal) → Option ℕ
-record_commit None = None
-record_commit (Some (Ok tag)) = Some tag
-record_commit (Some (Err why)) = None

@@ -1,6 +1,14 @@
 -- The promise: what a call of the word `run` does, in the words of the model, the texts and the disk.
-use Rattle.std.specs.Prelude.{◌≡◌, ◌≢◌, ◌⊎◌, ℕ, ◌^◌, ◌||◌, Bool, true, List, ◌++◌, length, Option, Some, None}
-use Rattle.std.specs.Prelude.{false, IsSome, IsSomeAnd, IfErr, flat_map}
+--
+-- A Change has a value as it was before the call, and now: at its return. An image is what a stop of the disk may
+-- leave: of each file its bytes, or that it is absent. `EachNow` is about each image that a stop now may leave.
+-- `EachSince` is about each that a stop may leave at any moment since the earlier state. `shown` is what opening an
+-- image finds of a studio: its history and its numbers, and no clipboard and no pins. `Keeps image project`: opening
+-- finds that project, with all blocks whole. An entry is in flight if the disk failed in it, or stops in it. An image
+-- then holds what the entry does, whole, or nothing of it. `preceded read left`: the bytes read, and then those that
+-- are left. `Rose before now`: a count of faults rose, or stands at the end of its type, where it can't.
+use Rattle.std.specs.Prelude.{◌≡◌, ◌≢◌, ◌⊎◌, ℕ, ◌^◌, ◌<◌, ◌||◌, Bool, true, List, [], ◌∷◌, ◌++◌, length, Option}
+use Rattle.std.specs.Prelude.{Some, None, false, IsSome, IsSomeAnd, IfErr, flat_map}
 use Rattle.pcm_base.specs.declared.answer.Answer.{Answer}
 use Rattle.pcm_base.specs.declared.answer.Reply.TheVariants as reply
 use Rattle.pcm_base.specs.declared.command.Call.TheVariants.{Line, Pin}
@@ -9,7 +17,7 @@ use Rattle.pcm_base.specs.declared.entry.Entry.{Entry}
 use Rattle.pcm_base.specs.Causes.{Rose}
 use Rattle.pcm_base.specs.Outside.{Sounds}
 use Rattle.pcm_base.specs.Run.{Follows, Run, result_of}
-use Rattle.pcm_base.specs.Studio.{Studio}
+use Rattle.pcm_base.specs.Studio.{Studio, fault_sum}
 use Rattle.disk_model.specs.declared.store.Store.{Ghosts}
 use Rattle.edit_ports.specs.Told.{preceded}
 use Rattle.pin_turn.specs.Counts.{Each}
@@ -31,19 +39,21 @@ use Rattle.studio_seats.specs.Leads.{IsUnharmed, StopsInFlight}
 use Rattle.studio_seats.specs.Pins.{pin_frames}
 use Rattle.script_session.specs.declared.stop.Stop.{Stop}
 use Rattle.script_session.specs.declared.stop.Stop.TheVariants as stop
-use Rattle.script_session.specs.Change.{Change}
+use Rattle.script_session.specs.Change.{Change, change}
 use Rattle.script_session.specs.Progress.{BreaksOff, IsCut}
 use Rattle.script_session.specs.Served.{IsOfNoDevice}
 use Rattle.script_session.specs.Session.{is_refusal}
 use Rattle.script_session.specs.Spent.{TellSpent}
+use Rattle.desk_session.specs.declared.side.Side.{Side}
+use Rattle.desk_session.specs.Sides.{is_asked, side_number}
 use Rattle.session_run.specs.Answered.{Answered}
 use Rattle.session_run.specs.Entries.{entries_by, is_by, last_number, numbers_by}
 use Rattle.session_run.specs.Opening.{OpensTo}
-use Rattle.session_run.specs.Sides.{MakesSide, PlaysSide, RecordsSide, Side, is_asked, side_number}
+use Rattle.session_run.specs.Sides.{MakesSide, PlaysSide, RecordsSide}
 use Rattle.session_run.specs.Streams.{Input, Output, PrintsFrom}
 
 -- What a call met and what it left, as the types of its devices report them, whether a recording and a playback were
--- asked for, and the numbers of its Ending.
+-- asked for, and the exit status and the numbers of its Ending.
 pub record Met (D : Type 0) : Type 0 where
   pub records : Bool
   pub plays : Bool
@@ -54,6 +64,7 @@ pub record Met (D : Type 0) : Type 0 where
   pub speaker : Output
   pub sounds : Change Sounds
   pub vault_faults : Change ℕ
+  pub status : ℕ
   pub first_commit : ℕ
   pub last_commit : ℕ
   pub record_commit : Option ℕ
@@ -85,7 +96,22 @@ abbrev pub HasFaults : {D : Type 0} → Ghosts D → D → Studio → Type 0
 HasFaults disk store s =
     (s.read_faults ≡ disk.read_fault_count store) × (s.change_faults ≡ disk.change_fault_count store)
 
--- What is promised where the disk is honest (IsHonest of editor_recovery) and the vault of the sounds reports its bytes.
+-- the faults that the disk counts
+abbrev pub store_faults : {D : Type 0} → Ghosts D → D → ℕ
+store_faults disk store = fault_sum (disk.read_fault_count store) (disk.change_fault_count store)
+
+-- the counts of faults of all devices
+abbrev pub fault_counts : {D : Type 0} → Ghosts D → Met D → List (Change ℕ)
+fault_counts disk m = m.script.faults ∷ m.out.faults
+    ∷ change (store_faults disk m.store.before) (store_faults disk m.store.now)
+    ∷ m.vault_faults ∷ m.mic.faults ∷ m.speaker.faults ∷ []
+
+-- one of them at least
+abbrev pub AnyOf : (Change ℕ → Type 0) → List (Change ℕ) → Type 0
+AnyOf P [] = ⊥
+AnyOf P (c ∷ cs) = P c ⊎ AnyOf P cs
+
+-- What is promised if the disk is honest (IsHonest of editor_recovery) and the vault of the sounds reports its bytes.
 -- The premises stand at `Promises` in Call.
 pub record Promise {D : Type 0} (disk : Ghosts D) (m : Met D) : Type 0 where
   -- What nobody but the program sees: the project that was opened, and the studio at the end; the entries of the
@@ -123,8 +149,8 @@ pub record Promise {D : Type 0} (disk : Ghosts D) (m : Met D) : Type 0 where
       (λ tag r. (tag ≡ last_number start.state.commit track) × (is_refusal r ≡ false)) end.recording track
   pub pieces : RecordsSide (length ((track ++ pin) ++ entries) ≡ 2 ^ 62) end.recording start.state.next_track m.mic
       end.record_line m.piece_commits (entries_by end.recorder entries)
-  -- the ANSWERS printed, and the last lines; after a fault of the output a part from the front, up to within the answer to
-  -- the last line
+  -- the ANSWERS printed, and the last lines; after a fault of the output a part from the front, up to within the answer
+  -- to the last line
   pub printed : PrintsFrom m.out
       (flat_map text_of answers ++ last_text end.record_line end.play_line m.last_commit)
   pub broke : end.stop ≡ stop.OutFault → BreaksOff m.out.written.before m.out.written.now answers
@@ -156,6 +182,9 @@ pub record Promise {D : Type 0} (disk : Ghosts D) (m : Met D) : Type 0 where
   -- Files that are neither a journal's nor a block's stay as they are, and no entry found a damaged file.
   pub foreign : LeavesForeign (disk.reads m.store.before) (disk.reads m.store.now)
   pub whole : Each (λ e. IfErr (result_of e.reply) IsUnharmed) ((track ++ pin) ++ entries)
+  -- the exit STATUS is 4 if the count of faults of a device rose, and only if one did, or could not
+  pub failed : AnyOf (λ c. c.before < c.now) (fault_counts disk m) → m.status ≡ 4
+  pub status : m.status ≡ 4 → AnyOf (λ c. Rose c.before c.now) (fault_counts disk m)
   -- WHERE NO DEVICE FAILED the studio goes on, and no entry of the script has a device's reply
   pub served : IsCalm start final → (Rose m.vault_faults.before m.vault_faults.now → ⊥)
       → (final.stopped ≡ None) × Each (λ e. IfErr (result_of e.reply) IsOfNoDevice) (entries_by 0 entries)

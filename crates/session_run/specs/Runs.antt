@@ -1,5 +1,5 @@
 -- A script on the project of a store, and beside it a recording and a playback.
-use Rattle.std.specs.Prelude.{◌≡◌, ◌⊎◌, ℕ, ◌||◌, true, List, Option, Err, is_some}
+use Rattle.std.specs.Prelude.{◌≡◌, ◌⊎◌, ℕ, ◌||◌, true, List, Option, Err}
 use Rattle.editor_core.specs.Core.{Core}
 use Rattle.editor_recovery.specs.declared.fault.OpenFault.{OpenFault}
 use Rattle.script_text.specs.declared.call_fault.CallFault.TheVariants as call
@@ -8,9 +8,10 @@ use Rattle.script_session.specs.Change.{Change, change}
 use Rattle.script_session.specs.Progress.{IsCauseOf}
 use Rattle.desk_session.specs.Lent.{Kinds, Outcome}
 use Rattle.desk_session.specs.Sessions.{IsSession}
+use Rattle.desk_session.specs.Sides.{is_asked, side_number}
 use Rattle.desk_session.specs.Sounds.{piece_numbers}
 use Rattle.session_run.specs.declared.ending.Done.{Done}
-use Rattle.session_run.specs.Last.{WritesEnd, mic_failed, play_line, play_refused, record_commit, record_line}
+use Rattle.session_run.specs.Last.{WritesEnd, mic_failed, play_line, play_refused, record_line}
 use Rattle.session_run.specs.Last.{record_refused, speaker_failed, status_of}
 use Rattle.session_run.specs.Opening.{Looks, OpensTo}
 use Rattle.session_run.specs.Ports.{Idle, Job, Ports, SameVault, lent_of}
@@ -25,7 +26,7 @@ pub record RunsOn {D V M P : Type 0} (k : Kinds D V M P) (core : Change (Core D)
   pub mid : Option (List ℕ)
   pub faults : ℕ
   pub session : IsSession k core.before core.now (lent_of j.ports mid) out
-  pub asked : (is_some out.opened.recording ≡ j.beside.records) × (is_some out.opened.pin ≡ j.beside.plays)
+  pub asked : (is_asked out.opened.recording ≡ j.beside.records) × (is_asked out.opened.pin ≡ j.beside.plays)
   pub cause : IsCauseOf out.told.stop j.ports.streams.source.faults (change j.ports.streams.sink.faults.before faults)
   pub ended : WritesEnd out.told.stop (record {
     written = change mid j.ports.streams.sink.written.now;
@@ -45,7 +46,7 @@ pub record RunsTo {D V M P C : Type 0} (k : Kinds D V M P) (core : Change (Core 
   pub opened : done.opened ≡ true
   pub first : done.first_commit ≡ core.before.commit_number
   pub last : done.last_commit ≡ core.now.commit_number
-  pub record_is : done.record_commit ≡ record_commit ran.out.opened.recording
+  pub record_is : done.record_commit ≡ side_number ran.out.opened.recording
   pub commits : done.commits ≡ ran.out.told.commits
   pub pieces : done.pieces ≡ piece_numbers ran.out.kept
 

@@ -1,5 +1,5 @@
 -- What was made for a recording or a playback before the script, and how each ends.
-use Rattle.std.specs.Prelude.{◌≡◌, ◌⊎◌, ℕ, ◌+◌, ◌<◌, ◌≤◌, ◌^◌, ◌/◌, ℤ, Bool, true, false, List, [], ◌∷◌, ◌++◌, length}
+use Rattle.std.specs.Prelude.{◌≡◌, ◌⊎◌, ℕ, ◌+◌, ◌<◌, ◌≤◌, ◌^◌, ◌/◌, ℤ, false, List, [], ◌∷◌, ◌++◌, length}
 use Rattle.std.specs.Prelude.{take, Option, Some, None, sum_by}
 use Rattle.std.specs.Io.KnownBytes.{IsAtEnd}
 use Rattle.pcm_base.specs.declared.answer.Reply.{Reply}
@@ -24,26 +24,9 @@ use Rattle.script_text.specs.declared.last.RecordLine.{RecordLine}
 use Rattle.studio_seats.specs.Desks.{spent}
 use Rattle.studio_seats.specs.Freeing.{AreFreed, IsFullReclaim, makes_piece, pieces_of, unfreed}
 use Rattle.studio_seats.specs.Reads.{IsAsked}
+use Rattle.desk_session.specs.declared.side.Side.{Side}
+use Rattle.desk_session.specs.declared.side.Side.TheVariants.{Made, NotAsked, Refused}
 use Rattle.session_run.specs.Streams.{Input, IsIdleInput, IsIdleOutput, Output}
-
--- A recording or a playback: it was not asked for, its track or pin was refused, or it was made. The number of a
--- recording is its track's commit number, and that of a playback is its pin.
-pub data Side : Type 0 where
-  NotAsked : Side
-  Refused : Refusal → Side
-  Made : ℕ → Side
-
--- whether it was asked for
-abbrev pub is_asked : Side → Bool
-is_asked NotAsked = false
-is_asked (Refused why) = true
-is_asked (Made number) = true
-
--- the number of one that was made
-abbrev pub side_number : Side → Option ℕ
-side_number NotAsked = None
-side_number (Refused why) = None
-side_number (Made number) = Some number
 
 -- ---- before the script
 

@@ -10,7 +10,6 @@ ghost use Rattle.session_run.specs.Last.{
   play_end,
   play_line,
   play_refused,
-  record_commit,
   record_end,
   record_line,
   record_refused,
@@ -18,7 +17,7 @@ ghost use Rattle.session_run.specs.Last.{
   status_of,
 };
 
-use desk_session::{Heard, Kept};
+use desk_session::{Heard, Kept, Side};
 use edit_ports::Sink;
 use pcm_base::Refusal;
 use recorder_work::MicEnd;
@@ -62,44 +61,40 @@ fn play_end(refused: Option<Refusal>, fault: bool) -> PlayEnd
 }
 
 /// The line of a recording, where one was asked for.
-pub fn record_line(
-    track: u64,
-    recording: Option<Result<u64, Refusal>>,
-    kept: &Option<Kept>,
-) -> Option<RecordLine>
+pub fn record_line(track: u64, recording: Side, kept: &Option<Kept>) -> Option<RecordLine>
     ensures { result ≡ record_line track recording kept.now }
 {
     match (recording, kept) {
-        (Some(Ok(_)), Some(kept)) => Some(RecordLine {
+        (Side::Made { .. }, Some(kept)) => Some(RecordLine {
             track,
             pieces: kept.numbers.as_slice().len() as u64,
             samples: kept.samples,
             end: record_end(kept.refused, kept.end),
         }),
-        (Some(Err(reason)), _) => Some(RecordLine {
+        (Side::Refused { reason }, _) => Some(RecordLine {
             track: 0,
             pieces: 0,
             samples: 0,
             end: RecordEnd::Refused { reason },
         }),
-        (Some(Ok(_)), None) | (None, _) => None,
+        (Side::Made { .. }, None) | (Side::NotAsked, _) => None,
     }
 }
 
 /// The line of a playback, where one was asked for.
-pub fn play_line(pin: Option<Result<u64, Refusal>>, heard: &Option<Heard>) -> Option<PlayLine>
+pub fn play_line(pin: Side, heard: &Option<Heard>) -> Option<PlayLine>
     ensures { result ≡ play_line pin heard.now }
 {
     match (pin, heard) {
-        (Some(Ok(_)), Some(heard)) => Some(PlayLine {
+        (Side::Made { .. }, Some(heard)) => Some(PlayLine {
             frames: heard.frames,
             end: play_end(heard.refused, heard.fault),
         }),
-        (Some(Err(reason)), _) => Some(PlayLine {
+        (Side::Refused { reason }, _) => Some(PlayLine {
             frames: 0,
             end: PlayEnd::Refused { reason },
         }),
-        (Some(Ok(_)), None) | (None, _) => None,
+        (Side::Made { .. }, None) | (Side::NotAsked, _) => None,
     }
 }
 
@@ -136,16 +131,6 @@ pub fn any_refused(recorded: &Option<RecordLine>, played: &Option<PlayLine>) -> 
         None => false,
     };
     recording || playback
-}
-
-/// The commit number of the recording's track.
-pub fn record_commit(recording: Option<Result<u64, Refusal>>) -> Option<u64>
-    ensures { result ≡ record_commit recording }
-{
-    match recording {
-        Some(Ok(tag)) => Some(tag),
-        Some(Err(_)) | None => None,
-    }
 }
 
 /// The status, by what stopped the script, whether the microphone or the speaker failed, and whether anything was

@@ -4,6 +4,7 @@ ghost use Rattle.editor_core.specs.Core.{core_of};
 ghost use Rattle.editor_core.specs.Studios.{IsStudio};
 ghost use Rattle.script_session.specs.Change.{change};
 ghost use Rattle.desk_session.specs.Lent.{kinds};
+ghost use Rattle.desk_session.specs.Sides.{side_number};
 ghost use Rattle.desk_session.specs.Sounds.{piece_numbers};
 ghost use Rattle.script_text.specs.Last.{last_text};
 ghost use Rattle.session_run.specs.Last.{
@@ -11,7 +12,6 @@ ghost use Rattle.session_run.specs.Last.{
   mic_failed,
   play_line,
   play_refused,
-  record_commit,
   record_line,
   record_refused,
   speaker_failed,
@@ -23,8 +23,7 @@ ghost use Rattle.session_run.specs.Streams.{output, streams};
 
 use super::ending::Done;
 use super::last::{
-    any_refused, end_lines, mic_failed, play_line, record_commit, record_line, speaker_failed,
-    status_of,
+    any_refused, end_lines, mic_failed, play_line, record_line, speaker_failed, status_of,
 };
 use super::refusing::{call_fault, refuse};
 use desk_session::{Beside, Ended, Kept, Seated};
@@ -64,7 +63,7 @@ fn finish<S: Store, O: Sink>(
     ensures store { result.store ≡ (core_of ended.studio).store }
     ensures numbers { (result.first_commit ≡ first_commit)
         × (result.last_commit ≡ (core_of ended.studio).commit_number)
-        × (result.record_commit ≡ record_commit ended.opened.recording) × (result.commits ≡ ended.told.commits)
+        × (result.record_commit ≡ side_number ended.opened.recording) × (result.commits ≡ ended.told.commits)
         × (result.pieces ≡ piece_numbers ended.kept) }
 {
     let Ended {
@@ -87,7 +86,7 @@ fn finish<S: Store, O: Sink>(
         store: studio.into_store(),
         first_commit,
         last_commit,
-        record_commit: record_commit(opened.recording),
+        record_commit: opened.recording.number(),
         commits: told.commits,
         pieces: piece_numbers(alloc, kept),
     }

@@ -37,8 +37,8 @@ module _ {D V : Type 0} where
     pub onward : Onward IsFullReclaim v w
     pub freed : FreesOnce v w (deeds_of (by_seat v.number) onward.added)
 
-  -- A seat that had asked for so many pieces since its last reclaim did nothing, or made one after at least one piece.
-  -- Then it has so many.
+  -- A seat that had asked for `since` pieces since its last reclaim did nothing, or made one after at least one piece.
+  -- Then it has asked for `left` since.
   abbrev pub FreesTo : ℕ → View (Held D V) Deed → ℕ → View (Held D V) Deed → Type 0
   FreesTo since v left w = ((left ≡ since) × (w ≡ v)) ⊎ ((left ≡ 0) × (1 ≤ since) × Frees v w)
 

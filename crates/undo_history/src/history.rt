@@ -84,7 +84,7 @@ impl<P: Drop> History<P> {
         Ok(())
     }
 
-    /// Adds a point behind all others, of which there are fewer than the depth. The current one stays. Where there is no
+    /// Adds a point after all others, of which there are fewer than the depth. The current one stays. Where there is no
     /// memory the point comes back.
     pub fn add_last(&mut self, last: P, tag: u64) -> Result<(), P>
         requires { length self.old.history.points < self.old.history.depth }

@@ -5,7 +5,8 @@ use Rattle.desk_session.proofs.OpeningLemmas.{opens_none, pinned, tells_number}
 use Rattle.desk_session.proofs.opening.open_playback.Goals as goal
 
 pub returns-then-plays-clause-opens : goal.returns-then-plays-clause-opens
-returns-then-plays-clause-opens g c = pinned _ _ _ _ _ c.pin-at.result c.pin-at.ensures.says
+returns-then-plays-clause-opens g c =
+    rw c.made_by.ensures.is (pinned _ _ _ _ _ c.pin-at.result c.pin-at.ensures.says)
 
 pub returns-then-plays-clause-last : goal.returns-then-plays-clause-last
 returns-then-plays-clause-last g c =

@@ -3,5 +3,8 @@ use Rattle.pin_turn.specs.Calls.{known}
 use Rattle.desk_session.proofs.OpeningLemmas.{opens_none}
 use Rattle.desk_session.proofs.opening.open_recording.Goals as goal
 
+pub returns-then-records-clause-opens : goal.returns-then-records-clause-opens
+returns-then-records-clause-opens g c = rw c.made_by.ensures.is c.open_track-at.ensures.opens
+
 pub returns-else-records-clause-opens : goal.returns-else-records-clause-opens
 returns-else-records-clause-opens g c = opens_none _ (known c.args.seat.now)

@@ -4,12 +4,14 @@ use Rattle.std.specs.Prelude.{string_bytes}
 use Rattle.disk_model.specs.contracts.ram.RamStoreStore.TheImpl as ram
 use Rattle.disk_model.specs.declared.ram.RamStore.{RamStore}
 use Rattle.call_words.specs.Texts.{Text}
+use Rattle.call_words.specs.Words.{words_of}
 use Rattle.script_session.specs.Change.{change}
 use Rattle.desk_session.specs.Lent.{Kinds, kinds}
-use Rattle.session_run.specs.Call.{World, any_rose}
+use Rattle.session_run.specs.Call.{World, any_rose, counts}
 use Rattle.session_run.specs.Ports.{Handed, handed}
 use Rattle.session_run.proofs.CallPromise.{ended_as, promises}
 use Rattle.session_run.proofs.FourLemmas.{four_only}
+use Rattle.session_run.proofs.StatusLemmas.{failed_four, four_failed}
 use Rattle.session_run.proofs.top.studio_call.Goals as goal
 
 pub returns : goal.returns
@@ -26,10 +28,18 @@ returns g c =
     let texts : List Text = map string_bytes c.args.words.now in
     let h : Handed g.row.S.Denot g.row.V.Denot g.row.M.Denot g.row.P.Denot =
     handed g.A.Source g.O.Sink (change c.args.script.now now.script) (change c.args.out.now now.out) c.args.store
-    (change c.args.vault.now now.vault) (change c.args.mic now.mic) (change c.args.speaker now.speaker) in record {
+    (change c.args.vault.now now.vault) (change c.args.mic now.mic) (change c.args.speaker now.speaker) in
+    let old = counts g.A.Source g.O.Sink k c.args.script.now c.args.out.now c.args.store c.args.vault.now c.args.mic
+    c.args.speaker in
+    let new = counts g.A.Source g.O.Sink k now.script now.out done.store now.vault now.mic now.speaker in
+    let only = four_only g.A.Source g.O.Sink k (change c.args.script.now now.script) (change c.args.out.now now.out)
+    (change c.args.store done.store) (change c.args.vault.now now.vault) (change c.args.mic now.mic)
+    (change c.args.speaker now.speaker) ram.ghosts texts done c.carry_out-done.ensures refl _ status in record {
       does = (done, c.carry_out-done.ensures, ends);
-      promise = promises w c.deeds_ask.ensures texts h _ done _ c.carry_out-done.ensures ends;
-      only = four_only g.A.Source g.O.Sink k (change c.args.script.now now.script) (change c.args.out.now now.out)
-          (change c.args.store done.store) (change c.args.vault.now now.vault) (change c.args.mic now.mic)
-          (change c.args.speaker now.speaker) ram.ghosts texts done c.carry_out-done.ensures refl _ status;
+      promise = promises w c.deeds_ask.ensures texts h _ done _ c.carry_out-done.ensures ends
+          (λ records plays is. record {
+            failed = four_failed old new c.status_of.result done.status status;
+            status = failed_four old new (words_of texts) c.status_of.result only records plays is;
+          });
+      only = only;
     }
