@@ -51,9 +51,10 @@ def made(files, rate, block, depth):
         formats.find_foreign(files)
     except Refused as fault:
         return refused(fault)
-    out = Bytes()
-    spell_header(out, Project(rate, block, depth))
-    files[0] = bytes(out.data) + journals[0][33:]
+    project, out = Project(rate, block, depth), Bytes()
+    project.version = 2
+    spell_header(out, project)
+    files[0] = bytes(out.data) + journals[0][len(out.data):]
     return ["ok 0"], 0
 
 
