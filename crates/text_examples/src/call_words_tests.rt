@@ -1,9 +1,23 @@
-// What is read of calls of the program.
-use super::calls::{COMMANDS, NEW_PROJECTS, NO_COMMANDS};
-use call_words::{NewProject, Words, WordsFault, read_words};
+// What is read of calls of the program: no words, and empty ones.
+use call_words::{Words, WordsFault, read_words};
 use std::alloc::{AllocError, Global};
 
-// What is read of the words of a call, behind the name of the program.
+/// Calls of what is no command. In a text a space parts two words, which are those after the program's own name. So at
+/// its front, at its end and before another space is an empty word.
+const NO_COMMANDS: [&'static str; 10] = [
+    "",
+    " new",
+    "new ",
+    "new --rate ",
+    "new --rate=1 ",
+    "run ",
+    "try ",
+    "gen 7 400 ",
+    "gen  2",
+    "gen 1 ",
+];
+
+// What is read of the words of a call, after the name of the program.
 fn read(alloc: Global, call: &str) -> Result<Result<Words, WordsFault>, AllocError> {
     let mut words = Vec::new(alloc);
     words.push(String::from_str(alloc, "studio")?)?;
@@ -13,47 +27,13 @@ fn read(alloc: Global, call: &str) -> Result<Result<Words, WordsFault>, AllocErr
     Ok(read_words(alloc, words.as_slice()))
 }
 
+// An empty word, not even the name of the program, and the name alone.
 #[test]
-fn new_projects_are_read(rt: HostRuntime) -> Result<(), AllocError> {
-    for (calls, rate, block_size, depth) in &NEW_PROJECTS {
-        let new = NewProject {
-            rate: *rate,
-            block_size: *block_size,
-            depth: *depth,
-        };
-        for call in calls.split('|') {
-            let asked = read(rt.alloc(), call)?;
-            assert!(rt; asked == Ok(Words::New(new)), "{call}");
-        }
+fn no_words_and_empty_ones_are_refused(rt: HostRuntime) -> Result<(), AllocError> {
+    for call in &NO_COMMANDS {
+        let asked = read(rt.alloc(), call)?;
+        assert!(rt; asked == Err(WordsFault::Usage), "{call}");
     }
-    Ok(())
-}
-
-#[test]
-fn other_commands_are_read(rt: HostRuntime) -> Result<(), AllocError> {
-    for (calls, command) in &COMMANDS {
-        for call in calls.split('|') {
-            let asked = read(rt.alloc(), call)?;
-            assert!(rt; asked == Ok(*command), "{call}");
-        }
-    }
-    Ok(())
-}
-
-#[test]
-fn what_is_no_command_is_refused(rt: HostRuntime) -> Result<(), AllocError> {
-    for calls in &NO_COMMANDS {
-        for call in calls.split('|') {
-            let asked = read(rt.alloc(), call)?;
-            assert!(rt; asked == Err(WordsFault::Usage), "{call}");
-        }
-    }
-    Ok(())
-}
-
-// Not even the name of the program, and the name alone.
-#[test]
-fn no_words_are_refused(rt: HostRuntime) -> Result<(), AllocError> {
     assert!(rt; read_words(rt.alloc(), &[]) == Err(WordsFault::Usage));
     let name = [String::from_str(rt.alloc(), "studio")?];
     assert!(rt; read_words(rt.alloc(), &name) == Err(WordsFault::Usage));

@@ -1,12 +1,8 @@
-//! Words, lines and answers as text: the tests of the crates that read, print and draw them.
+//! Words, reasons and lines as text: what no case holds of the crates that read and print them.
 #![tactic(auto)]
 
 #[cfg(test)]
 mod call_words_tests;
-#[cfg(test)]
-mod calls;
-#[cfg(test)]
-mod script_gen_tests;
 #[cfg(test)]
 mod script_lines;
 #[cfg(test)]
