@@ -1,5 +1,6 @@
 // The end of all places, and records that are longer than what is read at once.
-ghost use Rattle.std.specs.Prelude.{◌≡◌, length, IfOk};
+ghost use Rattle.std.specs.Prelude.{◌≡◌, ◌≤◌, length, IfOk};
+ghost use Rattle.project_journal.specs.Reader.{IsPlaced, Rises, RisesOn};
 
 use super::disks::disk;
 use disk_model::{RamStore, Store};
@@ -40,34 +41,66 @@ fn ended(read: Read, reader: &Reader, next: Next) -> Read {
     }
 }
 
+// A reader of a journal of version 2. Its header has 64 bytes, and then its points.
+fn opened(alloc: Global, store: &mut RamStore) -> Result<Reader, JournalFault>
+    ensures placed { IfOk result (λ r. IsPlaced r) }
+    ensures least { IfOk result (λ r. 1 ≤ r.at) }
+{
+    let reader = open_journal(alloc, store)?;
+    if reader.end() != 64 {
+        return Err(JournalFault::Damaged {
+            file: 0,
+            at: 5,
+            want: 2,
+            have: u128::from(reader.version()),
+        });
+    }
+    Ok(reader)
+}
+
+// The next point, and the next record. Of what both calls promise, what follows needs this alone.
+
+fn next_point(store: &mut RamStore, reader: &mut Reader) -> Result<Next, JournalFault>
+    requires placed { IsPlaced reader.old }
+    requires least { 1 ≤ reader.old.at }
+    ensures { IfOk result (RisesOn reader.old reader.new) }
+{
+    reader.next_point(store)
+}
+
+fn next_record(store: &mut RamStore, reader: &mut Reader) -> Result<Next, JournalFault>
+    requires { IsPlaced reader.old }
+    ensures { IfOk result (Rises reader.old reader.new) }
+{
+    reader.next(store)
+}
+
+// Reads a journal whose header has one point.
 pub(crate) fn read_two(alloc: Global, store: &mut RamStore) -> Result<Read, JournalFault> {
-    let mut reader = open_journal(alloc, store)?;
+    let mut reader = opened(alloc, store)?;
     let mut read = Read {
         count: 0,
         bodies: [Vec::new(alloc), Vec::new(alloc)],
         end: 0,
         early: None,
     };
-    // The header of version 2 has 64 bytes, and then its points: here one.
-    if reader.end() == 64 {
-        let point = reader.next_point(store)?;
-        if !matches!(point, Next::Whole(_)) {
-            return Ok(ended(read, &reader, point));
-        }
+    let point = next_point(store, &mut reader)?;
+    if !matches!(point, Next::Whole(_)) {
+        return Ok(ended(read, &reader, point));
     }
-    let first = reader.next(store)?;
+    let first = next_record(store, &mut reader)?;
     if !matches!(first, Next::Whole(_)) {
         return Ok(ended(read, &reader, first));
     }
     read.count = 1;
     read.bodies[0].extend_from_slice(reader.record().1)?;
-    let second = reader.next(store)?;
+    let second = next_record(store, &mut reader)?;
     if !matches!(second, Next::Whole(_)) {
         return Ok(ended(read, &reader, second));
     }
     read.count = 2;
     read.bodies[1].extend_from_slice(reader.record().1)?;
-    let third = reader.next(store)?;
+    let third = next_record(store, &mut reader)?;
     Ok(ended(read, &reader, third))
 }
 
