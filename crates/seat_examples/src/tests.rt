@@ -78,6 +78,8 @@ fn a_recorder_frees_what_it_replaced(rt: HostRuntime) -> Result<(), Fail> {
     let unpinned = desk.unpin(&rt, &mut seat, session.pin).what;
     let studio = desk.close(seat);
     assert!(rt; unpinned == Ok(()));
-    assert!(rt; studio.stopped().is_none());
-    has_named_files(&rt, alloc, studio)
+    match studio.stopped() {
+        None => has_named_files(&rt, alloc, studio),
+        Some(_) => Err("the studio has stopped".into()),
+    }
 }

@@ -1,5 +1,5 @@
 -- The seat that closes the desk is the first, and none is away from it.
-use Rattle.std.proofs.Common.{◌∙◌}
+use Rattle.std.proofs.Common.{◌∙◌, sym}
 use Rattle.studio_seats.proofs.Grown.{leads}
 use Rattle.studio_seats.proofs.Turns.{seat_stays}
 use Rattle.seat_examples.proofs.tests.a_recorder_frees_what_it_replaced.Goals as goal
@@ -17,3 +17,6 @@ close-studio-requires g c =
 
 pub has_named_files-requires-clause-studio : goal.has_named_files-requires-clause-studio
 has_named_files-requires-clause-studio g c = (leads _ _ _ c.close-studio.ensures.stands).studio
+
+pub has_named_files-requires-clause-going : goal.has_named_files-requires-clause-going
+has_named_files-requires-clause-going g c = sym c.stopped.ensures ∙ c.in-None.is
