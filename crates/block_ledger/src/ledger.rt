@@ -23,7 +23,7 @@ use std::marker::Model;
 pub struct Ledger {
     entries: Vec<Entry>,
     free: LeastTree,
-    // The place behind the entry whose count was written last.
+    // The place after the entry whose count was written last.
     next: usize,
 }
 
@@ -52,7 +52,7 @@ impl Ledger {
         }
     }
 
-    /// Makes room for so many ids that the ledger does not have. It takes memory only where there is too little, and
+    /// Makes room for this many ids that the ledger does not have. It takes memory only where there is too little, and
     /// then for the ids that are there, and for the new ones or as many again: ids that were taken out cost nothing.
     pub fn reserve(&mut self, count: u64) -> Result<(), NoMemory>
         ensures counts { (id : ℕ) → count_of self.new id ≡ count_of self.old id }
@@ -234,8 +234,8 @@ impl Ledger {
     }
 }
 
-// How many places are made for so many ids, and so many more: as many more as there are at least, so that they are made
-// seldom.
+// How many places are made for the ids that are there and `count` more: as many more as there are at least, so that
+// they are made seldom.
 fn places_for(there: usize, count: u64) -> Result<usize, NoMemory>
     requires { there < COUNTER_LIMIT }
     ensures { IfOk result (λ places. (places ≡ there + max count there) × (places < COUNTER_LIMIT)) }
@@ -262,7 +262,7 @@ fn kept_len(entries: &[Entry]) -> usize
     len
 }
 
-// The entries of ids that were not taken out, in a row with so many places.
+// The entries of ids that were not taken out, in a row with this many places.
 fn kept_entries(alloc: Global, entries: &[Entry], places: usize) -> Result<Vec<Entry>, AllocError>
     ensures items { IfOk result (λ v. v.items ≡ filter is_kept entries.now) }
     ensures room { IfOk result (λ v. places ≤ vec_capacity v) }

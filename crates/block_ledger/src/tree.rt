@@ -37,7 +37,7 @@ impl LeastTree {
         }
     }
 
-    // A tree with so many leaves, all without an id.
+    // A tree with this many leaves, all without an id.
     pub(crate) fn with_leaves(alloc: Global, leaves: usize) -> Result<LeastTree, AllocError>
         requires { leaves < COUNTER_LIMIT }
         ensures { IfOk result (λ t. t ≡ replicate leaves None) }

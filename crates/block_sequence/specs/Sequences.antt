@@ -1,5 +1,6 @@
 -- What holds of every sequence of blocks, by its type.
-use Rattle.std.specs.Prelude.{◌≡◌, ℕ, ◌≤◌, ◌^◌, List}
+use Rattle.std.specs.Prelude.{◌≡◌, ℕ, ◌≤◌, List}
+use Rattle.pcm_base.specs.declared.limits.TheConstants.{MAX_CELLS}
 use Rattle.pcm_base.specs.Blocks.{block_lens, blocks_len, NoneEmpty, IsHalfFull}
 use Rattle.pcm_base.specs.declared.block.BlockRef.{BlockRef}
 
@@ -12,4 +13,4 @@ pub record IsSequence (bs : List BlockRef) (len : ℕ) : Type 0 where
   pub full : IsHalfFullSomewhere bs
   pub none_empty : NoneEmpty bs
   pub same_len : blocks_len bs ≡ len
-  pub few : len ≤ 2 ^ 32
+  pub few : len ≤ MAX_CELLS

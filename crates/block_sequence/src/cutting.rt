@@ -9,7 +9,7 @@ use super::parts::{part_of, piece_len};
 use pcm_base::Piece;
 use std::alloc::{AllocError, Global};
 
-/// A place within some pieces: so many samples after the start of one.
+/// A place within some pieces: this many samples after the start of one.
 #[derive(Clone, Copy)]
 pub struct Place {
     pub at: usize,

@@ -1,6 +1,7 @@
 // How pieces of sound are laid out in blocks.
-ghost use Rattle.std.specs.Prelude.{◌≡◌, ℕ, ◌+◌, ◌*◌, ◌≤◌, ◌<◌, ◌^◌, ◌++◌, length, drop, take, sum, slice_index};
+ghost use Rattle.std.specs.Prelude.{◌≡◌, ℕ, ◌+◌, ◌*◌, ◌≤◌, ◌<◌, ◌++◌, length, drop, take, sum, slice_index};
 ghost use Rattle.std.specs.Prelude.{slice_index_or, ◌&&◌, not, true, filter, List, [], ◌∷◌, IfOk, OnOk, IsTrue};
+ghost use Rattle.pcm_base.specs.declared.limits.TheConstants.{MAX_CELLS};
 ghost use Rattle.pcm_base.specs.Blocks.{IsHalfFull};
 ghost use Rattle.pcm_base.specs.Pieces.{Sources, whole, all_samples, total, IsValid, AllValid, AllFit};
 ghost use Rattle.block_sequence.specs.Fuse as layout;
@@ -31,7 +32,7 @@ fn is_sound(piece: Piece, m: u32) -> bool
 
 #[tactic(auto, unfolding(crate::specs::Fuse::is_short))]
 fn is_short(run: u64, m: u32) -> bool
-    requires { run ≤ 2 ^ 32 }
+    requires { run ≤ MAX_CELLS }
     ensures { result ≡ layout.is_short m run }
 {
     0 < run && 2 * run < m as u64
@@ -41,10 +42,10 @@ fn is_short(run: u64, m: u32) -> bool
 /// The samples from a place on up to the next sound piece.
 fn front(pieces: &[Piece], at: usize, m: u32) -> u64
     requires valid { AllValid pieces.now }
-    requires few { total pieces.now ≤ 2 ^ 32 }
+    requires few { total pieces.now ≤ MAX_CELLS }
     requires within { at ≤ length pieces.now }
     ensures value { result ≡ layout.front m (drop at pieces.now) }
-    ensures few { result ≤ 2 ^ 32 }
+    ensures few { result ≤ MAX_CELLS }
 {
     let mut i = at;
     let mut sum = 0;
@@ -67,7 +68,7 @@ fn count_blocks(run: u64, m: u32) -> u64
 fn block_size(run: u64, m: u32, k: u64) -> u32
     requires some { 0 < m }
     requires within { k < length (layout.block_sizes m run) }
-    requires few { run ≤ 2 ^ 32 }
+    requires few { run ≤ MAX_CELLS }
     ensures { result ≡ slice_index (layout.block_sizes m run) k }
 {
     let n = run.div_ceil(m as u64);
@@ -90,7 +91,7 @@ fn lay_run(
     requires some { 0 < m }
     requires valid { AllValid pieces.now }
     requires fit { AllFit m pieces.now }
-    requires few { run ≤ 2 ^ 32 }
+    requires few { run ≤ MAX_CELLS }
     requires run { total pieces.now ≡ run }
     requires made { AllMade m out.old.items }
     ensures made { OnOk result (AllMade m out.new.items) }
@@ -116,7 +117,7 @@ fn lay_run(
 #[tactic(auto, using(crate::proofs::Rest::valid_at))]
 fn ends_run(pieces: &[Piece], i: usize, first: bool, m: u32) -> bool
     requires valid { AllValid pieces.now }
-    requires few { total pieces.now ≤ 2 ^ 32 }
+    requires few { total pieces.now ≤ MAX_CELLS }
     requires within { i < length pieces.now }
     ensures { result ≡ (layout.is_sound m (slice_index_or pieces.now i no_piece) && not first && not
         (layout.is_short m (layout.front m (drop (i + 1) pieces.now)))) }
@@ -148,7 +149,7 @@ fn lay_between(
     requires some { 0 < m }
     requires valid { AllValid pieces.now }
     requires fit { AllFit m pieces.now }
-    requires few { total pieces.now ≤ 2 ^ 32 }
+    requires few { total pieces.now ≤ MAX_CELLS }
     requires rising { start ≤ end }
     requires within { end ≤ length pieces.now }
     requires run { total (drop start pieces.now) ≡ run + total (drop end pieces.now) }
@@ -179,7 +180,7 @@ fn lay_clip(alloc: Global, pieces: &[Piece], m: u32) -> Result<Vec<Laid>, AllocE
     requires some { 0 < m }
     requires valid { AllValid pieces.now }
     requires fit { AllFit m pieces.now }
-    requires few { total pieces.now ≤ 2 ^ 32 }
+    requires few { total pieces.now ≤ MAX_CELLS }
     ensures made { IfOk result (λ v. AllMade m v.items) }
     ensures parts { IfOk result (λ v. parts v.items ≡ laying.laid_clip m pieces.now) }
     ensures from { IfOk result (λ v. (blocks : List BlockRef) (count : ℕ) → AllFrom blocks count pieces.now
@@ -244,7 +245,7 @@ fn lay_apart(alloc: Global, pieces: &[Piece], m: u32) -> Result<Vec<Laid>, Alloc
     requires some { 0 < m }
     requires valid { AllValid pieces.now }
     requires fit { AllFit m pieces.now }
-    requires few { total pieces.now ≤ 2 ^ 32 }
+    requires few { total pieces.now ≤ MAX_CELLS }
     ensures made { IfOk result (λ v. AllMade m v.items) }
     ensures parts { IfOk result (λ v. parts v.items ≡ laying.laid_apart m pieces.now) }
     ensures from { IfOk result (λ v. (blocks : List BlockRef) (count : ℕ) → AllFrom blocks count pieces.now
@@ -267,7 +268,7 @@ pub fn fuse(alloc: Global, pieces: &[Piece], m: u32) -> Result<Vec<Laid>, NoMemo
     requires some { 0 < m }
     requires valid { AllValid pieces.now }
     requires fit { AllFit m pieces.now }
-    requires few { total pieces.now ≤ 2 ^ 32 }
+    requires few { total pieces.now ≤ MAX_CELLS }
     ensures rule { IfOk result (λ v. layout.IsLaidOut m (filter layout.is_not_empty pieces.now) (parts v.items)) }
     ensures from { IfOk result (λ v. (blocks : List BlockRef) (count : ℕ) → AllFrom blocks count pieces.now
         → AllLaidFrom blocks count v.items) }

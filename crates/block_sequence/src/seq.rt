@@ -1,5 +1,6 @@
 // A sequence of blocks.
-ghost use Rattle.std.specs.Prelude.{◌≡◌, ℕ, ◌-◌, ◌≤◌, ◌^◌, length, take, drop, map, IfOk};
+ghost use Rattle.std.specs.Prelude.{◌≡◌, ℕ, ◌-◌, ◌≤◌, length, take, drop, map, IfOk};
+ghost use Rattle.pcm_base.specs.declared.limits.TheConstants.{MAX_CELLS};
 ghost use Rattle.pcm_base.specs.Pieces.{Sources, all_samples, total, AllValid, whole};
 ghost use Rattle.pcm_base.specs.Blocks.{NoneEmpty, block_samples, blocks_len};
 ghost use Rattle.block_sequence.specs.Sequences.{IsHalfFullSomewhere};
@@ -33,7 +34,7 @@ impl Model for Sequence {
 
 #[tactic(auto, using(crate::proofs::Whole::blocks_next))]
 fn count(blocks: &[BlockRef]) -> u64
-    requires { blocks_len blocks.now ≤ 2 ^ 32 }
+    requires { blocks_len blocks.now ≤ MAX_CELLS }
     ensures { result ≡ blocks_len blocks.now }
 {
     let mut len = 0;
@@ -60,7 +61,7 @@ impl Sequence {
     pub fn new(blocks: Vec<BlockRef>) -> Sequence
         requires full { IsHalfFullSomewhere blocks.items }
         requires none_empty { NoneEmpty blocks.items }
-        requires few { blocks_len blocks.items ≤ 2 ^ 32 }
+        requires few { blocks_len blocks.items ≤ MAX_CELLS }
         ensures { result ≡ blocks.items }
     {
         let len = count(blocks.as_slice());
@@ -71,7 +72,7 @@ impl Sequence {
     pub fn len(&self) -> u64
         ensures value { result ≡ blocks_len self.now }
         ensures samples { (src : Sources) → length (block_samples src self.now) ≡ result }
-        ensures few { result ≤ 2 ^ 32 }
+        ensures few { result ≤ MAX_CELLS }
     {
         self.len
     }
@@ -80,7 +81,7 @@ impl Sequence {
     pub fn as_slice(&self) -> &[BlockRef]
         ensures value { result.now ≡ self.now }
         ensures none_empty { NoneEmpty self.now }
-        ensures few { blocks_len self.now ≤ 2 ^ 32 }
+        ensures few { blocks_len self.now ≤ MAX_CELLS }
         ensures full { IsHalfFullSomewhere self.now }
     {
         self.blocks.as_slice()

@@ -113,8 +113,8 @@ fn check_file<S: Store>(
 }
 
 /// Whether the disk has a block whole: reads its whole file into the buffer, and compares all of it. The buffer has
-/// room for the file, and no other memory is taken. The first that differs is told: the size of the file, at 0, then
-/// magic, id, count and the fields of the frames, in the order of the file.
+/// room for the file, and no other memory is taken. The error is the first that differs: the size of the file, at 0,
+/// then magic, id, count and the fields of the frames, in the order of the file.
 pub fn check_block<S: Store>(
     store: &mut S,
     block: BlockRef,
@@ -122,7 +122,7 @@ pub fn check_block<S: Store>(
 ) -> Result<(), BlockFault>
     requires block { IsBlock block.id block.len }
     requires room { size_of block.len ≤ vec_capacity buffer.old }
-    // Ok is for a block of the disk, of so many samples, and for such a block nothing but the disk refuses.
+    // Ok is for a block of the disk, of this many samples, and for such a block nothing but the disk refuses.
     ensures whole { IsTrue (S.tells store.old) → OnOk result (IsWhole (S.reads store.old) block.id block.len) }
     ensures sound { IsTrue (S.tells store.old) → IsWhole (S.reads store.old) block.id block.len
         → IsOkUnless result fault.DiskFault }

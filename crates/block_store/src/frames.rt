@@ -43,7 +43,7 @@ fn samples_each(level: Level) -> usize
     }
 }
 
-/// How many samples frame `i` has, of a block of so many.
+/// How many samples frame `i` has, of a block of this many.
 fn samples_of_frame(level: Level, len: usize, i: usize) -> usize
     requires { i < frame_count (frame_len level) len }
     ensures { result ≡ frame_samples level len i }

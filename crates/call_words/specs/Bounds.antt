@@ -1,5 +1,6 @@
 -- The bounds of the numbers that words give.
 use Rattle.std.specs.Prelude.{◌≡◌, ◌≤◌, ◌%◌}
+use Rattle.pcm_base.specs.declared.limits.TheConstants.{MAX_BLOCK_SAMPLES, MAX_DEPTH}
 use Rattle.call_words.specs.declared.asked.NewProject.{NewProject}
 use Rattle.call_words.specs.declared.asked.Words.{Words}
 use Rattle.call_words.specs.declared.asked.Words.TheVariants as words
@@ -8,9 +9,9 @@ pub record IsNewProject (new : NewProject) : Type 0 where
   pub rate_least : 1 ≤ new.rate
   pub even : new.block_size % 2 ≡ 0
   pub block_least : 4 ≤ new.block_size
-  pub block_most : new.block_size ≤ 262144
+  pub block_most : new.block_size ≤ MAX_BLOCK_SAMPLES
   pub depth_least : 1 ≤ new.depth
-  pub depth_most : new.depth ≤ 4096
+  pub depth_most : new.depth ≤ MAX_DEPTH
 
 abbrev pub IsInBounds : Words → Type 0
 IsInBounds (words.New new) = IsNewProject new

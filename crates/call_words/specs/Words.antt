@@ -1,6 +1,7 @@
 -- The words of the program, by their grammar.
 use Rattle.std.specs.Prelude.{ℕ, ◌==◌, ◌%◌, Bool, true, false, List, [], ◌∷◌, Option, Some, None, if◌then◌else◌}
 use Rattle.std.specs.Prelude.{bytes_eq, codes, option_and_then, nat_le}
+use Rattle.pcm_base.specs.declared.limits.TheConstants.{MAX_BLOCK_SAMPLES, MAX_DEPTH}
 use Rattle.script_text.specs.Words.{number_up_to}
 use Rattle.call_words.specs.Texts.{Text}
 use Rattle.call_words.specs.Options.{Given, options_read}
@@ -27,8 +28,8 @@ even n = if n % 2 == 0 then Some n else None
 abbrev pub new_of : Given → Option Words
 new_of g = option_and_then (λ rate. option_and_then (λ block. option_and_then (λ depth.
     Some (words.New (record { rate = rate; block_size = block; depth = depth })))
-    (number_or 256 1 4096 g.depth))
-    (option_and_then even (number_or 262144 4 262144 g.block)))
+    (number_or 256 1 MAX_DEPTH g.depth))
+    (option_and_then even (number_or MAX_BLOCK_SAMPLES 4 MAX_BLOCK_SAMPLES g.block)))
     (number_or 44100 1 4294967295 g.rate)
 
 -- `new` and its options, each at most once, in any order

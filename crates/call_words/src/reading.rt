@@ -7,6 +7,7 @@ ghost use Rattle.call_words.specs.Words.{alone, gen_words, is_new, new_of, new_w
 use super::asked::{NewProject, Words, WordsFault};
 use super::number::{even, number_or, number_up_to, number_within};
 use super::options::{Given, read_options};
+use pcm_base::{MAX_BLOCK_SAMPLES, MAX_DEPTH};
 use std::alloc::Global;
 
 fn new_project(given: &Given<'_>) -> Option<Words>
@@ -14,8 +15,8 @@ fn new_project(given: &Given<'_>) -> Option<Words>
     ensures bounds { IfSome result IsInBounds }
 {
     let rate = number_or(given.rate, 44100, 1, 4294967295)?;
-    let block_size = even(number_or(given.block, 262144, 4, 262144))?;
-    let depth = number_or(given.depth, 256, 1, 4096)?;
+    let block_size = even(number_or(given.block, MAX_BLOCK_SAMPLES, 4, MAX_BLOCK_SAMPLES))?;
+    let depth = number_or(given.depth, 256, 1, MAX_DEPTH)?;
     Some(Words::New(NewProject {
         rate,
         block_size,

@@ -1,6 +1,7 @@
 // Calls of the program on a world.
 use super::comparing::{goes_on, is_like, last_told};
 use super::fault::Fault;
+use super::said::SaidVault;
 use super::sections::Line;
 use super::world::{Asked, Failing, Left, Manner, Sound, World};
 use disk_model::{RamStore, Store};
@@ -127,7 +128,10 @@ fn makes<R: Threads + Wait + Sync>(
     } = asked.failing;
     let mut script = source_of(alloc, asked.script, asked.piece, script);
     let mut out = sink_of(alloc, 1_048_576, asked.piece, output)?;
-    let mut vault = vault_of(alloc, world.sounds.as_slice(), vault)?;
+    let mut vault = SaidVault {
+        vault: vault_of(alloc, world.sounds.as_slice(), vault)?,
+        said: asked.said,
+    };
     let mic = mic_of(alloc, asked.mic, mic)?;
     let speaker = sink_of(alloc, asked.room, 65_536, speaker)?;
     let store = world.take_store()?;
@@ -144,7 +148,7 @@ fn makes<R: Threads + Wait + Sync>(
         speaker,
         &OpenGate,
     );
-    let (store, left) = left_of(alloc, ending, &out, vault, before)?;
+    let (store, left) = left_of(alloc, ending, &out, vault.vault, before)?;
     world.store = store;
     Ok(left)
 }

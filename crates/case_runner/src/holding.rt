@@ -7,11 +7,15 @@ use disk_model::Store;
 use edit_ports::{MemVault, Vault};
 use std::alloc::Global;
 
+// The files of journals are 0 and this one.
+const LAST_JOURNAL: u64 = 1;
+
 /// What a text says, which stands on a line, holds.
 pub(crate) fn holds<'a>(world: &mut World<'a>, line: Line<'a>, text: &'a str) -> Result<(), Fault> {
     let (word, rest) = first_word(text);
     match word {
         "files" => has_files(world, line, rest),
+        "blocks" => has_blocks(world, line, rest),
         "file" => has_file(world, line, rest),
         "bytes" => has_part(world, line, rest),
         "faults" => has_faults(world, line, rest),
@@ -159,6 +163,23 @@ fn has_files<'a>(world: &mut World<'a>, line: Line<'a>, rest: &str) -> Result<()
     let wanted = world.numbers_of(line, rest)?;
     let files = files_of(alloc, world, line)?;
     are_numbers(alloc, line, files.as_slice(), wanted.as_slice())
+}
+
+// The disk has the files of these blocks, one of a journal or two, and no others.
+fn has_blocks<'a>(world: &mut World<'a>, line: Line<'a>, rest: &str) -> Result<(), Fault> {
+    let alloc = world.alloc;
+    let wanted = world.numbers_of(line, rest)?;
+    let files = files_of(alloc, world, line)?;
+    let mut blocks = Vec::new(alloc);
+    for file in files.as_slice() {
+        if *file > LAST_JOURNAL {
+            blocks.push(*file)?;
+        }
+    }
+    if blocks.len() == files.len() {
+        return Err(line.wrong(numbers_text(alloc, files.as_slice())?));
+    }
+    are_numbers(alloc, line, blocks.as_slice(), wanted.as_slice())
 }
 
 // A file has these bytes.

@@ -1,5 +1,6 @@
 // What is set up before a call: the lines that begin with `- `.
 use super::fault::Fault;
+use super::pending::set_pending;
 use super::sections::{Line, first_word};
 use super::world::{Sound, World, number_of};
 use disk_model::Store;
@@ -21,6 +22,7 @@ pub(crate) fn set_up<'a>(
         "mic" => set_mic(world, line, rest),
         "room" => set_room(world, line, rest),
         "piece" => set_piece(world, line, rest),
+        "says" => set_said(world, line, rest),
         "sound" => add_sound(world, line, rest),
         _ => set_disk(world, line, word, rest),
     }
@@ -48,7 +50,7 @@ fn set_disk<'a>(
         "write" => write(world, line, rest),
         "cut" => cut(world, line, rest),
         "remove" => remove(world, line, rest),
-        _ => Err(line.unread()),
+        _ => set_pending(world, line, word, rest),
     }
 }
 
@@ -123,6 +125,12 @@ fn set_room<'a>(world: &mut World<'a>, line: Line<'a>, text: &str) -> Result<(),
 
 fn set_piece<'a>(world: &mut World<'a>, line: Line<'a>, text: &str) -> Result<(), Fault> {
     world.asked.piece = number_of(line, text)?.min(FAR) as usize;
+    Ok(())
+}
+
+// How many bytes each sound is said to have.
+fn set_said<'a>(world: &mut World<'a>, line: Line<'a>, text: &str) -> Result<(), Fault> {
+    world.asked.said = Some(number_of(line, text)?);
     Ok(())
 }
 

@@ -51,6 +51,8 @@ pub(crate) struct Asked<'a> {
     pub(crate) mic: Option<Vec<u8>>,
     /// For how many bytes the speaker has room.
     pub(crate) room: usize,
+    /// How many bytes each sound is said to have, if it is not what it has.
+    pub(crate) said: Option<u64>,
 }
 
 impl<'a> Asked<'a> {
@@ -64,6 +66,7 @@ impl<'a> Asked<'a> {
             failing: Failing::new(alloc),
             mic: None,
             room: 65_536,
+            said: None,
         }
     }
 }

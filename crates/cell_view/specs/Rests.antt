@@ -1,6 +1,7 @@
 -- What is left of a track from a place on.
-use Rattle.std.specs.Prelude.{◌≡◌, ℕ, ◌+◌, ◌-◌, ◌≤◌, ◌<◌, ◌^◌, ◌⊎◌, List, [], ◌∷◌, ◌++◌, length, map, replicate}
+use Rattle.std.specs.Prelude.{◌≡◌, ℕ, ◌+◌, ◌-◌, ◌≤◌, ◌<◌, ◌⊎◌, List, [], ◌∷◌, ◌++◌, length, map, replicate}
 use Rattle.std.specs.Prelude.{slice_index_or, Contains}
+use Rattle.pcm_base.specs.declared.limits.TheConstants.{MAX_CELLS}
 use Rattle.pcm_base.specs.declared.block.BlockRef.{BlockRef}
 use Rattle.pcm_base.specs.declared.sound.Cell.{Cell}
 use Rattle.pcm_base.specs.declared.sound.Cell.TheVariants as cell
@@ -29,7 +30,7 @@ pub record IsRest (r : TrackRest) : Type 0 where
   pub later : r.at ≤ r.start
   pub whole : r.end ≡ r.start + blocks_len r.blocks.now
   pub apart : AreClips r.end r.clips.now
-  pub few : end_of r.end r.clips.now ≤ 2 ^ 32
+  pub few : end_of r.end r.clips.now ≤ MAX_CELLS
   pub named : AllNamed r.blocks.now
   pub clips_named : AllNamed (layout_blocks r.clips.now)
 

@@ -46,7 +46,7 @@ fn put_rest<S: Store>(
 
 /// Reads the cells of a track from a place on, and gaps past its end, until `out` is full. What is left of the track is
 /// handed in, so that what was passed is not looked at again, and the cache, so that a page that was read before is not
-/// read again. It looks at no block behind those that are seen. After an error `out` may have
+/// read again. It looks at no block after those that are seen. After an error `out` may have
 /// been written in part.
 pub fn read_ahead<S: Store>(
     store: &mut S,

@@ -120,7 +120,7 @@ pub(crate) fn put_block<S: Store>(
     read_pieces(store, cache, block, skip, &mut out[start..end])
 }
 
-/// The same of blocks one after another, and none behind the view is looked at.
+/// The same of blocks one after another, and none after the view is looked at.
 pub(crate) fn put_blocks<S: Store>(
     store: &mut S,
     cache: &mut Cache,

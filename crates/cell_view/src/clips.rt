@@ -1,5 +1,6 @@
 // The cells of clips, one after another.
-ghost use Rattle.std.specs.Prelude.{◌≡◌, ◌≤◌, ◌+◌, ◌-◌, ◌^◌, ◌++◌, length, map, replicate, IsTrue, OnOk, IfErr};
+ghost use Rattle.std.specs.Prelude.{◌≡◌, ◌≤◌, ◌+◌, ◌-◌, ◌++◌, length, map, replicate, IsTrue, OnOk, IfErr};
+ghost use Rattle.pcm_base.specs.declared.limits.TheConstants.{MAX_CELLS};
 ghost use Rattle.disk_model.specs.Frames.{Kept};
 ghost use Rattle.block_cache.specs.Caches.{IsCacheOf, KeepsCache};
 ghost use Rattle.block_store.specs.Reads.{Counted, IsFaultIn};
@@ -30,7 +31,7 @@ fn put_clip<S: Store>(
     requires named { AllNamed clip.now.blocks }
     requires size { view.from + length out.old ≡ view.to }
     requires later { at ≤ clip.now.start }
-    requires few { clip_end clip.now ≤ 2 ^ 32 }
+    requires few { clip_end clip.now ≤ MAX_CELLS }
     requires cached { IsTrue (S.tells store.old) → IsCacheOf (S.reads store.old) cache.old }
     ensures cache { KeepsCache (S.tells store.old) (S.reads store.old) clip.now.blocks cache.old cache.new }
     ensures stored { IsTrue (S.tells store.old)
@@ -44,7 +45,7 @@ fn put_clip<S: Store>(
     put_blocks(store, cache, clip.blocks.as_slice(), view, clip.start, out)
 }
 
-/// Puts clips, and the gaps before them from a place on, where the view has them. None behind the view is looked at.
+/// Puts clips, and the gaps before them from a place on, where the view has them. None after the view is looked at.
 pub(crate) fn put_clips<S: Store>(
     store: &mut S,
     cache: &mut Cache,
@@ -54,7 +55,7 @@ pub(crate) fn put_clips<S: Store>(
     out: &mut [Cell],
 ) -> Result<(), BlockFault>
     requires apart { AreClips start clips.now }
-    requires few { end_of start clips.now ≤ 2 ^ 32 }
+    requires few { end_of start clips.now ≤ MAX_CELLS }
     requires named { AllNamed (layout_blocks clips.now) }
     requires size { view.from + length out.old ≡ view.to }
     requires cached { IsTrue (S.tells store.old) → IsCacheOf (S.reads store.old) cache.old }

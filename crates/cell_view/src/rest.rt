@@ -8,7 +8,7 @@ ghost use Rattle.cell_view.specs.Rests.{EndsBehind, IsPast, IsRest, IsRestOf};
 use clip_track::{Clip, Layout};
 use pcm_base::BlockRef;
 
-/// The rest of a clip, and the clips behind it. What stands before is passed.
+/// The rest of a clip, and the clips after it. What stands before is passed.
 #[derive(Clone, Copy)]
 pub struct TrackRest<'a> {
     /// Where the rest begins.
@@ -19,7 +19,7 @@ pub struct TrackRest<'a> {
     pub end: u64,
     /// The clip's blocks that are left, from `start` to `end`.
     pub blocks: &'a [BlockRef],
-    /// The clips behind it.
+    /// The clips after it.
     pub clips: &'a [Clip],
 }
 
@@ -45,7 +45,7 @@ fn started(clips: &[Clip], from: u64) -> usize
     clips.partition_point(|clip| clip.start <= from)
 }
 
-/// The last clip that starts by a place, or the first of all, and the clips behind it.
+/// The last clip that starts by a place, or the first of all, and the clips after it.
 fn near<'a>(layout: &'a Layout, from: u64) -> TrackRest<'a>
     requires named { AllNamed (layout_blocks layout.now) }
     ensures { IsRestOf from layout.now result }

@@ -1,5 +1,6 @@
 -- Layouts: clips apart from each other, and the cells that they mean.
-use Rattle.std.specs.Prelude.{ℕ, ◌+◌, ◌-◌, ◌<◌, ◌≤◌, ◌^◌, List, [], ◌∷◌, ◌++◌, map, replicate}
+use Rattle.std.specs.Prelude.{ℕ, ◌+◌, ◌-◌, ◌<◌, ◌≤◌, List, [], ◌∷◌, ◌++◌, map, replicate}
+use Rattle.pcm_base.specs.declared.limits.TheConstants.{MAX_CELLS}
 use Rattle.pcm_base.specs.declared.sound.Cell.{Cell}
 use Rattle.pcm_base.specs.declared.sound.Cell.TheVariants as cell
 use Rattle.pcm_base.specs.declared.block.BlockRef.{BlockRef}
@@ -41,7 +42,7 @@ AreClips from (c ∷ cs) =
 
 pub record IsLayout (cs : List Clip) : Type 0 where
   pub apart : AreClips 0 cs
-  pub few : end_of 0 cs ≤ 2 ^ 32
+  pub few : end_of 0 cs ≤ MAX_CELLS
 
 -- each clip is one block of 1 to m samples, or blocks of m / 2 to m
 abbrev pub AllHalfFull : ℕ → List Clip → Type 0

@@ -1,5 +1,6 @@
 -- What is left of a layout from a place on.
-use Rattle.std.specs.Prelude.{◌≡◌, ℕ, ◌≤◌, ◌<◌, ◌^◌, List, [], ◌∷◌, ◌++◌, Option, MatchOption}
+use Rattle.std.specs.Prelude.{◌≡◌, ℕ, ◌≤◌, ◌<◌, List, [], ◌∷◌, ◌++◌, Option, MatchOption}
+use Rattle.pcm_base.specs.declared.limits.TheConstants.{MAX_CELLS}
 use Rattle.pcm_base.specs.declared.block.BlockRef.{BlockRef}
 use Rattle.pcm_base.specs.declared.piece.Piece.TheVariants.{Old}
 use Rattle.pcm_base.specs.Blocks.{NoneEmpty}
@@ -37,4 +38,4 @@ pub record IsLeft (l : Left) : Type 0 where
   pub within : IsWithin l.passed l.blocks.now
   pub some : NoneEmpty l.blocks.now
   pub apart : AreClips l.end l.clips.now
-  pub few : end_of l.end l.clips.now ≤ 2 ^ 32
+  pub few : end_of l.end l.clips.now ≤ MAX_CELLS

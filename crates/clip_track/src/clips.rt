@@ -1,6 +1,7 @@
 // A track's layout in clips.
 ghost use Rattle.std.specs.Prelude.{◌≡◌, ℕ, ◌+◌, ◌-◌, ◌≤◌, ◌<◌, ◌^◌, ◌++◌, length, take, drop, [], true, IfOk, OnOk};
 ghost use Rattle.std.specs.Prelude.{Contains};
+ghost use Rattle.pcm_base.specs.declared.limits.TheConstants.{MAX_CELLS};
 ghost use Rattle.pcm_base.specs.Pieces.{Sources};
 ghost use Rattle.pcm_base.specs.declared.block.BlockRef.{BlockRef};
 ghost use Rattle.clip_track.specs.Items as strip;
@@ -58,7 +59,7 @@ fn append_blocks(out: &mut Vec<Item>, blocks: &[BlockRef]) -> Result<(), AllocEr
 
 fn append_clip(out: &mut Vec<Item>, clip: &Clip, at: u64) -> Result<u64, AllocError>
     requires later { at ≤ clip.now.start }
-    requires few { layout.clip_end clip.now ≤ 2 ^ 32 }
+    requires few { layout.clip_end clip.now ≤ MAX_CELLS }
     ensures items { OnOk result (out.new.items ≡ out.old.items
         ++ (strip.gap_items (clip.now.start - at) ++ layout.sound_items clip.now.blocks)) }
     ensures end { IfOk result (λ end. end ≡ layout.clip_end clip.now) }
@@ -128,7 +129,7 @@ impl Layout {
     pub fn len(&self) -> u64
         ensures value { result ≡ layout.end_of 0 self.now }
         ensures cells { (src : Sources) → length (layout.layout_cells src self.now) ≡ result }
-        ensures few { result ≤ 2 ^ 32 }
+        ensures few { result ≤ MAX_CELLS }
     {
         end_of(self.clips.as_slice())
     }
@@ -156,7 +157,7 @@ impl Layout {
             (λ s. (src : Sources) → strip.strip_cells src s ≡ layout.layout_cells src self.now) }
         ensures ok { IfOk result (λ s. strip.AreItems s) }
         ensures len { IfOk result (λ s. strip.strip_len s ≡ layout.end_of 0 self.now) }
-        ensures few { IfOk result (λ s. strip.strip_len s ≤ 2 ^ 32) }
+        ensures few { IfOk result (λ s. strip.strip_len s ≤ MAX_CELLS) }
         ensures fit { IfOk result (λ s. (m : ℕ) → layout.AllHalfFull m self.now → strip.ItemsFit m s) }
         ensures smooth { IfOk result (λ s. (m : ℕ) → layout.AllHalfFull m self.now → rough_items m true true s ≡ 0) }
         ensures short { IfOk result (λ s. (m : ℕ) → layout.AllHalfFull m self.now → ItemsShort m s) }

@@ -1,5 +1,6 @@
 // What is left of a layout from a place on, stretch by stretch.
-ghost use Rattle.std.specs.Prelude.{◌≡◌, ◌+◌, ◌-◌, ◌≤◌, ◌<◌, ◌^◌, [], ◌∷◌, IfOk};
+ghost use Rattle.std.specs.Prelude.{◌≡◌, ◌+◌, ◌-◌, ◌≤◌, ◌<◌, [], ◌∷◌, IfOk};
+ghost use Rattle.pcm_base.specs.declared.limits.TheConstants.{MAX_CELLS};
 ghost use Rattle.pcm_base.specs.Blocks.{blocks_len};
 ghost use Rattle.clip_track.specs.Clips.{AreClips, IsLayout, clip_end, end_of, items_from};
 ghost use Rattle.clip_track.specs.Items.{AreItems, items_after, part_items};
@@ -115,7 +116,7 @@ fn entered<'a>(left: Left<'a>) -> Left<'a>
 // A clip and those after it, from the end of the one before on.
 fn enter<'a>(end: u64, clip: &'a Clip, more: &'a [Clip]) -> Left<'a>
     requires apart { AreClips end (clip.now ∷ more.now) }
-    requires few { end_of end (clip.now ∷ more.now) ≤ 2 ^ 32 }
+    requires few { end_of end (clip.now ∷ more.now) ≤ MAX_CELLS }
     ensures left { IsLeft result }
     ensures items { left_items result ≡ items_from end (clip.now ∷ more.now) }
     ensures sound { result.blocks.now ≡ clip.now.blocks }
@@ -161,7 +162,7 @@ fn pass_blocks<'a>(left: Left<'a>, count: u64) -> Left<'a>
 // What is left from a place on that lies before the end of the first clip.
 fn within<'a>(end: u64, clip: &'a Clip, more: &'a [Clip], place: u64) -> Left<'a>
     requires apart { AreClips end (clip.now ∷ more.now) }
-    requires few { end_of end (clip.now ∷ more.now) ≤ 2 ^ 32 }
+    requires few { end_of end (clip.now ∷ more.now) ≤ MAX_CELLS }
     requires later { end ≤ place }
     requires within { place < clip_end clip.now }
     ensures left { IsLeft result }

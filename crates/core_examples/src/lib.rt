@@ -3,13 +3,13 @@
 #![tactic(auto)]
 
 #[cfg(test)]
+mod event_tests;
+#[cfg(test)]
 mod ledger_tests;
 #[cfg(test)]
 mod read_tests;
 #[cfg(test)]
 mod scripts;
-#[cfg(test)]
-mod sound_tests;
 #[cfg(test)]
 mod tests;
 #[cfg(test)]

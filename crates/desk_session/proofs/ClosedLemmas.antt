@@ -1,7 +1,8 @@
 -- What a session did to a studio, once its desk is closed.
-use Rattle.std.proofs.Common.{◌≡◌, inl, inr, ℕ, ◌^◌, Bool, true, List, [], ◌∷◌, ◌++◌, length, Option, Some, None}
+use Rattle.std.proofs.Common.{◌≡◌, inl, inr, ℕ, Bool, true, List, [], ◌∷◌, ◌++◌, length, Option, Some, None}
 use Rattle.std.proofs.Common.{refl, sym, ◌∙◌, ap, subst}
 use Rattle.std.specs.Prelude.{IsSomeAnd}
+use Rattle.pcm_base.specs.declared.limits.TheConstants.{COUNTER_LIMIT}
 use Rattle.pcm_base.specs.declared.command.Call.{Call}
 use Rattle.pcm_base.specs.declared.command.Call.TheVariants.{Unpin}
 use Rattle.pcm_base.specs.Counters.{commits_of}
@@ -95,7 +96,7 @@ module _ {D V M P : Type 0} (k : Kinds D V M P) (start final : Core D) (mid : V)
     (record lent { vault = change mid lent.vault.now }) out)
     (stands : StandsFor (origin k.disk k.vaults start) final w.seen)
     (counts : (k : ℕ) → times k w.mine ≡ once_below k (length w.seen))
-    (turns : w.used_up ≡ true → length w.seen ≡ 2 ^ 62) where
+    (turns : w.used_up ≡ true → length w.seen ≡ COUNTER_LIMIT) where
   abbrev disk : Ghosts D
   disk = k.disk
 

@@ -1,6 +1,7 @@
 -- A session at a desk: a script, and beside it a recording and a playback, where they were asked for.
-use Rattle.std.specs.Prelude.{◌≡◌, ℕ, ◌^◌, Bool, true, IsTrue, List, [], ◌∷◌, ◌++◌, length, None, IsSomeAnd}
+use Rattle.std.specs.Prelude.{◌≡◌, ℕ, Bool, true, IsTrue, List, [], ◌∷◌, ◌++◌, length, None, IsSomeAnd}
 use Rattle.std.specs.List.{list_any}
+use Rattle.pcm_base.specs.declared.limits.TheConstants.{COUNTER_LIMIT}
 use Rattle.pcm_base.specs.declared.answer.Answer.{Answer}
 use Rattle.pcm_base.specs.Outside.{Sounds}
 use Rattle.pcm_base.specs.Run.{Follows}
@@ -110,7 +111,7 @@ pub record IsSession {D V M P : Type 0} (k : Kinds D V M P) (start final : Core 
   pub stands : StandsFor (origin k.disk k.vaults start) final deeds
   -- whether a seat found that no turn was left: then as many were made as there are
   pub spent : Bool
-  pub turns : spent ≡ true → length deeds ≡ 2 ^ 62
+  pub turns : spent ≡ true → length deeds ≡ COUNTER_LIMIT
   pub made : IsMadeOf spent start.next_track out.opened deeds
   pub scripted : IsScripted k.vaults spent
       (record { first = start.commit_number; opening = made.opening; rest = made.rest }) lent out.told

@@ -1,7 +1,8 @@
 -- The history that a list of calls and a row of bytes stand for.
-use Rattle.std.specs.Prelude.{◌≡◌, ℕ, ◌+◌, ◌^◌, ◌≤◌, ◌<◌, slice_index, Option, Some, None, Vec, List, [], ◌∷◌, length}
+use Rattle.std.specs.Prelude.{◌≡◌, ℕ, ◌+◌, ◌≤◌, ◌<◌, slice_index, Option, Some, None, Vec, List, [], ◌∷◌, length}
 use Rattle.std.specs.Prelude.{take, drop}
 use Rattle.std.specs.declared.alloc.Global.{Global}
+use Rattle.pcm_base.specs.declared.limits.TheConstants.{COUNTER_LIMIT}
 use Rattle.disk_model.specs.History.{Step, Wrote, Synced, Removed}
 use Rattle.disk_model.specs.declared.call.Kind.{Kind}
 use Rattle.disk_model.specs.declared.call.Kind.TheVariants.{Write, Sync, Remove}
@@ -26,7 +27,7 @@ history_of row calls = history_on [] row calls
 -- its bytes are in a row of so many
 pub record Held (n : ℕ) (call : Call) : Type 0 where
   pub within : call.from + call.len ≤ n
-  pub fits : call.at + call.len ≤ 2 ^ 62
+  pub fits : call.at + call.len ≤ COUNTER_LIMIT
 
 abbrev pub AllHeld : ℕ → List Call → Type 0
 AllHeld n [] = Unit {0}

@@ -1,8 +1,9 @@
 -- The index of a list of calls by file.
-use Rattle.std.specs.Prelude.{◌≡◌, ◌≢◌, ℕ, ◌+◌, ◌^◌, ◌≤◌, ◌<◌, ◌==◌, if◌then◌else◌, Option, Some, None, IsSome, IfSome}
+use Rattle.std.specs.Prelude.{◌≡◌, ◌≢◌, ℕ, ◌+◌, ◌≤◌, ◌<◌, ◌==◌, if◌then◌else◌, Option, Some, None, IsSome, IfSome}
 use Rattle.std.specs.Prelude.{List, [], ◌∷◌, length, take, slice_index, slice_index_or}
 use Rattle.std.specs.List.{AllPairs}
 use Rattle.std.specs.Option.{option_map}
+use Rattle.pcm_base.specs.declared.limits.TheConstants.{COUNTER_LIMIT}
 use Rattle.disk_model.specs.Disk.{Files}
 use Rattle.disk_model.specs.History.{reads_of}
 use Rattle.disk_model.specs.Calls.{history_of}
@@ -61,7 +62,7 @@ pub record IsChain (reads : ℕ → Files) (file_of : ℕ → ℕ) (n : ℕ) (li
 -- a head has the file's size as it reads, and where the file is there its calls
 pub record IsHead (reads : ℕ → Files) (file_of : ℕ → ℕ) (n : ℕ) (links : List ℕ) (head : Head) : Type 0 where
   pub size : head.size ≡ option_map length (reads n head.file)
-  pub bound : IfSome head.size (λ size. size ≤ 2 ^ 62)
+  pub bound : IfSome head.size (λ size. size ≤ COUNTER_LIMIT)
   pub chain : IsSome head.size → IsChain reads file_of n links head
 
 -- the heads and links of n calls: a file without a head is absent

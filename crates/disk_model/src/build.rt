@@ -1,5 +1,5 @@
 // A disk that is an image of another.
-ghost use Rattle.std.specs.Prelude.{◌≡◌, ◌+◌, ◌^◌, ◌≤◌, ◌<◌, ◌∷◌, [], ℕ, List, Option, None, false, length, take};
+ghost use Rattle.std.specs.Prelude.{◌≡◌, ◌+◌, ◌≤◌, ◌<◌, ◌∷◌, [], ℕ, List, Option, None, false, length, take};
 ghost use Rattle.std.specs.Prelude.{Contains, OnOk, IfOk};
 ghost use Rattle.std.specs.List.Sorted.{IsStrictlyIncreasing};
 ghost use Rattle.std.specs.Ordering.{nat_cmp};
@@ -15,6 +15,7 @@ use crate::call::{Call, Kind};
 use crate::draws::Draws;
 use crate::image::file_image;
 use crate::record::{note_mark, note_write};
+use pcm_base::COUNTER_LIMIT;
 use std::alloc::{AllocError, Global};
 use std::collections::BTreeSet;
 
@@ -123,7 +124,7 @@ fn set_file(
             Ok(())
         }
         Some(bytes) => {
-            if bytes.len() > 1 << 62 {
+            if bytes.len() as u64 > COUNTER_LIMIT {
                 return Err(AllocError);
             }
             row.reserve(bytes.len())?;

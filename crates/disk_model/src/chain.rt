@@ -1,5 +1,6 @@
 // What is read of a file, along its own calls.
-ghost use Rattle.std.specs.Prelude.{◌≡◌, ◌+◌, ◌-◌, ◌^◌, ◌≤◌, ◌++◌, min, IsSome, length, take, drop};
+ghost use Rattle.std.specs.Prelude.{◌≡◌, ◌+◌, ◌-◌, ◌≤◌, ◌++◌, min, IsSome, length, take, drop};
+ghost use Rattle.pcm_base.specs.declared.limits.TheConstants.{COUNTER_LIMIT};
 ghost use Rattle.disk_model.specs.Disk.{bytes_of};
 ghost use Rattle.disk_model.specs.History.{reads_of};
 ghost use Rattle.disk_model.specs.Calls.{AllHeld, IsWindow, history_of};
@@ -14,7 +15,7 @@ fn show_chain(calls: &[Call], row: &[u8], links: &[usize], head: &Head, at: u64,
     requires held { AllHeld (length row.now) calls.now }
     requires chain { IsChain (reads_at row.now calls.now) (file_at calls.now) (length calls.now) links.now head.now }
     requires long { length links.now ≡ length calls.now }
-    requires window { at + length buf.old ≤ 2 ^ 62 }
+    requires window { at + length buf.old ≤ COUNTER_LIMIT }
     ensures { IsWindow (bytes_of (reads_of (history_of row.now calls.now) head.now.file)) at buf.new }
 {
     buf.fill(0);
@@ -39,7 +40,7 @@ pub(crate) fn read_part(
     requires head { IsHead (reads_at row.now calls.now) (file_at calls.now) (length calls.now) links.now head.now }
     requires there { IsSome head.now.size }
     requires long { length links.now ≡ length calls.now }
-    requires window { at + length buf.old ≤ 2 ^ 62 }
+    requires window { at + length buf.old ≤ COUNTER_LIMIT }
     ensures read { buf.new ≡ take result (drop at (bytes_of (reads_of (history_of row.now calls.now) head.now.file)))
         ++ drop result buf.old }
     ensures count { result

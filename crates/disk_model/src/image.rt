@@ -1,6 +1,7 @@
 // What a stop leaves of one file.
-ghost use Rattle.std.specs.Prelude.{◌≡◌, ◌+◌, ◌^◌, ◌≤◌, ◌∷◌, ℕ, List, length, take, drop, false, IsTrue, All, OnOk};
+ghost use Rattle.std.specs.Prelude.{◌≡◌, ◌+◌, ◌≤◌, ◌∷◌, ℕ, List, length, take, drop, false, IsTrue, All, OnOk};
 ghost use Rattle.std.specs.Prelude.{IfOk};
+ghost use Rattle.pcm_base.specs.declared.limits.TheConstants.{COUNTER_LIMIT};
 ghost use Rattle.disk_model.specs.History.{Step, reads_of};
 ghost use Rattle.disk_model.specs.Images.{IsLeft, IsAtSync, left_by_write, grown, laid};
 ghost use Rattle.disk_model.specs.Calls.{Held, AllHeld, IsNoSync, step_of, history_on, history_of, items_of};
@@ -39,7 +40,7 @@ fn leave_write(
     bytes_taken: bool,
     length_taken: bool,
 ) -> Result<Option<Vec<u8>>, AllocError>
-    requires { at + length bytes.now ≤ 2 ^ 62 }
+    requires { at + length bytes.now ≤ COUNTER_LIMIT }
     ensures { IfOk result (λ x. items_of x ≡ left_by_write bytes_taken length_taken (items_of image) at bytes.now) }
 {
     if !bytes_taken && !length_taken {

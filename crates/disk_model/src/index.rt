@@ -17,7 +17,7 @@ pub(crate) struct Index {
 }
 
 impl Index {
-    // Of no call, with room for so many files and calls.
+    // Of no call, with room for this many files and calls.
     pub(crate) fn new(alloc: Global, files: usize, calls: usize) -> Result<Index, AllocError>
         ensures none { IfOk result (λ index. (index.heads.items ≡ []) × (index.links.items ≡ [])) }
         ensures empty { IfOk result (λ index. (vec_len index.heads ≡ 0) × (vec_len index.links ≡ 0)) }
@@ -79,7 +79,7 @@ impl Index {
         }
     }
 
-    // The file's call of this index comes behind its last, and leaves it with this size.
+    // The file's call of this index comes after its last, and leaves it with this size.
     fn follow(&mut self, head: Head, at: usize, size: Option<u64>)
         requires rising { AreRising self.old.heads.items }
         requires known { head_of self.old.heads.items head.file ≡ Some head }
@@ -130,7 +130,7 @@ impl Index {
     }
 }
 
-// The index of these calls, with room for so many files and calls more.
+// The index of these calls, with room for this many files and calls more.
 pub(crate) fn index_of(
     alloc: Global,
     calls: &[Call],

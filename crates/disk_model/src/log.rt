@@ -1,9 +1,10 @@
 // The calls that changed a store in memory, with the room that was taken for them.
-ghost use Rattle.std.specs.Prelude.{◌≡◌, ◌≢◌, ◌∷◌, ◌+◌, ◌-◌, ◌^◌, ◌≤◌, ◌↔◌, ◌++◌, [], ℕ, min, length, take, drop};
+ghost use Rattle.std.specs.Prelude.{◌≡◌, ◌≢◌, ◌∷◌, ◌+◌, ◌-◌, ◌≤◌, ◌↔◌, ◌++◌, [], ℕ, min, length, take, drop};
 ghost use Rattle.std.specs.Prelude.{vec_len, vec_capacity, IsErr, IfOk, IfSome, IsNone, IsSome, None, OnOk, OnErr};
 ghost use Rattle.std.specs.Prelude.{Contains, is_some};
 ghost use Rattle.std.specs.List.Sorted.{IsStrictlyIncreasing};
 ghost use Rattle.std.specs.Option.{option_map};
+ghost use Rattle.pcm_base.specs.declared.limits.TheConstants.{COUNTER_LIMIT};
 ghost use Rattle.disk_model.specs.Disk.{bytes_of};
 ghost use Rattle.disk_model.specs.History.{reads_of};
 ghost use Rattle.disk_model.specs.Images.{image_of};
@@ -63,7 +64,7 @@ impl Model for CallLog {
 }
 
 impl CallLog {
-    // No call, with room for so many files, bytes and calls.
+    // No call, with room for this many files, bytes and calls.
     pub(crate) fn new(
         alloc: Global,
         files: usize,
@@ -90,14 +91,14 @@ impl CallLog {
     // The file's size, None where it is absent.
     pub(crate) fn size(&self, file: u64) -> Option<u64>
         ensures size { result ≡ option_map length (reads_of self.now.history file) }
-        ensures bound { IfSome result (λ n. n ≤ 2 ^ 62) }
+        ensures bound { IfSome result (λ n. n ≤ COUNTER_LIMIT) }
     {
         self.index.size(file)
     }
 
     // Fills the buffer from an offset on, less only at the file's end.
     pub(crate) fn read(&self, file: u64, at: u64, buf: &mut [u8]) -> usize
-        requires { at + length buf.old ≤ 2 ^ 62 }
+        requires { at + length buf.old ≤ COUNTER_LIMIT }
         ensures read { buf.new ≡ take result (drop at (bytes_of (reads_of self.now.history file)))
             ++ drop result buf.old }
         ensures count { result ≡ min (length buf.old) (length (bytes_of (reads_of self.now.history file)) - at) }
@@ -118,7 +119,7 @@ impl CallLog {
 
     // Notes a write, where there is room for it.
     pub(crate) fn write(&mut self, file: u64, at: u64, bytes: &[u8]) -> Result<(), Full>
-        requires { at + length bytes.now ≤ 2 ^ 62 }
+        requires { at + length bytes.now ≤ COUNTER_LIMIT }
         ensures full { IsErr result ↔ IsFull self.old file (length bytes.now) }
         ensures ok { OnOk result (self.new ≡ with_write self.old file at bytes.now) }
         ensures err { OnErr result (self.new ≡ self.old) }

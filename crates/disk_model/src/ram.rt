@@ -1,8 +1,9 @@
 // A disk in memory.
-ghost use Rattle.std.specs.Prelude.{◌≡◌, ◌⊎◌, ◌+◌, ◌-◌, ◌^◌, ◌≤◌, ◌↔◌, ◌++◌, min, ℕ, IsTrue, IfSome, IsErr, IsErrOf};
+ghost use Rattle.std.specs.Prelude.{◌≡◌, ◌⊎◌, ◌+◌, ◌-◌, ◌≤◌, ◌↔◌, ◌++◌, min, ℕ, IsTrue, IfSome, IsErr, IsErrOf};
 ghost use Rattle.std.specs.Prelude.{OnErr, OnOk, None, Some, length, take, drop, true, refl, IfOk, Contains, IsSome};
 ghost use Rattle.std.specs.List.Sorted.{IsStrictlyIncreasing};
 ghost use Rattle.std.specs.Option.{option_map};
+ghost use Rattle.pcm_base.specs.declared.limits.TheConstants.{COUNTER_LIMIT};
 ghost use Rattle.pcm_base.specs.Causes.{HasCause};
 ghost use Rattle.disk_model.specs.Disk.{Files, bytes_of, written, TornFile, SameElsewhere, WriteStep, RemoveStep};
 ghost use Rattle.disk_model.specs.Disk.{StaysStep, Follows};
@@ -78,7 +79,7 @@ impl Store for RamStore {
     #[tactic(auto, using(crate::proofs::Following::follows_same))]
     fn size(&mut self, file: u64) -> Result<Option<u64>, Failed>
         ensures size { IsTrue true → IfOk result (λ n. n ≡ option_map length (reads_of self.old.log.history file)) }
-        ensures bound { IfOk result (λ n. IfSome n (λ n. n ≤ 2 ^ 62)) }
+        ensures bound { IfOk result (λ n. IfSome n (λ n. n ≤ COUNTER_LIMIT)) }
         ensures tells { true ≡ true }
         ensures reads { reads_of self.new.log.history ≡ reads_of self.old.log.history }
         ensures model { true ≡ true }
@@ -105,7 +106,7 @@ impl Store for RamStore {
 
     #[tactic(auto, using(crate::proofs::Following::follows_same))]
     fn read_at(&mut self, file: u64, at: u64, buf: &mut [u8]) -> Result<usize, Failed>
-        requires { at + length buf.old ≤ 2 ^ 62 }
+        requires { at + length buf.old ≤ COUNTER_LIMIT }
         ensures read { IsTrue true → IfOk result
             (λ n. buf.new ≡ take n (drop at (bytes_of (reads_of self.old.log.history file))) ++ drop n buf.old) }
         ensures count { IsTrue true → IfOk result
@@ -136,7 +137,7 @@ impl Store for RamStore {
 
     #[tactic(auto, using(crate::proofs::Following::write_same, crate::proofs::Following::write_more))]
     fn write_at(&mut self, file: u64, at: u64, bytes: &[u8]) -> Result<(), Failed>
-        requires { at + length bytes.now ≤ 2 ^ 62 }
+        requires { at + length bytes.now ≤ COUNTER_LIMIT }
         ensures written { IsTrue true → OnOk result (reads_of self.new.log.history file
             ≡ Some (written (bytes_of (reads_of self.old.log.history file)) at bytes.now)) }
         ensures torn { IsTrue true → OnErr result

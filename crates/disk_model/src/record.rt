@@ -1,6 +1,7 @@
 // The list of calls and the row of bytes of a store in memory.
-ghost use Rattle.std.specs.Prelude.{◌<◌, vec_len, vec_capacity, IsOk, ◌≡◌, ◌+◌, ◌^◌, ◌≤◌, ◌∷◌, [], length, take, OnOk};
+ghost use Rattle.std.specs.Prelude.{◌<◌, vec_len, vec_capacity, IsOk, ◌≡◌, ◌+◌, ◌≤◌, ◌∷◌, [], length, take, OnOk};
 ghost use Rattle.std.specs.Prelude.{OnErr};
+ghost use Rattle.pcm_base.specs.declared.limits.TheConstants.{COUNTER_LIMIT};
 ghost use Rattle.disk_model.specs.History.{Wrote};
 ghost use Rattle.disk_model.specs.Calls.{step_by, history_of, AllHeld};
 ghost use Rattle.disk_model.specs.Index.{file_at};
@@ -16,7 +17,7 @@ pub(crate) fn note_write(
     at: u64,
     bytes: &[u8],
 ) -> Result<(), AllocError>
-    requires fits { at + length bytes.now ≤ 2 ^ 62 }
+    requires fits { at + length bytes.now ≤ COUNTER_LIMIT }
     requires held { AllHeld (length row.old.items) calls.old.items }
     ensures ok { OnOk result (history_of row.new.items calls.new.items ≡ Wrote file at bytes.now
         ∷ history_of row.old.items calls.old.items) }

@@ -3,6 +3,7 @@ ghost use Rattle.std.specs.Prelude.{◌≡◌, ◌⊎◌, ◌+◌, ◌-◌, ◌^
 ghost use Rattle.std.specs.Prelude.{◌++◌, length, take, drop, min, IfOk, OnOk, OnErr, IfSome, Contains};
 ghost use Rattle.std.specs.List.Sorted.{IsStrictlyIncreasing};
 ghost use Rattle.std.specs.Option.{option_map};
+ghost use Rattle.pcm_base.specs.declared.limits.TheConstants.{COUNTER_LIMIT};
 ghost use Rattle.pcm_base.specs.Causes.{HasCause};
 ghost use Rattle.disk_model.specs.Moment.{Moment, IsUpTo};
 ghost use Rattle.disk_model.specs.Disk.{Files, bytes_of, written, TornFile, SameElsewhere, WriteStep, RemoveStep};
@@ -71,7 +72,7 @@ pub trait Store {
     /// How many bytes the file has, at most 2^62, and None where it is absent.
     fn size(&mut self, file: u64) -> Result<Option<u64>, Failed>
         ensures size { IsTrue (tells self.old) → IfOk result (λ n. n ≡ option_map length (reads self.old file)) }
-        ensures bound { IfOk result (λ n. IfSome n (λ n. n ≤ 2 ^ 62)) }
+        ensures bound { IfOk result (λ n. IfSome n (λ n. n ≤ COUNTER_LIMIT)) }
         ensures tells { tells self.new ≡ tells self.old }
         ensures reads { reads self.new ≡ reads self.old }
         ensures model { keeps_model self.new ≡ keeps_model self.old }
@@ -88,7 +89,7 @@ pub trait Store {
     /// Reads the file's bytes from the offset `at` on into the front of `buf`, and answers how many: less than fit only
     /// at the file's end. An absent file reads as an empty one.
     fn read_at(&mut self, file: u64, at: u64, buf: &mut [u8]) -> Result<usize, Failed>
-        requires { at + length buf.old ≤ 2 ^ 62 }
+        requires { at + length buf.old ≤ COUNTER_LIMIT }
         ensures read { IsTrue (tells self.old)
             → IfOk result (λ n. buf.new ≡ take n (drop at (bytes_of (reads self.old file))) ++ drop n buf.old) }
         ensures count { IsTrue (tells self.old)
@@ -110,7 +111,7 @@ pub trait Store {
     /// Writes the bytes at the offset `at`, over what is there and past the end. It makes an absent file, and fills
     /// what lies between the old end and the offset with 0. Until a sync of the file what it wrote is pending.
     fn write_at(&mut self, file: u64, at: u64, bytes: &[u8]) -> Result<(), Failed>
-        requires { at + length bytes.now ≤ 2 ^ 62 }
+        requires { at + length bytes.now ≤ COUNTER_LIMIT }
         ensures written { IsTrue (tells self.old)
             → OnOk result (reads self.new file ≡ Some (written (bytes_of (reads self.old file)) at bytes.now)) }
         ensures torn { IsTrue (tells self.old)

@@ -71,7 +71,7 @@ impl Tally {
         self.count_read()
     }
 
-    // Counts a write of so many bytes to a file of this size, and says whether it is to fail.
+    // Counts a write of this many bytes to a file of this size, and says whether it is to fail.
     pub(crate) fn count_write(&mut self, size: Option<u64>, bytes: usize) -> bool
         ensures due { IsTrue result ↔ IsDue self.old }
         ensures counted { self.new ≡ with_asked (with_change self.old) size bytes }

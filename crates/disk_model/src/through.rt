@@ -1,5 +1,6 @@
 // Changes that are on the disk before they answer.
-ghost use Rattle.std.specs.Prelude.{◌≡◌, ◌+◌, ◌^◌, ◌≤◌, length, IsTrue, None, Some, OnOk};
+ghost use Rattle.std.specs.Prelude.{◌≡◌, ◌+◌, ◌≤◌, length, IsTrue, None, Some, OnOk};
+ghost use Rattle.pcm_base.specs.declared.limits.TheConstants.{COUNTER_LIMIT};
 ghost use Rattle.pcm_base.specs.Causes.{HasCause};
 ghost use Rattle.disk_model.specs.Disk.{Files, bytes_of, written, WriteStep, RemoveStep, StaysStep};
 ghost use Rattle.disk_model.specs.Room.{files_made};
@@ -15,7 +16,7 @@ pub fn write_through<S: Store>(
     at: u64,
     bytes: &[u8],
 ) -> Result<(), Failed>
-    requires { at + length bytes.now ≤ 2 ^ 62 }
+    requires { at + length bytes.now ≤ COUNTER_LIMIT }
     ensures written { IsTrue (S.tells store.old)
         → OnOk result (S.reads store.new file ≡ Some (written (bytes_of (S.reads store.old file)) at bytes.now)) }
     // In every image from then on the file is as it reads.
@@ -64,7 +65,7 @@ pub fn sync_file<S: Store>(store: &mut S, file: u64) -> Result<(), Failed>
 
 // `write_at` with its frame.
 fn write_file<S: Store>(store: &mut S, file: u64, at: u64, bytes: &[u8]) -> Result<(), Failed>
-    requires { at + length bytes.now ≤ 2 ^ 62 }
+    requires { at + length bytes.now ≤ COUNTER_LIMIT }
     ensures written { IsTrue (S.tells store.old)
         → OnOk result (S.reads store.new file ≡ Some (written (bytes_of (S.reads store.old file)) at bytes.now)) }
     ensures changed { Changed S.Store (WriteStep file at (length bytes.now)) (record {

@@ -19,7 +19,8 @@ use Rattle.clip_track.proofs.RoughStrips.{rough-append, rough_front, rough_back,
 use Rattle.clip_track.proofs.ShortStrips.{ItemsShort-append, ItemsShort-part, short_gap}
 use Rattle.pcm_base.specs.declared.edits.Placing.{Placing}
 use Rattle.pcm_base.specs.declared.edits.Placing.TheVariants.{Insert, Cover}
-use Rattle.edit_ops.specs.Placing.{placed, placed_items}
+use Rattle.pcm_base.specs.Edits.{placed}
+use Rattle.edit_ops.specs.Placing.{placed_items}
 use Rattle.edit_ops.specs.Strips.{rest_items, front_items, IsOld, AllOld, IsClip, IsItemFrom, ItemsFrom}
 use Rattle.edit_ops.proofs.StripCells.{cells_front, rest_cells}
 use Rattle.edit_ops.proofs.Tame.{Tame, ItemsFrom-append, ItemsFrom-part, ItemsFrom-gap}

@@ -6,7 +6,7 @@ use Rattle.std.proofs.lemmas.List.{take_more, drop_more}
 use denote.Ref.{Bor}
 use Rattle.pcm_base.specs.declared.refusal.Refusal.{Refusal}
 use Rattle.pcm_base.specs.declared.refusal.Refusal.TheVariants.{LengthLimit}
-use Rattle.pcm_base.specs.Refusals.{◌otherwise◌, refused_if, too_narrow, length_limit}
+use Rattle.pcm_base.specs.Refusals.{◌otherwise◌, refused_if, too_narrow, length_limit, placed_length}
 use Rattle.pcm_base.specs.declared.sound.Cell.{Cell}
 use Rattle.clip_track.specs.declared.items.Item.{Item}
 use Rattle.clip_track.specs.declared.clips.Clip.{Clip}
@@ -14,7 +14,7 @@ use Rattle.clip_track.specs.Clips.{end_of, AllHalfFull}
 use Rattle.clip_track.specs.Items.{strip_len}
 use Rattle.edit_ops.specs.declared.types.Plan.{Plan}
 use Rattle.edit_ops.specs.Strips.{IsClip}
-use Rattle.edit_ops.specs.Placing.{SumsFit, LengthsFit, placed_length}
+use Rattle.edit_ops.specs.Placing.{SumsFit, LengthsFit}
 use Rattle.pcm_base.specs.declared.edits.Placing.{Placing}
 use Rattle.edit_ops.specs.Plans.{Start}
 use Rattle.edit_ops.specs.Runs.{AllTracksHalfFull, AreClips, IsCopy, AreCopies, IsCut, AreCuts, IsPaste, ArePastes}

@@ -1,9 +1,11 @@
 // The two ways in which a strip is put into a track.
 ghost use Rattle.std.specs.Prelude.{◌≡◌, ◌+◌, ◌≤◌, ◌<◌, ◌^◌, ◌++◌, length, IfOk};
 ghost use Rattle.pcm_base.specs.declared.limits.TheConstants.{MAX_CELLS};
+ghost use Rattle.pcm_base.specs.Edits.{placed};
+ghost use Rattle.pcm_base.specs.Refusals.{placed_length};
 ghost use Rattle.clip_track.specs.Clips.{end_of, AllHalfFull};
 ghost use Rattle.clip_track.specs.Items.{strip_cells, strip_len};
-ghost use Rattle.edit_ops.specs.Placing.{placed, placed_items, placed_length};
+ghost use Rattle.edit_ops.specs.Placing.{placed_items};
 ghost use Rattle.edit_ops.specs.Plans.{start_of};
 ghost use Rattle.edit_ops.specs.Runs.{IsPaste};
 ghost use Rattle.edit_ops.specs.Strips.{IsClip};

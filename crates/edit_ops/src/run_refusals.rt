@@ -1,8 +1,9 @@
 // The tests that refuse an edit of several tracks. Each is passed, or answers its reason.
 ghost use Rattle.std.specs.Prelude.{◌≡◌, ◌+◌, ◌≤◌, ◌<◌, ◌^◌, length};
+ghost use Rattle.pcm_base.specs.Refusals.{placed_length};
 ghost use Rattle.clip_track.specs.Clips.{end_of};
 ghost use Rattle.clip_track.specs.Items.{strip_len};
-ghost use Rattle.edit_ops.specs.Placing.{placed_length, SumsFit};
+ghost use Rattle.edit_ops.specs.Placing.{SumsFit};
 ghost use Rattle.edit_ops.specs.Plans.{Passes};
 ghost use Rattle.edit_ops.specs.Runs as runs;
 ghost use Rattle.pcm_base.specs.Refusals.{too_narrow, length_limit};

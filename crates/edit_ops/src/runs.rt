@@ -1,8 +1,9 @@
 // Edits of several tracks: copy, cut and paste.
 ghost use Rattle.std.specs.Prelude.{◌≡◌, ◌+◌, ◌*◌, ◌≤◌, ◌<◌, ◌^◌, length, take, option_copied, IfOk, IfSome};
 ghost use Rattle.std.specs.Option.{ForSome};
-ghost use Rattle.pcm_base.specs.Edits.{removed};
-ghost use Rattle.edit_ops.specs.Placing.{placed, placed_length, SumsFit, LengthsFit};
+ghost use Rattle.pcm_base.specs.Edits.{removed, placed};
+ghost use Rattle.pcm_base.specs.Refusals.{placed_length};
+ghost use Rattle.edit_ops.specs.Placing.{SumsFit, LengthsFit};
 ghost use Rattle.edit_ops.specs.Plans.{AnswersTest, run_start_of};
 ghost use Rattle.edit_ops.specs.Runs as runs;
 

@@ -1,6 +1,7 @@
 // Where frames come from.
-ghost use Rattle.std.specs.Prelude.{◌≡◌, ◌↔◌, ℕ, ◌+◌, ◌^◌, ◌<◌, ◌≤◌, List, length, take, drop, Option, IfOk, IfErr};
+ghost use Rattle.std.specs.Prelude.{◌≡◌, ◌↔◌, ℕ, ◌+◌, ◌<◌, ◌≤◌, List, length, take, drop, Option, IfOk, IfErr};
 ghost use Rattle.std.specs.Prelude.{OnOk};
+ghost use Rattle.pcm_base.specs.declared.limits.TheConstants.{MAX_CELLS};
 ghost use Rattle.pcm_base.specs.declared.refusal.Refusal.{Refusal};
 ghost use Rattle.pcm_base.specs.declared.sound.Frame.{Frame};
 ghost use Rattle.edit_ports.specs.Answers.{NextAt, Reading, after_read, first_refusal, most_frames};
@@ -24,7 +25,7 @@ pub trait FrameGiver {
     /// how many. It may wait for a turn, and takes no memory.
     fn give_frames<R: Wait>(&mut self, rt: &R, from: u64, out: &mut [Frame]) -> Said<usize>
         ensures bound { IfOk result.what (λ count. count ≤ length out.new) }
-        ensures limit { IfOk result.what (λ count. 0 < count → from + count ≤ 2 ^ 32) }
+        ensures limit { IfOk result.what (λ count. 0 < count → from + count ≤ MAX_CELLS) }
         ensures given { IfOk result.what (λ count. (all : List Frame) → shows self.old all →
             take count out.new ≡ take (length out.old) (drop from all)) }
         ensures same { (all : List Frame) → shows self.old all ↔ shows self.new all }

@@ -16,7 +16,7 @@ pub trait PieceTaker {
     ghost refused: { Self → Option Refusal };
 
     // What has become of the first after some offers, as the taker tells it. Where the Bool is true the last of them
-    // was refused, and no other was. Of a taker behind a refusal no offer tells more.
+    // was refused, and no other was. Of a taker after a refusal no offer tells more.
     ghost follows: { Self → Bool → Self → Type 0 };
 
     /// Takes the samples of a chunk as the next piece and answers its number, or refuses it and takes nothing. It may

@@ -9,13 +9,13 @@ use Rattle.disk_model.specs.declared.store.Store.{Ghosts}
 use Rattle.editor_core.specs.Adding.{Exceeds}
 use Rattle.editor_core.specs.Core.{Core}
 use Rattle.editor_core.specs.Edits.{Carried, NotPrepared, BlockCommit}
-use Rattle.editor_core.specs.Imports.{IsNoVault}
+use Rattle.editor_core.specs.Imports.{IsInside}
 use Rattle.editor_core.specs.Makes.{NotMade}
 
 -- a test tells of no vault
 abbrev AsksNone : Option Refusal → Type 0
 AsksNone None = Unit {0}
-AsksNone (Some why) = IsNoVault why
+AsksNone (Some why) = IsInside why
 
 spent_asks : (b : Bool) (have need : ℕ) → AsksNone (refused_if b (refusal.SpaceSpent have need))
 spent_asks true have need = tt
@@ -25,21 +25,21 @@ either_asks : (a b : Option Refusal) → AsksNone a → AsksNone b → AsksNone 
 either_asks None b x y = y
 either_asks (Some why) b x y = x
 
-exceeding_asks : (end len : ℕ) (why : Refusal) → Exceeds end len why → IsNoVault why
+exceeding_asks : (end len : ℕ) (why : Refusal) → Exceeds end len why → IsInside why
 exceeding_asks end len (refusal.SpaceSpent have need) h = tt
 exceeding_asks end len (refusal.RecordLimit n) h = tt
 exceeding_asks end len why h = absurd h
 
 not_made_asks : {D : Type 0} (disk : Ghosts D) (old new : Core D) (why : Refusal) → NotMade disk old why new
-    → IsNoVault why
+    → IsInside why
 not_made_asks disk old new refusal.DiskFault by = tt
 not_made_asks disk old new (refusal.Damaged file at want have) by = tt
 not_made_asks disk old new why by = absurd by
 
 unprepared_asks : {D : Type 0} (s : Core D) (n tracks whole len : ℕ) (why : Refusal)
-    → NotPrepared s n tracks whole len why → IsNoVault why
+    → NotPrepared s n tracks whole len why → IsInside why
 unprepared_asks s n tracks whole len why not = ⊎_elim
-    (λ memory. subst IsNoVault (sym memory) tt)
+    (λ memory. subst IsInside (sym memory) tt)
     (⊎_elim
     (λ spent.
     let block = no_room s.next_block n in
@@ -53,10 +53,10 @@ unprepared_asks s n tracks whole len why not = ⊎_elim
     not
 
 pub carried_asks : {D : Type 0} (disk : Ghosts D) (s new : Core D) (c : BlockCommit) (why : Refusal)
-    → Carried disk s c (Err why) new → IsNoVault why
+    → Carried disk s c (Err why) new → IsInside why
 carried_asks disk s new c why carried = ⊎_elim
     (λ not. unprepared_asks s (length c.makes) c.tracks c.whole (length c.body) why not.1)
     (⊎_elim
     (λ some. not_made_asks disk some.1.mid new why some.1.by)
-    (λ last. subst IsNoVault (sym last.0) tt))
+    (λ last. subst IsInside (sym last.0) tt))
     carried

@@ -151,5 +151,8 @@ bounded disk s is history src =
         most = is.format.block_most;
       };
       next_block = (is.counters.block_least, is.counters.block_most);
+      file = is.journal.among;
+      version = (is.journal.version_least, is.journal.version_most);
+      generation = (omega arith, is.journal.generation_most);
       journal_end = (is.counters.end_least, is.counters.end_most);
     }

@@ -18,7 +18,7 @@ use Rattle.envelope_view.specs.Answers.{IsUndamaged}
 use Rattle.project_state.specs.declared.track.Track.{Track}
 use Rattle.project_state.specs.Sound.{AllSoundTracks}
 use Rattle.project_state.specs.Tracks.{AllBelow, AreAbove}
-use Rattle.editor_core.specs.Imports.{HasChannels, IsNoVault, all_of}
+use Rattle.editor_core.specs.Imports.{HasChannels, IsInside, all_of}
 use Rattle.editor_core.specs.Imports.{channels_refusal, parts_from, total_of}
 use Rattle.editor_core.proofs.Leaving.{IsPlain, own_plain}
 use Rattle.editor_core.proofs.PlainTests.{either, lengths, one, own_by}
@@ -76,7 +76,7 @@ parts_are xs (c ∷ cs) before e =
 
 abbrev TellsBoth : Option Refusal → Type 0
 TellsBoth None = Unit {0}
-TellsBoth (Some why) = IsUndamaged why × IsNoVault why
+TellsBoth (Some why) = IsUndamaged why × IsInside why
 
 both_tell : (a b : Option Refusal) → TellsBoth a → TellsBoth b → TellsBoth (a otherwise b)
 both_tell None b x y = y
@@ -97,7 +97,7 @@ lengths_tell (n ∷ ns) =
     (long_tells (nat_lt (2 ^ 32) n) n) (lengths_tell ns)
 
 pub channels_tell : (tracks : ℕ) (counts : List ℕ) (why : Refusal) → channels_refusal tracks counts ≡ Some why
-    → IsUndamaged why × IsNoVault why
+    → IsUndamaged why × IsInside why
 channels_tell tracks counts why is =
     let many = nat_lt 64 (tracks + length counts) in
     subst TellsBoth is

@@ -233,8 +233,8 @@ module _ {D : Type 0} (disk : Ghosts D) (s : Core D) (is : IsStudio disk s) (ran
         pub copy_done : Took disk s (quietly line (Ok Copied)) new
         copy_done =
             let room = room_of disk s line is in
-            let passed = quiet_passes t line copy_quiet room (ap stop_of going) (tests_are ∙ copies.0)
+            let passed = quiet_passes t line copy_quiet room refl (ap stop_of going) (tests_are ∙ copies.0)
             (fits s.next_pin 0 (omega (arith, is.counters.pin_most))) in
             renamed_took disk s is (Some v) s.pins s.next_pin counts copy_renames line copy_quiet tt Copied fewer
             (λ some. absurd (stopped_not s.stopped some going))
-            (λ _. carried t line copy_quiet room Copied (studio_of disk new) passed refl copy_state)
+            (λ _. carried t line copy_quiet room refl Copied (studio_of disk new) passed refl copy_state)

@@ -22,6 +22,7 @@ use Rattle.editor_core.specs.Adding.{AddsBody, Exceeds, ExceedsBy, stopped_by}
 use Rattle.editor_core.specs.Bodies.{IsLength, body_bytes, whole_len}
 use Rattle.editor_core.specs.Core.{Core}
 use Rattle.editor_core.specs.Spent.{WouldMake, kept_of}
+use Rattle.editor_core.specs.Packing.{packed_by}
 use Rattle.editor_core.specs.Studios.{IsHeld, IsStudio, named_blocks, studio_by, studio_of}
 use Rattle.editor_core.specs.Took.{Took, with_sound}
 use Rattle.editor_core.proofs.Flights.{IsCommit, IsTested, flight, number_left, whole_still}
@@ -103,7 +104,7 @@ module _ {D : Type 0} {Has : Type 0} {disk : Ghosts D} {s : Core D} {made : List
       changed =
           changed_wider (others_record s.file s.next_block s.next_block NoneGoes t.is.journal.among)
           (record_within (with_sound c sound (Err refusal.DiskFault)) (disk.reads s.store s.file) s.block_size
-          (s.next_block - s.next_block) len t.move.call.one) adds.changed;
+          (s.next_block - s.next_block) len (packed_by s c) t.move.call.one) adds.changed;
     }
 
 -- ---- of a studio that the disk holds
@@ -158,7 +159,8 @@ module _ {D : Type 0} (disk : Ghosts D) (s : Core D) (made : List BlockRef) (c :
   unfit_by n one why fewer over =
       refuses disk s c sound why is fewer (commit_frees disk s c (Err why) s move.call.one) move.call.quiet n 0
       (λ held. move.needs held n one)
-      (exceeded (studio_of disk s) c sound tracks move.call 0 n is.counters.pin_most going own
+      (exceeded (studio_of disk s) c sound tracks move.call 0 n is.counters.pin_most
+      is.journal.generation_most going own
       (omega (arith, is.counters.block_most)) ids (number_left tested) why over)
       (exceeding_needed disk s c sound would n one why over)
 

@@ -141,7 +141,8 @@ module _ {D : Type 0} (disk : Ghosts D) (s : Core D) (is : IsStudio disk s) (goi
     pub passes : refusal_of (outside t sound) t c n (length body) ≡ None
     passes =
         let own = edit_own disk s is going e plan c sound edit in
-        nothing t c sound tracks edit.call.commit n (length body) is.counters.pin_most going own prepared.blocks
+        nothing t c sound tracks edit.call.commit n (length body) is.counters.pin_most
+        is.journal.generation_most going own prepared.blocks
         prepared.ids (omega (arith, prepared.number)) prepared.place prepared.short
 
     carried_out : CarriesOut t c sound Done (followed (outside t sound) t c n (length body))

@@ -13,8 +13,8 @@ use Rattle.pcm_base.specs.declared.refusal.Refusal.TheVariants as refusal
 use Rattle.pcm_base.specs.Outside.{Outside}
 use Rattle.pcm_base.specs.Run.{Answers, Run, Step, outside, result_of}
 use Rattle.pcm_base.specs.Shape.{Shape, NewTrack, DropTrack, SetTrack, PutIn, EditRange, CutRun, CopyRun, PasteRun}
-use Rattle.pcm_base.specs.Shape.{MoveTo, Purge, Look, Reclaim, Import, Export, View, Cells, Frames, Columns}
-use Rattle.pcm_base.specs.Shape.{Tracks, shape_of}
+use Rattle.pcm_base.specs.Shape.{MoveTo, Purge, Look, Reclaim, Compact, Import, Export, View, Cells, Frames}
+use Rattle.pcm_base.specs.Shape.{Columns, Tracks, shape_of}
 use Rattle.pcm_base.specs.State.{State}
 use Rattle.pcm_base.specs.Step.{MayAnswer, MayReplyBy, seen}
 use Rattle.pcm_base.specs.Studio as model
@@ -54,6 +54,7 @@ line_plain out s (MoveTo move) r h = subst Plain (sym h) tt
 line_plain out s (Purge n) r h = subst Plain (sym h) tt
 line_plain out s (Look view) r h = subst Plain (sym h) (view_plain s view)
 line_plain out s (Reclaim limit) r h = subst Plain (sym h.1) tt
+line_plain out s Compact r h = subst Plain (sym h.1) tt
 line_plain out s (Import name) r h = subst Plain (sym h) tt
 line_plain out s (Export name) r h = subst Plain (sym h) tt
 
@@ -73,6 +74,7 @@ plain_result (reply.Frames frames) h = refl
 plain_result (reply.Columns columns) h = refl
 plain_result (reply.Tracks tracks) h = refl
 plain_result (reply.Freed count) h = refl
+plain_result (reply.Packed bytes) h = refl
 plain_result (reply.Wrote bytes) h = refl
 plain_result (reply.Pinned pin) h = refl
 plain_result (reply.Length frames) h = refl

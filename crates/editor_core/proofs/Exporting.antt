@@ -108,7 +108,7 @@ module _ {D : Type 0} (disk : Ghosts D) (s : Core D) (is : IsStudio disk s) (nam
       rest = (too_long (mix_length (current t.state))) otherwise
           ((no_room t.next_block 0) otherwise (no_room t.state.next_track 0)
           otherwise (no_room t.state.commit 0) otherwise (no_room t.state.next_pin 0) otherwise
-          (no_room t.journal_end 0)) otherwise None
+          (no_room t.journal_end 0) otherwise (no_room t.generation 0)) otherwise None
 
   module _ (going : s.stopped ≡ None) (store : D) (kept : Kept disk s.store store) (cache : Entries) (keeps :
       ReadsNamed disk s cache) where
@@ -188,8 +188,10 @@ module _ {D : Type 0} (disk : Ghosts D) (s : Core D) (is : IsStudio disk s) (nam
         let commit = fits t.state.commit 0 (omega (arith, is.counters.commit_most)) in
         let pin = fits t.state.next_pin 0 (omega (arith, is.counters.pin_most)) in
         let end = fits t.journal_end 0 (omega (arith, is.counters.end_most)) in
+        let later = fits t.generation 0 (omega (arith, is.journal.generation_most)) in
         λ i. (stop_of (going i)) otherwise (own i) otherwise
-        ((block i) otherwise (track i) otherwise (commit i) otherwise (pin i) otherwise (end i)) otherwise None
+        ((block i) otherwise (track i) otherwise (commit i) otherwise (pin i) otherwise (end i) otherwise (later i))
+        otherwise None
 
     follows : disk.read_fault_count store ≡ disk.read_fault_count s.store
         → studio_of disk here ≡ followed out t call 0 0
@@ -269,7 +271,7 @@ module _ {D : Type 0} (disk : Ghosts D) (s : Core D) (is : IsStudio disk s) (nam
               λ i. (stop_of (going i)) otherwise (own i) otherwise
               ((no_room t.next_block 0) otherwise (no_room t.state.next_track 0)
               otherwise (no_room t.state.commit 0) otherwise (no_room t.state.next_pin 0) otherwise
-              (no_room t.journal_end 0)) otherwise None;
+              (no_room t.journal_end 0) otherwise (no_room t.generation 0)) otherwise None;
           same = state_is ∙ (λ i. record t { read_faults = counted.0 i });
           quiet = ⊎_elim (λ of. absurd of) (λ same. same) untouched;
         }))

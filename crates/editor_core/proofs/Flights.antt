@@ -184,7 +184,7 @@ module _ {D : Type 0} {Has : Type 0} {disk : Ghosts D} {s : Core D} {made : List
   pub passes : s.journal_end + (6 + len) ≤ 2 ^ 62 → len ≤ LONGEST_BODY
       → refusal_of (outside (studio_of disk s) sound) (studio_of disk s) c 0 (length (body_bytes s body)) ≡ None
   passes =
-      nothing before c sound tracks t.move.call 0 len t.is.counters.pin_most t.going t.own
+      nothing before c sound tracks t.move.call 0 len t.is.counters.pin_most t.is.journal.generation_most t.going t.own
       (omega (arith, t.is.counters.block_most)) t.ids number_left
 
   -- nothing refuses it, so it may be carried out

@@ -26,6 +26,7 @@ use Rattle.editor_core.specs.Adding.{AddsBody}
 use Rattle.editor_core.specs.Bodies.{body_bytes}
 use Rattle.editor_core.specs.Core.{Core, form_at}
 use Rattle.editor_core.specs.Records.{Says}
+use Rattle.editor_core.specs.Packing.{packed_by}
 use Rattle.editor_core.specs.Studios.{IsDurable, IsHeld, IsStudio, clip_blocks, clip_cells, ids_of, named_blocks}
 use Rattle.editor_core.specs.Studios.{pin_blocks, studio_by, studio_of}
 use Rattle.editor_core.specs.Took.{Took, with_sound}
@@ -209,7 +210,7 @@ module _ {D : Type 0} {Has : Type 0} {disk : Ghosts D} {s : Core D} {made : List
       changed =
           changed_wider (others_record s.file s.next_block s.next_block NoneGoes t.is.journal.among)
           (record_within (with_sound c sound (Ok Done)) (disk.reads s.store s.file) s.block_size
-          (s.next_block - s.next_block) len t.move.call.one) adds.changed;
+          (s.next_block - s.next_block) len (packed_by s c) t.move.call.one) adds.changed;
     }
 
 -- ---- of a studio that the disk holds

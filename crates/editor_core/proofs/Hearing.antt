@@ -98,10 +98,10 @@ module _ {D : Type 0} (disk : Ghosts D) (s : Core D) (is : IsStudio disk s) (few
           → Took disk s (quietly mix (Ok (reply.Frames frames))) (record s { store = store; cache = cache })
       mix_done frames good faults heard =
           let room = room_of disk s mix is in
-          let passed = quiet_passes t mix mix_quiet room (ap stop_of going) good
+          let passed = quiet_passes t mix mix_quiet room refl (ap stop_of going) good
           (fits s.next_pin 0 (omega (arith, is.counters.pin_most))) in
           looked_ok disk s is store kept cache keeps mix mix_quiet tt going (reply.Frames frames) faults
-          (λ held. carried t mix mix_quiet room (reply.Frames frames) t passed
+          (λ held. carried t mix mix_quiet room refl (reply.Frames frames) t passed
           (ap reply.Frames (heard held ∙ ap (λ (p : Project). part from to (mix_of p)) (sym (current_meant disk s is))))
           refl)
 
@@ -133,10 +133,11 @@ module _ {D : Type 0} (disk : Ghosts D) (s : Core D) (is : IsStudio disk s) (few
         → Took disk s (quietly (PinLen pin) (Ok (reply.Length n))) s
     measured going point n found len =
         let room = room_of disk s (PinLen pin) is in
-        let passed = quiet_passes t (PinLen pin) len_quiet room (ap stop_of going) (has_own disk s is pin point found)
+        let passed = quiet_passes t (PinLen pin) len_quiet room refl (ap stop_of going)
+        (has_own disk s is pin point found)
         (fits s.next_pin 0 (omega (arith, is.counters.pin_most))) in
         stays_answered disk s (PinLen pin) len_quiet tt is fewer (reply.Length n)
-        (λ held. carried t (PinLen pin) len_quiet room (reply.Length n) t passed (
+        (λ held. carried t (PinLen pin) len_quiet room refl (reply.Length n) t passed (
           meant src point,
           pin_meant disk s is pin point found,
           ap reply.Length (sym len),
@@ -164,10 +165,10 @@ module _ {D : Type 0} (disk : Ghosts D) (s : Core D) (is : IsStudio disk s) (few
             → Took disk s (quietly read (Ok (reply.Frames frames))) (record s { store = store; cache = cache })
         read_done frames faults heard =
             let room = room_of disk s read is in
-            let passed = quiet_passes t read read_quiet room (ap stop_of going) (has_own disk s is pin point found)
+            let passed = quiet_passes t read read_quiet room refl (ap stop_of going) (has_own disk s is pin point found)
             (fits s.next_pin 0 (omega (arith, is.counters.pin_most))) in
             looked_ok disk s is store kept cache keeps read read_quiet tt going (reply.Frames frames) faults
-            (λ held. carried t read read_quiet room (reply.Frames frames) t passed (
+            (λ held. carried t read read_quiet room refl (reply.Frames frames) t passed (
               meant src point,
               pin_meant disk s is pin point found,
               ap reply.Frames (heard held),

@@ -1,12 +1,13 @@
 -- An import that reading the sound refuses.
-use Rattle.std.proofs.Common.{◌≡◌, inr, refl, ap, subst, ℕ, ◌+◌, Option, Some, None, List, Result, Ok, Err}
+use Rattle.std.proofs.Common.{◌≡◌, ◌⊎◌, ◌<◌, inr, refl, ap, subst, ℕ, ◌+◌, Option, Some, None, List, Result, Ok, Err}
 use Rattle.std.proofs.Common.{arith}
-use Rattle.std.specs.Prelude.{IfErr}
+use Rattle.std.specs.Prelude.{IfErr, IfOk}
 use Rattle.pcm_base.specs.declared.command.Call.{Call}
 use Rattle.pcm_base.specs.declared.command.Call.TheVariants.{Line}
 use Rattle.pcm_base.specs.declared.command.Command.TheVariants as command
 use Rattle.pcm_base.specs.declared.refusal.Refusal.{Refusal}
 use Rattle.pcm_base.specs.declared.refusal.Refusal.TheVariants as refusal
+use Rattle.pcm_base.specs.declared.wav.WavFault.TheVariants.{Truncated}
 use Rattle.pcm_base.specs.Counters.{counter_tests, record_test}
 use Rattle.pcm_base.specs.Outside.{Outside}
 use Rattle.pcm_base.specs.Refusals.{◌otherwise◌, call_tests}
@@ -17,9 +18,10 @@ use Rattle.disk_model.proofs.Frames.{Fewer}
 use Rattle.wav_pcm.specs.declared.wav.Wav.{Wav}
 use Rattle.sound_import.specs.declared.fault.ImportFault.{ImportFault}
 use Rattle.sound_import.specs.declared.fault.ImportFault.TheVariants.{NoFile, Vault, BadWav, RateDiffers, NoMemory}
+use Rattle.sound_import.specs.Imported as imported
 use Rattle.sound_import.specs.Imported.{IsRefused, IsTaken, import_refusal}
 use Rattle.editor_core.specs.Core.{Core}
-use Rattle.editor_core.specs.Imports.{HasChannels, IsNoVault, VaultCounted, VaultCountedBy, left_as}
+use Rattle.editor_core.specs.Imports.{HasChannels, IsCutShort, IsInside, VaultCounted, VaultCountedBy, left_as}
 use Rattle.editor_core.specs.Studios.{IsStudio, studio_of}
 use Rattle.editor_core.specs.Took.{Took, with_sound}
 use Rattle.editor_core.proofs.Leaving.{IsPlain}
@@ -27,14 +29,47 @@ use Rattle.editor_core.proofs.Staying.{refuses, stays, wants}
 use Rattle.editor_core.proofs.Spending.{tests_needed}
 
 -- where the vault did not fail it has counted nothing
-counted_by : (why : Refusal) (old new : ℕ) → IsNoVault why → new ≡ old → VaultCountedBy why old new
+counted_by : (why : Refusal) (old new : ℕ) → IsInside why → new ≡ old → VaultCountedBy why old new
 counted_by refusal.VaultFault old new none same = absurd none
 counted_by why old new none same = same
 
-pub counted_so : {T : Type 0} (r : Result T Refusal) (old new : ℕ) → IfErr r IsNoVault → new ≡ old
+pub counted_so : {T : Type 0} (r : Result T Refusal) (old new : ℕ) → IfErr r IsInside → new ≡ old
     → VaultCounted r old new
 counted_so (Ok x) old new none same = same
 counted_so (Err why) old new none same = counted_by why old new none same
+
+-- ---- what a vault gave
+
+-- no sound is cut short
+pub inside_short : {T : Type 0} (r : Result T Refusal) (want have : ℕ) → IfErr r IsInside
+    → IfErr r (λ why. why ≡ refusal.BadWav (Truncated want have) → have < want)
+inside_short (Ok x) want have inside = tt
+inside_short (Err why) want have inside = λ is. absurd (subst IsInside is inside)
+
+abbrev HasLess : Refusal → Type 0
+HasLess (refusal.BadWav (Truncated want have)) = have < want
+HasLess why = Unit {0}
+
+told_less : (why : ImportFault) → ((want have : ℕ) → why ≡ BadWav (Truncated want have) → have < want)
+    → HasLess (import_refusal why)
+told_less (BadWav (Truncated want have)) less = less want have refl
+told_less why less = tt
+
+pub told_short : (why : ImportFault) → ((want have : ℕ) → why ≡ BadWav (Truncated want have) → have < want)
+    → (want have : ℕ) → import_refusal why ≡ refusal.BadWav (Truncated want have) → have < want
+told_short why less want have is = subst HasLess is (told_less why less)
+
+pub told_cut : (why : ImportFault) → imported.IsCutShort why → IsCutShort (import_refusal why)
+told_cut (BadWav (Truncated want have)) cut = cut
+told_cut why cut = absurd cut
+
+pub where_ok : {T E P : Type 0} (r : Result T E) → P → IfOk r (λ _. P)
+where_ok (Ok x) p = p
+where_ok (Err e) p = tt
+
+pub where_err : {T E P : Type 0} (C : E → Type 0) (r : Result T E) → P → IfErr r (λ e. C e ⊎ P)
+where_err C (Ok x) p = tt
+where_err C (Err e) p = inr p
 
 -- nothing of it is told of the disk
 pub import_plain : (why : ImportFault) → IsPlain (import_refusal why)

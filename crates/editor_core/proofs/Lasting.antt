@@ -35,6 +35,7 @@ use Rattle.editor_core.specs.Spent.{NamesGiven}
 use Rattle.editor_core.specs.Left.{CountsIds, IsSoOf, Left, LeavesOthers, MayRemove, Stops, Untouched}
 use Rattle.editor_core.specs.Made.{PiecesThere, batch_of}
 use Rattle.editor_core.specs.Makes.{Making, Stuck, Unput, Unread, one_call}
+use Rattle.editor_core.specs.Packing.{packed_by}
 use Rattle.editor_core.specs.Studios.{IsGiven, IsHeld, IsStudio, clip_blocks, ids_of, pin_blocks}
 use Rattle.editor_core.specs.Took.{asks, number_behind, with_sound}
 use Rattle.editor_core.proofs.CarriedOut.{commit_of}
@@ -94,7 +95,8 @@ module _ {D : Type 0} (disk : Ghosts D) (s : Core D) (is : IsStudio disk s) (goi
       → new.commit_number ≡ number_behind told c s.commit_number → (len : ℕ) → Records s told new len
       → IfOk told (λ r. NamesGiven s new)
       → Changed disk (LeavesOthers s.next_block new.next_block (MayRemove c s.counts))
-      (asks (with_sound c sound told) (disk.reads s.store s.file) s.block_size (new.next_block - s.next_block) len)
+      (asks (with_sound c sound told) (disk.reads s.store s.file) s.block_size (new.next_block - s.next_block) len
+      (packed_by s c))
       s.store new.store
       → CountsIds s [] new → Untouched disk s told new → Stops disk s told new → IfErr told (Left disk s new)
       → Lasts disk s (with_sound c sound told) new
@@ -202,7 +204,7 @@ module _ {D : Type 0} (disk : Ghosts D) (s : Core D) (is : IsStudio disk s) (goi
         making refl
         (changed_wider (others_record mid.file mid.next_block mid.next_block NoneGoes is.journal.among)
         (record_within (with_sound c sound (Err refusal.DiskFault)) (disk.reads store s.file) mid.block_size
-        (mid.next_block - mid.next_block) (length body) one) adds.changed))
+        (mid.next_block - mid.next_block) (length body) (packed_by mid c) one) adds.changed))
         (all_ids disk s given makes prepared.blocks c sound store counts making new.store adds.fields.2)
         (off_untouched disk s.store new.store refusal.DiskFault refl)
         (inr (
@@ -254,7 +256,7 @@ module _ {D : Type 0} (disk : Ghosts D) (s : Core D) (is : IsStudio disk s) (goi
           (all_changed disk s given makes prepared.blocks c sound is (Ok Done) (length body) mid done making refl
           (changed_wider (others_record mid.file mid.next_block mid.next_block NoneGoes is.journal.among)
           (record_within (with_sound c sound (Ok Done)) (disk.reads store s.file) mid.block_size
-          (mid.next_block - mid.next_block) (length body) one) adds.changed))
+          (mid.next_block - mid.next_block) (length body) (packed_by mid c) one) adds.changed))
           (ids_made s done counts n making.ledger files refl) tt
           (inl (refl, adds.fields.2 ∙ making.change_faults)) tt)
 

@@ -16,6 +16,10 @@ mod SyncingFirst
 mod DroppingFirst
 mod ForgettingFirst
 mod ReclaimLimits
+mod PackedTexts
+mod Packed
+pub mod PackedSizes
+mod Compacting
 mod Reclaimed
 mod ReclaimFails
 mod Currents

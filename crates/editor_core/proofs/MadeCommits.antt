@@ -27,6 +27,7 @@ use Rattle.editor_core.specs.Made.{PiecesThere, batch_of, ids_from}
 use Rattle.editor_core.specs.Makes.{AreSynced, Making}
 use Rattle.editor_core.specs.Studios.{IsGiven, IsHeld, IsStudio, shown, studio_of}
 use Rattle.editor_core.specs.Took.{KeepsOneOf, Took, number_behind, with_sound}
+use Rattle.model_laws.proofs.Answered.{answered_is}
 use Rattle.editor_core.proofs.Lists.{all_so}
 use Rattle.editor_core.proofs.Makings.{making_next}
 use Rattle.editor_core.proofs.MadeLeft.{all_changed}
@@ -88,7 +89,9 @@ module _ {D : Type 0} (disk : Ghosts D) (s : Core D) (is : IsStudio disk s) (giv
         (λ new.
         let same = mid_state held in
         let one : shown new.after ≡ shown (followed (outside (studio_of disk mid) sound) (studio_of disk mid) c 0 0) =
-        λ i. shown (new.carried.is i) in
+        (λ i. shown (new.carried.is i))
+        ∙ ap shown (answered_is new.reply (followed (outside (studio_of disk mid) sound) (studio_of disk mid) c
+        new.carried.blocks new.carried.len)) in
         let two : shown (followed (outside (studio_of disk mid) sound) (studio_of disk mid) c 0 0)
         ≡ shown (followed (outside t sound) t c n len) =
         λ i. shown (followed (outside (same i) sound) (same i) c 0 0) in

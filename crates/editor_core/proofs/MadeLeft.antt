@@ -7,6 +7,7 @@ use Rattle.pcm_base.specs.declared.command.Call.{Call}
 use Rattle.pcm_base.specs.declared.entry.SoundMove.{SoundMove}
 use Rattle.pcm_base.specs.declared.refusal.Refusal.{Refusal}
 use Rattle.pcm_base.specs.declared.refusal.Refusal.TheVariants as refusal
+use Rattle.pcm_base.specs.Counters.{places_of}
 use Rattle.disk_model.specs.Disk.{Files, StaysStep}
 use Rattle.disk_model.specs.Frames.{Changed}
 use Rattle.disk_model.specs.Room.{files_made, together}
@@ -24,6 +25,7 @@ use Rattle.editor_core.specs.Core.{Core}
 use Rattle.editor_core.specs.Left.{CountsIds, IsSoOf, Left, LeavesOthers, MayRemove}
 use Rattle.editor_core.specs.Made.{SameOutside, batch_of}
 use Rattle.editor_core.specs.Makes.{HasMissed, Making, Stuck, Unput, made_room, one_call}
+use Rattle.editor_core.specs.Packing.{packed_by}
 use Rattle.editor_core.specs.Studios.{IsGiven, IsStudio, named_blocks}
 use Rattle.editor_core.specs.Took.{asks, with_sound}
 use Rattle.editor_core.proofs.Contained.{contained}
@@ -46,13 +48,14 @@ module _ {D : Type 0} (disk : Ghosts D) (s : Core D) (given : Given) (makes : Li
 
   pub some_changed : (why : Refusal) (k len : ℕ) (new : Core D) → Making disk s (batch_of given makes) k new → k ≤ n
       → Changed disk (LeavesOthers s.next_block new.next_block may_go)
-      (asks (with_sound c sound (Err why)) (disk.reads s.store s.file) s.block_size (new.next_block - s.next_block) len)
+      (asks (with_sound c sound (Err why)) (disk.reads s.store s.file) s.block_size (new.next_block - s.next_block) len
+      (packed_by s c))
       s.store new.store
   some_changed why k len new making few =
       let next = making_next disk s given makes k new making in
       changed_wider (λ d x w. others_made s.next_block k new.next_block may_go d x (omega (arith, next))
       (omega (arith, most, few)) w)
-      (within_some (with_sound c sound (Err why)) (disk.reads s.store s.file) s.block_size k len
+      (within_some (with_sound c sound (Err why)) (disk.reads s.store s.file) s.block_size k len (packed_by s c)
       (new.next_block - s.next_block) (omega (arith, next))) making.changed
 
   pub some_stop : (k : ℕ) (new : Core D) → Making disk s (batch_of given makes) k new → new.stopped ≡ s.stopped
@@ -124,9 +127,9 @@ module _ {D : Type 0} (disk : Ghosts D) (s : Core D) (given : Given) (makes : Li
 
     pub unput_changed : (len : ℕ) → Changed disk (LeavesOthers s.next_block unput_here.next_block may_go)
         (asks (with_sound c sound (Err refusal.DiskFault)) (disk.reads s.store s.file) s.block_size
-        (unput_here.next_block - s.next_block) len) s.store new.store
+        (unput_here.next_block - s.next_block) len (packed_by s c)) s.store new.store
     unput_changed len =
-        let within = within_last c sound (disk.reads s.store s.file) s.block_size mid.block_size k len
+        let within = within_last c sound (disk.reads s.store s.file) s.block_size mid.block_size k len (packed_by s c)
         (unput_here.next_block - s.next_block)
         (making_size disk s given makes k mid was) (omega arith) in
         ⊎_elim
@@ -161,15 +164,16 @@ module _ {D : Type 0} (disk : Ghosts D) (s : Core D) (given : Given) (makes : Li
       → Making disk s (batch_of given makes) n mid → new.next_block ≡ mid.next_block
       → Changed disk (Leaving mid.next_block new.next_block)
       (asks (with_sound c sound told) (disk.reads mid.store mid.file) mid.block_size
-      (new.next_block - mid.next_block) len) mid.store new.store
+      (new.next_block - mid.next_block) len (packed_by mid c)) mid.store new.store
       → Changed disk (LeavesOthers s.next_block new.next_block may_go)
-      (asks (with_sound c sound told) (disk.reads s.store s.file) s.block_size (new.next_block - s.next_block) len)
+      (asks (with_sound c sound told) (disk.reads s.store s.file) s.block_size (new.next_block - s.next_block) len
+      (packed_by s c))
       s.store new.store
   all_changed is told len mid new making next changed =
       let at_next = making_next disk s given makes n mid making in
       let one = made_room (size_of s.block_size) n in
       let two = asks (with_sound c sound told) (disk.reads mid.store mid.file) mid.block_size
-      (new.next_block - mid.next_block) len in
+      (new.next_block - mid.next_block) len (packed_by mid c) in
       let made : (d x : Files) → SameOutside s.next_block n d x → LeavesOthers s.next_block new.next_block may_go d x =
       (λ d x w. others_made s.next_block n new.next_block may_go d x (omega (arith, next, at_next)) most w) in
       let in_turn = changed_turn {much = together one two} made
@@ -186,8 +190,10 @@ module _ {D : Type 0} (disk : Ghosts D) (s : Core D) (given : Given) (makes : Li
         ap files_made (making.changed.reads tells s.file
             (inl (omega (arith, is.counters.block_least, is.journal.among)))),
       ))
-      (within_then s.block_size mid.block_size n _ _ (new.next_block - mid.next_block) (new.next_block - s.next_block)
-      (making_size disk s given makes n mid making) (omega (arith, next)) (omega (arith, next, at_next)))
+      (within_then s.block_size mid.block_size n _ _ _ (new.next_block - mid.next_block) (new.next_block - s.next_block)
+      (making_size disk s given makes n mid making)
+      (ap (λ (z : Core D). places_of c len + packed_by z c) making.is) (omega (arith, next))
+      (omega (arith, next, at_next)))
       (omega (arith, next, at_next)) in_turn
 
   module _ (store : D) (counts : Counts) (making : Making disk s (batch_of given makes) n

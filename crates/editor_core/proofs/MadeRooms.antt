@@ -25,33 +25,35 @@ files_last : (n made : ℕ) → n + 1 ≤ made + (n + 1)
 files_last n made = omega arith
 
 -- n blocks and then a record, whose call may begin v more in vain
-pub within_then : (m m' n p v a b : ℕ) → m' ≡ m → a ≡ 0 → b ≡ n
-    → n * size_of m + (p + (a + v) * size_of m') ≤ p + (b + v) * size_of m
-within_then m m' n p v a b same none all =
+pub within_then : (m m' n p p' v a b : ℕ) → m' ≡ m → p' ≡ p → a ≡ 0 → b ≡ n
+    → n * size_of m + (p' + (a + v) * size_of m') ≤ p + (b + v) * size_of m
+within_then m m' n p p' v a b same alike none all =
     let z = size_of m in
     let one = subst (λ (k : ℕ). n * z + (p + (0 + v) * size_of k) ≤ p + (n + v) * z) (sym same) (bytes_then z n p v) in
     let two = subst (λ (k : ℕ). n * z + (p + (k + v) * size_of m') ≤ p + (n + v) * z) (sym none) one in
-    subst (λ (k : ℕ). n * z + (p + (a + v) * size_of m') ≤ p + (k + v) * z) (sym all) two
+    let three = subst (λ (k : ℕ). n * z + (p + (a + v) * size_of m') ≤ p + (k + v) * z) (sym all) two in
+    subst (λ (k : ℕ). n * z + (k + (a + v) * size_of m') ≤ p + (b + v) * z) (sym alike) three
 
-pub within_some : (exchange : Exchange) (journal : Option (List ℕ)) (m n len b : ℕ) → b ≡ n
-    → IsWithin (made_room (size_of m) n) (asks exchange journal m b len)
-within_some exchange journal m n len b all =
-    subst (λ (k : ℕ). IsWithin (made_room (size_of m) n) (asks exchange journal m k len)) (sym all)
+pub within_some : (exchange : Exchange) (journal : Option (List ℕ)) (m n len packed b : ℕ) → b ≡ n
+    → IsWithin (made_room (size_of m) n) (asks exchange journal m b len packed)
+within_some exchange journal m n len packed b all =
+    subst (λ (k : ℕ). IsWithin (made_room (size_of m) n) (asks exchange journal m k len packed)) (sym all)
     (record { files = omega arith; bytes = bytes_some (size_of m) n _ _; calls = omega arith })
 
 -- the disk broke the call off as the next block was made
-pub within_last : (call : Call) (sound : SoundMove) (journal : Option (List ℕ)) (m m' n len b : ℕ) → m' ≡ m → b ≡ n
+pub within_last : (call : Call) (sound : SoundMove) (journal : Option (List ℕ)) (m m' n len packed b : ℕ) → m' ≡ m
+    → b ≡ n
     → IsWithin (together (made_room (size_of m) n) (made_room (size_of m') 1))
-    (asks (with_sound call sound (Err refusal.DiskFault)) journal m b len)
-within_last call sound journal m m' n len b same all =
+    (asks (with_sound call sound (Err refusal.DiskFault)) journal m b len packed)
+within_last call sound journal m m' n len packed b same all =
     let z = size_of m in
     let exchange = with_sound call sound (Err refusal.DiskFault) in
-    let base : IsWithin (together (made_room z n) (made_room z 1)) (asks exchange journal m n len) =
+    let base : IsWithin (together (made_room z n) (made_room z 1)) (asks exchange journal m n len packed) =
     record { files = files_last n _; bytes = bytes_last z n _; calls = omega arith } in
     let one = subst (λ (k : ℕ). IsWithin (together (made_room z n) (made_room (size_of k) 1))
-    (asks exchange journal m n len)) (sym same) base in
-    subst (λ (k : ℕ). IsWithin (together (made_room z n) (made_room (size_of m') 1)) (asks exchange journal m k len))
-    (sym all) one
+    (asks exchange journal m n len packed)) (sym same) base in
+    subst (λ (k : ℕ). IsWithin (together (made_room z n) (made_room (size_of m') 1))
+    (asks exchange journal m k len packed)) (sym all) one
 
 -- the same said by more, where a disk that tells its bytes says how many files are made
 pub changed_told : {D : Type 0} {disk : Ghosts D} {step : Files → Files → Type 0} {less more : Room} {old new : D}

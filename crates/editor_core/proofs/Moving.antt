@@ -265,7 +265,7 @@ tested_out disk s c tracks len own why is fewer call needs is_own h =
     let by = ap (λ (o : Option Refusal). (stop_of s.stopped) otherwise o otherwise
     (no_room s.next_track tracks) otherwise (no_room s.commit_number 1)) (sym is_own) ∙ h in
     refuses disk s c silent why is fewer (commit_frees disk s c (Err why) s call.one) refl len 0 needs
-    (tested (studio_of disk s) c silent tracks call 0 len is.counters.pin_most why
+    (tested (studio_of disk s) c silent tracks call 0 len is.counters.pin_most is.journal.generation_most why
     (omega (arith, is.counters.block_most)) by) (tested_needed disk s c silent tracks call own is_own why h)
 
 -- it is not for want of memory, where the own tests' refusal is not

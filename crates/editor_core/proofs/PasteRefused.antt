@@ -24,9 +24,10 @@ use Rattle.project_state.specs.Tracks.{track_of}
 use Rattle.pcm_base.specs.declared.edits.Placing.{Placing}
 use Rattle.pcm_base.specs.declared.edits.Placing.TheVariants.{Insert, Cover}
 use Rattle.pcm_base.specs.Edits.{placed}
+use Rattle.pcm_base.specs.Shape.{paste_line}
 use Rattle.editor_core.specs.Core.{Core}
 use Rattle.editor_core.specs.Edits.{IsEditCall, alone}
-use Rattle.editor_core.specs.Pastes.{NoPastePlan, paste_line, paste_refusal}
+use Rattle.editor_core.specs.Pastes.{NoPastePlan, paste_refusal}
 use Rattle.editor_core.specs.Points.{current_tracks}
 use Rattle.editor_core.specs.Studios.{IsStudio}
 use Rattle.editor_core.specs.Studios.{studio_by, studio_of}

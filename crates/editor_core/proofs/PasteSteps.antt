@@ -36,11 +36,12 @@ use Rattle.editor_core.specs.declared.carrying.Planned.{Planned}
 use Rattle.pcm_base.specs.declared.edits.Placing.{Placing}
 use Rattle.pcm_base.specs.Edits.{placed}
 use Rattle.pcm_base.specs.Refusals.{placed_length}
+use Rattle.pcm_base.specs.Shape.{paste_line}
 use Rattle.editor_core.specs.Copies.{run_of, strips_blocks}
 use Rattle.editor_core.specs.Core.{Core}
 use Rattle.editor_core.specs.Edits.{AreAmong, IsEdit, IsEditCall, IsPlanned, alone, blocks_with, clip_behind, clip_then}
 use Rattle.editor_core.specs.Edits.{tagged}
-use Rattle.editor_core.specs.Pastes.{IsPastePlan, paste_line}
+use Rattle.editor_core.specs.Pastes.{IsPastePlan}
 use Rattle.editor_core.specs.Points.{current_tracks}
 use Rattle.editor_core.specs.Studios.{IsClipboard, IsGiven, IsStudio, MayPaste, clip_blocks, clip_cells, named_blocks}
 use Rattle.editor_core.specs.Studios.{pin_blocks, studio_by}

@@ -12,6 +12,7 @@ use Rattle.project_state.specs.Kept.{Keeps}
 use Rattle.editor_core.specs.Core.{Core}
 use Rattle.editor_core.specs.Studios.{shown, studio_of}
 use Rattle.editor_core.specs.Took.{KeepsOneOf, Took, quietly, silent}
+use Rattle.model_laws.proofs.Answered.{carried_is}
 use Rattle.editor_core.proofs.Spending.{other_needed}
 
 module _ {D : Type 0} (disk : Ghosts D) (s : Core D) (pin from count : ℕ) where
@@ -58,7 +59,9 @@ module _ {D : Type 0} (disk : Ghosts D) (s : Core D) (pin from count : ℕ) wher
         a
 
     still : (c : Files) → KeepsOneOf t (PinLen pin) silent c → KeepsOneOf t read silent c
-    still c k = ⊎_elim (λ old. inl old) (λ flight. inl (subst (Keeps c) (ap shown flight.carried.is) flight.keeps)) k
+    still c k = ⊎_elim (λ old. inl old)
+        (λ flight. inl (subst (Keeps c)
+        (ap shown (carried_is t flight.after (PinLen pin) silent flight.reply flight.carried)) flight.keeps)) k
 
     pub len_refused : Took disk s (quietly read (Err why)) new
     len_refused = record {
@@ -131,7 +134,9 @@ module _ {D : Type 0} (disk : Ghosts D) (s : Core D) (pin from count : ℕ) wher
 
     still_fewer : (c : Files) → KeepsOneOf t (ReadPin pin from n) silent c → KeepsOneOf t read silent c
     still_fewer c k =
-        ⊎_elim (λ old. inl old) (λ flight. inl (subst (Keeps c) (ap shown flight.carried.is) flight.keeps)) k
+        ⊎_elim (λ old. inl old)
+        (λ flight. inl (subst (Keeps c)
+        (ap shown (carried_is t flight.after (ReadPin pin from n) silent flight.reply flight.carried)) flight.keeps)) k
 
     pub read_refused : Took disk s (quietly read (Err why)) new
     read_refused = record {

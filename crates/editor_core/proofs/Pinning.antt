@@ -114,11 +114,11 @@ module _ {D : Type 0} (disk : Ghosts D) (s : Core D) (is : IsStudio disk s) (few
 
     pub pinned : Took disk s (quietly Keep (Ok (Pinned s.next_pin))) new
     pinned =
-        let passed = quiet_passes t Keep pin_quiet (room_of disk s Keep is) (ap stop_of going) refl
+        let passed = quiet_passes t Keep pin_quiet (room_of disk s Keep is) refl (ap stop_of going) refl
         (fits s.next_pin 1 (omega (arith, room))) in
         renamed_took disk s is s.clipboard pins (s.next_pin + 1) counts pin_renames Keep pin_quiet tt
         (Pinned s.next_pin) fewer (λ some. absurd (stopped_not s.stopped some going))
-        (λ _. carried t Keep pin_quiet (room_of disk s Keep is) (Pinned s.next_pin)
+        (λ _. carried t Keep pin_quiet (room_of disk s Keep is) refl (Pinned s.next_pin)
         (studio_of disk new) passed refl pin_state)
 
   -- all numbers are given
@@ -127,8 +127,9 @@ module _ {D : Type 0} (disk : Ghosts D) (s : Core D) (is : IsStudio disk s) (few
   pin_spent going most =
       let pin = spends s.next_pin 1 (omega (arith, most)) ∙ (λ i. Some (refusal.SpaceSpent (most i) 1)) in
       refused_by disk s Keep pin_quiet tt is fewer (refusal.SpaceSpent (2 ^ 62) 1)
-      (pins_spent t Keep pin_quiet (room_of disk s Keep is) (refusal.SpaceSpent (2 ^ 62) 1) (ap stop_of going) refl pin)
-      (inl (inr (inr pin)))
+      (pins_spent t Keep pin_quiet (room_of disk s Keep is) refl (refusal.SpaceSpent (2 ^ 62) 1) (ap stop_of going) refl
+      pin)
+      (inl (inr (inr (inl pin))))
 
   pub pin_stopped : (faults : ℕ) → s.stopped ≡ Some faults → Took disk s (quietly Keep (Err (refusal.Stopped faults))) s
   pin_stopped faults stopped = refused_stopped disk s Keep pin_quiet tt is fewer faults refl stopped

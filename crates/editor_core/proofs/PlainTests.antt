@@ -9,7 +9,8 @@ use Rattle.pcm_base.specs.declared.refusal.Refusal.{Refusal}
 use Rattle.pcm_base.specs.declared.refusal.Refusal.TheVariants as refusal
 use Rattle.pcm_base.specs.declared.wav.WavFault.{WavFault}
 use Rattle.pcm_base.specs.Cells.{cells_at, longest, tracks_from}
-use Rattle.pcm_base.specs.Counters.{commits_of, counter_tests, no_room, pins_of, places_of, record_test, tracks_of}
+use Rattle.pcm_base.specs.Counters.{commits_of, counter_tests, generations_of, no_room, pins_of, places_of, record_test}
+use Rattle.pcm_base.specs.Counters.{tracks_of}
 use Rattle.pcm_base.specs.Edits.{source_count}
 use Rattle.pcm_base.specs.Mix.{mix_length}
 use Rattle.pcm_base.specs.Outside.{Outside}
@@ -19,8 +20,8 @@ use Rattle.pcm_base.specs.Refusals.{no_pin, no_track, paste_tests, pasted_length
 use Rattle.pcm_base.specs.Refusals.{refused_if, run_tests, shape_tests, too_narrow, track_limit, view_tests}
 use Rattle.pcm_base.specs.Run.{refusal_of, stop_of, stop_test}
 use Rattle.pcm_base.specs.Shape.{Shape, NewTrack, DropTrack, SetTrack, PutIn, EditRange, CutRun, CopyRun, PasteRun}
-use Rattle.pcm_base.specs.Shape.{MoveTo, Purge, Look, Reclaim, Import, Export, Back, Forward, View, Cells, Frames}
-use Rattle.pcm_base.specs.Shape.{Columns, Tracks, shape_of}
+use Rattle.pcm_base.specs.Shape.{MoveTo, Purge, Look, Reclaim, Compact, Import, Export, Back, Forward, View, Cells}
+use Rattle.pcm_base.specs.Shape.{Frames, Columns, Tracks, shape_of}
 use Rattle.pcm_base.specs.State.{State, clip_of, current}
 use Rattle.pcm_base.specs.Studio as model
 use Rattle.pcm_base.specs.Wave.{Sound, wav_of}
@@ -140,6 +141,7 @@ line out s (MoveTo Forward) = one (s.history.cursor + 1 == length s.history.poin
 line out s (Purge n) = range 0 n s.history.cursor
 line out s (Look view) = views s view
 line out s (Reclaim most) = tt
+line out s Compact = tt
 line out s (Import name) = imports out.rate s out.sound
 line out s (Export name) =
     one (nat_lt 4294967295 (36 + 4 * mix_length (current s))) (refusal.TooLong (mix_length (current s))) tt
@@ -198,10 +200,12 @@ counters out t c blocks len =
     let commit = no_room t.state.commit (commits_of c) in
     let number = no_room t.state.next_pin (pins_of c) in
     let place = no_room t.journal_end (places_of c len) in
-    either_plain block (id otherwise commit otherwise number otherwise place) (room t.next_block blocks)
-    (either_plain id (commit otherwise number otherwise place) (room t.state.next_track (tracks_of out c))
-    (either_plain commit (number otherwise place) (room t.state.commit (commits_of c))
-    (either_plain number place (room t.state.next_pin (pins_of c)) (room t.journal_end (places_of c len)))))
+    let last = no_room t.generation (generations_of c) in
+    either_plain block (id otherwise commit otherwise number otherwise place otherwise last) (room t.next_block blocks)
+    (either_plain id (commit otherwise number otherwise place otherwise last) (room t.state.next_track (tracks_of out c))
+    (either_plain commit (number otherwise place otherwise last) (room t.state.commit (commits_of c))
+    (either_plain number (place otherwise last) (room t.state.next_pin (pins_of c))
+    (either_plain place last (room t.journal_end (places_of c len)) (room t.generation (generations_of c))))))
 
 -- whatever refuses a call before a device is asked
 pub plain_refusal : (out : Outside) (t : model.Studio) (c : Call) (blocks len : ℕ) (why : Refusal)

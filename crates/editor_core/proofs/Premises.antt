@@ -17,6 +17,7 @@ use Rattle.editor_core.specs.Core.{Core}
 use Rattle.editor_core.specs.Records.{Records}
 use Rattle.editor_core.specs.Spent.{NamesGiven, Needed}
 use Rattle.editor_core.specs.Left.{CountsIds, Left, MayRemove, Stops, Untouched}
+use Rattle.editor_core.specs.Packing.{packed_by}
 use Rattle.editor_core.specs.Studios.{IsHeld, IsStudio, shown, studio_of}
 use Rattle.editor_core.specs.Took.{KeepsOneOf, Took, asks, number_behind, with_sound}
 use Rattle.editor_core.proofs.Others.{Leaving, others_more}
@@ -41,7 +42,7 @@ pub record TookWhere {D : Type 0} (Has : Type 0) (disk : Ghosts D) (old : Core D
   pub records : Records old told new len
   pub changed : Changed disk (Leaving old.next_block new.next_block)
       (asks (with_sound call sound told) (disk.reads old.store old.file) old.block_size
-      (new.next_block - old.next_block) len)
+      (new.next_block - old.next_block) len (packed_by old call))
       old.store new.store
 
 pub took_so : {D : Type 0} (disk : Ghosts D) (old : Core D) (call : Call) (sound : SoundMove)

@@ -5,8 +5,8 @@ use Rattle.pcm_base.specs.declared.answer.Reply.{Reply}
 use Rattle.pcm_base.specs.declared.command.Call.{Call}
 use Rattle.pcm_base.specs.declared.refusal.Refusal.{Refusal}
 use Rattle.pcm_base.specs.declared.refusal.Refusal.TheVariants as refusal
-use Rattle.pcm_base.specs.Counters.{Needs, commits_of, tracks_of, pins_of, record_bytes, places_of, no_room}
-use Rattle.pcm_base.specs.Counters.{record_test}
+use Rattle.pcm_base.specs.Counters.{Needs, commits_of, generations_of, tracks_of, pins_of, record_bytes, places_of}
+use Rattle.pcm_base.specs.Counters.{no_room, record_test}
 use Rattle.pcm_base.specs.Outside.{Outside}
 use Rattle.pcm_base.specs.Refusals.{◌otherwise◌, call_tests}
 use Rattle.pcm_base.specs.Run.{outside, stop_of, stop_test, refusal_of, followed, CarriesOut}
@@ -18,6 +18,7 @@ use Rattle.editor_core.specs.Core.{Core}
 use Rattle.editor_core.specs.Left.{MayRemove}
 use Rattle.editor_core.specs.Studios.{IsHeld, IsStudio, studio_of}
 use Rattle.editor_core.specs.Took.{Took, quietly, silent}
+use Rattle.model_laws.proofs.Answered.{answered_same}
 use Rattle.editor_core.proofs.Images.{keeps_now}
 use Rattle.editor_core.proofs.Others.{others_none}
 use Rattle.editor_core.proofs.Removing.{RemovesNone, frees_none, ids_same, no_record, none_given}
@@ -46,7 +47,7 @@ module _ (t : model.Studio) (c : Call) where
       let rest : Option Refusal = (call_tests out t.state c) otherwise
       ((no_room t.next_block blocks) otherwise (no_room t.state.next_track (tracks_of out c))
       otherwise (no_room t.state.commit (commits_of c)) otherwise (no_room t.state.next_pin (pins_of c)) otherwise
-      (no_room t.journal_end (places_of c len)))
+      (no_room t.journal_end (places_of c len)) otherwise (no_room t.generation (generations_of c)))
       otherwise (record_test len) in
       ap (λ (z : Option Refusal). z otherwise rest) (is ∙ ap stop_of at)
 
@@ -57,7 +58,7 @@ module _ (t : model.Studio) (c : Call) where
       let rest : Option Refusal =
       ((no_room t.next_block blocks) otherwise (no_room t.state.next_track (tracks_of out c))
       otherwise (no_room t.state.commit (commits_of c)) otherwise (no_room t.state.next_pin (pins_of c)) otherwise
-      (no_room t.journal_end (places_of c len)))
+      (no_room t.journal_end (places_of c len)) otherwise (no_room t.generation (generations_of c)))
       otherwise (record_test len) in
       λ i. (going i) otherwise (own i) otherwise rest
 
@@ -67,6 +68,7 @@ module _ (t : model.Studio) (c : Call) where
     pub track : t.state.next_track ≤ 2 ^ 62
     pub commit : t.state.commit ≤ 2 ^ 62
     pub end : t.journal_end ≤ 2 ^ 62
+    pub generation : t.generation ≤ 2 ^ 62
 
   module _ (is : IsQuiet c) (room : HasRoom) where
     no_places : places_of c 0 ≡ 0
@@ -84,20 +86,14 @@ module _ (t : model.Studio) (c : Call) where
     end_fits : no_room t.journal_end (places_of c 0) ≡ None
     end_fits = ap (no_room t.journal_end) no_places ∙ fits t.journal_end 0 (omega (arith, room.end))
 
-    pub quiet_passes : stop_test t.stopped c ≡ None → call_tests out t.state c ≡ None
+    -- its tests, by that of the generations
+    pub tests_then : (last : Option Refusal) → no_room t.generation (generations_of c) ≡ last
+        → stop_test t.stopped c ≡ None → call_tests out t.state c ≡ None
         → no_room t.state.next_pin (pins_of c) ≡ None
-        → refusal_of out t c 0 0 ≡ None
-    quiet_passes going own pin =
+        → refusal_of out t c 0 0 ≡ (last otherwise None)
+    tests_then last later going own pin =
         λ i. (going i) otherwise (own i) otherwise ((block_fits i) otherwise (track_fits i) otherwise
-        (commit_fits i) otherwise (pin i) otherwise (end_fits i)) otherwise None
-
-    -- no number of a pin is left
-    pub pins_spent : (why : Refusal) → stop_test t.stopped c ≡ None → call_tests out t.state c ≡ None
-        → no_room t.state.next_pin (pins_of c) ≡ Some why
-        → refusal_of out t c 0 0 ≡ Some why
-    pins_spent why going own pin =
-        λ i. (going i) otherwise (own i) otherwise ((block_fits i) otherwise (track_fits i) otherwise
-        (commit_fits i) otherwise (pin i) otherwise (end_fits i)) otherwise None
+        (commit_fits i) otherwise (pin i) otherwise (end_fits i) otherwise (later i)) otherwise None
 
     -- what it leaves of the model
     pub quiet_follows : followed out t c 0 0 ≡ record t { state = after out t.state c }
@@ -107,19 +103,38 @@ module _ (t : model.Studio) (c : Call) where
         let end : t.journal_end + record_bytes c 0 ≡ t.journal_end = omega (arith, none) in
         λ i. record t { state = after out t.state c; next_block = block i; journal_end = end i }
 
-    -- carried out
-    pub carried : (r : Reply) (u : model.Studio) → refusal_of out t c 0 0 ≡ None → MayAnswer out t.state c r
-        → u ≡ record t { state = after out t.state c }
-        → CarriesOut t c silent r u
-    carried r u passed answers same = record {
-      blocks = 0;
-      len = 0;
-      needs = is.needs t;
-      passed = passed;
-      answers = answers;
-      is = same ∙ sym quiet_follows;
-      heard = sym (is.quiet t);
-    }
+    -- it needs no generation of the journal either
+    module _ (still : generations_of c ≡ 0) where
+      later_fits : no_room t.generation (generations_of c) ≡ None
+      later_fits = ap (no_room t.generation) still ∙ fits t.generation 0 (omega (arith, room.generation))
+
+      pub quiet_passes : stop_test t.stopped c ≡ None → call_tests out t.state c ≡ None
+          → no_room t.state.next_pin (pins_of c) ≡ None
+          → refusal_of out t c 0 0 ≡ None
+      quiet_passes going own pin = tests_then None later_fits going own pin
+
+      -- no number of a pin is left
+      pub pins_spent : (why : Refusal) → stop_test t.stopped c ≡ None → call_tests out t.state c ≡ None
+          → no_room t.state.next_pin (pins_of c) ≡ Some why
+          → refusal_of out t c 0 0 ≡ Some why
+      pins_spent why going own pin =
+          λ i. (going i) otherwise (own i) otherwise ((block_fits i) otherwise (track_fits i) otherwise
+          (commit_fits i) otherwise (pin i) otherwise (end_fits i) otherwise (later_fits i)) otherwise None
+
+      -- carried out
+      pub carried : (r : Reply) (u : model.Studio) → refusal_of out t c 0 0 ≡ None → MayAnswer out t.state c r
+          → u ≡ record t { state = after out t.state c }
+          → CarriesOut t c silent r u
+      carried r u passed answers same = record {
+        blocks = 0;
+        len = 0;
+        needs = is.needs t;
+        passed = passed;
+        answers = answers;
+        is = same ∙ sym quiet_follows
+            ∙ sym (answered_same out t.state c r answers still (followed out t c 0 0));
+        heard = sym (is.quiet t);
+      }
 
 -- ---- the studio as it was
 
@@ -129,6 +144,7 @@ room_of disk s c is = record {
   track = is.counters.track_most;
   commit = is.counters.commit_most;
   end = is.counters.end_most;
+  generation = is.journal.generation_most;
 }
 
 module _ {D : Type 0} (disk : Ghosts D) (s : Core D) (c : Call) (quiet : IsQuiet c) (none : RemovesNone c)

@@ -1,5 +1,5 @@
 -- Edits of a range of one track: the cells that they meet, and the lines that ask for them.
-use Rattle.std.proofs.Common.{◌≡◌, ◌∙◌, ◌⊎◌, inl, inr, refl, sym, ap, subst, ℕ, ◌+◌, ◌-◌, ◌/◌, ◌≤◌, ◌<◌, nat_lt, nat_le}
+use Rattle.std.proofs.Common.{◌≡◌, ◌∙◌, ◌⊎◌, inl, inr, refl, sym, ap, ℕ, ◌-◌, ◌≤◌, ◌<◌, nat_lt, nat_le}
 use Rattle.std.proofs.Common.{◌&&◌, not, Bool, true, false, None, List, ◌++◌, length, replicate}
 use Rattle.std.proofs.Common.{arith}
 use Rattle.std.proofs.lemmas.Bool.{cases_lt}
@@ -19,8 +19,9 @@ use Rattle.clip_track.proofs.Layouts.{length-layout}
 use Rattle.piece_store.specs.declared.given.Given.TheVariants.{Nothing}
 use Rattle.pcm_base.specs.declared.edits.RangeEdit.{RangeEdit}
 use Rattle.pcm_base.specs.declared.edits.RangeEdit.TheVariants.{Delete, SplitDelete, Silence, Trim, Gain}
+use Rattle.pcm_base.specs.Shape.{range_line}
 use Rattle.editor_core.specs.Commits.{IsCommitCall}
-use Rattle.editor_core.specs.Ranges.{range_edit, range_line}
+use Rattle.editor_core.specs.Ranges.{range_edit}
 use Rattle.editor_core.specs.Took.{silent}
 use Rattle.editor_core.specs.TrackEdits.{IsTrackCall, track_command}
 

@@ -75,12 +75,12 @@ module _ {D : Type 0} (disk : Ghosts D) (old : Core D) (limit : Option ℕ) wher
         }) in
         let room = room_of disk old call is in
         let pin = fits old.next_pin 0 (omega (arith, is.counters.pin_most)) in
-        let passed = quiet_passes t call quiet room (ap stop_of going) refl pin in record {
+        let passed = quiet_passes t call quiet room refl (ap stop_of going) refl pin in record {
           ids = was.ids;
           took = record {
             studio = studio;
             held = held;
-            step = λ on. carried t call quiet room (Freed count) (studio_of disk new) passed
+            step = λ on. carried t call quiet room refl (Freed count) (studio_of disk new) passed
                 (count, refl, is_within limit count (subst (λ (n : ℕ). IfSome limit (λ m. n ≤ m)) was.len few))
                 (state on.tells);
             any_moment = λ _ on c since. inl (keeps_since disk old is _ mid.store was.changed going on c since);

@@ -109,10 +109,10 @@ module _ {D : Type 0} (disk : Ghosts D) (s : Core D) (is : IsStudio disk s) (id 
           let room = room_of disk s show is in
           let own : call_tests (outside t silent) t.state show ≡ None =
           show_tests ∙ (λ i. (track_there disk s is id layout has i) otherwise (good i)) in
-          let passed = quiet_passes t show show_quiet room (ap stop_of going) own
+          let passed = quiet_passes t show show_quiet room refl (ap stop_of going) own
           (fits s.next_pin 0 (omega (arith, is.counters.pin_most))) in
           looked_ok disk s is store kept cache keeps show show_quiet tt going (reply.Cells cells) faults
-          (λ held. carried t show show_quiet room (reply.Cells cells) t passed
+          (λ held. carried t show show_quiet room refl (reply.Cells cells) t passed
           (ap reply.Cells (seen held ∙ ap (part from to) (cells_are layout has))) refl)
 
       pub show_failed : (why : BlockFault) → CountedBy why (disk.read_fault_count s.store) (disk.read_fault_count store)
@@ -167,10 +167,10 @@ module _ {D : Type 0} (disk : Ghosts D) (s : Core D) (is : IsStudio disk s) (id 
           → Took disk s (quietly scan (Ok (reply.Columns found))) (record s { store = store; cache = cache })
       scan_done found good faults seen =
           let room = room_of disk s scan is in
-          let passed = quiet_passes t scan scan_quiet room (ap stop_of going) (tests_are ∙ good)
+          let passed = quiet_passes t scan scan_quiet room refl (ap stop_of going) (tests_are ∙ good)
           (fits s.next_pin 0 (omega (arith, is.counters.pin_most))) in
           looked_ok disk s is store kept cache keeps scan scan_quiet tt going (reply.Columns found) faults
-          (λ held. carried t scan scan_quiet room (reply.Columns found) t passed
+          (λ held. carried t scan scan_quiet room refl (reply.Columns found) t passed
           (ap reply.Columns (seen held ∙ ap (columns_of from to columns) (cells_are layout has))) refl)
 
       of_reads : (why : Refusal) → IsOfReads why

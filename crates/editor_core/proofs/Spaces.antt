@@ -1,16 +1,20 @@
 -- Which test refuses a commit.
-use Rattle.std.proofs.Common.{◌≡◌, sym, ap, ◌∙◌, ℕ, ◌+◌, ◌^◌, ◌≤◌, ◌<◌, Bool, Option, Some, None, arith, if◌then◌else◌}
-use Rattle.std.proofs.Common.{◌==◌}
-use Rattle.std.proofs.lemmas.Bool.{le-ltb, lt-ltb}
+use Rattle.std.proofs.Common.{◌≡◌, refl, sym, ap, ◌∙◌, ℕ, ◌+◌, ◌^◌, ◌≤◌, ◌<◌, Bool, true, Option, Some, None, arith}
+use Rattle.std.proofs.Common.{◌==◌, if◌then◌else◌, false}
+use Rattle.std.proofs.lemmas.Bool.{le-ltb, lt-ltb, true≢false}
 use Rattle.std.proofs.lemmas.Option.{none-some}
 use Rattle.pcm_base.specs.declared.command.Call.{Call}
+use Rattle.pcm_base.specs.declared.command.Call.TheVariants as call
 use Rattle.pcm_base.specs.declared.entry.SoundMove.{SoundMove}
 use Rattle.pcm_base.specs.declared.refusal.Refusal.{Refusal}
 use Rattle.pcm_base.specs.declared.refusal.Refusal.TheVariants.{SpaceSpent, RecordLimit}
-use Rattle.pcm_base.specs.Counters.{no_room, pins_of, places_of, counter_tests, record_test}
+use Rattle.pcm_base.specs.Counters.{no_room, commits_of, generations_by, generations_of, pins_of, places_of}
+use Rattle.pcm_base.specs.Counters.{counter_tests, record_test}
 use Rattle.pcm_base.specs.Outside.{Outside}
 use Rattle.pcm_base.specs.Refusals.{◌otherwise◌, refused_if, call_tests}
 use Rattle.pcm_base.specs.Run.{outside, refusal_of, stop_of, stop_test}
+use Rattle.pcm_base.specs.Shape.{Shape, NewTrack, DropTrack, SetTrack, PutIn, EditRange, CutRun, CopyRun, PasteRun}
+use Rattle.pcm_base.specs.Shape.{MoveTo, Purge, Look, Reclaim, Compact, Import, Export, shape_of, is_commit}
 use Rattle.pcm_base.specs.declared.limits.TheConstants.{LONGEST_BODY}
 use Rattle.pcm_base.specs.Studio as model
 use Rattle.editor_core.specs.Adding.{Exceeds}
@@ -50,6 +54,41 @@ first_four None None (Some r) y rest tail why h = h
 first_four None None None (Some r) rest tail why h = h
 first_four None None None None rest tail why h = absurd (none-some why h)
 
+-- a test that is passed last changes nothing
+pub only : (test : Option Refusal) → (test otherwise None) ≡ test
+only None = refl
+only (Some why) = refl
+
+-- no commit packs the journal
+line_packs_none : (shape : Shape) → is_commit shape ≡ true → generations_by shape ≡ 0
+line_packs_none Compact is = absurd (true≢false (sym is))
+line_packs_none NewTrack is = refl
+line_packs_none (DropTrack id) is = refl
+line_packs_none (SetTrack id setting) is = refl
+line_packs_none (PutIn id at source) is = refl
+line_packs_none (EditRange id from to edit) is = refl
+line_packs_none (CutRun id n from to removing) is = refl
+line_packs_none (CopyRun id n from to) is = refl
+line_packs_none (PasteRun id at placing) is = refl
+line_packs_none (MoveTo move) is = refl
+line_packs_none (Purge n) is = refl
+line_packs_none (Look view) is = refl
+line_packs_none (Reclaim limit) is = refl
+line_packs_none (Import name) is = refl
+line_packs_none (Export name) is = refl
+
+pub commit_packs_none : (c : Call) → commits_of c ≡ 1 → generations_of c ≡ 0
+commit_packs_none (call.Line c) one = line_packs_none (shape_of c) (by (is_commit (shape_of c)) one)
+  where
+    by : (b : Bool) → ◌≡◌ {A = ℕ} (if b then 1 else 0) 1 → b ≡ true
+    by true one = refl
+    by false one = absurd (omega (arith, one))
+commit_packs_none (call.Piece track tag samples) one = refl
+commit_packs_none call.Pin one = refl
+commit_packs_none (call.PinLen pin) one = refl
+commit_packs_none (call.ReadPin pin from count) one = refl
+commit_packs_none (call.Unpin pin) one = refl
+
 module _ (t : model.Studio) (c : Call) (sound : SoundMove) (tracks : ℕ) (is : IsCommitCall c sound tracks)
     (blocks len : ℕ) where
   abbrev out : Outside
@@ -63,20 +102,27 @@ module _ (t : model.Studio) (c : Call) (sound : SoundMove) (tracks : ℕ) (is : 
       ((counter_tests out t c blocks len) otherwise (record_test len)) why
       (ap (λ o. o otherwise (call_tests out t.state c)) (is.stops t.stopped) ∙ h)
 
-  module _ (room : t.state.next_pin ≤ 2 ^ 62) where
+  module _ (room : t.state.next_pin ≤ 2 ^ 62) (later : t.generation ≤ 2 ^ 62) where
     places : places_of c len ≡ 6 + len
     places = ap (λ (k : ℕ). if k == 0 then 0 else 6 + len) is.one
 
     no_pins : no_room t.state.next_pin (pins_of c) ≡ None
     no_pins = ap (no_room t.state.next_pin) is.no_pin ∙ fits t.state.next_pin 0 (omega (arith, room))
 
+    no_generation : no_room t.generation (generations_of c) ≡ None
+    no_generation = ap (no_room t.generation) (commit_packs_none c is.one)
+        ∙ fits t.generation 0 (omega (arith, later))
+
     -- the counters by their numbers
     counters : counter_tests out t c blocks len
         ≡ ((no_room t.next_block blocks) otherwise (no_room t.state.next_track tracks) otherwise
         (no_room t.state.commit 1) otherwise (no_room t.journal_end (6 + len)))
-    counters = λ i.
+    counters = (λ i.
         (no_room t.next_block blocks) otherwise (no_room t.state.next_track (is.tracks_is t.rate i))
-        otherwise (no_room t.state.commit (is.one i)) otherwise (no_pins i) otherwise (no_room t.journal_end (places i))
+        otherwise (no_room t.state.commit (is.one i)) otherwise (no_pins i)
+        otherwise (no_room t.journal_end (places i)) otherwise (no_generation i))
+        ∙ (λ i. (no_room t.next_block blocks) otherwise (no_room t.state.next_track tracks)
+        otherwise (no_room t.state.commit 1) otherwise (only (no_room t.journal_end (6 + len)) i))
 
     -- the studio is stopped, an own test refuses it, or a counter that comes behind that of the blocks
     pub tested : (why : Refusal) → t.next_block + blocks ≤ 2 ^ 62

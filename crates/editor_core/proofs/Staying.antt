@@ -37,10 +37,10 @@ stopped_not None some none = cc
 stopped_not (Some n) some none = some_none n none
 
 -- a record asks no more than a commit may
-pub record_within : (exchange : Exchange) (journal : Option (List ℕ)) (m blocks len : ℕ)
+pub record_within : (exchange : Exchange) (journal : Option (List ℕ)) (m blocks len packed : ℕ)
     → commits_of exchange.call ≡ 1
-    → IsWithin (append_room journal len) (asks exchange journal m blocks len)
-record_within exchange journal m blocks len one =
+    → IsWithin (append_room journal len) (asks exchange journal m blocks len packed)
+record_within exchange journal m blocks len packed one =
     let places : places_of exchange.call len ≡ 6 + len = ap (λ (k : ℕ). if k == 0 then 0 else 6 + len) one in
     record { files = omega arith; bytes = omega (arith, places); calls = omega arith }
 

@@ -16,7 +16,7 @@ use Rattle.editor_core.specs.Edits.{AreAmong}
 use Rattle.editor_core.specs.Studios.{IsGiven, IsStudio, is_given, named_blocks}
 use Rattle.editor_core.proofs.Contained.{contained}
 
-given_is : (next id : ℕ) → IsTrue (is_given next id) → IsGiven next id
+pub given_is : (next id : ℕ) → IsTrue (is_given next id) → IsGiven next id
 given_is next id h = grind (arith, nat_tests)
 
 is_from : (next id : ℕ) → IsGiven next id → IsTrue (is_given next id)

@@ -54,8 +54,8 @@ module _ {D : Type 0} (disk : Ghosts D) (s : Core D) (is : IsStudio disk s) (few
   told_of lines going all =
       let src = sources_of (disk.reads s.store) in
       let room = room_of disk s tell is in
-      let passed = quiet_passes t tell tell_quiet room (ap stop_of going) refl
+      let passed = quiet_passes t tell tell_quiet room refl (ap stop_of going) refl
       (fits s.next_pin 0 (omega (arith, is.counters.pin_most))) in
       stays_answered disk s tell tell_quiet tt is fewer (reply.Tracks lines)
-      (λ _. carried t tell tell_quiet room (reply.Tracks lines) t passed
+      (λ _. carried t tell tell_quiet room refl (reply.Tracks lines) t passed
       (ap reply.Tracks (all src ∙ ap (λ (p : Project). map line_of_track p) (sym (current_meant disk s is)))) refl)

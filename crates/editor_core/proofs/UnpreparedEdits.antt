@@ -83,14 +83,15 @@ module _ {D : Type 0} (disk : Ghosts D) (s : Core D) (is : IsStudio disk s) (goi
       (⊎_elim
       (λ want. subst (λ (e : Refusal). Took disk s (with_sound c sound (Err e)) s) (sym want) memory)
       (⊎_elim
-      (λ spent. test (counter_spent t c sound tracks commit n (length body) is.counters.pin_most going own why spent)
+      (λ spent. test (counter_spent t c sound tracks commit n (length body) is.counters.pin_most
+      is.journal.generation_most going own why spent)
       (spent_needed disk s c sound tracks commit would why spent))
       (λ over.
       let exceeds = λ (len : ℕ) (one : IsLength s told_body len) (h : Exceeds s.journal_end len why).
       refuses disk s c sound why is (fewer s.store) (commit_frees disk s c (Err why) s commit.one) commit.quiet len n
       (λ held. edit_needs disk s is going e plan c sound edit len one n (omega arith))
-      (exceeded t c sound tracks commit n len is.counters.pin_most going own over.0 over.1 (omega (arith, over.2))
-      why h)
+      (exceeded t c sound tracks commit n len is.counters.pin_most is.journal.generation_most going own over.0 over.1
+      (omega (arith, over.2)) why h)
       (exceeding_needed disk s c sound would len one why h) in
       ⊎_elim (exceeds (whole_len told_body) (inl refl)) (exceeds (length body) (inr refl)) over.3))
       not)

@@ -1,12 +1,12 @@
 -- What the parts of a commit do.
-use Rattle.std.specs.Prelude.{◌≡◌, ◌⊎◌, ℕ, ◌+◌, ◌^◌, ◌≤◌, ◌<◌, IsTrue, Option, Some, None, List, length, Result, Ok}
+use Rattle.std.specs.Prelude.{◌≡◌, ◌⊎◌, ℕ, ◌+◌, ◌≤◌, ◌<◌, IsTrue, Option, Some, None, List, length, Result, Ok}
 use Rattle.std.specs.Prelude.{Err}
 use Rattle.std.specs.Prelude.{MatchResult, OnOk}
 use Rattle.pcm_base.specs.Causes.{Rose}
 use Rattle.pcm_base.specs.Counters.{no_room}
 use Rattle.pcm_base.specs.Refusals.{◌otherwise◌}
 use Rattle.pcm_base.specs.Run.{stop_of}
-use Rattle.pcm_base.specs.declared.limits.TheConstants.{LONGEST_BODY}
+use Rattle.pcm_base.specs.declared.limits.TheConstants.{COUNTER_LIMIT, LONGEST_BODY}
 use Rattle.pcm_base.specs.Studio.{fault_sum}
 use Rattle.pcm_base.specs.declared.refusal.Refusal.{Refusal}
 use Rattle.pcm_base.specs.declared.refusal.Refusal.TheVariants as refusal
@@ -26,7 +26,8 @@ use Rattle.editor_core.specs.Core.{Core, form_at}
 -- counter has no room
 abbrev pub Tested : {D : Type 0} → Core D → Option Refusal → ℕ → Result (Unit {0}) Refusal → Type 0
 Tested s own tracks result = MatchResult result
-    (λ _. (s.stopped ≡ None) × (own ≡ None) × (s.next_track + tracks ≤ 2 ^ 62) × (s.commit_number < 2 ^ 62))
+    (λ _. (s.stopped ≡ None) × (own ≡ None) × (s.next_track + tracks ≤ COUNTER_LIMIT)
+    × (s.commit_number < COUNTER_LIMIT))
     (λ why. (stop_of s.stopped) otherwise own otherwise (no_room s.next_track tracks)
     otherwise (no_room s.commit_number 1) ≡ Some why)
 
@@ -37,8 +38,8 @@ IsNoWant why = Unit {0}
 
 -- what refuses a record with a body of `len` bytes before the disk is asked
 abbrev pub Exceeds : ℕ → ℕ → Refusal → Type 0
-Exceeds end len (refusal.SpaceSpent have need) = (2 ^ 62 < end + (6 + len)) × (have ≡ end) × (need ≡ 6 + len)
-Exceeds end len (refusal.RecordLimit n) = (n ≡ len) × (LONGEST_BODY < len) × (end + (6 + len) ≤ 2 ^ 62)
+Exceeds end len (refusal.SpaceSpent have need) = (COUNTER_LIMIT < end + (6 + len)) × (have ≡ end) × (need ≡ 6 + len)
+Exceeds end len (refusal.RecordLimit n) = (n ≡ len) × (LONGEST_BODY < len) × (end + (6 + len) ≤ COUNTER_LIMIT)
 Exceeds end len why = ⊥
 
 -- the same of one with a body of `len` bytes, which written out whole has `whole`
@@ -66,7 +67,7 @@ Fields disk old whole len (Ok _) new =
       journal_end = old.journal_end + 5 + len;
       commit_number = old.commit_number + 1;
     })
-    × (old.journal_end + (6 + len) ≤ 2 ^ 62)
+    × (old.journal_end + (6 + len) ≤ COUNTER_LIMIT)
     × (disk.change_fault_count new.store ≡ disk.change_fault_count old.store) × (len ≤ LONGEST_BODY)
 Fields disk old whole len (Err (refusal.SpaceSpent have need)) new =
     (new ≡ old) × ExceedsBy old.journal_end whole len (refusal.SpaceSpent have need)
@@ -74,7 +75,7 @@ Fields disk old whole len (Err refusal.NoMemory) new = new ≡ old
 Fields disk old whole len (Err (refusal.RecordLimit n)) new =
     (new ≡ old) × ExceedsBy old.journal_end whole len (refusal.RecordLimit n)
 Fields disk old whole len (Err refusal.DiskFault) new =
-    (new ≡ stopped_by disk old new.store) × (old.journal_end + (6 + len) ≤ 2 ^ 62)
+    (new ≡ stopped_by disk old new.store) × (old.journal_end + (6 + len) ≤ COUNTER_LIMIT)
     × HasFailed disk old.store new.store × (len ≤ LONGEST_BODY)
 Fields disk old whole len (Err why) new = ⊥
 

@@ -13,6 +13,7 @@ use Rattle.disk_model.specs.declared.store.Store.{Ghosts}
 use Rattle.editor_core.specs.Core.{Core}
 use Rattle.editor_core.specs.Exports.{moved_from}
 use Rattle.editor_core.specs.Left.{CountsIds, Left, LeavesOthers, MayRemove, Stops, Untouched}
+use Rattle.editor_core.specs.Packing.{packed_by}
 use Rattle.editor_core.specs.Records.{Records}
 use Rattle.editor_core.specs.Removals.{Frees}
 use Rattle.editor_core.specs.Spent.{NamesGiven}
@@ -29,7 +30,7 @@ abbrev pub IsTold : Call → Bool → Type 0
 IsTold call tells = IsSome (name_in call) → IsTrue tells
 
 -- What holds of a call whatever disk and vault tell, and whatever becomes of a sound that it names: the studio is one
--- still, its commit number is that behind the answer, one that had stopped does nothing but give a pin back, no other
+-- still, its commit number is that after the answer, one that had stopped does nothing but give a pin back, no other
 -- file changes, no file goes but those that the call frees, and a refusal leaves what was there.
 pub record Lasts {D : Type 0} (disk : Ghosts D) (old : Core D) (exchange : Exchange) (new : Core D) : Type 0 where
   pub studio : IsStudio disk new
@@ -39,7 +40,8 @@ pub record Lasts {D : Type 0} (disk : Ghosts D) (old : Core D) (exchange : Excha
   pub records : Records old exchange.told new len
   pub given : IfOk exchange.told (λ r. NamesGiven old new)
   pub changed : Changed disk (LeavesOthers old.next_block new.next_block (MayRemove exchange.call old.counts))
-      (asks exchange (disk.reads old.store old.file) old.block_size (new.next_block - old.next_block) len)
+      (asks exchange (disk.reads old.store old.file) old.block_size (new.next_block - old.next_block) len
+      (packed_by old exchange.call))
       old.store new.store
   pub frees : Frees disk old exchange.call exchange.told exchange.removed new
   pub ids : CountsIds old exchange.removed new
@@ -79,7 +81,7 @@ pub record TookOver {D : Type 0} (disk : Ghosts D) (span : Span D) (call : Call)
       → Heard (name_in call) (sound_moved span (name_in call)) span.old_sounds span.new_sounds
   pub lasts : Lasts disk span.old (exchange_over span call told removed) span.new
 
--- an answer as what a line is told: the commit number, and the reply or why there is none
+-- an answer as what a line gets: the commit number, and the reply or why there is none
 abbrev pub reply_of : Result Reply Refusal → Reply
 reply_of (Ok r) = r
 reply_of (Err why) = reply.Refused why

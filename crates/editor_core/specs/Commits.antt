@@ -9,8 +9,8 @@ use Rattle.pcm_base.specs.State.{State}
 use Rattle.pcm_base.specs.Step.{MayAnswer, sound_after}
 use Rattle.pcm_base.specs.Studio as model
 
--- A call that is a commit, and what it does but for its edit: it gives so many track ids, and leaves the sound that it
--- names as it was. Of each call that is one these are all `refl`.
+-- A call that is a commit, and what it does but for its edit: it gives this many track ids, and leaves the sound that
+-- it names as it was. Of each call that is one these are all `refl`.
 pub record IsCommitCall (c : Call) (sound : SoundMove) (tracks : ℕ) : Type 0 where
   pub one : commits_of c ≡ 1
   pub no_pin : pins_of c ≡ 0

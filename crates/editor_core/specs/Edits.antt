@@ -53,7 +53,7 @@ pub record TaggedEdit : Type 0 where
 abbrev pub tagged : Planned → ℕ → Given → TaggedEdit
 tagged plan tag given = record { plan = plan; tag = tag; given = given }
 
--- the clipboard behind an edit: what it takes out, or what was there
+-- the clipboard after an edit: what it takes out, or what was there
 abbrev pub clip_then : {A : Type 0} → Option A → Option A → Option A
 clip_then None old = old
 clip_then (Some new) old = Some new
@@ -65,8 +65,8 @@ abbrev pub history_behind : {D : Type 0} → Core D → TaggedEdit → History (
 history_behind s e = recorded s.history e.plan.point e.tag
 
 -- What is planned for a studio: a new point for the history, with its tag, what the clipboard becomes, and the blocks
--- that are to be made for both, of blocks that the studio names, and of what the command brings. The point names each of
--- these.
+-- that are to be made for both, of blocks that the studio names, and of what the command brings. The point names each
+-- of these.
 pub record IsPlanned {D : Type 0} (s : Core D) (e : TaggedEdit) : Type 0 where
   pub new : AreNew s.block_size s.next_block e.plan.makes
   pub readable : PiecesReadable (brought_count e.given) e.plan.makes
@@ -85,7 +85,7 @@ pub record IsPlanned {D : Type 0} (s : Core D) (e : TaggedEdit) : Type 0 where
 abbrev pub outside_at : ℕ → SoundMove → Outside
 outside_at rate sound = record { rate = rate; sound = sound.before }
 
--- A call that is an edit: so many blocks it may make, by the block size and the state before it.
+-- A call that is an edit: this many blocks it may make, by the block size and the state before it.
 pub record IsEditCall (c : Call) (sound : SoundMove) (tracks : ℕ) (most : ℕ → State → ℕ) : Type 0 where
   pub commit : IsCommitCall c sound tracks
   pub needs : (rate : ℕ) (t : model.Studio) (blocks len : ℕ)
@@ -101,7 +101,7 @@ beside block given = record { block = block; given = given }
 abbrev pub alone : (ℕ → ℕ → ℤ) → Sources
 alone block = beside block (λ _. pos 0)
 
--- The call leads to the history and the clipboard behind the edit, once its blocks are made, whatever samples the
+-- The call leads to the history and the clipboard after the edit, once its blocks are made, whatever samples the
 -- blocks have.
 pub record IsEdit {D : Type 0} (disk : Ghosts D) (s : Core D) (c : Call) (sound : SoundMove) (e : TaggedEdit)
     : Type 0 where
@@ -127,7 +127,7 @@ Spends s count tracks why =
     (no_room s.next_block count) otherwise (no_room s.next_track tracks) otherwise (no_room s.commit_number 1)
     ≡ Some why
 
--- what is prepared for so many blocks and track ids and a record with a body of this length, so that nothing but the
+-- what is prepared for this many blocks and track ids and a record with a body of this length, so that nothing but the
 -- disk can refuse
 pub record IsPrepared {D : Type 0} (s : Core D) (count tracks len : ℕ) : Type 0 where
   pub blocks : s.next_block + count ≤ COUNTER_LIMIT

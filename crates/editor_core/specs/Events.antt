@@ -22,10 +22,11 @@ use Rattle.project_state.specs.Kept.{Keeps}
 use Rattle.editor_core.specs.Applied.{Applies, IsTold, Span, exchange_over, spanned}
 use Rattle.editor_core.specs.Core.{Core}
 use Rattle.editor_core.specs.Left.{LeavesForeign}
+use Rattle.editor_core.specs.Packing.{packed_by}
 use Rattle.editor_core.specs.Studios.{IsHeld, IsStudio, shown, studio_of}
 use Rattle.editor_core.specs.Took.{InFlight, asks}
 
--- each call is in form, where so many commits were made at least
+-- each call is in form, where this many commits were made at least
 abbrev pub AreInForm : ℕ → List Event → Type 0
 AreInForm commit events = AllByRecursion (λ (e : Event). IsCallInForm commit e.call) events
 
@@ -74,7 +75,8 @@ events_ask disk tells old before (e ∷ es) (a ∷ rs) new after chain =
     let over = chain.3.over in
     together
     (asks (exchange_over (spanned tells old mid before chain.1) e.call chain.3.told over.removed)
-    (disk.reads old.store old.file) old.block_size (mid.next_block - old.next_block) over.lasts.len)
+    (disk.reads old.store old.file) old.block_size (mid.next_block - old.next_block) over.lasts.len
+    (packed_by old e.call))
     (events_ask disk tells mid chain.1 es rs new after chain.4)
 
 -- a call that ended so may have reached the disk: it was carried out, or a change of the disk failed in it
@@ -98,8 +100,8 @@ pub record KeepsPrefix (t : model.Studio) (entries : List Entry) (files : Files)
   pub run : Run t front reached
   pub keeps : Keeps files (shown reached) ⊎ NextInFlight reached back files
 
--- Events carried out, one after another. Where the vault reports its bytes, or none of them names a sound, they are with
--- their replies a run, whose sounds are the vault's, from entry to entry. At any moment each image has the project
+-- Events carried out, one after another. Where the vault reports its bytes, or none of them names a sound, they are
+-- with their replies a run, whose sounds are the vault's, from entry to entry. At any moment each image has the project
 -- after some of the first entries, the one in flight counted last. At the end, where the studio is not stopped, it has
 -- that after all of them.
 pub record RanOver {D : Type 0} (disk : Ghosts D) (span : Span D) (events : List Event) (answers : List Answer)

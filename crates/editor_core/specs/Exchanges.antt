@@ -15,8 +15,8 @@ abbrev pub told_by : {A : Type 0} → (A → Reply) → Result A Refusal → Res
 told_by f (Ok x) = Ok (f x)
 told_by f (Err why) = Err why
 
--- A call, and what comes of it: what becomes of the sound that it names, what it returns, and the ids of the blocks whose
--- files are removed, one after another.
+-- A call, and what comes of it: what becomes of the sound that it names, what it returns, and the ids of the blocks
+-- whose files are removed, one after another.
 pub record Exchange : Type 0 where
   pub call : Call
   pub sound : SoundMove

@@ -1,4 +1,4 @@
--- What is told of a studio.
+-- What is reported of a studio.
 use Rattle.std.specs.Prelude.{◌≡◌, ℕ, ◌<◌, List, length}
 use Rattle.block_ledger.specs.Counts.{AreAll}
 use Rattle.editor_core.specs.Core.{Core}

@@ -1,15 +1,16 @@
--- New tracks of a sound's channels. What is brought is the samples of all channels, those of each behind those of the
+-- New tracks of a sound's channels. What is brought is the samples of all channels, those of each after those of the
 -- one before.
 use Rattle.std.specs.Prelude.{◌≡◌, ℕ, ◌+◌, ◌/◌, ◌^◌, ◌<◌, ◌≤◌, nat_lt, ℤ, false, Option, Some, None, List, [], ◌∷◌}
 use Rattle.std.specs.Prelude.{◌++◌, length, map, Result, Ok, Err}
 use Rattle.std.specs.List.{AllByRecursion}
-use Rattle.pcm_base.specs.declared.limits.TheConstants.{UNITY_GAIN}
+use Rattle.pcm_base.specs.declared.limits.TheConstants.{MAX_TRACKS, UNITY_GAIN}
 use Rattle.pcm_base.specs.declared.entry.SoundMove.{SoundMove}
 use Rattle.pcm_base.specs.declared.piece.Piece.{Piece}
 use Rattle.pcm_base.specs.declared.piece.Piece.TheVariants.{Old, Scaled, Zero, Given}
 use Rattle.pcm_base.specs.declared.refusal.Refusal.{Refusal}
 use Rattle.pcm_base.specs.declared.refusal.Refusal.TheVariants as refusal
 use Rattle.pcm_base.specs.declared.sound.Side.TheVariants.{Both}
+use Rattle.pcm_base.specs.declared.wav.WavFault.TheVariants.{Truncated}
 use Rattle.pcm_base.specs.Causes.{Rose}
 use Rattle.pcm_base.specs.Edits.{as_cells}
 use Rattle.pcm_base.specs.Pieces.{Sources, stretch}
@@ -34,7 +35,7 @@ use Rattle.editor_core.specs.Edits.{AreAmong, alone, beside}
 
 -- ---- pieces of one channel, and of all
 
--- a piece of a channel's samples, as a piece of all, where so many stand before the channel's
+-- a piece of a channel's samples, as a piece of all, where this many stand before the channel's
 abbrev pub piece_behind : ℕ → Piece → Piece
 piece_behind skip (Old b from to) = Old b from to
 piece_behind skip (Scaled b from to gain) = Scaled b from to gain
@@ -56,7 +57,7 @@ AllFitBehind skip bs = AllByRecursion (λ (b : NewBlock). AllByRecursion (FitsBe
 
 -- ---- one channel
 
--- The plan of a new track of so many of the samples that are brought, from a place among them on.
+-- The plan of a new track of this many of the samples that are brought, from a place among them on.
 pub record IsChannelPlan (from count m next : ℕ) (p : Plan) : Type 0 where
   pub plan : IsPlan (record { block_size = m; next = next }) [] (from + count) p
   pub means : (src : Sources) → AreWritten src p.makes
@@ -74,17 +75,17 @@ abbrev pub total_of : List ℕ → ℕ
 total_of [] = 0
 total_of (n ∷ ns) = n + total_of ns
 
--- lists one behind another
+-- lists one after another
 abbrev pub all_of : List (List ℤ) → List ℤ
 all_of [] = []
 all_of (xs ∷ more) = xs ++ all_of more
 
--- so many samples each, from a place on
+-- this many samples each, from a place on
 abbrev pub parts_from : (ℕ → ℤ) → ℕ → List ℕ → List (List ℤ)
 parts_from given from [] = []
 parts_from given from (n ∷ ns) = stretch given from n ∷ parts_from given (from + n) ns
 
--- Tracks for channels of so many samples each stand behind those of a studio's project, and the blocks that are to be
+-- Tracks for channels of this many samples each stand after those of a studio's project, and the blocks that are to be
 -- made for them have the ids from its next one on. The first new track has its next track id.
 pub record AreGrown {D : Type 0} (s : Core D) (counts : List ℕ) (g : Growing) : Type 0 where
   pub news : List Track
@@ -102,7 +103,7 @@ pub record AreGrown {D : Type 0} (s : Core D) (counts : List ℕ) (g : Growing) 
   pub means : (block : ℕ → ℕ → ℤ) (given : ℕ → ℤ) → AreWritten (beside block given) g.makes.items
       → meant (alone block) news ≡ channel_tracks s.next_track (parts_from given 0 counts)
 
--- a track for a channel of so many samples comes behind the others
+-- a track for a channel of this many samples comes after the others
 pub record AddsChannel (m id count : ℕ) (old new : Growing) : Type 0 where
   pub plan : Plan
   pub is : IsChannelPlan old.brought count m old.next plan
@@ -120,10 +121,10 @@ pub record IsChannelsPlan {D : Type 0} (s : Core D) (counts : List ℕ) (p : Pla
   pub next_is : p.next ≡ grown.next
   pub tracks_is : p.tracks ≡ length counts
 
--- what refuses new tracks of so many samples each in a project of so many tracks
+-- what refuses new tracks of this many samples each in a project of this many tracks
 abbrev pub channels_refusal : ℕ → List ℕ → Option Refusal
 channels_refusal tracks counts =
-    (refused_if (nat_lt 64 (tracks + length counts)) refusal.TrackLimit) otherwise (length_limit counts)
+    (refused_if (nat_lt MAX_TRACKS (tracks + length counts)) refusal.TrackLimit) otherwise (length_limit counts)
 
 -- ---- the vault
 
@@ -136,10 +137,21 @@ HasChannels (Some bytes) rate channels = wav_of bytes ≡ Ok (record { rate = ra
 abbrev pub left_as : Option (List ℕ) → SoundMove
 left_as sound = record { before = sound; after = sound }
 
+-- a sound is cut short: fewer bytes came than it should have
+abbrev pub IsCutShort : Refusal → Type 0
+IsCutShort (refusal.BadWav (Truncated want have)) = have < want
+IsCutShort why = ⊥
+
 -- a refusal that is not of the vault
 abbrev pub IsNoVault : Refusal → Type 0
 IsNoVault refusal.VaultFault = ⊥
 IsNoVault why = Unit {0}
+
+-- a refusal that is neither of the vault nor of the bytes that it gave
+abbrev pub IsInside : Refusal → Type 0
+IsInside refusal.VaultFault = ⊥
+IsInside (refusal.BadWav fault) = ⊥
+IsInside why = Unit {0}
 
 -- the vault's count of faults rises where it failed, and stays elsewhere
 abbrev pub VaultCountedBy : Refusal → ℕ → ℕ → Type 0

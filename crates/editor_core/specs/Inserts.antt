@@ -1,9 +1,10 @@
 -- Samples that a command brings, put in at a place of a track or at its end.
-use Rattle.std.specs.Prelude.{ℕ, ◌+◌, ◌<◌, ◌^◌, ℤ, List, [], ◌∷◌, ◌++◌, Option}
+use Rattle.std.specs.Prelude.{ℕ, ◌+◌, ℤ, List, [], ◌∷◌, ◌++◌, Option}
 use Rattle.pcm_base.specs.declared.refusal.Refusal.{Refusal}
 use Rattle.pcm_base.specs.declared.sound.Cell.{Cell}
 use Rattle.pcm_base.specs.Cells.{trimmed}
 use Rattle.pcm_base.specs.Edits.{as_cells, inserted}
+use Rattle.pcm_base.specs.Form.{IsNumber}
 use Rattle.pcm_base.specs.Pieces.{stretch}
 use Rattle.pcm_base.specs.Refusals.{inserted_length, length_limit}
 use Rattle.pcm_base.specs.Sizes.{blocks_of_samples}
@@ -13,10 +14,10 @@ use Rattle.editor_core.specs.TrackEdits.{TrackEdit}
 
 -- a place that a line may say
 abbrev pub IsPlace : Place → Type 0
-IsPlace (At at) = at < 2 ^ 63
+IsPlace (At at) = IsNumber at
 IsPlace End = Unit {0}
 
--- what so many samples make of the cells
+-- what this many samples make of the cells
 abbrev pub place_cells : Place → ℕ → (ℕ → ℤ) → List Cell → List Cell
 place_cells (At at) count given cells = inserted at (as_cells (stretch given 0 count)) cells
 place_cells End count given cells = trimmed (cells ++ as_cells (stretch given 0 count))

@@ -1,5 +1,5 @@
 -- What a call leaves of all that it is not about, on every store: of other files, and of the studio that refused it.
-use Rattle.std.specs.Prelude.{◌≡◌, ◌↔◌, ◌⊎◌, ℕ, ◌^◌, ◌≤◌, ◌<◌, IsTrue, IsSome, Some, None, Result, Err, IfErr, false}
+use Rattle.std.specs.Prelude.{◌≡◌, ◌↔◌, ◌⊎◌, ℕ, ◌≤◌, ◌<◌, IsTrue, IsSome, Some, None, Result, Err, IfErr, false}
 use Rattle.std.specs.Prelude.{List, Contains}
 use Rattle.pcm_base.specs.declared.limits.TheConstants.{COUNTER_LIMIT, FIRST_BLOCK}
 use Rattle.pcm_base.specs.declared.command.Call.{Call}
@@ -43,15 +43,15 @@ pub record LeavesForeign (old new : Files) : Type 0 where
 
 -- ---- the studio
 
--- It stops where a change of the disk failed, which is told, and nowhere else.
+-- It stops where a change of the disk failed, which is reported, and nowhere else.
 abbrev pub Stops : {D R : Type 0} → Ghosts D → Core D → Result R Refusal → Core D → Type 0
 Stops disk old told new =
     ((new.stopped ≡ old.stopped) × (disk.change_fault_count new.store ≡ disk.change_fault_count old.store))
     ⊎ ((new.stopped ≡ (stopped_by disk old new.store).stopped) × HasFailed disk old.store new.store
     × (told ≡ Err refusal.DiskFault))
 
--- What is told of the disk is so: a read or a change of it failed; or the file of a block that the studio names is not
--- as it has to be, at this place.
+-- What is reported of the disk is so: a read or a change of it failed; or the file of a block that the studio names is
+-- not as it has to be, at this place.
 abbrev pub IsSoOf : {D : Type 0} → Ghosts D → Core D → Core D → Refusal → Type 0
 IsSoOf disk old new refusal.DiskFault = HasMissed disk old.store new.store ⊎ HasFailed disk old.store new.store
 IsSoOf disk old new (refusal.Damaged file at want have) = IsTrue (disk.tells old.store)

@@ -20,8 +20,10 @@ pub mod Passes
 pub mod Records
 pub mod Spent
 pub mod Bounded
+pub mod Packing
 pub mod Took
 pub mod Frees
+pub mod Compacts
 pub mod Pins
 pub mod Copies
 pub mod Reads

@@ -35,7 +35,7 @@ pub record Batch : Type 0 where
 abbrev pub batch_of : Given → List NewBlock → Batch
 batch_of given blocks = record { given = given; blocks = blocks }
 
--- The ids from one on, so many.
+-- The ids from one on, this many.
 pub record IdRange : Type 0 where
   pub first : ℕ
   pub count : ℕ

@@ -24,12 +24,12 @@ use Rattle.editor_core.specs.Adding.{HasFailed, stopped_by}
 use Rattle.editor_core.specs.Core.{Core}
 use Rattle.editor_core.specs.Made.{AreAbsent, AreMade, Batch, IdRange, PiecesThere, SameInside, SameOutside, ids_from}
 
--- no occurrence comes or goes, and the ids from one number on, so many, are there too
+-- no occurrence comes or goes, and the ids from one number on, this many, are there too
 pub record AddsFree (next n : ℕ) (old new : Counts) : Type 0 where
   pub counts : (id : ℕ) → occurrences (new id) ≡ occurrences (old id)
   pub ids : (id : ℕ) → IsSome (new id) ↔ (IsSome (old id) ⊎ ((next ≤ id) × (id < next + n)))
 
--- what so many blocks ask of a disk whose files have at most so many bytes
+-- what this many blocks ask of a disk whose files have at most this many bytes
 abbrev pub made_room : (bytes n : ℕ) → Room
 made_room bytes n = record { files = n; bytes = n * bytes; calls = 2 * n }
 
@@ -54,7 +54,7 @@ pub record HasMissed {D : Type 0} (disk : Ghosts D) (old new : D) : Type 0 where
   pub rose : Rose (disk.read_fault_count old) (disk.read_fault_count new)
   pub later : disk.read_fault_count old ≤ disk.read_fault_count new
 
--- damage that is told is that of a block that one of these pieces names
+-- damage that is reported is that of a block that one of these pieces names
 abbrev pub IsDamageAmong : Files → List Piece → Refusal → Type 0
 IsDamageAmong files ps (refusal.Damaged file at want have) =
     IsFaultAmong files ps (fault.Damaged file (record { at = at; want = want; have = have }))

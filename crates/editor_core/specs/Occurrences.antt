@@ -12,7 +12,7 @@ times_named id bs = times id (ids_of bs)
 abbrev pub HasAll : Counts → List BlockRef → Type 0
 HasAll counts bs = (id : ℕ) → times_named id bs ≤ occurrences (counts id)
 
--- so many occurrences went
+-- this many occurrences went
 pub record Dropped (old new : Counts) (bs : List BlockRef) : Type 0 where
   pub counts : (id : ℕ) → occurrences (new id) + times_named id bs ≡ occurrences (old id)
   pub ids : (id : ℕ) → IsSome (new id) ↔ IsSome (old id)
@@ -21,7 +21,7 @@ pub record Dropped (old new : Counts) (bs : List BlockRef) : Type 0 where
 abbrev pub HasIds : Counts → List BlockRef → Type 0
 HasIds counts bs = (id : ℕ) → 0 < times_named id bs → IsSome (counts id)
 
--- so many came, of ids that are there
+-- this many came, of ids that are there
 pub record Held (old new : Counts) (bs : List BlockRef) : Type 0 where
   pub counts : (id : ℕ) → occurrences (new id) ≡ occurrences (old id) + times_named id bs
   pub ids : (id : ℕ) → IsSome (new id) ↔ IsSome (old id)

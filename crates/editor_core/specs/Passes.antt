@@ -23,7 +23,7 @@ AreNext counts from (id ∷ ids) end = IsNextFree counts from id × AreNext coun
 abbrev pub NoneFrom : Counts → ℕ → Type 0
 NoneFrom counts from = (id : ℕ) → from ≤ id → counts id ≡ Some 0 → ⊥
 
--- these are the first ids of count 0, so many or all
+-- these are the first ids of count 0, this many or all
 pub record AreFirst (counts : Counts) (most : ℕ) (ids : List ℕ) : Type 0 where
   pub end : ℕ
   pub next : AreNext counts 0 ids end
@@ -36,12 +36,12 @@ pub record AreFirst (counts : Counts) (most : ℕ) (ids : List ℕ) : Type 0 whe
 abbrev pub FreesFiles : Counts → Files → Files → Type 0
 FreesFiles counts old new = (file : ℕ) → (new file ≡ old file) ⊎ ((counts file ≡ Some 0) × (new file ≡ None))
 
--- so many changing calls, which write nothing
+-- this many changing calls, which write nothing
 abbrev pub only_calls : ℕ → Room
 only_calls n = record { files = 0; bytes = 0; calls = n }
 
--- The first files of ids of count 0 removed, so many at most, by so many calls each. After a fault those up to `end` are,
--- and of the next one it is not known.
+-- The first files of ids of count 0 removed, this many at most, by this many calls each. After a fault those up to
+-- `end` are, and of the next one it is not known.
 pub record RemovesFirst {D T E : Type 0} (disk : Ghosts D) (old : Core D) (cost most count : ℕ) (result : Result T E)
     (new : Core D) : Type 0 where
   pub ids : List ℕ
@@ -67,7 +67,7 @@ pub record AreSettled {D : Type 0} (disk : Ghosts D) (s : Core D) (count : ℕ) 
   pub first : AreFirst s.counts count ids
   pub settled : EachNow disk store (λ c. (id : ℕ) → Contains ids id → c id ≡ disk.reads store id)
 
--- the first files of ids of count 0 synced, so many at most
+-- the first files of ids of count 0 synced, this many at most
 pub record SyncsFirst {D T E : Type 0} (disk : Ghosts D) (old : Core D) (count : ℕ) (result : Result T E)
     (new : Core D) : Type 0 where
   pub fields : new ≡ record old { store = new.store }
@@ -77,7 +77,7 @@ pub record SyncsFirst {D T E : Type 0} (disk : Ghosts D) (old : Core D) (count :
   pub faults : HasCause (disk.change_fault_count old.store) (disk.change_fault_count new.store) result
   pub read_faults : disk.read_fault_count new.store ≡ disk.read_fault_count old.store
 
--- The first files of ids of count 0 removed, so many at most, and after Ok no stop brings them back.
+-- The first files of ids of count 0 removed, this many at most, and after Ok no stop brings them back.
 pub record DropsFirst {D T E : Type 0} (disk : Ghosts D) (old : Core D) (most count : ℕ) (result : Result T E)
     (new : Core D) : Type 0 where
   pub removes : RemovesFirst disk old 2 most count result new
@@ -85,7 +85,7 @@ pub record DropsFirst {D T E : Type 0} (disk : Ghosts D) (old : Core D) (most co
 
 -- ---- the counts
 
--- the first ids of count 0 taken out of the counts, so many at most
+-- the first ids of count 0 taken out of the counts, this many at most
 pub record ForgetsFirst {D : Type 0} (old : Core D) (count : ℕ) (new : Core D) : Type 0 where
   pub ids : List ℕ
   pub first : AreFirst old.counts count ids

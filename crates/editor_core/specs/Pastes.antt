@@ -5,7 +5,6 @@ use Rattle.pcm_base.specs.declared.refusal.Refusal.{Refusal}
 use Rattle.pcm_base.specs.declared.refusal.Refusal.TheVariants as refusal
 use Rattle.pcm_base.specs.Edits.{placed}
 use Rattle.pcm_base.specs.Refusals.{◌otherwise◌, placed_length}
-pub use Rattle.pcm_base.specs.Shape.{paste_line}
 use Rattle.clip_track.specs.declared.items.Item.{Item}
 use Rattle.clip_track.specs.Items.{AreItems}
 use Rattle.edit_ops.specs.declared.types.Plan.{Plan}

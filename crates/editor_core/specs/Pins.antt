@@ -33,7 +33,7 @@ MayFind pins number None = LacksPin number pins
 
 -- ---- what changes, whatever the disk tells
 
--- the current project behind the pins by the next number, or nothing
+-- the current project after the pins by the next number, or nothing
 abbrev pub AnswersPin : {D : Type 0} → Core D → Result ℕ Refusal → Core D → Type 0
 AnswersPin old result new = MatchResult result
     (λ n. (n ≡ old.next_pin) × (new ≡ record old {

@@ -3,7 +3,6 @@ use Rattle.std.specs.Prelude.{ℕ}
 use Rattle.pcm_base.specs.Counters.{blocks_of_edit}
 use Rattle.pcm_base.specs.Edits.{range_edited, range_of}
 use Rattle.pcm_base.specs.Refusals.{bad_range}
-pub use Rattle.pcm_base.specs.Shape.{range_line}
 use Rattle.pcm_base.specs.declared.edits.RangeEdit.{RangeEdit}
 use Rattle.editor_core.specs.TrackEdits.{TrackEdit}
 

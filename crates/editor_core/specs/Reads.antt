@@ -23,7 +23,7 @@ pub record Looks {D : Type 0} (disk : Ghosts D) (old : Core D) (call : Call) (to
   pub kept : Kept disk old.store new.store
   pub sound : IsHeld disk old → IfErr told IsUndamaged
 
--- a call that replies by what it put at the front of a buffer: the reply, the buffer behind the call, and how much of
+-- a call that replies by what it put at the front of a buffer: the reply, the buffer after the call, and how much of
 -- it is put there
 pub record Seen (A : Type 0) : Type 0 where
   pub call : Call

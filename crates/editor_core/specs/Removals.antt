@@ -1,5 +1,5 @@
 -- Which files a call removes: a reclaim those of blocks that nothing names, the least ids first, and another call none.
-use Rattle.std.specs.Prelude.{◌≡◌, ◌⊎◌, ◌↔◌, ℕ, ◌≤◌, ◌<◌, ◌^◌, IsTrue, IsSome, Option, Some, None, List, [], length}
+use Rattle.std.specs.Prelude.{◌≡◌, ◌⊎◌, ◌↔◌, ℕ, ◌≤◌, ◌<◌, IsTrue, IsSome, Option, Some, None, List, [], length}
 use Rattle.std.specs.Prelude.{Contains, Result, OnOk, OnErr, IfOk, IfErr, IfSome}
 use Rattle.std.specs.List.Sorted.{IsStrictlyIncreasing}
 use Rattle.pcm_base.specs.declared.limits.TheConstants.{COUNTER_LIMIT, FIRST_BLOCK}
@@ -77,9 +77,9 @@ HasOnlyNamed disk s =
 
 -- ---- by the call
 
--- What a reclaim does: nothing names the files that it removes, and they have the least ids of these. It answers how many
--- there are, which is the limit or all. Which files went holds of any store that reports its bytes. That these were
--- there, and that no other was left, holds of a store that holds what the studio stands for.
+-- What a reclaim does: nothing names the files that it removes, and they have the least ids of these. It answers how
+-- many there are, which is the limit or all. Which files went holds of any store that reports its bytes. That these
+-- were there, and that no other was left, holds of a store that holds what the studio stands for.
 pub record FreesUnnamed {D : Type 0} (disk : Ghosts D) (old : Core D) (limit : Option ℕ) (told : Result Reply Refusal)
     (ids : List ℕ) (new : Core D) : Type 0 where
   pub count : IfOk told (λ r. r ≡ Freed (length ids))

@@ -4,7 +4,7 @@ use Rattle.pcm_base.specs.declared.command.Call.{Call}
 use Rattle.pcm_base.specs.declared.entry.SoundMove.{SoundMove}
 use Rattle.pcm_base.specs.declared.refusal.Refusal.{Refusal}
 use Rattle.pcm_base.specs.declared.refusal.Refusal.TheVariants as refusal
-use Rattle.pcm_base.specs.Counters.{commits_of, no_room, pins_of, tracks_of}
+use Rattle.pcm_base.specs.Counters.{commits_of, generations_of, no_room, pins_of, tracks_of}
 use Rattle.pcm_base.specs.History.{History}
 use Rattle.pcm_base.specs.Run.{outside}
 use Rattle.pcm_base.specs.declared.limits.TheConstants.{LONGEST_BODY}
@@ -30,7 +30,7 @@ NamesGiven old new = (id : ℕ) → old.next_block ≤ id → id < new.next_bloc
 
 -- ---- of one that a counter refuses, or the length of its record
 
--- An edit that makes so many blocks, by a plan of what the call leads to, and the body of its record.
+-- An edit that makes this many blocks, by a plan of what the call leads to, and the body of its record.
 pub record Plans {D : Type 0} (disk : Ghosts D) (s : Core D) (call : Call) (sound : SoundMove) (blocks : ℕ) (body : Body)
     : Type 0 where
   pub edit : TaggedEdit
@@ -58,23 +58,24 @@ pub record Leads {D : Type 0} (disk : Ghosts D) (s : Core D) (call : Call) (soun
   pub means : IsHeld disk s → (after (outside (studio_of disk s) sound) (studio_of disk s).state call).history
       ≡ meant_history (sources_of (disk.reads s.store)) history
 
--- What a commit would have made: so many blocks, and a record with this body.
+-- What a commit would have made: this many blocks, and a record with this body.
 pub record WouldMake {D : Type 0} (disk : Ghosts D) (s : Core D) (call : Call) (sound : SoundMove) : Type 0 where
   pub commit : commits_of call ≡ 1
   pub blocks : ℕ
   pub body : Body
   pub so : Plans disk s call sound blocks body ⊎ ((blocks ≡ 0) × Leads disk s call sound body)
 
--- a counter at this number has no room for so many more
+-- a counter at this number has no room for this many more
 abbrev pub IsSpent : ℕ → ℕ → Refusal → Type 0
 IsSpent have need why = no_room have need ≡ Some why
 
--- the track ids, the commit numbers or the pin numbers
+-- the track ids, the commit numbers, the pin numbers or the generations of the journal
 abbrev pub IsNumberSpent : {D : Type 0} → Ghosts D → Core D → Call → SoundMove → Refusal → Type 0
 IsNumberSpent disk s call sound why = IsSpent s.next_track (tracks_of (outside (studio_of disk s) sound) call) why
-    ⊎ (IsSpent s.commit_number (commits_of call) why ⊎ IsSpent s.next_pin (pins_of call) why)
+    ⊎ (IsSpent s.commit_number (commits_of call) why ⊎ (IsSpent s.next_pin (pins_of call) why
+    ⊎ IsSpent s.generation (generations_of call) why))
 
--- The numbers that are told where a counter has no room, or the record is too long: those of the blocks and of the
+-- The numbers that are reported where a counter has no room, or the record is too long: those of the blocks and of the
 -- record that the commit would have made.
 abbrev pub Needed : {D : Type 0} → Ghosts D → Core D → Call → SoundMove → Refusal → Type 0
 Needed disk s call sound (refusal.SpaceSpent have need) =

@@ -4,6 +4,7 @@ use Rattle.std.specs.Prelude.{Option, Some, None, IsSome}
 use Rattle.std.specs.Prelude.{List, [], ◌∷◌, ◌++◌, length, map}
 use Rattle.std.specs.Option.{option_map}
 use Rattle.std.specs.List.{flat_map, AllByRecursion}
+use Rattle.pcm_base.specs.declared.limits.TheConstants.{COUNTER_LIMIT, FIRST_BLOCK, LEAST_END, MAX_CELLS, MAX_TRACKS}
 use Rattle.pcm_base.specs.declared.block.BlockRef.{BlockRef}
 use Rattle.pcm_base.specs.declared.sound.Cell.{Cell}
 use Rattle.pcm_base.specs.Cells.{Project}
@@ -53,6 +54,9 @@ module _ {D : Type 0} where
     rate = s.rate;
     block_size = s.block_size;
     next_block = s.next_block;
+    file = s.file;
+    version = s.version;
+    generation = s.generation;
     journal_end = s.journal_end;
     read_faults = disk.read_fault_count s.store;
     change_faults = disk.change_fault_count s.store;
@@ -96,21 +100,22 @@ SameBlocks bs files other = AllByRecursion (λ (b : BlockRef). other b.id ≡ fi
 
 -- an id of a block that was given
 abbrev pub IsGiven : ℕ → ℕ → Type 0
-IsGiven next id = (16 ≤ id) × (id < next)
+IsGiven next id = (FIRST_BLOCK ≤ id) × (id < next)
 
 -- the same as a test
 abbrev pub is_given : ℕ → ℕ → Bool
-is_given next id = nat_le 16 id && nat_lt id next
+is_given next id = nat_le FIRST_BLOCK id && nat_lt id next
 
 -- the numbers of pins rise, and are below the next one
 abbrev pub PinsRise : ℕ → ℕ → List Pin → Type 0
 PinsRise least next [] = Unit {0}
 PinsRise least next (p ∷ ps) = (least ≤ p.number) × (p.number < next) × PinsRise (p.number + 1) next ps
 
--- what was copied can be put in again at this block size: at most 64 strips, each of at most 2^32 cells
+-- what was copied can be put in again at this block size: no more strips than a project may have tracks, and none is
+-- longer than a track may be
 pub record IsClipboard (m : ℕ) (strips : List (List Item)) : Type 0 where
-  pub few : length strips ≤ 64
-  pub short : AllByRecursion (λ strip. strip_len strip ≤ 2 ^ 32) strips
+  pub few : length strips ≤ MAX_TRACKS
+  pub short : AllByRecursion (λ strip. strip_len strip ≤ MAX_CELLS) strips
   pub fits : AreClips m strips
 
 abbrev pub MayPaste : ℕ → Option (List (List Item)) → Type 0
@@ -119,22 +124,22 @@ MayPaste m (Some strips) = IsClipboard m strips
 
 -- the counters are within their bounds
 pub record AreCounters (next_block next_track next_pin commit end : ℕ) : Type 0 where
-  pub block_least : 16 ≤ next_block
-  pub block_most : next_block ≤ 2 ^ 62
+  pub block_least : FIRST_BLOCK ≤ next_block
+  pub block_most : next_block ≤ COUNTER_LIMIT
   pub track_least : 1 ≤ next_track
-  pub track_most : next_track ≤ 2 ^ 62
+  pub track_most : next_track ≤ COUNTER_LIMIT
   pub pin_least : 1 ≤ next_pin
-  pub pin_most : next_pin ≤ 2 ^ 62
-  pub commit_most : commit ≤ 2 ^ 62
-  pub end_least : 32 ≤ end
-  pub end_most : end ≤ 2 ^ 62
+  pub pin_most : next_pin ≤ COUNTER_LIMIT
+  pub commit_most : commit ≤ COUNTER_LIMIT
+  pub end_least : LEAST_END ≤ end
+  pub end_most : end ≤ COUNTER_LIMIT
 
 -- The journal stands in file 0 or 1, and its version and its generation are within their bounds.
 pub record AreJournalNumbers (file version generation : ℕ) : Type 0 where
   pub among : file ≤ 1
   pub version_least : 1 ≤ version
   pub version_most : version ≤ 2
-  pub generation_most : generation ≤ 2 ^ 62
+  pub generation_most : generation ≤ COUNTER_LIMIT
   pub first_version : version ≡ 1 → generation ≡ 0
 
 -- The disk's journal is of the studio's form and generation. From the project with which it begins its records lead to
@@ -155,7 +160,7 @@ pub record IsDurable {D : Type 0} (disk : Ghosts D) (s : Core D) : Type 0 where
   pub next_track : kept.next_track ≡ s.next_track
   pub commit : kept.commit ≡ s.commit_number
   pub blocks : EachNow disk s.store (SameBlocks (named_blocks s) (disk.reads s.store))
-  pub files : (id : ℕ) → 16 ≤ id → id < 2 ^ 62 → IsSome (s.counts id) ↔ IsSome (disk.reads s.store id)
+  pub files : (id : ℕ) → FIRST_BLOCK ≤ id → id < COUNTER_LIMIT → IsSome (s.counts id) ↔ IsSome (disk.reads s.store id)
 
 -- What holds of a studio whenever no call of it is under way, on every store, whatever it tells.
 pub record IsStudio {D : Type 0} (disk : Ghosts D) (s : Core D) : Type 0 where

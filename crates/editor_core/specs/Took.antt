@@ -19,6 +19,7 @@ use Rattle.editor_core.specs.Core.{Core}
 pub use Rattle.editor_core.specs.Exchanges.{Exchange, exchange_of, freeing, quietly, silent, told_by, with_sound}
 use Rattle.editor_core.specs.Exchanges.{begun_in_vain}
 use Rattle.editor_core.specs.Left.{CountsIds, LeavesOthers, Left, MayRemove, Stops, Untouched}
+use Rattle.editor_core.specs.Packing.{packed_by, packs}
 use Rattle.editor_core.specs.Records.{Records}
 use Rattle.editor_core.specs.Removals.{Frees}
 use Rattle.editor_core.specs.Spent.{NamesGiven, Needed}
@@ -34,17 +35,18 @@ pub record InFlight (t : model.Studio) (call : Call) (sound : SoundMove) (files 
 abbrev pub KeepsOneOf : model.Studio → Call → SoundMove → Files → Type 0
 KeepsOneOf t call sound files = Keeps files (shown t) ⊎ InFlight t call sound files
 
--- the commit number behind an answer
+-- the commit number after an answer
 abbrev pub number_behind : {R : Type 0} → Result R Refusal → Call → ℕ → ℕ
 number_behind (Ok r) call n = n + commits_of call
 number_behind (Err why) call n = n
 
 -- What a call asks of the disk that makes this many blocks, and a record with a body of this length where it is a
--- commit: the file of the journal is made where it is absent, and the next block may be begun in vain.
-abbrev pub asks : Exchange → Option (List ℕ) → (m blocks len : ℕ) → Room
-asks exchange journal m blocks len = record {
-  files = files_made journal + (blocks + begun_in_vain exchange.told);
-  bytes = places_of exchange.call len + (blocks + begun_in_vain exchange.told) * size_of m;
+-- commit: the file of the journal is made where it is absent, and the next block may be begun in vain. A `compact`
+-- makes a file, and writes so many bytes of it.
+abbrev pub asks : Exchange → Option (List ℕ) → (m blocks len packed : ℕ) → Room
+asks exchange journal m blocks len packed = record {
+  files = files_made journal + packs exchange.call + (blocks + begun_in_vain exchange.told);
+  bytes = places_of exchange.call len + packed + (blocks + begun_in_vain exchange.told) * size_of m;
   calls = 16 + 2 * blocks + 2 * length exchange.removed;
 }
 
@@ -79,7 +81,8 @@ pub record Took {D : Type 0} (disk : Ghosts D) (old : Core D) (exchange : Exchan
   pub needed : IfErr exchange.told (Needed disk old exchange.call exchange.sound)
   -- no file goes or comes but the journal and those of blocks, here and in each image
   pub changed : Changed disk (LeavesOthers old.next_block new.next_block (MayRemove exchange.call old.counts))
-      (asks exchange (disk.reads old.store old.file) old.block_size (new.next_block - old.next_block) len)
+      (asks exchange (disk.reads old.store old.file) old.block_size (new.next_block - old.next_block) len
+      (packed_by old exchange.call))
       old.store new.store
   -- which files of blocks are removed, and which ids are counted then
   pub frees : Frees disk old exchange.call exchange.told exchange.removed new

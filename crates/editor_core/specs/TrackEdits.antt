@@ -47,7 +47,7 @@ pub record TrackEdit : Type 0 where
 abbrev pub plan_start : {D : Type 0} → Core D → Start
 plan_start s = record { block_size = s.block_size; next = s.next_block }
 
--- of a studio's project the tracks with the one of an id edited, which takes up so many samples, and the blocks that
+-- of a studio's project the tracks with the one of an id edited, which takes up this many samples, and the blocks that
 -- are to be made for it
 pub record IsTrackPlan {D : Type 0} (e : TrackEdit) (count id : ℕ) (s : Core D) (p : Planned) : Type 0 where
   pub track : Track

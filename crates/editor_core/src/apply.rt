@@ -49,6 +49,16 @@ fn freed(answer: Result<u64, Refusal>) -> Result<Reply, Refusal>
     }
 }
 
+// The reply to a compact.
+fn packed(answer: Result<u64, Refusal>) -> Result<Reply, Refusal>
+    ensures { result ≡ told_by reply.Packed answer }
+{
+    match answer {
+        Ok(bytes) => Ok(Reply::Packed { bytes }),
+        Err(reason) => Err(reason),
+    }
+}
+
 // The reply to an export.
 fn wrote(answer: Result<u64, Refusal>) -> Result<Reply, Refusal>
     ensures { result ≡ told_by reply.Wrote answer }
@@ -61,8 +71,8 @@ fn wrote(answer: Result<u64, Refusal>) -> Result<Reply, Refusal>
 
 impl<S: Store> Studio<S> {
     /// Carries a line out by the call that is its own, and fills the answer: the commit number after it, and its reply,
-    /// or the reason that refuses it, which is told besides. A sound that the line names is looked for in the vault.
-    /// Where it names none, the vault is as it was.
+    /// or the reason that refuses it, which is reported besides. A sound that the line names is looked for in the
+    /// vault. Where it names none, the vault is as it was.
     ///
     /// It takes the memory that the line's own call takes; `show` and `mix` take 4,096 cells or frames at most for
     /// their answer. Nothing else is copied, and the answer of before is let go.
@@ -172,6 +182,7 @@ impl<S: Store> Studio<S> {
             } => self.envelope_reply(alloc, *track, *from, *to, *columns),
             Command::Tracks => self.tracks_reply(alloc),
             Command::Reclaim { limit } => freed(self.reclaim(*limit)),
+            Command::Compact => packed(self.compact(alloc)),
             Command::Import { .. } | Command::Export { .. } => unreachable!(),
         }
     }

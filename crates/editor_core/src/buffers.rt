@@ -46,7 +46,7 @@ impl Model for BlockBuffers {
 }
 
 impl BlockBuffers {
-    // Room for blocks of so many samples, at most 262,144.
+    // Room for blocks of this many samples, at most 262,144.
     pub(crate) fn new(alloc: Global, block_size: u32) -> Result<BlockBuffers, NoMemory>
         requires { block_size ≤ MAX_BLOCK_SAMPLES }
         ensures { IfOk result (λ b. b ≡ block_size) }

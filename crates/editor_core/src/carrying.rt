@@ -1,7 +1,6 @@
 // An edit that makes blocks, from its plan to its commit.
 ghost use Rattle.std.specs.Prelude.{◌≡◌, ℕ, ◌+◌, ◌≤◌, ◌<◌, ◌^◌, length, vec_capacity, IfErr, IfOk, MatchResult, None};
 ghost use Rattle.std.specs.Prelude.{OnOk, Some};
-ghost use Rattle.pcm_base.specs.declared.limits.TheConstants.{COUNTER_LIMIT};
 ghost use Rattle.pcm_base.specs.declared.answer.Reply.TheVariants as reply;
 ghost use Rattle.pcm_base.specs.declared.command.Call.{Call};
 ghost use Rattle.pcm_base.specs.declared.entry.SoundMove.{SoundMove};
@@ -16,17 +15,16 @@ ghost use Rattle.editor_core.specs.Bodies.{body_bytes, whole_len};
 ghost use Rattle.editor_core.specs.Core.{core_of};
 ghost use Rattle.editor_core.specs.Edits.{Spends, IsPlanned, IsEdit, IsPrepared, NotPrepared, Carried, clip_then};
 ghost use Rattle.editor_core.specs.Edits.{tagged};
-ghost use Rattle.editor_core.specs.Imports.{IsNoVault};
+ghost use Rattle.editor_core.specs.Imports.{IsInside};
 ghost use Rattle.editor_core.specs.Made.{PiecesReadable};
 ghost use Rattle.editor_core.specs.Occurrences.{HasAll, HasIds, Moves};
 ghost use Rattle.editor_core.specs.Studios.{IsHeld, IsStudio, MayPaste, clip_blocks};
 ghost use Rattle.editor_core.specs.Took.{Took, told_by, with_sound};
 
-use super::commits::MOST;
 use super::studio::Studio;
 use disk_model::Store;
 use edit_ops::{NewBlock, NewBlocks, Strips};
-use pcm_base::{NoMemory, Refusal};
+use pcm_base::{COUNTER_LIMIT, NoMemory, Refusal};
 use piece_store::Given;
 use project_state::{Body, Point};
 
@@ -40,19 +38,19 @@ pub(crate) struct Planned {
     pub(crate) clip: Option<Strips>,
 }
 
-// Whether a counter has room for so many more.
+// Whether a counter has room for this many more.
 fn has_room(have: u64, need: u64) -> Result<(), Refusal>
     requires { have ≤ COUNTER_LIMIT }
     ensures { MatchResult result (λ _. have + need ≤ COUNTER_LIMIT) (λ e. no_room have need ≡ Some e) }
 {
-    if need > MOST - have {
+    if need > COUNTER_LIMIT - have {
         return Err(Refusal::SpaceSpent { have, need });
     }
     Ok(())
 }
 
 impl<S: Store> Studio<S> {
-    // Whether the counters have room for so many blocks and track ids, and for a commit.
+    // Whether the counters have room for this many blocks and track ids, and for a commit.
     fn may_make(&self, blocks: u64, tracks: u64) -> Result<(), Refusal>
         requires next { self.now.next_block ≤ COUNTER_LIMIT }
         requires ids { self.now.next_track ≤ COUNTER_LIMIT }
@@ -82,7 +80,7 @@ impl<S: Store> Studio<S> {
         Ok(())
     }
 
-    // Makes room for so many blocks in the ledger, and for a point in the history.
+    // Makes room for this many blocks in the ledger, and for a point in the history.
     fn ready_counts(&mut self, count: u64) -> Result<(), NoMemory>
         ensures same { core_of self.new ≡ core_of self.old }
         ensures spare { OnOk result (count ≤ self.new.ledger.spare) }
@@ -179,13 +177,13 @@ impl<S: Store> Studio<S> {
             → IsEdit S.Store (core_of self.old) c sound (tagged edit tag given.now)
             → Took S.Store (core_of self.old) (with_sound c sound (told_by (λ _. reply.Done) result))
             (core_of self.new) }
-        // Whatever the call means, and whatever is told.
+        // Whatever the call means, and whatever is reported.
         ensures lasts { (c : Call) → (sound : SoundMove) → commits_of c ≡ 1
             → Lasts S.Store (core_of self.old) (with_sound c sound (told_by (λ _. reply.Done) result))
             (core_of self.new) }
         ensures number { IfOk result (λ n. n ≡ self.new.commit_number) }
         ensures sound { IsHeld S.Store (core_of self.old) → IfErr result IsUndamaged }
-        ensures device { IfErr result IsNoVault }
+        ensures device { IfErr result IsInside }
     {
         let Planned {
             point,

@@ -1,5 +1,6 @@
 // Which blocks the clipboard names, counted.
 ghost use Rattle.std.specs.Prelude.{◌≡◌, ◌+◌, ◌≤◌, ◌<◌, ◌^◌, ℕ, length, Some};
+ghost use Rattle.pcm_base.specs.declared.limits.TheConstants.{MAX_TRACKS};
 ghost use Rattle.block_ledger.specs.Counts.{occurrences};
 ghost use Rattle.block_ledger.specs.Entries.{count_of};
 ghost use Rattle.clip_track.specs.Items.{item_blocks, strip_blocks};
@@ -51,7 +52,7 @@ fn hold_items(ledger: &mut Ledger, items: &[Item])
 fn hold_strips(ledger: &mut Ledger, strips: &[Strip])
     requires there { HasIds (count_of ledger.old) (strips_blocks strips.now) }
     requires room { (id : ℕ) → occurrences (count_of ledger.old id) < 2 ^ 102 }
-    requires few { length strips.now ≤ 64 }
+    requires few { length strips.now ≤ MAX_TRACKS }
     ensures held { Held (count_of ledger.old) (count_of ledger.new) (strips_blocks strips.now) }
     ensures most { length (strips_blocks strips.now) ≤ 2 ^ 71 }
 {
@@ -101,7 +102,7 @@ fn drop_clip(ledger: &mut Ledger, clip: &Option<Strips>)
 fn count_clip(ledger: &mut Ledger, old: &Option<Strips>, new: &Strips)
     requires there { HasIds (count_of ledger.old) (strips_blocks new.now) }
     requires room { (id : ℕ) → occurrences (count_of ledger.old id) < 2 ^ 102 }
-    requires few { length new.now ≤ 64 }
+    requires few { length new.now ≤ MAX_TRACKS }
     requires named { HasAll (count_of ledger.old) (clip_blocks old.now) }
     ensures moves { Moves (count_of ledger.old) (count_of ledger.new) (clip_blocks old.now) (strips_blocks new.now) }
     ensures most { length (strips_blocks new.now) ≤ 2 ^ 71 }
@@ -115,7 +116,7 @@ impl<S: Store> Studio<S> {
     pub(crate) fn take_clip(&mut self, strips: Strips)
         requires there { HasIds (count_of self.old.ledger) (strips_blocks strips) }
         requires room { (id : ℕ) → occurrences (count_of self.old.ledger id) < 2 ^ 102 }
-        requires few { length strips ≤ 64 }
+        requires few { length strips ≤ MAX_TRACKS }
         requires named { HasAll (count_of self.old.ledger) (clip_blocks self.old.clipboard) }
         ensures fields { core_of self.new ≡ record (core_of self.old) {
           clipboard = Some strips;

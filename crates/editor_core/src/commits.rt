@@ -1,26 +1,19 @@
 // A commit: whether it may be made, and its record.
 ghost use Rattle.std.specs.Prelude.{◌≡◌, ℕ, ◌+◌, ◌≤◌, ◌<◌, ◌^◌, length, vec_capacity, IfErr, OnOk};
-ghost use Rattle.pcm_base.specs.declared.limits.TheConstants.{LONGEST_BODY};
 ghost use Rattle.envelope_view.specs.Answers.{IsUndamaged};
 ghost use Rattle.editor_core.specs.Adding.{Adds, Exceeds, IsNoWant, Settles, Tested};
 ghost use Rattle.editor_core.specs.Core.{core_of};
 
 use super::studio::Studio;
 use disk_model::Store;
-use pcm_base::Refusal;
+use pcm_base::{COUNTER_LIMIT, LONGEST_BODY, Refusal};
 use project_journal::{JournalFault, append, append_small};
 
-// No counter passes this.
-pub(crate) const MOST: u64 = 1 << 62;
-
-// The longest body of a record.
-const LONGEST: u64 = 4_294_901_760;
-
 impl<S: Store> Studio<S> {
-    // Whether a commit may be made that its own tests answer so, and that needs so many track ids.
+    // Whether a commit may be made that its own tests answer so, and that needs this many track ids.
     pub(crate) fn may_commit(&self, own: Option<Refusal>, tracks: u64) -> Result<(), Refusal>
-        requires number { self.now.commit_number ≤ 2 ^ 62 }
-        requires ids { self.now.next_track ≤ 2 ^ 62 }
+        requires number { self.now.commit_number ≤ COUNTER_LIMIT }
+        requires ids { self.now.next_track ≤ COUNTER_LIMIT }
         ensures { Tested (core_of self.now) own tracks result }
     {
         if let Some(faults) = self.stopped {
@@ -29,33 +22,33 @@ impl<S: Store> Studio<S> {
         if let Some(reason) = own {
             return Err(reason);
         }
-        if tracks > MOST - self.next_track {
+        if tracks > COUNTER_LIMIT - self.next_track {
             let have = self.next_track;
             return Err(Refusal::SpaceSpent { have, need: tracks });
         }
-        if self.commit_number == MOST {
+        if self.commit_number == COUNTER_LIMIT {
             return Err(Refusal::SpaceSpent {
-                have: MOST,
+                have: COUNTER_LIMIT,
                 need: 1,
             });
         }
         Ok(())
     }
 
-    // Whether the journal has the places for a record with a body of so many bytes, and the body is short enough.
+    // Whether the journal has the places for a record with a body of this many bytes, and the body is short enough.
     pub(crate) fn may_add(&self, len: u64) -> Result<(), Refusal>
         requires small { len ≤ 2 ^ 45 }
-        requires end { self.now.journal_end ≤ 2 ^ 62 }
-        ensures ok { OnOk result ((self.now.journal_end + (6 + len) ≤ 2 ^ 62) × (len ≤ LONGEST_BODY)) }
+        requires end { self.now.journal_end ≤ COUNTER_LIMIT }
+        ensures ok { OnOk result ((self.now.journal_end + (6 + len) ≤ COUNTER_LIMIT) × (len ≤ LONGEST_BODY)) }
         ensures err { IfErr result (Exceeds self.now.journal_end len) }
     {
-        if len + 6 > MOST - self.journal_end {
+        if len + 6 > COUNTER_LIMIT - self.journal_end {
             return Err(Refusal::SpaceSpent {
                 have: self.journal_end,
                 need: len + 6,
             });
         }
-        if len > LONGEST {
+        if len > LONGEST_BODY {
             return Err(Refusal::RecordLimit { len });
         }
         Ok(())
@@ -64,7 +57,7 @@ impl<S: Store> Studio<S> {
     // Adds a small record, and counts the commit. After a fault of the disk the studio is stopped. It takes no memory.
     pub(crate) fn commit_small(&mut self, body: &[u8]) -> Result<(), Refusal>
         requires small { length body.now ≤ 9 }
-        requires room { self.old.commit_number < 2 ^ 62 }
+        requires room { self.old.commit_number < COUNTER_LIMIT }
         ensures record { Adds S.Store (core_of self.old) body.now (length body.now) result (core_of self.new) }
         ensures memory { IfErr result IsNoWant }
         ensures undamaged { IfErr result IsUndamaged }
@@ -75,7 +68,7 @@ impl<S: Store> Studio<S> {
 
     // Adds the record whose body was written, and counts the commit. After a fault of the disk the studio is stopped.
     pub(crate) fn commit_written(&mut self) -> Result<(), Refusal>
-        requires room { self.old.commit_number < 2 ^ 62 }
+        requires room { self.old.commit_number < COUNTER_LIMIT }
         requires short { length self.old.body.items ≤ LONGEST_BODY }
         ensures record { (whole : ℕ) → Adds S.Store (core_of self.old) self.old.body.items whole result
             (core_of self.new) }
@@ -96,7 +89,7 @@ impl<S: Store> Studio<S> {
 
     // Counts the commit whose record was added, or stops the studio after a fault of the disk.
     fn settle(&mut self, added: Result<u64, JournalFault>) -> Result<(), Refusal>
-        requires { self.old.commit_number < 2 ^ 62 }
+        requires { self.old.commit_number < COUNTER_LIMIT }
         ensures fields { Settles S.Store (core_of self.old) added result (core_of self.new) }
         ensures history { self.new.history ≡ self.old.history }
         ensures ledger { self.new.ledger ≡ self.old.ledger }

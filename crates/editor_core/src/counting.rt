@@ -88,7 +88,7 @@ pub(crate) fn hold_point(ledger: &mut Ledger, point: &Point)
     }
 }
 
-// A point is to stand behind the current one: its blocks come, and those of the points that go for it go.
+// A point is to stand after the current one: its blocks come, and those of the points that go for it go.
 pub(crate) fn count_edit(ledger: &mut Ledger, history: &History<Point>, point: &Point)
     requires there { HasIds (count_of ledger.old) (point_blocks point.now) }
     requires few { (id : ℕ) → occurrences (count_of ledger.old id) + times_named id (point_blocks point.now) < 2 ^ 128 }

@@ -31,8 +31,8 @@ pub(crate) fn see_items(strips: &[Strip])
 }
 
 impl<S: Store> Studio<S> {
-    /// Takes a range of a run out into the clipboard: `Close` moves the cells after it to its place, `Leave` leaves gaps
-    /// there. It returns the commit number.
+    /// Takes a range of a run out into the clipboard: `Close` moves the cells after it to its place, `Leave` leaves
+    /// gaps there. It returns the commit number.
     ///
     /// # Errors
     ///

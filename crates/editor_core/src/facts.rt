@@ -1,4 +1,4 @@
-// What is told of a studio.
+// What is reported of a studio.
 ghost use Rattle.editor_core.specs.Core.{core_of};
 ghost use Rattle.editor_core.specs.Facts.{AreFactsOf};
 ghost use Rattle.editor_core.specs.Studios.{IsStudio};
@@ -6,7 +6,7 @@ ghost use Rattle.editor_core.specs.Studios.{IsStudio};
 use super::studio::Studio;
 use disk_model::Store;
 
-/// What is told of a studio beside its commit number.
+/// What is reported of a studio beside its commit number.
 #[derive(Clone, Copy, Debug, PartialEq, Eq)]
 pub struct Facts {
     /// How many frames there are in a second.

@@ -2,7 +2,7 @@
 ghost use Rattle.std.specs.Prelude.{◌≡◌, ◌+◌, ◌≤◌, ◌<◌, ◌^◌, IfErr, IfOk, OnOk};
 ghost use Rattle.std.specs.Prelude.{None, [], ◌∷◌, ◌++◌, length, map};
 ghost use Rattle.std.specs.List.{AllByRecursion};
-ghost use Rattle.pcm_base.specs.declared.limits.TheConstants.{COUNTER_LIMIT};
+ghost use Rattle.pcm_base.specs.declared.limits.TheConstants.{COUNTER_LIMIT, MAX_TRACKS};
 ghost use Rattle.pcm_base.specs.declared.refusal.Refusal.TheVariants as refusal;
 ghost use Rattle.pcm_base.specs.Refusals.{length_limit};
 ghost use Rattle.edit_ops.specs.Plans.{AnswersTest};
@@ -19,7 +19,7 @@ use project_state::{Point, Track};
 use std::alloc::Global;
 
 /// The project that grows track by track, the blocks that are to be made for it, the id of the next block after them,
-/// and how many samples the tracks so far have: so many of those that are brought are spoken for.
+/// and how many samples the tracks so far have: this many of those that are brought are spoken for.
 #[derive(Drop)]
 pub(crate) struct Growing {
     pub(crate) point: Point,
@@ -28,7 +28,7 @@ pub(crate) struct Growing {
     pub(crate) brought: u64,
 }
 
-// A piece of a channel's samples, as a piece of all samples, where so many stand before the channel's.
+// A piece of a channel's samples, as a piece of all samples, where this many stand before the channel's.
 fn moved_piece(piece: Piece, skip: u64) -> Piece
     requires { FitsBehind skip piece }
     ensures { result ≡ piece_behind skip piece }
@@ -71,7 +71,7 @@ fn moved_blocks(alloc: Global, blocks: &[NewBlock], skip: u64) -> Result<Vec<New
     Ok(out)
 }
 
-// The plan of a new track of so many of the samples that are brought, from a place among them on.
+// The plan of a new track of this many of the samples that are brought, from a place among them on.
 fn plan_channel(planner: Planner, from: u64, count: u64) -> Result<Plan, Refusal>
     requires few { from + count ≤ COUNTER_LIMIT }
     ensures plan { IfOk result (IsChannelPlan from count planner.block_size planner.next) }
@@ -91,7 +91,7 @@ fn plan_channel(planner: Planner, from: u64, count: u64) -> Result<Plan, Refusal
     })
 }
 
-// Adds a new track with these clips behind the others.
+// Adds a new track with these clips after the others.
 fn add_track(point: &mut Point, id: u64, layout: Layout) -> Result<(), Refusal>
     requires { AllBelow id point.old }
     ensures { Adds point.old point.new (track_with id layout) result }
@@ -105,7 +105,7 @@ fn add_track(point: &mut Point, id: u64, layout: Layout) -> Result<(), Refusal>
     })
 }
 
-// Puts blocks behind others, each of them moved and none copied.
+// Puts blocks after others, each of them moved and none copied.
 fn add_blocks(all: &mut Vec<NewBlock>, more: NewBlocks) -> Result<(), NoMemory>
     ensures { OnOk result (all.new.items ≡ all.old.items ++ more) }
 {
@@ -115,7 +115,7 @@ fn add_blocks(all: &mut Vec<NewBlock>, more: NewBlocks) -> Result<(), NoMemory>
     Ok(())
 }
 
-// Adds a track with the next of the samples that are brought, so many.
+// Adds a track with the next of the samples that are brought, this many.
 pub(crate) fn add_channel(
     alloc: Global,
     growing: &mut Growing,
@@ -127,7 +127,7 @@ pub(crate) fn add_channel(
     requires room { growing.old.next < 2 ^ 63 }
     requires few { growing.old.brought + count ≤ COUNTER_LIMIT }
     requires below { AllBelow id growing.old.point }
-    requires place { length growing.old.point < 64 }
+    requires place { length growing.old.point < MAX_TRACKS }
     requires short { length_limit (count ∷ []) ≡ None }
     ensures added { OnOk result (AddsChannel block_size id count growing.old growing.new) }
     ensures memory { IfErr result (λ e. e ≡ refusal.NoMemory) }
@@ -150,7 +150,7 @@ pub(crate) fn add_channel(
     Ok(())
 }
 
-// The plan of the project that has grown by so many tracks.
+// The plan of the project that has grown by this many tracks.
 pub(crate) fn planned_of(growing: Growing, tracks: u64) -> Planned
     ensures { (result.point ≡ growing.point) × (result.makes ≡ growing.makes.items) × (result.next ≡ growing.next)
         × (result.tracks ≡ tracks) × (result.clip ≡ None) }

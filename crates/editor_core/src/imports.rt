@@ -1,14 +1,15 @@
 // A sound of a vault as new tracks.
-ghost use Rattle.std.specs.Prelude.{◌≡◌, ℕ, IsTrue, IfErr, IfOk, Option, None, List, length};
+ghost use Rattle.std.specs.Prelude.{◌≡◌, ◌⊎◌, ◌<◌, ℕ, IsTrue, IfErr, IfOk, Option, Some, None, List, length};
 ghost use Rattle.pcm_base.specs.declared.answer.Reply.TheVariants as reply;
 ghost use Rattle.pcm_base.specs.declared.command.Call.TheVariants.{Line};
 ghost use Rattle.pcm_base.specs.declared.command.Command.TheVariants as command;
 ghost use Rattle.pcm_base.specs.declared.entry.SoundMove.{SoundMove};
 ghost use Rattle.pcm_base.specs.declared.refusal.Refusal.TheVariants as refusal;
+ghost use Rattle.pcm_base.specs.declared.wav.WavFault.TheVariants.{Truncated};
 ghost use Rattle.envelope_view.specs.Answers.{IsUndamaged};
 ghost use Rattle.editor_core.specs.Applied.{Lasts};
 ghost use Rattle.editor_core.specs.Core.{core_of};
-ghost use Rattle.editor_core.specs.Imports.{HasChannels, IsChannelsPlan, IsNoVault, VaultCounted};
+ghost use Rattle.editor_core.specs.Imports.{HasChannels, IsChannelsPlan, IsCutShort, IsInside, VaultCounted};
 ghost use Rattle.editor_core.specs.Imports.{channels_refusal, left_as};
 ghost use Rattle.editor_core.specs.Points.{current_tracks};
 ghost use Rattle.editor_core.specs.Studios.{IsHeld, IsStudio};
@@ -20,9 +21,8 @@ use super::joining::{counts_of, joined, length_refusal};
 use super::studio::Studio;
 use disk_model::Store;
 use edit_ports::Vault;
-use pcm_base::Refusal;
+use pcm_base::{MAX_TRACKS, Refusal};
 use piece_store::Given;
-use project_state::MAX_TRACKS;
 use sound_import::read_sound;
 use std::alloc::Global;
 use wav_pcm::Channels;
@@ -32,7 +32,7 @@ impl<S: Store> Studio<S> {
     /// the sound stays as it is.
     ///
     /// It takes the file's bytes in memory, and beside them its samples, which are as many bytes; the bytes are let go
-    /// before the first block is made. The samples of more than one channel are then put one behind another, by which
+    /// before the first block is made. The samples of more than one channel are then put one after another, by which
     /// there are again no more than twice as many bytes as the file has. A block is made in buffers that the studio
     /// has.
     ///
@@ -60,6 +60,16 @@ impl<S: Store> Studio<S> {
         // Whatever the vault tells.
         ensures lasts { (sound : SoundMove) → Lasts S.Store (core_of self.old)
             (with_sound (Line (command.Import name.now)) sound (told_by (λ _. reply.Done) result)) (core_of self.new) }
+        // What is added are the tracks of some bytes, and a reason is that of some sound, or of one that is cut short.
+        ensures some { IfOk result (λ n. (bytes : List ℕ) × Took S.Store (core_of self.old)
+            (with_sound (Line (command.Import name.now)) (left_as (Some bytes)) (told_by (λ _. reply.Done) result))
+            (core_of self.new)) }
+        ensures reason { IfErr result (λ why. IsCutShort why ⊎ ((sound : Option (List ℕ)) × Took S.Store
+            (core_of self.old)
+            (with_sound (Line (command.Import name.now)) (left_as sound) (told_by (λ _. reply.Done) result))
+            (core_of self.new))) }
+        ensures short { (want have : ℕ)
+            → IfErr result (λ why. why ≡ refusal.BadWav (Truncated want have) → have < want) }
         ensures number { IfOk result (λ n. n ≡ self.new.commit_number) }
         ensures sound { IsHeld S.Store (core_of self.old) → IfErr result IsUndamaged }
         ensures same { V.holds vault.new ≡ V.holds vault.old }
@@ -85,7 +95,7 @@ impl<S: Store> Studio<S> {
             (with_sound (Line (command.Import name)) sound (told_by (λ _. reply.Done) result)) (core_of self.new) }
         ensures number { IfOk result (λ n. n ≡ self.new.commit_number) }
         ensures sound { IsHeld S.Store (core_of self.old) → IfErr result IsUndamaged }
-        ensures device { IfErr result IsNoVault }
+        ensures device { IfErr result IsInside }
     {
         let counts = counts_of(alloc, channels.as_slice())?;
         if let Some(reason) = self.channels_refusal(counts.as_slice()) {
@@ -102,7 +112,7 @@ impl<S: Store> Studio<S> {
         )
     }
 
-    // What refuses a track for each channel, where they have so many samples each.
+    // What refuses a track for each channel, where they have this many samples each.
     fn channels_refusal(&self, counts: &[u64]) -> Option<Refusal>
         ensures { result ≡ channels_refusal (length (current_tracks self.now.history.history)) counts.now }
     {
@@ -112,8 +122,8 @@ impl<S: Store> Studio<S> {
         length_refusal(counts)
     }
 
-    // The project with a track for each channel behind those of the current one. It plans the blocks of all channels, so
-    // that their number is known before a counter is asked for so many.
+    // The project with a track for each channel after those of the current one. It plans the blocks of all channels, so
+    // that their number is known before a counter is asked for this many.
     fn planned_channels(&self, alloc: Global, counts: &[u64]) -> Result<Planned, Refusal>
         requires studio { IsStudio S.Store (core_of self.now) }
         requires tests { channels_refusal (length (current_tracks self.now.history.history)) counts.now ≡ None }

@@ -1,11 +1,12 @@
 // Samples that a command brings, put in at a place of a track or at its end.
-ghost use Rattle.std.specs.Prelude.{◌≡◌, ◌≤◌, ◌<◌, ◌^◌, IfErr, IfOk, None, length};
+ghost use Rattle.std.specs.Prelude.{◌≡◌, ◌≤◌, IfErr, IfOk, None, length};
 ghost use Rattle.pcm_base.specs.declared.limits.TheConstants.{COUNTER_LIMIT};
 ghost use Rattle.pcm_base.specs.declared.answer.Reply.TheVariants as reply;
 ghost use Rattle.pcm_base.specs.declared.command.Call.{Call};
 ghost use Rattle.pcm_base.specs.declared.command.Call.TheVariants as call;
 ghost use Rattle.pcm_base.specs.declared.command.Command.TheVariants as command;
 ghost use Rattle.pcm_base.specs.declared.entry.SoundMove.{SoundMove};
+ghost use Rattle.pcm_base.specs.Form.{IsNumber};
 ghost use Rattle.pcm_base.specs.Sizes.{blocks_of_samples};
 ghost use Rattle.clip_track.specs.Clips.{AllHalfFull, IsLayout, end_of, layout_blocks};
 ghost use Rattle.edit_ops.specs.Plans.{AnswersTest, IsPlan, Means, start_of};
@@ -55,7 +56,7 @@ fn count_of(given: &Given) -> u64
     }
 }
 
-// The plan of so many samples in a track.
+// The plan of this many samples in a track.
 fn plan_insert(planner: Planner, layout: &Layout, place: Place, count: u64) -> Result<Plan, Refusal>
     requires half_full { AllHalfFull planner.block_size layout.now }
     requires apart { IsLayout layout.now }
@@ -73,7 +74,7 @@ fn plan_insert(planner: Planner, layout: &Layout, place: Place, count: u64) -> R
 }
 
 impl<S: Store> Studio<S> {
-    /// Puts samples in at a place of a track: those behind it move on, and a shorter track is first continued by gaps.
+    /// Puts samples in at a place of a track: those after it move on, and a shorter track is first continued by gaps.
     ///
     /// # Errors
     ///
@@ -90,7 +91,7 @@ impl<S: Store> Studio<S> {
         samples: &[i16],
     ) -> Result<u64, Refusal>
         requires studio { IsStudio S.Store (core_of self.old) }
-        requires in_form { at < 2 ^ 63 }
+        requires in_form { IsNumber at }
         ensures took { Took S.Store (core_of self.old)
             (quietly (call.Line (command.Put track at samples.now)) (told_by (λ _. reply.Done) result))
             (core_of self.new) }
@@ -106,7 +107,7 @@ impl<S: Store> Studio<S> {
         )
     }
 
-    /// Puts so many samples in at a place of a track, from `start` on in steps, each limited to what a sample can be.
+    /// Puts this many samples in at a place of a track, from `start` on in steps, each limited to what a sample can be.
     ///
     /// # Errors
     ///
@@ -121,7 +122,7 @@ impl<S: Store> Studio<S> {
         step: i16,
     ) -> Result<u64, Refusal>
         requires studio { IsStudio S.Store (core_of self.old) }
-        requires in_form { at < 2 ^ 63 }
+        requires in_form { IsNumber at }
         ensures took { Took S.Store (core_of self.old)
             (quietly (call.Line (command.Ramp track at count start step)) (told_by (λ _. reply.Done) result))
             (core_of self.new) }
@@ -182,7 +183,7 @@ impl<S: Store> Studio<S> {
         self.carry_out(planned, tag, given)
     }
 
-    // The project that so many samples in a track make of the current one.
+    // The project that this many samples in a track make of the current one.
     fn planned_insert(
         &self,
         alloc: Global,

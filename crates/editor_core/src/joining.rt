@@ -7,7 +7,7 @@ use pcm_base::{MAX_CELLS, NoMemory, Refusal, Samples};
 use std::alloc::Global;
 use wav_pcm::Channels;
 
-// Puts samples behind others.
+// Puts samples after others.
 fn add_samples(all: &mut Vec<i16>, samples: &Samples) -> Result<(), NoMemory>
     ensures { OnOk result (all.new.items ≡ all.old.items ++ samples.now) }
 {
@@ -24,7 +24,7 @@ fn total_len(channels: &[Samples]) -> usize {
     total
 }
 
-// The samples of all channels, those of each behind those of the one before. Those of a single channel are taken over
+// The samples of all channels, those of each after those of the one before. Those of a single channel are taken over
 // as they are; of more, each channel's are let go as soon as they are copied.
 pub(crate) fn joined(alloc: Global, channels: Channels) -> Result<Vec<i16>, NoMemory>
     ensures { IfOk result (λ v. v.items ≡ all_of channels) }

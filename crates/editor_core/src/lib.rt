@@ -9,6 +9,7 @@ mod buffers;
 mod carrying;
 mod clipboards;
 mod commits;
+mod compacts;
 mod copies;
 mod counting;
 mod current;
@@ -42,6 +43,7 @@ mod scans;
 mod shows;
 mod studio;
 mod taking;
+mod texts;
 mod views;
 
 pub use assembly::Parts;

@@ -1,4 +1,4 @@
-// What is told of the tracks.
+// What is reported of the tracks.
 ghost use Rattle.std.specs.Prelude.{◌≡◌, ◌⊎◌, ℕ, map, IfOk, IfErr};
 ghost use Rattle.pcm_base.specs.declared.answer.Reply.TheVariants as reply;
 ghost use Rattle.pcm_base.specs.declared.command.Call.TheVariants.{Line};
@@ -18,7 +18,7 @@ use pcm_base::{NoMemory, Refusal, TrackLine, TrackLines};
 use project_state::{Point, Track};
 use std::alloc::Global;
 
-// What is told of a track.
+// What is reported of a track.
 fn line_of(track: &Track) -> TrackLine
     ensures { (src : Sources) → result ≡ line_of_track (meant_track src track.now) }
 {
@@ -31,7 +31,7 @@ fn line_of(track: &Track) -> TrackLine
     }
 }
 
-// What is told of each track of a project.
+// What is reported of each track of a project.
 fn lines_of(alloc: Global, point: &Point) -> Result<Vec<TrackLine>, NoMemory>
     ensures { IfOk result (λ v. (src : Sources) → v.items ≡ map line_of_track (meant src point.now)) }
 {

@@ -1,6 +1,6 @@
 // New blocks, which are written and then synced before a record names them.
 ghost use Rattle.std.specs.Prelude.{◌≡◌, ℕ, IsSome, ◌+◌, ◌≤◌, ◌<◌, ◌^◌, IsTrue, IfErr, MatchResult, None, length};
-ghost use Rattle.pcm_base.specs.declared.limits.TheConstants.{COUNTER_LIMIT, MAX_BLOCK_SAMPLES};
+ghost use Rattle.pcm_base.specs.declared.limits.TheConstants.{COUNTER_LIMIT, FIRST_BLOCK, MAX_BLOCK_SAMPLES};
 ghost use Rattle.pcm_base.specs.Pieces.{total};
 ghost use Rattle.pcm_base.specs.declared.refusal.Refusal.TheVariants as refusal;
 ghost use Rattle.sample_block.specs.Spelling.{IsBlock};
@@ -73,7 +73,7 @@ impl<S: Store> Studio<S> {
     fn write_blocks(&mut self, makes: &[NewBlock], given: &Given) -> Result<(), Refusal>
         requires new { AreNew self.old.buffers self.old.next_block makes.now }
         requires pieces { PiecesReadable (brought_count given.now) makes.now }
-        requires least { 16 ≤ self.old.next_block }
+        requires least { FIRST_BLOCK ≤ self.old.next_block }
         requires most { self.old.next_block + length makes.now ≤ COUNTER_LIMIT }
         requires size { self.old.buffers ≤ MAX_BLOCK_SAMPLES }
         requires spare { length makes.now ≤ self.old.ledger.spare }
@@ -89,7 +89,7 @@ impl<S: Store> Studio<S> {
         Ok(())
     }
 
-    // Syncs the files of so many blocks from an id on. After a failed sync the studio is stopped.
+    // Syncs the files of this many blocks from an id on. After a failed sync the studio is stopped.
     fn sync_blocks(&mut self, first: u64, count: u64) -> Result<(), Refusal>
         requires { first + count ≤ COUNTER_LIMIT }
         ensures synced { Syncs S.Store (core_of self.old) (ids_from first count) result (core_of self.new) }
@@ -112,7 +112,7 @@ impl<S: Store> Studio<S> {
     pub(crate) fn make_blocks(&mut self, makes: &[NewBlock], given: &Given) -> Result<(), Refusal>
         requires new { AreNew self.old.buffers self.old.next_block makes.now }
         requires pieces { PiecesReadable (brought_count given.now) makes.now }
-        requires least { 16 ≤ self.old.next_block }
+        requires least { FIRST_BLOCK ≤ self.old.next_block }
         requires most { self.old.next_block + length makes.now ≤ COUNTER_LIMIT }
         requires size { self.old.buffers ≤ MAX_BLOCK_SAMPLES }
         requires spare { length makes.now ≤ self.old.ledger.spare }

@@ -1,7 +1,7 @@
 // What is heard of a project.
-ghost use Rattle.std.specs.Prelude.{◌≡◌, ◌+◌, ◌-◌, ◌^◌, ◌<◌, ◌≤◌, length, min, take, drop, IsTrue, IsOkUnless, IfErr};
+ghost use Rattle.std.specs.Prelude.{◌≡◌, ◌+◌, ◌-◌, ◌<◌, ◌≤◌, length, min, take, drop, IsTrue, IsOkUnless, IfErr};
 ghost use Rattle.std.specs.Prelude.{IfOk};
-ghost use Rattle.pcm_base.specs.declared.limits.TheConstants.{MAX_VIEW};
+ghost use Rattle.pcm_base.specs.declared.limits.TheConstants.{MAX_CELLS, MAX_VIEW};
 ghost use Rattle.pcm_base.specs.declared.answer.Reply.TheVariants.{Frames};
 ghost use Rattle.pcm_base.specs.declared.command.Call.TheVariants.{Line, ReadPin};
 ghost use Rattle.pcm_base.specs.declared.command.Command.TheVariants.{Mix};
@@ -49,7 +49,7 @@ fn read_mix<S: Store>(
     ensures fits { IfOk result (λ n. n ≤ length out.new) }
     ensures count { IfOk result (λ n. n ≡ min most (mix_length_of point.now - from)) }
     ensures len { (src : Sources) → mix_length (meant src point.now) ≡ mix_length_of point.now }
-    ensures limit { IfOk result (λ n. 0 < n → from + n ≤ 2 ^ 32) }
+    ensures limit { IfOk result (λ n. 0 < n → from + n ≤ MAX_CELLS) }
     ensures read { IsTrue (S.tells store.old) → AllWhole (S.reads store.old) (point_blocks point.now)
         → IfOk result (λ n. take n out.new
         ≡ take n (drop from (mix_of (meant (sources_of (S.reads store.old)) point.now)))) }
@@ -109,7 +109,7 @@ impl<S: Store> Studio<S> {
             (record { call = ReadPin pin from (length out.old); reply = Frames; out = out.new; count = result })
             (core_of self.new) }
         // No mix is longer.
-        ensures limit { IfOk result (λ n. 0 < n → from + n ≤ 2 ^ 32) }
+        ensures limit { IfOk result (λ n. 0 < n → from + n ≤ MAX_CELLS) }
     {
         if let Some(faults) = self.stopped {
             return Err(Refusal::Stopped { faults });

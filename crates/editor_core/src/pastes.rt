@@ -1,10 +1,12 @@
 // The strips of the clipboard, put into a run of tracks.
-ghost use Rattle.std.specs.Prelude.{◌≡◌, ◌<◌, ◌^◌, IfErr, IfOk, None};
+ghost use Rattle.std.specs.Prelude.{◌≡◌, IfErr, IfOk, None};
 ghost use Rattle.pcm_base.specs.declared.answer.Reply.TheVariants as reply;
 ghost use Rattle.pcm_base.specs.declared.command.Call.TheVariants.{Line};
+ghost use Rattle.pcm_base.specs.Form.{IsNumber};
+ghost use Rattle.pcm_base.specs.Shape.{paste_line};
 ghost use Rattle.envelope_view.specs.Answers.{IsUndamaged};
 ghost use Rattle.editor_core.specs.Core.{core_of};
-ghost use Rattle.editor_core.specs.Pastes.{IsPastePlan, NoPastePlan, paste_line};
+ghost use Rattle.editor_core.specs.Pastes.{IsPastePlan, NoPastePlan};
 ghost use Rattle.editor_core.specs.Studios.{IsHeld, IsStudio};
 ghost use Rattle.editor_core.specs.Took.{Took, quietly, told_by};
 
@@ -41,7 +43,7 @@ impl<S: Store> Studio<S> {
         placing: Placing,
     ) -> Result<u64, Refusal>
         requires studio { IsStudio S.Store (core_of self.old) }
-        requires in_form { at < 2 ^ 63 }
+        requires in_form { IsNumber at }
         ensures took { Took S.Store (core_of self.old)
             (quietly (Line (paste_line placing track at)) (told_by (λ _. reply.Done) result)) (core_of self.new) }
         ensures number { IfOk result (λ n. n ≡ self.new.commit_number) }
@@ -63,7 +65,7 @@ impl<S: Store> Studio<S> {
         placing: Placing,
     ) -> Result<Planned, Refusal>
         requires studio { IsStudio S.Store (core_of self.now) }
-        requires in_form { at < 2 ^ 63 }
+        requires in_form { IsNumber at }
         ensures plan { IfOk result (λ p. IsPastePlan placing track at (core_of self.now) p) }
         ensures tracks { IfOk result (λ p. p.tracks ≡ 0) }
         ensures clip { IfOk result (λ p. p.clip ≡ None) }

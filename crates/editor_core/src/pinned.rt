@@ -1,4 +1,4 @@
-// What is told of a pin.
+// What is reported of a pin.
 ghost use Rattle.std.specs.Prelude.{◌≡◌, IfErr, MatchResult, Some, None};
 ghost use Rattle.pcm_base.specs.declared.answer.Reply.TheVariants as reply;
 ghost use Rattle.pcm_base.specs.declared.command.Call.TheVariants as call;

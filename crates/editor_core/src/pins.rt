@@ -15,13 +15,12 @@ ghost use Rattle.editor_core.specs.Points.{current_tracks};
 ghost use Rattle.editor_core.specs.Studios.{IsStudio};
 ghost use Rattle.editor_core.specs.Took.{Took, quietly, told_by};
 
-use super::commits::MOST;
 use super::counting::{drop_point, hold_point};
 use super::current::current_of;
 use super::studio::{Pin, Studio};
 use block_ledger::Ledger;
 use disk_model::Store;
-use pcm_base::Refusal;
+use pcm_base::{COUNTER_LIMIT, Refusal};
 use project_state::Point;
 use undo_history::History;
 
@@ -65,9 +64,9 @@ impl<S: Store> Studio<S> {
         if let Some(faults) = self.stopped {
             return Err(Refusal::Stopped { faults });
         }
-        if self.next_pin == MOST {
+        if self.next_pin == COUNTER_LIMIT {
             return Err(Refusal::SpaceSpent {
-                have: MOST,
+                have: COUNTER_LIMIT,
                 need: 1,
             });
         }
@@ -77,7 +76,7 @@ impl<S: Store> Studio<S> {
         Ok(self.next_pin - 1)
     }
 
-    // Puts a copy of the current project behind the pins.
+    // Puts a copy of the current project after the pins.
     fn add_pin(&mut self) -> Result<(), Refusal>
         ensures ok { OnOk result (core_of self.new ≡ record (core_of self.old) {
           pins = self.old.pins.items

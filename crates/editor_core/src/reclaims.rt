@@ -15,7 +15,7 @@ use disk_model::Store;
 use pcm_base::Refusal;
 
 impl<S: Store> Studio<S> {
-    /// Removes block files that nothing names, those of the least ids first: all, or so many at most. It answers how
+    /// Removes block files that nothing names, those of the least ids first: all, or this many at most. It answers how
     /// many went, and takes no memory. It removes all of them and then syncs each, so that one sync of a folder can
     /// serve them all.
     ///
@@ -41,7 +41,7 @@ impl<S: Store> Studio<S> {
         }
     }
 
-    // Removes the files of the first blocks that nothing names, so many at most, and waits until they are gone. It
+    // Removes the files of the first blocks that nothing names, this many at most, and waits until they are gone. It
     // answers how many were removed, also where the disk failed.
     fn drop_first(&mut self, most: u64) -> (u64, Result<(), BlockFault>)
         requires low { (id : ℕ) → IsSome (count_of self.old.ledger id) → FIRST_BLOCK ≤ id }
@@ -55,7 +55,7 @@ impl<S: Store> Studio<S> {
         }
     }
 
-    // Removes the files of the first blocks that nothing names, so many at most, without a sync. It answers how many
+    // Removes the files of the first blocks that nothing names, this many at most, without a sync. It answers how many
     // were removed, also where the disk failed.
     fn remove_first(&mut self, most: u64) -> (u64, Result<(), BlockFault>)
         requires low { (id : ℕ) → IsSome (count_of self.old.ledger id) → FIRST_BLOCK ≤ id }
@@ -84,7 +84,7 @@ impl<S: Store> Studio<S> {
         remove_block_cached(&mut self.store, &mut self.cache, id)
     }
 
-    // Syncs the files of the first blocks that nothing names, so many at most.
+    // Syncs the files of the first blocks that nothing names, this many at most.
     fn sync_first(&mut self, count: u64) -> Result<(), BlockFault>
         requires { (id : ℕ) → IsSome (count_of self.old.ledger id) → id < COUNTER_LIMIT }
         ensures { SyncsFirst S.Store (core_of self.old) count result (core_of self.new) }
@@ -100,7 +100,7 @@ impl<S: Store> Studio<S> {
         Ok(())
     }
 
-    // Forgets the first blocks that nothing names, so many at most.
+    // Forgets the first blocks that nothing names, this many at most.
     fn forget_first(&mut self, count: u64)
         ensures { ForgetsFirst (core_of self.old) count (core_of self.new) }
     {

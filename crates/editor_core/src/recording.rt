@@ -1,4 +1,4 @@
-// A point that is recorded under a tag: behind the current one, or in its place.
+// A point that is recorded under a tag: after the current one, or in its place.
 ghost use Rattle.std.specs.Prelude.{◌≡◌, ℕ, ◌+◌, ◌≤◌, ◌<◌, ◌^◌, length};
 ghost use Rattle.pcm_base.specs.declared.limits.TheConstants.{COUNTER_LIMIT};
 ghost use Rattle.block_ledger.specs.Counts.{occurrences};
@@ -17,7 +17,7 @@ use project_state::Point;
 use undo_history::History;
 
 // A point is to stand in the place of the current one: its blocks come, and those of the current point and of the
-// points behind it go.
+// points after it go.
 fn count_amended(ledger: &mut Ledger, history: &History<Point>, point: &Point)
     requires there { HasIds (count_of ledger.old) (point_blocks point.now) }
     requires few { (id : ℕ) →
@@ -40,7 +40,7 @@ fn continues(history: &History<Point>, tag: u64) -> bool
 }
 
 impl<S: Store> Studio<S> {
-    // Records a point under a tag, with so many track ids given. Its blocks are named by it, and those of points that
+    // Records a point under a tag, with this many track ids given. Its blocks are named by it, and those of points that
     // go are named no more by them. It takes no memory.
     pub(crate) fn take_recorded(&mut self, point: Point, tag: u64, tracks: u64)
         requires ids { self.old.next_track + tracks ≤ COUNTER_LIMIT }

@@ -1,4 +1,4 @@
-// What an edit without new blocks does once its point is made: the record that tells it, and the point behind the
+// What an edit without new blocks does once its point is made: the record that says it, and the point after the
 // current one.
 ghost use Rattle.std.specs.Prelude.{◌≡◌, ℕ, ◌+◌, ◌≤◌, ◌<◌, ◌^◌, IfOk, OnOk, length};
 ghost use Rattle.pcm_base.specs.declared.limits.TheConstants.{COUNTER_LIMIT};
@@ -40,7 +40,7 @@ impl<S: Store> Studio<S> {
         self.commit_written()
     }
 
-    // The same of an edit that gives so many track ids; the point comes back.
+    // The same of an edit that gives this many track ids; the point comes back.
     pub(crate) fn commit_point(&mut self, point: Point, tracks: u64) -> Result<Point, Refusal>
         requires room { self.old.commit_number < COUNTER_LIMIT }
         requires ids { self.old.next_track + tracks ≤ COUNTER_LIMIT }
@@ -64,7 +64,7 @@ impl<S: Store> Studio<S> {
         Ok(point)
     }
 
-    // Puts a point behind the current one, with so many track ids given. Its blocks are named by it, and those of
+    // Puts a point after the current one, with this many track ids given. Its blocks are named by it, and those of
     // points that go are named no more by them.
     pub(crate) fn take_point(&mut self, point: Point, tracks: u64)
         requires ids { self.old.next_track + tracks ≤ COUNTER_LIMIT }

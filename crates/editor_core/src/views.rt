@@ -69,7 +69,7 @@ impl<S: Store> Studio<S> {
         Ok(Reply::Columns { columns })
     }
 
-    // What is told of the tracks.
+    // What is reported of the tracks.
     pub(crate) fn tracks_reply(&self, alloc: Global) -> Result<Reply, Refusal>
         requires { IsStudio S.Store (core_of self.now) }
         ensures { Took S.Store (core_of self.now) (quietly (Line command.Tracks) result) (core_of self.now) }

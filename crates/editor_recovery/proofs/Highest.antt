@@ -2,13 +2,14 @@
 use Rattle.std.proofs.Common.{◌≡◌, ◌==◌, ◌≢◌, ℕ, ◌+◌, ◌-◌, ◌<◌, ◌≤◌, max, Bool, true, false, inl, inr, ⊎_elim, ◌⊎◌}
 use Rattle.std.proofs.Common.{List, [], ◌∷◌, length, get_or, Option, Some, None, Result, Ok, Err, refl, sym, ap, subst}
 use Rattle.std.proofs.Common.{◌∙◌, arith}
-use Rattle.std.specs.Prelude.{IfOk, OnOk, IsTrue, IsSome, Contains, find, slice_get, if◌then◌else◌, nat_le, nat_lt, ◌^◌}
+use Rattle.std.specs.Prelude.{IfOk, OnOk, IsTrue, IsSome, Contains, find, slice_get, if◌then◌else◌, nat_le, nat_lt}
 use Rattle.std.specs.Prelude.{◌||◌}
 use Rattle.std.specs.List.{All, AllByRecursion}
 use Rattle.std.proofs.lemmas.Bool.{cases_Bool, eqb-true, eqb-false, leb-true, leb-false, ltb-true, ltb-false}
 use Rattle.std.proofs.lemmas.List.Kept.{AllPairs-from_increasing}
 use Rattle.std.specs.List.Sorted.{IsStrictlyIncreasing}
 use Rattle.std.proofs.lemmas.Option.{slice_get_within, get_or_from_slice_get, slice_get-get_or}
+use Rattle.pcm_base.specs.declared.limits.TheConstants.{COUNTER_LIMIT, FIRST_BLOCK}
 use Rattle.editor_recovery.specs.Files.{is_foreign, IsAbove}
 use Rattle.editor_recovery.proofs.Listed.{find_none}
 
@@ -17,22 +18,22 @@ or_true : (x : Bool) → (x || true) ≡ true
 or_true true = refl
 or_true false = refl
 
-high_foreign : (o : ℕ) → nat_le (2 ^ 62) o ≡ true → is_foreign o ≡ true
+high_foreign : (o : ℕ) → nat_le COUNTER_LIMIT o ≡ true → is_foreign o ≡ true
 high_foreign o high = rw high (or_true _)
 
-pub listed_small : (xs : List ℕ) (o : ℕ) → find is_foreign xs ≡ None → Contains xs o → o < 2 ^ 62
-listed_small xs o none has = elim (cases_Bool (nat_le (2 ^ 62) o))
-    [ inl t ↦ absurd (find_none is_foreign xs none o has (high_foreign o t)) | inr f ↦ leb-false (2 ^ 62) o f ]
+pub listed_small : (xs : List ℕ) (o : ℕ) → find is_foreign xs ≡ None → Contains xs o → o < COUNTER_LIMIT
+listed_small xs o none has = elim (cases_Bool (nat_le COUNTER_LIMIT o))
+    [ inl t ↦ absurd (find_none is_foreign xs none o has (high_foreign o t)) | inr f ↦ leb-false COUNTER_LIMIT o f ]
 
-low_foreign : (o : ℕ) → nat_le 2 o ≡ true → nat_le o 15 ≡ true → is_foreign o ≡ true
+low_foreign : (o : ℕ) → nat_le 2 o ≡ true → nat_lt o FIRST_BLOCK ≡ true → is_foreign o ≡ true
 low_foreign o least most = rw least (rw most refl)
 
-pub listed_high : (xs : List ℕ) (o : ℕ) → find is_foreign xs ≡ None → Contains xs o → 2 ≤ o → 16 ≤ o
+pub listed_high : (xs : List ℕ) (o : ℕ) → find is_foreign xs ≡ None → Contains xs o → 2 ≤ o → FIRST_BLOCK ≤ o
 listed_high xs o none has other = elim (cases_Bool (nat_le 2 o)) [
   | inr f ↦ let lt = leb-false 2 o f in absurd (omega (arith, lt, other))
-  | inl t ↦ elim (cases_Bool (nat_le o 15)) [
+  | inl t ↦ elim (cases_Bool (nat_lt o FIRST_BLOCK)) [
     | inl u ↦ absurd (find_none is_foreign xs none o has (low_foreign o t u))
-    | inr g ↦ let lt = leb-false o 15 g in omega (arith, lt)
+    | inr g ↦ ltb-false o FIRST_BLOCK g
   ]
 ]
 

@@ -1,11 +1,12 @@
 -- The calls of a studio leave an honest disk honest.
-use Rattle.std.proofs.Common.{◌≡◌, ◌≢◌, ◌⊎◌, ◌∙◌, inl, inr, ⊎_elim, sym, ap, subst, refl, ℕ, ◌++◌, ◌^◌, ◌≤◌, ◌<◌, Bool}
+use Rattle.std.proofs.Common.{◌≡◌, ◌≢◌, ◌⊎◌, ◌∙◌, inl, inr, ⊎_elim, sym, ap, subst, refl, ℕ, ◌++◌, ◌≤◌, ◌<◌, Bool}
 use Rattle.std.proofs.Common.{true, false, Option, Some, None, List, [], ◌∷◌, arith}
 use Rattle.std.specs.Prelude.{Contains, IsSome, IsTrue, if◌then◌else◌, nat_le, nat_lt, ◌&&◌, ◌||◌}
 use Rattle.std.specs.List.{AllByRecursion}
-use Rattle.std.proofs.lemmas.Bool.{leb-true}
+use Rattle.std.proofs.lemmas.Bool.{leb-true, ltb-true}
 use Rattle.std.proofs.lemmas.List.Elements.{All-contains, All-from_recursion}
 use Rattle.std.specs.Option.{option_and_then}
+use Rattle.pcm_base.specs.declared.limits.TheConstants.{COUNTER_LIMIT, FIRST_BLOCK}
 use Rattle.pcm_base.specs.declared.block.BlockRef.{BlockRef}
 use Rattle.pcm_base.specs.Studio as model
 use Rattle.disk_model.specs.Disk.{Files}
@@ -38,11 +39,11 @@ of_two true false false e = absurd (cc e)
 of_two false b false e = absurd (cc e)
 
 -- no number of a block is foreign
-own : (file : ℕ) → 16 ≤ file → file < 2 ^ 62 → IsTrue (is_foreign file) → ⊥
+own : (file : ℕ) → FIRST_BLOCK ≤ file → file < COUNTER_LIMIT → IsTrue (is_foreign file) → ⊥
 own file least most foreign = ⊎_elim
-    (λ low. absurd (omega (arith, leb-true file 15 low, least)))
-    (λ high. absurd (omega (arith, leb-true (2 ^ 62) file high, most)))
-    (of_two (nat_le 2 file) (nat_le file 15) (nat_le (2 ^ 62) file) foreign)
+    (λ low. absurd (omega (arith, ltb-true file FIRST_BLOCK low, least)))
+    (λ high. absurd (omega (arith, leb-true COUNTER_LIMIT file high, most)))
+    (of_two (nat_le 2 file) (nat_lt file FIRST_BLOCK) (nat_le COUNTER_LIMIT file) foreign)
 
 none_there : (o : Option (List ℕ)) → o ≡ None → IsSome o → ⊥
 none_there None none some = absurd (cc some)
@@ -63,8 +64,9 @@ front_of P [] ys all = tt
 front_of P (x ∷ xs) ys all = (all.0, front_of P xs ys all.1)
 
 same_block : (c d : Files) (id : ℕ) → c id ≡ d id → blocks c id ≡ blocks d id
-same_block c d id same = ap
-    (λ (o : Option (List ℕ)). if nat_le 16 id && nat_lt id (2 ^ 62) then option_and_then (block_in id) o else None) same
+same_block c d id same =
+    let is_block = nat_le FIRST_BLOCK id && nat_lt id COUNTER_LIMIT in
+    ap (λ (o : Option (List ℕ)). if is_block then option_and_then (block_in id) o else None) same
 
 module _ {D : Type 0} (disk : Ghosts D) (s : Core D) (few : s.file ≤ 1) (durable : IsDurable disk s) where
   -- what an image names is as the store reads

@@ -19,7 +19,7 @@ use Rattle.editor_recovery.specs.declared.fault.OpenFault.{OpenFault}
 use Rattle.editor_recovery.specs.declared.fault.OpenFault.TheVariants as fault
 use Rattle.editor_recovery.specs.Causes.{Causes}
 
--- so many ids these blocks have
+-- this many ids these blocks have
 abbrev pub IsCountOf : List BlockRef → ℕ → Type 0
 IsCountOf bs n = (ids : List ℕ) × AreIdsOf bs ids × (n ≡ length ids)
 
@@ -30,7 +30,7 @@ pub record FirstDamaged (files : Files) (bs : List BlockRef) (file at want have 
   pub differs : Differs files block file (record { at = at; want = want; have = have })
   pub lower : (other : BlockRef) → Contains bs other → other.id < block.id → IsWhole files other
 
--- all of these blocks are whole, and so many ids they have, or what is wrong with the first that is not
+-- all of these blocks are whole, and this many ids they have, or what is wrong with the first that is not
 abbrev pub ChecksAll : Files → List BlockRef → Result ℕ OpenFault → Type 0
 ChecksAll files bs (Ok n) = AllWhole files bs × IsCountOf bs n
 ChecksAll files bs (Err (fault.Damaged file at want have)) = FirstDamaged files bs file at want have

@@ -1,5 +1,6 @@
 -- What the steps of opening answer.
-use Rattle.std.specs.Prelude.{◌≡◌, ℕ, ◌≤◌, ◌^◌, None, Some, List, length, map, Result, Ok, Err}
+use Rattle.std.specs.Prelude.{◌≡◌, ℕ, ◌≤◌, None, Some, List, length, map, Result, Ok, Err}
+use Rattle.pcm_base.specs.declared.limits.TheConstants.{COUNTER_LIMIT, LEAST_END}
 use Rattle.pcm_base.specs.declared.block.BlockRef.{BlockRef}
 use Rattle.disk_model.specs.Disk.{Files}
 use Rattle.sample_block.specs.Spelling.{size_of}
@@ -16,6 +17,7 @@ use Rattle.record_fold.specs.Faults.{journal_fault}
 use Rattle.record_fold.specs.Folds.{kept_of, IsValid}
 use Rattle.record_fold.specs.Heads.{HasFault}
 use Rattle.editor_recovery.specs.declared.disk.Folded.{Folded}
+use Rattle.editor_recovery.specs.declared.finding.TheConstants.{PAGES}
 use Rattle.editor_core.specs.Studios.{AreJournalNumbers}
 use Rattle.editor_core.specs.declared.assembly.Parts.{Parts}
 use Rattle.editor_recovery.specs.declared.fault.OpenFault.{OpenFault}
@@ -46,7 +48,7 @@ FoldsDisk disk store form (Err fault.NoMemory) = Unit {0}
 FoldsDisk disk store form (Err fault.DiskFault) = Unit {0}
 FoldsDisk disk store form (Err _) = ⊥
 
--- why records are not folded, as it is told
+-- why records are not folded, as it is reported
 abbrev pub records_fault : JournalFault → OpenFault
 records_fault (journal.Damaged file at want have) = fault.Damaged file at want have
 records_fault journal.DiskFault = fault.DiskFault
@@ -57,10 +59,10 @@ records_fault _ = fault.Exists
 pub record IsSoundFolded (f : Folded) : Type 0 where
   pub format : IsFormat f.rate f.block_size f.project.history.history.depth
   pub kept : IsValid f.block_size (kept_of f.project)
-  pub commit : f.project.commit ≤ 2 ^ 62
+  pub commit : f.project.commit ≤ COUNTER_LIMIT
   pub journal : AreJournalNumbers f.file f.version f.generation
-  pub end_least : 32 ≤ f.end
-  pub end_most : f.end ≤ 2 ^ 62
+  pub end_least : LEAST_END ≤ f.end
+  pub end_most : f.end ≤ COUNTER_LIMIT
 
 -- no file has another size than its block asks, by the sizes that were measured, or the first that has
 abbrev pub TestsMeasured : {T : Type 0} → (ℕ → ℕ) → List BlockRef → Result T OpenFault → Type 0
@@ -84,12 +86,12 @@ TestsSizes files blocks (Err _) = ⊥
 -- what a journal, the files and the journal's project amount to
 pub record ArePartsOf (files : List ℕ) (f : Folded) (p : Parts) : Type 0 where
   pub rate : p.rate ≡ f.rate
-  pub pages : p.pages ≡ 64
+  pub pages : p.pages ≡ PAGES
   pub block_size : p.block_size ≡ f.block_size
   pub history : p.history.history ≡ f.project.history.history
   pub ledger : IsCounted files (history_blocks f.project.history.history) (count_of p.ledger)
   pub next_block : IsAbove files f.project.next_block p.next_block
-  pub bound : p.next_block ≤ 2 ^ 62
+  pub bound : p.next_block ≤ COUNTER_LIMIT
   pub next_track : p.next_track ≡ f.project.next_track
   pub commit : p.commit_number ≡ f.project.commit
   pub file : p.file ≡ f.file

@@ -10,7 +10,7 @@ abbrev pub occurrences : List BlockRef → ℕ → ℕ
 occurrences [] id = 0
 occurrences (b ∷ bs) id = (if b.id == id then 1 else 0) + occurrences bs id
 
--- a count after so many occurrences more
+-- a count after this many occurrences more
 abbrev pub held : Option ℕ → ℕ → Option ℕ
 held count zero = count
 held count (suc n) = held (Some (one_more count)) n
@@ -25,7 +25,8 @@ pub record IsCounted (files : List ℕ) (blocks : List BlockRef) (counts : Count
   pub there : (id : ℕ) → Contains files id → 2 ≤ id → counts id ≡ Some (occurrences blocks id)
   pub only : (id : ℕ) → (counts id ≡ None) ⊎ ((2 ≤ id) × Contains files id)
 
--- The ledger of a disk: each file but those of a journal has its count, 0 where no block names it, and nothing else has one.
+-- The ledger of a disk: each file but those of a journal has its count, 0 where no block names it, and nothing else has
+-- one.
 pub record IsLedgerOf (files : Files) (blocks : List BlockRef) (counts : Counts) : Type 0 where
   pub there : (id : ℕ) → IsSome (files id) → 2 ≤ id → counts id ≡ Some (occurrences blocks id)
   pub only : (id : ℕ) → IsSome (counts id) → IsSome (files id) × (2 ≤ id)

@@ -25,7 +25,7 @@ IsOpenRefusal (fault.Foreign file) = IsTrue (is_foreign file)
 IsOpenRefusal fault.DiskFault = Unit {0}
 IsOpenRefusal fault.NoMemory = Unit {0}
 
--- the first foreign file is told
+-- the first foreign file is reported
 abbrev pub TellsForeign : Files → OpenFault → Type 0
 TellsForeign files (fault.Foreign file) = IsFirstForeign files file
 TellsForeign files fault.DiskFault = Unit {0}

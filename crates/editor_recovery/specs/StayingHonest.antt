@@ -29,7 +29,7 @@ CallsStayHonest {D = D} disk =
     (old new : Core D) (exchange : Exchange) → IsStudio disk old → IsHeld disk old → IsHonest disk old.store
     → Took disk old exchange new → StaysHonest disk old new
 
--- A disk that keeps to the model, and may leave one such image and no other, is honest: a start behind a stop finds it
+-- A disk that keeps to the model, and may leave one such image and no other, is honest: a start after a stop finds it
 -- so.
 abbrev pub ImagesAreHonest : {D : Type 0} → Ghosts D → Type 0
 ImagesAreHonest {D = D} disk =

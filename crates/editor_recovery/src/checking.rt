@@ -37,8 +37,8 @@ fn scan_all<S: Store>(studio: &mut Studio<S>, blocks: &[BlockRef]) -> Result<(),
 ///
 /// # Errors
 ///
-/// Damaged: of the first block that is not whole, the first field that differs, its size told at place 0. DiskFault:
-/// the disk failed; the studio goes on. NoMemory: there is no memory for the list of the blocks.
+/// Damaged: of the first block that is not whole, the first field that differs, its size reported at place 0.
+/// DiskFault: the disk failed; the studio goes on. NoMemory: there is no memory for the list of the blocks.
 pub fn check<S: Store>(alloc: Global, studio: &mut Studio<S>) -> Result<u64, OpenFault>
     requires studio { IsStudio S.Store (core_of studio.old) }
     requires going { (core_of studio.old).stopped ≡ None }

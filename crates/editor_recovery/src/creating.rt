@@ -1,6 +1,7 @@
 // Makes a project.
 ghost use Rattle.std.specs.Prelude.{◌≡◌, ◌||◌, ◌⊎◌, ◌↔◌, ◌+◌, ◌≤◌, ℕ, Option, List, length, min, slice_index};
 ghost use Rattle.std.specs.Prelude.{IsTrue, IfOk, IfErr, OnOk};
+ghost use Rattle.pcm_base.specs.declared.limits.TheConstants.{FIRST_RECORD};
 ghost use Rattle.disk_model.specs.Disk.{bytes_of, SameElsewhere};
 ghost use Rattle.disk_model.specs.Frames.{Kept, Changed};
 ghost use Rattle.project_journal.specs.Gate.{EachNow, EachSince, IsDurable};
@@ -99,7 +100,7 @@ fn make<S: Store>(store: &mut S, rate: u32, block_size: u32, depth: u32) -> Resu
     ensures other_moment { IsTrue (S.tells store.old) → NoProject 1 (S.reads store.old)
         → EachSince S.Store store.old store.new (λ c. S.may_leave store.old (S.clock store.old) c ⊎ NoProject 1 c) }
     ensures done { IsTrue (S.tells store.old) → NoProject 1 (S.reads store.old)
-        → OnOk result (IsAt (form_2 0) S.Store store.new 80 (fresh rate block_size depth)) }
+        → OnOk result (IsAt (form_2 0) S.Store store.new FIRST_RECORD (fresh rate block_size depth)) }
     ensures answer { IsTrue (S.tells store.old) → NoProject 0 (S.reads store.old)
         → IfErr result (λ e. e ≡ OpenFault.DiskFault) }
     ensures refusals { IfErr result IsCreateRefusal }
@@ -143,7 +144,7 @@ pub fn create<S: Store>(
         × EachNow S.Store store.new (λ c. Keeps c (new_opened rate block_size depth))) }
     // Its journal is a header of version 2 in file 0, with one point.
     ensures journal { IsTrue (S.tells store.old)
-        → OnOk result (IsAt (form_2 0) S.Store store.new 80 (fresh rate block_size depth)) }
+        → OnOk result (IsAt (form_2 0) S.Store store.new FIRST_RECORD (fresh rate block_size depth)) }
     ensures answer { IsTrue (S.tells store.old) → Creates (S.reads store.old) result }
     // An honest disk stays so, whatever is answered.
     ensures honest { IsHonest S.Store store.old → IsHonest S.Store store.new }

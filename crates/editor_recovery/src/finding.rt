@@ -1,7 +1,8 @@
 // What the journal and the files of a disk amount to.
-ghost use Rattle.std.specs.Prelude.{◌≡◌, ◌^◌, ◌≤◌, [], None, IsTrue, IfOk, IfErr, IsErrOf, OnOk, Contains, find};
+ghost use Rattle.std.specs.Prelude.{◌≡◌, ◌≤◌, [], None, IsTrue, IfOk, IfErr, IsErrOf, OnOk, Contains, find};
 ghost use Rattle.std.specs.List.{All};
 ghost use Rattle.std.specs.List.Sorted.{IsStrictlyIncreasing};
+ghost use Rattle.pcm_base.specs.declared.limits.TheConstants.{COUNTER_LIMIT, MAX_BLOCK_SAMPLES};
 ghost use Rattle.sample_block.specs.Spelling.{IsBlock, size_of};
 ghost use Rattle.project_journal.specs.Gate.{IsDurable};
 ghost use Rattle.project_journal.specs.Header.{Form, IsForm};
@@ -93,7 +94,7 @@ fn fold_disk<S: Store>(alloc: Global, store: &mut S, reader: Reader) -> Result<F
 
 /// The fault of a block whose file has not its size.
 fn size_fault(sizes: &Sizes, block: BlockRef) -> OpenFault
-    requires { block.len ≤ 262144 }
+    requires { block.len ≤ MAX_BLOCK_SAMPLES }
     ensures { result ≡ OpenFault.Damaged block.id 0 (size_of block.len) (size_in sizes.now block.id) }
 {
     OpenFault::Damaged {
@@ -143,7 +144,7 @@ fn test_files<S: Store>(
 fn parts_of(alloc: Global, files: &[u64], folded: Folded) -> Result<Parts, OpenFault>
     requires known { find is_foreign files.now ≡ None }
     requires rising { IsStrictlyIncreasing files.now }
-    requires block { folded.project.next_block ≤ 2 ^ 62 }
+    requires block { folded.project.next_block ≤ COUNTER_LIMIT }
     requires named { All (λ p. All (λ b. (2 ≤ b.id) × Contains files.now b.id) (point_blocks p.0))
         folded.project.history.history.points }
     ensures parts { IfOk result (ArePartsOf files.now folded) }

@@ -4,7 +4,7 @@ ghost use Rattle.editor_recovery.specs.StayingHonest.{CallsStayHonest, ImagesAre
 
 use disk_model::Store;
 
-/// Of one disk one fault is told at most.
+/// One disk has at most one fault to report.
 pub fn a_disk_has_one_fault()
     ensures { HasOneFault }
 {}

@@ -1,5 +1,5 @@
 // The files of a disk.
-ghost use Rattle.std.specs.Prelude.{◌≡◌, ◌↔◌, ◌+◌, ◌^◌, ◌≤◌, ℕ, IsTrue, IsSome, IfSome, IfNone, IfOk, IfErr, Contains};
+ghost use Rattle.std.specs.Prelude.{◌≡◌, ◌↔◌, ◌+◌, ◌≤◌, ℕ, IsTrue, IsSome, IfSome, IfNone, IfOk, IfErr, Contains};
 ghost use Rattle.std.specs.Prelude.{find};
 ghost use Rattle.std.specs.List.Sorted.{IsStrictlyIncreasing};
 ghost use Rattle.disk_model.specs.Frames.{Kept};
@@ -10,13 +10,14 @@ ghost use Rattle.editor_recovery.specs.Listing.{AreFiles, IsOpenRefusal, IsRefus
 
 use super::fault::OpenFault;
 use disk_model::{ListFault, Store};
+use pcm_base::{COUNTER_LIMIT, FIRST_BLOCK};
 use std::alloc::Global;
 
 /// Whether a file is neither that of a journal nor of a block.
 fn is_foreign(file: u64) -> bool
     ensures { result ≡ is_foreign file }
 {
-    (file >= 2 && file <= 15) || file >= 1 << 62
+    (file >= 2 && file < FIRST_BLOCK) || file >= COUNTER_LIMIT
 }
 
 /// The first number that is foreign.
@@ -68,10 +69,10 @@ pub(crate) fn list_files<S: Store>(alloc: Global, store: &mut S) -> Result<Vec<u
 /// The next block: above every file, and no lower than a number.
 pub(crate) fn block_above(files: &[u64], recorded: u64) -> u64
     requires known { find is_foreign files.now ≡ None }
-    requires recorded { recorded ≤ 2 ^ 62 }
+    requires recorded { recorded ≤ COUNTER_LIMIT }
     requires rising { IsStrictlyIncreasing files.now }
     ensures next { IsAbove files.now recorded result }
-    ensures bound { result ≤ 2 ^ 62 }
+    ensures bound { result ≤ COUNTER_LIMIT }
 {
     if files.len() == 0 {
         return recorded;

@@ -59,8 +59,8 @@ fn make_studio<S: Store>(alloc: Global, store: S, parts: Parts) -> Result<Studio
     }
 }
 
-/// Opens the project of a store, once files 0 and 1 are on the disk, and makes a studio of it. It writes nothing, and the
-/// store comes back with each refusal. Nothing is copied yet, there are no pins, and the next pin is 1.
+/// Opens the project of a store, once files 0 and 1 are on the disk, and makes a studio of it. It writes nothing, and
+/// the store comes back with each refusal. Nothing is copied yet, there are no pins, and the next pin is 1.
 ///
 /// Memory: it takes what the history and the ledger take, the studio's buffers, and while the records are folded the
 /// bytes of 64 KiB or of the longest record, and no multiple of the journal's file.

@@ -1,6 +1,7 @@
 // The sizes of the files of a disk, and the first block whose file has not its size.
 ghost use Rattle.std.specs.Prelude.{◌≡◌, ◌≤◌, ◌==◌, ℕ, None, IfOk, OnOk, if◌then◌else◌};
 ghost use Rattle.std.specs.List.{All};
+ghost use Rattle.pcm_base.specs.declared.limits.TheConstants.{MAX_BLOCK_SAMPLES};
 ghost use Rattle.sample_block.specs.Spelling.{IsBlock};
 ghost use Rattle.project_state.specs.Kept.{point_blocks, history_blocks};
 ghost use Rattle.editor_recovery.specs.Measured.{size_in};
@@ -60,7 +61,7 @@ fn earlier(found: Option<BlockRef>, block: BlockRef) -> BlockRef
 }
 
 fn one_more(sizes: &Sizes, found: Option<BlockRef>, block: BlockRef) -> Option<BlockRef>
-    requires { block.len ≤ 262144 }
+    requires { block.len ≤ MAX_BLOCK_SAMPLES }
     ensures { result ≡ one_more (size_in sizes.now) found block }
 {
     if sizes.get(block.id) == file_size(block.len as usize) as u64 {

@@ -1,4 +1,4 @@
-// What is left of a layout behind the cells that were passed.
+// What is left of a layout after the cells that were passed.
 ghost use Rattle.std.specs.Prelude.{◌≡◌, ◌≤◌, ◌<◌, ◌-◌, [], Contains, MatchOption};
 ghost use Rattle.pcm_base.specs.Pieces.{Sources};
 ghost use Rattle.pcm_base.specs.declared.block.BlockRef.{BlockRef};
@@ -8,7 +8,7 @@ ghost use Rattle.envelope_view.specs.Ahead.{IsInBlock, ahead_blocks, ahead_cells
 
 use clip_track::{Rest, Stretch};
 
-/// What is left of a stretch, and of the layout behind it.
+/// What is left of a stretch, and of the layout after it.
 #[derive(Drop)]
 pub(crate) struct Ahead<'a> {
     pub(crate) stretch: Stretch,
@@ -26,7 +26,7 @@ pub(crate) fn len_of(stretch: Stretch) -> u64
     }
 }
 
-/// What is left of a stretch behind so many of its cells.
+/// What is left of a stretch after this many of its cells.
 pub(crate) fn behind(stretch: Stretch, count: u64) -> Stretch
     requires stretch { IsInBlock stretch }
     requires within { count ≤ stretch_len stretch }

@@ -23,7 +23,7 @@ use sample_block::LONG_FRAME;
 /// How many long frames a block has at most.
 const MOST: usize = 4;
 
-/// The summaries of what stands before a place, and of what stands behind it.
+/// The summaries of what stands before a place, and of what stands after it.
 #[derive(Clone, Copy)]
 pub(crate) struct Halves {
     pub(crate) before: Summary,
@@ -142,7 +142,7 @@ fn long_frames<S: Store>(
     Ok(Halves { before, after })
 }
 
-/// The summaries of a part that ends at an edge inside a long frame, and of what is behind the edge up to `to`, where
+/// The summaries of a part that ends at an edge inside a long frame, and of what is after the edge up to `to`, where
 /// the frame ends: from the frames before it, the frame's own, and one of its sides.
 pub(crate) fn up_to_edge<S: Store>(
     store: &mut S,

@@ -1,4 +1,4 @@
-// What is known of a block behind the part that was summarized last.
+// What is known of a block after the part that was summarized last.
 ghost use Rattle.std.specs.Prelude.{◌≡◌, ◌≤◌, ◌<◌, ◌+◌, ◌*◌, [], ◌∷◌, IsTrue, IfErr, IfSome, Some};
 ghost use Rattle.pcm_base.specs.declared.limits.TheConstants.{MAX_BLOCK_SAMPLES};
 ghost use Rattle.disk_model.specs.Disk.{Files, bytes_of};
@@ -60,7 +60,7 @@ fn frame_stop(len: u32, frame: u32) -> u32
 }
 
 /// The number of the long frame inside which a part ends, if the part has all that is before its end, and the next
-/// `reach` cells all that is behind it.
+/// `reach` cells all that is after it.
 fn frame_at(len: u32, from: u32, to: u32, reach: u64) -> Option<u32>
     requires within { to ≤ len }
     requires few { len ≤ MAX_BLOCK_SAMPLES }

@@ -121,7 +121,7 @@ fn by_frames<S: Store>(
     Ok(join_all(frames))
 }
 
-/// From whole short frames, from number `first` up to `end`, and the samples behind them up to `to`.
+/// From whole short frames, from number `first` up to `end`, and the samples after them up to `to`.
 fn short_then_samples<S: Store>(
     store: &mut S,
     cache: &mut Cache,
@@ -182,7 +182,7 @@ pub(crate) fn by_short<S: Store>(
     Ok(join(front, back))
 }
 
-/// From whole long frames, from number `first` up to `end`, and what is behind them up to `to`.
+/// From whole long frames, from number `first` up to `end`, and what is after them up to `to`.
 fn long_then_short<S: Store>(
     store: &mut S,
     cache: &mut Cache,

@@ -1,5 +1,6 @@
 // The columns of a layout, in one pass over what stands in its range.
-ghost use Rattle.std.specs.Prelude.{◌≡◌, ◌≤◌, ◌<◌, ◌^◌, IsTrue, IfOk, IfErr};
+ghost use Rattle.std.specs.Prelude.{◌≡◌, ◌≤◌, ◌<◌, IsTrue, IfOk, IfErr};
+ghost use Rattle.pcm_base.specs.declared.limits.TheConstants.{MAX_CELLS, MAX_VIEW};
 ghost use Rattle.disk_model.specs.Frames.{Kept};
 ghost use Rattle.sample_block.specs.Sources.{AllNamed, AllWhole, sources_of};
 ghost use Rattle.block_cache.specs.Caches.{IsCacheOf, KeepsCache};
@@ -30,9 +31,9 @@ fn scan_columns<S: Store>(
 ) -> Result<Vec<Option<Scan>>, Refusal>
     requires named { AllNamed (layout_blocks layout.now) }
     requires rising { from ≤ to }
-    requires small { to ≤ 2 ^ 32 }
+    requires small { to ≤ MAX_CELLS }
     requires some { 0 < columns }
-    requires few { columns ≤ 4096 }
+    requires few { columns ≤ MAX_VIEW }
     requires cached { IsTrue (S.tells store.old) → IsCacheOf (S.reads store.old) cache.old }
     ensures cache { KeepsCache (S.tells store.old) (S.reads store.old) (layout_blocks layout.now) cache.old cache.new }
     ensures read { IsTrue (S.tells store.old) → AllWhole (S.reads store.old) (layout_blocks layout.now)
@@ -61,7 +62,7 @@ fn scan_columns<S: Store>(
     Ok(scans)
 }
 
-/// What a fresh scan finds of the cells of each of so many columns of a range of a layout. It reads frames of blocks,
+/// What a fresh scan finds of the cells of each of some columns of a range of a layout. It reads frames of blocks,
 /// and samples at the edges of columns alone, by whole pages, but for those that the cache has. It takes memory for the
 /// columns.
 ///
@@ -88,7 +89,7 @@ pub fn columns<S: Store>(
         (λ v. v.items ≡ columns_of from to columns (layout_cells (sources_of (S.reads store.old)) layout.now)) }
     // The tests refuse exactly as the model's do; where they are passed only a read or want of memory refuses.
     ensures tests { AnswersTest (column_tests from to columns (end_of 0 layout.now)) result }
-    // Damage is told of a block of the layout alone, as it stands in its file, and never where all of them are whole.
+    // Only damage of a block of the layout is reported, as it stands in its file, and none where all of them are whole.
     ensures damaged { IsTrue (S.tells store.old)
         → IfErr result (λ e. IsDamagedIn (S.reads store.old) (layout_blocks layout.now) e) }
     ensures sound { IsTrue (S.tells store.old) → AllWhole (S.reads store.old) (layout_blocks layout.now)

@@ -1,5 +1,6 @@
 // The summary of the next cells of a layout.
-ghost use Rattle.std.specs.Prelude.{◌≡◌, ◌≤◌, ◌^◌, [], ◌∷◌, take, drop, Contains, IsTrue, IfOk, IfErr, OnOk};
+ghost use Rattle.std.specs.Prelude.{◌≡◌, ◌≤◌, [], ◌∷◌, take, drop, Contains, IsTrue, IfOk, IfErr, OnOk};
+ghost use Rattle.pcm_base.specs.declared.limits.TheConstants.{MAX_CELLS};
 ghost use Rattle.disk_model.specs.Disk.{bytes_of};
 ghost use Rattle.disk_model.specs.Frames.{Kept};
 ghost use Rattle.sample_block.specs.Spelling.{IsBlock};
@@ -86,8 +87,8 @@ fn summarize_stretch<S: Store>(
     }
 }
 
-/// The summary of the samples among the next cells, so many or as many as there are. What is left begins behind
-/// them, and `known` is what is known of a block behind them, of which at least `reach` are asked for next.
+/// The summary of the samples among the next cells, this many or as many as there are. What is left begins after
+/// them, and `known` is what is known of a block after them, of which at least `reach` are asked for next.
 pub(crate) fn sweep<S: Store>(
     store: &mut S,
     cache: &mut Cache,
@@ -96,7 +97,7 @@ pub(crate) fn sweep<S: Store>(
     count: u64,
     reach: u64,
 ) -> Result<Summary, BlockFault>
-    requires few { count ≤ 2 ^ 32 }
+    requires few { count ≤ MAX_CELLS }
     requires stretch { IsInBlock ahead.old.stretch }
     requires named { AreNamed (ahead_blocks ahead.old) }
     requires cached { IsTrue (S.tells store.old) → IsCacheOf (S.reads store.old) cache.old }

@@ -1,6 +1,6 @@
 -- Where the script of a number ends.
 use Rattle.std.proofs.Common.{◌≡◌, ℕ, zero, suc, ◌-◌, Bool, true, false, None, List, [], ◌∷◌, pos, negsuc, Result, Ok}
-use Rattle.std.proofs.Common.{refl, sym, ap, subst, arith}
+use Rattle.std.proofs.Common.{refl, sym, ap, ◌∙◌, subst, arith}
 use Rattle.std.specs.Prelude.{if◌then◌else◌, IsOk}
 use Rattle.std.specs.List.{AllByRecursion}
 use Rattle.std.proofs.lemmas.List.Elements.{All-cons, All-nil}
@@ -11,11 +11,12 @@ use Rattle.pcm_base.specs.declared.command.Command.{Command}
 use Rattle.pcm_base.specs.declared.command.Command.TheVariants as command
 use Rattle.pcm_base.specs.declared.entry.Entry.{Entry}
 use Rattle.pcm_base.specs.declared.refusal.Refusal.{Refusal}
-use Rattle.pcm_base.specs.Run.{Answers, CarriesOut, Step, outside, result_of}
+use Rattle.pcm_base.specs.Run.{Answers, CarriesOut, Step, followed, outside, result_of}
 use Rattle.pcm_base.specs.State.{State, new_state}
 use Rattle.pcm_base.specs.Studio.{Studio}
 use Rattle.editor_core.specs.Took.{silent}
 use Rattle.editor_core.proofs.Entries.{plain, plain_result}
+use Rattle.model_laws.proofs.Answered.{answered_same}
 use Rattle.script_gen.specs.declared.kind.Kind.{Kind}
 use Rattle.script_gen.specs.declared.kind.Kind.TheVariants as kind
 use Rattle.script_gen.specs.declared.place.Place.{Place}
@@ -129,7 +130,10 @@ record Behind (P : State → Type 0) (t : Studio) : Type 0 where
 next_behind : (P Q : State → Type 0) (c : Command) (t mid : Studio) (r : Reply) → Behind P t → Goes P Q c
     → CarriesOut t (Line c) silent r mid → Behind Q mid
 next_behind P Q c t mid r b goes done =
-    subst (Behind Q) (sym done.is) (record { going = b.going; state = goes.next (outside t silent) t.state b.state })
+    subst (Behind Q)
+    (sym (done.is ∙ answered_same (outside t silent) t.state (Line c) r done.answers goes.still
+    (followed (outside t silent) t (Line c) done.blocks done.len)))
+    (record { going = b.going; state = goes.next (outside t silent) t.state b.state })
 
 pub record IsAtEnd (t : Studio) : Type 0 where
   pub going : t.stopped ≡ None

@@ -7,13 +7,14 @@ use Rattle.pcm_base.specs.declared.answer.Reply.{Reply}
 use Rattle.pcm_base.specs.declared.command.Call.{Call}
 use Rattle.pcm_base.specs.declared.command.Call.TheVariants.{Line}
 use Rattle.pcm_base.specs.declared.command.Command.{Command}
+use Rattle.pcm_base.specs.declared.command.Command.TheVariants as command
 use Rattle.pcm_base.specs.declared.refusal.Refusal.{Refusal}
 use Rattle.pcm_base.specs.declared.refusal.Refusal.TheVariants as refusal
 use Rattle.pcm_base.specs.Causes.{Rose}
 use Rattle.pcm_base.specs.Counters.{Needs, commits_of, places_of}
 use Rattle.pcm_base.specs.Refusals.{◌otherwise◌}
-use Rattle.pcm_base.specs.Run.{Answers, Breaks, ChangeFailed, DiskFails, ReadFailed, Refuses, may_change}
-use Rattle.pcm_base.specs.Run.{name_in_line, outside, refusal_of, stop_of}
+use Rattle.pcm_base.specs.Run.{Answers, Breaks, CarriesOut, ChangeFailed, DiskFails, ReadFailed, Refuses}
+use Rattle.pcm_base.specs.Run.{may_change, name_in_line, outside, refusal_of, stop_of}
 use Rattle.pcm_base.specs.Studio.{Studio}
 use Rattle.disk_model.specs.Frames.{asked}
 use Rattle.disk_model.specs.Room.{Room, files_made, together}
@@ -22,9 +23,11 @@ use Rattle.envelope_view.specs.Answers.{IsUndamaged}
 use Rattle.editor_core.specs.Applied.{EndsAlike}
 use Rattle.editor_core.specs.Core.{Core}
 use Rattle.editor_core.specs.Left.{LeavesOthers, MayRemove}
+use Rattle.editor_core.specs.Packing.{packed_by, packs}
 use Rattle.editor_core.specs.Studios.{studio_of}
 use Rattle.editor_core.specs.Exchanges.{begun_in_vain, is_broken_off}
 use Rattle.editor_core.specs.Took.{Exchange, Took, asks, quietly, silent, told_by}
+use Rattle.model_laws.proofs.Answered.{carried_is}
 use Rattle.editor_core.proofs.Applying.{names_none as none_named}
 use Rattle.memory_project.specs.Lines.{Asked, IsOfScript, MayCome, Went, line_room}
 use Rattle.memory_project.specs.Memory.{HasAsked, HasRoom, no_room}
@@ -35,6 +38,15 @@ use Rattle.memory_project.proofs.RoomLemmas.{Takes, asked_by, room_left}
 names_none : (c : Command) → IsOfScript c → name_in_line c ≡ None
 names_none c kind =
     none_named c (λ name is. subst IsOfScript is kind) (λ name is. subst IsOfScript is kind)
+
+-- and none packs the journal
+packs_none : (c : Command) → IsOfScript c → packs (Line c) ≡ 0
+packs_none command.Compact kind = absurd kind
+packs_none c kind = refl
+
+packed_none : {D : Type 0} (s : Core D) (c : Command) → IsOfScript c → packed_by s (Line c) ≡ 0
+packed_none s command.Compact kind = absurd kind
+packed_none s c kind = refl
 
 -- ---- an answer as a reply
 
@@ -105,20 +117,23 @@ places_most c len = either (commits_of c == 0)
     either false = omega arith
 
 -- so much is within the room of a line, where the journal is there
-line_takes : (x : Exchange) (journal : Option (List ℕ)) (m blocks len : ℕ) (more : Room) → files_made journal ≡ 0
-    → length x.removed ≡ 0 → m ≡ 512 → blocks ≤ 11 → len ≤ 6872
-    → Takes (asks x journal m blocks len) more (together line_room more)
-line_takes x journal m blocks len more there none size few short =
+line_takes : (x : Exchange) (journal : Option (List ℕ)) (m blocks len packed : ℕ) (more : Room)
+    → files_made journal ≡ 0 → length x.removed ≡ 0 → packs x.call ≡ 0 → packed ≡ 0 → m ≡ 512 → blocks ≤ 11
+    → len ≤ 6872 → Takes (asks x journal m blocks len packed) more (together line_room more)
+line_takes x journal m blocks len packed more there none unpacked nothing size few short =
     let vain = vain_most x.told in
     let places = places_most x.call len in
-    subst (λ (k : ℕ). Takes (asks x journal k blocks len) more (together line_room more)) (sym size)
-    (omega (arith, there, vain, few), omega (arith, vain, places, few, short), omega (arith, few, none))
+    subst (λ (k : ℕ). Takes (asks x journal k blocks len packed) more (together line_room more)) (sym size) (
+      omega (arith, there, unpacked, vain, few),
+      omega (arith, nothing, vain, places, few, short),
+      omega (arith, few, none),
+    )
 
-none_takes : (x : Exchange) (journal : Option (List ℕ)) (m blocks len : ℕ) → files_made journal ≡ 0
-    → length x.removed ≡ 0 → m ≡ 512 → blocks ≤ 11 → len ≤ 6872
-    → Takes (asks x journal m blocks len) no_room line_room
-none_takes x journal m blocks len there none size few short =
-    line_takes x journal m blocks len no_room there none size few short
+none_takes : (x : Exchange) (journal : Option (List ℕ)) (m blocks len packed : ℕ) → files_made journal ≡ 0
+    → length x.removed ≡ 0 → packs x.call ≡ 0 → packed ≡ 0 → m ≡ 512 → blocks ≤ 11 → len ≤ 6872
+    → Takes (asks x journal m blocks len packed) no_room line_room
+none_takes x journal m blocks len packed there none unpacked nothing size few short =
+    line_takes x journal m blocks len packed no_room there none unpacked nothing size few short
 
 -- nothing refuses it, so the studio goes on
 goes : (stopped : Option ℕ) (rest : Option Refusal) → ((stop_of stopped) otherwise rest) ≡ None → stopped ≡ None
@@ -149,6 +164,9 @@ module _ {D : Type 0} (disk : Ghosts D) (old new : Core D) (c : Command) (may : 
     abbrev blocks_made : ℕ
     blocks_made = new.next_block - old.next_block
 
+    abbrev packed_bytes : ℕ
+    packed_bytes = packed_by old (Line c)
+
     there : files_made journal ≡ 0
     there =
         let w = took.needs may.held in
@@ -158,24 +176,27 @@ module _ {D : Type 0} (disk : Ghosts D) (old new : Core D) (c : Command) (may : 
     room_stays : (more : Room) → HasRoom disk old.store (together line_room more) → HasRoom disk new.store more
     room_stays more fits = room_left disk old.store new.store
         (LeavesOthers old.next_block new.next_block (MayRemove (Line c) old.counts))
-        (asks exchange journal old.block_size blocks_made took.len) (together line_room more) more took.changed
-        may.held.tells fits
-        (line_takes exchange journal old.block_size blocks_made took.len more there refl may.size few_blocks short)
+        (asks exchange journal old.block_size blocks_made took.len packed_bytes) (together line_room more) more
+        took.changed may.held.tells fits
+        (line_takes exchange journal old.block_size blocks_made took.len packed_bytes more there refl
+        (packs_none c may.kind) (packed_none old c may.kind) may.size few_blocks short)
 
     asked_stays : HasAsked disk new.store (together (asked disk old.store) line_room)
     asked_stays =
-        let takes = none_takes exchange journal old.block_size blocks_made took.len there refl may.size few_blocks short in
+        let takes = none_takes exchange journal old.block_size blocks_made took.len packed_bytes there refl
+        (packs_none c may.kind) (packed_none old c may.kind) may.size few_blocks short in
         let a = takes.0 in let b = takes.1 in let d = takes.2 in
         asked_by disk old.store new.store (LeavesOthers old.next_block new.next_block (MayRemove (Line c) old.counts))
-        (asks exchange journal old.block_size blocks_made took.len) line_room took.changed may.held.tells
+        (asks exchange journal old.block_size blocks_made took.len packed_bytes) line_room took.changed may.held.tells
         (record { files = omega (arith, a); bytes = omega (arith, b); calls = omega (arith, d) })
 
     faults_none : (disk.read_fault_count new.store ≡ 0) × (disk.change_fault_count new.store ≡ 0)
     faults_none = let left = room_left disk old.store new.store
         (LeavesOthers old.next_block new.next_block (MayRemove (Line c) old.counts))
-        (asks exchange journal old.block_size blocks_made took.len) line_room no_room took.changed
+        (asks exchange journal old.block_size blocks_made took.len packed_bytes) line_room no_room took.changed
         may.held.tells may.room
-        (none_takes exchange journal old.block_size blocks_made took.len there refl may.size few_blocks short) in
+        (none_takes exchange journal old.block_size blocks_made took.len packed_bytes there refl
+        (packs_none c may.kind) (packed_none old c may.kind) may.size few_blocks short) in
         (left.reads, left.changes)
 
   pub line_went : (r : Reply) → Took disk old (quietly (Line c) (Ok r)) new → Went disk old c new
@@ -186,9 +207,12 @@ module _ {D : Type 0} (disk : Ghosts D) (old new : Core D) (c : Command) (may : 
         held = took.held may.held;
         reply = r;
         step = step;
-        room = room_stays took step.blocks step.len step.needs (ap (λ (z : Studio). z.next_block) step.is);
-        asked_more = asked_stays took step.blocks step.len step.needs (ap (λ (z : Studio). z.next_block) step.is);
+        room = room_stays took step.blocks step.len step.needs (next r step);
+        asked_more = asked_stays took step.blocks step.len step.needs (next r step);
       }
+    where
+      next : (r : Reply) (step : CarriesOut t (Line c) silent r u) → new.next_block ≡ old.next_block + step.blocks
+      next r step = ap (λ (z : Studio). z.next_block) (carried_is t u (Line c) silent r step)
 
   pub line_wants : (why : Refusal) → Took disk old (quietly (Line c) (Err why)) new → IsUndamaged why
       → (why ≡ refusal.NoMemory) × (u ≡ t)

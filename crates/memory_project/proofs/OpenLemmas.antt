@@ -1,6 +1,7 @@
 -- A fresh project, opened: its studio is that of the model's fresh project.
-use Rattle.std.proofs.Common.{◌≡◌, inr, ⊎_elim, ℕ, ◌+◌, IsTrue, IsSome, Err, Ok, List, [], ◌∷◌, ◌++◌, length, map, refl}
-use Rattle.std.proofs.Common.{◌≤◌, sym, ap, ◌∙◌, subst, arith}
+use Rattle.std.proofs.Common.{◌≡◌, inr, ⊎_elim, ℕ, zero, suc, ◌+◌, ◌≤◌, IsTrue, IsSome, Err, Ok, List, [], ◌∷◌, ◌++◌}
+use Rattle.std.proofs.Common.{length, map, refl, sym, ap, ◌∙◌, subst, arith}
+use Rattle.std.specs.Prelude.{if◌then◌else◌, nat_lt}
 use Rattle.std.specs.List.{flat_map}
 use Rattle.std.proofs.lemmas.List.{append-nil}
 use Rattle.disk_model.specs.Disk.{Files, StaysStep}
@@ -12,11 +13,13 @@ use Rattle.project_journal.specs.Gate.{EachNow}
 use Rattle.project_journal.specs.Header.{Form, IsForm, form_2}
 use Rattle.project_journal.specs.Journal.{Entry, HasLog, IsAt, IsLog, Log, body_of, entry, fresh}
 use Rattle.project_journal.proofs.Bases.{length-head}
+use Rattle.project_journal.proofs.Chosen.{IsOne, one_journal}
 use Rattle.project_journal.proofs.Kept.{is_project}
+use Rattle.project_journal.proofs.Parses.{form_known}
 use Rattle.project_state.specs.Kept.{Keeps, Kept, new_project}
 use Rattle.project_state.proofs.KeptOnce.{keeps_once}
-use Rattle.editor_core.specs.Core.{Core}
-use Rattle.editor_core.specs.Studios.{IsHeld, IsStudio, clip_cells, pin_at, shown, studio_of}
+use Rattle.editor_core.specs.Core.{Core, form_at}
+use Rattle.editor_core.specs.Studios.{IsDurable, IsHeld, IsStudio, clip_cells, pin_at, shown, studio_of}
 use Rattle.sample_block.specs.Sources.{sources_of}
 use Rattle.editor_recovery.specs.declared.fault.OpenFault.{OpenFault}
 use Rattle.editor_recovery.specs.declared.fault.OpenFault.TheVariants as fault
@@ -55,6 +58,12 @@ first_block files next only is = ⊎_elim
     let zero_file = only w.0 w.1 in let low = is.no_lower in let above = w.2 in
     absurd (omega (arith, zero_file, low, above)))
     is.least
+
+-- version 2 is the last one
+version_two : (version : ℕ) → ◌≡◌ {A = ℕ} (if nat_lt version 2 then 32 else 64) 64 → version ≤ 2 → version ≡ 2
+version_two zero size few = absurd (omega (arith, size))
+version_two (suc zero) size few = absurd (omega (arith, size))
+version_two (suc (suc version)) size few = omega (arith, few)
 
 -- ---- what opening it gives
 
@@ -107,6 +116,24 @@ module _ {D : Type 0} (disk : Ghosts D) (p : FreshProject) (can : CanBeMade p) (
         made.there in
         sym at.place ∙ header_alone at.front p.rate p.block_size p.depth at.spelled
 
+    -- the journal is that of version 2 in file 0, of no generation
+    durable : IsDurable disk start
+    durable = (to.held made.honest).durable to.new.stopped
+
+    stands : IsOne (form_at start) (form_2 0) durable.log (fresh p.rate p.block_size p.depth)
+    stands =
+        let at = durable.there in
+        one_journal (form_at start) (form_2 0) durable.log (fresh p.rate p.block_size p.depth) (disk.reads start.store)
+        (form_known start.version start.file) (inr refl) to.studio.journal.among (omega arith)
+        (record { front = at.front; spelled = at.spelled; shut = at.read; newest = at.newest })
+        (subst (HasLog (form_2 0) (fresh p.rate p.block_size p.depth)) (sym to.reads) made.there)
+
+    version_is : start.version ≡ 2
+    version_is = version_two start.version (ap (λ (f : Form). f.header_size) stands.form) to.studio.journal.version_most
+
+    generation_is : start.generation ≡ 0
+    generation_is = sym durable.generation ∙ ap (λ (l : Log). l.base.generation) stands.log
+
     room_is : HasRoom disk start.store (left_behind 10 p)
     room_is = room_left disk store start.store StaysStep two_calls (left_behind 8 p) (left_behind 10 p) to.changed
         made.tells
@@ -136,6 +163,9 @@ module _ {D : Type 0} (disk : Ghosts D) (p : FreshProject) (can : CanBeMade p) (
       rate = (shows i).rate;
       block_size = (shows i).block_size;
       next_block = next_is i;
+      file = ap (λ (f : Form). f.file) stands.form i;
+      version = version_is i;
+      generation = generation_is i;
       journal_end = end_is i;
       read_faults = room_is.reads i;
       change_faults = room_is.changes i;

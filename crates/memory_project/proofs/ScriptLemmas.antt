@@ -1,5 +1,6 @@
 -- Lines one after another.
 use Rattle.std.proofs.Common.{List, [], ◌∷◌, length, refl, ap, ◌∙◌, arith}
+use Rattle.pcm_base.specs.declared.command.Call.TheVariants.{Line}
 use Rattle.pcm_base.specs.declared.command.Command.{Command}
 use Rattle.pcm_base.specs.Studio.{Studio}
 use Rattle.disk_model.specs.Frames.{asked}
@@ -8,6 +9,7 @@ use Rattle.disk_model.specs.declared.store.Store.{Ghosts}
 use Rattle.editor_core.specs.Core.{Core}
 use Rattle.editor_core.specs.Studios.{studio_of}
 use Rattle.editor_core.specs.Took.{silent}
+use Rattle.model_laws.proofs.Answered.{carried_is}
 use Rattle.memory_project.specs.Lines.{AreCarriedOut, MayCome, MayRun, RanLines, Went, line_room, room_for}
 use Rattle.memory_project.specs.Memory.{no_room}
 use Rattle.memory_project.proofs.RoomLemmas.{room_less}
@@ -33,7 +35,8 @@ module _ {D : Type 0} (disk : Ghosts D) (s : Core D) (c : Command) (cs : List Co
     others_run new went = record {
       studio = went.studio;
       held = went.held;
-      size = ap (λ (z : Studio). z.block_size) went.step.is ∙ may.size;
+      size = ap (λ (z : Studio). z.block_size)
+          (carried_is (studio_of disk s) (studio_of disk new) (Line c) silent went.reply went.step) ∙ may.size;
       kinds = may.kinds.1;
       valid = may.valid.3 silent went.reply (studio_of disk new) went.step;
       few = may.few.1 silent went.reply (studio_of disk new) went.step;

@@ -19,9 +19,9 @@ use Rattle.pcm_base.specs.Envelope.{columns_of, edge, scan_of}
 use Rattle.pcm_base.specs.Edits.{part}
 use Rattle.pcm_base.specs.Refusals.{◌otherwise◌, bad_columns, bad_range, call_tests, is_empty, own_tests, range_tests}
 use Rattle.pcm_base.specs.Refusals.{refused_if}
-use Rattle.pcm_base.specs.Run.{Answers, name_in_line, outside, refusal_of, stop_of, stop_test}
-use Rattle.pcm_base.specs.Counters.{Needs, commits_needed, commits_of, counter_tests, no_room, places_of, record_test}
-use Rattle.pcm_base.specs.Counters.{tracks_needed, tracks_of}
+use Rattle.pcm_base.specs.Run.{Answers, followed, name_in_line, outside, refusal_of, stop_of, stop_test}
+use Rattle.pcm_base.specs.Counters.{Needs, commits_needed, commits_of, counter_tests, generations_of, no_room}
+use Rattle.pcm_base.specs.Counters.{places_of, record_test, tracks_needed, tracks_of}
 use Rattle.pcm_base.specs.State.{current}
 use Rattle.pcm_base.specs.Step.{line_of_track}
 use Rattle.pcm_base.specs.Studio.{Studio}
@@ -32,6 +32,7 @@ use Rattle.editor_core.specs.Reads.{Looks}
 use Rattle.editor_core.specs.Studios.{studio_of}
 use Rattle.editor_core.specs.Took.{silent}
 use Rattle.script_gen.proofs.Passing.{both-pass}
+use Rattle.model_laws.proofs.Answered.{answered_same}
 use Rattle.memory_project.specs.Sums.{HasOneTrack, Looked, MaySum, first_column, first_len, track_cells}
 use Rattle.memory_project.specs.Memory.{no_room as nothing_more}
 use Rattle.memory_project.proofs.LineLemmas.{fails_not, no_answer}
@@ -90,6 +91,7 @@ pub record IsLook (t : Studio) (c : Command) : Type 0 where
   pub tracks : tracks_needed (outside t silent) c ≡ 0
   pub commits : commits_needed c ≡ 0
   pub places : places_of (Line c) 0 ≡ 0
+  pub still : generations_of (Line c) ≡ 0
   pub needs : (blocks len : ℕ) → Needs (outside t silent) t (Line c) blocks len → (blocks ≡ 0) × (len ≡ 0)
 
 module _ {D : Type 0} (disk : Ghosts D) (s : Core D) (may : MaySum disk s) where
@@ -105,20 +107,24 @@ module _ {D : Type 0} (disk : Ghosts D) (s : Core D) (may : MaySum disk s) where
         let commits = all.commit_most in
         let pins = all.pin_most in
         let end = all.end_most in
+        let last = may.studio.journal.generation_most in
         let tracks_none = look.tracks in
         let commits_none = look.commits in
         let places_none = look.places in
+        let still = look.still in
         let a = no_room t.next_block 0 in
         let b = no_room t.state.next_track (tracks_of (outside t silent) (Line c)) in
         let d = no_room t.state.commit (commits_of (Line c)) in
         let e = no_room t.state.next_pin 0 in
         let f = no_room t.journal_end (places_of (Line c) 0) in
-        both-pass a (b otherwise d otherwise e otherwise f) (room_passes t.next_block 0 (omega arith))
-        (both-pass b (d otherwise e otherwise f)
+        let g = no_room t.generation (generations_of (Line c)) in
+        both-pass a (b otherwise d otherwise e otherwise f otherwise g) (room_passes t.next_block 0 (omega arith))
+        (both-pass b (d otherwise e otherwise f otherwise g)
         (room_passes t.state.next_track (tracks_of (outside t silent) (Line c)) (omega arith))
-        (both-pass d (e otherwise f) (room_passes t.state.commit (commits_of (Line c)) (omega arith))
-        (both-pass e f (room_passes t.state.next_pin 0 (omega arith))
-        (room_passes t.journal_end (places_of (Line c) 0) (omega arith)))))
+        (both-pass d (e otherwise f otherwise g) (room_passes t.state.commit (commits_of (Line c)) (omega arith))
+        (both-pass e (f otherwise g) (room_passes t.state.next_pin 0 (omega arith))
+        (both-pass f g (room_passes t.journal_end (places_of (Line c) 0) (omega arith))
+        (room_passes t.generation (generations_of (Line c)) (omega arith))))))
 
     none_passes : refusal_of (outside t silent) t (Line c) 0 0 ≡ None
     none_passes =
@@ -152,6 +158,7 @@ module _ {D : Type 0} (disk : Ghosts D) (s : Core D) (may : MaySum disk s) where
     tracks = refl;
     commits = refl;
     places = refl;
+    still = refl;
     needs = λ blocks len needs. needs;
   }
 
@@ -182,6 +189,7 @@ module _ {D : Type 0} (disk : Ghosts D) (s : Core D) (may : MaySum disk s) where
       tracks = refl;
       commits = refl;
       places = refl;
+      still = refl;
       needs = λ blocks len needs. needs;
     }
 
@@ -198,7 +206,10 @@ module _ {D : Type 0} (disk : Ghosts D) (s : Core D) (may : MaySum disk s) where
         record {
           studio = looks.took.studio;
           held = looks.took.held may.held;
-          same = step.is ∙ (λ i. record t { next_block = block i; journal_end = end i });
+          same = step.is
+              ∙ answered_same (outside t silent) t.state (Line line) r step.answers refl
+              (followed (outside t silent) t (Line line) step.blocks step.len)
+              ∙ (λ i. record t { next_block = block i; journal_end = end i });
           room = room_kept disk s.store new.store nothing_more looks.kept may.room;
           asked_none = asked_kept disk s.store new.store looks.kept;
         }

@@ -1,5 +1,6 @@
 -- A fresh project on a disk in memory.
-use Rattle.std.specs.Prelude.{◌≡◌, ℕ, ◌-◌, ◌≤◌, ◌<◌, ◌^◌, IsTrue, IsSome, None}
+use Rattle.std.specs.Prelude.{◌≡◌, ℕ, ◌-◌, ◌≤◌, ◌<◌, IsTrue, IsSome, None}
+use Rattle.pcm_base.specs.declared.limits.TheConstants.{COUNTER_LIMIT}
 use Rattle.disk_model.specs.Room.{Room}
 use Rattle.disk_model.specs.declared.store.Store.{Ghosts}
 use Rattle.pcm_base.specs.Studio.{fresh}
@@ -18,11 +19,11 @@ use Rattle.memory_project.specs.Memory.{HasAsked, HasRoom, no_room}
 pub record CanBeMade (p : FreshProject) : Type 0 where
   pub format : IsFormat p.rate p.block_size p.depth
   pub files_least : 1 ≤ p.files
-  pub files_most : p.files < 2 ^ 62
+  pub files_most : p.files < COUNTER_LIMIT
   pub bytes_least : 82 ≤ p.bytes
-  pub bytes_most : p.bytes < 2 ^ 62
+  pub bytes_most : p.bytes < COUNTER_LIMIT
   pub calls_least : 10 ≤ p.calls
-  pub calls_most : p.calls < 2 ^ 62
+  pub calls_most : p.calls < COUNTER_LIMIT
 
 -- what opening a disk with it finds
 abbrev pub found_of : FreshProject → Opened

@@ -1,5 +1,6 @@
 -- A disk with room for what is asked of it.
-use Rattle.std.specs.Prelude.{◌≡◌, ℕ, ◌+◌, ◌≤◌, ◌<◌, ◌^◌, Some}
+use Rattle.std.specs.Prelude.{◌≡◌, ℕ, ◌+◌, ◌≤◌, ◌<◌, Some}
+use Rattle.pcm_base.specs.declared.limits.TheConstants.{COUNTER_LIMIT}
 use Rattle.disk_model.specs.Frames.{asked}
 use Rattle.disk_model.specs.Room.{IsWithin, Room}
 use Rattle.disk_model.specs.declared.store.Store.{Ghosts}
@@ -7,7 +8,7 @@ use Rattle.disk_model.specs.declared.store.Store.{Ghosts}
 -- so much more fits
 pub record Fits (now more room : ℕ) : Type 0 where
   pub within : now + more ≤ room
-  pub small : now + more < 2 ^ 62
+  pub small : now + more < COUNTER_LIMIT
 
 -- No call of the disk has failed, and it has room for so much more.
 pub record HasRoom {D : Type 0} (disk : Ghosts D) (store : D) (more : Room) : Type 0 where

@@ -1,7 +1,7 @@
 // A line that a script of a number may have, carried out by the call that is its own.
-ghost use Rattle.std.specs.Prelude.{◌≡◌, ◌<◌, ◌^◌, OnErr, OnOk};
+ghost use Rattle.std.specs.Prelude.{◌≡◌, OnErr, OnOk};
 ghost use Rattle.pcm_base.specs.declared.command.Command.TheVariants.{Ramp};
-ghost use Rattle.pcm_base.specs.Form.{IsInForm};
+ghost use Rattle.pcm_base.specs.Form.{IsInForm, IsNumber};
 ghost use Rattle.editor_core.specs.Applied.{EndsAlike};
 ghost use Rattle.editor_core.specs.Core.{core_of};
 ghost use Rattle.editor_core.specs.Studios.{IsStudio, studio_of};
@@ -33,7 +33,7 @@ fn ask_ramp<S: Store>(
     step: i16,
 ) -> Result<(), Refusal>
     requires studio { IsStudio S.Store (core_of studio.old) }
-    requires form { at < 2 ^ 63 }
+    requires form { IsNumber at }
     ensures { Asked S.Store (core_of studio.old) (Ramp track at count start step) result (core_of studio.new) }
 {
     told(studio.ramp(alloc, track, at, count, start, step))

@@ -1,6 +1,7 @@
 // The frames of the mix of a point's tracks.
 ghost use Rattle.std.specs.Prelude.{◌≡◌, ◌≤◌, ◌<◌, ◌+◌, ◌-◌, ◌*◌, ◌^◌, length, map, take, drop, min, IsTrue};
 ghost use Rattle.std.specs.Prelude.{IsOkUnless, OnOk, IfOk, IfErr};
+ghost use Rattle.pcm_base.specs.declared.limits.TheConstants.{MAX_TRACKS};
 ghost use Rattle.block_store.specs.declared.fault.BlockFault.TheVariants as fault;
 ghost use Rattle.disk_model.specs.Frames.{Kept};
 ghost use Rattle.block_store.specs.Reads.{Counted, IsFaultIn};
@@ -41,7 +42,7 @@ pub(crate) fn mix_stretches<'a, S: Store>(
 ) -> Result<(), BlockFault>
     requires reader { IsReader reader.old }
     requires cached { IsTrue (S.tells store.old) → IsCacheOf (S.reads store.old) cache.old }
-    requires room { 64 ≤ length cells.old }
+    requires room { MAX_TRACKS ≤ length cells.old }
     requires few { reader.old.at + length out.old < 2 ^ 64 }
     ensures reader { IsReader reader.new }
     ensures cache { KeepsCache (S.tells store.old) (S.reads store.old) (point_blocks reader.old.point.now) cache.old
@@ -90,7 +91,7 @@ pub fn read_frames<S: Store>(
     out: &mut [Frame],
 ) -> Result<usize, BlockFault>
     requires named { AllNamed (point_blocks point.now) }
-    requires room { 64 ≤ length cells.old }
+    requires room { MAX_TRACKS ≤ length cells.old }
     requires few { from + length out.old < 2 ^ 64 }
     requires cached { IsTrue (S.tells store.old) → IsCacheOf (S.reads store.old) cache.old }
     ensures cache { KeepsCache (S.tells store.old) (S.reads store.old) (point_blocks point.now) cache.old cache.new }

@@ -15,8 +15,8 @@ use block_cache::Cache;
 use block_store::BlockFault;
 use cell_view::{TrackRest, fill_gaps, no_rest, pass, read_ahead, rest_at};
 use disk_model::Store;
-use pcm_base::Cell;
-use project_state::{MAX_TRACKS, Point, Track};
+use pcm_base::{Cell, MAX_TRACKS};
+use project_state::{Point, Track};
 
 /// What is left of a track.
 #[derive(Clone, Copy)]
@@ -24,7 +24,7 @@ pub(crate) struct TrackPass<'a> {
     pub(crate) rest: TrackRest<'a>,
 }
 
-/// Passes over the tracks from a place on, and others behind them.
+/// Passes over the tracks from a place on, and others after them.
 pub(crate) fn passes_from<'a>(point: &'a Point, from: u64) -> [TrackPass<'a>; MAX_TRACKS]
     requires { AllNamed (point_blocks point.now) }
     ensures { AreRestsOf from point.now result }

@@ -17,8 +17,8 @@ use super::tracks::{gains_of, mix_len, sides_of};
 use block_cache::Cache;
 use block_store::BlockFault;
 use disk_model::Store;
-use pcm_base::{Cell, Frame, Side};
-use project_state::{MAX_TRACKS, Point};
+use pcm_base::{Cell, Frame, MAX_TRACKS, Side};
+use project_state::Point;
 
 /// A pass over the mix of a project's tracks, from a place on. It lasts over several reads, each of which goes on where
 /// the one before ended, so that no clip or block is passed twice.
@@ -65,11 +65,11 @@ impl<'a> MixReader<'a> {
     ) -> Result<usize, BlockFault>
         requires reader { IsReader self.old }
         requires cached { IsTrue (S.tells store.old) → IsCacheOf (S.reads store.old) cache.old }
-        requires room { 64 ≤ length cells.old }
+        requires room { MAX_TRACKS ≤ length cells.old }
         requires few { self.old.at + length out.old < 2 ^ 64 }
         ensures count { IfOk result (λ n. n ≡ min (length out.old) (mix_length_of self.old.point.now - self.old.at)) }
         ensures place { IfOk result (λ n. self.new.at ≡ self.old.at + n) }
-        // It goes on behind them, over the same tracks, and after an error too.
+        // It goes on after them, over the same tracks, and after an error too.
         ensures reader { IsReader self.new }
         ensures point { self.new.point.now ≡ self.old.point.now }
         ensures later { self.old.at ≤ self.new.at }

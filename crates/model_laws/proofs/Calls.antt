@@ -6,7 +6,7 @@ use Rattle.pcm_base.specs.declared.command.Call.{Call}
 use Rattle.pcm_base.specs.declared.command.Call.TheVariants as call
 use Rattle.pcm_base.specs.Cells.{trimmed, cells_at, edited_at}
 use Rattle.pcm_base.specs.Counters.{no_room, commits_of, tracks_of, pins_of, record_bytes, places_of, counter_tests}
-use Rattle.pcm_base.specs.Counters.{record_test}
+use Rattle.pcm_base.specs.Counters.{generations_of, record_test}
 use Rattle.pcm_base.specs.Edits.{as_cells}
 use Rattle.pcm_base.specs.Form.{IsCallInForm}
 use Rattle.pcm_base.specs.History.{recorded}
@@ -55,25 +55,29 @@ record HasRoom (out : Outside) (t : Studio) (c : Call) (blocks len : ℕ) : Type
   commits : t.state.commit + commits_of c ≤ 2 ^ 62
   pins : t.state.next_pin + pins_of c ≤ 2 ^ 62
   places : t.journal_end + places_of c len ≤ 2 ^ 62
+  generations : t.generation + generations_of c ≤ 2 ^ 62
 
 counters_passed : (out : Outside) (t : Studio) (c : Call) (blocks len : ℕ) → counter_tests out t c blocks len ≡ None →
     HasRoom out t c blocks len
 counters_passed out t c blocks len e =
+    let generations = no_room t.generation (generations_of c) in
     let places = no_room t.journal_end (places_of c len) in
     let pins = no_room t.state.next_pin (pins_of c) in
     let commits = no_room t.state.commit (commits_of c) in
     let tracks = no_room t.state.next_track (tracks_of out c) in
     let ids = no_room t.next_block blocks in
-    let first = both_passed ids (tracks otherwise commits otherwise pins otherwise places) e in
-    let second = both_passed tracks (commits otherwise pins otherwise places) first.1 in
-    let third = both_passed commits (pins otherwise places) second.1 in
-    let fourth = both_passed pins places third.1 in
+    let first = both_passed ids (tracks otherwise commits otherwise pins otherwise places otherwise generations) e in
+    let second = both_passed tracks (commits otherwise pins otherwise places otherwise generations) first.1 in
+    let third = both_passed commits (pins otherwise places otherwise generations) second.1 in
+    let fourth = both_passed pins (places otherwise generations) third.1 in
+    let fifth = both_passed places generations fourth.1 in
     record {
       ids = has_room t.next_block blocks first.0;
       tracks = has_room t.state.next_track (tracks_of out c) second.0;
       commits = has_room t.state.commit (commits_of c) third.0;
       pins = has_room t.state.next_pin (pins_of c) fourth.0;
-      places = has_room t.journal_end (places_of c len) fourth.1;
+      places = has_room t.journal_end (places_of c len) fifth.0;
+      generations = has_room t.generation (generations_of c) fifth.1;
     }
 
 bytes_within : (c : Call) (len : ℕ) → record_bytes c len ≤ places_of c len
@@ -82,6 +86,19 @@ bytes_within c len = by (commits_of c == 0)
     by : (none : Bool) → (if none then 0 else 5 + len) ≤ (if none then 0 else 6 + len)
     by true = omega arith
     by false = omega arith
+
+room_passed : (out : Outside) (t : Studio) (c : Call) (blocks len : ℕ) → refusal_of out t c blocks len ≡ None →
+    HasRoom out t c blocks len
+room_passed out t c blocks len e =
+    let own = call_tests out t.state c in
+    let counters = counter_tests out t c blocks len in
+    let going = both_passed (stop_test t.stopped c) (own otherwise counters otherwise record_test len) e in
+    let passed = both_passed own (counters otherwise record_test len) going.1 in
+    counters_passed out t c blocks len (both_passed counters (record_test len) passed.1).0
+
+pub next_generation : (out : Outside) (t : Studio) (c : Call) (blocks len : ℕ) → refusal_of out t c blocks len ≡ None →
+    t.generation + generations_of c ≤ 2 ^ 62
+next_generation out t c blocks len e = (room_passed out t c blocks len e).generations
 
 -- all that refuses a call let it through
 pub followed_bounded : (out : Outside) (t : Studio) (c : Call) (blocks len : ℕ) → IsBoundedStudio t →
@@ -92,7 +109,7 @@ followed_bounded out t c blocks len b form e =
     let counters = counter_tests out t c blocks len in
     let going = both_passed (stop_test t.stopped c) (own otherwise counters otherwise record_test len) e in
     let passed = both_passed own (counters otherwise record_test len) going.1 in
-    let room = counters_passed out t c blocks len (both_passed counters (record_test len) passed.1).0 in
+    let room = room_passed out t c blocks len e in
     let ids = b.next_block.0 in
     let start = b.journal_end.0 in
     let places = room.places in
@@ -101,5 +118,8 @@ followed_bounded out t c blocks len b form e =
       rate = b.rate;
       block_size = b.block_size;
       next_block = (omega (arith, ids), room.ids);
+      file = b.file;
+      version = b.version;
+      generation = b.generation;
       journal_end = (omega (arith, start), omega (arith, places, bytes_within c len));
     }

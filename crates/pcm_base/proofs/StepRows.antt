@@ -15,7 +15,7 @@ use Rattle.pcm_base.specs.Cells.{cells_at}
 use Rattle.pcm_base.specs.Counters.{counter_tests}
 use Rattle.pcm_base.specs.Outside.{Outside}
 use Rattle.pcm_base.specs.Refusals.{own_tests, call_tests}
-use Rattle.pcm_base.specs.Run.{refusal_of}
+use Rattle.pcm_base.specs.Run.{packed, refusal_of}
 use Rattle.pcm_base.specs.State.{State, new_state, current}
 use Rattle.pcm_base.specs.Step.{after_line, after, MayReply}
 use Rattle.pcm_base.specs.Studio.{Studio, fresh}
@@ -52,6 +52,17 @@ spent : counter_tests nowhere
     (record (fresh 8000 4 256) { state = record (new_state 256) { next_track = 4611686018427387904 } })
     (call.Line command.Track) 0 0 ≡ Some (SpaceSpent 4611686018427387904 1)
 spent = refl
+
+-- the generation is the last number that can be spent
+no_generation : counter_tests nowhere (record (fresh 8000 4 256) { generation = 4611686018427387904 })
+    (call.Line command.Compact) 0 0 ≡ Some (SpaceSpent 4611686018427387904 1)
+no_generation = refl
+
+-- the journal goes to the other file and back
+to_and_fro : (packed 185 (fresh 8000 4 256)).file ∷ (packed 185 (fresh 8000 4 256)).generation
+    ∷ (packed 185 (fresh 8000 4 256)).journal_end ∷ (packed 185 (packed 185 (fresh 8000 4 256))).file ∷ []
+    ≡ 1 ∷ 1 ∷ 184 ∷ 0 ∷ []
+to_and_fro = refl
 
 -- two tracks, one on the left, muted and at half its gain, after a third was dropped
 abbrev with_two : State

@@ -9,7 +9,7 @@ use Rattle.pcm_base.specs.declared.command.Call.TheVariants as call
 use Rattle.pcm_base.specs.declared.limits.TheConstants.{MAX_GAIN, MAX_RAMP}
 use Rattle.pcm_base.specs.declared.chunk.TheConstants.{CHUNK_SAMPLES}
 use Rattle.pcm_base.specs.Shape.{Shape, NewTrack, DropTrack, SetTrack, PutIn, EditRange, CutRun, CopyRun, PasteRun}
-use Rattle.pcm_base.specs.Shape.{MoveTo, Purge, Look, Reclaim, Import, Export, Source, Given, Ramp, View}
+use Rattle.pcm_base.specs.Shape.{MoveTo, Purge, Look, Reclaim, Compact, Import, Export, Source, Given, Ramp, View}
 use Rattle.pcm_base.specs.Shape.{Cells, Frames, Columns, Tracks, shape_of, gain_of_setting, gain_of_edit}
 
 -- a track's id, a place or a count
@@ -81,6 +81,7 @@ IsShapeInForm (MoveTo move) = Unit {0}
 IsShapeInForm (Purge count) = IsNumber count
 IsShapeInForm (Look view) = IsViewInForm view
 IsShapeInForm (Reclaim limit) = IsLimit limit
+IsShapeInForm Compact = Unit {0}
 IsShapeInForm (Import name) = IsName name
 IsShapeInForm (Export name) = IsName name
 

@@ -1,5 +1,5 @@
 -- The step of a studio as a relation, and whole runs.
-use Rattle.std.specs.Prelude.{◌≡◌, ◌⊎◌, ℕ, ◌+◌, ◌≤◌, IsTrue, List, [], ◌∷◌, take, Option, Some}
+use Rattle.std.specs.Prelude.{◌≡◌, ◌⊎◌, ℕ, ◌+◌, ◌-◌, ◌≤◌, IsTrue, List, [], ◌∷◌, take, Option, Some}
 use Rattle.std.specs.Prelude.{None, IsSome, Result, Ok, Err}
 use Rattle.pcm_base.specs.declared.command.Command.{Command}
 use Rattle.pcm_base.specs.declared.command.Call.{Call}
@@ -17,7 +17,7 @@ use Rattle.pcm_base.specs.Outside.{Outside, Sounds, SameElsewhere}
 pub use Rattle.pcm_base.specs.Reach.{may_change_line, may_change, name_in_line, name_in}
 use Rattle.pcm_base.specs.Refusals.{◌otherwise◌, call_tests}
 use Rattle.pcm_base.specs.Shape.{Shape, NewTrack, DropTrack, SetTrack, PutIn, EditRange, CutRun, CopyRun, PasteRun}
-use Rattle.pcm_base.specs.Shape.{MoveTo, Purge, Look, Reclaim, Import, Export, shape_of}
+use Rattle.pcm_base.specs.Shape.{MoveTo, Purge, Look, Reclaim, Compact, Import, Export, shape_of}
 use Rattle.pcm_base.specs.Step.{after, sound_after, mix_file, MayAnswer}
 use Rattle.pcm_base.specs.Studio.{Studio, fault_sum}
 
@@ -46,13 +46,38 @@ refusal_of out t c blocks len =
     (stop_test t.stopped c) otherwise (call_tests out t.state c) otherwise (counter_tests out t c blocks len) otherwise
     (record_test len)
 
--- the studio after a call that nothing refuses
+-- the studio after a call that nothing refuses, but for the journal of one that is packed
 abbrev pub followed : Outside → Studio → Call → ℕ → ℕ → Studio
 followed out t c blocks len = record t {
   state = after out t.state c;
   next_block = t.next_block + blocks;
   journal_end = t.journal_end + record_bytes c len;
 }
+
+-- The journal stands in the other file from then on, in version 2, in the next generation and at its end: the last of
+-- these bytes is the gate of the next record.
+abbrev pub packed : ℕ → Studio → Studio
+packed bytes t = record t {
+  file = 1 - t.file;
+  version = 2;
+  generation = t.generation + 1;
+  journal_end = bytes - 1;
+}
+
+-- the studio after the answer: the journal is another one where it was packed
+abbrev pub answered : Reply → Studio → Studio
+answered reply.Done t = t
+answered reply.Copied t = t
+answered (reply.Cells cells) t = t
+answered (reply.Frames frames) t = t
+answered (reply.Columns columns) t = t
+answered (reply.Tracks tracks) t = t
+answered (reply.Freed count) t = t
+answered (reply.Packed bytes) t = packed bytes t
+answered (reply.Wrote bytes) t = t
+answered (reply.Pinned pin) t = t
+answered (reply.Length frames) t = t
+answered (reply.Refused why) t = t
 
 -- a call was carried out, with so many new blocks and a record of this length
 pub record CarriesOut (t : Studio) (c : Call) (sound : SoundMove) (r : Reply) (u : Studio) : Type 0 where
@@ -61,7 +86,7 @@ pub record CarriesOut (t : Studio) (c : Call) (sound : SoundMove) (r : Reply) (u
   pub needs : Needs (outside t sound) t c blocks len
   pub passed : refusal_of (outside t sound) t c blocks len ≡ None
   pub answers : MayAnswer (outside t sound) t.state c r
-  pub is : u ≡ followed (outside t sound) t c blocks len
+  pub is : u ≡ answered r (followed (outside t sound) t c blocks len)
   pub heard : sound.after ≡ sound_after (outside t sound) t.state c
 
 -- a test refuses a call, and nothing changes
@@ -106,6 +131,7 @@ LeavesBy t (MoveTo move) sound = sound.after ≡ sound.before
 LeavesBy t (Purge n) sound = sound.after ≡ sound.before
 LeavesBy t (Look view) sound = sound.after ≡ sound.before
 LeavesBy t (Reclaim limit) sound = sound.after ≡ sound.before
+LeavesBy t Compact sound = sound.after ≡ sound.before
 LeavesBy t (Import name) sound = sound.after ≡ sound.before
 LeavesBy t (Export name) sound = IsPartOfMix t.rate t sound
 
@@ -173,6 +199,7 @@ result_of (reply.Frames frames) = Ok (reply.Frames frames)
 result_of (reply.Columns columns) = Ok (reply.Columns columns)
 result_of (reply.Tracks tracks) = Ok (reply.Tracks tracks)
 result_of (reply.Freed count) = Ok (reply.Freed count)
+result_of (reply.Packed bytes) = Ok (reply.Packed bytes)
 result_of (reply.Wrote bytes) = Ok (reply.Wrote bytes)
 result_of (reply.Pinned pin) = Ok (reply.Pinned pin)
 result_of (reply.Length frames) = Ok (reply.Length frames)

@@ -50,6 +50,7 @@ pub data Shape : Type 0 where
   Purge : ℕ → Shape
   Look : View → Shape
   Reclaim : Option ℕ → Shape
+  Compact : Shape
   Import : List ℕ → Shape
   Export : List ℕ → Shape
 
@@ -79,6 +80,7 @@ shape_of (command.Mix from to) = Look (Frames from to)
 shape_of (command.Envelope id from to columns) = Look (Columns id from to columns)
 shape_of command.Tracks = Look Tracks
 shape_of (command.Reclaim limit) = Reclaim limit
+shape_of command.Compact = Compact
 shape_of (command.Import name) = Import name
 shape_of (command.Export name) = Export name
 
@@ -119,7 +121,7 @@ is_computed range.Silence = true
 is_computed range.Trim = false
 is_computed (range.Gain gain) = true
 
--- whether the line is a commit: not where it only looks, copies, reclaims or exports
+-- whether the line is a commit: not where it only looks, copies, reclaims, compacts or exports
 abbrev pub is_commit : Shape → Bool
 is_commit NewTrack = true
 is_commit (DropTrack id) = true
@@ -133,5 +135,6 @@ is_commit (MoveTo move) = true
 is_commit (Purge n) = true
 is_commit (Look view) = false
 is_commit (Reclaim limit) = false
+is_commit Compact = false
 is_commit (Import name) = true
 is_commit (Export name) = false

@@ -1,5 +1,5 @@
 -- What a call that nothing refuses leaves, and what it answers.
-use Rattle.std.specs.Prelude.{◌≡◌, ℕ, ◌+◌, ◌-◌, ◌≤◌, ◌==◌, if◌then◌else◌, ℤ, List, [], ◌∷◌, ◌++◌, length, map, take}
+use Rattle.std.specs.Prelude.{◌≡◌, ℕ, ◌+◌, ◌-◌, ◌<◌, ◌≤◌, ◌==◌, if◌then◌else◌, ℤ, List, [], ◌∷◌, ◌++◌, length, map, take}
 use Rattle.std.specs.Prelude.{drop, replicate, false, Option, Some, None, Result, Ok, Err}
 use Rattle.pcm_base.specs.declared.sound.Cell.{Cell}
 use Rattle.pcm_base.specs.declared.sound.Side.TheVariants.{Both}
@@ -9,7 +9,7 @@ use Rattle.pcm_base.specs.declared.command.Call.{Call}
 use Rattle.pcm_base.specs.declared.command.Call.TheVariants as call
 use Rattle.pcm_base.specs.declared.answer.Reply.{Reply}
 use Rattle.pcm_base.specs.declared.answer.Reply.TheVariants as reply
-use Rattle.pcm_base.specs.declared.limits.TheConstants.{UNITY_GAIN}
+use Rattle.pcm_base.specs.declared.limits.TheConstants.{COUNTER_LIMIT, FIRST_RECORD, UNITY_GAIN}
 use Rattle.pcm_base.specs.declared.wav.WavFault.{WavFault}
 use Rattle.pcm_base.specs.Cells.{Track, Project, trimmed, tracks_from, cells_at, run_edited, edited_at, dropped}
 use Rattle.pcm_base.specs.Cells.{changed_at}
@@ -21,7 +21,7 @@ use Rattle.pcm_base.specs.Wave.{Sound, wav_of, wav_text}
 use Rattle.pcm_base.specs.Outside.{Outside}
 use Rattle.pcm_base.specs.Envelope.{columns_of}
 use Rattle.pcm_base.specs.Shape.{Shape, NewTrack, DropTrack, SetTrack, PutIn, EditRange, CutRun, CopyRun, PasteRun}
-use Rattle.pcm_base.specs.Shape.{MoveTo, Purge, Look, Reclaim, Import, Export, Back, Forward, View, Cells, Frames}
+use Rattle.pcm_base.specs.Shape.{MoveTo, Purge, Look, Reclaim, Compact, Import, Export, Back, Forward, View, Cells, Frames}
 use Rattle.pcm_base.specs.Shape.{Columns, Tracks, shape_of, is_commit}
 use Rattle.pcm_base.specs.State.{State, current, clip_of}
 
@@ -94,6 +94,7 @@ history_after out s (MoveTo Forward) = at_cursor s.history (s.history.cursor + 1
 history_after out s (Purge n) = purged s.history n
 history_after out s (Look view) = s.history
 history_after out s (Reclaim limit) = s.history
+history_after out s Compact = s.history
 history_after out s (Import name) =
     edited s.history (current s ++ channel_tracks s.next_track (channels_of out.sound)) 0
 history_after out s (Export name) = s.history
@@ -112,6 +113,7 @@ clipboard_after s (MoveTo move) = s.clipboard
 clipboard_after s (Purge n) = s.clipboard
 clipboard_after s (Look view) = s.clipboard
 clipboard_after s (Reclaim limit) = s.clipboard
+clipboard_after s Compact = s.clipboard
 clipboard_after s (Import name) = s.clipboard
 clipboard_after s (Export name) = s.clipboard
 
@@ -129,6 +131,7 @@ tracks_given out (MoveTo move) = None
 tracks_given out (Purge n) = None
 tracks_given out (Look view) = None
 tracks_given out (Reclaim limit) = None
+tracks_given out Compact = None
 tracks_given out (Import name) = Some (length (channels_of out.sound))
 tracks_given out (Export name) = None
 
@@ -192,6 +195,7 @@ sound_by out s (MoveTo move) = out.sound
 sound_by out s (Purge n) = out.sound
 sound_by out s (Look view) = out.sound
 sound_by out s (Reclaim limit) = out.sound
+sound_by out s Compact = out.sound
 sound_by out s (Import name) = out.sound
 sound_by out s (Export name) = Some (mix_file out.rate s)
 
@@ -233,6 +237,7 @@ MayReplyBy out s (MoveTo move) r = r ≡ reply.Done
 MayReplyBy out s (Purge n) r = r ≡ reply.Done
 MayReplyBy out s (Look view) r = r ≡ seen s view
 MayReplyBy out s (Reclaim limit) r = (count : ℕ) × (r ≡ reply.Freed count) × IsWithin limit count
+MayReplyBy out s Compact r = (bytes : ℕ) × (r ≡ reply.Packed bytes) × (FIRST_RECORD < bytes) × (bytes ≤ COUNTER_LIMIT)
 MayReplyBy out s (Import name) r = r ≡ reply.Done
 MayReplyBy out s (Export name) r = r ≡ reply.Wrote (length (mix_file out.rate s))
 

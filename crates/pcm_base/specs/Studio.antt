@@ -4,13 +4,17 @@ use Rattle.pcm_base.specs.declared.limits.TheConstants.{FIRST_BLOCK, FIRST_RECOR
 use Rattle.pcm_base.specs.State.{State, new_state}
 
 -- Whether it has stopped, and at which count of faults; the frames in a second, and the most samples of a block; the id
--- of the next block and the place where the journal ends; and how many reads and how many changes of the disk failed.
+-- of the next block; the journal's file, version and generation, and the place where it ends; and how many reads and how
+-- many changes of the disk failed.
 pub record Studio : Type 0 where
   pub state : State
   pub stopped : Option ℕ
   pub rate : ℕ
   pub block_size : ℕ
   pub next_block : ℕ
+  pub file : ℕ
+  pub version : ℕ
+  pub generation : ℕ
   pub journal_end : ℕ
   pub read_faults : ℕ
   pub change_faults : ℕ
@@ -27,6 +31,9 @@ fresh rate block_size depth = record {
   rate = rate;
   block_size = block_size;
   next_block = FIRST_BLOCK;
+  file = 0;
+  version = 2;
+  generation = 0;
   journal_end = FIRST_RECORD;
   read_faults = 0;
   change_faults = 0;

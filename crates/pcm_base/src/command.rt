@@ -46,7 +46,7 @@ pub enum Command {
         start: i16,
         step: i16,
     },
-    /// Takes a range out, so that what is behind it moves up.
+    /// Takes a range out, so that what comes after it moves up.
     Delete {
         track: u64,
         from: u64,
@@ -116,30 +116,32 @@ pub enum Command {
     Purge {
         count: u64,
     },
-    /// Tells the cells of a range, none beyond the track's end.
+    /// Shows the cells of a range, none beyond the track's end.
     Show {
         track: u64,
         from: u64,
         to: u64,
     },
-    /// Tells the frames of a range of the mix, none beyond its end.
+    /// Shows the frames of a range of the mix, none beyond its end.
     Mix {
         from: u64,
         to: u64,
     },
-    /// Cuts a range into columns, and tells what a scan of each finds.
+    /// Cuts a range into columns, and shows what a scan of each finds.
     Envelope {
         track: u64,
         from: u64,
         to: u64,
         columns: u64,
     },
-    /// Tells the tracks.
+    /// Lists the tracks.
     Tracks,
-    /// Removes block files that nothing names, those of the lowest ids first: all, or so many at most.
+    /// Removes block files that nothing names, those of the lowest ids first: all, or at most as many as the limit.
     Reclaim {
         limit: Option<u64>,
     },
+    /// Puts the history into one header of a journal, in the file that is not in use.
+    Compact,
     /// Adds a track for each channel of a sound.
     Import {
         name: Name,
@@ -151,7 +153,8 @@ pub enum Command {
 }
 
 impl Command {
-    /// Whether it is a commit where it is carried out: not where it only looks, copies, reclaims or exports.
+    /// Whether it is a commit where it is carried out: not where it only looks, copies, reclaims, compacts or
+    /// exports.
     pub fn is_commit(&self) -> bool
         ensures { result ≡ (commits_of (Line self.now) == 1) }
     {
@@ -162,6 +165,7 @@ impl Command {
             | Command::Envelope { .. }
             | Command::Tracks
             | Command::Reclaim { .. }
+            | Command::Compact
             | Command::Export { .. } => false,
             _ => true,
         }
@@ -183,17 +187,17 @@ pub enum Call {
     },
     /// Keeps the current project as it is, by a number.
     Pin,
-    /// Tells how many frames the mix of a pin has.
+    /// Asks how many frames the mix of a pin has.
     PinLen {
         pin: u64,
     },
-    /// Tells the frames of the mix of a pin, from a place on, as many as are there, up to a number.
+    /// Reads the frames of the mix of a pin, from a place on: as many as are there, at most `count`.
     ReadPin {
         pin: u64,
         from: u64,
         count: u64,
     },
-    /// Lets a pin go.
+    /// Releases a pin.
     Unpin {
         pin: u64,
     },

@@ -96,7 +96,7 @@ impl PlayIn {
 }
 
 impl PlayOut {
-    /// Receives frames, and the end mark behind them: fewer than there is room for where the look at the ring showed no
+    /// Receives frames, and the end mark after them: fewer than there is room for where the look at the ring showed no
     /// item.
     pub fn take(&mut self, out: &mut [Frame]) -> Taken
         ensures ring { SameOut self.old self.new }

@@ -48,7 +48,7 @@ impl Counts {
         self.change_calls = self.change_calls.saturating_add(1);
     }
 
-    // Counts a changing call that is to write so many bytes.
+    // Counts a changing call that is to write this many bytes.
     pub(crate) fn count_write(&mut self, bytes: usize)
         ensures { self.new ≡ record self.old {
           change_calls = raised self.old.change_calls 1;

@@ -1,5 +1,6 @@
 // The numbered files of a folder, by calls of the system. No fault is counted here.
-ghost use Rattle.std.specs.Prelude.{◌≡◌, ◌≤◌, ◌^◌, ◌+◌, true, false, IfOk, OnOk, OnErr, IfSome, IsSome, length};
+ghost use Rattle.std.specs.Prelude.{◌≡◌, ◌≤◌, ◌+◌, true, false, IfOk, OnOk, OnErr, IfSome, IsSome, length};
+ghost use Rattle.pcm_base.specs.declared.limits.TheConstants.{COUNTER_LIMIT};
 ghost use Rattle.project_folder.specs.Entries.{waits_of};
 ghost use Rattle.project_folder.specs.Open.{IsNoneOpen};
 ghost use Rattle.project_folder.specs.Unsynced.{IsSynced};
@@ -36,7 +37,7 @@ impl<R: Files + Drop, W: SyncFiles<R::File> + Drop> Folder<R, W>
 where
     R::File: FileExt,
 {
-    // Nothing is opened yet. So many files are kept open at most that were written.
+    // Nothing is opened yet. This many files are kept open at most that were written.
     pub(crate) fn new(
         files: R,
         how: W,
@@ -142,7 +143,7 @@ where
 
     // Has the file open, so that `count` bytes can be written at a place, up to its sync.
     fn open_to_write(&mut self, file: u64, at: u64, count: usize) -> Result<(), Failed>
-        requires { at + count ≤ 2 ^ 62 }
+        requires { at + count ≤ COUNTER_LIMIT }
         ensures { self.new.entries.folder ≡ self.old.entries.folder }
     {
         let mut handle = match self.open_files.take(file) {
@@ -157,7 +158,7 @@ where
     }
 
     pub(crate) fn size(&mut self, file: u64) -> Result<Option<u64>, Failed>
-        ensures bound { IfOk result (λ n. IfSome n (λ n. n ≤ 2 ^ 62)) }
+        ensures bound { IfOk result (λ n. IfSome n (λ n. n ≤ COUNTER_LIMIT)) }
     {
         if let Some(handle) = self.open_files.get(file) {
             let Ok(metadata) = handle.inner.metadata() else {
@@ -169,7 +170,7 @@ where
     }
 
     pub(crate) fn read_at(&mut self, file: u64, at: u64, buf: &mut [u8]) -> Result<usize, Failed>
-        requires { at + length buf.old ≤ 2 ^ 62 }
+        requires { at + length buf.old ≤ COUNTER_LIMIT }
         ensures within { IfOk result (λ n. n ≤ length buf.old) }
     {
         self.open_to_read(file)?;
@@ -180,7 +181,7 @@ where
     }
 
     pub(crate) fn write_at(&mut self, file: u64, at: u64, bytes: &[u8]) -> Result<(), Failed>
-        requires { at + length bytes.now ≤ 2 ^ 62 }
+        requires { at + length bytes.now ≤ COUNTER_LIMIT }
         ensures held { OnOk result (IsSome self.new.entries.folder) }
     {
         self.met_absent = false;

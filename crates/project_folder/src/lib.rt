@@ -6,41 +6,21 @@
 //! what the system makes of a call is trusted, and `docs/DISK.md` says what is asked of it and which calls are made.
 #![tactic(auto)]
 
-#[cfg(test)]
-mod asking;
 mod counts;
-#[cfg(test)]
-mod drawn_tests;
 mod entries;
-#[cfg(test)]
-mod fault_tests;
 mod file_sink;
 mod file_source;
-#[cfg(test)]
-mod flags;
 mod folder;
 mod listing;
 mod names;
 mod open_files;
 mod paths;
 mod plain;
-#[cfg(test)]
-mod port_fault_tests;
-#[cfg(test)]
-mod port_tests;
 mod sounds;
 mod span;
 mod store;
-#[cfg(test)]
-mod sync_tests;
 mod syncing;
-#[cfg(test)]
-mod tests;
 mod vault;
-#[cfg(test)]
-mod watch;
-#[cfg(test)]
-mod watched;
 
 pub use file_sink::FileSink;
 pub use file_source::FileSource;

@@ -33,9 +33,9 @@ pub struct Handle<F> {
 /// File 0 once it was used, and other files: those that were written up to their sync, and some that were read or
 /// synced last. In each list the file that came first is in front.
 ///
-/// What was written stays open up to its sync, since the system surely tells a write that was lost behind the call only
-/// to those who had the file open then. The first file that is asked to be synced has all of them synced with it, and
-/// so they are where there are too many. A caller can't tell this from a disk that is quick.
+/// What was written stays open up to its sync, since the system surely reports a write that was lost after the call
+/// only to those who had the file open then. The first file that is asked to be synced has all of them synced with it,
+/// and so they are where there are too many. A caller can't tell this from a disk that is quick.
 #[derive(Drop)]
 pub(crate) struct OpenFiles<F> {
     pub(crate) first: Option<Handle<F>>,
@@ -108,7 +108,7 @@ fn add<F: Drop>(handles: &mut Vec<Handle<F>>, handle: Handle<F>) -> Result<(), F
 }
 
 impl<F: OpenFile + Drop> OpenFiles<F> {
-    // None is open yet. So many that were written are kept at most.
+    // None is open yet. This many that were written are kept at most.
     pub(crate) fn new(alloc: Global, most: usize) -> Result<OpenFiles<F>, AllocError> {
         Ok(OpenFiles {
             first: None,

@@ -1,15 +1,12 @@
-// Plain files by their paths: how they are told from what else may stand there, opened, made, read and written.
+// Plain files by their paths: how they differ from what else may stand there, opened, made, read and written.
 ghost use Rattle.std.specs.Prelude.{◌≡◌, ◌<◌, ◌≤◌, ◌^◌, ◌+◌, IfOk, OnOk, IfSome, IfNone, IsTrue, length};
 ghost use Rattle.std.specs.Fs.{file_type, metadata_len, IsDir, IsFile, IsSymlink};
 
-use pcm_base::Failed;
+use pcm_base::{COUNTER_LIMIT, Failed};
 use std::fs::{self, Metadata, OpenFile, OpenOptions};
 use std::io::{self, ErrorKind};
 use std::os::unix::fs::FileExt;
 use std::rt::Files;
-
-/// How many bytes a file has at most.
-const LONGEST: u64 = 1 << 62;
 
 /// What the opening of a file, or the making of a new one, has come to.
 #[derive(Drop)]
@@ -25,11 +22,11 @@ pub(crate) enum Opened<F> {
 // How many bytes a plain file has. What is no plain file, or is longer than 2^62 bytes, is refused.
 pub(crate) fn plain_length(metadata: &Metadata) -> Result<u64, Failed>
     ensures length { IfOk result (λ n. n ≡ metadata_len metadata.now) }
-    ensures bound { IfOk result (λ n. n ≤ 2 ^ 62) }
+    ensures bound { IfOk result (λ n. n ≤ COUNTER_LIMIT) }
     ensures plain { OnOk result (IsFile (file_type metadata.now)) }
 {
     let length = metadata.len();
-    if metadata.is_file() && length <= LONGEST {
+    if metadata.is_file() && length <= COUNTER_LIMIT {
         Ok(length)
     } else {
         Err(Failed)
@@ -52,7 +49,7 @@ pub(crate) fn absent_is_none<T>(answer: io::Result<T>) -> Result<Option<T>, Fail
 
 // How many bytes the file at the path has, or None where nothing is there. A link is not followed, and is refused.
 pub(crate) fn length_at<R: Files>(files: &R, path: &str) -> Result<Option<u64>, Failed>
-    ensures bound { IfOk result (λ n. IfSome n (λ n. n ≤ 2 ^ 62)) }
+    ensures bound { IfOk result (λ n. IfSome n (λ n. n ≤ COUNTER_LIMIT)) }
 {
     match absent_is_none(fs::symlink_metadata(files, path))? {
         Some(metadata) => Ok(Some(plain_length(&metadata)?)),

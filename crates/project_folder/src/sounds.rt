@@ -5,15 +5,12 @@ ghost use Rattle.pcm_base.specs.Form.{IsName};
 use crate::names::is_name;
 use crate::paths::{Paths, with_slash};
 use crate::plain::{Opened, length_at, make_folder, open_at, open_plain, plain_length, read_full};
-use pcm_base::Failed;
+use pcm_base::{COUNTER_LIMIT, Failed};
 use std::alloc::{AllocError, Global};
 use std::fs::{OpenFile, OpenOptions};
 use std::io::Write;
 use std::os::unix::fs::FileExt;
 use std::rt::Files;
-
-/// No sound has a byte so far from its start.
-const FARTHEST: u64 = 1 << 62;
 
 /// The open file of a sound.
 #[derive(Drop)]
@@ -101,7 +98,7 @@ impl<R: Files + Drop> Sounds<R> {
         let Some(sound) = &self.sound else {
             return Ok(0);
         };
-        if at > FARTHEST || buf.len() as u64 > FARTHEST {
+        if at > COUNTER_LIMIT || buf.len() as u64 > COUNTER_LIMIT {
             return Ok(0);
         }
         read_full(&sound.inner, at, buf)

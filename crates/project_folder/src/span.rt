@@ -1,5 +1,6 @@
 // Which bytes of a file were written and not synced since.
-ghost use Rattle.std.specs.Prelude.{◌≤◌, ◌+◌, ◌^◌};
+ghost use Rattle.std.specs.Prelude.{◌≤◌, ◌+◌};
+ghost use Rattle.pcm_base.specs.declared.limits.TheConstants.{COUNTER_LIMIT};
 
 use crate::plain::read_full;
 use std::os::unix::fs::FileExt;
@@ -12,7 +13,7 @@ const PIECE: usize = 4096;
 pub(crate) struct Span {
     pub(crate) from: u64,
     pub(crate) to: u64,
-    ghost within: { to ≤ 2 ^ 62 },
+    ghost within: { to ≤ COUNTER_LIMIT },
 }
 
 impl Span {
@@ -30,7 +31,7 @@ impl Span {
 
     // The least span that has its bytes and `count` more at a place.
     pub(crate) fn widen(self, at: u64, count: usize) -> Span
-        requires { at + count ≤ 2 ^ 62 }
+        requires { at + count ≤ COUNTER_LIMIT }
         ensures old { Covers result self.from self.to }
         ensures new { Covers result at (at + count) }
     {

@@ -64,7 +64,7 @@ impl<R: Files + Drop, W: SyncFiles<R::File> + Drop> FolderStore<R, W>
 where
     R::File: FileExt,
 {
-    // So many files that were written are kept open at most.
+    // This many files that were written are kept open at most.
     pub(crate) fn over(
         files: R,
         how: W,

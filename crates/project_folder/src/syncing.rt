@@ -4,7 +4,7 @@ use pcm_base::Failed;
 use std::fs::{File, OpenFile, TryLockError};
 use std::thread::{Threads, join};
 
-/// How many threads wait at once: behind more than these one sync hardly gets quicker for another.
+/// How many threads wait at once: with more than these one sync hardly gets quicker for another.
 const THREADS: usize = 16;
 
 /// Waits until what each of several open files holds is on the disk, and locks a folder.
@@ -66,7 +66,7 @@ impl<T: Threads> SyncFiles<File> for SideBySide<T> {
     }
 }
 
-// Waits for parts of so many files at once, the last of them in this thread.
+// Waits for parts of this many files at once, the last of them in this thread.
 fn sync_parts<T: Threads>(threads: &T, files: &[Handle<File>], size: usize) -> Result<(), Failed> {
     if size == 0 || files.len() <= size {
         return sync_each(files);

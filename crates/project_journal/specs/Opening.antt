@@ -1,5 +1,6 @@
 -- What files 0 and 1 say of the journal that is opened.
-use Rattle.std.specs.Prelude.{◌≡◌, ◌⊎◌, ℕ, zero, suc, ◌^◌, ◌≤◌, None, Some, List, length, Option, Result, Ok, Err}
+use Rattle.std.specs.Prelude.{◌≡◌, ◌⊎◌, ℕ, zero, suc, ◌≤◌, None, Some, List, length, Option, Result, Ok, Err}
+use Rattle.pcm_base.specs.declared.limits.TheConstants.{COUNTER_LIMIT}
 use Rattle.disk_model.specs.Disk.{Files, bytes_of}
 use Rattle.project_journal.specs.declared.fault.Damaged.{Damaged as Fault}
 use Rattle.project_journal.specs.declared.fault.JournalFault.{JournalFault}
@@ -24,7 +25,7 @@ Chooses files (Err _) = ⊥
 -- It is that of some files. A store that does not tell its bytes may have given any.
 pub record ChoosesSome (result : Result (Option ℕ) JournalFault) : Type 0 where
   pub files : Files
-  pub few : (file : ℕ) → length (bytes_of (files file)) ≤ 2 ^ 62
+  pub few : (file : ℕ) → length (bytes_of (files file)) ≤ COUNTER_LIMIT
   pub chooses : Chooses files result
 
 -- a reader of the file with these bytes, or the first fault of its header
@@ -51,7 +52,7 @@ StartsIn file bytes (Err (SpaceSpent have need)) = ⊥
 
 pub record StartsSome (file : ℕ) (result : Result Reader JournalFault) : Type 0 where
   pub bytes : List ℕ
-  pub few : length bytes ≤ 2 ^ 62
+  pub few : length bytes ≤ COUNTER_LIMIT
   pub starts : StartsIn file bytes result
 
 -- files 0 and 1 with these bytes, and no other
@@ -94,5 +95,5 @@ Opens files (Err (SpaceSpent have need)) = ⊥
 -- may have given any.
 pub record OpensSome (result : Result Reader JournalFault) : Type 0 where
   pub files : Files
-  pub few : (file : ℕ) → length (bytes_of (files file)) ≤ 2 ^ 62
+  pub few : (file : ℕ) → length (bytes_of (files file)) ≤ COUNTER_LIMIT
   pub opens : Opens files result

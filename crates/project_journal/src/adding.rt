@@ -14,11 +14,9 @@ use super::fault::JournalFault;
 use super::gate::add;
 use super::rows::{fill_row, fill_small};
 use disk_model::Store;
+use pcm_base::COUNTER_LIMIT;
 
-// Places of a file are below this.
-const LIMIT: u64 = 1 << 62;
-
-/// Adds a record to the journal in this file behind the gate at `at`, the first that is 0, and answers the place of the
+/// Adds a record to the journal in this file after the gate at `at`, the first that is 0, and answers the place of the
 /// next gate. The body has fewer than 2^32 bytes. It takes memory only where `scratch` has room for fewer than 5 bytes
 /// more than the body.
 ///
@@ -103,14 +101,14 @@ pub fn append_small<S: Store>(
     Ok(next)
 }
 
-// The place of the gate behind a record with a body of so many bytes.
+// The place of the gate after a record with a body of this many bytes.
 fn next_gate(at: u64, len: usize) -> Result<u64, JournalFault>
     requires { len < 2 ^ 32 }
-    ensures ok { IfOk result (λ next. (next ≡ at + 5 + len) × (next + 1 ≤ 2 ^ 62)) }
-    ensures err { IfErr result (λ e. (e ≡ JournalFault.SpaceSpent at (6 + len)) × (2 ^ 62 < at + (6 + len))) }
+    ensures ok { IfOk result (λ next. (next ≡ at + 5 + len) × (next + 1 ≤ COUNTER_LIMIT)) }
+    ensures err { IfErr result (λ e. (e ≡ JournalFault.SpaceSpent at (6 + len)) × (COUNTER_LIMIT < at + (6 + len))) }
 {
     let need = len as u64 + 6;
-    if at > LIMIT || need > LIMIT - at {
+    if at > COUNTER_LIMIT || need > COUNTER_LIMIT - at {
         return Err(JournalFault::SpaceSpent { have: at, need });
     }
     Ok(at + need - 1)

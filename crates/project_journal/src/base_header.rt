@@ -1,5 +1,5 @@
 // The fields of a header of version 2, and their tests.
-ghost use Rattle.std.specs.Prelude.{◌≡◌, ◌+◌, ◌-◌, ◌≤◌, ◌^◌, ◌++◌, ℕ, List, length, take, replicate};
+ghost use Rattle.std.specs.Prelude.{◌≡◌, ◌+◌, ◌-◌, ◌≤◌, ◌++◌, ℕ, List, length, take, replicate};
 ghost use Rattle.project_journal.specs.Header.{base_tests, base_tests_in, last_tests, last_tests_in, base_header_tests};
 ghost use Rattle.project_journal.specs.Header.{base_fields, ends, Tested};
 
@@ -8,9 +8,7 @@ use super::fault::Damaged;
 use super::fields::{u8_at, u32_at, u64_at};
 use super::form::BASE_VERSION;
 use super::header::{first_failure, test, tests_of};
-
-// No number of a header passes this.
-const MOST: u64 = 1 << 62;
+use pcm_base::{COUNTER_LIMIT, FIRST_BLOCK};
 
 // The first 64 bytes, with zeros where there are fewer.
 pub(crate) fn head_of(bytes: &[u8]) -> [u8; 64]
@@ -55,7 +53,7 @@ pub(crate) fn test_second(bytes: &[u8]) -> Result<(), Damaged>
     }
 }
 
-// The same behind the fields that all versions have.
+// The same after the fields that all versions have.
 fn test_base(bytes: &[u8]) -> Result<(), Damaged>
     ensures { Tested (base_tests bytes.now ++ last_tests bytes.now) result }
 {
@@ -66,9 +64,9 @@ fn test_base(bytes: &[u8]) -> Result<(), Damaged>
     }
 }
 
-// In a file of so many bytes, a field has to be there.
+// In a file of this many bytes, a field has to be there.
 fn ends_in(at: u64, size: u64, len: usize) -> Damaged
-    requires { at + size ≤ 2 ^ 62 }
+    requires { at + size ≤ COUNTER_LIMIT }
     ensures { result ≡ ends at size len }
 {
     let end = at + size;
@@ -98,13 +96,21 @@ fn base_tests_of(head: &[u8], len: usize) -> [Damaged; 11]
     let base = base_of(head);
     let depth = u32_at(head, 17);
     [
-        test_long(21, base.generation.min(MOST), base.generation),
+        test_long(21, base.generation.min(COUNTER_LIMIT), base.generation),
         ends_in(29, 8, len),
-        test_long(29, base.commit.min(MOST), base.commit),
+        test_long(29, base.commit.min(COUNTER_LIMIT), base.commit),
         ends_in(37, 8, len),
-        test_long(37, base.next_block.max(16).min(MOST), base.next_block),
+        test_long(
+            37,
+            base.next_block.max(FIRST_BLOCK).min(COUNTER_LIMIT),
+            base.next_block,
+        ),
         ends_in(45, 8, len),
-        test_long(45, base.next_track.max(1).min(MOST), base.next_track),
+        test_long(
+            45,
+            base.next_track.max(1).min(COUNTER_LIMIT),
+            base.next_track,
+        ),
         ends_in(53, 4, len),
         test(53, base.count.max(1).min(depth), base.count),
         ends_in(57, 4, len),

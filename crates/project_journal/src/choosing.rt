@@ -9,6 +9,7 @@ use super::fault::{Damaged, JournalFault};
 use super::fields::{u32_at, u64_at};
 use super::form::{BASE_VERSION, FILE, MAGIC, OTHER, VERSION};
 use super::header::{first_failure, test};
+use pcm_base::COUNTER_LIMIT;
 
 pub(crate) fn is_project(bytes: &[u8]) -> bool
     ensures { IsTrue result ↔ IsProject bytes.now }
@@ -53,7 +54,7 @@ fn choice_tests_of(bytes: &[u8]) -> [Damaged; 3]
         test(5, version.max(VERSION).min(BASE_VERSION), version),
         Damaged {
             at: 21,
-            want: generation.min(1 << 62) as u128,
+            want: generation.min(COUNTER_LIMIT) as u128,
             have: generation as u128,
         },
     ]

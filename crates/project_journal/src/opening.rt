@@ -15,13 +15,13 @@ use super::base_header::{base_of, head_of};
 use super::choosing::{choose, in_file, is_project};
 use super::fault::JournalFault;
 use super::fields::u32_at;
-use super::form::{BASE_HEADER_SIZE, BASE_VERSION, FILE, HEADER_SIZE, NO_BASE, OTHER};
+use super::form::{BASE_HEADER_SIZE, BASE_VERSION, FILE, NO_BASE, OTHER};
 use super::front::read_front;
 use super::header::test_header;
 use super::reader::Reader;
 use super::window::{Window, first_window};
 use disk_model::{Store, sync_file};
-use pcm_base::Failed;
+use pcm_base::{Failed, LEAST_END};
 use std::alloc::Global;
 
 // What the front of a file says of its header.
@@ -44,7 +44,7 @@ fn base_in(bytes: &[u8], version: u32) -> (Base, usize)
     ensures size { result.1 ≡ (form_of version 0).header_size }
 {
     if version < BASE_VERSION {
-        return (NO_BASE, HEADER_SIZE);
+        return (NO_BASE, LEAST_END as usize);
     }
     (base_of(&head_of(bytes)), BASE_HEADER_SIZE)
 }

@@ -1,6 +1,7 @@
 // A journal put into one header, in the file that it does not stand in.
-ghost use Rattle.std.specs.Prelude.{◌≡◌, ◌≢◌, ◌⊎◌, ◌+◌, ◌^◌, ◌≤◌, ◌∷◌, ℕ, [], length, IsTrue, IsSome, IfOk, OnOk, Some};
+ghost use Rattle.std.specs.Prelude.{◌≡◌, ◌≢◌, ◌⊎◌, ◌+◌, ◌≤◌, ◌∷◌, ℕ, [], length, IsTrue, IsSome, IfOk, OnOk, Some};
 ghost use Rattle.std.specs.Prelude.{None};
+ghost use Rattle.pcm_base.specs.declared.limits.TheConstants.{COUNTER_LIMIT};
 ghost use Rattle.pcm_base.specs.Causes.{HasCause};
 ghost use Rattle.disk_model.specs.Disk.{Files, SameElsewhere, RemoveStep};
 ghost use Rattle.disk_model.specs.Frames.{Kept, Changed};
@@ -62,7 +63,7 @@ fn shut_file<S: Store>(store: &mut S, file: u64, there: bool) -> Result<(), Fail
 // Brings a file to the disk that holds an open gate and this text, and nothing else. Before the gate opens no project
 // stands in it.
 fn write_text<S: Store>(store: &mut S, file: u64, there: bool, text: &[u8]) -> Result<(), Failed>
-    requires { 1 + length text.now ≤ 2 ^ 62 }
+    requires { 1 + length text.now ≤ COUNTER_LIMIT }
     ensures any_moment { (generation : ℕ) → IsTrue (S.tells store.old) → Tells there file (S.reads store.old)
         → EachNow S.Store store.old (HasNoNewer file generation)
         → EachSince S.Store store.old store.new (λ c. HasNoNewer file generation c ⊎ IsOpen file [] text.now c) }
@@ -79,13 +80,13 @@ fn write_text<S: Store>(store: &mut S, file: u64, there: bool, text: &[u8]) -> R
     Ok(())
 }
 
-/// Puts the journal that stands in this file, 0 or 1, into one header: writes the text behind an open gate into the
+/// Puts the journal that stands in this file, 0 or 1, into one header: writes the text after an open gate into the
 /// other file, which is there or not as the caller was told, and then removes this one.
 ///
 /// After `Failed` a stop leaves the journal as it was, or put into one header.
 pub fn compact<S: Store>(store: &mut S, file: u64, there: bool, text: &[u8]) -> Result<(), Failed>
     requires file { file ≤ 1 }
-    requires size { 1 + length text.now ≤ 2 ^ 62 }
+    requires size { 1 + length text.now ≤ COUNTER_LIMIT }
 
     // At any moment each image has the journal as it was, or put into one header.
     ensures any_moment { (form : Form) (log packed : Log)

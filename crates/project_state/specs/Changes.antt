@@ -91,7 +91,7 @@ tailed gone ys t = record t {
   layout = with_last (take (length (last_blocks t.layout) - gone) (last_blocks t.layout) ++ ys) t.layout;
 }
 
--- the track that is told, where it can be
+-- the track that is meant, where it can be known
 abbrev pub changed : Option Track → Change → Option Track
 changed old Same = old
 changed old (Whole t) = Some t
@@ -110,7 +110,7 @@ change_bytes Same = 0 ∷ []
 change_bytes (Whole t) = 1 ∷ heard_bytes t
 change_bytes (Tail gone ys) = 2 ∷ (little_bytes 4 gone ++ (little_bytes 4 (length ys) ++ flat_map block_bytes ys))
 
--- the id, and how the track is told by the current point
+-- the id, and how the track is written by the current point
 abbrev pub told_bytes : List Track → Track → List ℕ
 told_bytes current t = little_bytes 8 t.id ++ change_bytes (change_of (track_of t.id current) t)
 

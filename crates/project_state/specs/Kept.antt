@@ -2,6 +2,7 @@
 use Rattle.std.specs.Prelude.{◌≡◌, ℕ, zero, suc, ◌+◌, ◌-◌, ◌≤◌, ◌<◌, ◌==◌, if◌then◌else◌, List, [], ◌∷◌, ◌++◌, length, map}
 use Rattle.std.specs.Prelude.{drop, None}
 use Rattle.std.specs.List.{flat_map, AllByRecursion}
+use Rattle.pcm_base.specs.declared.limits.TheConstants.{FIRST_BLOCK}
 use Rattle.pcm_base.specs.declared.block.BlockRef.{BlockRef}
 use Rattle.pcm_base.specs.Pieces.{Sources}
 use Rattle.pcm_base.specs.Cells.{Project}
@@ -30,9 +31,9 @@ pub record Kept : Type 0 where
   pub next_track : ℕ
   pub commit : ℕ
 
--- a project without commits, which keeps so many points
+-- a project without commits, which keeps this many points
 abbrev pub new_project : ℕ → Kept
-new_project depth = record { history = history_of_one [] 0 depth; next_block = 16; next_track = 1; commit = 0 }
+new_project depth = record { history = history_of_one [] 0 depth; next_block = FIRST_BLOCK; next_track = 1; commit = 0 }
 
 -- what a record makes of it
 abbrev pub after_body : Kept → Body → Kept

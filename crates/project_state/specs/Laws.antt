@@ -12,6 +12,7 @@ use Rattle.project_state.specs.Sound.{IsSound, IsSoundPoint}
 use Rattle.project_state.specs.Tracks.{track_of}
 use Rattle.disk_model.specs.Disk.{Files}
 use Rattle.std.specs.List.{AllByRecursion}
+use Rattle.pcm_base.specs.declared.limits.TheConstants.{COUNTER_LIMIT}
 use Rattle.sample_block.specs.Sources.{IsWhole}
 use Rattle.project_journal.specs.Header.{Form, IsForm}
 use Rattle.project_journal.specs.Journal.{Log}
@@ -40,7 +41,7 @@ HasId id (Some old) = old.id ≡ id
 abbrev pub ChoiceTellsTheTrack : Type 0
 ChoiceTellsTheTrack = (old : Option Track) (t : Track) → HasId t.id old → changed old (change_of old t) ≡ Some t
 
--- a track that stays is said to be the same
+-- a track that stays is written as the same
 abbrev pub SameStays : Type 0
 SameStays = (t : Track) → change_of (Some t) t ≡ Same
 
@@ -65,7 +66,7 @@ HasShortEnds current = (id : ℕ) → EndsShort (track_of id current)
 abbrev pub WrittenIsRead : Type 0
 WrittenIsRead =
     (m : ℕ) (before : Before) (current : List Track) (body : Body) → 4 ≤ m → m < 2 ^ 32
-    → before.commits < 2 ^ 62 → HasShortEnds current → IsSound m before body
+    → before.commits < COUNTER_LIMIT → HasShortEnds current → IsSound m before body
     → (first_failed (delta_tests m before current (delta_spelling current body)) ≡ None)
     × SaysBody current (delta_spelling current body) body
 

@@ -1,5 +1,6 @@
 -- The tests of a header's point, in the order of their places: its tag, and its tracks.
 use Rattle.std.specs.Prelude.{ℕ, ◌-◌, List, [], ◌∷◌, ◌++◌, length}
+use Rattle.pcm_base.specs.declared.limits.TheConstants.{MAX_TRACKS}
 use Rattle.project_journal.specs.Fields.{field}
 use Rattle.project_journal.specs.declared.fault.Damaged.{Damaged}
 use Rattle.project_state.specs.declared.limits.Before.{Before}
@@ -31,7 +32,8 @@ point_length_test b bytes = record { at = b.at - 4; want = asked_point bytes; ha
 
 -- a tag of an earlier record, and at most 64 tracks
 abbrev pub point_head_tests : Before → List ℕ → List Damaged
-point_head_tests b bytes = most (place b.at 0) b.commits (field 0 8 bytes) ∷ most (place b.at 8) 64 (point_count bytes) ∷ []
+point_head_tests b bytes =
+    most (place b.at 0) b.commits (field 0 8 bytes) ∷ most (place b.at 8) MAX_TRACKS (point_count bytes) ∷ []
 
 -- the header's bounds are those of its points
 abbrev pub point_limits : ℕ → Before → Limits

@@ -9,7 +9,7 @@ use super::track::Track;
 use clip_track::Clip;
 use pcm_base::{BlockRef, Side};
 
-/// How a track is told by the one of the current point.
+/// How a track is written by the one of the current point.
 #[derive(Clone, Copy)]
 pub(crate) enum Choice {
     /// As it is there.

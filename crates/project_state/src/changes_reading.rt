@@ -1,6 +1,7 @@
 // Tracks out of the bytes that tell them by the current point.
-ghost use Rattle.std.specs.Prelude.{◌≡◌, ◌+◌, ◌*◌, ◌-◌, ◌≤◌, ◌<◌, ◌^◌, ◌++◌, ⊤, [], length, map, take, Some, None};
+ghost use Rattle.std.specs.Prelude.{◌≡◌, ◌+◌, ◌*◌, ◌-◌, ◌≤◌, ◌<◌, ◌++◌, ⊤, [], length, map, take, Some, None};
 ghost use Rattle.std.specs.Prelude.{MatchResult};
+ghost use Rattle.pcm_base.specs.declared.limits.TheConstants.{MAX_TRACKS};
 ghost use Rattle.project_state.specs.declared.limits.BadBody.TheVariants as bad;
 ghost use Rattle.pcm_base.specs.Blocks.{blocks_len};
 ghost use Rattle.clip_track.specs.Clips.{AllHalfFull};
@@ -21,6 +22,7 @@ use super::reading_clips::read_clips;
 use super::tails_reading::read_tail;
 use super::track::Track;
 use super::writing::track_len;
+use pcm_base::MAX_GAIN;
 use project_journal::{Damaged, first_failure, u8_at, u32_at, u64_at};
 use std::alloc::Global;
 
@@ -60,7 +62,7 @@ fn test_how(bytes: &[u8], at: usize, limits: Limits) -> Result<(), Damaged>
     first_failure(&[
         most(
             place(limits.base, at + 8),
-            1_048_576,
+            MAX_GAIN as u64,
             u32_at(bytes, at + 8) as u64,
         ),
         most(place(limits.base, at + 12), 2, u8_at(bytes, at + 12) as u64),
@@ -173,7 +175,7 @@ fn told_len_at(bytes: &[u8], at: usize, track: &Track) -> usize
     }
 }
 
-/// So many tracks from a place on, by the current point.
+/// This many tracks from a place on, by the current point.
 pub(crate) fn read_all_told(
     alloc: Global,
     bytes: &[u8],
@@ -183,7 +185,7 @@ pub(crate) fn read_all_told(
     current: &Point,
 ) -> Result<Point, BadBody>
     requires within { there.HaveTold count at bytes.now }
-    requires few { count ≤ 64 }
+    requires few { count ≤ MAX_TRACKS }
     requires half_full { AreHalfFull limits.block_size current.now }
     ensures { Finds (test.all_told_tests limits current.now count 0 at bytes.now)
         (λ p. map Some p ≡ there.all_told_at current.now count at bytes.now) result }

@@ -19,7 +19,7 @@ use super::writing::{
 use byteorder::{ByteOrder, LittleEndian};
 use pcm_base::{BlockRef, NoMemory};
 
-/// How a track is told by the current point.
+/// How a track is written by the current point.
 fn choice_in(current: &Point, track: &Track) -> Choice
     ensures value { change_by track.now result ≡ change.change_of (track_of track.now.id current.now) track.now }
     ensures within { LiesWithin track.now result }
@@ -113,7 +113,7 @@ fn write_change(choice: Choice, track: &Track, out: &mut [u8])
     }
 }
 
-/// The id, and how the track is told by the current point.
+/// The id, and how the track is written by the current point.
 fn write_told(current: &Point, track: &Track, out: &mut [u8])
     requires { length out.old ≡ length (change.told_bytes current.now track.now) }
     ensures { out.new ≡ change.told_bytes current.now track.now }
@@ -184,9 +184,9 @@ pub fn delta_len(body: &Body, current: &Point) -> usize
     }
 }
 
-/// Makes `out` the body's bytes, by the current point: tracks that stay as they are there are told by their ids alone,
-/// and a track of which only the end of the last clip differs by the blocks that differ. Where `out` has room for the
-/// bytes, it takes no memory and is Ok.
+/// Makes `out` the body's bytes, by the current point: tracks that stay as they are there are written as their ids
+/// alone, and a track of which only the end of the last clip differs by the blocks that differ. Where `out` has room
+/// for the bytes, it takes no memory and is Ok.
 ///
 /// # Errors
 ///

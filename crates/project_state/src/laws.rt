@@ -12,8 +12,8 @@ pub fn a_packed_journal_keeps_its_project()
     ensures { PackedIsKept }
 {}
 
-/// What the writer takes for a track says that track. A track that stays is said to be the same. And whoever says one by
-/// the end of its last clip lets at least as many blocks go.
+/// What the writer takes for a track says that track. A track that stays is written as the same. And whoever says one
+/// by the end of its last clip lets at least as many blocks go.
 pub fn the_writer_tells_each_track()
     ensures tells { ChoiceTellsTheTrack }
     ensures same { SameStays }

@@ -33,8 +33,8 @@ pub use laws::{
     what_is_written_is_read, what_passes_may_come_next,
 };
 pub use limits::{BadBody, Before};
-pub use point::{MAX_TRACKS, Point};
+pub use point::Point;
 pub use point_reading::read_point;
 pub use reading::read_body;
 pub use track::Track;
-pub use writing::{body_len, write_body};
+pub use writing::{body_len, point_len, write_body, write_point};

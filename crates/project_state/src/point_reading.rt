@@ -13,6 +13,7 @@ use super::limits::{BadBody, Before, Limits};
 use super::measuring::{PastEnd, fit_all, fit_tracks};
 use super::point::Point;
 use super::reading::read_tracks;
+use pcm_base::MAX_TRACKS;
 use project_journal::{Damaged, first_failure, u32_at, u64_at};
 use std::alloc::Global;
 
@@ -52,7 +53,11 @@ fn test_point_head(bytes: &[u8], before: Before) -> Result<(), Damaged>
 {
     first_failure(&[
         most(place(before.at, 0), before.commits, u64_at(bytes, 0)),
-        most(place(before.at, 8), 64, u32_at(bytes, 8) as u64),
+        most(
+            place(before.at, 8),
+            MAX_TRACKS as u64,
+            u32_at(bytes, 8) as u64,
+        ),
     ])
 }
 

@@ -1,5 +1,5 @@
 // The clips of a track out of their bytes.
-ghost use Rattle.std.specs.Prelude.{◌≡◌, ◌+◌, ◌*◌, ◌^◌, ◌≤◌, nat_lt, length};
+ghost use Rattle.std.specs.Prelude.{◌≡◌, ◌+◌, ◌*◌, ◌≤◌, nat_lt, length};
 ghost use Rattle.project_state.specs.Places as there;
 ghost use Rattle.project_state.specs.FirstFault as test;
 ghost use Rattle.project_state.specs.FirstFault.{Tells, Finds};
@@ -9,11 +9,11 @@ use super::limits::{BadBody, Limits};
 use super::writing::clip_len;
 use block_sequence::Sequence;
 use clip_track::{Clip, Layout};
-use pcm_base::BlockRef;
+use pcm_base::{BlockRef, FIRST_BLOCK, MAX_CELLS};
 use project_journal::{Damaged, first_failure, u32_at, u64_at};
 use std::alloc::Global;
 
-/// The block at a place; so many cells come before it.
+/// The block at a place; this many cells come before it.
 fn read_block(
     bytes: &[u8],
     at: usize,
@@ -35,9 +35,9 @@ fn read_block(
         0
     };
     first_failure(&[
-        least(id_place, 16, id),
+        least(id_place, FIRST_BLOCK, id),
         most(id_place, limits.next_block.saturating_sub(1), id),
-        most(len_place, (1u64 << 32).saturating_sub(before), len as u64),
+        most(len_place, MAX_CELLS.saturating_sub(before), len as u64),
         least(len_place, 1, len as u64),
         most(len_place, limits.block_size as u64, len as u64),
         least(len_place, least_len as u64, len as u64),
@@ -56,7 +56,7 @@ pub(crate) fn read_blocks(
     start: u64,
 ) -> Result<Vec<BlockRef>, BadBody>
     requires within { at + 12 * count ≤ length bytes.now }
-    requires near { start ≤ 2 ^ 32 }
+    requires near { start ≤ MAX_CELLS }
     ensures { Finds (test.blocks_tests limits several count start at bytes.now)
         (λ v. v.items ≡ there.blocks_at count at bytes.now) result }
 {
@@ -86,7 +86,7 @@ fn read_clip(
     let start_place = place(limits.base, at);
     first_failure(&[
         least(start_place, from, start),
-        most(start_place, 1 << 32, start),
+        most(start_place, MAX_CELLS, start),
         least(place(limits.base, at + 8), 1, count as u64),
     ])?;
     let blocks = read_blocks(alloc, bytes, at + 12, count, limits, count > 1, start)?;
@@ -96,7 +96,7 @@ fn read_clip(
     })
 }
 
-/// So many clips from a place on.
+/// This many clips from a place on.
 pub(crate) fn read_clips(
     alloc: Global,
     bytes: &[u8],

@@ -1,6 +1,7 @@
 // The end of a track's last clip, out of the bytes that tell it.
 ghost use Rattle.std.specs.Prelude.{◌≡◌, ◌+◌, ◌*◌, ◌-◌, ◌≤◌, ◌<◌, ◌^◌, ◌++◌, ⊤, [], length, map, take, Some, None};
 ghost use Rattle.std.specs.Prelude.{MatchResult};
+ghost use Rattle.pcm_base.specs.declared.limits.TheConstants.{MAX_CELLS};
 ghost use Rattle.project_state.specs.declared.limits.BadBody.TheVariants as bad;
 ghost use Rattle.pcm_base.specs.Blocks.{blocks_len};
 ghost use Rattle.clip_track.specs.Clips.{AllHalfFull};
@@ -58,7 +59,7 @@ fn read_tail_blocks(
     olds: &[BlockRef],
 ) -> Result<Vec<BlockRef>, BadBody>
     requires within { at + (17 + 12 * there.fresh_at at bytes.now) ≤ length bytes.now }
-    requires near { start + blocks_len olds.now ≤ 2 ^ 32 }
+    requires near { start + blocks_len olds.now ≤ MAX_CELLS }
     requires few { length olds.now ≤ 2 ^ 32 }
     ensures { Finds (test.tail_tests limits start olds.now at bytes.now)
         (λ v. v.items ≡ test.kept_blocks olds.now (there.gone_at at bytes.now)
@@ -87,7 +88,7 @@ fn read_tail_blocks(
 /// How many samples the blocks hold.
 #[tactic(auto, using(crate::proofs::Tails::blocks_next))]
 fn total(blocks: &[BlockRef]) -> u64
-    requires { blocks_len blocks.now ≤ 2 ^ 32 }
+    requires { blocks_len blocks.now ≤ MAX_CELLS }
     ensures { result ≡ blocks_len blocks.now }
 {
     let mut len = 0;

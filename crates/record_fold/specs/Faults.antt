@@ -21,7 +21,7 @@ use Rattle.project_state.specs.Sound.{IsSound}
 use Rattle.project_state.specs.Spelling.{spelling}
 use Rattle.record_fold.specs.Bases.{base_of, points_fault}
 
--- the tracks that can be told
+-- the tracks that can be known
 abbrev pub known : List (Option Track) → List Track
 known [] = []
 known (None ∷ ts) = known ts
@@ -62,12 +62,12 @@ IsSaid (suc (suc version)) m b current bytes body = SaysBody current bytes body 
 abbrev pub before_at : Kept → ℕ → Before
 before_at k at = record { at = at; next_block = k.next_block; next_track = k.next_track; commits = k.commit }
 
--- how many points stand behind the current one
+-- how many points stand after the current one
 abbrev pub behind : {P : Type 0} → History P → ℕ
 behind h = length h.points - 1 - h.cursor
 
--- An undo and a purge ask for a point before the current one, a redo for one behind it, which is told at the kind. A
--- purge drops one at least, and at most those before the current one, which is told at its number.
+-- An undo and a purge ask for a point before the current one, a redo for one after it, which is reported at the kind. A
+-- purge drops one at least, and at most those before the current one, which is reported at its number.
 abbrev pub history_tests : History (List Track) → ℕ → Body → List Damaged
 history_tests h at (Edit tag next_block next_track point) = []
 history_tests h at Undo = least at 1 h.cursor ∷ []
@@ -97,7 +97,7 @@ abbrev pub journal_fault : Form → Contents → Option Damaged
 journal_fault form j = option_or (points_fault j.block_size j.base form.header_size j.points)
     (option_or (first_fault_in (version_of form) j.block_size (base_of j) j.records) j.early)
 
--- what is told of a purge that is out of its range
+-- what is reported of a purge that is out of its range
 abbrev pub out_of_range : (at n most : ℕ) → Damaged
 out_of_range at n most =
     if most == 0 then record { at = at; want = 1; have = 0 } else record {

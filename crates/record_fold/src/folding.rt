@@ -1,5 +1,6 @@
 // The records of a journal, one after another.
 ghost use Rattle.std.specs.Prelude.{◌≡◌, ◌≤◌, ◌<◌, ◌^◌, ◌-◌, [], IfOk, IsErrOf, MatchResult};
+ghost use Rattle.pcm_base.specs.declared.limits.TheConstants.{COUNTER_LIMIT};
 ghost use Rattle.disk_model.specs.Frames.{Kept as IsKept};
 ghost use Rattle.project_journal.specs.Answer.{Causes};
 ghost use Rattle.project_journal.specs.Reader.{IsHeading, IsPlaced, last_record, reader_form};
@@ -70,7 +71,7 @@ fn bring<S: Store>(
     requires size { m ≡ reader.old.block_size }
     ensures brings { Brings S.Store store.new m reader.new result }
     ensures later { ReadsOn reader.old reader.new result }
-    ensures commit { IfOk result (λ p. p.commit ≤ 2 ^ 62) }
+    ensures commit { IfOk result (λ p. p.commit ≤ COUNTER_LIMIT) }
     ensures cause { Causes S.Store store.old store.new result }
     ensures kept { IsKept S.Store store.old store.new }
 {
@@ -131,7 +132,7 @@ fn fold_records<S: Store>(
     requires brought { IsBrought S.Store store.old m reader.old (kept_of project) }
     requires size { m ≡ reader.old.block_size }
     requires least { 4 ≤ m }
-    requires commit { project.commit ≤ 2 ^ 62 }
+    requires commit { project.commit ≤ COUNTER_LIMIT }
     ensures folds { FoldsStored S.Store store.new reader.new result }
     ensures later { ReadsOn reader.old reader.new result }
     ensures cause { Causes S.Store store.old store.new result }

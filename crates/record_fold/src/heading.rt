@@ -13,7 +13,7 @@ use project_state::{BadBody, Before, Point, read_point};
 use std::alloc::Global;
 use undo_history::History;
 
-/// A fault of a field, told of the journal's file.
+/// A fault of a field, reported of the journal's file.
 pub(crate) fn in_journal(file: u64, fault: Damaged) -> JournalFault
     ensures { result ≡ JournalFault.Damaged file fault.at fault.want fault.have }
 {

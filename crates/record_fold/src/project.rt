@@ -3,13 +3,10 @@ ghost use Rattle.std.specs.Prelude.{◌≡◌, ◌≤◌, IfOk};
 ghost use Rattle.project_state.specs.Kept.{new_project};
 ghost use Rattle.record_fold.specs.Folds.{kept_of};
 
-use pcm_base::NoMemory;
+use pcm_base::{FIRST_BLOCK, NoMemory};
 use project_state::Point;
 use std::alloc::Global;
 use undo_history::History;
-
-/// The least id of a block: lower files hold no sound.
-const FIRST_BLOCK: u64 = 16;
 
 /// What records lead to: the points of a project, and the numbers that never fall.
 #[derive(Drop)]

@@ -16,8 +16,8 @@ pub(crate) fn current_of(history: &History<Point>) -> &Point
     history.point(history.cursor())
 }
 
-/// Reads the body of a record in a journal of this version, 1 or else 2. In version 2 an edit may be told by the current
-/// point.
+/// Reads the body of a record in a journal of this version, 1 or else 2. In version 2 an edit may be written by the
+/// current point.
 pub(crate) fn read_record(
     alloc: Global,
     bytes: &[u8],

@@ -28,7 +28,7 @@ fn record_point(history: &mut History<Point>, point: Point, tag: u64) -> Result<
     }
 }
 
-/// The history has nowhere to go, which is told at the record's kind.
+/// The history has nowhere to go, which is reported at the record's kind.
 fn nowhere(at: u64) -> BadBody
     ensures { result ≡ BadBody.Damaged (record { at = at; want = 1; have = 0 }) }
 {

@@ -7,13 +7,14 @@ use Rattle.pcm_base.specs.declared.answer.Reply.TheVariants as reply
 use Rattle.pcm_base.specs.declared.command.Command.{Command}
 use Rattle.pcm_base.specs.declared.command.Command.TheVariants as command
 use Rattle.pcm_base.specs.Cells.{cells_at}
-use Rattle.pcm_base.specs.Counters.{LineNeeds, commits_needed, met_cells, tracks_needed}
+use Rattle.pcm_base.specs.Counters.{LineNeeds, commits_needed, generations_by, met_cells, tracks_needed}
 use Rattle.pcm_base.specs.Envelope.{columns_of}
 use Rattle.pcm_base.specs.Form.{IsInForm}
 use Rattle.pcm_base.specs.Outside.{Outside}
 use Rattle.pcm_base.specs.Refusals.{own_tests, track_limit}
 use Rattle.pcm_base.specs.Run.{result_of}
 use Rattle.pcm_base.specs.Sizes.{blocks_of_cells}
+use Rattle.pcm_base.specs.Shape.{shape_of}
 use Rattle.pcm_base.specs.State.{State, clip_of, current, new_state}
 use Rattle.pcm_base.specs.Step.{MayReply, after_line, line_of_track, sound_after_line}
 use Rattle.pcm_base.specs.Studio.{Studio}
@@ -39,6 +40,7 @@ pub record Goes (P Q : State → Type 0) (c : Command) : Type 0 where
   pub form : IsInForm c
   pub tracks : (out : Outside) → tracks_needed out c ≤ 1
   pub commits : commits_needed c ≤ 1
+  pub still : generations_by (shape_of c) ≡ 0
   pub passes : (out : Outside) (s : State) → P s → own_tests out s c ≡ None
   pub few : (out : Outside) (t : Studio) (blocks len : ℕ) → P t.state → LineNeeds out t c blocks len →
       IsFew t.block_size blocks len
@@ -64,6 +66,7 @@ ramp-goes len copied at n start step within short some few =
       form = record { 0 = omega arith; 1 = omega arith; 2 = some; 3 = omega arith };
       tracks = λ out. omega arith;
       commits = omega arith;
+      still = refl;
       passes = λ out s h. ramp-passes out len copied at n start step s h within (omega arith);
       few = λ out t blocks bytes h needs.
           edit-few 0 n (len + n) copied (8 + n / t.block_size) out t c blocks bytes (next out t.state h) (omega arith)
@@ -85,6 +88,7 @@ delete-goes len copied from to order within short =
       form = record { 0 = omega arith; 1 = omega arith; 2 = omega arith };
       tracks = λ out. omega arith;
       commits = omega arith;
+      still = refl;
       passes = λ out s h. delete-passes out len copied from to s h order within;
       few = λ out t blocks bytes h needs.
           edit-few 0 0 (len - (to - from)) copied 8 out t c blocks bytes (next out t.state h) (omega arith)
@@ -108,6 +112,7 @@ gain-goes len copied from to gain order within few short low =
       form = record { 0 = omega arith; 1 = omega arith; 2 = omega arith; 3 = low };
       tracks = λ out. omega arith;
       commits = omega arith;
+      still = refl;
       passes = λ out s h. gain-passes out len copied from to gain s h order within;
       few = λ out t blocks bytes h needs.
           edit-few 1 (to - from) len copied (blocks_of_cells t.block_size (met_cells t.state 1 from to)) out t c blocks
@@ -130,6 +135,7 @@ silence-goes len copied from to order within few short =
       form = record { 0 = omega arith; 1 = omega arith; 2 = omega arith };
       tracks = λ out. omega arith;
       commits = omega arith;
+      still = refl;
       passes = λ out s h. silence-passes out len copied from to s h order within;
       few = λ out t blocks bytes h needs.
           edit-few 1 (to - from) len copied (blocks_of_cells t.block_size (met_cells t.state 1 from to)) out t c blocks
@@ -152,6 +158,7 @@ paste-goes len copied at within short some few =
       form = (omega arith, omega arith);
       tracks = λ out. omega arith;
       commits = omega arith;
+      still = refl;
       passes = λ out s h. paste-passes out len copied at s h some within (omega arith);
       few = λ out t blocks bytes h needs.
           edit-few 0 0 (len + copied) copied (8 * length (clip_of t.state)) out t c blocks bytes (next out t.state h)
@@ -173,6 +180,7 @@ track-goes depth room =
       form = tt;
       tracks = λ out. omega arith;
       commits = omega arith;
+      still = refl;
       passes = λ out s e. ap (λ (s : State). track_limit s 1) e;
       few = λ out t blocks bytes e needs.
           edit-few 0 0 0 0 0 out t command.Track blocks bytes (next out t.state e)
@@ -193,6 +201,7 @@ copy-goes len old from to order within short = record {
   form = record { 0 = omega arith; 1 = (omega arith, omega arith); 2 = omega arith; 3 = omega arith };
   tracks = λ out. omega arith;
   commits = omega arith;
+  still = refl;
   passes = λ out s h. copy-passes out len old from to s h order within;
   few = λ out t blocks bytes h needs. record-few t.block_size 0 blocks bytes (omega arith) needs;
   needs = λ out t. record { blocks = 0; len = 0; needs = (refl, refl) };
@@ -207,6 +216,7 @@ undo-goes len copied = record {
   form = tt;
   tracks = λ out. omega arith;
   commits = omega arith;
+  still = refl;
   passes = λ out s h. undo-passes out len copied s h;
   few = λ out t blocks bytes h needs. record-few t.block_size 1 blocks bytes (omega arith) needs;
   needs = λ out t. record { blocks = 0; len = 1; needs = (refl, refl) };
@@ -221,6 +231,7 @@ redo-goes len copied = record {
   form = tt;
   tracks = λ out. omega arith;
   commits = omega arith;
+  still = refl;
   passes = λ out s h. redo-passes out len copied s h;
   few = λ out t blocks bytes h needs. record-few t.block_size 1 blocks bytes (omega arith) needs;
   needs = λ out t. record { blocks = 0; len = 1; needs = (refl, refl) };
@@ -235,6 +246,7 @@ tracks-goes len copied = record {
   form = tt;
   tracks = λ out. omega arith;
   commits = omega arith;
+  still = refl;
   passes = λ out s h. refl;
   few = λ out t blocks bytes h needs. record-few t.block_size 0 blocks bytes (omega arith) needs;
   needs = λ out t. record { blocks = 0; len = 0; needs = (refl, refl) };
@@ -250,6 +262,7 @@ envelope-goes len copied wide short = record {
   form = record { 0 = omega arith; 1 = omega arith; 2 = omega arith; 3 = omega arith };
   tracks = λ out. omega arith;
   commits = omega arith;
+  still = refl;
   passes = λ out s h. envelope-passes out len copied s h wide;
   few = λ out t blocks bytes h needs. record-few t.block_size 0 blocks bytes (omega arith) needs;
   needs = λ out t. record { blocks = 0; len = 0; needs = (refl, refl) };

@@ -1,6 +1,6 @@
 -- How much of a disk the lines of a script need.
 use Rattle.std.proofs.Common.{◌≡◌, ℕ, zero, suc, ◌-◌, ◌*◌, ◌≤◌, false, List, [], ◌∷◌, length, pos, negsuc}
-use Rattle.std.proofs.Common.{refl, subst, sym, arith}
+use Rattle.std.proofs.Common.{refl, subst, sym, ◌∙◌, arith}
 use Rattle.pcm_base.specs.declared.answer.Reply.{Reply}
 use Rattle.pcm_base.specs.declared.command.Call.TheVariants as call
 use Rattle.pcm_base.specs.declared.command.Command.{Command}
@@ -10,6 +10,7 @@ use Rattle.pcm_base.specs.Counters.{LineNeeds, commits_needed, places_of}
 use Rattle.pcm_base.specs.Run.{CarriesOut, followed, outside}
 use Rattle.pcm_base.specs.State.{State, new_state}
 use Rattle.pcm_base.specs.Studio.{Studio}
+use Rattle.model_laws.proofs.Answered.{answered_same}
 use Rattle.script_gen.specs.declared.place.Place.{Place}
 use Rattle.script_gen.specs.Bounds.{IsPlace}
 use Rattle.script_gen.specs.Room.{EachNeedsAtMost, HaveRoom, NeedsAtMost, SumsAtMost, script_project}
@@ -45,7 +46,8 @@ first-few P Q c cs t b goes rest = (needs-few P Q c t b goes, next)
         let out = outside t sound in
         let behind : IsSized Q (followed out t (call.Line c) done.blocks done.len) =
         record { size = b.size; state = goes.next out t.state b.state } in
-        rest u (subst (IsSized Q) (sym done.is) behind)
+        rest u (subst (IsSized Q) (sym (done.is ∙ answered_same out t.state (call.Line c) reply done.answers goes.still
+        (followed out t (call.Line c) done.blocks done.len))) behind)
 
 lines-few : (left : ℕ) (p : Place) (t : Studio) → IsPlace p → IsSized (Stands p) t →
     EachNeedsAtMost t (lines_from left p) 11 6872

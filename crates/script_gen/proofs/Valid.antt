@@ -1,6 +1,6 @@
 -- Each line of a script is valid where it stands.
 use Rattle.std.proofs.Common.{◌≡◌, ℕ, zero, suc, ◌+◌, ◌-◌, ◌*◌, ◌≤◌, Bool, true, false, List, ◌∷◌, None, pos, negsuc}
-use Rattle.std.proofs.Common.{refl, sym, subst, arith}
+use Rattle.std.proofs.Common.{refl, sym, ◌∙◌, subst, arith}
 use Rattle.std.specs.Prelude.{if◌then◌else◌, ◌==◌}
 use Rattle.pcm_base.specs.declared.answer.Reply.{Reply}
 use Rattle.pcm_base.specs.declared.command.Call.TheVariants as call
@@ -12,6 +12,7 @@ use Rattle.pcm_base.specs.Outside.{Outside}
 use Rattle.pcm_base.specs.Run.{CarriesOut, followed, outside}
 use Rattle.pcm_base.specs.State.{State, new_state}
 use Rattle.pcm_base.specs.Studio.{Studio, fresh}
+use Rattle.model_laws.proofs.Answered.{answered_same}
 use Rattle.script_gen.specs.declared.place.Place.{Place}
 use Rattle.script_gen.specs.Bounds.{IsPlace}
 use Rattle.script_gen.specs.Script.{first_place, line_at, lines_from, script_of}
@@ -32,6 +33,7 @@ pub record IsBehind (made : ℕ) (P : State → Type 0) (t : Studio) : Type 0 wh
   pub commits : t.state.commit ≤ made
   pub ids : t.next_block ≤ 16 + 2009 * made
   pub places : t.journal_end ≤ 80 + 2450110 * made
+  pub generation : t.generation ≡ 0
 
 behind-room : (made : ℕ) (P : State → Type 0) (t : Studio) → made ≤ 4096 → IsBehind made P t → HasRoom t
 behind-room made P t few b =
@@ -40,6 +42,7 @@ behind-room made P t few b =
     let commits = b.commits in
     let ids = b.ids in
     let places = b.places in
+    let generation = b.generation in
     record {
       going = b.going;
       ids = omega arith;
@@ -47,6 +50,7 @@ behind-room made P t few b =
       commits = omega arith;
       pins = omega arith;
       places = omega arith;
+      generations = omega arith;
     }
 
 goes-valid : (made : ℕ) (P Q : State → Type 0) (c : Command) (t : Studio) → made ≤ 4096 → IsBehind made P t →
@@ -57,6 +61,7 @@ goes-valid made P Q c t small b goes sound blocks len needs =
     let few = goes.few out t blocks len b.state needs in
     line-passes out t c blocks len (behind-room made P t small b) (goes.passes out t.state b.state)
     (few-blocks t.block_size blocks len few) (few-bytes t.block_size blocks len few) (goes.tracks out) goes.commits
+    goes.still
 
 goes-on : (made : ℕ) (P Q : State → Type 0) (c : Command) (t : Studio) → made ≤ 4096 → IsBehind made P t →
     Goes P Q c →
@@ -77,7 +82,8 @@ goes-on made P Q c t small b goes =
         needs = some.needs;
         passed = goes-valid made P Q c t small b goes sound some.blocks some.len some.needs;
         answers = answer.may;
-        is = refl;
+        is = sym (answered_same out t.state (call.Line c) answer.reply answer.may goes.still
+            (followed out t (call.Line c) some.blocks some.len));
         heard = goes.heard out t.state;
       };
     }
@@ -116,6 +122,7 @@ followed-behind made P Q c out t blocks len b kept goes few =
       commits = omega (arith, goes.counted out t.state);
       ids = omega (arith, few-blocks t.block_size blocks len few);
       places = omega (arith, few-bytes t.block_size blocks len few, bytes-few (commits_needed c) len);
+      generation = b.generation;
     }
 
 -- a line, and those behind it
@@ -132,7 +139,9 @@ goes-first made P Q c cs t small b kept goes rest = record {
     next : (sound : SoundMove) (reply : Reply) (u : Studio) → CarriesOut t (call.Line c) sound reply u → AreValid u cs
     next sound reply u done =
         let out = outside t sound in
-        rest u (subst (IsBehind (made + 1) Q) (sym done.is)
+        rest u (subst (IsBehind (made + 1) Q) (sym (done.is
+        ∙ answered_same out t.state (call.Line c) reply done.answers goes.still
+        (followed out t (call.Line c) done.blocks done.len)))
         (followed-behind made P Q c out t done.blocks done.len b kept goes
         (goes.few out t done.blocks done.len b.state done.needs)))
 
@@ -154,6 +163,7 @@ fresh-behind rate block_size depth = record {
   commits = omega arith;
   ids = omega arith;
   places = omega arith;
+  generation = refl;
 }
 
 pub script-valid : (number lines : ℕ) → lines ≤ 4096 → 2 ≤ lines → AreAlwaysValid (script_of number lines)

@@ -89,6 +89,7 @@ fn other_line(first: &Found, words: &mut Words) -> Result<Command, LineFault>
         b"envelope" => Envelope { track: number, from: number, to: number, columns: number },
         b"tracks" => Tracks,
         b"reclaim" => Reclaim { limit: limit },
+        b"compact" => Compact,
         b"import" => Import { name: name },
         b"export" => Export { name: name },
     }

@@ -77,6 +77,7 @@ fn put_reply<O: Sink>(text: &mut Gathered, out: &mut O, commit: u64, reply: &Rep
             put_tracks(text, out, tracks);
         }
         Reply::Freed { count } => put_pair(text, out, b"freed", commit, *count),
+        Reply::Packed { bytes } => put_pair(text, out, b"packed", commit, *bytes),
         Reply::Wrote { bytes } => put_pair(text, out, b"wrote", commit, *bytes),
         Reply::Pinned { pin } => put_pair(text, out, b"pinned", commit, *pin),
         Reply::Length { frames } => put_pair(text, out, b"length", commit, *frames),

@@ -11,10 +11,3 @@ pub use jobs::{End, Job, work};
 pub use lines::{RamDesk, RamSeat, line};
 pub use session::{Session, begin};
 pub use threads::{by_four, by_two};
-
-#[cfg(test)]
-mod disks;
-#[cfg(test)]
-mod stop_tests;
-#[cfg(test)]
-mod tests;

@@ -39,6 +39,7 @@ plain_reply (reply.Frames frames) is = refl
 plain_reply (reply.Columns columns) is = refl
 plain_reply (reply.Tracks tracks) is = refl
 plain_reply (reply.Freed count) is = refl
+plain_reply (reply.Packed bytes) is = refl
 plain_reply (reply.Wrote bytes) is = refl
 plain_reply (reply.Pinned pin) is = refl
 plain_reply (reply.Length frames) is = refl

@@ -13,9 +13,10 @@ use Rattle.pcm_base.specs.Counters.{Needs, NeedsBy}
 use Rattle.pcm_base.specs.Outside.{Outside}
 use Rattle.pcm_base.specs.Run.{Answers, Breaks, BreaksOff, CarriesOut, Refuses, outside}
 use Rattle.pcm_base.specs.Shape.{Shape, NewTrack, DropTrack, SetTrack, PutIn, EditRange, CutRun, CopyRun, PasteRun}
-use Rattle.pcm_base.specs.Shape.{MoveTo, Purge, Look, Reclaim, Import, Export, shape_of}
+use Rattle.pcm_base.specs.Shape.{MoveTo, Purge, Look, Reclaim, Compact, Import, Export, shape_of}
 use Rattle.pcm_base.specs.Studio.{Studio}
 use Rattle.editor_core.specs.Exchanges.{begun_in_vain, is_broken_off}
+use Rattle.model_laws.proofs.Answered.{carried_is}
 use Rattle.studio_seats.specs.Faults.{IsServed}
 use Rattle.studio_seats.specs.Leads.{IsUnharmed}
 use Rattle.session_run.specs.Outgrown.{has_begun}
@@ -36,6 +37,7 @@ line_mixed out t c (MoveTo move) blocks len few short a b = (a.0, b.1)
 line_mixed out t c (Purge n) blocks len few short a b = (a.0, b.1)
 line_mixed out t c (Look view) blocks len few short a b = (a.0, b.1)
 line_mixed out t c (Reclaim limit) blocks len few short a b = (a.0, b.1)
+line_mixed out t c Compact blocks len few short a b = (a.0, b.1)
 line_mixed out t c (Import name) blocks len few short a b = (a.0, b.1)
 line_mixed out t c (Export name) blocks len few short a b = (a.0, b.1)
 
@@ -61,13 +63,14 @@ pub record Began (t u : Studio) (c : Call) (sound : SoundMove) : Type 0 where
 
 module _ (t u : Studio) (c : Call) (sound : SoundMove) where
   carried : (r : Reply) → CarriesOut t c sound r u → Began t u c sound
-  carried r h = let next : u.next_block ≡ t.next_block + h.blocks = ap (λ (z : Studio). z.next_block) h.is in record {
-    blocks = h.blocks;
-    len = h.len;
-    needs = h.needs;
-    least = omega (arith, next);
-    most = omega (arith, next);
-  }
+  carried r h = let next : u.next_block ≡ t.next_block + h.blocks = ap (λ (z : Studio). z.next_block)
+      (carried_is t u c sound r h) in record {
+        blocks = h.blocks;
+        len = h.len;
+        needs = h.needs;
+        least = omega (arith, next);
+        most = omega (arith, next);
+      }
 
   refused : (why : Refusal) → Refuses t c sound why u → Began t u c sound
   refused why h = let next : u.next_block ≡ t.next_block = ap (λ (z : Studio). z.next_block) h.same in record {

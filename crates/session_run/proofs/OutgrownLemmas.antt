@@ -5,6 +5,9 @@ use Rattle.std.proofs.Common.{Result, Ok, Err, arith}
 use Rattle.std.specs.Prelude.{IfErr}
 use Rattle.std.proofs.lemmas.Bool.{true≢false}
 use Rattle.pcm_base.specs.declared.answer.Reply.{Reply}
+use Rattle.pcm_base.specs.declared.command.Call.{Call}
+use Rattle.pcm_base.specs.declared.command.Call.TheVariants as call
+use Rattle.pcm_base.specs.declared.command.Command.TheVariants as command
 use Rattle.pcm_base.specs.declared.entry.Entry.{Entry}
 use Rattle.pcm_base.specs.declared.refusal.Refusal.{Refusal}
 use Rattle.pcm_base.specs.Causes.{Rose}
@@ -20,15 +23,19 @@ use Rattle.editor_core.specs.Applied.{reply_of}
 use Rattle.editor_core.specs.Core.{Core}
 use Rattle.editor_core.specs.Exchanges.{begun_in_vain, exchange_of, is_broken_off}
 use Rattle.editor_core.specs.Left.{Left}
-use Rattle.editor_core.specs.Studios.{studio_of}
+use Rattle.editor_core.specs.Packing.{packed_by, packed_size, packs}
+use Rattle.editor_core.specs.Studios.{IsStudio, studio_of}
 use Rattle.editor_core.specs.Took.{Took, asks}
 use Rattle.editor_core.proofs.Entries.{step_of}
+use Rattle.editor_core.proofs.PackedSizes.{packed_few}
 use Rattle.studio_seats.specs.declared.deed.Deed.{Deed}
 use Rattle.studio_seats.specs.Deeds.{entries_of, entry_of}
 use Rattle.studio_seats.specs.Faults.{AllServed}
 use Rattle.studio_seats.specs.Stands.{AllTell, AreTold, Chain, Does}
 use Rattle.studio_seats.proofs.FaultLemmas.{desks_serve}
-use Rattle.session_run.specs.Outgrown.{IsTooMuch, NeedsAll, NeedsOne, Sum, has_begun, nothing_needed, plus}
+use Rattle.model_laws.proofs.Answered.{carried_is}
+use Rattle.session_run.specs.Outgrown.{IsTooMuch, NeedsAll, NeedsOne, Sum, has_begun, nothing_needed, packed_within}
+use Rattle.session_run.specs.Outgrown.{plus}
 use Rattle.session_run.specs.Tries.{faults_of, tried_project}
 use Rattle.session_run.proofs.GoneLemmas.{more_missing}
 use Rattle.session_run.proofs.MissingLemmas.{missing}
@@ -49,6 +56,21 @@ pub record Grows (t : model.Studio) (es : List Entry) (before : Sum) : Type 0 wh
 rose_not : (old new : ℕ) → old ≡ 0 → new ≡ 0 → Rose old new → ⊥
 rose_not old new a b rose = absurd (omega (arith, a, b, rose))
 
+-- how many bytes a journal has that a call puts into one header
+abbrev packed_bytes : {D : Type 0} → Core D → Call → ℕ
+packed_bytes s (call.Line command.Compact) = packed_size s
+packed_bytes s c = 0
+
+-- its first gate is written twice
+packed_is : {D : Type 0} (s : Core D) (c : Call) → packed_by s c ≡ packed_bytes s c + packs c
+packed_is s (call.Line command.Compact) = omega arith
+packed_is s c = refl
+
+packed_fits : {D : Type 0} (disk : Ghosts D) (s : Core D) → IsStudio disk s → (c : Call)
+    → packed_bytes s c ≤ packed_within (studio_of disk s) c
+packed_fits disk s is (call.Line command.Compact) = packed_few disk s is
+packed_fits disk s is c = omega arith
+
 -- ---- one deed
 
 module _ {D V : Type 0} (disk : Ghosts D) (vaults : vault.Ghosts V) (from : Room) (old new : Core D) (d : Deed)
@@ -68,7 +90,11 @@ module _ {D V : Type 0} (disk : Ghosts D) (vaults : vault.Ghosts V) (from : Room
 
   -- what it needs where it may have asked the disk
   abbrev one_of : Began t u d.call d.sound → Sum
-  one_of b = record { calls = 1; blocks = b.blocks; journal = places_of d.call took.len }
+  one_of b = record {
+    calls = 1;
+    blocks = b.blocks + packs d.call;
+    journal = places_of d.call took.len + packed_bytes old d.call;
+  }
 
   -- the same of an entry that answers so
   needs_as : (one : Sum) → NeedsOne (has_begun d.what) t (entry_of d) one
@@ -80,7 +106,16 @@ module _ {D V : Type 0} (disk : Ghosts D) (vaults : vault.Ghosts V) (from : Room
       → NeedsOne (has_begun d.what) t (entry_of d) (one_of b)
   needs_begun b is = let w = took.needs fine.held in
       subst (λ (x : Bool). NeedsOne x t (entry_of d) (one_of b)) (sym is)
-      (refl, (took.len, mixed (outside t d.sound) t d.call b.blocks b.len w.0 took.len b.needs w.1, refl))
+      (record {
+        calls = refl;
+        blocks = b.blocks;
+        len = took.len;
+        packed = packed_bytes old d.call;
+        needs = mixed (outside t d.sound) t d.call b.blocks b.len w.0 took.len b.needs w.1;
+        within = packed_fits disk old fine.studio d.call;
+        blocks_are = refl;
+        journal_is = refl;
+      })
 
   needs_idle : has_begun d.what ≡ false → NeedsOne (has_begun d.what) t (entry_of d) nothing_needed
   needs_idle is = subst (λ (x : Bool). NeedsOne x t (entry_of d) nothing_needed) (sym is) refl
@@ -102,16 +137,18 @@ module _ {D V : Type 0} (disk : Ghosts D) (vaults : vault.Ghosts V) (from : Room
       let made : ℕ = new.next_block - old.next_block in
       let few : made ≤ b.blocks = let most = b.most in omega (arith, most) in
       let journal : Option (List ℕ) = disk.reads old.store old.file in
-      let length_is : (asks (exchange_of d.call d.sound d.what does.removed) journal old.block_size made took.len).bytes
-      ≡ places_of d.call took.len + (made + vain) * 48 =
-      ap (λ (m : ℕ). (asks (exchange_of d.call d.sound d.what does.removed) journal m made took.len).bytes)
+      let packed = packed_by old d.call in
+      let packing = packed_is old d.call in
+      let length_is : (asks (exchange_of d.call d.sound d.what does.removed) journal old.block_size made took.len
+      packed).bytes ≡ places_of d.call took.len + packed + (made + vain) * 48 =
+      ap (λ (m : ℕ). (asks (exchange_of d.call d.sound d.what does.removed) journal m made took.len packed).bytes)
       fine.size in
       let files = took.changed.files fine.held.tells in
       let bytes = took.changed.bytes in
       let calls = took.changed.calls in
       let a = fine.has_asked.files in let e = fine.has_asked.bytes in let f = fine.has_asked.calls in record {
         files = omega (arith, there, few, files, a);
-        bytes = omega (arith, length_is, few, bytes, e);
+        bytes = omega (arith, length_is, packing, few, bytes, e);
         calls = omega (arith, few, calls, f);
       }
 
@@ -158,7 +195,7 @@ module _ {D V : Type 0} (disk : Ghosts D) (vaults : vault.Ghosts V) (from : Room
         where
           by : (what : Result Reply Refusal) → Answers t d.call d.sound what u
               → IfErr what (Left disk old new) → new.block_size ≡ old.block_size
-          by (Ok r) h left = ap (λ (z : model.Studio). z.block_size) h.is
+          by (Ok r) h left = ap (λ (z : model.Studio). z.block_size) (carried_is t u d.call d.sound r h)
           by (Err why) h left = ap (λ (z : Core D). z.block_size) left.same
 
       fine_on : (one : Sum) → t.next_block ≤ u.next_block → u.next_block ≤ t.next_block + one.blocks
@@ -193,7 +230,7 @@ module _ {D V : Type 0} (disk : Ghosts D) (vaults : vault.Ghosts V) (from : Room
           let b = began t u d.call d.sound d.what is answers in record {
             one = one_of b;
             needs = needs_begun b is;
-            stays = fine_on (one_of b) b.least b.most
+            stays = fine_on (one_of b) b.least (let most = b.most in omega (arith, most))
                 (subst (λ (v : ℕ). HasAskedFor from (asked disk new.store) (plus sum (one_of b)) gone v)
                 (vain_none d.call d.what served.served.0 served.unharmed.0) (asked_begun b));
           }

@@ -1,7 +1,8 @@
 -- A run on an honest disk keeps the promise.
 use Rattle.std.proofs.Common.{◌≡◌, ◌≢◌, inl, inr, ⊎_elim, ◌∙◌, refl, sym, ap, subst, ℕ, List, ◌++◌, length}
-use Rattle.std.proofs.Common.{Some, true, ◌^◌}
+use Rattle.std.proofs.Common.{Some, true}
 use Rattle.std.specs.Prelude.{IfErr}
+use Rattle.pcm_base.specs.declared.limits.TheConstants.{COUNTER_LIMIT}
 use Rattle.pcm_base.specs.declared.entry.Entry.{Entry}
 use Rattle.pcm_base.specs.Run.{Follows, Run, result_of}
 use Rattle.disk_model.specs.Disk.{Files}
@@ -175,7 +176,7 @@ module _ {D V M P : Type 0} (k : Kinds D V M P) (ask : DeedsAsk k.disk k.vaults)
   length_is : length s.deeds ≡ length all_entries
   length_is = sym (entries_length s.deeds) ∙ ap length entries_are
 
-  no_turn : s.spent ≡ true → length all_entries ≡ 2 ^ 62
+  no_turn : s.spent ≡ true → length all_entries ≡ COUNTER_LIMIT
   no_turn is = sym length_is ∙ s.turns is
 
   lines : Answered (last_number n opening_entries) (last_number n opening_entries) s.scripted.lines s.scripted.answers
@@ -242,12 +243,12 @@ module _ {D V M P : Type 0} (k : Kinds D V M P) (ask : DeedsAsk k.disk k.vaults)
     track_is = track_side s.spent n ran.out.opened.recording track pin s.made.track_is
         (ap (numbers_of any_seat n) (sym s.made.opening_is) ∙ s.opening_numbers)
         (Each-left IsPlain track pin plain_opening);
-    pieces = subst (λ (l : List Entry). RecordsSide (length all_entries ≡ 2 ^ 62) ran.out.opened.recording
+    pieces = subst (λ (l : List Entry). RecordsSide (length all_entries ≡ COUNTER_LIMIT) ran.out.opened.recording
         start.next_track (input k.mics j.ports.mic) ended.record_line (piece_numbers ran.out.kept) l)
         (sym (entries_as s.made.seats.recorder rest))
         (records_side s.made.seats.recorder n s.made.opening rest apart_recorder by_first
-        (plain_by s.made.seats.recorder) k.mics j.ports.mic start.next_track (length all_entries ≡ 2 ^ 62) s.spent
-        no_turn ran.out.opened.recording ran.out.kept (recorded k start final j ran) s.made.pieces);
+        (plain_by s.made.seats.recorder) k.mics j.ports.mic start.next_track (length all_entries ≡ COUNTER_LIMIT)
+        s.spent no_turn ran.out.opened.recording ran.out.kept (recorded k start final j ran) s.made.pieces);
     printed = printed ran.out.told.stop j.ports.streams.source.faults j.ports.streams.sink.written.before ran.mid
         j.ports.streams.sink.written.now j.ports.streams.sink.faults.before ran.faults
         j.ports.streams.sink.faults.now s.scripted.answers
@@ -255,16 +256,16 @@ module _ {D V M P : Type 0} (k : Kinds D V M P) (ask : DeedsAsk k.disk k.vaults)
     broke = broke ran.out.told.stop j.ports.streams.sink.written.before ran.mid j.ports.streams.sink.written.now
         ran.faults j.ports.streams.sink.faults.now s.scripted.answers
         (last_text ended.record_line ended.play_line final.commit_number) s.scripted.written ran.ended;
-    stopped = stopped_for ran.out.told.stop j.ports.streams.source.faults j.ports.streams.sink.faults.before
+    stopped_for = stopped_for ran.out.told.stop j.ports.streams.source.faults j.ports.streams.sink.faults.before
         ran.faults j.ports.streams.sink.faults.now ran.cause
         (out_stays ran.out.told.stop _ (last_text ended.record_line ended.play_line final.commit_number) ran.ended);
     pin_is = pin_side s.spent ran.out.opened.pin pin s.made.pin_is;
-    played = subst (λ (l : List Entry). PlaysSide (length all_entries ≡ 2 ^ 62) ran.out.opened.pin
+    played = subst (λ (l : List Entry). PlaysSide (length all_entries ≡ COUNTER_LIMIT) ran.out.opened.pin
         (λ number mix. pin_frames start.rate (studio_of disk start).state opening_entries number ≡ Some mix)
         (output k.speakers j.ports.speaker) ended.play_line l)
         (sym (entries_as s.made.seats.player rest))
         (plays_side s.made.seats.player n s.made.opening rest apart_player by_first (plain_by s.made.seats.player)
-        k.speakers j.ports.speaker (length all_entries ≡ 2 ^ 62) s.spent no_turn
+        k.speakers j.ports.speaker (length all_entries ≡ COUNTER_LIMIT) s.spent no_turn
         (IsMixOf (origin disk k.vaults start) s.made.opening)
         (λ number mix. pin_frames start.rate (studio_of disk start).state opening_entries number ≡ Some mix)
         ran.out.opened.pin ran.out.heard s.played s.made.reads
@@ -290,6 +291,7 @@ module _ {D V M P : Type 0} (k : Kinds D V M P) (ask : DeedsAsk k.disk k.vaults)
         (λ kept. inr (subst (λ (l : List Entry). KeepsPrefix (studio_of disk start) l c) entries_are kept))
         (images.any_moment c since);
     going = images.going;
+    journal = images.journal;
     broken = λ some c now. ⊎_elim (λ kept. inl kept)
         (λ flight. inr (subst (λ (l : List Entry). StopsInFlight (studio_of disk start) l c) entries_are flight))
         (images.stopped some c now);

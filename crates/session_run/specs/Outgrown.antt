@@ -1,6 +1,9 @@
 -- What a run asks of a disk in memory, by the model's bounds, and where that is more than its room.
-use Rattle.std.specs.Prelude.{◌≡◌, ◌⊎◌, ℕ, ◌+◌, ◌*◌, ◌<◌, Bool, true, false, List, [], ◌∷◌, ◌++◌, Result, Ok, Err}
+use Rattle.std.specs.Prelude.{◌≡◌, ◌⊎◌, ℕ, ◌+◌, ◌*◌, ◌<◌, ◌≤◌, Bool, true, false, List, [], ◌∷◌, ◌++◌, Result, Ok, Err}
 use Rattle.pcm_base.specs.declared.answer.Reply.{Reply}
+use Rattle.pcm_base.specs.declared.command.Call.{Call}
+use Rattle.pcm_base.specs.declared.command.Call.TheVariants.{Line}
+use Rattle.pcm_base.specs.declared.command.Command.TheVariants.{Compact}
 use Rattle.pcm_base.specs.declared.entry.Entry.{Entry}
 use Rattle.pcm_base.specs.declared.refusal.Refusal.{Refusal}
 use Rattle.pcm_base.specs.declared.refusal.Refusal.TheVariants as refusal
@@ -8,9 +11,11 @@ use Rattle.pcm_base.specs.Counters.{Needs, places_of}
 use Rattle.pcm_base.specs.Run.{Step, outside, result_of}
 use Rattle.pcm_base.specs.Studio.{Studio}
 use Rattle.editor_core.specs.Exchanges.{is_broken_off}
+use Rattle.editor_core.specs.Packing.{packed_most, packs}
 use Rattle.memory_project.specs.declared.fresh.FreshProject.{FreshProject}
 
--- what calls need in all: how many they are, the ids of blocks, and the bytes of the journal
+-- What calls need in all: how many they are, the ids of blocks with the journals that are put into one header, and the
+-- bytes of journals.
 pub record Sum : Type 0 where
   pub calls : ℕ
   pub blocks : ℕ
@@ -29,11 +34,26 @@ has_begun (Ok r) = true
 has_begun (Err refusal.VaultFault) = true
 has_begun (Err why) = is_broken_off why
 
+-- how many bytes a journal may have that a call puts into one header
+abbrev pub packed_within : Studio → Call → ℕ
+packed_within t (Line Compact) = packed_most t
+packed_within t call = 0
+
+-- what an entry needs that may have asked the disk
+pub record BegunNeeds (t : Studio) (e : Entry) (one : Sum) : Type 0 where
+  pub calls : one.calls ≡ 1
+  pub blocks : ℕ
+  pub len : ℕ
+  pub packed : ℕ
+  pub needs : Needs (outside t e.sound) t e.call blocks len
+  pub within : packed ≤ packed_within t e.call
+  pub blocks_are : one.blocks ≡ blocks + packs e.call
+  pub journal_is : one.journal ≡ places_of e.call len + packed
+
 -- What an entry needs. One that may have asked the disk is within the model's bounds on the blocks of a call and on its
 -- record. One that a test refused, or a lack of memory, needs nothing.
 abbrev pub NeedsOne : Bool → Studio → Entry → Sum → Type 0
-NeedsOne true t e one = (one.calls ≡ 1)
-    × ((len : ℕ) × Needs (outside t e.sound) t e.call one.blocks len × (one.journal ≡ places_of e.call len))
+NeedsOne true t e one = BegunNeeds t e one
 NeedsOne false t e one = one ≡ nothing_needed
 
 -- what the first entry needs, and then the others

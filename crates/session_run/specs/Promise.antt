@@ -3,12 +3,16 @@
 -- A Change has a value as it was before the call, and now: at its return. An image is what a stop of the disk may
 -- leave: of each file its bytes, or that it is absent. `EachNow` is about each image that a stop now may leave.
 -- `EachSince` is about each that a stop may leave at any moment since the earlier state. `shown` is what opening an
--- image finds of a studio: its history and its numbers, and no clipboard and no pins. `Keeps image project`: opening
--- finds that project, with all blocks whole. An entry is in flight if the disk failed in it, or stops in it. An image
--- then holds what the entry does, whole, or nothing of it. `preceded read left`: the bytes read, and then those that
--- are left. `Rose before now`: a count of faults rose, or stands at the end of its type, where it can't.
-use Rattle.std.specs.Prelude.{◌≡◌, ◌≢◌, ◌⊎◌, ℕ, ◌^◌, ◌<◌, ◌||◌, Bool, true, List, [], ◌∷◌, ◌++◌, length, Option}
+-- image finds of a studio: its history, its rate and block size, the next track and the commit number, and no clipboard
+-- and no pins. `Keeps image project`: opening finds that project, with all blocks whole. An entry is in flight if the
+-- disk failed in it, or stops in it. An image then holds what the entry does, whole, or nothing of it. `KeepsPrefix`:
+-- the project after the first n entries, of which the last may be in flight. `StopsInFlight`: after all entries up to
+-- the one that stopped the studio; that one is in flight, and was answered DiskFault. `preceded read left`: the bytes
+-- read, and then those that are left. `grown before text`: what was written before, and then the text. `Rose before
+-- now`: a count of faults rose, or stands at the end of its type (2^64 - 1), where it can't.
+use Rattle.std.specs.Prelude.{◌≡◌, ◌≢◌, ◌⊎◌, ℕ, ◌<◌, ◌||◌, Bool, true, List, [], ◌∷◌, ◌++◌, length, Option}
 use Rattle.std.specs.Prelude.{Some, None, false, IsSome, IsSomeAnd, IfErr, flat_map}
+use Rattle.pcm_base.specs.declared.limits.TheConstants.{COUNTER_LIMIT}
 use Rattle.pcm_base.specs.declared.answer.Answer.{Answer}
 use Rattle.pcm_base.specs.declared.answer.Reply.TheVariants as reply
 use Rattle.pcm_base.specs.declared.command.Call.TheVariants.{Line, Pin}
@@ -19,9 +23,10 @@ use Rattle.pcm_base.specs.Outside.{Sounds}
 use Rattle.pcm_base.specs.Run.{Follows, Run, result_of}
 use Rattle.pcm_base.specs.Studio.{Studio, fault_sum}
 use Rattle.disk_model.specs.declared.store.Store.{Ghosts}
-use Rattle.edit_ports.specs.Told.{preceded}
+use Rattle.edit_ports.specs.Told.{grown, preceded}
 use Rattle.pin_turn.specs.Counts.{Each}
-use Rattle.project_journal.specs.Gate.{EachNow, EachSince}
+use Rattle.disk_model.specs.Disk.{Files}
+use Rattle.project_journal.specs.Gate.{EachNow, EachSince, IsShut}
 use Rattle.project_state.specs.Kept.{Keeps}
 use Rattle.script_text.specs.declared.last.PlayEnd.TheVariants as play
 use Rattle.script_text.specs.declared.last.PlayLine.{PlayLine}
@@ -53,7 +58,8 @@ use Rattle.session_run.specs.Sides.{MakesSide, PlaysSide, RecordsSide}
 use Rattle.session_run.specs.Streams.{Input, Output, PrintsFrom}
 
 -- What a call met and what it left, as the types of its devices report them, whether a recording and a playback were
--- asked for, and the exit status and the numbers of its Ending.
+-- asked for, and the exit status and the numbers of its Ending. Of a device `left` are the bytes that were not yet
+-- read, `written` those that were printed or played, and `faults` counts its calls that failed.
 pub record Met (D : Type 0) : Type 0 where
   pub records : Bool
   pub plays : Bool
@@ -100,6 +106,16 @@ HasFaults disk store s =
 abbrev pub store_faults : {D : Type 0} → Ghosts D → D → ℕ
 store_faults disk store = fault_sum (disk.read_fault_count store) (disk.change_fault_count store)
 
+-- The answers were printed, and something after them. Only a fault of the output stops a script earlier: it breaks off
+-- in the answer to the last line that was carried out.
+abbrev pub PrintsAnswers : Stop → Change (Option (List ℕ)) → List Answer → Type 0
+PrintsAnswers stop.OutFault out answers = BreaksOff out.before out.now answers
+PrintsAnswers other out answers = (more : List ℕ) × (out.now ≡ grown out.before (flat_map text_of answers ++ more))
+
+-- the journal in a file ends at this place: after as many bytes stands a shut gate
+abbrev pub EndsAt : ℕ → ℕ → Files → Type 0
+EndsAt file at files = (front : List ℕ) × (length front ≡ at) × IsShut file front files
+
 -- the counts of faults of all devices
 abbrev pub fault_counts : {D : Type 0} → Ghosts D → Met D → List (Change ℕ)
 fault_counts disk m = m.script.faults ∷ m.out.faults
@@ -130,34 +146,39 @@ pub record Promise {D : Type 0} (disk : Ghosts D) (m : Met D) : Type 0 where
   -- its counts of faults are the disk's, before and at the end
   pub faults_before : HasFaults disk m.store.before start
   pub faults_now : HasFaults disk m.store.now final
-  -- ONE RUN of the plain array editor, by the script, which is the actor 0, the recorder and the player. A refused entry
-  -- leaves the editor's state as it was and takes no number. It may use up ids of blocks, and an export that is broken
-  -- off may leave a part of its sound. The exit status is said in Call (EndsAs).
+  -- ONE RUN of the plain array editor, by the script, which is the actor 0, the recorder and the player. A refused
+  -- entry leaves the editor's state as it was and takes no number. One that a device broke off may use up ids of
+  -- blocks, and an export may then leave a part of its sound. The exit status is said in Call (EndsAs).
   pub run : Run start ((track ++ pin) ++ entries) final
   pub makers : Each (λ e. (is_by 0 e || (is_by end.recorder e || is_by end.player e)) ≡ true) entries
   pub apart : (0 ≢ end.recorder) × (0 ≢ end.player) × (end.recorder ≢ end.player)
   pub asked : (is_asked end.recording ≡ m.records) × (is_asked end.playback ≡ m.plays)
-  -- over the script's LINES, in order, each with its answer
+  -- Over the script's LINES, in order, each with its answer: all lines of what was read; after a limit or a fault of
+  -- the script those that were whole, and after one of the output those up to the answer that broke off. A line outside
+  -- the grammar, or one without memory or a turn, has an answer and no entry. The numbers begin with those of the
+  -- opening.
   pub read : m.script.left.before ≡ preceded end.read m.script.left.now
   pub carried : IsCut end.stop end.read end.lines m.script.left.now
   pub lines : Answered (last_number start.state.commit (track ++ pin))
       (last_number start.state.commit (track ++ pin)) end.lines answers entries
   pub sounds : Follows m.sounds.before (entries_by 0 entries) m.sounds.now
-  -- And the recorded PIECES, after a track of their own: the first chunks that the microphone gave, all of them unless
-  -- one was refused. The recorder frees what they replaced. Lines of the script may change or undo them as any sound.
+  -- And the recorded PIECES, after a track of their own: the first chunks of what was read of the microphone, up to its
+  -- end, its fault or its limit, all of them unless one was refused. The tag is the commit number of that track; all
+  -- pieces bear it, so they are one point of undo. The recorder frees what they replaced. Lines of the script may
+  -- change or undo them as any sound. A turn makes one entry; no turn is left after 2^62 entries.
   pub track_is : MakesSide (Line Track)
       (λ tag r. (tag ≡ last_number start.state.commit track) × (is_refusal r ≡ false)) end.recording track
-  pub pieces : RecordsSide (length ((track ++ pin) ++ entries) ≡ 2 ^ 62) end.recording start.state.next_track m.mic
-      end.record_line m.piece_commits (entries_by end.recorder entries)
-  -- the ANSWERS printed, and the last lines; after a fault of the output a part from the front, up to within the answer
-  -- to the last line
+  pub pieces : RecordsSide (length ((track ++ pin) ++ entries) ≡ COUNTER_LIMIT) end.recording
+      start.state.next_track m.mic end.record_line m.piece_commits (entries_by end.recorder entries)
+  -- the ANSWERS printed, and the last lines; after a fault of the output a part from the front
   pub printed : PrintsFrom m.out
       (flat_map text_of answers ++ last_text end.record_line end.play_line m.last_commit)
-  pub broke : end.stop ≡ stop.OutFault → BreaksOff m.out.written.before m.out.written.now answers
-  pub stopped : IsStoppedFor end.stop m.script.faults m.out.faults
-  -- what was PLAYED is a prefix of the mix that the pin shows
+  pub broke : PrintsAnswers end.stop m.out.written answers
+  pub stopped_for : IsStoppedFor end.stop m.script.faults m.out.faults
+  -- What was PLAYED is a prefix of the mix that the pin shows. The pin is made after the recording's track and before
+  -- all other entries, so it has neither pieces nor what lines change.
   pub pin_is : MakesSide Pin (λ number r. r ≡ reply.Pinned number) end.playback pin
-  pub played : PlaysSide (length ((track ++ pin) ++ entries) ≡ 2 ^ 62) end.playback
+  pub played : PlaysSide (length ((track ++ pin) ++ entries) ≡ COUNTER_LIMIT) end.playback
       (λ number mix. pin_frames start.rate start.state (track ++ pin) number ≡ Some mix)
       m.speaker end.play_line (entries_by end.player entries)
   -- the NUMBERS of the run: the first and the last, and those of the script's commits and of the recorder's
@@ -173,23 +194,28 @@ pub record Promise {D : Type 0} (disk : Ghosts D) (m : Met D) : Type 0 where
       disk.may_leave m.store.before (disk.clock m.store.before) c
       ⊎ KeepsPrefix start ((track ++ pin) ++ entries) c)
   -- At the end it has the project after all entries. Where the disk stopped the studio, the entry broken off may be in
-  -- flight. A disk that stops is one whose calls fail from some call on, and the clause is about each such disk. So
-  -- what a stop leaves holds every entry that was answered before it. No field times the output against the disk: an
-  -- answer printed before its commit is on the disk would break `broken` on the disk that fails from the next call on.
+  -- flight. A disk that stops is one whose calls fail from some call on, and this record is about every disk, so about
+  -- each of those too. So what a stop leaves holds every entry that was answered before it. No field times the output
+  -- against the disk: an answer printed before its commit is on the disk would break `broken` on the disk that fails
+  -- from the next call on, since that entry was answered Done and is not the one in flight.
   pub going : final.stopped ≡ None → EachNow disk m.store.now (λ c. Keeps c (shown final))
   pub broken : IsSome final.stopped
       → EachNow disk m.store.now (λ c. Keeps c (shown final) ⊎ StopsInFlight start ((track ++ pin) ++ entries) c)
+  -- A `compact` puts the journal into the other file, and answers how many bytes it has with its last gate, as the run
+  -- says (`answered` of the model). Each image has the journal where the run ends.
+  pub journal : final.stopped ≡ None → EachNow disk m.store.now (EndsAt final.file final.journal_end)
   -- Files that are neither a journal's nor a block's stay as they are, and no entry found a damaged file.
   pub foreign : LeavesForeign (disk.reads m.store.before) (disk.reads m.store.now)
   pub whole : Each (λ e. IfErr (result_of e.reply) IsUnharmed) ((track ++ pin) ++ entries)
-  -- the exit STATUS is 4 if the count of faults of a device rose, and only if one did, or could not
+  -- The exit STATUS is 4 if the count of faults of a device rose, and only if one did, or stands at its type's end.
   pub failed : AnyOf (λ c. c.before < c.now) (fault_counts disk m) → m.status ≡ 4
   pub status : m.status ≡ 4 → AnyOf (λ c. Rose c.before c.now) (fault_counts disk m)
-  -- WHERE NO DEVICE FAILED the studio goes on, and no entry of the script has a device's reply
+  -- WHERE NEITHER THE DISK NOR THE VAULT FAILED the studio goes on, and no entry of the script is answered DiskFault,
+  -- VaultFault, Damaged or Stopped
   pub served : IsCalm start final → (Rose m.vault_faults.before m.vault_faults.now → ⊥)
       → (final.stopped ≡ None) × Each (λ e. IfErr (result_of e.reply) IsOfNoDevice) (entries_by 0 entries)
   -- no turn was left, for a line, the recording or the playback, only after as many entries as there are turns
   pub turns : TellSpent answers
       ⊎ (IsSomeAnd end.record_line (λ line. line.end ≡ rec.Refused spent)
       ⊎ IsSomeAnd end.play_line (λ line. line.end ≡ play.Refused spent))
-      → length ((track ++ pin) ++ entries) ≡ 2 ^ 62
+      → length ((track ++ pin) ++ entries) ≡ COUNTER_LIMIT

@@ -1,13 +1,12 @@
 // Gates that hold threads, each until others have come to where they are wanted.
 use edit_ports::Gate;
-use edit_ports::points::{AFTER_PIECE, AFTER_PUSH, AFTER_TAKE, BEFORE_LINE, BEFORE_PUSH};
+use edit_ports::points::{AFTER_PIECE, AFTER_PUSH, AFTER_TAKE, BEFORE_PUSH};
 use std::sync::{Mutex, Wait};
 use std::thread;
 
 /// How often each of the points was passed.
 #[derive(Clone, Copy)]
 struct Passes {
-    before_line: u64,
     before_push: u64,
     after_piece: u64,
     after_push: u64,
@@ -24,7 +23,6 @@ impl Counter {
     fn new() -> Counter {
         Counter {
             passes: Mutex::new(Passes {
-                before_line: 0,
                 before_push: 0,
                 after_piece: 0,
                 after_push: 0,
@@ -37,7 +35,6 @@ impl Counter {
     fn count<R: Wait>(&self, rt: &R, point: u32) -> Passes {
         let mut passes = self.passes.lock(rt);
         match point {
-            BEFORE_LINE => passes.before_line = passes.before_line.saturating_add(1),
             BEFORE_PUSH => passes.before_push = passes.before_push.saturating_add(1),
             AFTER_PIECE => passes.after_piece = passes.after_piece.saturating_add(1),
             AFTER_PUSH => passes.after_push = passes.after_push.saturating_add(1),
@@ -126,56 +123,5 @@ impl Gate for MeetingGate {
             thread::yield_now();
         }
         unreachable!()
-    }
-}
-
-/// How often a thread looks whether it may go on, at most.
-const LOOKS: u64 = 1_000_000_000;
-
-/// A gate that holds the third line of the script, the first push of the recorder and the first push of the player
-/// until all three were reached, and the fourth line until a piece was made and a frame was taken. Who has looked too
-/// often goes on.
-#[derive(Drop)]
-pub struct OverlapGate {
-    counter: Counter,
-    in_vain: Mutex<bool>,
-}
-
-impl OverlapGate {
-    pub fn new() -> OverlapGate {
-        OverlapGate {
-            counter: Counter::new(),
-            in_vain: Mutex::new(false),
-        }
-    }
-
-    /// Whether a thread has looked in vain.
-    pub fn is_in_vain<R: Wait>(&self, rt: &R) -> bool {
-        *self.in_vain.lock(rt)
-    }
-}
-
-// Whether a thread waits at a point, which it passes with these counts, where the counts are now so.
-fn waits(point: u32, mine: Passes, now: Passes) -> bool {
-    let all_three = now.before_line >= 3 && now.before_push >= 1 && now.after_push >= 1;
-    match point {
-        BEFORE_LINE if mine.before_line == 3 => !all_three,
-        BEFORE_LINE if mine.before_line == 4 => now.after_piece == 0 || now.after_take == 0,
-        BEFORE_PUSH if mine.before_push == 1 => !all_three,
-        AFTER_PUSH if mine.after_push == 1 => !all_three,
-        _ => false,
-    }
-}
-
-impl Gate for OverlapGate {
-    fn pass<R: Wait>(&self, rt: &R, point: u32) {
-        let mine = self.counter.count(rt, point);
-        for _ in 0..LOOKS {
-            if !waits(point, mine, self.counter.now(rt)) {
-                return;
-            }
-            thread::yield_now();
-        }
-        *self.in_vain.lock(rt) = true;
     }
 }

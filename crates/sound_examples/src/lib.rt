@@ -1,5 +1,4 @@
-//! Sounds that are recorded and played in threads, alone and beside a script: the tests of `sound_run` and of
-//! `sound_session`.
+//! Sounds that are recorded and played in threads: the tests of `sound_run`.
 #![tactic(auto)]
 
 #[cfg(test)]
@@ -8,5 +7,3 @@ mod gates;
 mod memory;
 #[cfg(test)]
 mod sound_run_tests;
-#[cfg(test)]
-mod sound_session_tests;

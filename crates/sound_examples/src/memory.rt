@@ -1,46 +1,10 @@
-// An editor that wants memory, and what takes pieces and gives frames in memory.
+// What takes pieces and gives frames in memory.
 ghost use Rattle.std.specs.Prelude.{◌≡◌, ◌^◌, ◌≤◌, length, None};
 
 use edit_ports::{FrameGiver, PieceTaker};
-use pcm_base::{Chunk, Command, Frame, Refusal, Reply, Said};
-use script_session::Editor;
+use pcm_base::{Chunk, Frame, Refusal, Said};
 use std::alloc::Global;
 use std::sync::Wait;
-
-/// An editor that never has memory for a line.
-#[derive(Drop)]
-pub struct PoorEditor;
-
-impl Editor for PoorEditor {
-    ghost use Rattle.std.specs.Prelude.{◌≡◌, [], false, None};
-
-    ghost place = { λ s. record {
-      seat = 0;
-      first = 0;
-      seen = [];
-      last = 0;
-      commits = [];
-      used_up = false;
-      tells = false;
-      sounds = λ name. None;
-      faults = 0;
-    } };
-
-    ghost follows = { λ first s. s ≡ first };
-
-    fn apply<R: Wait>(
-        &mut self,
-        _rt: &R,
-        _alloc: Global,
-        _command: &Command,
-    ) -> Result<Reply, Refusal> {
-        Err(Refusal::NoMemory)
-    }
-
-    fn commit_number(&self) -> u64 {
-        0
-    }
-}
 
 /// Takes pieces, up to a number of them.
 #[derive(Drop)]

@@ -1,5 +1,6 @@
 // A mix is written to a vault.
-ghost use Rattle.std.specs.Prelude.{◌≡◌, ◌≤◌, ◌<◌, ◌+◌, ◌*◌, ◌^◌, length, Some, Err, IsTrue, OnOk, OnErr, IfOk, IfErr};
+ghost use Rattle.std.specs.Prelude.{◌≡◌, ◌≤◌, ◌<◌, ◌+◌, ◌*◌, length, Some, Err, IsTrue, OnOk, OnErr, IfOk, IfErr};
+ghost use Rattle.pcm_base.specs.declared.limits.TheConstants.{MAX_CELLS, MAX_TRACKS};
 ghost use Rattle.disk_model.specs.Frames.{Kept};
 ghost use Rattle.pcm_base.specs.Mix.{mix_of};
 ghost use Rattle.pcm_base.specs.Wave.{wav_text};
@@ -38,11 +39,11 @@ pub fn write_mix<S: Store, V: Vault>(
     bytes: &mut [u8],
 ) -> Result<u64, ExportFault>
     requires named { AllNamed (point_blocks point.now) }
-    requires cells { 64 ≤ length cells.old }
+    requires cells { MAX_TRACKS ≤ length cells.old }
     requires some { 0 < length frames.old }
     requires bytes { 4 * length frames.old ≤ length bytes.old }
     requires head { 44 ≤ length bytes.old }
-    requires few_frames { length frames.old ≤ 2 ^ 32 }
+    requires few_frames { length frames.old ≤ MAX_CELLS }
     requires cached { IsTrue (S.tells store.old) → IsCacheOf (S.reads store.old) cache.old }
     ensures cache { KeepsCache (S.tells store.old) (S.reads store.old) (point_blocks point.now) cache.old cache.new }
     ensures written { IsTrue (V.tells vault.old) → IsTrue (S.tells store.old) → OnOk result

@@ -9,7 +9,7 @@ use pcm_base::{Failed, Refusal};
 /// Why a mix is not written.
 #[derive(Clone, Copy, Debug, PartialEq, Eq)]
 pub enum ExportFault {
-    /// There are so many frames: the sizes in the file would pass 32 bits.
+    /// There are this many frames: the sizes in the file would pass 32 bits.
     TooLong { frames: u64 },
     /// The disk failed, or a block is damaged.
     Block { fault: BlockFault },

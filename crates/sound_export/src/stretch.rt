@@ -1,6 +1,7 @@
 // Frames of a mix, appended to a sound a stretch at a time.
 ghost use Rattle.std.specs.Prelude.{◌≡◌, ◌≤◌, ◌<◌, ◌+◌, ◌-◌, ◌*◌, ◌^◌, ◌++◌, ℕ, length, take, drop, min, Some, IsTrue};
 ghost use Rattle.std.specs.Prelude.{OnOk, OnErr, IfOk, IfErr};
+ghost use Rattle.pcm_base.specs.declared.limits.TheConstants.{MAX_CELLS, MAX_TRACKS};
 ghost use Rattle.disk_model.specs.Frames.{Kept};
 ghost use Rattle.pcm_base.specs.Pieces.{Sources};
 ghost use Rattle.pcm_base.specs.Mix.{mix_length};
@@ -36,7 +37,7 @@ fn append_stretch<'a, S: Store, V: Vault>(
 ) -> Result<usize, ExportFault>
     requires reader { IsReader reader.old }
     requires cached { IsTrue (S.tells store.old) → IsCacheOf (S.reads store.old) cache.old }
-    requires cells { 64 ≤ length cells.old }
+    requires cells { MAX_TRACKS ≤ length cells.old }
     requires bytes { 4 * length frames.old ≤ length bytes.old }
     requires few { reader.old.at + length frames.old < 2 ^ 64 }
     ensures count { IfOk result
@@ -81,13 +82,13 @@ pub(crate) fn append_mix<S: Store, V: Vault>(
     requires named { AllNamed (point_blocks point.now) }
     requires len { len ≡ mix_length_of point.now }
     requires mix { (src : Sources) → mix_length (meant src point.now) ≡ len }
-    requires few { len ≤ 2 ^ 32 }
+    requires few { len ≤ MAX_CELLS }
     requires there { IsTrue (V.tells vault.old)
         → V.holds vault.old name.now ≡ Some (sound_bytes (V.holds vault.old name.now)) }
-    requires cells { 64 ≤ length cells.old }
+    requires cells { MAX_TRACKS ≤ length cells.old }
     requires some { 0 < length frames.old }
     requires bytes { 4 * length frames.old ≤ length bytes.old }
-    requires few_frames { length frames.old ≤ 2 ^ 32 }
+    requires few_frames { length frames.old ≤ MAX_CELLS }
     requires cached { IsTrue (S.tells store.old) → IsCacheOf (S.reads store.old) cache.old }
     ensures cache { KeepsCache (S.tells store.old) (S.reads store.old) (point_blocks point.now) cache.old cache.new }
     ensures appended { IsTrue (V.tells vault.old) → IsTrue (S.tells store.old)

@@ -1,1 +1,2 @@
 mod TakenLaws
+mod ShortLaws

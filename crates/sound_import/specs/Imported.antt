@@ -1,6 +1,7 @@
 -- What reading a sound of a vault answers.
-use Rattle.std.specs.Prelude.{◌≡◌, ◌≤◌, ℕ, List, Option, Some, None, Result, Ok, MatchResult}
+use Rattle.std.specs.Prelude.{◌≡◌, ◌≤◌, ◌<◌, ℕ, List, Option, Some, None, Result, Ok, MatchResult}
 use Rattle.pcm_base.specs.Causes.{Rose}
+use Rattle.pcm_base.specs.declared.wav.WavFault.TheVariants.{Truncated}
 use Rattle.pcm_base.specs.Wave.{wav_of}
 use Rattle.pcm_base.specs.State.{State}
 use Rattle.pcm_base.specs.Refusals.{import_tests}
@@ -29,6 +30,18 @@ IsRefused sound rate Vault = Unit {0}
 IsRefused sound rate (BadWav fault) = Refuses sound rate (refusal.BadWav fault)
 IsRefused sound rate (RateDiffers have want) = Refuses sound rate (refusal.RateDiffers have want)
 IsRefused sound rate NoMemory = Unit {0}
+
+-- the sound is cut short: fewer bytes came than it should have
+abbrev pub IsCutShort : ImportFault → Type 0
+IsCutShort (BadWav (Truncated want have)) = have < want
+IsCutShort why = ⊥
+
+-- so many bytes are wanted of a sound that has fewer
+abbrev pub IsCutAt : ℕ → ℕ → ImportFault → Type 0
+IsCutAt size there (BadWav (Truncated want have)) = (want ≡ size) × (have ≡ there) × (have < want)
+IsCutAt size there Vault = Unit {0}
+IsCutAt size there NoMemory = Unit {0}
+IsCutAt size there why = ⊥
 
 -- the vault's count of faults rises where the vault failed, and stays elsewhere
 abbrev pub ImportCountedBy : ImportFault → ℕ → ℕ → Type 0

@@ -1,9 +1,9 @@
 // The bytes of a sound of a vault.
-ghost use Rattle.std.specs.Prelude.{◌≡◌, ◌<◌, ℕ, length, take, min, IsTrue, IfOk, IfErr, Some};
+ghost use Rattle.std.specs.Prelude.{◌≡◌, ◌⊎◌, ◌<◌, ◌≤◌, ℕ, length, take, min, IsTrue, IfOk, IfErr, Some, None};
 ghost use Rattle.pcm_base.specs.Causes.{HasCause};
 ghost use Rattle.pcm_base.specs.declared.wav.WavFault.TheVariants.{Truncated};
 ghost use Rattle.edit_ports.specs.Sounds.{sound_bytes};
-ghost use Rattle.sound_import.specs.Imported.{IsRefused, ImportCounted};
+ghost use Rattle.sound_import.specs.Imported.{IsCutAt, IsCutShort, IsRefused, ImportCounted};
 ghost use Rattle.sound_import.specs.declared.fault.ImportFault.TheVariants.{BadWav};
 
 use super::fault::ImportFault;
@@ -32,26 +32,25 @@ fn read_front<V: Vault>(vault: &mut V, name: &str, out: &mut [u8]) -> Result<usi
     Ok(done)
 }
 
-/// Reads all the bytes that the vault says the sound has. Where it gives fewer the sound is Truncated.
-pub(crate) fn read_whole<V: Vault>(
+/// Reads this many bytes of a sound, from its front. A sound that has fewer is Truncated, with their number.
+fn read_bytes<V: Vault>(
     alloc: Global,
     vault: &mut V,
     name: &str,
+    size: usize,
 ) -> Result<Vec<u8>, ImportFault>
-    ensures whole { IsTrue (V.tells vault.old)
-        → IfOk result (λ bytes. V.holds vault.old name.now ≡ Some bytes.items) }
-    ensures refused { (rate : ℕ) → IsTrue (V.tells vault.old)
-        → IfErr result (IsRefused (V.holds vault.old name.now) rate) }
+    ensures read { IsTrue (V.tells vault.old) → IfOk result (λ bytes.
+        (bytes.items ≡ take size (sound_bytes (V.holds vault.old name.now)))
+        × (size ≤ length (sound_bytes (V.holds vault.old name.now)))) }
+    ensures cut { IsTrue (V.tells vault.old)
+        → IfErr result (IsCutAt size (length (sound_bytes (V.holds vault.old name.now)))) }
+    // Whatever the vault tells.
     ensures short { (want have : ℕ) → IfErr result (λ why. why ≡ BadWav (Truncated want have) → have < want) }
+    ensures reason { IfErr result (λ why. IsCutShort why ⊎ ((rate : ℕ) → IsRefused None rate why)) }
     ensures same { V.holds vault.new ≡ V.holds vault.old }
     ensures tells { V.tells vault.new ≡ V.tells vault.old }
     ensures faults { ImportCounted result (V.fault_count vault.old) (V.fault_count vault.new) }
 {
-    let size = match vault.size(name) {
-        Ok(Some(size)) => size as usize,
-        Ok(None) => return Err(ImportFault::NoFile),
-        Err(_) => return Err(ImportFault::Vault),
-    };
     let mut bytes = Vec::new(alloc);
     match bytes.resize_with(size, || 0) {
         Ok(()) => {}
@@ -69,4 +68,29 @@ pub(crate) fn read_whole<V: Vault>(
         return Err(ImportFault::BadWav { fault });
     }
     Ok(bytes)
+}
+
+/// Reads all the bytes that the vault says the sound has. Where it gives fewer the sound is Truncated.
+pub(crate) fn read_whole<V: Vault>(
+    alloc: Global,
+    vault: &mut V,
+    name: &str,
+) -> Result<Vec<u8>, ImportFault>
+    ensures whole { IsTrue (V.tells vault.old)
+        → IfOk result (λ bytes. V.holds vault.old name.now ≡ Some bytes.items) }
+    ensures refused { (rate : ℕ) → IsTrue (V.tells vault.old)
+        → IfErr result (IsRefused (V.holds vault.old name.now) rate) }
+    // Whatever the vault tells, also where it gives other than it said.
+    ensures short { (want have : ℕ) → IfErr result (λ why. why ≡ BadWav (Truncated want have) → have < want) }
+    ensures reason { IfErr result (λ why. IsCutShort why ⊎ ((rate : ℕ) → IsRefused None rate why)) }
+    ensures same { V.holds vault.new ≡ V.holds vault.old }
+    ensures tells { V.tells vault.new ≡ V.tells vault.old }
+    ensures faults { ImportCounted result (V.fault_count vault.old) (V.fault_count vault.new) }
+{
+    let size = match vault.size(name) {
+        Ok(Some(size)) => size as usize,
+        Ok(None) => return Err(ImportFault::NoFile),
+        Err(_) => return Err(ImportFault::Vault),
+    };
+    read_bytes(alloc, vault, name, size)
 }

@@ -1,7 +1,8 @@
 // A sound of a vault, read whole.
-ghost use Rattle.std.specs.Prelude.{◌≡◌, ◌≢◌, IsTrue, IfOk, IfErr};
+ghost use Rattle.std.specs.Prelude.{◌≡◌, ◌≢◌, ◌⊎◌, ◌<◌, ℕ, IsTrue, IfOk, IfErr, Option, Some, List};
+ghost use Rattle.pcm_base.specs.declared.wav.WavFault.TheVariants.{Truncated};
 ghost use Rattle.sound_import.specs.declared.fault.ImportFault.TheVariants as fault;
-ghost use Rattle.sound_import.specs.Imported.{IsTaken, IsRefused, ImportCounted};
+ghost use Rattle.sound_import.specs.Imported.{IsTaken, IsRefused, IsCutShort, ImportCounted};
 
 use super::bytes::read_whole;
 use super::fault::ImportFault;
@@ -19,6 +20,11 @@ pub fn read_sound<V: Vault>(
     ensures taken { IsTrue (V.tells vault.old) → IfOk result (IsTaken (V.holds vault.old name.now) rate) }
     // Each reason is the first that the model has for these bytes at this rate, in any project.
     ensures refused { IsTrue (V.tells vault.old) → IfErr result (IsRefused (V.holds vault.old name.now) rate) }
+    // Whatever the vault tells, also where it gives other than it said: what is taken is what some bytes say at the
+    // wanted rate, and a reason is that of some sound, or of one that is cut short.
+    ensures some { IfOk result (λ wav. (bytes : List ℕ) × IsTaken (Some bytes) rate wav) }
+    ensures reason { IfErr result (λ why. IsCutShort why ⊎ ((sound : Option (List ℕ)) × IsRefused sound rate why)) }
+    ensures short { (want have : ℕ) → IfErr result (λ why. why ≡ fault.BadWav (Truncated want have) → have < want) }
     ensures same { V.holds vault.new ≡ V.holds vault.old }
     ensures tells { V.tells vault.new ≡ V.tells vault.old }
     ensures faults { ImportCounted result (V.fault_count vault.old) (V.fault_count vault.new) }

@@ -7,8 +7,6 @@
 #![tactic(auto)]
 
 mod streams;
-#[cfg(test)]
-mod tests;
 
 use edit_ports::{OpenGate, Sink, write_all};
 use project_folder::{FileSink, FileSource, FolderStore, FolderVault, SideBySide};

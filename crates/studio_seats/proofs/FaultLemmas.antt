@@ -18,6 +18,7 @@ use Rattle.disk_model.specs.declared.store.Store.{Ghosts}
 use Rattle.edit_ports.specs.declared.vault.Vault as vault
 use Rattle.editor_core.specs.Applied.{reply_of}
 use Rattle.editor_core.specs.Studios.{studio_of}
+use Rattle.model_laws.proofs.Answered.{carried_is}
 use Rattle.studio_seats.specs.declared.deed.Deed.{Deed}
 use Rattle.studio_seats.specs.Deeds.{entries_of}
 use Rattle.studio_seats.specs.Faults.{AreServed, DesksServe, IsCalm, IsServed, Serves}
@@ -79,8 +80,9 @@ broken t u c sound why h = absurd h
 went : (t u : model.Studio) (c : Call) (sound : SoundMove) (what : Result Reply Refusal) → Answers t c sound what u
     → Went t u c what
 went t u c sound (Ok r) h =
-    still t u c (Ok r) (ap (λ (z : model.Studio). z.read_faults) h.is) (ap (λ (z : model.Studio). z.change_faults) h.is)
-    (λ going. ap (λ (z : model.Studio). z.stopped) h.is ∙ going) (λ going. tt)
+    let is = carried_is t u c sound r h in
+    still t u c (Ok r) (ap (λ (z : model.Studio). z.read_faults) is) (ap (λ (z : model.Studio). z.change_faults) is)
+    (λ going. ap (λ (z : model.Studio). z.stopped) is ∙ going) (λ going. tt)
 went t u c sound (Err why) (inl h) = same t u c (Err why) h.same
     (λ going. served_test t.stopped c why going
     (subst (Tells t.stopped) h.first (tested (outside t sound) t c h.blocks h.len)))

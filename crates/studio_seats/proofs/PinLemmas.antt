@@ -145,6 +145,7 @@ frames_in (reply.Frames frames) = frames
 frames_in (reply.Columns columns) = []
 frames_in (reply.Tracks tracks) = []
 frames_in (reply.Freed count) = []
+frames_in (reply.Packed bytes) = []
 frames_in (reply.Wrote bytes) = []
 frames_in (reply.Pinned number) = []
 frames_in (reply.Length frames) = []

@@ -13,6 +13,7 @@ use Rattle.pcm_base.specs.Run.{Answers, outside, result_of}
 use Rattle.pcm_base.specs.State.{State, current}
 use Rattle.pcm_base.specs.Step.{MayAnswer, after}
 use Rattle.pcm_base.specs.Studio as model
+use Rattle.model_laws.proofs.Answered.{carried_is}
 use Rattle.studio_seats.specs.Pins.{after_what, drops_pin, makes_pin}
 use Rattle.studio_seats.specs.Pins.{tells_pin}
 use Rattle.studio_seats.proofs.Refused.{refused_same}
@@ -89,8 +90,8 @@ pub record Leads (t : model.Studio) (c : Call) (what : Result Reply Refusal) (so
 pub leads_of : (t u : model.Studio) (c : Call) (sound : SoundMove) (what : Result Reply Refusal)
     → Answers t c sound what u → Leads t c what sound u
 leads_of t u c sound (Ok r) h = record {
-  state = ap (λ (z : model.Studio). z.state) h.is;
-  rate = ap (λ (z : model.Studio). z.rate) h.is;
+  state = ap (λ (z : model.Studio). z.state) (carried_is t u c sound r h);
+  rate = ap (λ (z : model.Studio). z.rate) (carried_is t u c sound r h);
   tells = λ said same. subst (MayAnswer (outside t sound) t.state c) (ap reply_or same) h.answers;
 }
 leads_of t u c sound (Err why) h =
@@ -105,6 +106,7 @@ number_in (reply.Frames frames) = 0
 number_in (reply.Columns columns) = 0
 number_in (reply.Tracks tracks) = 0
 number_in (reply.Freed count) = 0
+number_in (reply.Packed bytes) = 0
 number_in (reply.Wrote bytes) = 0
 number_in (reply.Pinned number) = number
 number_in (reply.Length frames) = 0
@@ -119,6 +121,7 @@ told_pin (reply.Frames frames) p h = absurd (true≢false (sym h))
 told_pin (reply.Columns columns) p h = absurd (true≢false (sym h))
 told_pin (reply.Tracks tracks) p h = absurd (true≢false (sym h))
 told_pin (reply.Freed count) p h = absurd (true≢false (sym h))
+told_pin (reply.Packed bytes) p h = absurd (true≢false (sym h))
 told_pin (reply.Wrote bytes) p h = absurd (true≢false (sym h))
 told_pin (reply.Pinned q) p h = ap reply.Pinned (eqb-true q p h)
 told_pin (reply.Length frames) p h = absurd (true≢false (sym h))

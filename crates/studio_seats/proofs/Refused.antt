@@ -14,6 +14,7 @@ use Rattle.pcm_base.specs.Shape.{is_commit, shape_of}
 use Rattle.pcm_base.specs.Studio as model
 use Rattle.editor_core.specs.Studios.{shown}
 use Rattle.editor_core.specs.Took.{number_behind}
+use Rattle.model_laws.proofs.Answered.{carried_is}
 use Rattle.studio_seats.specs.Deeds.{commits, raised}
 
 pub stopped_not : (o : Option ℕ) → IsSome o → o ≡ None → ⊥
@@ -61,7 +62,7 @@ pub stopped_shown : (t u : model.Studio) (c : Call) (sound : SoundMove) (what : 
     → Answers t c sound what u → t.stopped ≡ None → IsSome u.stopped
     → shown u ≡ shown t
 stopped_shown t u c sound (Ok r) h going stops =
-    absurd (stopped_not u.stopped stops (ap (λ (z : model.Studio). z.stopped) h.is ∙ going))
+    absurd (stopped_not u.stopped stops (ap (λ (z : model.Studio). z.stopped) (carried_is t u c sound r h) ∙ going))
 stopped_shown t u c sound (Err why) h going stops = same_shown t u (refused_same t u c sound why h)
 
 -- ---- the commit number

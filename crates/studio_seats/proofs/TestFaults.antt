@@ -12,7 +12,8 @@ use Rattle.pcm_base.specs.declared.refusal.Refusal.{Refusal}
 use Rattle.pcm_base.specs.declared.refusal.Refusal.TheVariants as refusal
 use Rattle.pcm_base.specs.declared.wav.WavFault.{WavFault}
 use Rattle.pcm_base.specs.Cells.{cells_at, longest, tracks_from}
-use Rattle.pcm_base.specs.Counters.{commits_of, counter_tests, no_room, pins_of, places_of, record_test, tracks_of}
+use Rattle.pcm_base.specs.Counters.{commits_of, counter_tests, generations_of, no_room, pins_of, places_of, record_test}
+use Rattle.pcm_base.specs.Counters.{tracks_of}
 use Rattle.pcm_base.specs.Edits.{source_count}
 use Rattle.pcm_base.specs.Outside.{Outside}
 use Rattle.pcm_base.specs.Refusals.{◌otherwise◌, bad_columns, bad_range, bad_view, call_tests, channel_tests}
@@ -21,8 +22,8 @@ use Rattle.pcm_base.specs.Refusals.{length_limit, no_pin, no_track, paste_tests,
 use Rattle.pcm_base.specs.Refusals.{range_tests, refused_if, run_tests, shape_tests, too_narrow, track_limit, view_tests}
 use Rattle.pcm_base.specs.Run.{Answers, outside, refusal_of, result_of, stop_test}
 use Rattle.pcm_base.specs.Shape.{Shape, NewTrack, DropTrack, SetTrack, PutIn, EditRange, CutRun, CopyRun, PasteRun}
-use Rattle.pcm_base.specs.Shape.{MoveTo, Purge, Look, Reclaim, Import, Export, Back, Forward, View, Cells, Frames}
-use Rattle.pcm_base.specs.Shape.{Columns, Tracks, shape_of}
+use Rattle.pcm_base.specs.Shape.{MoveTo, Purge, Look, Reclaim, Compact, Import, Export, Back, Forward, View, Cells}
+use Rattle.pcm_base.specs.Shape.{Frames, Columns, Tracks, shape_of}
 use Rattle.pcm_base.specs.State.{State, clip_of, current}
 use Rattle.pcm_base.specs.Studio as model
 use Rattle.pcm_base.specs.Wave.{Sound, wav_of}
@@ -137,6 +138,7 @@ module _ (stopped : Option ℕ) where
     line (Purge n) = range 0 n s.history.cursor
     line (Look v) = view v
     line (Reclaim limit) = tt
+    line Compact = tt
     line (Import name) = imported out.sound
     line (Export name) = one _ _ tt
 
@@ -158,7 +160,8 @@ module _ (stopped : Option ℕ) where
       (either (no_room t.state.next_track (tracks_of out c)) _ (room t.state.next_track (tracks_of out c))
       (either (no_room t.state.commit (commits_of c)) _ (room t.state.commit (commits_of c))
       (either (no_room t.state.next_pin (pins_of c)) _ (room t.state.next_pin (pins_of c))
-      (room t.journal_end (places_of c len)))))
+      (either (no_room t.journal_end (places_of c len)) _ (room t.journal_end (places_of c len))
+      (room t.generation (generations_of c))))))
 
 pub going : (stopped : Option ℕ) (c : Call) → Tells stopped (stop_test stopped c)
 going None (call.Line c) = tt

@@ -1,5 +1,6 @@
 -- What the calls of a seat say.
-use Rattle.std.specs.Prelude.{◌≡◌, ◌⊎◌, ℕ, ◌^◌, ◌<◌, true, false, List, [], ◌∷◌, ◌++◌, length, Result, Err}
+use Rattle.std.specs.Prelude.{◌≡◌, ◌⊎◌, ℕ, ◌<◌, true, false, List, [], ◌∷◌, ◌++◌, length, Result, Err}
+use Rattle.pcm_base.specs.declared.limits.TheConstants.{COUNTER_LIMIT}
 use Rattle.pcm_base.specs.declared.answer.Reply.{Reply}
 use Rattle.pcm_base.specs.declared.command.Call.{Call}
 use Rattle.pcm_base.specs.declared.entry.SoundMove.{SoundMove}
@@ -19,7 +20,7 @@ use Rattle.studio_seats.specs.Stands.{AllTell, Does, Origin, StandsFor}
 
 -- no turn is left
 abbrev pub spent : Refusal
-spent = Spent (2 ^ 62)
+spent = Spent COUNTER_LIMIT
 
 -- a call, what it was answered, and what became of the sound that it names
 pub record Asked : Type 0 where
@@ -27,7 +28,7 @@ pub record Asked : Type 0 where
   pub what : Result Reply Refusal
   pub sound : SoundMove
 
--- what a seat knew before a call, and what it knows behind it
+-- what a seat knew before a call, and what it knows after it
 pub record Views (D V : Type 0) : Type 0 where
   pub before : View (Held D V) Deed
   pub after : View (Held D V) Deed
@@ -59,12 +60,12 @@ module _ {D V : Type 0} where
     pub away : v.away ≡ []
     pub unspent : v.used_up ≡ false
 
-  -- A turn of a seat: behind all that it had seen it has seen deeds of others, and then its own, by which the studio
-  -- went from `before` to `after`. It tells the commit number behind the turn.
+  -- A turn of a seat: after all that it had seen it has seen deeds of others, and then its own, by which the studio
+  -- went from `before` to `after`. It reports the commit number after the turn.
   pub record Turned (o : Origin D V) (a : Asked) (at : ℕ) (seat : Views D V) : Type 0 where
     pub between : List Deed
     pub by_others : ByOthers actor_of (seat.before.number ∷ []) between
-    pub few : length (seat.before.seen ++ between) < 2 ^ 62
+    pub few : length (seat.before.seen ++ between) < COUNTER_LIMIT
     pub unspent : seat.before.used_up ≡ false
     pub view : seat.after ≡ record seat.before {
       seen = (seat.before.seen ++ between) ++ deed_of seat.before.number a ∷ [];

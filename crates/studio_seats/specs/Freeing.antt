@@ -23,7 +23,7 @@ abbrev pub pieces_of : List Entry → List Entry
 pieces_of [] = []
 pieces_of (e ∷ es) = (if makes_piece e.call then e ∷ [] else []) ++ pieces_of es
 
--- how many pieces stand after the last other call, with this call, where so many stood before it
+-- how many pieces stand after the last other call, with this call, where this many stood before it
 abbrev pub unfreed_by : ℕ → Call → ℕ
 unfreed_by n c = if makes_piece c then n + 1 else 0
 

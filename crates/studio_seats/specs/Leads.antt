@@ -19,6 +19,7 @@ use Rattle.editor_core.specs.Applied.{reply_of}
 use Rattle.editor_core.specs.Core.{Core}
 use Rattle.editor_core.specs.Events.{KeepsPrefix}
 use Rattle.editor_core.specs.Left.{LeavesForeign}
+use Rattle.editor_core.specs.Packing.{packed_by}
 use Rattle.editor_core.specs.Studios.{IsHeld, IsStudio, shown, studio_of}
 use Rattle.editor_core.specs.Took.{InFlight, asks, exchange_of}
 use Rattle.studio_seats.specs.declared.deed.Deed.{Deed}
@@ -85,7 +86,7 @@ abbrev pub chain_asks : {D V : Type 0} (disk : Ghosts D) (vaults : vault.Ghosts 
 chain_asks disk vaults old [] new chain = record { files = 0; bytes = 0; calls = 0 }
 chain_asks disk vaults old (d ∷ ds) new chain = together
     (asks (exchange_of d.call d.sound d.what chain.1.removed) (disk.reads old.store old.file) old.block_size
-    (chain.0.next_block - old.next_block) chain.1.lasts.len)
+    (chain.0.next_block - old.next_block) chain.1.lasts.len (packed_by old d.call))
     (chain_asks disk vaults chain.0 ds new chain.2)
 
 -- Of the disk no more was asked than by each deed, and no file changes but the journal and those of blocks, here and in

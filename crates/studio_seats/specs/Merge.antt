@@ -110,7 +110,7 @@ PieceNumbers = (to by seat first : ℕ) (before seen more : List Deed) (chunks :
     → (pieces_by to by seat first (seen ++ more) ≡ zip (take (length numbers) chunks) numbers)
     × (numbers_of (by_seat seat) first (seen ++ more) ≡ numbers_in (zip (take (length numbers) chunks) numbers))
 
--- a turn of a seat comes behind its earlier ones
+-- a turn of a seat comes after its earlier ones
 abbrev pub OwnOrder : Type 0
 OwnOrder = (seat : ℕ) (seen between : List Deed) (e : Deed) → e.actor ≡ seat → ByOthers actor_of (seat ∷ []) between
     → deeds_of (by_seat seat) ((seen ++ between) ++ e ∷ []) ≡ deeds_of (by_seat seat) seen ++ e ∷ []

@@ -32,6 +32,7 @@ tells_pin (reply.Frames frames) pin = false
 tells_pin (reply.Columns columns) pin = false
 tells_pin (reply.Tracks tracks) pin = false
 tells_pin (reply.Freed count) pin = false
+tells_pin (reply.Packed bytes) pin = false
 tells_pin (reply.Wrote bytes) pin = false
 tells_pin (reply.Pinned number) pin = number == pin
 tells_pin (reply.Length frames) pin = false

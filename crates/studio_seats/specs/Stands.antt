@@ -30,7 +30,8 @@ AllTell {V} vaults = (v : V) → IsTrue (vaults.tells v)
 abbrev pub AreTold : {V : Type 0} → vault.Ghosts V → List Deed → Type 0
 AreTold vaults deeds = Each (λ d. IsSome (name_in d.call) → AllTell vaults) deeds
 
--- One deed is one call of the studio: a step, where its call names no sound, or `told` holds: vaults report their bytes.
+-- One deed is one call of the studio: a step, where its call names no sound, or `told` holds: vaults report their
+-- bytes.
 pub record Does {D : Type 0} (disk : Ghosts D) (told : Type 0) (old : Core D) (d : Deed) (new : Core D) : Type 0 where
   -- the ids of the blocks whose files went
   pub removed : List ℕ

@@ -4,6 +4,7 @@ use disk_model::Store;
 use edit_ports::Vault;
 use pin_turn::Turn;
 
+mod compacts;
 mod lines;
 mod moves;
 mod pieces;

@@ -1,4 +1,4 @@
-// Points behind one another.
+// Points after one another.
 ghost use Rattle.std.specs.Prelude.{◌≡◌, ◌⊎◌, ◌+◌, ◌-◌, ◌<◌, ◌≤◌, ◌∷◌, ◌++◌, [], Some, IfOk, IfErr, OnOk, OnErr, length, slice_index};
 ghost use Rattle.std.specs.Prelude.{slice_get};
 ghost use Rattle.pcm_base.specs.History.{IsHistory, history_of_one, points_of, tags_of, edited, amended, at_cursor};
@@ -63,7 +63,7 @@ impl<P: Drop> History<P> {
         Ok(())
     }
 
-    /// Puts a point behind the current one and makes it current. Points that could be redone are dropped, and beyond
+    /// Puts a point after the current one and makes it current. Points that could be redone are dropped, and beyond
     /// the depth the oldest goes. It takes memory only where there is no room for one point more; where there is none,
     /// the point comes back and nothing changes.
     pub fn push(&mut self, point: P, tag: u64) -> Result<(), P>
@@ -130,7 +130,7 @@ impl<P: Drop> History<P> {
         Ok(())
     }
 
-    /// Makes the point behind the current one current: `NothingToRedo` where there is none.
+    /// Makes the point after the current one current: `NothingToRedo` where there is none.
     pub fn redo(&mut self) -> Result<(), Refusal>
         ensures ok { OnOk result ((self.old.history.cursor + 1 < length self.old.history.points)
             × (self.new ≡ record self.old { history = at_cursor self.old.history (self.old.history.cursor + 1) })) }

@@ -15,7 +15,7 @@ use pcm_base::{NoMemory, Numbers};
 use std::alloc::Global;
 
 impl RamStore {
-    /// An empty disk with room for so many files that are made, bytes that are written and changing calls that are
+    /// An empty disk with room for this many files that are made, bytes that are written and changing calls that are
     /// served; room that is used is not given back. Calls are counted from 1, and those of the numbers that it is given
     /// fail.
     pub fn new(

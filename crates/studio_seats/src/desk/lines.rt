@@ -24,9 +24,9 @@ use std::marker::Brand;
 use std::sync::Wait;
 
 impl<S: Store, V: Vault> Desk<S, V> {
-    /// Carries a line out and fills the answer: the commit number behind it, and its reply, or the reason that refuses
-    /// it, which is told besides. A sound that the line names is looked for in the vault, while the turn is kept. Where
-    /// it names none, the vault is as it was; where no turn is left, the answer too.
+    /// Carries a line out and fills the answer: the commit number after it, and its reply, or the reason that refuses
+    /// it, which is reported besides. A sound that the line names is looked for in the vault, while the turn is kept.
+    /// Where it names none, the vault is as it was; where no turn is left, the answer too.
     ///
     /// # Errors
     ///

@@ -1,5 +1,6 @@
 // Pins, each call in one turn.
-ghost use Rattle.std.specs.Prelude.{◌≡◌, ◌+◌, ◌^◌, ◌<◌, ◌≤◌, true, IsTrue, length, take, IfOk};
+ghost use Rattle.std.specs.Prelude.{◌≡◌, ◌+◌, ◌<◌, ◌≤◌, true, IsTrue, length, take, IfOk};
+ghost use Rattle.pcm_base.specs.declared.limits.TheConstants.{MAX_CELLS};
 ghost use Rattle.pcm_base.specs.declared.answer.Reply.TheVariants as reply;
 ghost use Rattle.pcm_base.specs.declared.command.Call.TheVariants as call;
 ghost use Rattle.pin_turn.specs.Calls.{known};
@@ -133,7 +134,7 @@ impl<S: Store, V: Vault> Desk<S, V> {
             (told_by (λ n. reply.Frames (take n out.new)) result.what) silent)
             result (views (known seat.old) (known seat.new)) }
         ensures bound { IfOk result.what (λ n. n ≤ length out.new) }
-        ensures limit { IfOk result.what (λ n. 0 < n → from + n ≤ 2 ^ 32) }
+        ensures limit { IfOk result.what (λ n. 0 < n → from + n ≤ MAX_CELLS) }
         ensures spent { (known seat.new).used_up ≡ true → out.new ≡ out.old }
     {
         said_by(
@@ -148,7 +149,7 @@ impl<S: Store, V: Vault> Desk<S, V> {
                         (core_of held.new.studio) }
                     ensures at { result.at ≡ (core_of held.new.studio).commit_number }
                     ensures bound { IfOk result.what (λ n. n ≤ length out.exit.now) }
-                    ensures limit { IfOk result.what (λ n. 0 < n → from + n ≤ 2 ^ 32) }
+                    ensures limit { IfOk result.what (λ n. 0 < n → from + n ≤ MAX_CELLS) }
                 {
                     let what = held.studio.read_pin(pin, from, out);
                     let at = held.studio.commit_number();

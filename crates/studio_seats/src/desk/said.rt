@@ -2,7 +2,7 @@
 ghost use Rattle.std.specs.Prelude.{◌≡◌, Err, MatchResult};
 ghost use Rattle.studio_seats.specs.Desks.{spent};
 
-use pcm_base::{Refusal, Said};
+use pcm_base::{COUNTER_LIMIT, Refusal, Said};
 use pin_turn::Spent;
 
 /// What was said in the turn, or that none was left.
@@ -13,7 +13,9 @@ pub(crate) fn said_by<T>(turn: Result<Said<T>, Spent>) -> Said<T>
         Ok(said) => said,
         Err(Spent) => Said {
             at: 0,
-            what: Err(Refusal::Spent { turns: 1 << 62 }),
+            what: Err(Refusal::Spent {
+                turns: COUNTER_LIMIT,
+            }),
         },
     }
 }

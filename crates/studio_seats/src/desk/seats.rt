@@ -1,5 +1,6 @@
 // Seats are made and joined, and the studio is handed out.
-ghost use Rattle.std.specs.Prelude.{◌≡◌, ◌⊎◌, ℕ, ◌<◌, ◌^◌, true, [], ◌∷◌, ◌++◌, length, IfOk, IfErr};
+ghost use Rattle.std.specs.Prelude.{◌≡◌, ◌⊎◌, ℕ, ◌<◌, true, [], ◌∷◌, ◌++◌, length, IfOk, IfErr};
+ghost use Rattle.pcm_base.specs.declared.limits.TheConstants.{COUNTER_LIMIT};
 ghost use Rattle.pin_turn.specs.Calls.{known, Begins};
 ghost use Rattle.pin_turn.specs.Counts.{times, once_below};
 ghost use Rattle.pin_turn.specs.Rule.{IsNewNumber};
@@ -72,7 +73,7 @@ impl<S: Store, V: Vault> Desk<S, V> {
         requires { IsAt self seat × ((known seat).number ≡ 0) × ((known seat).away ≡ []) }
         ensures stands { StandsFor (origin S.Store V.Vault (start_at self)) (core_of result) (known seat).seen }
         ensures mine { (k : ℕ) → times k (known seat).mine ≡ once_below k (length (known seat).seen) }
-        ensures spent { (known seat).used_up ≡ true → length (known seat).seen ≡ 2 ^ 62 }
+        ensures spent { (known seat).used_up ≡ true → length (known seat).seen ≡ COUNTER_LIMIT }
     {
         let Desk { turn } = self;
         let Held { studio, vaults: _ } = turn.close(seat);

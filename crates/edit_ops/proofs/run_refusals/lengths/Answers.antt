@@ -1,12 +1,11 @@
 -- The goals of `lengths` that the search leaves open.
 use Rattle.std.proofs.Common.{◌≡◌, ℕ, ◌+◌, ◌<◌, List, [], ◌∷◌, length, get_or, drop, sym, ap, ap₂, ◌∙◌, arith}
 use Rattle.std.proofs.lemmas.List.{drop_more}
-use Rattle.pcm_base.specs.Refusals.{length_limit}
+use Rattle.pcm_base.specs.Refusals.{length_limit, placed_length}
 use Rattle.clip_track.specs.declared.items.Item.{Item}
 use Rattle.clip_track.specs.declared.clips.Clip.{Clip}
 use Rattle.std.proofs.lemmas.Result.{err_from_is_err_and}
 use denote.Ref.{Bor}
-use Rattle.edit_ops.specs.Placing.{placed_length}
 use Rattle.clip_track.specs.Clips.{end_of}
 use Rattle.clip_track.specs.Items.{strip_len}
 use Rattle.edit_ops.specs.Runs.{layouts, lengths_of}

@@ -1,11 +1,12 @@
 -- The goals of `paste_each` that the search leaves open.
 use Rattle.std.proofs.Common.{◌≡◌, ℕ, ◌+◌, ◌<◌, List, [], ◌∷◌, ◌++◌, length, take, sym, ap, ap₂, subst, ◌∙◌, arith}
 use Rattle.std.proofs.lemmas.List.{take_more}
+use Rattle.pcm_base.specs.Edits.{placed}
+use Rattle.pcm_base.specs.Refusals.{placed_length}
 use Rattle.clip_track.specs.declared.items.Item.{Item}
 use Rattle.clip_track.specs.declared.clips.Clip.{Clip}
 use Rattle.clip_track.specs.Clips.{AllHalfFull, end_of}
 use Rattle.clip_track.specs.Items.{strip_len}
-use Rattle.edit_ops.specs.Placing.{placed, placed_length}
 use Rattle.edit_ops.specs.Plans.{run_start_of}
 use Rattle.edit_ops.specs.Strips.{IsClip}
 use Rattle.edit_ops.specs.Runs.{IsPaste, layouts}

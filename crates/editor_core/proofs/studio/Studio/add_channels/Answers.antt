@@ -12,7 +12,7 @@ use Rattle.envelope_view.specs.Answers.{IsUndamaged}
 use Rattle.sound_import.specs.declared.fault.ImportFault.TheVariants.{NoMemory}
 use Rattle.editor_core.specs.Applied.{Lasts}
 use Rattle.editor_core.specs.Core.{core_of}
-use Rattle.editor_core.specs.Imports.{IsChannelsPlan, IsNoVault, all_of, channels_refusal, left_as}
+use Rattle.editor_core.specs.Imports.{IsChannelsPlan, IsInside, all_of, channels_refusal, left_as}
 use Rattle.editor_core.specs.Imports.{total_of}
 use Rattle.editor_core.specs.Points.{current_tracks}
 use Rattle.editor_core.specs.Took.{Took, told_by, with_sound}
@@ -128,7 +128,7 @@ returns-in_err-planned-clause-sound g c = λ held.
 pub returns-in_err-planned-clause-device : goal.returns-in_err-planned-clause-device
 returns-in_err-planned-clause-device g c =
     let r = err_from_is_err_and c.from_residual-in_err-planned.result c.from_residual-in_err-planned.ensures.1 in
-    subst (λ x. IfErr x IsNoVault) (sym (r.1 ∙ ap Err (r.2 ∙ c.in_err-planned.ensures.err))) tt
+    subst (λ x. IfErr x IsInside) (sym (r.1 ∙ ap Err (r.2 ∙ c.in_err-planned.ensures.err))) tt
 
 -- ---- they are added
 

@@ -8,7 +8,7 @@ use Rattle.project_state.specs.Kept.{point_blocks}
 use Rattle.editor_core.specs.Applied.{Lasts}
 use Rattle.editor_core.specs.Core.{core_of}
 use Rattle.editor_core.specs.Edits.{tagged}
-use Rattle.editor_core.specs.Imports.{IsNoVault}
+use Rattle.editor_core.specs.Imports.{IsInside}
 use Rattle.editor_core.specs.Occurrences.{HasIds}
 use Rattle.editor_core.specs.Took.{Took, told_by, with_sound}
 use Rattle.editor_core.proofs.CarriedOut.{carried_at, commit_of, told_point}
@@ -70,7 +70,7 @@ returns-in_err-carry-clause-device g c =
     let why = c.in_err-carry.field-0.0 in
     let all = carried_at g.S.Store s new e c.as_slice.result.now (Err why) c.as_slice.ensures c.requires.next
     c.in_err-carry.ensures.carried in
-    subst (λ x. IfErr x IsNoVault) (sym (r.1 ∙ ap Err r.2)) (carried_asks g.S.Store s new (commit_of s e) why all)
+    subst (λ x. IfErr x IsInside) (sym (r.1 ∙ ap Err r.2)) (carried_asks g.S.Store s new (commit_of s e) why all)
 
 pub take_recorded-requires-clause-there : goal.take_recorded-requires-clause-there
 take_recorded-requires-clause-there g c =

@@ -3,11 +3,12 @@ use Rattle.std.proofs.Common.{◌∙◌, sym, ap, subst, ℕ, IfErr, Err, arith}
 use Rattle.std.proofs.lemmas.Result.{err_from_is_err_and}
 use Rattle.pcm_base.specs.declared.answer.Reply.TheVariants.{Done}
 use Rattle.pcm_base.specs.declared.command.Call.TheVariants.{Line}
+use Rattle.pcm_base.specs.Shape.{range_line}
 use Rattle.piece_store.specs.declared.given.Given.TheVariants.{Nothing}
 use Rattle.envelope_view.specs.Answers.{IsUndamaged}
 use Rattle.editor_core.specs.Core.{core_of}
 use Rattle.editor_core.specs.Points.{current_tracks}
-use Rattle.editor_core.specs.Ranges.{range_edit, range_line}
+use Rattle.editor_core.specs.Ranges.{range_edit}
 use Rattle.editor_core.specs.Took.{Took, quietly, silent, told_by}
 use Rattle.editor_core.proofs.NoDamage.{no_plan_tells, range_tells}
 use Rattle.editor_core.proofs.RangeLaws.{range_call}

@@ -25,10 +25,10 @@ returns-in-Some-clause-took g c =
     let s = core_of c.args.self.now in
     pin_stopped g.S.Store s c.requires (g.met.S.Store.may_fewer s.store) c.in-Some.faults c.in-Some.is
 
-pub returns-then-self-eq-MOST-clause-took : goal.returns-then-self-eq-MOST-clause-took
-returns-then-self-eq-MOST-clause-took g c =
+pub returns-then-self-eq-COUNTER_LIMIT-clause-took : goal.returns-then-self-eq-COUNTER_LIMIT-clause-took
+returns-then-self-eq-COUNTER_LIMIT-clause-took g c =
     let s = core_of c.args.self.now in
-    pin_spent g.S.Store s c.requires (g.met.S.Store.may_fewer s.store) c.in_default.is c.if-self-eq-MOST.true
+    pin_spent g.S.Store s c.requires (g.met.S.Store.may_fewer s.store) c.in_default.is c.if-self-eq-COUNTER_LIMIT.true
 
 pub returns-in_err-add_pin-clause-took : goal.returns-in_err-add_pin-clause-took
 returns-in_err-add_pin-clause-took g c =
@@ -78,7 +78,7 @@ returns-clause-took g c =
     let held = subst (λ (l : Kept). Held (count_of l) counts (point_blocks (current_tracks s.history))) ledger
     (subst (λ (h : Stored (List Track)). Held mid.counts counts (point_blocks (current_tracks h.history))) was
     c.hold_current.ensures) in
-    let room : s.next_pin < 2 ^ 62 = omega (arith, c.if-self-eq-MOST.false, is.counters.pin_most) in
+    let room : s.next_pin < 2 ^ 62 = omega (arith, c.if-self-eq-COUNTER_LIMIT.false, is.counters.pin_most) in
     let number : mid.next_pin ≡ s.next_pin = ap (λ (z : Core g.row.S.Denot). z.next_pin) c.in_ok-add_pin.ensures.ok in
     let replied : s.next_pin ≡ mid.next_pin + 1 - 1 = omega (arith, number) in
     subst (λ (n : ℕ). Took g.S.Store s (quietly call.Pin (Ok (reply.Pinned n)))

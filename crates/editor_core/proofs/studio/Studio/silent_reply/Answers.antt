@@ -138,3 +138,13 @@ returns-in-Reclaim g c =
           (core_of c.reclaim.new.self))
           (sym c.freed.ensures) c.reclaim.ensures.took),
     )
+
+pub returns-in-Compact : goal.returns-in-Compact
+returns-in-Compact g c =
+    let s = core_of c.args.self.now in (
+      [],
+      subst (λ (k : Command). Took g.S.Store s (quietly (Line k) c.packed.result) (core_of c.compact.new.self))
+          (sym c.in-Compact.is)
+          (subst (λ (r : Result Reply Refusal). Took g.S.Store s (quietly (Line command.Compact) r)
+          (core_of c.compact.new.self)) (sym c.packed.ensures) c.compact.ensures.took),
+    )

@@ -1,0 +1,112 @@
+-- The journal put into one header, or why it was not.
+use Rattle.std.proofs.Common.{◌≡◌, ◌∙◌, sym, ap, subst, ℕ, ◌+◌, ◌-◌, ◌^◌, ◌<◌, Bool, List, Result, Some, Err, Ok}
+use Rattle.std.proofs.Common.{length, arith}
+use Rattle.std.proofs.lemmas.Result.{err_from_is_err_and}
+use Rattle.pcm_base.specs.declared.failed.Failed.{Failed}
+use Rattle.pcm_base.specs.declared.refusal.Refusal.{Refusal}
+use Rattle.pcm_base.specs.declared.refusal.Refusal.TheVariants as refusal
+use Rattle.pcm_base.specs.Causes.{HasCause}
+use Rattle.editor_core.specs.Compacts.{Compacts, packed_core}
+use Rattle.editor_core.specs.Core.{Core, core_of}
+use Rattle.editor_core.specs.Packing.{packed_size, packed_text}
+use Rattle.editor_core.proofs.Compacting.{Packs, compact_done, compact_failed, compact_spent, compact_stopped}
+use Rattle.editor_core.proofs.Compacting.{compact_unread, compact_wanting}
+use Rattle.editor_core.proofs.studio.Studio.compact.Goals as goal
+
+pub returns-in-Some : goal.returns-in-Some
+returns-in-Some g c =
+    let s = core_of c.args.self.now in
+    compact_stopped g.S.Store s c.requires (g.met.S.Store.may_fewer s.store) c.in-Some.faults c.in-Some.is
+
+pub returns-then-self-eq-COUNTER_LIMIT : goal.returns-then-self-eq-COUNTER_LIMIT
+returns-then-self-eq-COUNTER_LIMIT g c =
+    let s = core_of c.args.self.now in
+    compact_spent g.S.Store s c.requires (g.met.S.Store.may_fewer s.store) c.in_default.is
+    c.if-self-eq-COUNTER_LIMIT.true
+
+pub returns-in_err-text : goal.returns-in_err-text
+returns-in_err-text g c =
+    let p = err_from_is_err_and c.from_residual.result c.from_residual.ensures.1 in
+    let s = core_of c.args.self.now in
+    subst (λ (r : Result ℕ Refusal). Compacts g.S.Store s r s) (sym (p.1 ∙ ap Err p.2))
+    (compact_wanting g.S.Store s c.requires (g.met.S.Store.may_fewer s.store))
+
+pub returns-in_default-is_there : goal.returns-in_default-is_there
+returns-in_default-is_there g c =
+    let s = core_of c.args.self.now in
+    let store = c.is_there.new.store in
+    let cause = subst (λ (r : Result Bool Failed). HasCause (g.S.Store.read_fault_count s.store)
+    (g.S.Store.read_fault_count store) r) c.in_default-is_there.is c.is_there.ensures.faults in
+    compact_unread g.S.Store s c.requires (g.met.S.Store.may_fewer s.store) c.in_default.is store
+    c.is_there.ensures.kept cause.failed cause.later
+
+pub returns-in-Ok-compact : goal.returns-in-Ok-compact
+returns-in-Ok-compact g c =
+    let s = core_of c.args.self.now in
+    let is = c.requires in
+    let text = c.deref.result.now in
+    let mid = c.is_there.new.store in
+    let new = c.compact.new.store in
+    let same : text ≡ packed_text s = c.deref.ensures.value ∙ c.in_ok-text.ensures.text in
+    let size = c.in_ok-text.ensures.size in
+    let most = c.in_ok-text.ensures.most in
+    let there = subst (λ (r : Result Bool Failed). HasCause (g.S.Store.read_fault_count s.store)
+    (g.S.Store.read_fault_count mid) r) c.in-Ok.is c.is_there.ensures.faults in
+    let by : Packs g.S.Store s.file c.in-Ok.there mid new text c.compact.result = record {
+      any_moment = c.compact.ensures.any_moment;
+      done = c.compact.ensures.done;
+      alone = c.compact.ensures.alone;
+      gone = c.compact.ensures.gone;
+      durable = c.compact.ensures.durable;
+      one = c.compact.ensures.one;
+      changed = c.compact.ensures.changed;
+      faults = c.compact.ensures.faults;
+      read_faults = c.compact.ensures.read_faults;
+    } in
+    let packs = subst (λ (l : List ℕ). Packs g.S.Store s.file c.in-Ok.there mid new l (Ok c.in-Ok-compact.field-0)) same
+    (subst (λ r. Packs g.S.Store s.file c.in-Ok.there mid new text r) c.in-Ok-compact.is by) in
+    let len = c.in_ok-text.text.ok.0 in
+    let end : c.len.result ≡ packed_size s - 1 = omega (arith, c.len.ensures, len, size) in
+    let later : s.generation < 2 ^ 62 =
+    omega (arith, c.if-self-eq-COUNTER_LIMIT.false, is.journal.generation_most) in
+    subst (λ (z : Core g.row.S.Denot). Compacts g.S.Store s (Ok (c.len.result + 1)) z)
+    (λ i. record (packed_core s new) { journal_end = sym end i })
+    (compact_done g.S.Store s is (g.met.S.Store.may_fewer s.store) c.in_default.is mid c.is_there.ensures.kept
+    there.kept c.in-Ok.there c.in-Ok.ensures.tells later c.in_ok-text.ensures.whole c.in_ok-text.ensures.rate
+    c.in_ok-text.ensures.short (omega (arith, size, most)) new (Ok c.in-Ok-compact.field-0) packs
+    packs.faults.kept packs.done packs.alone packs.gone packs.durable packs.one (g.met.S.Store.may_stay new)
+    (c.len.result + 1) (omega (arith, c.len.ensures, len, ap length c.in_ok-text.ensures.text)))
+
+pub returns : goal.returns
+returns g c =
+    let s = core_of c.args.self.now in
+    let is = c.requires in
+    let text = c.deref.result.now in
+    let mid = c.is_there.new.store in
+    let new = c.compact.new.store in
+    let same : text ≡ packed_text s = c.deref.ensures.value ∙ c.in_ok-text.ensures.text in
+    let size = c.in_ok-text.ensures.size in
+    let most = c.in_ok-text.ensures.most in
+    let there = subst (λ (r : Result Bool Failed). HasCause (g.S.Store.read_fault_count s.store)
+    (g.S.Store.read_fault_count mid) r) c.in-Ok.is c.is_there.ensures.faults in
+    let by : Packs g.S.Store s.file c.in-Ok.there mid new text c.compact.result = record {
+      any_moment = c.compact.ensures.any_moment;
+      done = c.compact.ensures.done;
+      alone = c.compact.ensures.alone;
+      gone = c.compact.ensures.gone;
+      durable = c.compact.ensures.durable;
+      one = c.compact.ensures.one;
+      changed = c.compact.ensures.changed;
+      faults = c.compact.ensures.faults;
+      read_faults = c.compact.ensures.read_faults;
+    } in
+    let packs = subst (λ (l : List ℕ). Packs g.S.Store s.file c.in-Ok.there mid new l (Err c.in-Err.field-0)) same
+    (subst (λ r. Packs g.S.Store s.file c.in-Ok.there mid new text r) c.in-Err.is by) in
+    let later : s.generation < 2 ^ 62 =
+    omega (arith, c.if-self-eq-COUNTER_LIMIT.false, is.journal.generation_most) in
+    subst (λ (z : Core g.row.S.Denot). Compacts g.S.Store s (Err refusal.DiskFault) z)
+    (λ i. record s { store = new; stopped = Some (sym c.faults.ensures i) })
+    (compact_failed g.S.Store s is (g.met.S.Store.may_fewer s.store) c.in_default.is mid c.is_there.ensures.kept
+    there.kept c.in-Ok.there c.in-Ok.ensures.tells later c.in_ok-text.ensures.whole c.in_ok-text.ensures.rate
+    c.in_ok-text.ensures.short (omega (arith, size, most)) new (Err c.in-Err.field-0) packs
+    packs.faults.failed packs.faults.later)

@@ -1,6 +1,0 @@
--- What is handed out is a studio.
-use Rattle.studio_seats.proofs.Grown.{leads}
-use Rattle.seat_examples.proofs.tests.four_threads_at_one_desk.Goals as goal
-
-pub commits_in-requires : goal.commits_in-requires
-commits_in-requires g c = (leads _ _ _ c.close-studio.ensures.stands).studio

@@ -1,0 +1,55 @@
+// A journal put into one header in one turn.
+ghost use Rattle.std.specs.Prelude.{◌≡◌};
+ghost use Rattle.pcm_base.specs.declared.answer.Reply.TheVariants.{Packed};
+ghost use Rattle.pcm_base.specs.declared.command.Call.TheVariants.{Line};
+ghost use Rattle.pcm_base.specs.declared.command.Command.TheVariants.{Compact};
+ghost use Rattle.pin_turn.specs.Calls.{known};
+ghost use Rattle.editor_core.specs.Core.{core_of};
+ghost use Rattle.editor_core.specs.Compacts.{Compacts};
+ghost use Rattle.editor_core.specs.Studios.{IsStudio};
+ghost use Rattle.editor_core.specs.Took.{silent, told_by};
+ghost use Rattle.studio_seats.specs.Desks.{IsAt, Says, asked, start_at, views};
+ghost use Rattle.studio_seats.specs.Stands.{origin};
+
+use super::Desk;
+use super::said::said_by;
+use crate::held::{DeskSeat, Held};
+use disk_model::Store;
+use edit_ports::Vault;
+use pcm_base::Said;
+use std::alloc::Global;
+use std::marker::Brand;
+use std::sync::Wait;
+
+impl<S: Store, V: Vault> Desk<S, V> {
+    /// Puts the journal into one header, as [`Studio::compact`](editor_core::Studio::compact) does, and answers how
+    /// many bytes its file has.
+    ///
+    /// # Errors
+    ///
+    /// Those of that call; `Spent` where no turn is left.
+    pub fn compact<R: Wait>(&self, rt: &R, alloc: Global, seat: &mut DeskSeat<S, V>) -> Said<u64>
+        requires { IsAt self.now seat.old }
+        ensures same { IsAt self.now seat.new }
+        ensures says { Says (origin S.Store V.Vault (start_at self.now))
+            (asked (Line Compact) (told_by Packed result.what) silent)
+            result (views (known seat.old) (known seat.new)) }
+    {
+        said_by(
+            self.turn.with::<R, Said<u64>, _, Brand>(
+                rt,
+                seat,
+                &mut |held: &mut Held<S, V>| -> Said<u64>
+                    requires { IsStudio S.Store (core_of held.old.studio) }
+                    ensures compacts { Compacts S.Store (core_of held.old.studio) result.what
+                        (core_of held.new.studio) }
+                    ensures at { result.at ≡ (core_of held.new.studio).commit_number }
+                {
+                    let what = held.studio.compact(alloc);
+                    let at = held.studio.commit_number();
+                    Said { at, what }
+                },
+            ),
+        )
+    }
+}
