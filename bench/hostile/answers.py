@@ -7,7 +7,7 @@ from projects import Project, append, length_of, spell_edit, spell_header
 SIDES = ["both", "left", "right"]
 # The settings of a track: their places in it, and values to set.
 SETTINGS = {"level": (1, [0, 1, 65_536, 1_048_576]), "side": (2, [0, 1, 2]), "mute": (3, [0, 1])}
-LINES = ["track", "drop", "undo", "redo", "purge", "show", "set", "set", *["put"] * 5]
+LINES = ["track", "drop", "undo", "redo", "purge", "show", "set", "set", *["compact"] * 2, *["put"] * 5]
 
 
 def track_lines(project):
@@ -82,7 +82,7 @@ def cells(files, track, to):
     return out + [None] * (min(to, length_of(track)) - len(out))
 
 
-# How many samples new blocks have, so many in all, of at most so many each.
+# How many samples each new block has: total in all, and at most most in each.
 def sizes(total, most):
     count = -(-total // most)
     return [total // count + (i < total % count) for i in range(count)]
@@ -224,6 +224,20 @@ class Script:
             self.project.purge(count)
             self.write(line, lambda out: (out.put(1, 4), out.put(8, count)))
 
+    # Puts the journal into one header, in the file that it was not in. What that file had before is gone.
+    def compact(self):
+        project = self.project
+        if project.generation == END:
+            return self.refuse("compact", f"SpaceSpent {END} 1")
+        del self.files[project.file]
+        project.file, project.version = 1 - project.file, 2
+        project.generation += 1
+        out = Bytes()
+        spell_header(out, project)
+        self.files[project.file] = bytes(out.data)
+        project.end = len(out.data) - 1
+        self.say("compact", f"packed {project.commit} {len(out.data)}")
+
     # Removes the files that no point names.
     def reclaim(self):
         named = {id for id, _ in self.project.named()}
@@ -235,7 +249,7 @@ class Script:
     # One line that is drawn.
     def draw_line(self, draw):
         tracks, way = self.project.tracks(), draw.choice(LINES)
-        if way in ("undo", "redo"):
+        if way in ("undo", "redo", "compact"):
             getattr(self, way)()
         elif way == "purge":
             self.purge(draw.choice([0, 1, 1, 2, 5]))

@@ -31,7 +31,7 @@ class Tests:
     def at_most(self, field, bound):
         self.same(field, min(max(bound, 0), field[1]))
 
-    # A field that is to end at a place of a file of so many bytes.
+    # A field that ends at a place of a file of size bytes.
     def is_there(self, at, end, size):
         self.same((at, min(end, size)), end)
 

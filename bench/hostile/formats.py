@@ -59,7 +59,7 @@ class BodyTests(Tests):
         super().__init__(file, base)
         self.next_block, self.next_track, self.most = next_block, next_track, most
 
-    # Blocks of a clip after so many cells; it answers where they end.
+    # Blocks of a clip that begins after end cells; it returns where they end.
     def test_blocks(self, blocks, is_several, end):
         for id, length in blocks:
             self.at_least(id, FIRST_BLOCK)

@@ -1,8 +1,10 @@
 # What makes a project hostile: bits that are turned, files that are cut, lengthened, swapped or absent, fields at their
 # bounds and past them, records that come twice, change places or go, generations that are equal or exchanged, changes
-# that do not go with the current point, and files that no project has.
+# that do not go with the current point, points of a header that overlap or that no project may have, and files that no
+# project has.
 from fields import END, LONGEST, number
 from formats import is_project
+from making import Journal
 from projects import FIRST_BLOCK, last_blocks, spell_edit, spell_heard
 
 BOUNDS = [0, 1, 2, 3, 4, 5, 15, 16, 17, 63, 64, 65, 255, 256, 4095, 4096, 4097, 65_535, 65_536, 262_143, 262_144,
@@ -228,6 +230,30 @@ def strange_record(draw, drawn, files):
     return "one more record"
 
 
+# A journal that is one header, with a point whose parts do not go together, or points that overlap.
+def strange_point(draw, drawn, files):
+    project, kept = drawn.project, drawn.project.points
+    if project.version == 1 or not files.get(project.file):
+        return None
+    i = draw.randrange(len(kept))
+    if draw.random() < 0.7:
+        tag = draw.choice([kept[i][1]] * 4 + [project.commit, project.commit + 1])
+        project.points = [*kept[:i], (strange_tracks(draw, project), tag), *kept[i + 1:]]
+    journal = Journal(project)
+    project.points = kept
+    data, at = journal.out.data, 64
+    if draw.random() < 0.5:
+        for _ in range(i):
+            at += 4 + number(data, at, 4)
+        length = number(data, at, 4)
+        after = number(data, at + 4 + length, 4)
+        new = length + draw.choice([-12, -1, 1, 4, 12, 16, after, after + 4, after + 5, len(data)])
+        data[at:at + 4] = max(0, new).to_bytes(4, "little")
+    drawn.journals[project.file] = journal
+    files[project.file] = bytes(data)
+    return f"a header whose point {i} is strange"
+
+
 def gate(draw, drawn, files):
     file = any_journal(draw, drawn, files)
     if file is not None:
@@ -251,7 +277,8 @@ def no_file(draw, drawn, files):
 
 
 WAYS = [turn_bit] * 4 + [cut] * 3 + [lengthen] + [bound] * 9 + [block_field] * 3 + [
-    swap, copy, remove, exchange, generation, records, records, gate, foreign] + [strange_record] * 8
+    swap, copy, remove, exchange, generation, records, records, gate, foreign] + [strange_record] * 8 + [
+    strange_point] * 3
 
 
 # Makes the files hostile, and says how.
