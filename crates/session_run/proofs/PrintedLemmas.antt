@@ -1,5 +1,5 @@
 -- What is printed: the answers, and then the last lines.
-use Rattle.std.proofs.Common.{◌≡◌, ◌∙◌, sym, ap, subst, ℕ, ◌+◌, List, [], ◌∷◌, ◌++◌, length, take, Option}
+use Rattle.std.proofs.Common.{◌≡◌, ◌∙◌, refl, sym, ap, subst, ℕ, ◌+◌, List, [], ◌∷◌, ◌++◌, length, take, Option}
 use Rattle.std.proofs.Common.{append_assoc, arith}
 use Rattle.std.specs.Prelude.{flat_map}
 use Rattle.std.proofs.Math.Seq.{take-append-add}
@@ -15,8 +15,7 @@ use Rattle.script_session.specs.declared.stop.Stop.TheVariants as stop
 use Rattle.script_session.specs.Change.{Change, change}
 use Rattle.script_session.specs.Progress.{BreaksOff, IsCauseOf, WritesAnswers, outcome_of}
 use Rattle.session_run.specs.Last.{WritesEnd}
-use Rattle.session_run.specs.Promise.{PrintsAnswers}
-use Rattle.session_run.specs.Streams.{PrintsFrom}
+use Rattle.session_run.specs.Streams.{PrintsFrom, PrintsThen}
 
 module _ (before mid now : Option (List ℕ)) (first then_ last : ℕ) (answers : List Answer) (end : List ℕ) where
   abbrev said : List ℕ
@@ -80,27 +79,33 @@ printed stop.OutFault source before mid now first then_ last answers end wrote c
     broken before mid now first then_ last answers end wrote ended.0
     (subst (λ (n : ℕ). Rose first n) (sym ended.1) cause.2)
 
--- the answers were printed, and a part of the last lines
-after_answers : (before mid now : Option (List ℕ)) (then_ last : ℕ) (answers : List Answer) (end : List ℕ)
-    → mid ≡ grown before (flat_map text_of answers)
-    → PrintsFrom (record { written = change mid now; faults = change then_ last }) end
-    → (more : List ℕ) × (now ≡ grown before (flat_map text_of answers ++ more))
-after_answers before mid now then_ last answers end wrote (part, all) = (
-  take part.0 end,
-  part.2 ∙ (ap (λ (o : Option (List ℕ)). grown o (take part.0 end)) wrote
-      ∙ grown-grown before (flat_map text_of answers) (take part.0 end)),
-)
+-- where the output did not stop the script, the answers stand before what was written of the last lines
+module _ (before mid now : Option (List ℕ)) (first then_ last : ℕ) (answers : List Answer) (end : List ℕ) where
+  after_answers : mid ≡ grown before (flat_map text_of answers)
+      → PrintsFrom (record { written = change mid now; faults = change then_ last }) end
+      → PrintsThen (record { written = change before now; faults = change first last }) (flat_map text_of answers) end
+  after_answers wrote (part, all) = (
+    part.0,
+    part.1,
+    part.2 ∙ (ap (λ (o : Option (List ℕ)). grown o (take part.0 end)) wrote
+        ∙ grown-grown before (flat_map text_of answers) (take part.0 end)),
+  )
 
--- where the output failed, the answer that breaks off is that of the last line; else all answers were printed
+  pub answered_all : (s : Stop) → WritesAnswers (outcome_of s) before mid answers
+      → WritesEnd s (record { written = change mid now; faults = change then_ last }) end → (s ≡ stop.OutFault → ⊥)
+      → PrintsThen (record { written = change before now; faults = change first last }) (flat_map text_of answers) end
+  answered_all stop.End wrote ended goes = after_answers wrote ended
+  answered_all stop.Limit wrote ended goes = after_answers wrote ended
+  answered_all stop.SourceFault wrote ended goes = after_answers wrote ended
+  answered_all stop.OutFault wrote ended goes = absurd (goes refl)
+
+-- where the output failed, the answer that breaks off is that of the last line
 pub broke : (s : Stop) (before mid now : Option (List ℕ)) (then_ last : ℕ) (answers : List Answer) (end : List ℕ)
     → WritesAnswers (outcome_of s) before mid answers
-    → WritesEnd s (record { written = change mid now; faults = change then_ last }) end
-    → PrintsAnswers s (change before now) answers
-broke stop.End before mid now then_ last answers end wrote ended =
-    after_answers before mid now then_ last answers end wrote ended
-broke stop.Limit before mid now then_ last answers end wrote ended =
-    after_answers before mid now then_ last answers end wrote ended
-broke stop.SourceFault before mid now then_ last answers end wrote ended =
-    after_answers before mid now then_ last answers end wrote ended
-broke stop.OutFault before mid now then_ last answers end wrote ended =
+    → WritesEnd s (record { written = change mid now; faults = change then_ last }) end → s ≡ stop.OutFault
+    → BreaksOff before now answers
+broke stop.End before mid now then_ last answers end wrote ended is = absurd (let clash = is in cc)
+broke stop.Limit before mid now then_ last answers end wrote ended is = absurd (let clash = is in cc)
+broke stop.SourceFault before mid now then_ last answers end wrote ended is = absurd (let clash = is in cc)
+broke stop.OutFault before mid now then_ last answers end wrote ended is =
     subst (λ (o : Option (List ℕ)). BreaksOff before o answers) (sym ended.0) wrote

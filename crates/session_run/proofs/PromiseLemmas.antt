@@ -18,6 +18,7 @@ use Rattle.editor_core.specs.Studios.{IsHeld, studio_of}
 use Rattle.editor_core.proofs.Entries.{plain, plain_result}
 use Rattle.studio_seats.specs.declared.deed.Deed.{Deed}
 use Rattle.studio_seats.specs.Deeds.{entries_of, entry_of}
+use Rattle.studio_seats.specs.Faults.{AreServed, IsServed}
 use Rattle.studio_seats.specs.Merge.{by_seat, deeds_of}
 use Rattle.studio_seats.specs.Stands.{AllTell, Chain}
 use Rattle.desk_session.specs.Makers.{Seats, is_by}
@@ -61,6 +62,15 @@ pub each_reply : (P : Refusal → Type 0) (ds : List Deed) → Each (λ d. IfErr
 each_reply P [] h plain = tt
 each_reply P (d ∷ ds) h plain =
     (subst (λ (what : Result Reply Refusal). IfErr what P) (sym plain.0) h.0, each_reply P ds h.1 plain.1)
+
+-- the same by their calls, of what the disk is not behind
+pub all_served : (ds : List Deed) → Each (λ d. IfErr d.what (IsServed d.call)) ds → Each IsPlain ds
+    → AreServed (entries_of ds)
+all_served [] h plain = tt
+all_served (d ∷ ds) h plain = (
+  subst (λ (what : Result Reply Refusal). IfErr what (IsServed d.call)) (sym plain.0) h.0,
+  all_served ds h.1 plain.1,
+)
 
 -- what holds of deeds holds of those of one seat
 pub each_own : (P : Deed → Type 0) (seat : ℕ) (ds : List Deed) → Each P ds → Each P (deeds_of (by_seat seat) ds)

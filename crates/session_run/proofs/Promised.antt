@@ -42,7 +42,7 @@ use Rattle.session_run.proofs.AnsweredLemmas.{answered}
 use Rattle.session_run.proofs.FourLemmas.{out_stays}
 use Rattle.session_run.proofs.StatusLemmas.{Counted}
 use Rattle.session_run.proofs.EntryLemmas.{IsPlain, entries_as, entries_length, last_as, numbers_as}
-use Rattle.session_run.proofs.PrintedLemmas.{broke, printed}
+use Rattle.session_run.proofs.PrintedLemmas.{answered_all, broke, printed}
 use Rattle.session_run.proofs.PromiseLemmas.{each_maker, each_own, each_reply, plain_deeds, stopped_for}
 use Rattle.session_run.proofs.SeatEntries.{plays_side, records_side}
 use Rattle.session_run.proofs.SessionLemmas.{found_spent, quiet, recorded}
@@ -223,6 +223,7 @@ module _ {D V M P : Type 0} (k : Kinds D V M P) (ask : DeedsAsk k.disk k.vaults)
     );
     faults_before = (opens.looks.cause.same_read_faults, opens.looks.cause.same_change_faults);
     faults_now = (refl, refl);
+    holds = (final, refl, led.held tell held, refl);
     run = subst (λ (l : List Entry). Run (studio_of disk start) l (studio_of disk final)) entries_are
         (led.run tell held);
     makers = each_maker s.made.seats s.made.script_seat rest s.made.all;
@@ -256,6 +257,10 @@ module _ {D V M P : Type 0} (k : Kinds D V M P) (ask : DeedsAsk k.disk k.vaults)
     broke = broke ran.out.told.stop j.ports.streams.sink.written.before ran.mid j.ports.streams.sink.written.now
         ran.faults j.ports.streams.sink.faults.now s.scripted.answers
         (last_text ended.record_line ended.play_line final.commit_number) s.scripted.written ran.ended;
+    answered = answered_all j.ports.streams.sink.written.before ran.mid j.ports.streams.sink.written.now
+        j.ports.streams.sink.faults.before ran.faults j.ports.streams.sink.faults.now s.scripted.answers
+        (last_text ended.record_line ended.play_line final.commit_number) ran.out.told.stop s.scripted.written
+        ran.ended;
     stopped_for = stopped_for ran.out.told.stop j.ports.streams.source.faults j.ports.streams.sink.faults.before
         ran.faults j.ports.streams.sink.faults.now ran.cause
         (out_stays ran.out.told.stop _ (last_text ended.record_line ended.play_line final.commit_number) ran.ended);
@@ -291,7 +296,6 @@ module _ {D V M P : Type 0} (k : Kinds D V M P) (ask : DeedsAsk k.disk k.vaults)
         (λ kept. inr (subst (λ (l : List Entry). KeepsPrefix (studio_of disk start) l c) entries_are kept))
         (images.any_moment c since);
     going = images.going;
-    journal = images.journal;
     broken = λ some c now. ⊎_elim (λ kept. inl kept)
         (λ flight. inr (subst (λ (l : List Entry). StopsInFlight (studio_of disk start) l c) entries_are flight))
         (images.stopped some c now);
@@ -299,6 +303,6 @@ module _ {D V M P : Type 0} (k : Kinds D V M P) (ask : DeedsAsk k.disk k.vaults)
     whole = unharmed;
     failed = counted.failed;
     status = counted.status;
-    served = quiet k start final j ran tell held opens.fresh.stopped (plain_by 0);
+    served = quiet k start final j ran tell held opens.fresh.stopped plain (plain_by 0) all_entries entries_are;
     turns = λ any. no_turn (found_spent k start final j ran had_split had_track had_pin had_rest any);
   }

@@ -18,7 +18,6 @@ use Rattle.studio_seats.specs.Stands.{AllTell, AreTold, StandsFor, origin}
 use Rattle.studio_seats.proofs.Grown.{all_told, leads}
 use Rattle.script_session.specs.Change.{Change, change}
 use Rattle.session_run.specs.Opening.{OpensTo}
-use Rattle.session_run.specs.Promise.{EndsAt}
 
 -- the disk keeps the project that was opened
 pub opened_keeps : {D : Type 0} (disk : Ghosts D) (store : D) (start : Core D) → OpensTo disk store start
@@ -46,8 +45,6 @@ pub record Survives {D : Type 0} (disk : Ghosts D) (store : D) (core : Change (C
       ⊎ KeepsPrefix (studio_of disk core.before) (entries_of deeds) c)
   pub going : core.now.stopped ≡ None
       → EachNow disk core.now.store (λ c. Keeps c (shown (studio_of disk core.now)))
-  pub journal : core.now.stopped ≡ None
-      → EachNow disk core.now.store (EndsAt core.now.file core.now.journal_end)
   pub stopped : IsSome core.now.stopped → EachNow disk core.now.store (λ c.
       Keeps c (shown (studio_of disk core.now)) ⊎ StopsInFlight (studio_of disk core.before) (entries_of deeds) c)
 
@@ -83,7 +80,5 @@ module _ {D V : Type 0} (disk : Ghosts D) (vaults : vault.Ghosts V) (ask : Deeds
   survives = record {
     any_moment = any_moment;
     going = λ going. led.going tell going held;
-    journal = λ going c now.
-        let there = ((led.held tell held).durable going).there in (there.front, there.place, there.images c now);
     stopped = λ stopped. led.stopped tell opens.fresh.stopped stopped held;
   }

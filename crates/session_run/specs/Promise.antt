@@ -8,7 +8,7 @@
 -- disk failed in it, or stops in it. An image then holds what the entry does, whole, or nothing of it. `KeepsPrefix`:
 -- the project after the first n entries, of which the last may be in flight. `StopsInFlight`: after all entries up to
 -- the one that stopped the studio; that one is in flight, and was answered DiskFault. `preceded read left`: the bytes
--- read, and then those that are left. `grown before text`: what was written before, and then the text. `Rose before
+-- read, and then those that are left. `BreaksOff`: all answers but the last, and a part of that one. `Rose before
 -- now`: a count of faults rose, or stands at the end of its type (2^64 - 1), where it can't.
 use Rattle.std.specs.Prelude.{◌≡◌, ◌≢◌, ◌⊎◌, ℕ, ◌<◌, ◌||◌, Bool, true, List, [], ◌∷◌, ◌++◌, length, Option}
 use Rattle.std.specs.Prelude.{Some, None, false, IsSome, IsSomeAnd, IfErr, flat_map}
@@ -23,10 +23,9 @@ use Rattle.pcm_base.specs.Outside.{Sounds}
 use Rattle.pcm_base.specs.Run.{Follows, Run, result_of}
 use Rattle.pcm_base.specs.Studio.{Studio, fault_sum}
 use Rattle.disk_model.specs.declared.store.Store.{Ghosts}
-use Rattle.edit_ports.specs.Told.{grown, preceded}
+use Rattle.edit_ports.specs.Told.{preceded}
 use Rattle.pin_turn.specs.Counts.{Each}
-use Rattle.disk_model.specs.Disk.{Files}
-use Rattle.project_journal.specs.Gate.{EachNow, EachSince, IsShut}
+use Rattle.project_journal.specs.Gate.{EachNow, EachSince}
 use Rattle.project_state.specs.Kept.{Keeps}
 use Rattle.script_text.specs.declared.last.PlayEnd.TheVariants as play
 use Rattle.script_text.specs.declared.last.PlayLine.{PlayLine}
@@ -37,9 +36,9 @@ use Rattle.script_text.specs.Text.{text_of}
 use Rattle.editor_core.specs.Core.{Core}
 use Rattle.editor_core.specs.Events.{KeepsPrefix}
 use Rattle.editor_core.specs.Left.{LeavesForeign}
-use Rattle.editor_core.specs.Studios.{shown, studio_of}
+use Rattle.editor_core.specs.Studios.{IsHeld, shown, studio_of}
 use Rattle.studio_seats.specs.Desks.{spent}
-use Rattle.studio_seats.specs.Faults.{IsCalm}
+use Rattle.studio_seats.specs.Faults.{AreServed, IsCalm}
 use Rattle.studio_seats.specs.Leads.{IsUnharmed, StopsInFlight}
 use Rattle.studio_seats.specs.Pins.{pin_frames}
 use Rattle.script_session.specs.declared.stop.Stop.{Stop}
@@ -55,7 +54,7 @@ use Rattle.session_run.specs.Answered.{Answered}
 use Rattle.session_run.specs.Entries.{entries_by, is_by, last_number, numbers_by}
 use Rattle.session_run.specs.Opening.{OpensTo}
 use Rattle.session_run.specs.Sides.{MakesSide, PlaysSide, RecordsSide}
-use Rattle.session_run.specs.Streams.{Input, Output, PrintsFrom}
+use Rattle.session_run.specs.Streams.{Input, Output, PrintsFrom, PrintsThen}
 
 -- What a call met and what it left, as the types of its devices report them, whether a recording and a playback were
 -- asked for, and the exit status and the numbers of its Ending. Of a device `left` are the bytes that were not yet
@@ -106,16 +105,6 @@ HasFaults disk store s =
 abbrev pub store_faults : {D : Type 0} → Ghosts D → D → ℕ
 store_faults disk store = fault_sum (disk.read_fault_count store) (disk.change_fault_count store)
 
--- The answers were printed, and something after them. Only a fault of the output stops a script earlier: it breaks off
--- in the answer to the last line that was carried out.
-abbrev pub PrintsAnswers : Stop → Change (Option (List ℕ)) → List Answer → Type 0
-PrintsAnswers stop.OutFault out answers = BreaksOff out.before out.now answers
-PrintsAnswers other out answers = (more : List ℕ) × (out.now ≡ grown out.before (flat_map text_of answers ++ more))
-
--- the journal in a file ends at this place: after as many bytes stands a shut gate
-abbrev pub EndsAt : ℕ → ℕ → Files → Type 0
-EndsAt file at files = (front : List ℕ) × (length front ≡ at) × IsShut file front files
-
 -- the counts of faults of all devices
 abbrev pub fault_counts : {D : Type 0} → Ghosts D → Met D → List (Change ℕ)
 fault_counts disk m = m.script.faults ∷ m.out.faults
@@ -146,6 +135,9 @@ pub record Promise {D : Type 0} (disk : Ghosts D) (m : Met D) : Type 0 where
   -- its counts of faults are the disk's, before and at the end
   pub faults_before : HasFaults disk m.store.before start
   pub faults_now : HasFaults disk m.store.now final
+  -- And at the end the studio is the one that the disk holds: its journal, up to where the run says that it ends, and
+  -- all its blocks. So `packed C BYTES` has the size of the journal that a `compact` left.
+  pub holds : (core : Core D) × (core.store ≡ m.store.now) × IsHeld disk core × (final ≡ studio_of disk core)
   -- ONE RUN of the plain array editor, by the script, which is the actor 0, the recorder and the player. A refused
   -- entry leaves the editor's state as it was and takes no number. One that a device broke off may use up ids of
   -- blocks, and an export may then leave a part of its sound. The exit status is said in Call (EndsAs).
@@ -170,10 +162,13 @@ pub record Promise {D : Type 0} (disk : Ghosts D) (m : Met D) : Type 0 where
       (λ tag r. (tag ≡ last_number start.state.commit track) × (is_refusal r ≡ false)) end.recording track
   pub pieces : RecordsSide (length ((track ++ pin) ++ entries) ≡ COUNTER_LIMIT) end.recording
       start.state.next_track m.mic end.record_line m.piece_commits (entries_by end.recorder entries)
-  -- the ANSWERS printed, and the last lines; after a fault of the output a part from the front
+  -- The ANSWERS printed, and the last lines. After a fault of the output it is a part from the front: up to within the
+  -- answer to the last line if the fault stopped the script, and else all answers and a part of the last lines.
   pub printed : PrintsFrom m.out
       (flat_map text_of answers ++ last_text end.record_line end.play_line m.last_commit)
-  pub broke : PrintsAnswers end.stop m.out.written answers
+  pub broke : end.stop ≡ stop.OutFault → BreaksOff m.out.written.before m.out.written.now answers
+  pub answered : (end.stop ≡ stop.OutFault → ⊥) → PrintsThen m.out (flat_map text_of answers)
+      (last_text end.record_line end.play_line m.last_commit)
   pub stopped_for : IsStoppedFor end.stop m.script.faults m.out.faults
   -- What was PLAYED is a prefix of the mix that the pin shows. The pin is made after the recording's track and before
   -- all other entries, so it has neither pieces nor what lines change.
@@ -201,19 +196,17 @@ pub record Promise {D : Type 0} (disk : Ghosts D) (m : Met D) : Type 0 where
   pub going : final.stopped ≡ None → EachNow disk m.store.now (λ c. Keeps c (shown final))
   pub broken : IsSome final.stopped
       → EachNow disk m.store.now (λ c. Keeps c (shown final) ⊎ StopsInFlight start ((track ++ pin) ++ entries) c)
-  -- A `compact` puts the journal into the other file, and answers how many bytes it has with its last gate, as the run
-  -- says (`answered` of the model). Each image has the journal where the run ends.
-  pub journal : final.stopped ≡ None → EachNow disk m.store.now (EndsAt final.file final.journal_end)
   -- Files that are neither a journal's nor a block's stay as they are, and no entry found a damaged file.
   pub foreign : LeavesForeign (disk.reads m.store.before) (disk.reads m.store.now)
   pub whole : Each (λ e. IfErr (result_of e.reply) IsUnharmed) ((track ++ pin) ++ entries)
   -- The exit STATUS is 4 if the count of faults of a device rose, and only if one did, or stands at its type's end.
   pub failed : AnyOf (λ c. c.before < c.now) (fault_counts disk m) → m.status ≡ 4
   pub status : m.status ≡ 4 → AnyOf (λ c. Rose c.before c.now) (fault_counts disk m)
-  -- WHERE NEITHER THE DISK NOR THE VAULT FAILED the studio goes on, and no entry of the script is answered DiskFault,
-  -- VaultFault, Damaged or Stopped
+  -- WHERE NEITHER THE DISK NOR THE VAULT FAILED the studio goes on, no entry is refused for the disk, and none of the
+  -- script is answered DiskFault, VaultFault, Damaged or Stopped
   pub served : IsCalm start final → (Rose m.vault_faults.before m.vault_faults.now → ⊥)
-      → (final.stopped ≡ None) × Each (λ e. IfErr (result_of e.reply) IsOfNoDevice) (entries_by 0 entries)
+      → (final.stopped ≡ None) × AreServed ((track ++ pin) ++ entries)
+      × Each (λ e. IfErr (result_of e.reply) IsOfNoDevice) (entries_by 0 entries)
   -- no turn was left, for a line, the recording or the playback, only after as many entries as there are turns
   pub turns : TellSpent answers
       ⊎ (IsSomeAnd end.record_line (λ line. line.end ≡ rec.Refused spent)

@@ -1,5 +1,5 @@
 -- What a call does to its source and its sink.
-use Rattle.std.specs.Prelude.{◌≡◌, ℕ, ◌≤◌, List, length, take, Option}
+use Rattle.std.specs.Prelude.{◌≡◌, ℕ, ◌≤◌, List, ◌++◌, length, take, Option}
 use Rattle.pcm_base.specs.Causes.{Rose}
 use Rattle.edit_ports.specs.Told.{grown}
 use Rattle.edit_ports.specs.declared.sink.Sink as sink
@@ -56,6 +56,11 @@ abbrev pub PrintsFrom : Output → List ℕ → Type 0
 PrintsFrom sink text =
     ((n : ℕ) × (n ≤ length text) × (sink.written.now ≡ grown sink.written.before (take n text)))
     × ((Rose sink.faults.before sink.faults.now → ⊥) → sink.written.now ≡ grown sink.written.before text)
+
+-- a text was written, and then another one, or a part of it from its front
+abbrev pub PrintsThen : Output → List ℕ → List ℕ → Type 0
+PrintsThen sink text more =
+    (n : ℕ) × (n ≤ length more) × (sink.written.now ≡ grown sink.written.before (text ++ take n more))
 
 -- this text alone was written
 abbrev pub Prints : Streams → List ℕ → Type 0
