@@ -1,5 +1,5 @@
-// Calls of the disk alone: the lines `- pend`, `- unlink` and `- sync`. Up to a sync their changes are pending, so a stop
-// may leave them or not.
+// Calls of the disk alone: the lines `- pend`, `- unlink` and `- sync`. Up to a sync their changes are pending, so a
+// stop may leave them or not.
 use super::fault::Fault;
 use super::sections::{Line, first_word};
 use super::world::{World, number_of};

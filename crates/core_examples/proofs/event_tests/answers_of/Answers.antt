@@ -1,5 +1,5 @@
 -- Each call is in form, whatever was committed.
-use Rattle.core_examples.proofs.sound_tests.answers_of.Goals as goal
+use Rattle.core_examples.proofs.event_tests.answers_of.Goals as goal
 
 pub run_events-requires-clause-in_form : goal.run_events-requires-clause-in_form
 run_events-requires-clause-in_form g c = (
