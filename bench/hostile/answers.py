@@ -92,7 +92,7 @@ def sizes(total, most):
 class Script:
     def __init__(self, files):
         self.files = files
-        self.lines, self.answers, self.is_refused = [], [], False
+        self.lines, self.answers, self.is_refused, self.is_stopped = [], [], False, False
         self.project = formats.open_project(files)
 
     def say(self, line, *answers):
@@ -102,6 +102,11 @@ class Script:
     def refuse(self, line, why):
         self.is_refused = True
         self.say(line, f"no {self.project.commit} {why}")
+
+    # A change of the disk failed: each later line is refused.
+    def stop(self, line):
+        self.refuse(line, "DiskFault")
+        self.is_stopped = True
 
     # Whether no counter of these is at its end; if one is, the line is refused.
     def has_space(self, line, *counters):
@@ -191,7 +196,12 @@ class Script:
             samples = [it for block in absorbed for it in read_block(self.files, *block)] + samples
         except Refused as fault:
             return self.refuse(line, fault)
-        new = [self.make(samples, lengths, i) for i in range(len(lengths))]
+        new = []
+        for i in range(len(lengths)):
+            # (a folder stands where the block would be)
+            if self.files.get(project.next_block, b"") is None:
+                return self.stop(line)
+            new.append(self.make(samples, lengths, i))
         start, kept = clips[-1]
         return self.edit(line, self.with_track((*track[:4], [*clips[:-1], (start, kept + new)])))
 
@@ -249,7 +259,9 @@ class Script:
     # One line that is drawn.
     def draw_line(self, draw):
         tracks, way = self.project.tracks(), draw.choice(LINES)
-        if way in ("undo", "redo", "compact"):
+        if self.is_stopped:
+            self.refuse("track", "Stopped 1")
+        elif way in ("undo", "redo", "compact"):
             getattr(self, way)()
         elif way == "purge":
             self.purge(draw.choice([0, 1, 1, 2, 5]))
@@ -272,7 +284,8 @@ class Script:
             self.put(track, draw.choice([0, 0, 0, 0, 1, 7]), samples)
 
     def ended(self):
-        return [*self.answers, f"end {self.project.commit}"], int(self.is_refused)
+        status = 4 if self.is_stopped else int(self.is_refused)
+        return [*self.answers, f"end {self.project.commit}"], status
 
 
 # A call of `run` that shows what is there, edits it and removes what is not named: its script, what is printed, and the
@@ -288,7 +301,10 @@ def ran(files, draw):
     script.track()
     for _ in range(draw.randrange(2, 9)):
         script.draw_line(draw)
-    script.undo()
-    script.reclaim()
-    script.tracks()
+    if script.is_stopped:
+        script.refuse("undo", "Stopped 1")
+    else:
+        script.undo()
+        script.reclaim()
+        script.tracks()
     return "".join(f"{line}\n" for line in script.lines), *script.ended()
