@@ -3,25 +3,11 @@
 //! not understood. `docs/CASES.md` says how a case is written.
 #![tactic(auto)]
 
-mod bytes;
 mod calling;
-mod case;
-mod comparing;
-mod fault;
-mod holding;
-mod images;
-mod pending;
-mod playing;
-mod rows;
-mod said;
-mod sections;
-mod setting;
-mod stages;
-mod sweep;
-mod world;
 
-use case::play_case;
-use fault::Fault;
+use calling::Studio;
+use case_play::play_case;
+use case_text::Fault;
 use std::alloc::Global;
 use std::io::Read;
 use std::process::ExitCode;
@@ -36,7 +22,7 @@ fn read_and_play<R: Input + Threads + Wait + Sync>(rt: &R, alloc: Global) -> Res
         return Err(Fault::Unread { line: 0 });
     }
     match std::str::from_utf8(bytes.as_slice()) {
-        Ok(text) => play_case(rt, alloc, text),
+        Ok(text) => play_case(rt, &Studio, alloc, text),
         Err(_) => Err(Fault::Unread { line: 0 }),
     }
 }

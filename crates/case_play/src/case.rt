@@ -1,11 +1,11 @@
 // A whole case: its lines once, or again and again for each stop, each call that fails, or each row.
-use super::fault::Fault;
 use super::playing::play;
+use super::program::Program;
 use super::rows::play_rows;
-use super::sections::{Line, Section, first_word, read_sections};
 use super::setting::{fail_at, set_up};
 use super::sweep::{Sweep, play_sweep};
 use super::world::{Manner, World};
+use case_text::{Fault, Line, Section, first_word, read_sections};
 use std::alloc::Global;
 use std::sync::Wait;
 use std::thread::Threads;
@@ -16,6 +16,8 @@ pub(crate) const MOST: u64 = 3_000;
 /// What differs from one play of the case to the next, where its lines are played again and again.
 #[derive(Clone, Copy)]
 pub(crate) enum Turn<'a> {
+    /// The first section alone is played.
+    Once,
     /// The disk stops after so many more calls.
     Stop(u64),
     /// The call of this number of a device fails.
@@ -34,6 +36,7 @@ pub(crate) struct Parts<'s, 'a> {
 // Sets up what a turn says.
 fn turn_to<'a>(world: &mut World<'a>, title: Line<'a>, turn: Turn<'a>) -> Result<(), Fault> {
     match turn {
+        Turn::Once => Ok(()),
         Turn::Stop(calls) => {
             world.store.stop_after(calls);
             world.manner = Manner::Stopping;
@@ -63,65 +66,53 @@ fn set_up_all<'a>(world: &mut World<'a>, line: Line<'a>, sets: &'a str) -> Resul
 }
 
 // Plays the first section, and the second one as a turn says.
-fn play_parts<'a, R: Threads + Wait + Sync>(
+fn play_parts<'a, R: Threads + Wait + Sync, P: Program>(
     rt: &R,
+    program: &P,
     world: &mut World<'a>,
     parts: Parts<'_, 'a>,
     turn: Turn<'a>,
 ) -> Result<(), Fault> {
-    play(rt, world, parts.head.lines.as_slice())?;
+    play(rt, program, world, parts.head.lines.as_slice())?;
+    if let Turn::Once = turn {
+        return Ok(());
+    }
     turn_to(world, parts.body.title, turn)?;
-    play(rt, world, parts.body.lines.as_slice())
+    play(rt, program, world, parts.body.lines.as_slice())
 }
 
-/// Plays both sections as a turn says, on a world of their own.
-pub(crate) fn play_turn<'a, R: Threads + Wait + Sync>(
+/// Plays both sections as a turn says, and again on another disk for as long as others of its calls are to fail.
+pub(crate) fn play_turn<'a, R: Threads + Wait + Sync, P: Program>(
     rt: &R,
-    alloc: Global,
+    program: &P,
+    world: &mut World<'a>,
     parts: Parts<'_, 'a>,
     turn: Turn<'a>,
-) -> Result<World<'a>, Fault> {
-    let mut fails = Vec::new(alloc);
+) -> Result<(), Fault> {
+    let mut fails = Vec::new(world.alloc);
     for _ in 0..MOST {
-        let mut world = World::new(alloc, fails)?;
-        match play_parts(rt, &mut world, parts, turn) {
-            Ok(()) => return Ok(world),
+        world.begin(fails.as_slice())?;
+        match play_parts(rt, program, world, parts, turn) {
             Err(Fault::Again { fails: others }) => fails = others,
-            Err(fault) => return Err(fault),
+            played => return played,
         }
     }
     Err(parts.body.title.unread())
 }
 
-// Plays a case that is one section.
-fn play_once<'a, R: Threads + Wait + Sync>(
+// Plays the sections of a case. What images have is played on a spare world.
+fn play_sections<'a, R: Threads + Wait + Sync, P: Program>(
     rt: &R,
-    alloc: Global,
-    head: &Section<'a>,
-) -> Result<(), Fault> {
-    let mut fails = Vec::new(alloc);
-    for _ in 0..MOST {
-        let mut world = World::new(alloc, fails)?;
-        match play(rt, &mut world, head.lines.as_slice()) {
-            Ok(()) => return Ok(()),
-            Err(Fault::Again { fails: others }) => fails = others,
-            Err(fault) => return Err(fault),
-        }
-    }
-    Err(head.title.unread())
-}
-
-// Plays the sections of a case.
-fn play_sections<'a, R: Threads + Wait + Sync>(
-    rt: &R,
-    alloc: Global,
+    program: &P,
+    world: &mut World<'a>,
+    spare: &mut World<'a>,
     sections: &[Section<'a>],
 ) -> Result<(), Fault> {
     let Some((head, rest)) = sections.split_first() else {
         return Ok(());
     };
     let Some((body, rest)) = rest.split_first() else {
-        return play_once(rt, alloc, head);
+        return play_turn(rt, program, world, Parts { head, body: head }, Turn::Once);
     };
     let parts = Parts { head, body };
     let (word, what) = first_word(body.title.text);
@@ -130,19 +121,42 @@ fn play_sections<'a, R: Threads + Wait + Sync>(
     }
     let (word, port) = first_word(what);
     match word {
-        "stop" => play_sweep(rt, alloc, parts, Sweep::Stops, rest),
-        "fault" => play_sweep(rt, alloc, parts, Sweep::Calls(port), rest),
-        "row" => play_rows(rt, alloc, parts, rest),
+        "stop" => play_sweep(rt, program, world, spare, parts, Sweep::Stops, rest),
+        "fault" => play_sweep(rt, program, world, spare, parts, Sweep::Calls(port), rest),
+        "row" => play_rows(rt, program, world, parts, rest),
         _ => Err(body.title.unread()),
     }
 }
 
-/// Plays the case that a text is.
-pub(crate) fn play_case<R: Threads + Wait + Sync>(
+// Plays the sections of a case on a world, and on a spare one.
+fn play_beside<'a, R: Threads + Wait + Sync, P: Program>(
     rt: &R,
+    program: &P,
+    world: &mut World<'a>,
+    sections: &[Section<'a>],
+) -> Result<(), Fault> {
+    let mut spare = World::new(world.alloc)?;
+    play_sections(rt, program, world, &mut spare, sections)
+}
+
+// Plays the sections of a case.
+fn play_all<'a, R: Threads + Wait + Sync, P: Program>(
+    rt: &R,
+    program: &P,
+    alloc: Global,
+    sections: &[Section<'a>],
+) -> Result<(), Fault> {
+    let mut world = World::new(alloc)?;
+    play_beside(rt, program, &mut world, sections)
+}
+
+/// Plays the case that a text is, with the calls of a program.
+pub fn play_case<R: Threads + Wait + Sync, P: Program>(
+    rt: &R,
+    program: &P,
     alloc: Global,
     text: &str,
 ) -> Result<(), Fault> {
     let sections = read_sections(alloc, text)?;
-    play_sections(rt, alloc, sections.as_slice())
+    play_all(rt, program, alloc, sections.as_slice())
 }

@@ -6,7 +6,7 @@ use pcm_base::Failed;
 
 /// The sounds, and how many bytes each is said to have, if it is not what it has.
 #[derive(Drop)]
-pub(crate) struct SaidVault {
+pub struct SaidVault {
     pub(crate) vault: MemVault,
     pub(crate) said: Option<u64>,
 }

@@ -4,7 +4,7 @@ use std::alloc::{AllocError, AllocFailed};
 
 /// Why a case does not pass.
 #[derive(Drop)]
-pub(crate) enum Fault {
+pub enum Fault {
     /// There is no memory for it.
     NoMemory,
     /// The line of this number is not understood.

@@ -1,32 +1,40 @@
 // A case that is played once for each of its rows.
 use super::case::{Parts, Turn, play_turn};
-use super::fault::Fault;
-use super::sections::{Line, Section};
-use std::alloc::Global;
+use super::program::Program;
+use super::world::World;
+use case_text::{Fault, Line, Section};
 use std::sync::Wait;
 use std::thread::Threads;
 
 // Plays the case for one row. What is set up stands before two spaces, and what is printed after them.
-fn play_row<'a, R: Threads + Wait + Sync>(
+fn play_row<'a, R: Threads + Wait + Sync, P: Program>(
     rt: &R,
-    alloc: Global,
+    program: &P,
+    world: &mut World<'a>,
     parts: Parts<'_, 'a>,
     line: Line<'a>,
 ) -> Result<(), Fault> {
     let Some((sets, text)) = line.text.split_once("  ") else {
         return Err(line.unread());
     };
-    match play_turn(rt, alloc, parts, Turn::Row(line, sets, text.trim())) {
-        Ok(_world) => Ok(()),
+    match play_turn(
+        rt,
+        program,
+        world,
+        parts,
+        Turn::Row(line, sets, text.trim()),
+    ) {
+        Ok(()) => Ok(()),
         Err(Fault::Wrong { line: _, came }) => Err(line.wrong(came)),
         Err(fault) => Err(fault),
     }
 }
 
 /// Plays the case for each row of a section `rows`, of which there is at least one.
-pub(crate) fn play_rows<'a, R: Threads + Wait + Sync>(
+pub(crate) fn play_rows<'a, R: Threads + Wait + Sync, P: Program>(
     rt: &R,
-    alloc: Global,
+    program: &P,
+    world: &mut World<'a>,
     parts: Parts<'_, 'a>,
     sections: &[Section<'a>],
 ) -> Result<(), Fault> {
@@ -37,7 +45,7 @@ pub(crate) fn play_rows<'a, R: Threads + Wait + Sync>(
         return Err(rows.title.unread());
     }
     for line in &rows.lines {
-        play_row(rt, alloc, parts, *line)?;
+        play_row(rt, program, world, parts, *line)?;
     }
     Ok(())
 }

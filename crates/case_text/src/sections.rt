@@ -5,19 +5,19 @@ use std::mem;
 
 /// A line, and its number in the file.
 #[derive(Clone, Copy)]
-pub(crate) struct Line<'a> {
-    pub(crate) number: u32,
-    pub(crate) text: &'a str,
+pub struct Line<'a> {
+    pub number: u32,
+    pub text: &'a str,
 }
 
 impl<'a> Line<'a> {
     /// The line, as it is understood to be wrong.
-    pub(crate) fn unread(&self) -> Fault {
+    pub fn unread(&self) -> Fault {
         Fault::Unread { line: self.number }
     }
 
     /// What the line says does not hold: this came.
-    pub(crate) fn wrong(&self, came: String) -> Fault {
+    pub fn wrong(&self, came: String) -> Fault {
         Fault::Wrong {
             line: self.number,
             came,
@@ -25,13 +25,13 @@ impl<'a> Line<'a> {
     }
 
     /// The first word, and what follows it.
-    pub(crate) fn parts(&self) -> (&'a str, &'a str) {
+    pub fn parts(&self) -> (&'a str, &'a str) {
         first_word(self.text)
     }
 }
 
 /// The first word of a text, and what follows it.
-pub(crate) fn first_word(text: &str) -> (&str, &str) {
+pub fn first_word(text: &str) -> (&str, &str) {
     match text.split_once(' ') {
         Some((word, rest)) => (word, rest),
         None => (text, ""),
@@ -40,9 +40,9 @@ pub(crate) fn first_word(text: &str) -> (&str, &str) {
 
 /// The lines from a line `* TITLE` to the next. Those before the first such line have an empty title.
 #[derive(Drop)]
-pub(crate) struct Section<'a> {
-    pub(crate) title: Line<'a>,
-    pub(crate) lines: Vec<Line<'a>>,
+pub struct Section<'a> {
+    pub title: Line<'a>,
+    pub lines: Vec<Line<'a>>,
 }
 
 impl<'a> Section<'a> {
@@ -60,7 +60,7 @@ fn is_silent(text: &str) -> bool {
 }
 
 /// The sections of a text.
-pub(crate) fn read_sections<'a>(alloc: Global, text: &'a str) -> Result<Vec<Section<'a>>, Fault> {
+pub fn read_sections<'a>(alloc: Global, text: &'a str) -> Result<Vec<Section<'a>>, Fault> {
     let mut sections = Vec::new(alloc);
     let head = Line {
         number: 0,

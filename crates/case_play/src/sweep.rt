@@ -1,13 +1,13 @@
 // A case that is played again and again: as the disk stops after each of its calls in turn, or as each call of a device
 // fails in turn.
+use super::calling::push_left;
 use super::case::{MOST, Parts, Turn, play_turn};
-use super::fault::Fault;
 use super::images::{is_after, other_image};
 use super::playing::play;
-use super::sections::{Line, Section};
+use super::program::Program;
 use super::stages::{is_at, play_more};
 use super::world::{Manner, World};
-use std::alloc::Global;
+use case_text::{Fault, Line, Section};
 use std::sync::Wait;
 use std::thread::Threads;
 
@@ -89,12 +89,7 @@ fn is_last(place: Option<usize>, count: usize) -> bool {
 fn came(world: &World<'_>, number: u64, why: &str) -> Result<String, Fault> {
     let mut text = format!(in world.alloc; "turn {number}, {why}:\n")?;
     if let Some(left) = &world.left {
-        if let Ok(printed) = std::str::from_utf8(left.text.as_slice()) {
-            text.push_str(printed)?;
-        }
-        let status = left.status;
-        let last = format!(in world.alloc; "status {status}")?;
-        text.push_str(last.as_str())?;
+        push_left(world.alloc, &mut text, left)?;
     }
     Ok(text)
 }
@@ -140,10 +135,12 @@ fn found_of(
 }
 
 // Each image has what is found at this place, or at the next.
-fn check_images<'a, R: Threads + Wait + Sync>(
+fn check_images<'a, R: Threads + Wait + Sync, P: Program>(
     rt: &R,
-    world: &World<'a>,
-    title: Line<'a>,
+    program: &P,
+    world: &World<'_>,
+    spare: &mut World<'a>,
+    title: Line<'_>,
     founds: &[Section<'a>],
     place: Option<usize>,
     number: u64,
@@ -151,7 +148,7 @@ fn check_images<'a, R: Threads + Wait + Sync>(
     let Some(place) = place else {
         return Ok(());
     };
-    match other_image(rt, world.alloc, &world.store, founds, place)? {
+    match other_image(rt, program, spare, &world.store, founds, place)? {
         Some(choice) => {
             let why = format!(in world.alloc; "image {choice} has something else")?;
             Err(title.wrong(came(world, number, why.as_str())?))
@@ -161,20 +158,21 @@ fn check_images<'a, R: Threads + Wait + Sync>(
 }
 
 // Plays what follows after a turn: what its stage says, and then what is said of all.
-fn play_after<'a, R: Threads + Wait + Sync>(
+fn play_after<'a, R: Threads + Wait + Sync, P: Program>(
     rt: &R,
+    program: &P,
     world: &mut World<'a>,
     kinds: Kinds<'_, 'a>,
     stage: Option<usize>,
 ) -> Result<(), Fault> {
     if let Some(stage) = stage {
         if let Some(section) = kinds.stages.get(stage) {
-            play_more(rt, world, section)?;
+            play_more(rt, program, world, section)?;
         }
     }
     world.manner = Manner::Strict;
     for section in kinds.then {
-        play(rt, world, section.lines.as_slice())?;
+        play(rt, program, world, section.lines.as_slice())?;
     }
     Ok(())
 }
@@ -193,11 +191,48 @@ fn ends(
     Err(title.wrong(came(world, number, "whole, and not all sections have come")?))
 }
 
+// What has to hold after a turn, and what follows then: the place of the turn, or none if it is the last.
+fn after_turn<'a, R: Threads + Wait + Sync, P: Program>(
+    rt: &R,
+    program: &P,
+    world: &mut World<'a>,
+    spare: &mut World<'a>,
+    title: Line<'a>,
+    kinds: Kinds<'_, 'a>,
+    before: Place,
+    number: u64,
+) -> Result<Option<Place>, Fault> {
+    let founds = kinds.founds;
+    let mut place = before;
+    if world.differs {
+        place.stage = stage_of(world, title, kinds.stages, place.stage, number)?;
+    }
+    place.found = found_of(world, title, founds, place.found, number)?;
+    check_images(
+        rt,
+        program,
+        world,
+        spare,
+        title,
+        founds,
+        place.found,
+        number,
+    )?;
+    if world.differs {
+        play_after(rt, program, world, kinds, place.stage)?;
+        return Ok(Some(place));
+    }
+    ends(world, title, kinds, place, number)?;
+    Ok(None)
+}
+
 /// Plays the case in turns, up to the first that leaves all as the case says. Each section `stage` says what the last
 /// call leaves, in the order in which they come, and each section `found` what the images have after a commit.
-pub(crate) fn play_sweep<'a, R: Threads + Wait + Sync>(
+pub(crate) fn play_sweep<'a, R: Threads + Wait + Sync, P: Program>(
     rt: &R,
-    alloc: Global,
+    program: &P,
+    world: &mut World<'a>,
+    spare: &mut World<'a>,
     parts: Parts<'_, 'a>,
     sweep: Sweep<'a>,
     sections: &[Section<'a>],
@@ -209,16 +244,11 @@ pub(crate) fn play_sweep<'a, R: Threads + Wait + Sync>(
         found: None,
     };
     for number in 0..MOST {
-        let mut world = play_turn(rt, alloc, parts, sweep.turn(number))?;
-        if world.differs {
-            place.stage = stage_of(&world, title, kinds.stages, place.stage, number)?;
+        play_turn(rt, program, world, parts, sweep.turn(number))?;
+        match after_turn(rt, program, world, spare, title, kinds, place, number)? {
+            Some(next) => place = next,
+            None => return Ok(()),
         }
-        place.found = found_of(&world, title, kinds.founds, place.found, number)?;
-        check_images(rt, &world, title, kinds.founds, place.found, number)?;
-        if !world.differs {
-            return ends(&world, title, kinds, place, number);
-        }
-        play_after(rt, &mut world, kinds, place.stage)?;
     }
     Err(title.unread())
 }

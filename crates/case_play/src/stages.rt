@@ -1,9 +1,9 @@
 // Sections `stage`: what the last call leaves as a later call of a device fails.
-use super::comparing::is_like;
-use super::fault::Fault;
-use super::playing::{play, push_line};
-use super::sections::{Line, Section};
-use super::world::{Manner, World, number_of};
+use super::playing::{begins_other, play};
+use super::program::Program;
+use super::script::push_line;
+use super::world::{Manner, World};
+use case_text::{Fault, Line, Section, is_like, number_of};
 use std::alloc::Global;
 use std::sync::Wait;
 use std::thread::Threads;
@@ -14,11 +14,6 @@ struct Stage {
     wanted: String,
     status: u8,
     count: usize,
-}
-
-// Whether a line is no text that is printed.
-fn begins_more(text: &str) -> bool {
-    text.starts_with('$') || text.starts_with("- ") || text.starts_with("= ")
 }
 
 // Takes a line of a stage.
@@ -39,7 +34,7 @@ fn stage_of(alloc: Global, lines: &[Line<'_>]) -> Result<Stage, Fault> {
         count: 0,
     };
     for line in lines {
-        if begins_more(line.text) {
+        if begins_other(line.text) {
             return Ok(stage);
         }
         take_line(&mut stage, *line)?;
@@ -56,19 +51,20 @@ pub(crate) fn is_at(world: &World<'_>, section: Option<&Section<'_>>) -> Result<
         return Ok(false);
     };
     let stage = stage_of(world.alloc, section.lines.as_slice())?;
-    Ok(is_like(stage.wanted.as_str(), left.text.as_slice()) && stage.status == left.status)
+    Ok(is_like(stage.wanted.as_str(), left.out.bytes()) && stage.status == left.status)
 }
 
 /// Plays what a section says after what the last call leaves.
-pub(crate) fn play_more<'a, R: Threads + Wait + Sync>(
+pub(crate) fn play_more<'a, R: Threads + Wait + Sync, P: Program>(
     rt: &R,
+    program: &P,
     world: &mut World<'a>,
     section: &Section<'a>,
 ) -> Result<(), Fault> {
     let stage = stage_of(world.alloc, section.lines.as_slice())?;
     world.manner = Manner::Strict;
     match section.lines.get(stage.count..) {
-        Some(lines) => play(rt, world, lines),
+        Some(lines) => play(rt, program, world, lines),
         None => Ok(()),
     }
 }

@@ -1,19 +1,11 @@
 // What a case is played on: a disk and sounds in memory, what is set up for the next call, and what the last one left.
-use super::bytes::{BadBytes, read_bytes, read_numbers};
-use super::fault::Fault;
-use super::sections::Line;
+use super::program::Left;
+use super::sounds::Sound;
+use case_text::{Fault, Line};
 use disk_model::RamStore;
-use edit_ports::MemVault;
 use pcm_base::Numbers;
 use std::alloc::Global;
 use std::mem;
-
-/// A sound, by its name.
-#[derive(Drop)]
-pub(crate) struct Sound {
-    pub(crate) name: String,
-    pub(crate) bytes: Vec<u8>,
-}
 
 /// The numbers of the calls of each device that fail, in the next call of the program.
 #[derive(Drop)]
@@ -71,23 +63,6 @@ impl<'a> Asked<'a> {
     }
 }
 
-/// What a call of the program left.
-#[derive(Drop)]
-pub(crate) struct Left {
-    pub(crate) text: Vec<u8>,
-    pub(crate) status: u8,
-    pub(crate) speaker: Vec<u8>,
-    pub(crate) vault: MemVault,
-    pub(crate) opened: bool,
-    pub(crate) first_commit: u64,
-    pub(crate) last_commit: u64,
-    pub(crate) track: Option<u64>,
-    pub(crate) commits: Vec<u64>,
-    pub(crate) pieces: Vec<u64>,
-    /// How many calls of the disk it made.
-    pub(crate) calls: u64,
-}
-
 /// What a call may leave.
 #[derive(Clone, Copy)]
 pub(crate) enum Manner {
@@ -111,6 +86,8 @@ pub(crate) struct World<'a> {
     pub(crate) text: &'a str,
     pub(crate) asked: Asked<'a>,
     pub(crate) left: Option<Left>,
+    /// How many calls of the disk the last call made, if there was one.
+    pub(crate) calls: Option<u64>,
     /// The commit number of the last line `ok C` or `end C` that was printed.
     pub(crate) told: Option<u64>,
     pub(crate) manner: Manner,
@@ -126,26 +103,46 @@ fn new_disk(alloc: Global, fails: &[u64]) -> Result<RamStore, Fault> {
 }
 
 impl<'a> World<'a> {
-    /// A world without files and sounds. The calls of its disk of these numbers fail.
-    pub(crate) fn new(alloc: Global, fails: Vec<u64>) -> Result<World<'a>, Fault> {
-        let store = new_disk(alloc, fails.as_slice())?;
-        Ok(World::on(alloc, store, fails))
-    }
-
-    /// A world of these files, without sounds.
-    pub(crate) fn on(alloc: Global, store: RamStore, fails: Vec<u64>) -> World<'a> {
-        World {
+    /// A world without files and sounds.
+    pub(crate) fn new(alloc: Global) -> Result<World<'a>, Fault> {
+        Ok(World {
             alloc,
-            store,
-            fails,
+            store: new_disk(alloc, &[])?,
+            fails: Vec::new(alloc),
             sounds: Vec::new(alloc),
             text: "",
             asked: Asked::new(alloc),
             left: None,
+            calls: None,
             told: None,
             manner: Manner::Strict,
             differs: false,
-        }
+        })
+    }
+
+    /// Begins anew without files and sounds. The calls of its disk of these numbers fail.
+    pub(crate) fn begin(&mut self, fails: &[u64]) -> Result<(), Fault> {
+        self.fails = Vec::from_slice(self.alloc, fails)?;
+        self.begin_on(new_disk(self.alloc, fails)?);
+        Ok(())
+    }
+
+    /// Begins anew with the files of this disk, without sounds.
+    pub(crate) fn begin_on(&mut self, store: RamStore) {
+        self.store = store;
+        self.sounds = Vec::new(self.alloc);
+        self.asked = Asked::new(self.alloc);
+        self.text = "";
+        self.forget();
+    }
+
+    // Forgets the last call.
+    fn forget(&mut self) {
+        self.left = None;
+        self.calls = None;
+        self.told = None;
+        self.manner = Manner::Strict;
+        self.differs = false;
     }
 
     /// Takes the disk. One that has no room stays in its place.
@@ -153,37 +150,5 @@ impl<'a> World<'a> {
         let none = Numbers::new(Vec::new(self.alloc));
         let empty = RamStore::new(self.alloc, 0, 0, 0, none)?;
         Ok(mem::replace(&mut self.store, empty))
-    }
-
-    /// Takes what is set up for the next call. The one after it has nothing set up.
-    pub(crate) fn take_asked(&mut self) -> Asked<'a> {
-        mem::replace(&mut self.asked, Asked::new(self.alloc))
-    }
-
-    /// The bytes that words of a line say.
-    pub(crate) fn bytes_of(&self, line: Line<'a>, text: &str) -> Result<Vec<u8>, Fault> {
-        read_as(line, read_bytes(self.alloc, text))
-    }
-
-    /// The numbers that words of a line say.
-    pub(crate) fn numbers_of(&self, line: Line<'a>, text: &str) -> Result<Vec<u64>, Fault> {
-        read_as(line, read_numbers(self.alloc, text))
-    }
-}
-
-// What was read of a line.
-fn read_as<T: Drop>(line: Line<'_>, read: Result<T, BadBytes>) -> Result<T, Fault> {
-    match read {
-        Ok(value) => Ok(value),
-        Err(BadBytes::NoMemory) => Err(Fault::NoMemory),
-        Err(BadBytes::Unread) => Err(line.unread()),
-    }
-}
-
-/// The number that a word of a line says.
-pub(crate) fn number_of(line: Line<'_>, word: &str) -> Result<u64, Fault> {
-    match word.trim().parse::<u64>() {
-        Ok(number) => Ok(number),
-        Err(_) => Err(line.unread()),
     }
 }

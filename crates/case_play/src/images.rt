@@ -1,10 +1,9 @@
 // Sections `found`: what each image of a disk has after one of the commits.
-use super::fault::Fault;
 use super::playing::play;
-use super::sections::{Section, first_word};
+use super::program::Program;
 use super::world::World;
+use case_text::{Fault, Section, first_word};
 use disk_model::RamStore;
-use std::alloc::Global;
 use std::sync::Wait;
 use std::thread::Threads;
 
@@ -20,18 +19,20 @@ pub(crate) fn is_after(section: &Section<'_>, told: Option<u64>) -> bool {
     }
 }
 
-// Whether an image has what a section says, if there is one.
-fn has<'a, R: Threads + Wait + Sync>(
+// Whether an image of a disk has what a section says, if there is one. It is played on a spare world.
+fn has<'a, R: Threads + Wait + Sync, P: Program>(
     rt: &R,
-    alloc: Global,
-    image: RamStore,
+    program: &P,
+    spare: &mut World<'a>,
+    store: &RamStore,
+    choice: u64,
     section: Option<&Section<'a>>,
 ) -> Result<bool, Fault> {
     let Some(section) = section else {
         return Ok(false);
     };
-    let mut world = World::on(alloc, image, Vec::new(alloc));
-    match play(rt, &mut world, section.lines.as_slice()) {
+    spare.begin_on(store.image(spare.alloc, choice)?);
+    match play(rt, program, spare, section.lines.as_slice()) {
         Ok(()) => Ok(true),
         Err(Fault::Wrong { .. }) => Ok(false),
         Err(fault) => Err(fault),
@@ -39,32 +40,33 @@ fn has<'a, R: Threads + Wait + Sync>(
 }
 
 // Whether an image has what the section at this place says, or the next.
-fn image_has<'a, R: Threads + Wait + Sync>(
+fn image_has<'a, R: Threads + Wait + Sync, P: Program>(
     rt: &R,
-    alloc: Global,
+    program: &P,
+    spare: &mut World<'a>,
     store: &RamStore,
     choice: u64,
     sections: &[Section<'a>],
     place: usize,
 ) -> Result<bool, Fault> {
-    let image = store.image(alloc, choice)?;
-    if has(rt, alloc, image, sections.get(place))? {
+    if has(rt, program, spare, store, choice, sections.get(place))? {
         return Ok(true);
     }
-    let image = store.image(alloc, choice)?;
-    has(rt, alloc, image, sections.get(place.saturating_add(1)))
+    let next = sections.get(place.saturating_add(1));
+    has(rt, program, spare, store, choice, next)
 }
 
 /// The first image of a disk that has neither what the section at this place says nor the next, if there is one.
-pub(crate) fn other_image<'a, R: Threads + Wait + Sync>(
+pub(crate) fn other_image<'a, R: Threads + Wait + Sync, P: Program>(
     rt: &R,
-    alloc: Global,
+    program: &P,
+    spare: &mut World<'a>,
     store: &RamStore,
     sections: &[Section<'a>],
     place: usize,
 ) -> Result<Option<u64>, Fault> {
     for choice in 0..IMAGES {
-        if !image_has(rt, alloc, store, choice, sections, place)? {
+        if !image_has(rt, program, spare, store, choice, sections, place)? {
             return Ok(Some(choice));
         }
     }
