@@ -29,6 +29,9 @@ pub(crate) static OVERLAP: [Hold; 4] = [
 // The first push of the recorder is held until a line was answered.
 pub(crate) static ANSWER_FIRST: [Hold; 1] = [((BEFORE_PUSH, 1), &[(AFTER_ANSWER, 1)])];
 
+// The second push of the recorder is held until the first piece was offered, so that the two do not come together.
+pub(crate) static PIECES_APART: [Hold; 1] = [((BEFORE_PUSH, 2), &[(AFTER_PIECE, 1)])];
+
 // How often each point was passed, and whether a thread has looked in vain.
 #[derive(Clone, Copy)]
 struct Passes {

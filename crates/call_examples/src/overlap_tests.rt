@@ -37,7 +37,10 @@ fn is_ramp(bytes: &[u8]) -> bool {
     let mut sample = -500i16;
     for frame in bytes.chunks(4) {
         let [low, high] = sample.to_le_bytes();
-        if frame != [low, high, low, high].as_slice() {
+        let [a, b, c, d] = frame else {
+            return false;
+        };
+        if *a != low || *b != high || *c != low || *d != high {
             return false;
         }
         sample = sample.saturating_add(1);

@@ -21,7 +21,7 @@ fn room_follows_the_ids_that_are_there(rt: HostRuntime) -> Result<(), Fail> {
         }
     }
     assert!(rt; ledger.named_len() == 3);
-    assert!(rt; ledger.count(18) == Some(1));
-    assert!(rt; ledger.count(99_999) == None);
+    assert!(rt; matches!(ledger.count(18), Some(1)));
+    assert!(rt; ledger.count(99_999).is_none());
     Ok(())
 }

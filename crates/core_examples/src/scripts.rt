@@ -148,7 +148,10 @@ pub(crate) fn answer<S: Store>(
 pub(crate) fn has_text(alloc: Global, answer: &Answer, text: &str) -> Result<bool, Fail> {
     let mut sink = MemSink::new(alloc, 4096, 4096, Numbers::new(Vec::new(alloc)))?;
     write_answer(&mut sink, answer)?;
-    Ok(sink.bytes().strip_suffix(b"\n") == Some(text.as_bytes()))
+    match sink.bytes().strip_suffix(b"\n") {
+        Some(front) => Ok(front == text.as_bytes()),
+        None => Ok(false),
+    }
 }
 
 // How far a script came: how many of its first rows were answered as it stands beside them, the commit number behind

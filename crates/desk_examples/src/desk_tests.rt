@@ -37,14 +37,14 @@ fn two_threads_at_one_desk(rt: HostRuntime) -> Result<(), Fail> {
         tag: session.tag,
     };
     let (mut seat, ends) = by_two(&rt, alloc, &desk, seat, Job::Edit { track: 1 }, record, 12);
-    assert!(rt; ends == [End::Done, End::Done]);
+    assert!(rt; matches!(ends, [End::Done, End::Done]));
     // Behind the three commits of the beginning come twelve of each thread.
-    assert!(rt; desk.undo(&rt, &mut seat).what == Ok(28));
-    assert!(rt; desk.redo(&rt, &mut seat).what == Ok(29));
-    assert!(rt; desk.purge(&rt, &mut seat, 2).what == Ok(30));
-    assert!(rt; desk.pin_len(&rt, &mut seat, session.pin).what == Ok(5));
+    assert!(rt; matches!(desk.undo(&rt, &mut seat).what, Ok(28)));
+    assert!(rt; matches!(desk.redo(&rt, &mut seat).what, Ok(29)));
+    assert!(rt; matches!(desk.purge(&rt, &mut seat, 2).what, Ok(30)));
+    assert!(rt; matches!(desk.pin_len(&rt, &mut seat, session.pin).what, Ok(5)));
     let mut studio = desk.close(seat);
-    assert!(rt; commits_in(&mut studio)? == [12, 12]);
+    assert!(rt; matches!(commits_in(&mut studio)?, [12, 12]));
     Ok(())
 }
 
@@ -55,8 +55,8 @@ fn four_threads_at_one_desk(rt: HostRuntime) -> Result<(), Fail> {
     let (mut seat, ends) = by_four(&rt, alloc, &desk, seat, session, MIX, 12);
     let unpinned = desk.unpin(&rt, &mut seat, session.pin).what;
     let mut studio = desk.close(seat);
-    assert!(rt; ends == [End::Done; 4]);
-    assert!(rt; unpinned == Ok(()));
+    assert!(rt; matches!(ends, [End::Done, End::Done, End::Done, End::Done]));
+    assert!(rt; unpinned.is_ok());
     assert!(rt; studio.commit_number() == 27);
     assert!(rt; commits_in(&mut studio)? == [12, 12]);
     assert!(rt; studio.stopped().is_none());

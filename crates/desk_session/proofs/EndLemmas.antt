@@ -64,8 +64,9 @@ module _ {D V : Type 0} where
 
   -- all deeds of a recorder that had been split off from v
   pub recorded : (track tag : ℕ) (failed : Bool) (v o w : View (Held D V) Deed) (told : Option Refusal)
-      → o.seen ≡ v.seen → RecordsOn track tag failed (recorder o None 0) (recorder w told 0) → (other : Call → Type 0)
-      → (p : Part other v w) → AreRecorded w.used_up told (deeds_of (by_seat w.number) p.added)
+      → o.seen ≡ v.seen → RecordsOn track tag true failed (recorder o None 0) (recorder w told 0)
+      → (other : Call → Type 0) → (p : Part other v w)
+      → AreRecorded w.used_up told (deeds_of (by_seat w.number) p.added)
   recorded track tag failed v o w told same works other p =
       let more = works.onward.added in
       subst (λ (z : ℕ × List Deed). AreRecorded w.used_up told (deeds_of (by_seat z.0) z.1))

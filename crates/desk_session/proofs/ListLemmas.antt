@@ -1,6 +1,6 @@
 -- The list of a session, by its makers.
-use Rattle.std.proofs.Common.{◌≡◌, ◌≢◌, ℕ, ◌+◌, ◌<◌, ◌==◌, ◌||◌, Bool, true, false, List, [], ◌∷◌, ◌++◌, length, drop}
-use Rattle.std.proofs.Common.{refl, sym, ◌∙◌, ap, subst, arith, append_assoc, Result, Ok, Err}
+use Rattle.std.proofs.Common.{◌≡◌, ◌≢◌, ℕ, ◌+◌, ◌<◌, nat_lt, ◌||◌, Bool, true, false, List, [], ◌∷◌, ◌++◌, length}
+use Rattle.std.proofs.Common.{drop, refl, sym, ◌∙◌, ap, subst, arith, append_assoc, Result, Ok, Err}
 use Rattle.std.proofs.lemmas.List.{append-nil}
 use Rattle.std.proofs.Math.Seq.{drop-append_seam}
 use Rattle.pcm_base.specs.declared.answer.Reply.{Reply}
@@ -11,8 +11,9 @@ use Rattle.pin_turn.specs.Counts.{Each, once_below, times}
 use Rattle.pin_turn.specs.Rule.{ByOthers}
 use Rattle.pin_turn.proofs.Sums.{Each-left, Each-right}
 use Rattle.studio_seats.specs.declared.deed.Deed.{Deed}
-use Rattle.studio_seats.specs.Deeds.{actor_of, commits, is_commit, number_after, raised}
-use Rattle.studio_seats.specs.Merge.{Merged, SplitsIn, any_seat, by_seat, deeds_of, number_if, numbers_of, one_if}
+use Rattle.studio_seats.specs.Deeds as deeds
+use Rattle.studio_seats.specs.Deeds.{actor_of, commits, is_commit, number_after, raised_by}
+use Rattle.studio_seats.specs.Merge.{Merged, SplitsIn, any_seat, by_seat, deeds_of, numbers_if, numbers_of, one_if}
 use Rattle.studio_seats.specs.Onward.{Asks, IsLine, places_of}
 use Rattle.studio_seats.proofs.FreeingLemmas.{same_seat}
 use Rattle.studio_seats.proofs.MergeLemmas.{deeds_append, deeds_others, numbers_append, numbers_others}
@@ -50,12 +51,9 @@ asked_in fits seat rest added more is asks others = subst (λ (l : List Deed). A
     (each_append (λ e. e.actor ≡ seat → fits e.call) added more asks (asks_others fits seat more others))
 
 -- a call that is no commit makes none
-pub quiet_deed : (c : Call) (what : Result Reply Refusal) → commits_of c ≡ 0 → commits what c ≡ true → ⊥
-quiet_deed c (Ok r) none h = no (subst (λ (n : ℕ). (n == 1) ≡ true) none h)
-  where
-    no : (0 == 1) ≡ true → ⊥
-    no h = let is = same_seat 0 1 h in absurd (omega (arith, is))
-quiet_deed c (Err why) none h = cc
+pub quiet_deed : (c : Call) (what : Result Reply Refusal) → commits_of c ≡ 0 → nat_lt 0 (commits what c) ≡ true → ⊥
+quiet_deed c (Ok r) none h = let clash : false ≡ true = subst (λ (n : ℕ). nat_lt 0 n ≡ true) none h in cc
+quiet_deed c (Err why) none h = let clash : false ≡ true = h in cc
 
 -- both tests, one of them, or neither
 split_one : (s : Seats) (reads : Call → Type 0) → ((c : Call) → reads c → commits_of c ≡ 0) → (e : Deed) → Apart s
@@ -103,8 +101,7 @@ pub all_numbers : (kind : Deed → Bool) (n : ℕ) (es : List Deed) → Each (λ
     → numbers_of kind n es ≡ numbers_of any_seat n es
 all_numbers kind n [] h = refl
 all_numbers kind n (e ∷ es) h =
-    (λ i. number_if (h.0 i) (is_commit e) (raised (is_commit e) n)
-    ++ all_numbers kind (raised (is_commit e) n) es h.1 i)
+    (λ i. numbers_if (h.0 i) (deeds.made e) n ++ all_numbers kind (raised_by e n) es h.1 i)
 
 module _ {D V : Type 0} (first : ℕ) (pieces reads : Call → Type 0) (x : Parted D V) (h : Rejoined pieces reads x)
     (quiet : (c : Call) → reads c → commits_of c ≡ 0)

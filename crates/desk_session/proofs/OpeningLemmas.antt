@@ -1,6 +1,7 @@
 -- What the turns of an opening add to the list.
-use Rattle.std.proofs.Common.{◌≡◌, inl, inr, ⊎_elim, ℕ, ◌+◌, ◌≤◌, max, if◌then◌else◌, Bool, true, List, [], ◌∷◌, ◌++◌}
-use Rattle.std.proofs.Common.{Result, Ok, Err, refl, sym, ◌∙◌, ap, subst, arith, append_assoc, eq-eqb}
+use Rattle.std.proofs.Common.{◌≡◌, inl, inr, ⊎_elim, ℕ, zero, suc, ◌+◌, ◌≤◌, nat_lt, max, if◌then◌else◌, Bool, true}
+use Rattle.std.proofs.Common.{List, [], ◌∷◌, ◌++◌, Result, Ok, Err, refl, sym, ◌∙◌, ap, subst, arith, append_assoc}
+use Rattle.std.proofs.Common.{eq-eqb}
 use Rattle.std.proofs.lemmas.List.{append-nil}
 use Rattle.pcm_base.specs.declared.answer.Reply.{Reply}
 use Rattle.pcm_base.specs.declared.answer.Reply.TheVariants as reply
@@ -9,6 +10,8 @@ use Rattle.pcm_base.specs.declared.command.Call.TheVariants.{Line, Pin, Unpin}
 use Rattle.pcm_base.specs.declared.command.Command.TheVariants.{Track}
 use Rattle.pcm_base.specs.declared.refusal.Refusal.{Refusal}
 use Rattle.pcm_base.specs.declared.said.Said.{Said}
+use Rattle.pcm_base.specs.Arithmetic.{counted_from}
+use Rattle.pcm_base.specs.Counters.{commits_of}
 use Rattle.disk_model.specs.declared.store.Store.{Ghosts}
 use Rattle.edit_ports.specs.declared.vault.Vault as vault
 use Rattle.pin_turn.specs.declared.view.View.{View}
@@ -16,9 +19,9 @@ use Rattle.editor_core.specs.Core.{Core}
 use Rattle.editor_core.specs.Took.{silent, told_by}
 use Rattle.studio_seats.specs.declared.deed.Deed.{Deed}
 use Rattle.studio_seats.specs.declared.held.Held.{Held}
-use Rattle.studio_seats.specs.Deeds.{commits, deed, number_after, raised}
+use Rattle.studio_seats.specs.Deeds.{commits, deed, number_after}
 use Rattle.studio_seats.specs.Desks.{Says, Spends, Turned, asked, spent, views}
-use Rattle.studio_seats.specs.Merge.{by_seat, deeds_of, number_if, numbers_of}
+use Rattle.studio_seats.specs.Merge.{by_seat, deeds_of, numbers_of}
 use Rattle.studio_seats.specs.Onward.{Onward}
 use Rattle.studio_seats.specs.Stands.{origin}
 use Rattle.studio_seats.proofs.Grown.{number_append}
@@ -38,24 +41,34 @@ own_one : (seat : ℕ) (call : Call) (what : Result Reply Refusal)
 own_one seat call what =
     ap (λ (b : Bool). (if b then deed seat call what silent ∷ [] else []) ++ []) (eq-eqb seat seat refl)
 
-number_one : (seat n : ℕ) (call : Call) (what : Result Reply Refusal)
+-- the numbers of a call that makes one commit at most, where this one is told
+abbrev numbers_told : ℕ → ℕ → List ℕ
+numbers_told count at = if nat_lt 0 count then at ∷ [] else []
+
+one_or_none : (count n : ℕ) → count ≤ 1 → counted_from (n + 1) count ≡ numbers_told count (n + count)
+one_or_none zero n few = refl
+one_or_none (suc zero) n few = refl
+one_or_none (suc (suc count)) n few = absurd (omega (arith, few))
+
+few_made : (what : Result Reply Refusal) (call : Call) → commits_of call ≤ 1 → commits what call ≤ 1
+few_made (Ok r) call few = few
+few_made (Err why) call few = omega arith
+
+number_one : (seat n : ℕ) (call : Call) (what : Result Reply Refusal) → commits_of call ≤ 1
     → numbers_of (by_seat seat) n (deed seat call what silent ∷ [])
-    ≡ (if commits what call then raised (commits what call) n ∷ [] else [])
-number_one seat n call what =
-    ap (λ (b : Bool). number_if b (commits what call) (raised (commits what call) n) ++ []) (eq-eqb seat seat refl)
-    ∙ append-nil (if commits what call then raised (commits what call) n ∷ [] else [])
+    ≡ numbers_told (commits what call) (n + commits what call)
+number_one seat n call what few =
+    ap (λ (b : Bool). (if b then counted_from (n + 1) (commits what call) else []) ++ []) (eq-eqb seat seat refl)
+    ∙ (append-nil (counted_from (n + 1) (commits what call))
+    ∙ one_or_none (commits what call) n (few_made what call few))
 
 nothing_more : (xs ys : List Deed) → xs ≡ xs ++ ys → ys ≡ []
 nothing_more xs ys h = same_rest xs ys [] (sym h ∙ sym (append-nil xs))
 
--- what a call adds to the numbers
-abbrev numbers_told : Bool → ℕ → List ℕ
-numbers_told commit at = if commit then at ∷ [] else []
-
 module _ {D V A : Type 0} (disk : Ghosts D) (vaults : vault.Ghosts V) (start : Core D) (v w : View (Held D V) Deed)
     (fits : Call → Type 0) (call : Call)
     (what : Result Reply Refusal) (said : Said A) (fit : fits call)
-    (none : (why : Refusal) → said.what ≡ Err why → what ≡ Err why) where
+    (none : (why : Refusal) → said.what ≡ Err why → what ≡ Err why) (few : commits_of call ≤ 1) where
   turned : (x : Turned (origin disk vaults start) (asked call what silent) said.at (views v w))
       → MakesCall fits start.commit_number (OwnDeed w.used_up v.number call what) (numbers_told (commits what call) said.at) v w
   turned x =
@@ -66,15 +79,16 @@ module _ {D V A : Type 0} (disk : Ghosts D) (vaults : vault.Ghosts V) (start : C
       let seen : w.seen ≡ v.seen ++ (x.between ++ e ∷ []) =
       ap (λ (z : View (Held D V) Deed). z.seen) x.view ∙ append_assoc v.seen x.between (e ∷ []) in
       let is : on.added ≡ x.between ++ e ∷ [] = same_rest v.seen on.added (x.between ++ e ∷ []) (sym on.seen ∙ seen) in
-      let at : said.at ≡ raised (commits what call) (number_after m x.between) =
+      let at : said.at ≡ number_after m x.between + commits what call =
       x.number ∙ (turned_number x ∙ (number_append start.commit_number (v.seen ++ x.between) (e ∷ [])
-      ∙ ap (raised (commits what call)) (number_append start.commit_number v.seen x.between))) in
+      ∙ ap (λ (k : ℕ). k + commits what call) (number_append start.commit_number v.seen x.between))) in
       record {
         onward = on;
         own = inl (ap (deeds_of (by_seat n)) is ∙ (deeds_append (by_seat n) x.between (e ∷ [])
             ∙ (λ i. deeds_others n x.between x.by_others i ++ own_one n call what i)));
         numbers_are = ap (numbers_of (by_seat n) m) is ∙ (numbers_append (by_seat n) m x.between (e ∷ [])
-            ∙ ((λ i. numbers_others n m x.between x.by_others i ++ number_one n (number_after m x.between) call what i)
+            ∙ ((λ i. numbers_others n m x.between x.by_others i
+            ++ number_one n (number_after m x.between) call what few i)
             ∙ ap (numbers_told (commits what call)) (sym at)));
       }
 
@@ -215,7 +229,7 @@ module _ {D V A : Type 0} (disk : Ghosts D) (vaults : vault.Ghosts V) (start : C
   called : MakesCall IsOpening start.commit_number (OwnDeed w.used_up v.number (Line Track) told)
       (numbers_told (commits told (Line Track)) said.at) v w
   called = opens_call disk vaults start v w IsOpening (Line Track) told said (inl refl)
-      (λ why is. ap (λ (r : Result A Refusal). told_by f r) is) says
+      (λ why is. ap (λ (r : Result A Refusal). told_by f r) is) (let one : 1 ≤ 1 = omega arith in one) says
 
   -- a new track
   pub track_made : (x : A) → said.what ≡ Ok x
@@ -231,11 +245,11 @@ module _ {D V A : Type 0} (disk : Ghosts D) (vaults : vault.Ghosts V) (start : C
   taken_above x is t =
       let n = start.commit_number in
       let e = deed v.number (Line Track) told silent in
-      let at : said.at ≡ raised (commits told (Line Track)) (number_after n (v.seen ++ t.between)) =
+      let at : said.at ≡ number_after n (v.seen ++ t.between) + commits told (Line Track) =
       t.number ∙ (turned_number t ∙ number_append n (v.seen ++ t.between) (e ∷ [])) in
       let one : said.at ≡ number_after n (v.seen ++ t.between) + 1 =
-      at ∙ ap (λ (r : Result A Refusal). raised (commits (told_by f r) (Line Track)) (number_after n (v.seen ++ t.between)))
-      is in omega (arith, one)
+      at ∙ ap (λ (r : Result A Refusal). number_after n (v.seen ++ t.between) + commits (told_by f r) (Line Track)) is
+      in omega (arith, one)
 
   -- its number is a commit number, up to the last that the seat knows
   pub track_tag : (x : A) → said.what ≡ Ok x
@@ -279,7 +293,7 @@ pinned {D} {V} disk vaults start v w said says =
     (PinDeed w.used_up v.number (made_by said.what)) (numbers_told (commits told Pin) said.at) [] v w
     (pin_deed w.used_up v.number said.what) (no_numbers said.what said.at)
     (opens_call disk vaults start v w IsOpening Pin told said (inr refl)
-    (λ why is. ap (λ (r : Result ℕ Refusal). told_by reply.Pinned r) is) says)
+    (λ why is. ap (λ (r : Result ℕ Refusal). told_by reply.Pinned r) is) (let none : 0 ≤ 1 = omega arith in none) says)
 
 -- a pin was released
 pub lets_go : {D V : Type 0} (disk : Ghosts D) (vaults : vault.Ghosts V) (start : Core D) (v w : View (Held D V) Deed)
@@ -289,7 +303,8 @@ pub lets_go : {D V : Type 0} (disk : Ghosts D) (vaults : vault.Ghosts V) (start 
 lets_go {D} {V} disk vaults start v w pin said says =
     let told = told_by (λ _. reply.Done) said.what in
     let called = opens_call disk vaults start v w (λ call. call ≡ Unpin pin) (Unpin pin) told said refl
-    (λ why is. ap (λ (r : Result (Unit {0}) Refusal). told_by (λ _. reply.Done) r) is) says in
+    (λ why is. ap (λ (r : Result (Unit {0}) Refusal). told_by (λ _. reply.Done) r) is)
+    (let none : 0 ≤ 1 = omega arith in none) says in
     record {
       what = told;
       calls = record {

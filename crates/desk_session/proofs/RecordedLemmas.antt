@@ -11,8 +11,8 @@ use Rattle.pin_turn.specs.Counts.{Each}
 use Rattle.pin_turn.specs.Rule.{ByOthers}
 use Rattle.studio_seats.specs.declared.deed.Deed.{Deed}
 use Rattle.studio_seats.specs.declared.held.Held.{Held}
-use Rattle.studio_seats.specs.Deeds.{actor_of, is_commit, number_after}
-use Rattle.studio_seats.specs.Merge.{OnlyPieces, by_seat, is_piece, number_if, numbers_in, numbers_of}
+use Rattle.studio_seats.specs.Deeds.{actor_of, is_commit, made, number_after, raised_by}
+use Rattle.studio_seats.specs.Merge.{OnlyPieces, by_seat, is_piece, numbers_if, numbers_in, numbers_of}
 use Rattle.studio_seats.specs.Onward.{Asks, IsPieceOf}
 use Rattle.studio_seats.specs.Pieces.{pieces_by}
 use Rattle.studio_seats.specs.Recording.{RecorderAsks}
@@ -74,7 +74,7 @@ few before taker told chunks t = by_refusal told.refused refl
     by_refusal (Some reason) is = let some = (t.some reason is).0 in omega (arith, some)
 
 none_is : (seat n : ℕ) (e : Deed) → (e.actor ≡ seat → ⊥) → (b : Bool) → (seat == e.actor) ≡ b
-    → number_if b (is_commit e) n ≡ []
+    → numbers_if b (made e) n ≡ []
 none_is seat n e h true is = absurd (h (sym (same_seat seat e.actor is)))
 none_is seat n e h false is = refl
 
@@ -83,9 +83,8 @@ pub no_numbers : (fits : Call → Type 0) → ((c : Call) → fits c → ⊥) �
     → numbers_of (by_seat seat) n es ≡ []
 no_numbers fits never seat n [] h = refl
 no_numbers fits never seat n (e ∷ es) h =
-    let m = number_after n (e ∷ []) in
-    (λ i. none_is seat m e (λ is. never e.call (h.0 is)) (seat == e.actor) refl i
-    ++ no_numbers fits never seat m es h.1 i)
+    (λ i. none_is seat n e (λ is. never e.call (h.0 is)) (seat == e.actor) refl i
+    ++ no_numbers fits never seat (raised_by e n) es h.1 i)
 
 module _ {D V : Type 0} (first track tag : ℕ) (v w : View (Held D V) Deed) (h : NewPart (RecorderAsks track tag) v w)
   where

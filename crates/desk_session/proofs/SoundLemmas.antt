@@ -1,5 +1,5 @@
 -- What a recording and a playback did, in the words of the microphone and the speaker that were lent.
-use Rattle.std.proofs.Common.{◌≡◌, ℕ, List, Option, take, sym, ap, ◌∙◌, subst}
+use Rattle.std.proofs.Common.{◌≡◌, ℕ, Bool, false, List, Option, take, sym, ap, ◌∙◌, subst}
 use Rattle.pcm_base.specs.Causes.{Rose}
 use Rattle.pcm_base.specs.Recordings.{chunks_of, frame_bytes}
 use Rattle.edit_ports.specs.declared.frames.FrameGiver as giver
@@ -8,7 +8,7 @@ use Rattle.edit_ports.specs.declared.sink.Sink as sink
 use Rattle.edit_ports.specs.declared.source.Source as source
 use Rattle.edit_ports.specs.Told.{grown, preceded}
 use Rattle.recorder_work.specs.Blocks.{MicState}
-use Rattle.recorder_work.specs.Captured.{IsStoppedBy}
+use Rattle.recorder_work.specs.Captured.{IsStoppedBy, mic_failed}
 use Rattle.recorder_work.specs.declared.microphone.MicEnd.{MicEnd}
 use Rattle.recorder_work.specs.Drained.{Taken, Takes, taker_state}
 use Rattle.sound_run.specs.declared.play.Played.{Played}
@@ -20,15 +20,19 @@ use Rattle.desk_session.specs.declared.told.Heard.{Heard}
 use Rattle.desk_session.specs.declared.told.Kept.{Kept}
 use Rattle.desk_session.specs.Sounds.{IsPlayed, IsRecorded}
 
--- A microphone that was lent tells what is left of the one behind it, and counts its faults.
+-- A microphone that was lent tells what is left of the one behind it, and counts its faults, and what it follows that
+-- one follows.
 pub recorded_of : {L M T : Type 0} (mics : source.Ghosts M) (lent : source.Ghosts L) (takers : taker.Ghosts T)
     (inner : L → M) (left : (l : L) → lent.left l ≡ mics.left (inner l))
-    (count : (l : L) → lent.fault_count l ≡ mics.fault_count (inner l)) (m : L) (t : T) (d : Recorded L T) (k : Kept)
-    → Records lent takers m t d → k.end ≡ d.end → k.numbers ≡ d.numbers → k.samples ≡ d.samples
+    (count : (l : L) → lent.fault_count l ≡ mics.fault_count (inner l))
+    (goes : (l n : L) (failed : Bool) → lent.follows l failed n → (first : M) → mics.follows first false (inner l)
+    → mics.follows first failed (inner n))
+    (m : L) (t : T) (d : Recorded L T) (k : Kept)
+    → lent.follows m false m → Records lent takers m t d → k.end ≡ d.end → k.numbers ≡ d.numbers → k.samples ≡ d.samples
     → k.refused ≡ d.refused
     → IsRecorded mics (change (inner m) (inner d.mic)) (change (takers.pieces t) (takers.pieces d.taker))
     (takers.refused d.taker) k
-recorded_of mics lent takers inner left count m t d k h end numbers samples refused = record {
+recorded_of mics lent takers inner left count goes m t d k self h end numbers samples refused = record {
   bytes = h.bytes;
   read = sym (left m) ∙ (h.read ∙ ap (preceded h.bytes) (left d.mic));
   stopped = subst (λ (z : MicEnd × MicState × MicState). IsStoppedBy z.0 h.bytes z.1 z.2) (λ i. (
@@ -36,17 +40,23 @@ recorded_of mics lent takers inner left count m t d k h end numbers samples refu
     record { left = left m i; fault_count = count m i },
     record { left = left d.mic i; fault_count = count d.mic i },
   )) h.stopped;
+  goes = λ first is. subst (λ (e : MicEnd). mics.follows first (mic_failed e) (inner d.mic)) (sym end)
+      (goes m d.mic (mic_failed d.end) (h.mic_goes m self) first is);
   takes = subst (λ (told : Taken). Takes (takers.pieces t) (taker_state takers d.taker) told (chunks_of h.bytes))
       (λ i. record { numbers = sym numbers i; samples = sym samples i; refused = sym refused i }) h.takes;
 }
 
--- A speaker that was lent tells what was written to the one behind it, and counts its faults.
+-- A speaker that was lent tells what was written to the one behind it, and counts its faults, and what it follows that
+-- one follows.
 pub played_of : {G L P : Type 0} (speakers : sink.Ghosts P) (lent : sink.Ghosts L) (givers : giver.Ghosts G)
     (inner : L → P) (written : (l : L) → lent.written l ≡ speakers.written (inner l))
-    (count : (l : L) → lent.fault_count l ≡ speakers.fault_count (inner l)) (v : G) (s : L) (d : Played G L) (k : Heard)
-    → Plays givers lent v s d → k.refused ≡ d.refused → k.frames ≡ d.frames → k.fault ≡ d.fault
+    (count : (l : L) → lent.fault_count l ≡ speakers.fault_count (inner l))
+    (goes : (l n : L) (failed : Bool) → lent.follows l failed n → (first : P) → speakers.follows first false (inner l)
+    → speakers.follows first failed (inner n))
+    (v : G) (s : L) (d : Played G L) (k : Heard)
+    → lent.follows s false s → Plays givers lent v s d → k.refused ≡ d.refused → k.frames ≡ d.frames → k.fault ≡ d.fault
     → IsPlayed speakers (change (inner s) (inner d.speaker)) (givers.shows v) k
-played_of speakers lent givers inner written count v s d k h refused frames fault = record {
+played_of speakers lent givers inner written count goes v s d k self h refused frames fault = record {
   frames = h.frames;
   first = h.first;
   whole = λ none. h.whole (sym refused ∙ none);
@@ -62,4 +72,6 @@ played_of speakers lent givers inner written count v s d k h refused frames faul
         (h.writes.cause (sym fault ∙ yes));
   };
   exact = frames ∙ h.exact;
+  goes = λ first is. subst (λ (b : Bool). speakers.follows first b (inner d.speaker)) (sym fault)
+      (goes s d.speaker d.fault (h.speaker_goes s self) first is);
 }

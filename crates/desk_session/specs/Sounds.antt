@@ -1,5 +1,6 @@
 -- What a recording and a playback have done.
-use Rattle.std.specs.Prelude.{◌≡◌, ◌⊎◌, ℕ, ◌/◌, ℤ, Bool, true, List, [], ◌++◌, length, take, Option, Some, None, Result}
+use Rattle.std.specs.Prelude.{◌≡◌, ◌⊎◌, ℕ, ◌/◌, ℤ, Bool, true, false, List, [], ◌++◌, length, take, Option, Some, None}
+use Rattle.std.specs.Prelude.{Result}
 use Rattle.pcm_base.specs.declared.answer.Reply.{Reply}
 use Rattle.pcm_base.specs.declared.command.Call.TheVariants.{Unpin}
 use Rattle.pcm_base.specs.declared.refusal.Refusal.{Refusal}
@@ -9,7 +10,7 @@ use Rattle.edit_ports.specs.Told.{preceded}
 use Rattle.edit_ports.specs.declared.sink.Sink as sink
 use Rattle.edit_ports.specs.declared.source.Source as source
 use Rattle.recorder_work.specs.Blocks.{mic_state}
-use Rattle.recorder_work.specs.Captured.{IsStoppedBy}
+use Rattle.recorder_work.specs.Captured.{IsStoppedBy, mic_failed}
 use Rattle.recorder_work.specs.Drained.{Takes}
 use Rattle.player_work.specs.Filled.{reads_to}
 use Rattle.player_work.specs.Spoken.{Writes, speaker_state}
@@ -25,18 +26,20 @@ use Rattle.desk_session.specs.declared.told.Heard.{Heard}
 use Rattle.desk_session.specs.declared.told.Kept.{Kept}
 use Rattle.desk_session.specs.Opening.{OwnDeed}
 
--- These bytes were read of the microphone, up to what stopped it; the pieces of the recording are their chunks, in
--- order and each once, with these numbers, up to the first that was refused, where the taker of the pieces had `told`.
+-- These bytes were read of the microphone, up to what stopped it, with no read after one that failed; the pieces of the
+-- recording are their chunks, in order and each once, with these numbers, up to the first that was refused, where the
+-- taker of the pieces had `told`.
 pub record IsRecorded {M : Type 0} (mics : source.Ghosts M) (mic : Change M) (pieces : Change (List (List ℤ × ℕ)))
     (told : Option Refusal) (kept : Kept) : Type 0 where
   pub bytes : List ℕ
   pub read : mics.left mic.before ≡ preceded bytes (mics.left mic.now)
   pub stopped : IsStoppedBy kept.end bytes (mic_state mics mic.before) (mic_state mics mic.now)
+  pub goes : (first : M) → mics.follows first false mic.before → mics.follows first (mic_failed kept.end) mic.now
   pub takes : Takes pieces.before record { pieces = pieces.now; refused = told }
       record { numbers = kept.numbers; samples = kept.samples; refused = kept.refused } (chunks_of bytes)
 
--- The bytes of these frames were written to the speaker, or where it failed the first; the frames are the first of
--- those that are shown, all of them where no read was refused.
+-- The bytes of these frames were written to the speaker, or where it failed the first, with no write after one that
+-- failed; the frames are the first of those that are shown, all of them where no read was refused.
 pub record IsPlayed {P : Type 0} (speakers : sink.Ghosts P) (speaker : Change P) (shows : List Frame → Type 0)
     (heard : Heard) : Type 0 where
   pub frames : List Frame
@@ -45,12 +48,13 @@ pub record IsPlayed {P : Type 0} (speakers : sink.Ghosts P) (speaker : Change P)
   pub writes : Writes (speaker_state speakers speaker.before) (speaker_state speakers speaker.now)
       record { frames = heard.frames; fault = heard.fault } frames
   pub exact : heard.frames ≡ writes.bytes / 4
+  pub goes : (first : P) → speakers.follows first false speaker.before → speakers.follows first heard.fault speaker.now
 
--- The deeds of the recorder's seat: pieces, of which none was asked after one that was refused, and reclaims. At no
--- time more than 64 pieces stand after the last reclaim, and at the end none does, unless no turn was left.
+-- The deeds of the recorder's seat: pieces, of which none was asked after one that was refused, and a reclaim after
+-- each 64 pieces. At the end one more comes after the pieces since the last, unless no turn was left.
 pub record AreRecorded (spent : Bool) (told : Option Refusal) (own : List Deed) : Type 0 where
   pub ends : EndsBy spent told (deeds_of asks_piece own)
-  pub freed : AreFreed 0 (entries_of own)
+  pub freed : AreFreed true 0 (entries_of own)
   pub freed_last : (unfreed 0 (entries_of own) ≡ 0) ⊎ (spent ≡ true)
 
 -- They end by what the taker was refused.

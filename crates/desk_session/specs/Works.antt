@@ -1,5 +1,5 @@
 -- What the threads of a session did, each by a seat of its own.
-use Rattle.std.specs.Prelude.{◌≡◌, ℕ, ℤ, List, [], Option, None, IsSomeAnd, is_some}
+use Rattle.std.specs.Prelude.{◌≡◌, ℕ, ℤ, true, List, [], Option, None, IsSomeAnd, is_some}
 use Rattle.pcm_base.specs.declared.refusal.Refusal.{Refusal}
 use Rattle.edit_ports.specs.declared.vault.Vault as vault
 use Rattle.player_work.specs.Filled.{reads_to}
@@ -62,7 +62,7 @@ pub record Works {D V M P : Type 0} (k : Kinds D V M P) (s : Working D V) (lent 
   pub ran : RanScript k.vaults (record { start = s.start; last = s.last; seat = s.script }) lent out.told
   pub records : WhereMade out.opened.recording
       (λ tag. (told : Option Refusal)
-      × RecordsOn s.track tag (is_some told) (recorder s.recorder.before None 0) (recorder s.recorder.now told 0)
+      × RecordsOn s.track tag true (is_some told) (recorder s.recorder.before None 0) (recorder s.recorder.now told 0)
       × IsSomeAnd out.kept (IsRecorded k.mics lent.mic
       (change (pieces_seen s tag s.recorder.before) (pieces_seen s tag s.recorder.now)) told))
       ((s.recorder.now ≡ s.recorder.before) × (out.kept ≡ None) × (lent.mic.now ≡ lent.mic.before))

@@ -1,5 +1,5 @@
 // The recorder's side of a session.
-ghost use Rattle.std.specs.Prelude.{◌≡◌, IsSomeAnd, MatchResult, None, is_some};
+ghost use Rattle.std.specs.Prelude.{◌≡◌, IsSomeAnd, MatchResult, None, is_some, true};
 ghost use Rattle.pin_turn.specs.Calls.{known};
 ghost use Rattle.studio_seats.specs.Desks.{IsAt, start_at};
 ghost use Rattle.studio_seats.specs.Recording.{FreesTo};
@@ -51,7 +51,7 @@ pub fn take_recorder<'a, 'b, R: Wait, S: Store, V: Vault, M: Source>(
 ) -> (DeskSeat<S, V>, &'b mut M, Option<Kept>)
     ensures { MatchResult recorded.entry
         (λ d. IsAt d.taker.desk.now result.0
-        × FreesTo d.taker.since (known d.taker.seat) 0 (known result.0)
+        × FreesTo true d.taker.since (known d.taker.seat) 0 (known result.0)
         × (result.1.ghost_name ≡ d.mic.source.ghost_name) × (result.1.now ≡ d.mic.source.now)
         × IsSomeAnd result.2 (λ k. (k.end ≡ d.end) × (k.numbers ≡ d.numbers) × (k.samples ≡ d.samples)
         × (k.refused ≡ d.refused)))

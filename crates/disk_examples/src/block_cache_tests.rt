@@ -72,27 +72,46 @@ fn dropped<S: Store>(store: &mut S, cache: &mut Cache, id: u64) -> Result<(), Bl
     remove_block_cached(store, cache, id)
 }
 
+// Whether it is a fault of the disk.
+fn is_fault(answer: Result<(), BlockFault>) -> bool {
+    matches!(answer, Err(BlockFault::DiskFault))
+}
+
+// Whether the samples are read, and read again from their page, and no frame is.
+fn are_kept<S: Store>(store: &mut S, cache: &mut Cache) -> bool
+    requires { IsTrue (S.tells store.old) → IsCacheOf (S.reads store.old) cache.old }
+    ensures { IsTrue (S.tells store.new) → IsCacheOf (S.reads store.new) cache.new }
+{
+    let mut out = [0; 2];
+    let mut frame = [NOTHING; 1];
+    let mut one = [0; 1];
+    let whole = samples(store, cache, BLOCK, 0, &mut out);
+    let other = frames(store, cache, BLOCK, Level::Long, 0, &mut frame);
+    let again = samples(store, cache, BLOCK, 1, &mut one);
+    whole.is_ok() && is_fault(other) && again.is_ok() && out[0] == 1 && out[1] == -2 && one[0] == -2
+}
+
+// Whether the removal fails, and then a read of its samples.
+fn are_gone<S: Store>(store: &mut S, cache: &mut Cache) -> bool
+    requires { IsTrue (S.tells store.old) → IsCacheOf (S.reads store.old) cache.old }
+    ensures { IsTrue (S.tells store.new) → IsCacheOf (S.reads store.new) cache.new }
+{
+    let mut one = [0; 1];
+    let removed = dropped(store, cache, 16);
+    let read = samples(store, cache, BLOCK, 1, &mut one);
+    is_fault(removed) && is_fault(read)
+}
+
 // All calls after the header and the first page fail, but for the two of the removal.
 #[test]
 fn a_disk_that_fails_later(rt: HostRuntime) -> Result<(), Fail> {
     let mut store = disk(rt.alloc(), vec![in rt.alloc(); 5, 6, 7, 8]?)?;
     let mut scratch = Vec::with_capacity(rt.alloc(), 44)?;
-    assert!(rt; put(&mut store, 16, &[1, -2], &mut scratch) == Ok(()));
+    assert!(rt; put(&mut store, 16, &[1, -2], &mut scratch).is_ok());
     let mut cache = new_cache(rt.alloc(), 1)?;
     can_be_sent(&cache);
-    let mut out = [0; 2];
-    assert!(rt; samples(&mut store, &mut cache, BLOCK, 0, &mut out) == Ok(()));
-    assert!(rt; out == [1, -2]);
-    let mut frame = [NOTHING; 1];
-    assert!(rt;
-        frames(&mut store, &mut cache, BLOCK, Level::Long, 0, &mut frame)
-            == Err(BlockFault::DiskFault)
-    );
-    let mut one = [0; 1];
-    assert!(rt; samples(&mut store, &mut cache, BLOCK, 1, &mut one) == Ok(()));
-    assert!(rt; one == [-2]);
-    assert!(rt; dropped(&mut store, &mut cache, 16) == Err(BlockFault::DiskFault));
-    assert!(rt; samples(&mut store, &mut cache, BLOCK, 1, &mut one) == Err(BlockFault::DiskFault));
+    assert!(rt; are_kept(&mut store, &mut cache));
+    assert!(rt; are_gone(&mut store, &mut cache));
     assert!(rt; store.call_count() == 7);
     assert!(rt; cache.pages() == 1);
     Ok(())

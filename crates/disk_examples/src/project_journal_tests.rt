@@ -5,15 +5,19 @@ use project_journal::{JournalFault, append, append_small};
 use std::alloc::Global;
 use std::test::*;
 
+// Whether 7 bytes have no room from this place on.
+fn is_spent(answer: Result<u64, JournalFault>, place: u64) -> bool {
+    match answer {
+        Err(JournalFault::SpaceSpent { have, need }) => have == place && need == 7,
+        _ => false,
+    }
+}
+
 // Whether neither an append nor a small one has room in front of the end.
 fn are_spent<S: Store>(store: &mut S, alloc: Global) -> bool {
     let place = (1u64 << 62) - 6;
-    let spent = JournalFault::SpaceSpent {
-        have: place,
-        need: 7,
-    };
-    append_small(store, 0, place, &[2]) == Err(spent)
-        && append(store, 0, place, &[2], &mut Vec::new(alloc)) == Err(spent)
+    is_spent(append_small(store, 0, place, &[2]), place)
+        && is_spent(append(store, 0, place, &[2], &mut Vec::new(alloc)), place)
 }
 
 #[test]

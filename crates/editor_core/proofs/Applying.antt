@@ -24,7 +24,8 @@ use Rattle.editor_core.specs.Took.{Exchange, Took, exchange_of, freeing, number_
 use Rattle.editor_core.proofs.Leaving.{IsPlain, left_plain}
 use Rattle.editor_core.proofs.Looking.{looked_studio}
 use Rattle.editor_core.proofs.Others.{others_none}
-use Rattle.editor_core.proofs.Removing.{RemovesNone, frees_none, ids_same, no_record, none_given}
+use Rattle.editor_core.proofs.Removing.{PacksNone, RemovesNone, frees_none, frees_refused, ids_same, no_record}
+use Rattle.editor_core.proofs.Removing.{none_given}
 use Rattle.editor_core.proofs.Staying.{stopped_not}
 use Rattle.editor_core.proofs.StudioCache.{ReadsNamed}
 
@@ -63,7 +64,7 @@ module _ {D : Type 0} (disk : Ghosts D) (s : Core D) where
     records = no_record s (Err why) s;
     given = tt;
     changed = changed_none s.store (others_none s.next_block s.next_block (MayRemove call s.counts)) fewer;
-    frees = frees_none disk s call (Err why) s none;
+    frees = frees_refused disk s call why s none;
     ids = ids_same s s refl refl;
     untouched = λ device. kept_none s.store fewer;
     stops = inl (refl, refl);
@@ -71,13 +72,14 @@ module _ {D : Type 0} (disk : Ghosts D) (s : Core D) where
   }
 
   -- nothing was changed
-  pub lasts_looked : (is : IsStudio disk s) (call : Call) → RemovesNone call → (sound : SoundMove) → s.stopped ≡ None
+  pub lasts_looked : (is : IsStudio disk s) (call : Call) → RemovesNone call → PacksNone call → (sound : SoundMove)
+      → s.stopped ≡ None
       → (store : D) (kept : Kept disk s.store store) (cache : Entries) → ReadsNamed disk s cache
       → (told : Result Reply Refusal)
       → s.commit_number ≡ number_behind told call s.commit_number
       → IfErr told (Left disk s (record s { store = store; cache = cache }))
       → Lasts disk s (with_sound call sound told) (record s { store = store; cache = cache })
-  lasts_looked is call none sound going store kept cache keeps told number left = record {
+  lasts_looked is call none plain sound going store kept cache keeps told number left = record {
     studio = looked_studio disk s is store kept cache keeps;
     number = number;
     rests = λ some. absurd (stopped_not s.stopped some going);
@@ -85,7 +87,7 @@ module _ {D : Type 0} (disk : Ghosts D) (s : Core D) where
     records = no_record s told (record s { store = store; cache = cache });
     given = none_given told s (record s { store = store; cache = cache }) refl;
     changed = changed_kept (others_none s.next_block s.next_block (MayRemove call s.counts)) kept;
-    frees = frees_none disk s call told (record s { store = store; cache = cache }) none;
+    frees = frees_none disk s call told (record s { store = store; cache = cache }) none plain;
     ids = ids_same s (record s { store = store; cache = cache }) refl refl;
     untouched = kept_untouched disk s (record s { store = store; cache = cache }) told kept;
     stops = inl (refl, kept.same_faults);

@@ -1,22 +1,23 @@
 -- The bytes of a record's body, by the journal's version: how many they are, and that the record may come next.
-use Rattle.std.proofs.Common.{◌≡◌, inl, inr, ⊎_elim, refl, sym, ap, ◌∙◌, subst, ℕ, zero, suc, ◌^◌, ◌≤◌, ◌<◌, ◌==◌}
-use Rattle.std.proofs.Common.{true, false, List, length, arith}
+use Rattle.std.proofs.Common.{◌≡◌, inl, inr, ⊎_elim, refl, sym, ap, ◌∙◌, subst, ℕ, zero, suc, ◌+◌, ◌*◌, ◌^◌, ◌≤◌, ◌<◌, ◌==◌}
+use Rattle.std.proofs.Common.{true, false, List, ◌∷◌, length, add-mul, arith}
 use Rattle.std.proofs.lemmas.Bool.{cases_Bool}
 use Rattle.pcm_base.specs.History.{History}
 use Rattle.pcm_base.specs.Pieces.{Sources}
 use Rattle.pcm_base.specs.Sizes.{project_body_most}
 use Rattle.project_journal.specs.Header.{form_of}
+use Rattle.project_journal.specs.Journal.{rows_length}
 use Rattle.project_state.specs.declared.body.Body.{Body}
 use Rattle.project_state.specs.declared.body.Body.TheVariants.{Edit, Undo, Redo, Purge}
 use Rattle.project_state.specs.declared.track.Track.{Track}
+use Rattle.project_state.specs.Batches.{with_point}
 use Rattle.project_state.specs.Changes.{delta_spelling, spelling_in}
 use Rattle.project_state.specs.Kept.{IsNextIn, Kept, MayFollow, before_of, current_tracks, meant, version_of}
 use Rattle.project_state.specs.Laws.{HasShortEnds}
 use Rattle.project_state.specs.Sound.{IsSound, IsSoundPoint}
 use Rattle.project_state.specs.Spelling.{spelling}
-use Rattle.project_state.proofs.DeltaBack.{delta_read_back}
-use Rattle.project_state.proofs.ToldBack.{are_short}
-use Rattle.editor_core.specs.Bodies.{IsLength, body_bytes}
+use Rattle.project_state.proofs.Batched.{next_in}
+use Rattle.editor_core.specs.Bodies.{IsLength, bodies_by, body_bytes, bytes_by, single, whole_by}
 use Rattle.editor_core.specs.Core.{Core, form_at}
 use Rattle.editor_core.specs.Studios.{AreJournalNumbers}
 use Rattle.editor_core.proofs.Lengths.{record_most, told_most}
@@ -27,19 +28,46 @@ version_at (suc zero) file least most = refl
 version_at (suc (suc zero)) file least most = refl
 version_at (suc (suc (suc n))) file least most = absurd (omega (arith, most))
 
--- a sound body, as a journal of this version has it, may come next
-next_in : (version m : ℕ) (k : Kept) (body : Body) → 1 ≤ version → version ≤ 2 → 4 ≤ m → m < 2 ^ 32
-    → k.commit < 2 ^ 62 → HasShortEnds (current_tracks k.history) → IsSound m (before_of k) body
-    → MayFollow k.history body
-    → IsNextIn version m k (spelling_in version (current_tracks k.history) body) body
-next_in zero m k body least most large small room short sound follows = absurd (omega (arith, least))
-next_in (suc zero) m k body least most large small room short sound follows =
-    record { spelled = refl; sound = sound; follows = follows }
-next_in (suc (suc zero)) m k body least most large small room short sound follows =
-    let current = current_tracks k.history in
-    let back = delta_read_back m (before_of k) current body large small room (are_short current short) sound in
-    record { tests = back.tests; says = back.says; sound = sound; follows = follows }
-next_in (suc (suc (suc n))) m k body least most large small room short sound follows = absurd (omega (arith, most))
+-- ---- several records
+
+pub rows_step : (x : List ℕ) (version : ℕ) (current : List Track) (more : ℕ) (body : Body)
+    → rows_length (x ∷ bodies_by version current more body)
+    ≡ length x + (5 + rows_length (bodies_by version current more body))
+rows_step x version current zero body = refl
+rows_step x version current (suc more) body = refl
+
+pub rows_count : (version : ℕ) (current : List Track) (body : Body) (more : ℕ)
+    → length (bodies_by version current more body) ≡ more + 1
+rows_count version current body zero = refl
+rows_count version current body (suc more) = omega (arith, rows_count version current body more)
+
+-- as many bytes as the bounds of the records that say the current point, and of the last, allow
+more_most : (more rest low one high total : ℕ) → one ≤ low → total ≡ one + (5 + rest)
+    → (5 * more ≤ rest) × (rest ≤ more * (5 + low) + high)
+    → (5 * suc more ≤ total) × (total ≤ suc more * (5 + low) + high)
+more_most more rest low one high total first is within =
+    let step : suc more * (5 + low) ≡ more * (5 + low) + (5 + low) =
+    ap (λ (k : ℕ). k * (5 + low)) (omega arith) ∙ add-mul more 1 (5 + low) ∙ omega arith in
+    (omega (arith, is, within.0), omega (arith, is, first, within.1, step))
+
+rows_most : (version : ℕ) (current : List Track) (body : Body) (low high : ℕ)
+    → length (bytes_by version current (with_point current body)) ≤ low → length (bytes_by version current body) ≤ high
+    → (more : ℕ) → (5 * more ≤ rows_length (bodies_by version current more body))
+    × (rows_length (bodies_by version current more body) ≤ more * (5 + low) + high)
+rows_most version current body low high one last zero = (omega arith, omega (arith, last))
+rows_most version current body low high one last (suc more) =
+    let still = bytes_by version current (with_point current body) in
+    more_most more (rows_length (bodies_by version current more body)) low (length still) high
+    (rows_length (still ∷ bodies_by version current more body)) one (rows_step still version current more body)
+    (rows_most version current body low high one last more)
+
+wholes_most : (current : List Track) (body : Body) (low high : ℕ) → length (spelling (with_point current body)) ≤ low
+    → length (spelling body) ≤ high → (more : ℕ) → (5 * more ≤ whole_by current more body)
+    × (whole_by current more body ≤ more * (5 + low) + high)
+wholes_most current body low high one last zero = (omega arith, omega (arith, last))
+wholes_most current body low high one last (suc more) =
+    more_most more (whole_by current more body) low (length (spelling (with_point current body))) high
+    (whole_by current (suc more) body) one refl (wholes_most current body low high one last more)
 
 module _ {D : Type 0} (s : Core D) where
   pub version_is : AreJournalNumbers s.file s.version s.generation → version_of (form_at s) ≡ s.version
@@ -88,9 +116,30 @@ module _ {D : Type 0} (s : Core D) where
     | inr told ↦ rw told (told_most m next_block next_track src (current_tracks s.history) tag block track ts some is)
   ]
 
-  -- also written out whole
+  -- so are those of records that come together, also written out whole
+  pub lengths_all : (next_block next_track : ℕ) (src : Sources) (m tag block track : ℕ) (ts : List Track) → 0 < m
+      → IsSoundPoint m next_block next_track (current_tracks s.history) → IsSoundPoint m next_block next_track ts
+      → (more n : ℕ) → IsLength s (record { more = more; body = Edit tag block track ts }) n
+      → (5 * more ≤ n) × (n ≤ more * (5 + project_body_most m (meant src (current_tracks s.history)))
+      + project_body_most m (meant src ts))
+  lengths_all next_block next_track src m tag block track ts some now is more n one =
+      let current = current_tracks s.history in
+      let body = Edit tag block track ts in
+      let low = project_body_most m (meant src current) in
+      let high = project_body_most m (meant src ts) in
+      let Within : ℕ → Type 0 = λ k. (5 * more ≤ k) × (k ≤ more * (5 + low) + high) in
+      ⊎_elim
+      (λ whole. subst Within (sym whole) (wholes_most current body low high
+      (record_most m next_block next_track src tag block track current some now)
+      (record_most m next_block next_track src tag block track ts some is) more))
+      (λ told. subst Within (sym told) (rows_most s.version current body low high
+      (bytes_most next_block next_track src m tag block track current some now)
+      (bytes_most next_block next_track src m tag block track ts some is) more))
+      one
+
+  -- of one record
   pub lengths_most : (next_block next_track : ℕ) (src : Sources) (m tag block track : ℕ) (ts : List Track) → 0 < m
-      → IsSoundPoint m next_block next_track ts → (n : ℕ) → IsLength s (Edit tag block track ts) n
+      → IsSoundPoint m next_block next_track ts → (n : ℕ) → IsLength s (single (Edit tag block track ts)) n
       → n ≤ project_body_most m (meant src ts)
   lengths_most next_block next_track src m tag block track ts some is n one = ⊎_elim
       (λ whole. omega (arith, whole, record_most m next_block next_track src tag block track ts some is))

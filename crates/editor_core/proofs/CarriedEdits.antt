@@ -4,6 +4,7 @@ use Rattle.std.proofs.Common.{length, Result, Ok, Err, IfErr, arith}
 use Rattle.pcm_base.specs.declared.refusal.Refusal.{Refusal}
 use Rattle.pcm_base.specs.declared.refusal.Refusal.TheVariants as refusal
 use Rattle.disk_model.specs.declared.store.Store.{Ghosts}
+use Rattle.project_journal.specs.Journal.{rows_length}
 use Rattle.editor_core.specs.Adding.{Adds, IsNoWant}
 use Rattle.editor_core.specs.Core.{Core}
 use Rattle.editor_core.specs.Edits.{Carried, IsPrepared, BlockCommit}
@@ -20,8 +21,9 @@ pub carried_by : {D : Type 0} (disk : Ghosts D) (s mid new : Core D) (c : BlockC
     → Making disk s (batch_of c.given c.makes) (length c.makes) mid
     → disk.read_fault_count mid.store ≡ disk.read_fault_count s.store
     → AreSynced disk (ids_from s.next_block (length c.makes)) mid.store
-    → IsPrepared s (length c.makes) c.tracks (length c.body) → Adds disk mid c.body (length c.body) result new
-    → Adds disk mid c.body c.whole result new → IfErr result IsNoWant
+    → IsPrepared s (length c.makes) c.tracks c.count (rows_length c.bodies)
+    → Adds disk mid c.bodies c.count (rows_length c.bodies) result new
+    → Adds disk mid c.bodies c.count c.whole result new → IfErr result IsNoWant
     → Carried disk s c result new
 carried_by disk s mid new c (Ok done) making reads synced prepared exact adds no_want =
     record { mid = mid; making = making; reads = reads; synced = synced; prepared = prepared; adds = adds }

@@ -1,12 +1,12 @@
 -- How the code carries an edit out, in the words of its laws.
-use Rattle.std.proofs.Common.{◌≡◌, subst, ℕ, ◌+◌, List, [], length, Result}
+use Rattle.std.proofs.Common.{◌≡◌, subst, ℕ, suc, ◌+◌, List, [], length, Result}
 use Rattle.pcm_base.specs.declared.refusal.Refusal.{Refusal}
 use Rattle.disk_model.specs.declared.store.Store.{Ghosts}
 use Rattle.edit_ops.specs.declared.types.NewBlock.{NewBlock}
 use Rattle.project_state.specs.declared.body.Body.{Body}
 use Rattle.project_state.specs.declared.body.Body.TheVariants.{Edit}
 use Rattle.project_state.specs.declared.track.Track.{Track}
-use Rattle.editor_core.specs.Bodies.{body_bytes, whole_len}
+use Rattle.editor_core.specs.Bodies.{Writing, all_bytes, whole_len}
 use Rattle.editor_core.specs.Core.{Core}
 use Rattle.editor_core.specs.Edits.{BlockCommit, Carried, TaggedEdit}
 
@@ -15,14 +15,22 @@ abbrev pub told_point : Body → List Track
 told_point (Edit tag block track point) = point
 told_point body = []
 
--- the commit of an edit, whose record tells this next block
+-- what an edit writes, where its records say this next block
+abbrev pub writes_with : {D : Type 0} → Core D → TaggedEdit → ℕ → Writing
+writes_with s e next = record {
+  more = e.more;
+  body = Edit e.tag next (s.next_track + e.plan.tracks) e.plan.point;
+}
+
+-- the commits of an edit, whose records say this next block
 abbrev pub commit_with : {D : Type 0} → Core D → TaggedEdit → List NewBlock → ℕ → BlockCommit
 commit_with s e makes next = record {
   makes = makes;
   given = e.given;
   tracks = e.plan.tracks;
-  body = body_bytes s (Edit e.tag next (s.next_track + e.plan.tracks) e.plan.point);
-  whole = whole_len (Edit e.tag next (s.next_track + e.plan.tracks) e.plan.point);
+  count = suc e.more;
+  bodies = all_bytes s (writes_with s e next);
+  whole = whole_len s (writes_with s e next);
 }
 
 abbrev pub commit_of : {D : Type 0} → Core D → TaggedEdit → BlockCommit

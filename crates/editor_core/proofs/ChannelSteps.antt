@@ -27,7 +27,7 @@ use Rattle.edit_ops.specs.Plans.{AllNewFrom, AreWritten}
 use Rattle.piece_store.specs.declared.given.Given as brings
 use Rattle.piece_store.specs.Bringing.{brought, brought_count}
 use Rattle.project_state.specs.declared.track.Track.{Track}
-use Rattle.project_state.specs.Kept.{history_blocks, meant, meant_history, meant_track, point_blocks}
+use Rattle.project_state.specs.Kept.{current_tracks, history_blocks, meant, meant_history, meant_track, point_blocks}
 use Rattle.project_state.specs.KeptSound.{IsSoundPoint}
 use Rattle.project_state.proofs.KeptBounds.{all_append}
 use Rattle.project_state.proofs.MeantHistories.{meant_recorded}
@@ -38,7 +38,6 @@ use Rattle.editor_core.specs.Core.{Core}
 use Rattle.editor_core.specs.Edits.{AreAmong, IsEdit, IsPlanned, alone, beside, blocks_with, tagged}
 use Rattle.editor_core.specs.Imports.{AreGrown, HasChannels, IsChannelsPlan, all_of}
 use Rattle.editor_core.specs.Imports.{channels_refusal, left_as, parts_from, total_of}
-use Rattle.editor_core.specs.Points.{current_tracks}
 use Rattle.editor_core.specs.Studios.{IsStudio, clip_blocks, named_blocks, pin_blocks, studio_by}
 use Rattle.editor_core.specs.Took.{Took, with_sound}
 use Rattle.editor_core.proofs.Contained.{among_all, among_itself}
@@ -76,9 +75,9 @@ module _ {D : Type 0} (disk : Ghosts D) (s : Core D) (is : IsStudio disk s) (cha
         ap length (current_is src s.history) ∙ length-map old (meant_track src) in
         tests_are sound s.rate channels st has ∙ ap (λ (k : ℕ). channels_refusal k counts) many
 
-    commit : IsCommitCall call (left_as sound) (length counts)
+    commit : IsCommitCall call (left_as sound) (length counts) 0
     commit = record {
-      one = refl;
+      many = refl;
       no_pin = refl;
       tracks_is = λ rate. ap length (channels_are sound s.rate channels has) ∙ sym (length-map channels length);
       stops = λ o. refl;
@@ -160,7 +159,7 @@ module _ {D : Type 0} (disk : Ghosts D) (s : Core D) (is : IsStudio disk s) (cha
           (pin_blocks s.pins ++ clip_blocks s.clipboard) was_named)
 
       grown_planned : (given : brings.Given) → brought_count given ≡ total_of counts
-          → IsPlanned s (tagged plan_then 0 given)
+          → IsPlanned s (tagged plan_then 0 0 given)
       grown_planned given all =
           let origin : AllNewFrom [] (brought_count given) makes =
           subst (λ (k : ℕ). AllNewFrom [] k makes) (are.brought ∙ sym all) are.origin in
@@ -169,6 +168,7 @@ module _ {D : Type 0} (disk : Ghosts D) (s : Core D) (is : IsStudio disk s) (cha
             readable = all_readable m s.next_block (brought_count given) [] makes tt origin are.new;
             origin = new_from_more [] (named_blocks s) (brought_count given) makes tt origin;
             tag_given = omega arith;
+            tag_counts = λ some. absurd (omega (arith, some));
             sound = point_sound;
             names = point_names;
             used = point_used;
@@ -228,13 +228,13 @@ module _ {D : Type 0} (disk : Ghosts D) (s : Core D) (is : IsStudio disk s) (cha
           ap (λ (k : ℕ). k / m) (are.brought ∙ total_lists channels),
         )
 
-        grown_edit : IsEdit disk s (Line (command.Import name)) (left_as sound) (tagged plan_then 0 given)
+        grown_edit : IsEdit disk s (Line (command.Import name)) (left_as sound) (tagged plan_then 0 0 given)
         grown_edit = record {
           most = λ size state. blocks_of_channels size (channels_of sound);
           call = record {
             commit = commit name sound has;
-            needs = λ rate t blocks len h. h;
-            needed = λ rate t blocks len h. h;
+            needs = λ rate t blocks len h. (h.0, omega (arith, h.2));
+            needed = λ rate t blocks len h. (h.0, omega arith, omega (arith, h.1));
           };
           few = λ block. blocks_few name sound has n few_blocks;
           own = λ block. own_is name sound has (alone block) ∙ pass;
@@ -255,13 +255,13 @@ module _ {D : Type 0} (disk : Ghosts D) (s : Core D) (is : IsStudio disk s) (cha
         clip = sym keeps i;
       }
 
-      pub channels_planned : brought_count given ≡ total_of counts → IsPlanned s (tagged p 0 given)
-      channels_planned all = subst (λ (q : Planned). IsPlanned s (tagged q 0 given)) same
+      pub channels_planned : brought_count given ≡ total_of counts → IsPlanned s (tagged p 0 0 given)
+      channels_planned all = subst (λ (q : Planned). IsPlanned s (tagged q 0 0 given)) same
           (grown_planned plan.grown plan.are given all)
 
       pub channels_edit : (name : List ℕ) (sound : Option (List ℕ)) → HasChannels sound s.rate channels
           → brought given ≡ placed (all_of channels)
-          → IsEdit disk s (Line (command.Import name)) (left_as sound) (tagged p 0 given)
+          → IsEdit disk s (Line (command.Import name)) (left_as sound) (tagged p 0 0 given)
       channels_edit name sound has bring =
-          subst (λ (q : Planned). IsEdit disk s (Line (command.Import name)) (left_as sound) (tagged q 0 given)) same
+          subst (λ (q : Planned). IsEdit disk s (Line (command.Import name)) (left_as sound) (tagged q 0 0 given)) same
           (grown_edit plan.grown plan.are name sound has given bring)

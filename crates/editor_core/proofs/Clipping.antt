@@ -31,7 +31,7 @@ use Rattle.clip_track.specs.declared.items.Item.{Item}
 use Rattle.clip_track.specs.Items.{strip_cells}
 use Rattle.edit_ops.specs.Runs.{longest_of, copy_tests, AreCopies}
 use Rattle.project_state.specs.declared.track.Track.{Track}
-use Rattle.project_state.specs.Kept.{meant_track, history_blocks}
+use Rattle.project_state.specs.Kept.{current_tracks, meant_track, history_blocks}
 use Rattle.project_state.specs.Sound.{AllSoundTracks}
 use Rattle.project_state.specs.Tracks.{track_of}
 use Rattle.project_state.proofs.KeptBounds.{all_append}
@@ -39,7 +39,7 @@ use Rattle.editor_core.specs.declared.copies.RunRange.{RunRange}
 use Rattle.editor_core.specs.Copies.{run_of, Copies, strips_blocks}
 use Rattle.editor_core.specs.Core.{Core}
 use Rattle.editor_core.specs.Occurrences.{HasAll, Moves, times_named}
-use Rattle.editor_core.specs.Points.{current_tracks, lacks}
+use Rattle.editor_core.specs.Points.{lacks}
 use Rattle.editor_core.specs.Reads.{HasLayout}
 use Rattle.editor_core.specs.Studios.{IsClipboard, IsStudio, clip_blocks, pin_blocks, named_blocks, studio_of}
 use Rattle.editor_core.specs.Took.{Took, quietly, silent}
@@ -235,6 +235,6 @@ module _ {D : Type 0} (disk : Ghosts D) (s : Core D) (is : IsStudio disk s) (ran
             let room = room_of disk s line is in
             let passed = quiet_passes t line copy_quiet room refl (ap stop_of going) (tests_are ∙ copies.0)
             (fits s.next_pin 0 (omega (arith, is.counters.pin_most))) in
-            renamed_took disk s is (Some v) s.pins s.next_pin counts copy_renames line copy_quiet tt Copied fewer
+            renamed_took disk s is (Some v) s.pins s.next_pin counts copy_renames line copy_quiet tt tt Copied fewer
             (λ some. absurd (stopped_not s.stopped some going))
             (λ _. carried t line copy_quiet room refl Copied (studio_of disk new) passed refl copy_state)

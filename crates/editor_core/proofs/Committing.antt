@@ -1,7 +1,7 @@
--- A commit whose record is not added: the journal is full, the record too long, there is no memory, or the disk fails.
+-- A commit whose records are not added: the journal is full, the record too long, there is no memory, or the disk fails.
 use Rattle.std.proofs.Common.{◌≡◌, inl, inr, ⊎_elim, refl, sym, ap, subst, ℕ, ◌+◌, ◌-◌, ◌^◌, ◌≤◌, ◌<◌, IsTrue, List}
 use Rattle.std.proofs.Common.{Option, None, Err}
-use Rattle.std.proofs.Common.{length, arith}
+use Rattle.std.proofs.Common.{arith}
 use Rattle.pcm_base.specs.declared.block.BlockRef.{BlockRef}
 use Rattle.pcm_base.specs.declared.command.Call.{Call}
 use Rattle.pcm_base.specs.declared.entry.SoundMove.{SoundMove}
@@ -15,11 +15,10 @@ use Rattle.disk_model.specs.declared.store.Store.{Ghosts}
 use Rattle.disk_model.proofs.Frames.{Fewer, changed_wider}
 use Rattle.sample_block.specs.Sources.{IsWhole}
 use Rattle.clip_track.specs.declared.items.Item.{Item}
-use Rattle.project_state.specs.declared.body.Body.{Body}
 use Rattle.project_state.specs.declared.track.Track.{Track}
 use Rattle.project_state.specs.Kept.{Kept}
 use Rattle.editor_core.specs.Adding.{AddsBody, Exceeds, ExceedsBy, stopped_by}
-use Rattle.editor_core.specs.Bodies.{IsLength, body_bytes, whole_len}
+use Rattle.editor_core.specs.Bodies.{IsLength, Writing, all_len, whole_len}
 use Rattle.editor_core.specs.Core.{Core}
 use Rattle.editor_core.specs.Spent.{WouldMake, kept_of}
 use Rattle.editor_core.specs.Packing.{packed_by}
@@ -31,20 +30,21 @@ use Rattle.editor_core.proofs.Lists.{all_left}
 use Rattle.editor_core.proofs.Leaving.{left_stopped}
 use Rattle.editor_core.proofs.Others.{NoneGoes, others_record}
 use Rattle.editor_core.proofs.Premises.{TookWhere, took_so}
-use Rattle.editor_core.proofs.Removing.{commit_frees, commit_removes_none, ids_same, off_untouched}
+use Rattle.editor_core.proofs.Removing.{commit_frees, commit_leaves_journal, commit_removes_none, ids_same}
+use Rattle.editor_core.proofs.Removing.{off_untouched}
 use Rattle.editor_core.proofs.Sounds.{sources_elsewhere}
 use Rattle.editor_core.proofs.Spaces.{exceeded}
 use Rattle.editor_core.proofs.Spending.{exceeding_needed}
 use Rattle.editor_core.proofs.Staying.{HasMade, record_within, refuses, some_none, stopped_not, wants}
 
 module _ {D : Type 0} {Has : Type 0} {disk : Ghosts D} {s : Core D} {made : List BlockRef} {c : Call}
-    {sound : SoundMove} {tracks : ℕ} {body : Body} {h : History (List Track)} {clip : Option (List (List Item))}
-    {track_then : ℕ} (t : IsTested Has disk s made c sound tracks body h clip track_then) where
+    {sound : SoundMove} {tracks : ℕ} {w : Writing} {h : History (List Track)} {clip : Option (List (List Item))}
+    {track_then : ℕ} (t : IsTested Has disk s made c sound tracks w h clip track_then) where
   abbrev len : ℕ
-  len = length (body_bytes s body)
+  len = all_len s w
 
   -- ---- the disk failed
-  module _ {Q : Type 0} (mid : Core D) (adds : AddsBody {R = Q} disk s body (Err refusal.DiskFault) mid) where
+  module _ {Q : Type 0} (mid : Core D) (adds : AddsBody {R = Q} disk s w (Err refusal.DiskFault) mid) where
     abbrev pub after : Core D
     after = stopped_by disk s mid.store
 
@@ -104,17 +104,17 @@ module _ {D : Type 0} {Has : Type 0} {disk : Ghosts D} {s : Core D} {made : List
       changed =
           changed_wider (others_record s.file s.next_block s.next_block NoneGoes t.is.journal.among)
           (record_within (with_sound c sound (Err refusal.DiskFault)) (disk.reads s.store s.file) s.block_size
-          (s.next_block - s.next_block) len (packed_by s c) t.move.call.one) adds.changed;
+          (s.next_block - s.next_block) len (packed_by s c) t.move.call.many) adds.changed;
     }
 
 -- ---- of a studio that the disk holds
 module _ {D : Type 0} (disk : Ghosts D) (s : Core D) (made : List BlockRef) (c : Call) (sound : SoundMove) (tracks : ℕ)
-    (body : Body) (h : History (List Track)) (clip : Option (List (List Item))) (track_then : ℕ) (is : IsStudio disk s)
+    (w : Writing) (h : History (List Track)) (clip : Option (List (List Item))) (track_then : ℕ) (is : IsStudio disk s)
     (has_made : HasMade (IsHeld disk s) disk s made)
-    (move : IsCommit (IsHeld disk s) disk s made c sound tracks body h clip track_then)
+    (move : IsCommit (IsHeld disk s) disk s made c sound tracks w h clip track_then)
     (going : s.stopped ≡ None) (own : call_tests (outside (studio_of disk s) sound) (studio_of disk s).state c ≡ None)
-    (ids : s.next_track + tracks ≤ 2 ^ 62) (number : s.commit_number < 2 ^ 62) where
-  tested : IsTested (IsHeld disk s) disk s made c sound tracks body h clip track_then
+    (ids : s.next_track + tracks ≤ 2 ^ 62) (number : s.commit_number + w.more < 2 ^ 62) where
+  tested : IsTested (IsHeld disk s) disk s made c sound tracks w h clip track_then
   tested = record {
     is = is;
     holds = λ held. held;
@@ -127,15 +127,15 @@ module _ {D : Type 0} (disk : Ghosts D) (s : Core D) (made : List BlockRef) (c :
   }
 
   abbrev size : ℕ
-  size = length (body_bytes s body)
+  size = all_len s w
 
   -- ---- the journal is full, or the record too long
   -- what it would have made
   abbrev would : WouldMake disk s c sound
   would = record {
-    commit = move.call.one;
+    writes = w;
+    commits = move.call.many;
     blocks = 0;
-    body = body;
     so = inr (
       refl,
       record {
@@ -154,31 +154,31 @@ module _ {D : Type 0} (disk : Ghosts D) (s : Core D) (made : List BlockRef) (c :
     );
   }
 
-  unfit_by : (n : ℕ) → IsLength s body n → (why : Refusal) → Fewer disk s.store → Exceeds s.journal_end n why
+  unfit_by : (n : ℕ) → IsLength s w n → (why : Refusal) → Fewer disk s.store → Exceeds s.journal_end n why
       → Took disk s (with_sound c sound (Err why)) s
   unfit_by n one why fewer over =
-      refuses disk s c sound why is fewer (commit_frees disk s c (Err why) s move.call.one) move.call.quiet n 0
+      refuses disk s c sound why is fewer (commit_frees disk s c (Err why) s move.call.many) move.call.quiet n 0
       (λ held. move.needs held n one)
       (exceeded (studio_of disk s) c sound tracks move.call 0 n is.counters.pin_most
       is.journal.generation_most going own
       (omega (arith, is.counters.block_most)) ids (number_left tested) why over)
       (exceeding_needed disk s c sound would n one why over)
 
-  unfit : (why : Refusal) → Fewer disk s.store → ExceedsBy s.journal_end (whole_len body) size why
+  unfit : (why : Refusal) → Fewer disk s.store → ExceedsBy s.journal_end (whole_len s w) size why
       → Took disk s (with_sound c sound (Err why)) s
   unfit why fewer over =
-      ⊎_elim (unfit_by (whole_len body) (inl refl) why fewer) (unfit_by size (inr refl) why fewer) over
+      ⊎_elim (unfit_by (whole_len s w) (inl refl) why fewer) (unfit_by size (inr refl) why fewer) over
 
   -- ---- what a record that was not added leaves
   pub fails : {Q : Type 0} (why : Refusal) (mid : Core D) → Fewer disk s.store
-      → AddsBody {R = Q} disk s body (Err why) mid → Took disk s (with_sound c sound (Err why)) mid
+      → AddsBody {R = Q} disk s w (Err why) mid → Took disk s (with_sound c sound (Err why)) mid
   fails (refusal.SpaceSpent have need) mid fewer adds =
       let why = refusal.SpaceSpent have need in
       subst (λ (z : Core D). Took disk s (with_sound c sound (Err why)) z) (sym adds.fields.0)
       (unfit why fewer adds.fields.1)
   fails refusal.NoMemory mid fewer adds =
       subst (λ (z : Core D). Took disk s (with_sound c sound (Err refusal.NoMemory)) z) (sym adds.fields)
-      (wants disk s c sound is fewer (commit_removes_none c move.call.one) move.call.quiet size
+      (wants disk s c sound is fewer (commit_removes_none c move.call.many) move.call.quiet size
       (λ held. (0, move.needs held size (inr refl))))
   fails (refusal.RecordLimit n) mid fewer adds =
       let why = refusal.RecordLimit n in
@@ -187,7 +187,8 @@ module _ {D : Type 0} (disk : Ghosts D) (s : Core D) (made : List BlockRef) (c :
   fails refusal.DiskFault mid fewer adds =
       subst (λ (z : Core D). Took disk s (with_sound c sound (Err refusal.DiskFault)) z) (sym adds.fields.0)
       (took_so disk s c sound (Err refusal.DiskFault) (after tested mid adds) (failed tested mid adds)
-      (commit_removes_none c move.call.one) (ids_same s (after tested mid adds) refl refl) tt tt
+      (commit_removes_none c move.call.many) (commit_leaves_journal c move.call.many)
+      (ids_same s (after tested mid adds) refl refl) tt tt
       (off_untouched disk s.store mid.store refusal.DiskFault refl)
       (inr (refl, adds.fields.2, refl)) (left_stopped disk s mid.store adds.fields.2))
   fails why mid fewer adds = absurd adds.fields

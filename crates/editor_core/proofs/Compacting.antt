@@ -25,10 +25,11 @@ use Rattle.project_journal.specs.Journal.{IsAt, Log}
 use Rattle.project_journal.specs.Packing.{AreShort, HasEither, MayPack, OnlyJournals, Tells, pack_room}
 use Rattle.project_state.specs.Kept.{Keeps}
 use Rattle.editor_core.specs.Adding.{HasFailed}
-use Rattle.editor_core.specs.Compacts.{Compacts, packed_core}
+use Rattle.editor_core.specs.Compacts.{Compacts}
 use Rattle.editor_core.specs.Core.{Core, form_at}
 use Rattle.editor_core.specs.Left.{LeavesOthers, MayRemove}
-use Rattle.editor_core.specs.Packing.{packed_log, packed_size, packed_text, points_in}
+use Rattle.editor_core.specs.Packing.{packed_core, packed_log, packed_size, packed_text, points_in}
+use Rattle.editor_core.specs.Removals.{PacksJournal}
 use Rattle.editor_core.specs.Studios.{IsHeld, IsStudio, shown, studio_by, studio_of}
 use Rattle.editor_core.specs.Took.{Took, quietly}
 use Rattle.editor_core.proofs.Images.{keeps_now}
@@ -37,7 +38,7 @@ use Rattle.editor_core.proofs.Packed.{halted_held, halted_studio, keeps_packing,
 use Rattle.editor_core.proofs.Packed.{packed_studio, size_least, still_means, text_size}
 use Rattle.editor_core.proofs.Quiet.{IsQuiet, quiet_follows, refused_by, refused_stopped, refused_wanting, room_of}
 use Rattle.editor_core.proofs.Quiet.{tests_then}
-use Rattle.editor_core.proofs.Removing.{ids_same, no_record, none_given, off_untouched}
+use Rattle.editor_core.proofs.Removing.{ids_same, no_record, none_given, off_untouched, packs_refused}
 use Rattle.editor_core.proofs.Spaces.{fits, spends}
 use Rattle.editor_core.proofs.Staying.{stopped_not}
 use Rattle.editor_core.proofs.StudioCache.{reads_none}
@@ -88,11 +89,6 @@ module _ {D : Type 0} (disk : Ghosts D) (old : Core D) (is : IsStudio disk old) 
   refused why took = record {
     took = took;
     any_moment = λ on held. took.refused on held on;
-    size = tt;
-    alone = λ told. tt;
-    settled = λ keeps. tt;
-    gone = λ told. tt;
-    fields = tt;
   }
 
   pub compact_stopped : (faults : ℕ) → old.stopped ≡ Some faults
@@ -136,11 +132,6 @@ module _ {D : Type 0} (disk : Ghosts D) (old : Core D) (is : IsStudio disk old) 
           (rose, later) (λ told. tt) in record {
             took = took;
             any_moment = λ on held. took.refused on held on;
-            size = tt;
-            alone = λ told. tt;
-            settled = λ keeps. tt;
-            gone = λ told. tt;
-            fields = tt;
           }
 
       -- ---- and then changed
@@ -255,18 +246,13 @@ module _ {D : Type 0} (disk : Ghosts D) (old : Core D) (is : IsStudio disk old) 
                   changed = changed_wider
                       (only_others old.file old.next_block old.next_block (MayRemove call old.counts) is.journal.among)
                       (record { files = omega arith; bytes = omega (arith, size); calls = omega arith }) all_changed;
-                  frees = refl;
+                  frees = (refl, packs_refused disk old refusal.DiskFault halted);
                   ids = ids_same old halted refl refl;
                   untouched = off_untouched disk old.store new refusal.DiskFault refl;
                   stops = inr (refl, failed, refl);
                   left = record { same = refl; so = inr failed };
                 };
                 any_moment = λ _ on. keeps_since on;
-                size = tt;
-                alone = λ told. tt;
-                settled = λ keeps. tt;
-                gone = λ told. tt;
-                fields = tt;
               }
 
         -- ---- the journal is one header
@@ -309,6 +295,22 @@ module _ {D : Type 0} (disk : Ghosts D) (old : Core D) (is : IsStudio disk old) 
               packed_state disk old is going new (length (packed_text old)) all_changed later history rate short there
               other (packs.read_faults ∙ reads) (changes ∙ kept.same_faults)
 
+          -- what it leaves of the journal's files
+          packs_so : (bytes : ℕ) → bytes ≡ length (packed_text old) + 1
+              → PacksJournal disk old (Ok (Packed bytes)) after
+          packs_so bytes answer =
+              let size : bytes ≡ length (1 ∷ packed_text old) = omega (arith, answer) in record {
+                size = ap Packed size;
+                alone = λ told. alone (still_told told) (other_mid (still_told told));
+                settled = λ keeps c here.
+                    let model : IsTrue (disk.keeps_model new) = subst IsTrue (sym all_changed.model) keeps in
+                    let honest = stays model in
+                    let told : IsTrue (disk.tells store) = subst IsTrue changed.tells honest.0 in
+                    one c (disk.reads new) here honest.1 ∙ alone told (other_mid told);
+                gone = λ told c here. durable c here ∙ gone (still_told told);
+                fields = refl;
+              }
+
           pub compact_done : (bytes : ℕ) → bytes ≡ length (packed_text old) + 1 → Compacts disk old (Ok bytes) after
           compact_done bytes answer =
               let size = text_size old in
@@ -344,20 +346,11 @@ module _ {D : Type 0} (disk : Ghosts D) (old : Core D) (is : IsStudio disk old) 
                   changed = changed_wider
                       (only_others old.file old.next_block old.next_block (MayRemove call old.counts) is.journal.among)
                       (record { files = omega arith; bytes = omega (arith, size); calls = omega arith }) all_changed;
-                  frees = refl;
+                  frees = (refl, packs_so bytes answer);
                   ids = ids_same old after refl refl;
                   untouched = tt;
                   stops = inl (refl, changes ∙ kept.same_faults);
                   left = tt;
                 };
                 any_moment = λ _ on. keeps_since on;
-                size = omega (arith, answer);
-                alone = λ told. alone (still_told told) (other_mid (still_told told));
-                settled = λ keeps c here.
-                    let model : IsTrue (disk.keeps_model new) = subst IsTrue (sym all_changed.model) keeps in
-                    let honest = stays model in
-                    let told : IsTrue (disk.tells store) = subst IsTrue changed.tells honest.0 in
-                    one c (disk.reads new) here honest.1 ∙ alone told (other_mid told);
-                gone = λ told c here. durable c here ∙ gone (still_told told);
-                fields = refl;
               }

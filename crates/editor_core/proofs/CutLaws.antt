@@ -22,7 +22,7 @@ use Rattle.edit_ops.specs.Plans.{Start}
 use Rattle.edit_ops.specs.Runs.{AllTracksHalfFull, AreCuts, copy_tests, longest_of, start_behind}
 use Rattle.envelope_view.specs.Answers.{IsUndamaged}
 use Rattle.project_state.specs.declared.track.Track.{Track}
-use Rattle.project_state.specs.Kept.{meant, meant_track, point_blocks}
+use Rattle.project_state.specs.Kept.{current_tracks, meant, meant_track, point_blocks}
 use Rattle.project_state.specs.Sound.{AllSoundTracks}
 use Rattle.project_state.specs.Tracks.{AreAbove, track_of}
 use Rattle.editor_core.specs.Copies.{run_of, strips_blocks}
@@ -30,7 +30,7 @@ use Rattle.editor_core.specs.declared.copies.RunRange.{RunRange}
 use Rattle.editor_core.specs.Core.{Core}
 use Rattle.editor_core.specs.Cuts.{NoCutPlan, cut_refusal}
 use Rattle.editor_core.specs.Edits.{AreAmong}
-use Rattle.editor_core.specs.Points.{current_tracks, lacks}
+use Rattle.editor_core.specs.Points.{lacks}
 use Rattle.editor_core.specs.Studios.{IsStudio}
 use Rattle.editor_core.proofs.Copying.{from_sound, from_track, items_few, layout_of}
 use Rattle.editor_core.proofs.Copying.{longest_is, run_is, run_meant}

@@ -24,11 +24,11 @@ use Rattle.project_state.specs.Tracks.{track_of}
 use Rattle.pcm_base.specs.declared.edits.Removing.{Removing}
 use Rattle.pcm_base.specs.declared.edits.Removing.TheVariants.{Close, Leave}
 use Rattle.pcm_base.specs.Edits.{removed}
+use Rattle.project_state.specs.Kept.{current_tracks}
 use Rattle.editor_core.specs.declared.copies.RunRange.{RunRange}
 use Rattle.editor_core.specs.Core.{Core}
 use Rattle.editor_core.specs.Cuts.{NoCutPlan, cut_line, cut_refusal}
 use Rattle.editor_core.specs.Edits.{IsEditCall, alone}
-use Rattle.editor_core.specs.Points.{current_tracks}
 use Rattle.editor_core.specs.Studios.{IsStudio, studio_by, studio_of}
 use Rattle.editor_core.specs.Took.{Took, quietly, silent}
 use Rattle.editor_core.proofs.Editing.{current_sound}
@@ -40,10 +40,10 @@ use Rattle.editor_core.proofs.CutLaws.{run_tests_are}
 use Rattle.editor_core.proofs.Spending.{early_needed}
 
 pub cut_call : (e : Removing) (range : RunRange)
-    → IsEditCall (Line (cut_line e range)) silent 0 (λ m st. blocks_of_tracks range.count)
+    → IsEditCall (Line (cut_line e range)) silent 0 0 (λ m st. blocks_of_tracks range.count)
 cut_call Close range = record {
   commit = record {
-    one = refl;
+    many = refl;
     no_pin = refl;
     tracks_is = λ rate. refl;
     stops = λ o. refl;
@@ -53,12 +53,12 @@ cut_call Close range = record {
     quiet = refl;
     done = λ rate s. refl;
   };
-  needs = λ rate t blocks len h. h;
-  needed = λ rate t blocks len h. h;
+  needs = λ rate t blocks len h. (h.0, omega (arith, h.2));
+  needed = λ rate t blocks len h. (h.0, omega arith, omega (arith, h.1));
 }
 cut_call Leave range = record {
   commit = record {
-    one = refl;
+    many = refl;
     no_pin = refl;
     tracks_is = λ rate. refl;
     stops = λ o. refl;
@@ -68,8 +68,8 @@ cut_call Leave range = record {
     quiet = refl;
     done = λ rate s. refl;
   };
-  needs = λ rate t blocks len h. h;
-  needed = λ rate t blocks len h. h;
+  needs = λ rate t blocks len h. (h.0, omega (arith, h.2));
+  needed = λ rate t blocks len h. (h.0, omega arith, omega (arith, h.1));
 }
 
 -- the own tests of both lines
@@ -139,8 +139,8 @@ module _ {D : Type 0} (disk : Ghosts D) (s : Core D) (is : IsStudio disk s) (e :
       let own = own_is (samples_on (disk.reads s.store)) in
       let first : ((stop_of s.stopped) otherwise (call_tests (outside t silent) t.state line)) ≡ Some why =
       (λ i. (stop_of s.stopped) otherwise (own i)) ∙ h in
-      refuses disk s line silent why is fewer (commit_frees disk s line (Err why) s call.commit.one) refl 0 0
-      (λ held. call.needs t.rate t 0 0 (omega arith, omega arith))
+      refuses disk s line silent why is fewer (commit_frees disk s line (Err why) s call.commit.many) refl 0 0
+      (λ held. call.needs t.rate t 0 0 (omega arith, omega arith, omega arith))
       (early t line silent 0 call.commit 0 0 why first) (early_needed disk s line silent why first)
 
   pub cut_stopped : (faults : ℕ) → s.stopped ≡ Some faults → Took disk s (quietly line (Err (refusal.Stopped faults))) s
@@ -153,6 +153,6 @@ module _ {D : Type 0} (disk : Ghosts D) (s : Core D) (is : IsStudio disk s) (e :
       (λ own. early_refused why ((λ i. (stop_of (going i)) otherwise (cut_refusal range old)) ∙ own))
       (λ memory.
       subst (λ (r : Refusal). Took disk s (quietly line (Err r)) s) (sym memory)
-      (wants disk s line silent is fewer (commit_removes_none line (cut_call e range).commit.one) refl 0
-      (λ held. (0, (cut_call e range).needs t.rate t 0 0 (omega arith, omega arith)))))
+      (wants disk s line silent is fewer (commit_removes_none line (cut_call e range).commit.many) refl 0
+      (λ held. (0, (cut_call e range).needs t.rate t 0 0 (omega arith, omega arith, omega arith)))))
       not

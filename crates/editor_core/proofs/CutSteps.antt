@@ -27,7 +27,7 @@ use Rattle.edit_ops.specs.Plans.{AreWritten}
 use Rattle.edit_ops.specs.Runs.{AreCopies, AreCuts, copy_tests}
 use Rattle.piece_store.specs.declared.given.Given.TheVariants.{Nothing}
 use Rattle.project_state.specs.declared.track.Track.{Track}
-use Rattle.project_state.specs.Kept.{meant, meant_history, point_blocks}
+use Rattle.project_state.specs.Kept.{current_tracks, meant, meant_history, point_blocks}
 use Rattle.project_state.specs.KeptSound.{IsSoundPoint}
 use Rattle.project_state.specs.Tracks.{track_of}
 use Rattle.project_state.proofs.MeantHistories.{meant_recorded}
@@ -39,7 +39,7 @@ use Rattle.editor_core.specs.Core.{Core}
 use Rattle.editor_core.specs.Cuts.{IsCutPlan, cut_line}
 use Rattle.editor_core.specs.Edits.{AreAmong, IsEdit, IsEditCall, IsPlanned, alone, blocks_with, clip_behind, clip_then}
 use Rattle.editor_core.specs.Edits.{tagged}
-use Rattle.editor_core.specs.Points.{current_tracks, lacks}
+use Rattle.editor_core.specs.Points.{lacks}
 use Rattle.editor_core.specs.Reads.{HasLayout}
 use Rattle.editor_core.specs.Studios.{IsClipboard, IsStudio, clip_cells, named_blocks, studio_by}
 use Rattle.editor_core.specs.Took.{silent}
@@ -140,7 +140,7 @@ module _ {D : Type 0} (disk : Ghosts D) (s : Core D) (is : IsStudio disk s) (e :
     behind : clip_behind s planned ≡ Some v
     behind = ap (λ (z : Option (List (List Item))). clip_then z s.clipboard) p.clip_is
 
-    pub cut_planned : IsPlanned s (tagged planned 0 Nothing)
+    pub cut_planned : IsPlanned s (tagged planned 0 0 Nothing)
     cut_planned =
         run_planned disk s is id found.0 found.1 xs old_named (current_may_read disk s is)
         (each_so n f) p.plans laid planned p.laid none (Some v) behind v_named v_few clipboard
@@ -202,10 +202,10 @@ module _ {D : Type 0} (disk : Ghosts D) (s : Core D) (is : IsStudio disk s) (e :
             commit = s.commit_number + 1;
           })
 
-    pub cut_edit : IsEdit disk s line silent (tagged planned 0 Nothing)
+    pub cut_edit : IsEdit disk s line silent (tagged planned 0 0 Nothing)
     cut_edit = record {
       most = λ m st. blocks_of_tracks n;
-      call = subst (λ (k : ℕ). IsEditCall line silent k (λ m st. blocks_of_tracks n)) (sym none) (cut_call e range);
+      call = subst (λ (k : ℕ). IsEditCall line silent k 0 (λ m st. blocks_of_tracks n)) (sym none) (cut_call e range);
       few = λ block. few_made;
       own = λ block. own_is disk s is e range fewer block ∙ p.tests;
       means = means;

@@ -1,5 +1,6 @@
 -- An edit that makes blocks: what its plan says of the studio with the blocks made, and its commit.
-use Rattle.std.proofs.Common.{◌≡◌, inr, refl, sym, ap, ◌∙◌, subst, ℕ, ◌+◌, ◌^◌, ◌≤◌, ◌<◌, ℤ, Option, None, List, ◌++◌}
+use Rattle.std.proofs.Common.{◌≡◌, inr, refl, sym, ap, ◌∙◌, subst, ℕ, suc, ◌+◌, ◌*◌, ◌^◌, ◌≤◌, ◌<◌, ℤ, Option, None}
+use Rattle.std.proofs.Common.{List, ◌++◌}
 use Rattle.std.proofs.Common.{length, arith}
 use Rattle.std.specs.List.{AllByRecursion}
 use Rattle.std.proofs.lemmas.List.{take_all}
@@ -26,11 +27,11 @@ use Rattle.piece_store.specs.Bringing.{brought, brought_count}
 use Rattle.project_state.specs.declared.body.Body.{Body}
 use Rattle.project_state.specs.declared.body.Body.TheVariants.{Edit}
 use Rattle.project_state.specs.declared.track.Track.{Track}
-use Rattle.project_state.specs.Kept.{Kept, before_of, meant, point_blocks, history_blocks}
+use Rattle.project_state.specs.Kept.{current_tracks, Kept, before_of, meant, point_blocks, history_blocks}
 use Rattle.project_state.specs.KeptSound.{IsSoundPoint, IsSoundTagged}
 use Rattle.project_state.specs.Sound.{AllSoundTracks, IsSound}
 use Rattle.project_state.proofs.KeptBounds.{all_append, tagged_more}
-use Rattle.editor_core.specs.Bodies.{IsLength}
+use Rattle.editor_core.specs.Bodies.{IsLength, Writing}
 use Rattle.editor_core.specs.Core.{Core}
 use Rattle.editor_core.specs.Edits.{IsEdit, IsPlanned, alone, beside, blocks_with, TaggedEdit, clip_behind}
 use Rattle.editor_core.specs.Edits.{history_behind}
@@ -41,8 +42,8 @@ use Rattle.editor_core.specs.Studios.{IsGiven, IsHeld, IsStudio, clip_blocks, na
 use Rattle.editor_core.specs.Studios.{studio_of}
 use Rattle.editor_core.proofs.Bounds.{few_more}
 use Rattle.editor_core.proofs.Contained.{among_all}
-use Rattle.editor_core.proofs.BodyBytes.{lengths_most}
-use Rattle.editor_core.proofs.Editing.{counts_named, may_come}
+use Rattle.editor_core.proofs.BodyBytes.{lengths_all}
+use Rattle.editor_core.proofs.Editing.{counts_named, current_sound, may_all}
 use Rattle.editor_core.proofs.Flights.{IsCommit, Matches}
 use Rattle.editor_core.proofs.Lists.{all_left, all_so}
 use Rattle.editor_core.proofs.MadeCommits.{has_made}
@@ -85,8 +86,11 @@ module _ {D : Type 0} (disk : Ghosts D) (s : Core D) (is : IsStudio disk s) (goi
   abbrev track_then : ℕ
   track_then = s.next_track + tracks
 
-  abbrev pub edit_body : Body
+  abbrev edit_body : Body
   edit_body = Edit tag (s.next_block + n) track_then point
+
+  abbrev pub writes : Writing
+  writes = record { more = e.more; body = edit_body }
 
   abbrev pub edit_history : History (List Track)
   edit_history = history_behind s e
@@ -140,14 +144,14 @@ module _ {D : Type 0} (disk : Ghosts D) (s : Core D) (is : IsStudio disk s) (goi
   clip_covers_then P all = among_all P (blocks_with s makes) (clip_blocks clip) plan.clip_names all
 
   pub points_then : AllByRecursion
-      (IsSoundTagged s.block_size (s.next_block + n) track_then (s.commit_number + 1)) edit_history.points
+      (IsSoundTagged s.block_size (s.next_block + n) track_then (s.commit_number + suc e.more)) edit_history.points
   points_then =
       let Here : List Track × ℕ → Type 0 =
-      IsSoundTagged s.block_size (s.next_block + n) track_then (s.commit_number + 1) in
+      IsSoundTagged s.block_size (s.next_block + n) track_then (s.commit_number + suc e.more) in
       let Was : List Track × ℕ → Type 0 = IsSoundTagged s.block_size s.next_block s.next_track s.commit_number in
       let old = all_so Was Here
       (λ q h. tagged_more s.block_size s.next_block s.next_track s.commit_number (s.next_block + n) track_then
-      (s.commit_number + 1) q (omega arith) (omega arith) (omega arith) h) s.history.points is.points in
+      (s.commit_number + suc e.more) q (omega arith) (omega arith) (omega arith) h) s.history.points is.points in
       let tags = all_so Was (λ (q : List Track × ℕ). q.1 ≤ s.commit_number) (λ q h. h.1) s.history.points is.points in
       all_recorded s.history point tag Here old (plan.sound, omega (arith, plan.tag_given)) (
         plan.sound,
@@ -173,16 +177,29 @@ module _ {D : Type 0} (disk : Ghosts D) (s : Core D) (is : IsStudio disk s) (goi
         ap current (edit.means block written) ∙ current_is (alone block) edit_history
         ∙ ap (meant (alone block)) (recorded_current s.history point tag is.format.depth_least)
 
-    short_by : (len : ℕ) → IsLength s edit_body len → (block : ℕ → ℕ → ℤ)
-        → AreWritten (beside block (brought given)) makes
-        → len ≤ project_body_most s.block_size (project_then (by block))
-    short_by len one block written =
-        subst (λ (q : Project). len ≤ project_body_most s.block_size q) (sym (then_meant block written))
-        (lengths_most s (s.next_block + n) track_then (alone block) s.block_size tag (s.next_block + n) track_then point
-        (omega (arith, is.format.block_least)) plan.sound len one)
+    -- the records are no longer than they may be, as a studio has it
+    abbrev ShortBy : ℕ → model.Studio → Type 0
+    ShortBy len u = (5 * e.more ≤ len) × (len ≤ e.more * (5 + project_body_most s.block_size (current u.state))
+        + project_body_most s.block_size (project_then u))
 
-    -- The record is as short as the call needs, also where the blocks are not made: it does not hang on samples.
-    short : (len : ℕ) → IsLength s edit_body len → len ≤ project_body_most s.block_size (project_then t)
+    now_sound : IsSoundPoint s.block_size (s.next_block + n) track_then (current_tracks s.history)
+    now_sound = (tagged_more s.block_size s.next_block s.next_track 0 (s.next_block + n) track_then 0
+        (current_tracks s.history, 0) (omega arith) (omega arith) (omega arith)
+        (current_sound disk s is, omega arith)).0
+
+    short_by : (len : ℕ) → IsLength s writes len → (block : ℕ → ℕ → ℤ)
+        → AreWritten (beside block (brought given)) makes → ShortBy len (by block)
+    short_by len one block written =
+        subst (λ (p : Project). (5 * e.more ≤ len) × (len ≤ e.more * (5 + project_body_most s.block_size p)
+        + project_body_most s.block_size (project_then (by block)))) (sym (current_is (alone block) s.history))
+        (subst (λ (q : Project). (5 * e.more ≤ len)
+        × (len ≤ e.more * (5 + project_body_most s.block_size (meant (alone block) (current_tracks s.history)))
+        + project_body_most s.block_size q)) (sym (then_meant block written))
+        (lengths_all s (s.next_block + n) track_then (alone block) s.block_size tag (s.next_block + n) track_then point
+        (omega (arith, is.format.block_least)) now_sound plan.sound e.more len one))
+
+    -- The records are as short as the call needs, also where the blocks are not made: it does not hang on samples.
+    short : (len : ℕ) → IsLength s writes len → ShortBy len t
     short len one =
         let old = samples_on (disk.reads s.store) in
         let new = supposed old (brought given) s.next_block makes in
@@ -193,12 +210,12 @@ module _ {D : Type 0} (disk : Ghosts D) (s : Core D) (is : IsStudio disk s) (goi
         let same = same_by old new disk s
         (all_so (λ (b : BlockRef). b.id < s.next_block) (λ (b : BlockRef). new b.id ≡ old b.id)
         (λ b low. old_same old (brought given) s.next_block makes b.id low) (named_blocks s) below) in
-        subst (λ (u : model.Studio). len ≤ project_body_most s.block_size (project_then u)) same
-        (short_by len one new written)
+        subst (ShortBy len) same (short_by len one new written)
 
-    pub edit_needs : (len : ℕ) → IsLength s edit_body len → (k : ℕ) → k ≤ n → Needs (outside t sound) t c k len
+    pub edit_needs : (len : ℕ) → IsLength s writes len → (k : ℕ) → k ≤ n → Needs (outside t sound) t c k len
     edit_needs len one k le =
-        edit.call.needs t.rate t k len (omega (arith, le, edit.few (samples_on (disk.reads s.store))), short len one)
+        let few = short len one in
+        edit.call.needs t.rate t k len (omega (arith, le, edit.few (samples_on (disk.reads s.store))), few.0, few.1)
 
     pub edit_own : call_tests (outside t sound) t.state c ≡ None
     edit_own = edit.own (samples_on (disk.reads s.store))
@@ -227,8 +244,10 @@ module _ {D : Type 0} (disk : Ghosts D) (s : Core D) (is : IsStudio disk s) (goi
             subst (AreWritten (beside (samples_on (disk.reads store)) (brought given)))
             (take_all n makes (omega arith)) first
 
-        sound_then : (m : ℕ) (k : Kept) → Matches grown m k → IsSound m (before_of k) edit_body
-        sound_then m k e = record {
+        sound_then : (m : ℕ) (k : Kept) → Matches grown m k → (ts : List Track)
+            → IsSoundPoint s.block_size (s.next_block + n) track_then ts
+            → IsSound m (before_of k) (Edit tag (s.next_block + n) track_then ts)
+        sound_then m k e ts sound = record {
           tag_number = omega (arith, plan.tag_given, is.counters.commit_most);
           tag_given = omega (arith, plan.tag_given, e.commit);
           block_least = omega (arith, is.counters.block_least);
@@ -237,24 +256,25 @@ module _ {D : Type 0} (disk : Ghosts D) (s : Core D) (is : IsStudio disk s) (goi
           track_least = omega (arith, is.counters.track_least);
           track_most = ids;
           track_later = omega (arith, e.next_track);
-          few = plan.sound.few;
-          rising = plan.sound.rising;
-          sound = subst (λ (b : ℕ). AllSoundTracks b (s.next_block + n) track_then point)
-              (sym e.block_size) plan.sound.sound;
+          few = sound.few;
+          rising = sound.rising;
+          sound = subst (λ (b : ℕ). AllSoundTracks b (s.next_block + n) track_then ts) (sym e.block_size) sound.sound;
         }
 
-        pub move : IsCommit (IsHeld disk s) disk grown made c sound tracks edit_body edit_history clip track_then
+        pub move : IsCommit (IsHeld disk s) disk grown made c sound tracks writes edit_history clip track_then
         move = record {
           call = edit.call.commit;
           gives = refl;
           block_then = λ k. s.next_block + n;
           block_most = λ k le. omega arith;
-          next = λ m k e room. may_come disk grown grown_is m k edit_body e room (sound_then m k e) tt;
-          leads = λ m k e. λ i. record {
-            history = recorded (e.history i) point tag;
+          tells = λ m k at room. may_all disk grown grown_is m k tag (s.next_block + n) track_then point e.more at room
+              plan.tag_counts (sound_then m k at (current_tracks s.history) now_sound)
+              (sound_then m k at point plan.sound);
+          leads = λ m k at. λ i. record {
+            history = recorded (at.history i) point tag;
             next_block = s.next_block + n;
             next_track = track_then;
-            commit = k.commit + 1;
+            commit = k.commit + suc e.more;
           };
           covers = covers_then;
           clip_covers = clip_covers_then;
@@ -266,8 +286,8 @@ module _ {D : Type 0} (disk : Ghosts D) (s : Core D) (is : IsStudio disk s) (goi
           says = (refl, refl, sym (recorded_current s.history point tag is.format.depth_least));
           model = λ held. edit.means (samples_on (disk.reads store)) (written held);
           needs = λ held len one.
-              edit.call.needs (studio_of disk grown).rate (studio_of disk grown) 0 len
-              (omega arith, short_by len one (samples_on (disk.reads store)) (written held));
+              let few = short_by len one (samples_on (disk.reads store)) (written held) in
+              edit.call.needs (studio_of disk grown).rate (studio_of disk grown) 0 len (omega arith, few.0, few.1);
         }
 
         pub grown_own : call_tests (outside (studio_of disk grown) sound) (studio_of disk grown).state c ≡ None

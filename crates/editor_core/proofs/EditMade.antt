@@ -1,5 +1,5 @@
 -- An edit whose blocks are made: what is left is one commit, and the call from there is the call from the start.
-use Rattle.std.proofs.Common.{◌≡◌, inr, refl, subst, ℕ, ◌+◌, ◌≤◌, Option, None}
+use Rattle.std.proofs.Common.{◌≡◌, inr, refl, subst, ℕ, suc, ◌+◌, ◌≤◌, Option, None}
 use Rattle.std.proofs.Common.{List, [], length, Result, IfErr, arith}
 use Rattle.std.specs.Prelude.{IfOk}
 use Rattle.pcm_base.specs.declared.answer.Reply.{Reply}
@@ -7,7 +7,7 @@ use Rattle.pcm_base.specs.declared.answer.Reply.TheVariants.{Done}
 use Rattle.pcm_base.specs.declared.command.Call.{Call}
 use Rattle.pcm_base.specs.declared.entry.SoundMove.{SoundMove}
 use Rattle.pcm_base.specs.declared.refusal.Refusal.{Refusal}
-use Rattle.pcm_base.specs.Counters.{EditNeeds, Needs}
+use Rattle.pcm_base.specs.Counters.{Needs, RecordsNeed}
 use Rattle.pcm_base.specs.History.{History}
 use Rattle.pcm_base.specs.Refusals.{call_tests}
 use Rattle.pcm_base.specs.Run.{Answers, CarriesOut, followed, outside, refusal_of}
@@ -18,10 +18,9 @@ use Rattle.block_ledger.specs.Counts.{Counts}
 use Rattle.clip_track.specs.declared.items.Item.{Item}
 use Rattle.edit_ops.specs.declared.types.NewBlock.{NewBlock}
 use Rattle.piece_store.specs.declared.given.Given as brings
-use Rattle.project_state.specs.declared.body.Body.{Body}
 use Rattle.project_state.specs.declared.body.Body.TheVariants.{Edit}
 use Rattle.project_state.specs.declared.track.Track.{Track}
-use Rattle.editor_core.specs.Bodies.{body_bytes}
+use Rattle.editor_core.specs.Bodies.{Writing, all_bytes, all_len}
 use Rattle.editor_core.specs.Core.{Core}
 use Rattle.editor_core.specs.Edits.{IsEdit, IsPlanned, IsPrepared, TaggedEdit, clip_behind}
 use Rattle.editor_core.specs.Edits.{history_behind}
@@ -37,7 +36,7 @@ use Rattle.editor_core.proofs.Flights.{IsCommit, IsTested}
 use Rattle.editor_core.proofs.MadeCommits.{composed}
 use Rattle.editor_core.proofs.MadeStudios.{made_state, refs}
 use Rattle.editor_core.proofs.Premises.{TookWhere}
-use Rattle.editor_core.proofs.Removing.{commit_removes_none}
+use Rattle.editor_core.proofs.Removing.{commit_leaves_journal, commit_removes_none}
 use Rattle.editor_core.proofs.Spaces.{nothing}
 use Rattle.editor_core.proofs.Staying.{HasMade}
 
@@ -73,19 +72,22 @@ module _ {D : Type 0} (disk : Ghosts D) (s : Core D) (is : IsStudio disk s) (goi
   abbrev track_then : ℕ
   track_then = s.next_track + tracks
 
-  abbrev told_body : Body
-  told_body = Edit tag (s.next_block + n) track_then point
+  abbrev writes : Writing
+  writes = record { more = e.more; body = Edit tag (s.next_block + n) track_then point }
 
-  abbrev body : List ℕ
-  body = body_bytes s told_body
+  abbrev bodies : List (List ℕ)
+  bodies = all_bytes s writes
+
+  abbrev len : ℕ
+  len = all_len s writes
 
   abbrev t : model.Studio
   t = studio_of disk s
 
-  pub need : (k : ℕ) → k ≤ n → Needs (outside t sound) t c k (length body)
-  need = edit_needs disk s is going e plan c sound edit (length body) (inr refl)
+  pub need : (k : ℕ) → k ≤ n → Needs (outside t sound) t c k len
+  need = edit_needs disk s is going e plan c sound edit len (inr refl)
 
-  module _ (prepared : IsPrepared s n tracks (length body)) (store : D) (counts : Counts)
+  module _ (prepared : IsPrepared s n tracks (suc e.more) len) (store : D) (counts : Counts)
       (making : Making disk s (batch_of given makes) n
       (record s { store = store; counts = counts; next_block = s.next_block + n }))
       (reads : disk.read_fault_count store ≡ disk.read_fault_count s.store)
@@ -101,7 +103,7 @@ module _ {D : Type 0} (disk : Ghosts D) (s : Core D) (is : IsStudio disk s) (goi
     mid_made = grown_made disk s is going e plan c sound edit store counts making
         prepared.blocks prepared.ids synced
 
-    mid_move : IsCommit (IsHeld disk s) disk mid (refs makes) c sound tracks told_body h clip track_then
+    mid_move : IsCommit (IsHeld disk s) disk mid (refs makes) c sound tracks writes h clip track_then
     mid_move = move disk s is going e plan c sound edit store counts making
         prepared.blocks prepared.ids
 
@@ -110,7 +112,7 @@ module _ {D : Type 0} (disk : Ghosts D) (s : Core D) (is : IsStudio disk s) (goi
         prepared.blocks prepared.ids
 
     -- the commit that is left, where the disk held the studio before the first block
-    pub mid_tested : IsTested (IsHeld disk s) disk mid (refs makes) c sound tracks told_body h clip track_then
+    pub mid_tested : IsTested (IsHeld disk s) disk mid (refs makes) c sound tracks writes h clip track_then
     mid_tested = record {
       is = mid_is;
       holds = grown_held disk s is going e plan c sound edit store counts making
@@ -120,7 +122,7 @@ module _ {D : Type 0} (disk : Ghosts D) (s : Core D) (is : IsStudio disk s) (goi
       going = going;
       own = mid_own;
       ids = prepared.ids;
-      number = prepared.number;
+      number = omega (arith, prepared.number);
     }
 
     pub mid_state : IsHeld disk s
@@ -135,20 +137,20 @@ module _ {D : Type 0} (disk : Ghosts D) (s : Core D) (is : IsStudio disk s) (goi
         let most = edit.most in
         let at = edit.call.needed (studio_of disk mid).rate (studio_of disk mid) blocks len needs in
         edit.call.needs t.rate t blocks len
-        (subst (λ (u : model.Studio). EditNeeds (most u.block_size u.state) (outside u sound) u c blocks len)
+        (subst (λ (u : model.Studio). RecordsNeed e.more (most u.block_size u.state) (outside u sound) u c blocks len)
         (mid_state held) at)
 
-    pub passes : refusal_of (outside t sound) t c n (length body) ≡ None
+    pub passes : refusal_of (outside t sound) t c n len ≡ None
     passes =
         let own = edit_own disk s is going e plan c sound edit in
-        nothing t c sound tracks edit.call.commit n (length body) is.counters.pin_most
+        nothing t c sound tracks edit.call.commit n len is.counters.pin_most
         is.journal.generation_most going own prepared.blocks
-        prepared.ids (omega (arith, prepared.number)) prepared.place prepared.short
+        prepared.ids prepared.number prepared.place prepared.short
 
-    carried_out : CarriesOut t c sound Done (followed (outside t sound) t c n (length body))
+    carried_out : CarriesOut t c sound Done (followed (outside t sound) t c n len)
     carried_out = record {
       blocks = n;
-      len = length body;
+      len = len;
       needs = need n (omega arith);
       passed = passes;
       answers = edit.call.commit.done t.rate t.state;
@@ -166,5 +168,6 @@ module _ {D : Type 0} (disk : Ghosts D) (s : Core D) (is : IsStudio disk s) (goi
     from_start told_as new took next step ids named needed untouched stops left =
         composed disk s is given makes going plan.new prepared.blocks
         (pieces_there disk s is going e plan) c sound mid making
-        told_as new took next back (λ held. (length body, carried_out)) step
-        (commit_removes_none c edit.call.commit.one) ids named needed untouched stops left
+        told_as new took next back (λ held. (len, carried_out)) step
+        (commit_removes_none c edit.call.commit.many) (commit_leaves_journal c edit.call.commit.many) ids named needed
+        untouched stops left

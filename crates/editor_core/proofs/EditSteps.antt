@@ -1,5 +1,5 @@
 -- An edit that makes blocks, as one step: its record was added, or was not, or nothing was prepared.
-use Rattle.std.proofs.Common.{◌≡◌, ◌↔◌, inl, inr, ⊎_elim, refl, sym, ap, ◌∙◌, subst, ℕ, ◌+◌, IsSome, Option, None}
+use Rattle.std.proofs.Common.{◌≡◌, ◌↔◌, inl, inr, ⊎_elim, refl, sym, ap, ◌∙◌, subst, ℕ, suc, ◌+◌, IsSome, Option, None}
 use Rattle.std.proofs.Common.{List, ◌++◌, length, Ok, Err, arith}
 use Rattle.pcm_base.specs.declared.answer.Reply.TheVariants.{Done}
 use Rattle.pcm_base.specs.declared.command.Call.{Call}
@@ -15,12 +15,11 @@ use Rattle.block_ledger.specs.Counts.{Counts, IsFreshCount}
 use Rattle.clip_track.specs.declared.items.Item.{Item}
 use Rattle.edit_ops.specs.declared.types.NewBlock.{NewBlock}
 use Rattle.piece_store.specs.declared.given.Given as brings
-use Rattle.project_state.specs.declared.body.Body.{Body}
 use Rattle.project_state.specs.declared.body.Body.TheVariants.{Edit}
 use Rattle.project_state.specs.declared.track.Track.{Track}
-use Rattle.project_state.specs.Kept.{history_blocks}
+use Rattle.project_state.specs.Kept.{current_tracks, history_blocks}
 use Rattle.editor_core.specs.Adding.{Adds, AddsBody, stopped_by}
-use Rattle.editor_core.specs.Bodies.{body_bytes, whole_len}
+use Rattle.editor_core.specs.Bodies.{Writing, all_bytes, all_len, whole_len}
 use Rattle.editor_core.specs.Core.{Core}
 use Rattle.editor_core.specs.Edits.{Carried, Committed, IsEdit, IsPlanned, IsPrepared, TaggedEdit, clip_behind}
 use Rattle.editor_core.specs.Edits.{history_behind}
@@ -42,7 +41,6 @@ use Rattle.editor_core.proofs.UnpreparedEdits.{not_prepared}
 use Rattle.editor_core.proofs.EditMade.{from_start, mid_state, mid_tested, need, passes}
 use Rattle.editor_core.proofs.Used.{names_given}
 use Rattle.editor_core.proofs.Recorded.{recorded_current}
-use Rattle.editor_core.specs.Points.{current_tracks}
 
 module _ {D : Type 0} (disk : Ghosts D) (s : Core D) (is : IsStudio disk s) (going : s.stopped ≡ None)
     (e : TaggedEdit) (plan : IsPlanned s e)
@@ -76,16 +74,19 @@ module _ {D : Type 0} (disk : Ghosts D) (s : Core D) (is : IsStudio disk s) (goi
   abbrev track_then : ℕ
   track_then = s.next_track + tracks
 
-  abbrev told_body : Body
-  told_body = Edit tag (s.next_block + n) track_then point
+  abbrev writes : Writing
+  writes = record { more = e.more; body = Edit tag (s.next_block + n) track_then point }
 
-  abbrev body : List ℕ
-  body = body_bytes s told_body
+  abbrev bodies : List (List ℕ)
+  bodies = all_bytes s writes
+
+  abbrev len : ℕ
+  len = all_len s writes
 
   abbrev t : model.Studio
   t = studio_of disk s
 
-  module _ (prepared : IsPrepared s n tracks (length body)) (store : D) (counts : Counts)
+  module _ (prepared : IsPrepared s n tracks (suc e.more) len) (store : D) (counts : Counts)
       (making : Making disk s (batch_of given makes) n
       (record s { store = store; counts = counts; next_block = s.next_block + n }))
       (reads : disk.read_fault_count store ≡ disk.read_fault_count s.store)
@@ -93,15 +94,15 @@ module _ {D : Type 0} (disk : Ghosts D) (s : Core D) (is : IsStudio disk s) (goi
     abbrev mid : Core D
     mid = record s { store = store; counts = counts; next_block = s.next_block + n }
 
-    tested : IsTested (IsHeld disk s) disk mid (refs makes) c sound tracks told_body h clip track_then
+    tested : IsTested (IsHeld disk s) disk mid (refs makes) c sound tracks writes h clip track_then
     tested = mid_tested disk s is going e plan c sound edit fewer prepared store counts making reads synced
 
     state : IsHeld disk s
         → studio_of disk mid ≡ record t { next_block = s.next_block + n; read_faults = disk.read_fault_count store }
     state = mid_state disk s is going e plan c sound edit fewer prepared store counts making reads synced
 
-    -- the record was not added
-    edit_failed : (new : Core D) → AddsBody {R = Unit {0}} disk mid told_body (Err refusal.DiskFault) new
+    -- the records were not added
+    edit_failed : (new : Core D) → AddsBody {R = Unit {0}} disk mid writes (Err refusal.DiskFault) new
         → Took disk s (with_sound c sound (Err refusal.DiskFault)) new
     edit_failed new adds =
         let commit = edit.call.commit in
@@ -123,7 +124,7 @@ module _ {D : Type 0} (disk : Ghosts D) (s : Core D) (is : IsStudio disk s) (goi
           breaks = record {
             going = going;
             blocks = n;
-            len = length body;
+            len = len;
             needs = need disk s is going e plan c sound edit fewer n (omega arith);
             room = prepared.blocks;
             is = stopped_state held;
@@ -143,8 +144,8 @@ module _ {D : Type 0} (disk : Ghosts D) (s : Core D) (is : IsStudio disk s) (goi
         (off_untouched disk s.store new.store refusal.DiskFault refl) (inr (refl, failed_change, refl))
         (all_left disk s given makes prepared.blocks c sound store counts making new.store adds.fields.2))
 
-    -- it was
-    module _ {Q : Type 0} (q : Q) (new : Core D) (adds : AddsBody disk mid told_body (Ok q) new)
+    -- they were
+    module _ {Q : Type 0} (q : Q) (new : Core D) (adds : AddsBody disk mid writes (Ok q) new)
         (h' : History (List Track)) (counts' : Counts) (next_track : ℕ)
         (moved : h' ≡ h) (tracked : next_track ≡ track_then)
         (counted : IsFreshCount (ids_of (history_blocks h ++ (pin_blocks s.pins ++ clip_blocks clip))) counts')
@@ -152,8 +153,8 @@ module _ {D : Type 0} (disk : Ghosts D) (s : Core D) (is : IsStudio disk s) (goi
       abbrev done : Core D
       done = record mid {
         store = new.store;
-        journal_end = s.journal_end + 5 + length body;
-        commit_number = s.commit_number + 1;
+        journal_end = s.journal_end + 5 + len;
+        commit_number = s.commit_number + suc e.more;
         history = h';
         clipboard = clip;
         counts = counts';
@@ -163,9 +164,9 @@ module _ {D : Type 0} (disk : Ghosts D) (s : Core D) (is : IsStudio disk s) (goi
       done_took : TookWhere (IsHeld disk s) disk mid c sound (Ok Done) done
       done_took = grows tested q new adds h' counts' next_track moved tracked counted files
 
-      done_state : IsHeld disk s → studio_of disk done ≡ followed (outside t sound) t c n (length body)
+      done_state : IsHeld disk s → studio_of disk done ≡ followed (outside t sound) t c n len
       done_state held =
-          let len = length body in
+          let len = len in
           let one : studio_of disk done ≡ followed (outside (studio_of disk mid) sound) (studio_of disk mid) c 0 len =
           grown_state tested q new adds h' counts' next_track moved tracked counted files held in
           let none : s.next_block + n + 0 ≡ s.next_block + n = omega arith in
@@ -181,7 +182,7 @@ module _ {D : Type 0} (disk : Ghosts D) (s : Core D) (is : IsStudio disk s) (goi
           (from_start disk s is going e plan c sound edit fewer prepared store counts making reads synced
           (Ok Done) done done_took refl (λ held. record {
             blocks = n;
-            len = length body;
+            len = len;
             needs = need disk s is going e plan c sound edit fewer n (omega arith);
             passed = passes disk s is going e plan c sound edit fewer prepared store counts making reads synced;
             answers = edit.call.commit.done t.rate t.state;
@@ -206,16 +207,18 @@ module _ {D : Type 0} (disk : Ghosts D) (s : Core D) (is : IsStudio disk s) (goi
       (⊎_elim
       (λ some.
       not_made disk s is given makes going plan.new some.0.blocks
-      (pieces_there disk s is going e plan) c sound (commit_removes_none c edit.call.commit.one)
-      (length body) some.0.short edit.call.commit.changes (edit.call.commit.leaves t)
+      (pieces_there disk s is going e plan) c sound (commit_removes_none c edit.call.commit.many)
+      len some.0.short edit.call.commit.changes (edit.call.commit.leaves t)
       (λ held. need disk s is going e plan c sound edit fewer) plan.origin why new some.1)
       (λ last.
       let it = last.1 in
-      let adds = subst (λ (e : Refusal). Adds {R = Unit {0}} disk it.mid body (whole_len told_body) (Err e) new) last.0
-      it.adds in
+      let adds = subst (λ (r : Refusal). Adds {R = Unit {0}} disk it.mid bodies (suc e.more) (whole_len s writes)
+      (Err r) new)
+      last.0 it.adds in
       subst (λ (e : Refusal). Took disk s (with_sound c sound (Err e)) new) (sym last.0)
       (edit_failed it.prepared it.mid.store it.mid.counts (made_so it.mid it.making) it.reads it.synced new
-      (subst (λ (z : Core D). Adds {R = Unit {0}} disk z body (whole_len told_body) (Err refusal.DiskFault) new)
+      (subst (λ (z : Core D). Adds {R = Unit {0}} disk z bodies (suc e.more) (whole_len s writes)
+      (Err refusal.DiskFault) new)
       it.making.is adds))))
       carried
 
@@ -228,5 +231,5 @@ module _ {D : Type 0} (disk : Ghosts D) (s : Core D) (is : IsStudio disk s) (goi
       (record new { history = h'; clipboard = clip; counts = counts'; next_track = next_track })
   edit_ok done new it h' counts' next_track moved tracked counted files =
       edit_done it.prepared it.mid.store it.mid.counts (made_so it.mid it.making) it.reads it.synced done new
-      (subst (λ (z : Core D). Adds disk z body (whole_len told_body) (Ok done) new) it.making.is it.adds)
+      (subst (λ (z : Core D). Adds disk z bodies (suc e.more) (whole_len s writes) (Ok done) new) it.making.is it.adds)
       h' counts' next_track moved tracked counted files

@@ -1,5 +1,6 @@
 -- What any edit stands on: the current project, and a new point behind it.
-use Rattle.std.proofs.Common.{◌≡◌, refl, sym, ap, ◌∙◌, ℕ, ◌+◌, ◌^◌, ◌≤◌, ◌<◌, List, ◌++◌, length, Option, subst, arith}
+use Rattle.std.proofs.Common.{◌≡◌, refl, sym, ap, ◌∙◌, ℕ, zero, suc, ◌+◌, ◌^◌, ◌≤◌, ◌<◌, List, ◌∷◌, ◌++◌, length}
+use Rattle.std.proofs.Common.{Option, subst, arith}
 use Rattle.std.specs.List.{AllByRecursion}
 use Rattle.pcm_base.specs.declared.block.BlockRef.{BlockRef}
 use Rattle.pcm_base.specs.declared.command.Call.{Call}
@@ -20,21 +21,24 @@ use Rattle.clip_track.specs.declared.items.Item.{Item}
 use Rattle.project_state.specs.declared.body.Body.{Body}
 use Rattle.project_state.specs.declared.body.Body.TheVariants.{Edit}
 use Rattle.project_state.specs.declared.track.Track.{Track}
-use Rattle.project_state.specs.Kept.{Kept, IsNextIn, MayFollow, before_of, meant, meant_history, point_blocks}
+use Rattle.project_state.specs.Batches.{after_bodies, bodies_in}
+use Rattle.project_state.specs.Kept.{current_tracks}
+use Rattle.project_state.specs.Kept.{Kept, IsNextIn, LeadIn, MayFollow, before_of, meant, meant_history, point_blocks}
 use Rattle.project_state.specs.Kept.{history_blocks, version_of}
 use Rattle.project_state.specs.KeptSound.{IsSoundPoint, IsSoundTagged}
 use Rattle.project_state.specs.Sound.{AllSoundTracks, IsSound}
 use Rattle.project_state.specs.Tracks.{AllBelow, track_of}
+use Rattle.project_state.proofs.Batched.{leads}
 use Rattle.project_state.proofs.KeptBounds.{tagged_more}
 use Rattle.project_state.proofs.MeantHistories.{meant_edited}
 use Rattle.project_state.proofs.ShortEnds.{sound_ends}
-use Rattle.editor_core.specs.Bodies.{IsLength, body_bytes}
+use Rattle.editor_core.specs.Bodies.{IsLength, all_bytes, bodies_by, body_bytes, bytes_by, single}
 use Rattle.editor_core.specs.Core.{Core, form_at}
 use Rattle.editor_core.specs.Occurrences.{HasAll, Moves}
-use Rattle.editor_core.specs.Points.{current_tracks, lacks}
+use Rattle.editor_core.specs.Points.{lacks}
 use Rattle.editor_core.specs.Studios.{IsHeld, IsStudio, MayPaste, clip_blocks, clip_cells, ids_of, named_blocks}
 use Rattle.editor_core.specs.Studios.{pin_blocks, studio_of}
-use Rattle.editor_core.proofs.BodyBytes.{next_so}
+use Rattle.editor_core.proofs.BodyBytes.{next_so, version_is}
 use Rattle.editor_core.proofs.Flights.{IsCommit, Matches}
 use Rattle.editor_core.proofs.Histories.{all_edited, blocks_edited, current_all, current_blocks, ending_current}
 use Rattle.editor_core.proofs.Histories.{ending_few}
@@ -57,6 +61,15 @@ pub sound_later : (m next_block next_track later : ℕ) (ts : List Track) → ne
     → IsSoundPoint m next_block next_track ts → IsSoundPoint m next_block later ts
 sound_later m next_block next_track later ts h is =
     (tagged_more m next_block next_track 0 next_block later 0 (ts, 0) (omega arith) h (omega arith) (is, omega arith)).0
+
+-- the bodies of an edit, as the journal's writer spells them
+same_bodies : (version : ℕ) (current : List Track) (tag next_block next_track : ℕ) (point : List Track) (more : ℕ)
+    → bodies_in version current more (Edit tag next_block next_track point)
+    ≡ bodies_by version current more (Edit tag next_block next_track point)
+same_bodies version current tag next_block next_track point zero = refl
+same_bodies version current tag next_block next_track point (suc more) =
+    ap (λ (bs : List (List ℕ)). bytes_by version current (Edit tag next_block next_track current) ∷ bs)
+    (same_bodies version current tag next_block next_track point more)
 
 module _ {D : Type 0} (disk : Ghosts D) (s : Core D) (is : IsStudio disk s) where
   abbrev pub old : List Track
@@ -147,6 +160,33 @@ module _ {D : Type 0} (disk : Ghosts D) (s : Core D) (is : IsStudio disk s) wher
       (omega (arith, e.block_size, is.format.block_most)) (omega (arith, e.commit, room))
       (sound_ends s.block_size s.next_block s.next_track old is.format.block_least current_sound) sound follows
 
+  -- and the records of a batch may: those that say the current point, and then the last
+  pub may_all : (m : ℕ) (k : Kept) (tag next_block next_track : ℕ) (point : List Track) (more : ℕ) → Matches s m k
+      → s.commit_number + more < 2 ^ 62 → (0 < more → 1 ≤ tag)
+      → IsSound m (before_of k) (Edit tag next_block next_track old)
+      → IsSound m (before_of k) (Edit tag next_block next_track point)
+      → LeadIn (version_of (form_at s)) m k (all_bytes s (record {
+        more = more;
+        body = Edit tag next_block next_track point;
+      })) (after_bodies k more (Edit tag next_block next_track point))
+  may_all m k tag next_block next_track point zero e room numbered one end =
+      let last = Edit tag next_block next_track point in
+      (last, may_come m k last e (omega (arith, room)) end tt, refl)
+  may_all m k tag next_block next_track point (suc more) e room numbered one end =
+      let last = Edit tag next_block next_track point in
+      let here : current_tracks k.history ≡ old = ap current_tracks e.history in
+      let led : LeadIn s.version m k (bodies_in s.version old (suc more) last) (after_bodies k (suc more) last) =
+      leads s.version m tag next_block next_track old point is.journal.version_least is.journal.version_most
+      (omega (arith, e.block_size, is.format.block_least)) (omega (arith, e.block_size, is.format.block_most))
+      (numbered (omega arith))
+      (sound_ends s.block_size s.next_block s.next_track old is.format.block_least current_sound) (suc more) k here
+      (subst (λ (h : History (List Track)). 1 ≤ h.depth) (sym e.history) is.format.depth_least)
+      (omega (arith, e.commit, room)) one end in
+      subst (λ (v : ℕ). LeadIn v m k (bodies_by s.version old (suc more) last) (after_bodies k (suc more) last))
+      (sym (version_is s is.journal))
+      (subst (λ (bs : List (List ℕ)). LeadIn s.version m k bs (after_bodies k (suc more) last))
+      (same_bodies s.version old tag next_block next_track point (suc more)) led)
+
   -- the studio counts what its points name
   pub counts_named : HasAll s.counts (history_blocks s.history)
   counts_named = λ n. least _ _ _ _ (is.counted n)
@@ -192,7 +232,7 @@ module _ {D : Type 0} (disk : Ghosts D) (s : Core D) (is : IsStudio disk s) wher
     -- A call whose record tells a new point is a commit.
     pub point_commit : (made : List BlockRef) (c : Call) (call_sound : SoundMove) (tracks : ℕ)
         (clip : Option (List (List Item)))
-        → IsCommitCall c call_sound tracks → track_then ≡ s.next_track + tracks
+        → IsCommitCall c call_sound tracks 0 → track_then ≡ s.next_track + tracks
         → ((P : BlockRef → Type 0) → AllByRecursion P (named_blocks s ++ made) → AllByRecursion P (point_blocks p))
         → ((P : BlockRef → Type 0) → AllByRecursion P (named_blocks s ++ made) → AllByRecursion P (clip_blocks clip))
         → length (clip_blocks clip) ≤ 2 ^ 71 → MayPaste s.block_size clip
@@ -203,16 +243,18 @@ module _ {D : Type 0} (disk : Ghosts D) (s : Core D) (is : IsStudio disk s) wher
           next_track = track_then;
           commit = s.commit_number + 1;
         })
-        → (IsHeld disk s → (n : ℕ) → IsLength s (Edit 0 s.next_block track_then p) n
+        → (IsHeld disk s → (n : ℕ) → IsLength s (single (Edit 0 s.next_block track_then p)) n
         → Needs (outside (studio_of disk s) call_sound) (studio_of disk s) c 0 n)
-        → IsCommit (IsHeld disk s) disk s made c call_sound tracks (Edit 0 s.next_block track_then p)
+        → IsCommit (IsHeld disk s) disk s made c call_sound tracks (single (Edit 0 s.next_block track_then p))
         (edited s.history p 0) clip track_then
     point_commit made c call_sound tracks clip call gives names clip_names few fits model needs = record {
       call = call;
       gives = gives;
       block_then = λ n. s.next_block;
       block_most = λ n h. omega arith;
-      next = λ m k k_is room. may_come m k (Edit 0 s.next_block track_then p) k_is room (sound_then m k k_is) tt;
+      tells = λ m k k_is room.
+          let body = Edit 0 s.next_block track_then p in
+          (body, may_come m k body k_is (omega (arith, room)) (sound_then m k k_is) tt, refl);
       leads = λ m k k_is. λ i. record {
         history = edited (k_is.history i) p 0;
         next_block = s.next_block;

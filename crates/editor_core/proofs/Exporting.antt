@@ -29,7 +29,7 @@ use Rattle.block_store.specs.declared.fault.BlockFault.{BlockFault}
 use Rattle.block_store.specs.declared.fault.BlockFault.TheVariants as fault
 use Rattle.project_journal.specs.Gate.{EachSince}
 use Rattle.mix_view.specs.Tracks.{mix_length_of}
-use Rattle.project_state.specs.Kept.{Keeps, meant}
+use Rattle.project_state.specs.Kept.{current_tracks, Keeps, meant}
 use Rattle.wav_pcm.specs.Wavs.{FitsFile}
 use Rattle.wav_pcm.specs.Written.{MayBegin}
 use Rattle.sound_export.specs.declared.fault.ExportFault.{ExportFault}
@@ -41,7 +41,6 @@ use Rattle.envelope_view.specs.Answers.{IsUndamaged}
 use Rattle.block_cache.specs.Caches.{Entries}
 use Rattle.editor_core.specs.Core.{Core}
 use Rattle.editor_core.specs.Left.{IsSoOf, Left}
-use Rattle.editor_core.specs.Points.{current_tracks}
 use Rattle.editor_core.specs.Studios.{IsHeld, IsStudio, named_blocks, shown, studio_by, studio_of}
 use Rattle.editor_core.specs.Took.{Took, with_sound}
 use Rattle.editor_core.proofs.Editing.{current_meant, current_sound}

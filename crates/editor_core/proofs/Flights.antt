@@ -1,5 +1,5 @@
--- A commit: the call, the record that tells it, and what it leads to; and what an image has while the record is added.
-use Rattle.std.proofs.Common.{◌≡◌, inl, inr, ⊎_elim, refl, sym, ◌∙◌, subst, ℕ, ◌+◌, ◌^◌, ◌≤◌, ◌<◌, List, ◌++◌, length}
+-- A commit: the call, what it writes, and what it leads to; and what an image has while its records are added.
+use Rattle.std.proofs.Common.{◌≡◌, inl, inr, ⊎_elim, refl, sym, ◌∙◌, subst, ℕ, suc, ◌+◌, ◌^◌, ◌≤◌, ◌<◌, List, ◌++◌, length}
 use Rattle.std.proofs.Common.{Option, None, Result, arith}
 use Rattle.std.specs.List.{AllByRecursion}
 use Rattle.pcm_base.specs.declared.answer.Reply.TheVariants.{Done}
@@ -20,13 +20,13 @@ use Rattle.disk_model.specs.declared.store.Store.{Ghosts}
 use Rattle.sample_block.specs.Sources.{sources_of, IsWhole, AllWhole}
 use Rattle.clip_track.specs.declared.items.Item.{Item}
 use Rattle.project_journal.specs.Gate.{EachNow, EachSince}
-use Rattle.project_state.specs.declared.body.Body.{Body}
 use Rattle.project_state.specs.declared.track.Track.{Track}
-use Rattle.project_state.specs.Kept.{Kept, after_body, IsNextIn, meant_history, history_blocks, Keeps, version_of}
+use Rattle.project_state.specs.Batches.{after_bodies}
+use Rattle.project_state.specs.Kept.{Kept, LeadIn, meant_history, history_blocks, Keeps, version_of}
 use Rattle.project_state.specs.KeptSound.{IsSoundTagged}
 use Rattle.project_state.proofs.KeptBounds.{all_append}
 use Rattle.editor_core.specs.Adding.{AddsBody}
-use Rattle.editor_core.specs.Bodies.{IsLength, body_bytes}
+use Rattle.editor_core.specs.Bodies.{IsLength, Writing, all_bytes, all_len}
 use Rattle.editor_core.specs.Core.{Core, form_at}
 use Rattle.editor_core.specs.Records.{Says}
 use Rattle.editor_core.specs.Studios.{IsGiven, IsDurable, IsHeld, IsStudio, MayPaste, SameBlocks, clip_blocks}
@@ -46,41 +46,41 @@ pub record Matches {D : Type 0} (s : Core D) (m : ℕ) (k : Kept) : Type 0 where
   pub next_track : k.next_track ≡ s.next_track
   pub commit : k.commit ≡ s.commit_number
 
--- A call whose record has this body, and leads from the studio's history, clipboard and next track to these; they name
--- no blocks but those that the studio names and those that were made for it. What is said by samples is so where `Has`.
+-- A call that writes this, and leads from the studio's history, clipboard and next track to these; they name no blocks
+-- but those that the studio names and those that were made for it. What is said by samples is so where `Has`.
 pub record IsCommit {D : Type 0} (Has : Type 0) (disk : Ghosts D) (s : Core D) (made : List BlockRef) (c : Call)
-    (sound : SoundMove) (tracks : ℕ) (body : Body) (h : History (List Track)) (clip : Option (List (List Item)))
+    (sound : SoundMove) (tracks : ℕ) (w : Writing) (h : History (List Track)) (clip : Option (List (List Item)))
     (track_then : ℕ) : Type 1 where
-  pub call : IsCommitCall c sound tracks
+  pub call : IsCommitCall c sound tracks w.more
   pub gives : track_then ≡ s.next_track + tracks
-  -- what the record says of the next block
+  -- what the records say of the next block
   pub block_then : ℕ → ℕ
   pub block_most : (n : ℕ) → n ≤ s.next_block → block_then n ≤ s.next_block
-  pub next : (m : ℕ) (k : Kept) → Matches s m k → s.commit_number < 2 ^ 62
-      → IsNextIn (version_of (form_at s)) m k (body_bytes s body) body
-  pub leads : (m : ℕ) (k : Kept) → Matches s m k → after_body k body ≡ record k {
+  pub tells : (m : ℕ) (k : Kept) → Matches s m k → s.commit_number + w.more < 2 ^ 62
+      → LeadIn (version_of (form_at s)) m k (all_bytes s w) (after_bodies k w.more w.body)
+  pub leads : (m : ℕ) (k : Kept) → Matches s m k → after_bodies k w.more w.body ≡ record k {
     history = h;
     next_block = block_then k.next_block;
     next_track = track_then;
-    commit = k.commit + 1;
+    commit = k.commit + suc w.more;
   }
   pub covers : Covers (named_blocks s ++ made) h
   pub clip_covers : (P : BlockRef → Type 0) → AllByRecursion P (named_blocks s ++ made)
       → AllByRecursion P (clip_blocks clip)
   pub clip_few : length (clip_blocks clip) ≤ 2 ^ 71
   pub clip_fits : MayPaste s.block_size clip
-  pub points : AllByRecursion (IsSoundTagged s.block_size s.next_block track_then (s.commit_number + 1)) h.points
+  pub points : AllByRecursion (IsSoundTagged s.block_size s.next_block track_then (s.commit_number + suc w.more)) h.points
   pub depth : h.depth ≡ s.history.depth
   pub few : length h.points ≤ h.depth
-  pub says : Says s.next_block track_then h body
+  pub says : Says s.next_block track_then h w.body
   pub model : Has → after (outside (studio_of disk s) sound) (studio_of disk s).state c
       ≡ record (studio_of disk s).state {
         history = meant_history (sources_of (disk.reads s.store)) h;
         clipboard = clip_cells (sources_of (disk.reads s.store)) clip;
         next_track = track_then;
-        commit = s.commit_number + 1;
+        commit = s.commit_number + suc w.more;
       }
-  pub needs : Has → (n : ℕ) → IsLength s body n → Needs (outside (studio_of disk s) sound) (studio_of disk s) c 0 n
+  pub needs : Has → (n : ℕ) → IsLength s w n → Needs (outside (studio_of disk s) sound) (studio_of disk s) c 0 n
 
 -- the clipboard that stays names no other blocks
 pub clip_stays : {D : Type 0} (s : Core D) (made : List BlockRef) (P : BlockRef → Type 0)
@@ -92,20 +92,20 @@ clip_stays s made P all =
 
 -- a commit of a studio that no test refused, on a disk that holds it where `Has`
 pub record IsTested {D : Type 0} (Has : Type 0) (disk : Ghosts D) (s : Core D) (made : List BlockRef) (c : Call)
-    (sound : SoundMove) (tracks : ℕ) (body : Body) (h : History (List Track)) (clip : Option (List (List Item)))
+    (sound : SoundMove) (tracks : ℕ) (w : Writing) (h : History (List Track)) (clip : Option (List (List Item)))
     (track_then : ℕ) : Type 1 where
   pub is : IsStudio disk s
   pub holds : Has → IsHeld disk s
   pub has_made : HasMade Has disk s made
-  pub move : IsCommit Has disk s made c sound tracks body h clip track_then
+  pub move : IsCommit Has disk s made c sound tracks w h clip track_then
   pub going : s.stopped ≡ None
   pub own : call_tests (outside (studio_of disk s) sound) (studio_of disk s).state c ≡ None
   pub ids : s.next_track + tracks ≤ 2 ^ 62
-  pub number : s.commit_number < 2 ^ 62
+  pub number : s.commit_number + w.more < 2 ^ 62
 
 module _ {D : Type 0} {Has : Type 0} {disk : Ghosts D} {s : Core D} {made : List BlockRef} {c : Call}
-    {sound : SoundMove} {tracks : ℕ} {body : Body} {h : History (List Track)} {clip : Option (List (List Item))}
-    {track_then : ℕ} (t : IsTested Has disk s made c sound tracks body h clip track_then) where
+    {sound : SoundMove} {tracks : ℕ} {w : Writing} {h : History (List Track)} {clip : Option (List (List Item))}
+    {track_then : ℕ} (t : IsTested Has disk s made c sound tracks w h clip track_then) where
   abbrev before : model.Studio
   before = studio_of disk s
 
@@ -113,7 +113,7 @@ module _ {D : Type 0} {Has : Type 0} {disk : Ghosts D} {s : Core D} {made : List
   out = outside before sound
 
   abbrev len : ℕ
-  len = length (body_bytes s body)
+  len = all_len s w
 
   -- all blocks that matter
   abbrev every : List BlockRef
@@ -143,46 +143,46 @@ module _ {D : Type 0} {Has : Type 0} {disk : Ghosts D} {s : Core D} {made : List
   covers_before : (d : IsDurable disk s) → Covers every d.kept.history
   covers_before d P all = covers_kept disk s d P (all_left P (named_blocks s) made all)
 
-  covers_after : (d : IsDurable disk s) → Covers every (after_body d.kept body).history
+  covers_after : (d : IsDurable disk s) → Covers every (after_bodies d.kept w.more w.body).history
   covers_after d P all =
       subst (λ (z : Kept). AllByRecursion P (history_blocks z.history))
       (sym (t.move.leads d.log.block_size d.kept (matches d))) (t.move.covers P all)
 
   -- what opening finds after it
   shown_then : (d : IsDurable disk s) → Has
-      → opened_by (sources_of (disk.reads s.store)) d.log (after_body d.kept body) ≡ shown (followed out before c 0 len)
+      → opened_by (sources_of (disk.reads s.store)) d.log (after_bodies d.kept w.more w.body) ≡ shown (followed out before c 0 len)
   shown_then d has =
       let src = sources_of (disk.reads s.store) in
       let k : Kept = record d.kept {
         history = h;
         next_block = t.move.block_then d.kept.next_block;
         next_track = track_then;
-        commit = d.kept.commit + 1;
+        commit = d.kept.commit + suc w.more;
       } in
       let found = record (shown before) {
         history = meant_history src h;
         next_track = track_then;
-        commit = s.commit_number + 1;
+        commit = s.commit_number + suc w.more;
       } in
-      let then_is : after_body d.kept body ≡ k = t.move.leads d.log.block_size d.kept (matches d) in
-      let one : opened_by src d.log (after_body d.kept body) ≡ opened_by src d.log k =
+      let then_is : after_bodies d.kept w.more w.body ≡ k = t.move.leads d.log.block_size d.kept (matches d) in
+      let one : opened_by src d.log (after_bodies d.kept w.more w.body) ≡ opened_by src d.log k =
       λ i. opened_by src d.log (then_is i) in
       let two : opened_by src d.log k ≡ found = λ i. record {
         rate = d.rate i;
         block_size = d.block_size i;
         history = meant_history src h;
         next_track = track_then;
-        commit = d.commit i + 1;
+        commit = d.commit i + suc w.more;
       } in
       let model = t.move.model has in
       let three : shown (followed out before c 0 len) ≡ found = λ i. shown (record before { state = model i }) in
       one ∙ two ∙ sym three
 
-  pub number_left : s.commit_number + 1 ≤ 2 ^ 62
+  pub number_left : s.commit_number + suc w.more ≤ 2 ^ 62
   number_left = omega (arith, t.number)
 
   pub passes : s.journal_end + (6 + len) ≤ 2 ^ 62 → len ≤ LONGEST_BODY
-      → refusal_of (outside (studio_of disk s) sound) (studio_of disk s) c 0 (length (body_bytes s body)) ≡ None
+      → refusal_of (outside (studio_of disk s) sound) (studio_of disk s) c 0 (all_len s w) ≡ None
   passes =
       nothing before c sound tracks t.move.call 0 len t.is.counters.pin_most t.is.journal.generation_most t.going t.own
       (omega (arith, t.is.counters.block_most)) t.ids number_left
@@ -200,11 +200,11 @@ module _ {D : Type 0} {Has : Type 0} {disk : Ghosts D} {s : Core D} {made : List
     heard = t.move.call.heard before.rate before.state;
   }
 
-  -- ---- while a record is added
-  module _ {Q : Type 0} (answer : Result Q Refusal) (mid : Core D) (adds : AddsBody disk s body answer mid)
+  -- ---- while the records are added
+  module _ {Q : Type 0} (answer : Result Q Refusal) (mid : Core D) (adds : AddsBody disk s w answer mid)
       (has : Has) where
     -- each image that it may leave has the project of before or of after
-    pub flight : s.journal_end + (6 + length (body_bytes s body)) ≤ 2 ^ 62 → length (body_bytes s body) ≤ LONGEST_BODY
+    pub flight : s.journal_end + (6 + all_len s w) ≤ 2 ^ 62 → all_len s w ≤ LONGEST_BODY
         → EachSince disk s.store mid.store (KeepsOneOf (studio_of disk s) c sound)
     flight place short x since =
         let d = (t.holds has).durable t.going in
@@ -218,8 +218,8 @@ module _ {D : Type 0} {Has : Type 0} {disk : Ghosts D} {s : Core D} {made : List
         }))
         (one_of disk s.store mid.store (form_at s) d.log d.base d.kept every s.next_block
         (form_few s t.is.journal.among) d.begins d.told every_ids (every_whole has)
-        (every_same has) adds.changed.images body (body_bytes s body)
-        (t.move.next d.log.block_size d.kept (matches d) t.number)
+        (every_same has) adds.changed.images (all_bytes s w)
+        (after_bodies d.kept w.more w.body) (t.move.tells d.log.block_size d.kept (matches d) t.number)
         (covers_before d) (covers_after d) (adds.any_moment d.log (t.holds has).tells d.there) x since)
 
     -- the blocks read as they did

@@ -1,6 +1,6 @@
--- A commit whose record was added: then the studio has another history.
-use Rattle.std.proofs.Common.{◌≡◌, ◌↔◌, inl, inr, refl, sym, ap, ◌∙◌, subst, ℕ, ◌+◌, ◌-◌, ◌^◌, ◌≤◌, ◌<◌, IsTrue, List, ◌∷◌}
-use Rattle.std.proofs.Common.{[], ◌++◌, length, Option, None, IsSome, Ok, arith, if◌then◌else◌, ◌==◌}
+-- A commit whose records were added: then the studio has another history.
+use Rattle.std.proofs.Common.{◌≡◌, ◌↔◌, inl, inr, refl, sym, ap, ◌∙◌, subst, ℕ, suc, ◌+◌, ◌-◌, ◌^◌, ◌≤◌, ◌<◌, IsTrue, List}
+use Rattle.std.proofs.Common.{◌++◌, Option, None, IsSome, Ok, arith}
 use Rattle.std.specs.List.{AllByRecursion}
 use Rattle.pcm_base.specs.declared.answer.Reply.TheVariants.{Done}
 use Rattle.pcm_base.specs.declared.block.BlockRef.{BlockRef}
@@ -18,12 +18,12 @@ use Rattle.disk_model.proofs.Frames.{changed_wider}
 use Rattle.sample_block.specs.Sources.{IsWhole}
 use Rattle.block_ledger.specs.Counts.{Counts, IsFreshCount}
 use Rattle.clip_track.specs.declared.items.Item.{Item}
-use Rattle.project_journal.specs.Journal.{IsAt, with_body}
-use Rattle.project_state.specs.declared.body.Body.{Body}
+use Rattle.project_journal.specs.Journal.{IsAt, with_bodies}
+use Rattle.project_state.specs.Batches.{after_bodies}
 use Rattle.project_state.specs.declared.track.Track.{Track}
 use Rattle.project_state.specs.Kept.{Kept, LeadIn, meant_history, history_blocks, version_of}
 use Rattle.editor_core.specs.Adding.{AddsBody}
-use Rattle.editor_core.specs.Bodies.{body_bytes}
+use Rattle.editor_core.specs.Bodies.{Writing, all_bytes, all_len}
 use Rattle.editor_core.specs.Core.{Core, form_at}
 use Rattle.editor_core.specs.Records.{Says}
 use Rattle.editor_core.specs.Packing.{packed_by}
@@ -34,16 +34,17 @@ use Rattle.editor_core.proofs.Flights.{IsCommit, IsTested, flight, images_still,
 use Rattle.editor_core.proofs.StudioCache.{cache_by_record}
 use Rattle.editor_core.proofs.Grown.{LeadsOn, led_studio, named_led}
 use Rattle.editor_core.proofs.Images.{keeps_now}
-use Rattle.editor_core.proofs.Leading.{begins_more, lead_more}
+use Rattle.editor_core.proofs.Leading.{begins_more, lead_all}
 use Rattle.editor_core.proofs.Others.{NoneGoes, others_record}
 use Rattle.editor_core.proofs.Premises.{TookWhere, took_so}
-use Rattle.editor_core.proofs.Removing.{commit_removes_none, ids_still, none_given}
+use Rattle.editor_core.proofs.Removing.{commit_leaves_journal, commit_removes_none, ids_still, none_given}
 use Rattle.editor_core.proofs.Sounds.{sources_elsewhere}
+use Rattle.editor_core.proofs.Spaces.{commit_bytes}
 use Rattle.editor_core.proofs.Staying.{HasMade, record_within, stopped_not}
 
 module _ {D : Type 0} {Has : Type 0} {disk : Ghosts D} {s : Core D} {made : List BlockRef} {c : Call}
-    {sound : SoundMove} {tracks : ℕ} {body : Body} {h : History (List Track)} {clip : Option (List (List Item))}
-    {track_then : ℕ} (t : IsTested Has disk s made c sound tracks body h clip track_then) where
+    {sound : SoundMove} {tracks : ℕ} {w : Writing} {h : History (List Track)} {clip : Option (List (List Item))}
+    {track_then : ℕ} (t : IsTested Has disk s made c sound tracks w h clip track_then) where
   abbrev before : model.Studio
   before = studio_of disk s
 
@@ -51,18 +52,18 @@ module _ {D : Type 0} {Has : Type 0} {disk : Ghosts D} {s : Core D} {made : List
   out = outside before sound
 
   abbrev len : ℕ
-  len = length (body_bytes s body)
+  len = all_len s w
 
   -- the pins and the clipboard behind it
   abbrev rest_then : List BlockRef
   rest_then = pin_blocks s.pins ++ clip_blocks clip
 
-  on : LeadsOn s made h clip track_then
+  on : LeadsOn s made h clip track_then (suc w.more)
   on = record {
     given = t.has_made.ids;
     later = omega (arith, t.move.gives);
     most = omega (arith, t.move.gives, t.ids);
-    number = t.number;
+    number = omega (arith, t.number);
     covers = t.move.covers;
     clip_covers = t.move.clip_covers;
     clip_few = t.move.clip_few;
@@ -72,7 +73,7 @@ module _ {D : Type 0} {Has : Type 0} {disk : Ghosts D} {s : Core D} {made : List
     few = t.move.few;
   }
 
-  module _ {Q : Type 0} (q : Q) (mid : Core D) (adds : AddsBody disk s body (Ok q) mid)
+  module _ {Q : Type 0} (q : Q) (mid : Core D) (adds : AddsBody disk s w (Ok q) mid)
       (h' : History (List Track)) (counts : Counts) (next_track : ℕ) (moved : h' ≡ h)
       (tracked : next_track ≡ track_then)
       (counted : IsFreshCount (ids_of (history_blocks h ++ rest_then)) counts)
@@ -81,7 +82,7 @@ module _ {D : Type 0} {Has : Type 0} {disk : Ghosts D} {s : Core D} {made : List
     grown = record s {
       store = mid.store;
       journal_end = s.journal_end + 5 + len;
-      commit_number = s.commit_number + 1;
+      commit_number = s.commit_number + suc w.more;
       history = h';
       clipboard = clip;
       counts = counts;
@@ -109,13 +110,13 @@ module _ {D : Type 0} {Has : Type 0} {disk : Ghosts D} {s : Core D} {made : List
           history = h;
           next_block = t.move.block_then d.kept.next_block;
           next_track = track_then;
-          commit = d.kept.commit + 1;
+          commit = d.kept.commit + suc w.more;
         } in
-        let log = with_body d.log (body_bytes s body) in
+        let log = with_bodies d.log (all_bytes s w) in
         let version = version_of (form_at s) in
         let led =
-        lead_more version m d.base d.kept d.log.bodies (body_bytes s body) body d.told
-        (t.move.next m d.kept (matches t d) t.number) in
+        lead_all version m d.base d.kept (after_bodies d.kept w.more w.body) d.log.bodies (all_bytes s w) d.told
+        (t.move.tells m d.kept (matches t d) t.number) in
         let reads = disk.reads s.store in record {
           log = log;
           base = d.base;
@@ -124,15 +125,15 @@ module _ {D : Type 0} {Has : Type 0} {disk : Ghosts D} {s : Core D} {made : List
               subst (λ (n : ℕ). IsAt (form_at s) disk mid.store n log) grown_end
               (adds.done d.log (t.holds has).tells d.there);
           generation = d.generation;
-          begins = begins_more d.log (body_bytes s body) d.base d.begins;
-          told = subst (λ (z : Kept). LeadIn version m d.base (d.log.bodies ++ body_bytes s body ∷ []) z)
+          begins = begins_more d.log (all_bytes s w) d.base d.begins;
+          told = subst (λ (z : Kept). LeadIn version m d.base (d.log.bodies ++ all_bytes s w) z)
               (t.move.leads m d.kept (matches t d)) led;
           rate = d.rate;
           block_size = d.block_size;
           history = sym moved;
           next_block = t.move.block_most d.kept.next_block d.next_block;
           next_track = sym tracked;
-          commit = ap (λ (n : ℕ). n + 1) d.commit;
+          commit = ap (λ (n : ℕ). n + suc w.more) d.commit;
           blocks = λ x now.
               grown_named (λ b. x b.id ≡ disk.reads mid.store b.id)
               (images_still t (Ok q) mid adds has x now);
@@ -168,11 +169,11 @@ module _ {D : Type 0} {Has : Type 0} {disk : Ghosts D} {s : Core D} {made : List
           history = meant_history (src i) (moved i);
           clipboard = clip_cells (src i) clip;
           next_track = tracked i;
-          commit = s.commit_number + 1;
+          commit = s.commit_number + suc w.more;
         }) ∙ sym (t.move.model has) in
         let none : s.next_block ≡ s.next_block + 0 = omega arith in
         let end : s.journal_end + 5 + len ≡ s.journal_end + record_bytes c len =
-        omega arith ∙ ap (λ (k : ℕ). s.journal_end + (if k == 0 then 0 else 5 + len)) (sym t.move.call.one) in
+        omega (arith, commit_bytes c len t.move.call.many) in
         λ i. record before {
           state = state i;
           next_block = none i;
@@ -197,30 +198,30 @@ module _ {D : Type 0} {Has : Type 0} {disk : Ghosts D} {s : Core D} {made : List
       any_moment = λ _ has. flight t (Ok q) mid adds has adds.fields.1 adds.fields.3;
       refused = λ _ has still. tt;
       now = λ still has. keeps_now disk grown grown_studio.journal.among still (grown_held has);
-      number = ap (λ (k : ℕ). s.commit_number + k) (sym t.move.call.one);
+      number = ap (λ (k : ℕ). s.commit_number + k) (sym t.move.call.many);
       rests = λ some. absurd (stopped_not s.stopped some t.going);
       len = len;
       needs = λ has. (0, t.move.needs has len (inr refl));
       records = inr (
-        body,
+        w,
         refl,
-        subst (λ (k : ℕ). Says s.next_block k h' body) (sym tracked)
-            (subst (λ (z : History (List Track)). Says s.next_block track_then z body) (sym moved) t.move.says),
+        subst (λ (k : ℕ). Says s.next_block k h' w.body) (sym tracked)
+            (subst (λ (z : History (List Track)). Says s.next_block track_then z w.body) (sym moved) t.move.says),
       );
       changed =
           changed_wider (others_record s.file s.next_block s.next_block NoneGoes t.is.journal.among)
           (record_within (with_sound c sound (Ok Done)) (disk.reads s.store s.file) s.block_size
-          (s.next_block - s.next_block) len (packed_by s c) t.move.call.one) adds.changed;
+          (s.next_block - s.next_block) len (packed_by s c) t.move.call.many) adds.changed;
     }
 
 -- ---- of a studio that the disk holds
 module _ {D : Type 0} (disk : Ghosts D) (s : Core D) (made : List BlockRef) (c : Call) (sound : SoundMove) (tracks : ℕ)
-    (body : Body) (h : History (List Track)) (clip : Option (List (List Item))) (track_then : ℕ) (is : IsStudio disk s)
+    (w : Writing) (h : History (List Track)) (clip : Option (List (List Item))) (track_then : ℕ) (is : IsStudio disk s)
     (has_made : HasMade (IsHeld disk s) disk s made)
-    (move : IsCommit (IsHeld disk s) disk s made c sound tracks body h clip track_then)
+    (move : IsCommit (IsHeld disk s) disk s made c sound tracks w h clip track_then)
     (going : s.stopped ≡ None) (own : call_tests (outside (studio_of disk s) sound) (studio_of disk s).state c ≡ None)
-    (ids : s.next_track + tracks ≤ 2 ^ 62) (number : s.commit_number < 2 ^ 62) where
-  tested : IsTested (IsHeld disk s) disk s made c sound tracks body h clip track_then
+    (ids : s.next_track + tracks ≤ 2 ^ 62) (number : s.commit_number + w.more < 2 ^ 62) where
+  tested : IsTested (IsHeld disk s) disk s made c sound tracks w h clip track_then
   tested = record {
     is = is;
     holds = λ held. held;
@@ -232,7 +233,7 @@ module _ {D : Type 0} (disk : Ghosts D) (s : Core D) (made : List BlockRef) (c :
     number = number;
   }
 
-  module _ {Q : Type 0} (q : Q) (mid : Core D) (adds : AddsBody disk s body (Ok q) mid)
+  module _ {Q : Type 0} (q : Q) (mid : Core D) (adds : AddsBody disk s w (Ok q) mid)
       (h' : History (List Track)) (counts : Counts) (next_track : ℕ) (moved : h' ≡ h)
       (tracked : next_track ≡ track_then)
       (counted : IsFreshCount (ids_of (history_blocks h ++ (pin_blocks s.pins ++ clip_blocks clip))) counts)
@@ -248,7 +249,7 @@ module _ {D : Type 0} (disk : Ghosts D) (s : Core D) (made : List BlockRef) (c :
         subst Leaves (sym adds.fields.0)
         (took_so disk s c sound (Ok Done) (grown tested q mid adds h' counts next_track moved tracked counted files)
         (grows tested q mid adds h' counts next_track moved tracked counted files)
-        (commit_removes_none c move.call.one)
+        (commit_removes_none c move.call.many) (commit_leaves_journal c move.call.many)
         (ids_still s (grown tested q mid adds h' counts next_track moved tracked counted files) files refl)
         (none_given (Ok Done) s (grown tested q mid adds h' counts next_track moved tracked counted files) refl) tt tt
         (inl (refl, adds.fields.2)) tt)

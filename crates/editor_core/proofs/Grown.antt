@@ -1,5 +1,5 @@
 -- The studio that a commit leads to is one, whatever the disk tells; and so is one that a failed change has stopped.
-use Rattle.std.proofs.Common.{◌≡◌, ◌↔◌, sym, ap, ◌∙◌, subst, ℕ, ◌+◌, ◌^◌, ◌≤◌, ◌<◌, List, ◌++◌, length, Option, None}
+use Rattle.std.proofs.Common.{◌≡◌, ◌↔◌, sym, ap, ◌∙◌, subst, ℕ, ◌+◌, ◌^◌, ◌≤◌, List, ◌++◌, length, Option, None}
 use Rattle.std.proofs.Common.{IsSome}
 use Rattle.std.proofs.Common.{arith}
 use Rattle.std.specs.List.{AllByRecursion}
@@ -22,20 +22,21 @@ use Rattle.editor_core.specs.declared.studio.Pin.{Pin}
 use Rattle.editor_core.proofs.Images.{Covers}
 use Rattle.editor_core.proofs.Lists.{all_left, all_right, all_so}
 
--- A history, a clipboard and a next track that a commit of the studio may lead to, where these blocks were made for it.
+-- A history, a clipboard and a next track to which this many commits of the studio may lead, where these blocks were made
+-- for them.
 pub record LeadsOn {D : Type 0} (s : Core D) (made : List BlockRef) (h : History (List Track))
     (clip : Option (List (List Item)))
-    (track_then : ℕ) : Type 1 where
+    (track_then count : ℕ) : Type 1 where
   pub given : AllByRecursion (λ (b : BlockRef). IsGiven s.next_block b.id) made
   pub later : s.next_track ≤ track_then
   pub most : track_then ≤ 2 ^ 62
-  pub number : s.commit_number < 2 ^ 62
+  pub number : s.commit_number + count ≤ 2 ^ 62
   pub covers : Covers (named_blocks s ++ made) h
   pub clip_covers : (P : BlockRef → Type 0) → AllByRecursion P (named_blocks s ++ made)
       → AllByRecursion P (clip_blocks clip)
   pub clip_few : length (clip_blocks clip) ≤ 2 ^ 71
   pub clip_fits : MayPaste s.block_size clip
-  pub points : AllByRecursion (IsSoundTagged s.block_size s.next_block track_then (s.commit_number + 1)) h.points
+  pub points : AllByRecursion (IsSoundTagged s.block_size s.next_block track_then (s.commit_number + count)) h.points
   pub depth : h.depth ≡ s.history.depth
   pub few : length h.points ≤ h.depth
 
@@ -59,7 +60,7 @@ module _ {D : Type 0} (disk : Ghosts D) (s : Core D) (is : IsStudio disk s) wher
   }
 
   module _ (made : List BlockRef) (h : History (List Track)) (clip : Option (List (List Item))) (track_then : ℕ)
-      (on : LeadsOn s made h clip track_then) where
+      {count : ℕ} (on : LeadsOn s made h clip track_then count) where
     -- the pins and the clipboard behind it
     abbrev rest_then : List BlockRef
     rest_then = pin_blocks s.pins ++ clip_blocks clip
@@ -84,7 +85,7 @@ module _ {D : Type 0} (disk : Ghosts D) (s : Core D) (is : IsStudio disk s) wher
       led = record s {
         store = store;
         journal_end = end;
-        commit_number = s.commit_number + 1;
+        commit_number = s.commit_number + count;
         history = h';
         clipboard = clip;
         counts = counts;
@@ -97,13 +98,13 @@ module _ {D : Type 0} (disk : Ghosts D) (s : Core D) (is : IsStudio disk s) wher
           subst (λ (z : History (List Track)). AllByRecursion P (history_blocks z ++ rest_then)) (sym moved)
           (named_too P all)
 
-      led_points : AllByRecursion (IsSoundTagged s.block_size s.next_block next_track (s.commit_number + 1)) h'.points
+      led_points : AllByRecursion (IsSoundTagged s.block_size s.next_block next_track (s.commit_number + count)) h'.points
       led_points =
-          subst (λ (n : ℕ). AllByRecursion (IsSoundTagged s.block_size s.next_block n (s.commit_number + 1)) h'.points)
+          subst (λ (n : ℕ). AllByRecursion (IsSoundTagged s.block_size s.next_block n (s.commit_number + count)) h'.points)
           (sym tracked)
           (subst
           (λ (z : History (List Track)). AllByRecursion
-          (IsSoundTagged s.block_size s.next_block track_then (s.commit_number + 1)) z.points)
+          (IsSoundTagged s.block_size s.next_block track_then (s.commit_number + count)) z.points)
           (sym moved) on.points)
 
       -- tracks that pins have were given before

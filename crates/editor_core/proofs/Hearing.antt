@@ -28,11 +28,10 @@ use Rattle.block_store.specs.Reasons.{reason_of}
 use Rattle.envelope_view.proofs.AnswerLaws.{reason_damaged}
 use Rattle.mix_view.specs.Tracks.{mix_length_of}
 use Rattle.project_state.specs.declared.track.Track.{Track}
-use Rattle.project_state.specs.Kept.{meant, point_blocks}
+use Rattle.project_state.specs.Kept.{current_tracks, meant, point_blocks}
 use Rattle.block_cache.specs.Caches.{Entries}
 use Rattle.editor_core.specs.Core.{Core}
 use Rattle.editor_core.specs.Pins.{LacksPin, MayFind}
-use Rattle.editor_core.specs.Points.{current_tracks}
 use Rattle.editor_core.specs.Studios.{IsHeld, IsStudio, named_blocks, studio_of}
 use Rattle.editor_core.specs.Took.{Took, quietly}
 use Rattle.editor_core.proofs.Currents.{current_named}
@@ -100,7 +99,7 @@ module _ {D : Type 0} (disk : Ghosts D) (s : Core D) (is : IsStudio disk s) (few
           let room = room_of disk s mix is in
           let passed = quiet_passes t mix mix_quiet room refl (ap stop_of going) good
           (fits s.next_pin 0 (omega (arith, is.counters.pin_most))) in
-          looked_ok disk s is store kept cache keeps mix mix_quiet tt going (reply.Frames frames) faults
+          looked_ok disk s is store kept cache keeps mix mix_quiet tt going tt (reply.Frames frames) faults
           (λ held. carried t mix mix_quiet room refl (reply.Frames frames) t passed
           (ap reply.Frames (heard held ∙ ap (λ (p : Project). part from to (mix_of p)) (sym (current_meant disk s is))))
           refl)
@@ -136,7 +135,7 @@ module _ {D : Type 0} (disk : Ghosts D) (s : Core D) (is : IsStudio disk s) (few
         let passed = quiet_passes t (PinLen pin) len_quiet room refl (ap stop_of going)
         (has_own disk s is pin point found)
         (fits s.next_pin 0 (omega (arith, is.counters.pin_most))) in
-        stays_answered disk s (PinLen pin) len_quiet tt is fewer (reply.Length n)
+        stays_answered disk s (PinLen pin) len_quiet tt is fewer tt (reply.Length n)
         (λ held. carried t (PinLen pin) len_quiet room refl (reply.Length n) t passed (
           meant src point,
           pin_meant disk s is pin point found,
@@ -167,7 +166,7 @@ module _ {D : Type 0} (disk : Ghosts D) (s : Core D) (is : IsStudio disk s) (few
             let room = room_of disk s read is in
             let passed = quiet_passes t read read_quiet room refl (ap stop_of going) (has_own disk s is pin point found)
             (fits s.next_pin 0 (omega (arith, is.counters.pin_most))) in
-            looked_ok disk s is store kept cache keeps read read_quiet tt going (reply.Frames frames) faults
+            looked_ok disk s is store kept cache keeps read read_quiet tt going tt (reply.Frames frames) faults
             (λ held. carried t read read_quiet room refl (reply.Frames frames) t passed (
               meant src point,
               pin_meant disk s is pin point found,

@@ -9,17 +9,16 @@ use Rattle.disk_model.specs.declared.store.Store.{Ghosts}
 use Rattle.sample_block.specs.Sources.{sources_of, IsWhole, AllWhole}
 use Rattle.project_journal.specs.Gate.{EachNow, EachSince}
 use Rattle.project_journal.specs.Header.{Form, IsForm}
-use Rattle.project_journal.specs.Journal.{Log, HasLog, HasOneOf, with_body}
+use Rattle.project_journal.specs.Journal.{Log, HasLog, HasOneOf, with_bodies}
 use Rattle.project_journal.proofs.Kept.{each_has}
 use Rattle.project_journal.proofs.Parses.{form_known}
-use Rattle.project_state.specs.declared.body.Body.{Body}
 use Rattle.project_state.specs.declared.track.Track.{Track}
-use Rattle.project_state.specs.Kept.{Begins, Kept, after_body, IsNextIn, LeadIn, meant_history, history_blocks}
+use Rattle.project_state.specs.Kept.{Begins, Kept, LeadIn, meant_history, history_blocks}
 use Rattle.project_state.specs.Kept.{Opened, Keeps, version_of}
 use Rattle.editor_core.specs.Core.{Core, form_at}
 use Rattle.editor_core.specs.Studios.{IsGiven, SameBlocks, IsDurable, IsHeld, shown, studio_of, named_blocks}
 use Rattle.editor_core.specs.Studios.{pin_blocks, clip_blocks}
-use Rattle.editor_core.proofs.Leading.{begins_more, lead_more}
+use Rattle.editor_core.proofs.Leading.{begins_more, lead_all}
 use Rattle.editor_core.proofs.Lists.{all_left}
 use Rattle.editor_core.proofs.Sounds.{same_history, all_sound, all_whole, blocks_same, trans_same}
 
@@ -71,7 +70,7 @@ keeps_by form log base k files c of has begins led same whole =
 abbrev pub Covers : List BlockRef → History (List Track) → Type 1
 Covers bs h = (P : BlockRef → Type 0) → AllByRecursion P bs → AllByRecursion P (history_blocks h)
 
--- a record in flight, over blocks that each image has as the store reads them
+-- records in flight, over blocks that each image has as the store reads them
 module _ {D : Type 0} (disk : Ghosts D) (store new : D) (form : Form) (log : Log) (base k : Kept) (bs : List BlockRef)
     (next : ℕ) (of : IsFew form) (begins : Begins log base)
     (told : LeadIn (version_of form) log.block_size base log.bodies k)
@@ -86,21 +85,21 @@ module _ {D : Type 0} (disk : Ghosts D) (store new : D) (form : Form) (log : Log
       let d = follows.from c since in
       trans_same (disk.reads store) d.0 c bs (same d.0 d.1) (blocks_same form.file d.0 c next bs of.few d.2 ids)
 
-  pub one_of : (body : Body) (bytes : List ℕ) → IsNextIn (version_of form) log.block_size k bytes body
+  pub one_of : (bodies : List (List ℕ)) (end : Kept) → LeadIn (version_of form) log.block_size k bodies end
       → Covers bs k.history
-      → Covers bs (after_body k body).history
-      → EachSince disk store new (HasOneOf form log (with_body log bytes))
+      → Covers bs end.history
+      → EachSince disk store new (HasOneOf form log (with_bodies log bodies))
       → EachSince disk store new (λ c. Keeps c (opened_by (sources_of (disk.reads store)) log k)
-      ⊎ Keeps c (opened_by (sources_of (disk.reads store)) log (after_body k body)))
-  one_of body bytes follows_on old_covers new_covers any c since =
+      ⊎ Keeps c (opened_by (sources_of (disk.reads store)) log end))
+  one_of bodies end leads_on old_covers new_covers any c since =
       let files = disk.reads store in
       let there = same_since c since in
-      let led = lead_more (version_of form) log.block_size base k log.bodies bytes body told follows_on in
+      let led = lead_all (version_of form) log.block_size base k end log.bodies bodies told leads_on in
       ⊎_elim
       (λ has. inl (keeps_by form log base k files c of has begins told (old_covers (λ b. c b.id ≡ files b.id) there)
       (old_covers (IsWhole files) whole)))
-      (λ has. inr (keeps_by form (with_body log bytes) base (after_body k body) files c of has
-      (begins_more log bytes base begins) led
+      (λ has. inr (keeps_by form (with_bodies log bodies) base end files c of has
+      (begins_more log bodies base begins) led
       (new_covers (λ b. c b.id ≡ files b.id) there) (new_covers (IsWhole files) whole)))
       (any c since)
 

@@ -19,10 +19,9 @@ use Rattle.clip_track.specs.Clips.{layout_blocks, layout_cells}
 use Rattle.edit_ops.specs.declared.types.NewBlock.{NewBlock}
 use Rattle.edit_ops.specs.Plans.{AllNewFrom, AreNew, AreWritten, ref_of}
 use Rattle.project_state.specs.declared.track.Track.{Track}
-use Rattle.project_state.specs.Kept.{meant, meant_track, point_blocks}
+use Rattle.project_state.specs.Kept.{current_tracks, meant, meant_track, point_blocks}
 use Rattle.project_state.specs.Sound.{AllSoundTracks, IsSoundTrack}
 use Rattle.project_state.proofs.KeptBounds.{all_append, tagged_more}
-use Rattle.editor_core.specs.Points.{current_tracks}
 use Rattle.editor_core.specs.Core.{Core}
 use Rattle.editor_core.specs.declared.growth.Growing.{Growing}
 use Rattle.editor_core.specs.Edits.{AreAmong, alone, beside}

@@ -8,13 +8,15 @@ use Rattle.pcm_base.specs.declared.refusal.Refusal.{Refusal}
 use Rattle.pcm_base.specs.declared.refusal.Refusal.TheVariants as refusal
 use Rattle.pcm_base.specs.declared.sound.Cell.{Cell}
 use Rattle.pcm_base.specs.Cells.{edited_at, trimmed}
-use Rattle.pcm_base.specs.Counters.{EditNeeds}
+use Rattle.pcm_base.specs.Counters.{EditNeeds, RecordsNeed}
 use Rattle.pcm_base.specs.Edits.{as_cells, inserted, ramp_of}
 use Rattle.pcm_base.specs.Pieces.{stretch}
+use Rattle.pcm_base.specs.History.{recorded}
+use Rattle.pcm_base.specs.Recordings.{later_pieces, pieces_in}
 use Rattle.pcm_base.specs.Refusals.{insert_tests, inserted_length, length_limit, piece_tests, refused_if}
 use Rattle.pcm_base.specs.Sizes.{blocks_of_samples}
 use Rattle.pcm_base.specs.State.{current}
-use Rattle.pcm_base.specs.Step.{with_piece, with_project}
+use Rattle.pcm_base.specs.Step.{with_project}
 use Rattle.clip_track.specs.declared.clips.Clip.{Clip}
 use Rattle.clip_track.specs.Clips.{IsLayout, end_of, layout_cells}
 use Rattle.clip_track.proofs.Layouts.{length-layout}
@@ -90,12 +92,12 @@ module _ (xs : List ℤ) (given : brings.Given) (is : brought given ≡ (λ i. g
 
   pub put_call : (id at : ℕ)
       → IsTrackCall (call.Line (command.Put id at xs)) silent
-      (track_command (place_edit (At at) (brought_count given)) given id 0)
+      (track_command (place_edit (At at) (brought_count given)) given id 0 0)
   put_call id at =
       let line = call.Line (command.Put id at xs) in record {
         call = record {
           commit = record {
-            one = refl;
+            many = refl;
             no_pin = refl;
             tracks_is = λ rate. refl;
             stops = λ o. refl;
@@ -106,21 +108,24 @@ module _ (xs : List ℤ) (given : brings.Given) (is : brought given ≡ (λ i. g
             done = λ rate s. refl;
           };
           needs = λ rate t blocks len h. subst (λ (k : ℕ).
-              EditNeeds (blocks_of_samples t.block_size k) (outside_at rate silent) t line blocks len) count h;
-          needed = λ rate t blocks len h. subst (λ (k : ℕ).
-              EditNeeds (blocks_of_samples t.block_size k) (outside_at rate silent) t line blocks len) (sym count) h;
+              EditNeeds (blocks_of_samples t.block_size k) (outside_at rate silent) t line blocks len) count
+              (h.0, omega (arith, h.2));
+          needed = λ rate t blocks len h.
+              let one = subst (λ (k : ℕ).
+              EditNeeds (blocks_of_samples t.block_size k) (outside_at rate silent) t line blocks len) (sym count) h in
+              (one.0, omega arith, omega (arith, one.1));
         };
         own = λ out s. λ i. insert_tests s id at (sym count i);
         after_is = λ out s. λ i. with_project s (edited_at id (inserted at (as_cells (sym same i))) (current s));
       }
 
-  pub piece_call : (id tag : ℕ)
-      → IsTrackCall (call.Piece id tag xs) silent (track_command (place_edit End (brought_count given)) given id tag)
+  pub piece_call : (id tag : ℕ) → IsTrackCall (call.Piece id tag xs) silent
+      (track_command (place_edit End (brought_count given)) given id tag (later_pieces (length xs)))
   piece_call id tag =
       let piece = call.Piece id tag xs in record {
         call = record {
           commit = record {
-            one = refl;
+            many = refl;
             no_pin = refl;
             tracks_is = λ rate. refl;
             stops = λ o. refl;
@@ -130,24 +135,28 @@ module _ (xs : List ℤ) (given : brings.Given) (is : brought given ≡ (λ i. g
             quiet = refl;
             done = λ rate s. refl;
           };
-          needs = λ rate t blocks len h. subst (λ (k : ℕ).
-              EditNeeds (blocks_of_samples t.block_size k) (outside_at rate silent) t piece blocks len) count h;
-          needed = λ rate t blocks len h. subst (λ (k : ℕ).
-              EditNeeds (blocks_of_samples t.block_size k) (outside_at rate silent) t piece blocks len) (sym count) h;
+          needs = λ rate t blocks len h. subst (λ (k : ℕ). RecordsNeed (later_pieces (length xs))
+              (blocks_of_samples t.block_size k) (outside_at rate silent) t piece blocks len) count h;
+          needed = λ rate t blocks len h. subst (λ (k : ℕ). RecordsNeed (later_pieces (length xs))
+              (blocks_of_samples t.block_size k) (outside_at rate silent) t piece blocks len) (sym count) h;
         };
         own = λ out s. λ i. piece_tests s id (sym count i);
-        after_is = λ out s. λ i. with_piece s id tag (sym same i);
+        after_is = λ out s. λ i. record s {
+          history =
+              recorded s.history (edited_at id (λ cells. trimmed (cells ++ as_cells (sym same i))) (current s)) tag;
+          commit = s.commit + pieces_in (length xs);
+        };
       }
 
 ramp_call : (id at count : ℕ) (start step : ℤ) → IsTrackCall (call.Line (command.Ramp id at count start step)) silent
-    (track_command (place_edit (At at) count) (given_as.Ramp start step count) id 0)
+    (track_command (place_edit (At at) count) (given_as.Ramp start step count) id 0 0)
 ramp_call id at count start step =
     let same : as_cells (stretch (brought (given_as.Ramp start step count)) 0 count) ≡ ramp_of count start step =
     ramp_brought start step count 0 count in
     record {
       call = record {
         commit = record {
-          one = refl;
+          many = refl;
           no_pin = refl;
           tracks_is = λ rate. refl;
           stops = λ o. refl;
@@ -157,8 +166,8 @@ ramp_call id at count start step =
           quiet = refl;
           done = λ rate s. refl;
         };
-        needs = λ rate t blocks len h. h;
-        needed = λ rate t blocks len h. h;
+        needs = λ rate t blocks len h. (h.0, omega (arith, h.2));
+        needed = λ rate t blocks len h. (h.0, omega arith, omega (arith, h.1));
       };
       own = λ out s. refl;
       after_is = λ out s. λ i. with_project s (edited_at id (inserted at (sym same i)) (current s));
@@ -167,11 +176,11 @@ ramp_call id at count start step =
 -- (the samples may come back from the machine's numbers)
 pub ramp_again : (id at count : ℕ) (start step a b : ℤ) → a ≡ start → b ≡ step → IsTrackCall
     (call.Line (command.Ramp id at count start step)) silent
-    (track_command (place_edit (At at) count) (given_as.Ramp a b count) id 0)
+    (track_command (place_edit (At at) count) (given_as.Ramp a b count) id 0 0)
 ramp_again id at count start step a b first each =
     let line = call.Line (command.Ramp id at count start step) in
     subst (λ (z : ℤ). IsTrackCall line silent
-    (track_command (place_edit (At at) count) (given_as.Ramp z b count) id 0)) (sym first)
+    (track_command (place_edit (At at) count) (given_as.Ramp z b count) id 0 0)) (sym first)
     (subst (λ (z : ℤ). IsTrackCall line silent
-    (track_command (place_edit (At at) count) (given_as.Ramp start z count) id 0)) (sym each)
+    (track_command (place_edit (At at) count) (given_as.Ramp start z count) id 0 0)) (sym each)
     (ramp_call id at count start step))

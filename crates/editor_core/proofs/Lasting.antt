@@ -1,5 +1,6 @@
 -- What holds of an edit that makes blocks, whatever its call means and whatever is told; and that no vault refuses it.
-use Rattle.std.proofs.Common.{◌≡◌, ◌↔◌, ◌⊎◌, ◌<◌, inl, inr, ⊎_elim, refl, sym, ap, ◌∙◌, subst, ℕ, ◌+◌, ◌-◌, ◌^◌, ◌≤◌}
+use Rattle.std.proofs.Common.{◌≡◌, ◌↔◌, ◌⊎◌, ◌<◌, inl, inr, ⊎_elim, refl, sym, ap, ◌∙◌, subst, ℕ, suc, ◌+◌, ◌-◌, ◌^◌}
+use Rattle.std.proofs.Common.{◌≤◌}
 use Rattle.std.proofs.Common.{IfErr, IsSome, Option, None, List, [], true, ◌++◌, length, Result, Ok, Err, arith}
 use Rattle.std.specs.Prelude.{IfOk}
 use Rattle.pcm_base.specs.declared.answer.Reply.{Reply}
@@ -19,17 +20,15 @@ use Rattle.block_ledger.specs.Counts.{Counts, IsFreshCount}
 use Rattle.clip_track.specs.declared.items.Item.{Item}
 use Rattle.edit_ops.specs.declared.types.NewBlock.{NewBlock}
 use Rattle.piece_store.specs.declared.given.Given as brings
-use Rattle.project_state.specs.declared.body.Body.{Body}
 use Rattle.project_state.specs.declared.body.Body.TheVariants.{Edit}
 use Rattle.project_state.specs.declared.track.Track.{Track}
-use Rattle.project_state.specs.Kept.{history_blocks}
+use Rattle.project_state.specs.Kept.{current_tracks, history_blocks}
 use Rattle.editor_core.specs.Adding.{Adds, AddsBody, stopped_by}
-use Rattle.editor_core.specs.Bodies.{body_bytes, whole_len}
+use Rattle.editor_core.specs.Bodies.{Writing, all_bytes, all_len, whole_len}
 use Rattle.editor_core.specs.Applied.{Lasts}
 use Rattle.editor_core.specs.Core.{Core}
 use Rattle.editor_core.specs.Exchanges.{is_broken_off}
 use Rattle.editor_core.specs.Edits.{Carried, Committed, IsPlanned, IsPrepared, TaggedEdit, clip_behind}
-use Rattle.editor_core.specs.Points.{current_tracks}
 use Rattle.editor_core.specs.Records.{Records}
 use Rattle.editor_core.specs.Spent.{NamesGiven}
 use Rattle.editor_core.specs.Left.{CountsIds, IsSoOf, Left, LeavesOthers, MayRemove, Stops, Untouched}
@@ -60,7 +59,7 @@ use Rattle.editor_core.proofs.Used.{names_given}
 
 module _ {D : Type 0} (disk : Ghosts D) (s : Core D) (is : IsStudio disk s) (going : s.stopped ≡ None)
     (e : TaggedEdit) (plan : IsPlanned s e)
-    (c : Call) (sound : SoundMove) (one : commits_of c ≡ 1) where
+    (c : Call) (sound : SoundMove) (one : commits_of c ≡ suc e.more) where
   abbrev given : brings.Given
   given = e.given
 
@@ -79,11 +78,14 @@ module _ {D : Type 0} (disk : Ghosts D) (s : Core D) (is : IsStudio disk s) (goi
   abbrev track_then : ℕ
   track_then = s.next_track + e.plan.tracks
 
-  abbrev told_body : Body
-  told_body = Edit e.tag (s.next_block + n) track_then point
+  abbrev writes : Writing
+  writes = record { more = e.more; body = Edit e.tag (s.next_block + n) track_then point }
 
-  abbrev body : List ℕ
-  body = body_bytes s told_body
+  abbrev bodies : List (List ℕ)
+  bodies = all_bytes s writes
+
+  abbrev len : ℕ
+  len = all_len s writes
 
   abbrev h : History (List Track)
   h = edit_history disk s is going e plan
@@ -166,7 +168,7 @@ module _ {D : Type 0} (disk : Ghosts D) (s : Core D) (is : IsStudio disk s) (goi
 
   -- ---- all of them
 
-  module _ (prepared : IsPrepared s n e.plan.tracks (length body)) (store : D) (counts : Counts)
+  module _ (prepared : IsPrepared s n e.plan.tracks (suc e.more) len) (store : D) (counts : Counts)
       (making : Making disk s (batch_of given makes) n
       (record s { store = store; counts = counts; next_block = s.next_block + n })) where
     abbrev mid : Core D
@@ -175,7 +177,7 @@ module _ {D : Type 0} (disk : Ghosts D) (s : Core D) (is : IsStudio disk s) (goi
     mid_is : IsStudio disk mid
     mid_is = made_studio disk s is given makes n mid making going (omega arith) plan.new prepared.blocks there
 
-    leads : LeadsOn mid (refs makes) h clip track_then
+    leads : LeadsOn mid (refs makes) h clip track_then (suc e.more)
     leads = record {
       given = all_so (λ (b : BlockRef). IsNewId s.next_block n b.id) (λ (b : BlockRef). IsGiven (s.next_block + n) b.id)
           (λ b k. (omega (arith, k.0, is.counters.block_least), k.1)) (refs makes)
@@ -192,19 +194,19 @@ module _ {D : Type 0} (disk : Ghosts D) (s : Core D) (is : IsStudio disk s) (goi
       few = recorded_few s.history point e.tag;
     }
 
-    -- the record was not added
-    failed_lasts : (new : Core D) → AddsBody {R = Unit {0}} disk mid told_body (Err refusal.DiskFault) new
+    -- the records were not added
+    failed_lasts : (new : Core D) → AddsBody {R = Unit {0}} disk mid writes (Err refusal.DiskFault) new
         → Lasts disk s (with_sound c sound (Err refusal.DiskFault)) new
     failed_lasts new adds =
         let halted = stopped_by disk mid new.store in
         subst (λ (z : Core D). Lasts disk s (with_sound c sound (Err refusal.DiskFault)) z) (sym adds.fields.0)
-        (lasts_going (Err refusal.DiskFault) halted (stopped_studio disk mid mid_is new.store) refl (length body)
+        (lasts_going (Err refusal.DiskFault) halted (stopped_studio disk mid mid_is new.store) refl len
         (λ device. prepared.short) tt
-        (all_changed disk s given makes prepared.blocks c sound is (Err refusal.DiskFault) (length body) mid halted
+        (all_changed disk s given makes prepared.blocks c sound is (Err refusal.DiskFault) len mid halted
         making refl
         (changed_wider (others_record mid.file mid.next_block mid.next_block NoneGoes is.journal.among)
         (record_within (with_sound c sound (Err refusal.DiskFault)) (disk.reads store s.file) mid.block_size
-        (mid.next_block - mid.next_block) (length body) (packed_by mid c) one) adds.changed))
+        (mid.next_block - mid.next_block) len (packed_by mid c) one) adds.changed))
         (all_ids disk s given makes prepared.blocks c sound store counts making new.store adds.fields.2)
         (off_untouched disk s.store new.store refusal.DiskFault refl)
         (inr (
@@ -214,8 +216,8 @@ module _ {D : Type 0} (disk : Ghosts D) (s : Core D) (is : IsStudio disk s) (goi
         ))
         (all_left disk s given makes prepared.blocks c sound store counts making new.store adds.fields.2))
 
-    -- it was
-    module _ {Q : Type 0} (q : Q) (new : Core D) (adds : AddsBody disk mid told_body (Ok q) new)
+    -- they were
+    module _ {Q : Type 0} (q : Q) (new : Core D) (adds : AddsBody disk mid writes (Ok q) new)
         (h' : History (List Track)) (counts' : Counts) (next_track : ℕ)
         (moved : h' ≡ h) (tracked : next_track ≡ track_then)
         (counted : IsFreshCount (ids_of (history_blocks h ++ (pin_blocks s.pins ++ clip_blocks clip))) counts')
@@ -223,8 +225,8 @@ module _ {D : Type 0} (disk : Ghosts D) (s : Core D) (is : IsStudio disk s) (goi
       abbrev done : Core D
       done = record mid {
         store = new.store;
-        journal_end = s.journal_end + 5 + length body;
-        commit_number = s.commit_number + 1;
+        journal_end = s.journal_end + 5 + len;
+        commit_number = s.commit_number + suc e.more;
         history = h';
         clipboard = clip;
         counts = counts';
@@ -233,30 +235,30 @@ module _ {D : Type 0} (disk : Ghosts D) (s : Core D) (is : IsStudio disk s) (goi
 
       done_studio : IsStudio disk done
       done_studio =
-          led_studio disk mid mid_is (refs makes) h clip track_then leads new.store (s.journal_end + 5 + length body)
+          led_studio disk mid mid_is (refs makes) h clip track_then leads new.store (s.journal_end + 5 + len)
           (omega (arith, adds.fields.1)) (omega arith) h' counts' next_track
           moved tracked counted files (cache_by_record disk mid mid_is _ new.store adds.changed)
 
       done_lasts : Lasts disk s (with_sound c sound (Ok Done))
           (record new { history = h'; clipboard = clip; counts = counts'; next_track = next_track })
       done_lasts =
-          let number : s.commit_number + 1 ≡ s.commit_number + commits_of c =
+          let number : s.commit_number + suc e.more ≡ s.commit_number + commits_of c =
           ap (λ (k : ℕ). s.commit_number + k) (sym one) in
           let current : current_tracks h' ≡ point =
           ap current_tracks moved ∙ recorded_current s.history point e.tag is.format.depth_least in
           subst (λ (z : Core D). Lasts disk s (with_sound c sound (Ok Done))
           (record z { history = h'; clipboard = clip; counts = counts'; next_track = next_track })) (sym adds.fields.0)
-          (lasts_going (Ok Done) done done_studio number (length body)
+          (lasts_going (Ok Done) done done_studio number len
           (inr (
-            told_body,
+            writes,
             refl,
             (refl, sym tracked, sym current),
           ))
           (names_given disk s e plan done done_studio current refl)
-          (all_changed disk s given makes prepared.blocks c sound is (Ok Done) (length body) mid done making refl
+          (all_changed disk s given makes prepared.blocks c sound is (Ok Done) len mid done making refl
           (changed_wider (others_record mid.file mid.next_block mid.next_block NoneGoes is.journal.among)
           (record_within (with_sound c sound (Ok Done)) (disk.reads store s.file) mid.block_size
-          (mid.next_block - mid.next_block) (length body) (packed_by mid c) one) adds.changed))
+          (mid.next_block - mid.next_block) len (packed_by mid c) one) adds.changed))
           (ids_made s done counts n making.ledger files refl) tt
           (inl (refl, adds.fields.2 ∙ making.change_faults)) tt)
 
@@ -274,16 +276,18 @@ module _ {D : Type 0} (disk : Ghosts D) (s : Core D) (is : IsStudio disk s) (goi
       (λ not.
       subst (λ (z : Core D). Lasts disk s (with_sound c sound (Err why)) z) (sym not.0)
       (lasts_idle disk s is fewer c (commit_removes_none c one) sound why
-      (unprepared_plain s n e.plan.tracks (whole_len told_body) (length body) why not.1)))
+      (unprepared_plain s n e.plan.tracks (suc e.more) (whole_len s writes) len why not.1)))
       (⊎_elim
       (λ some. stuck_lasts some.0.blocks why new some.1)
       (λ last.
       let it = last.1 in
-      let adds = subst (λ (e : Refusal). Adds {R = Unit {0}} disk it.mid body (whole_len told_body) (Err e) new) last.0
-      it.adds in
+      let adds = subst (λ (r : Refusal). Adds {R = Unit {0}} disk it.mid bodies (suc e.more) (whole_len s writes)
+      (Err r) new)
+      last.0 it.adds in
       subst (λ (e : Refusal). Lasts disk s (with_sound c sound (Err e)) new) (sym last.0)
       (failed_lasts it.prepared it.mid.store it.mid.counts (made_so it.mid it.making) new
-      (subst (λ (z : Core D). Adds {R = Unit {0}} disk z body (whole_len told_body) (Err refusal.DiskFault) new)
+      (subst (λ (z : Core D). Adds {R = Unit {0}} disk z bodies (suc e.more) (whole_len s writes)
+      (Err refusal.DiskFault) new)
       it.making.is adds))))
       carried
 
@@ -296,5 +300,5 @@ module _ {D : Type 0} (disk : Ghosts D) (s : Core D) (is : IsStudio disk s) (goi
       (record new { history = h'; clipboard = clip; counts = counts'; next_track = next_track })
   lasts_ok done new it h' counts' next_track moved tracked counted files =
       done_lasts it.prepared it.mid.store it.mid.counts (made_so it.mid it.making) done new
-      (subst (λ (z : Core D). Adds disk z body (whole_len told_body) (Ok done) new) it.making.is it.adds)
+      (subst (λ (z : Core D). Adds disk z bodies (suc e.more) (whole_len s writes) (Ok done) new) it.making.is it.adds)
       h' counts' next_track moved tracked counted files

@@ -1,21 +1,18 @@
--- Records that lead to a project, and one more; the journal begins as before.
-use Rattle.std.proofs.Common.{ap, subst, ℕ, List, [], ◌∷◌, ◌++◌}
-use Rattle.project_state.specs.declared.body.Body.{Body}
-use Rattle.project_journal.specs.Journal.{Log, with_body}
-use Rattle.project_state.specs.Kept.{Begins, BeginsBy, Kept, after_body, IsNextIn, LeadIn}
+-- Records that lead to a project, and more; the journal begins as before.
+use Rattle.std.proofs.Common.{subst, ℕ, List, [], ◌∷◌, ◌++◌}
+use Rattle.project_journal.specs.Journal.{Log, with_bodies}
+use Rattle.project_state.specs.Kept.{Begins, BeginsBy, Kept, after_body, LeadIn}
 
-pub lead_more : (version m : ℕ) (k mid : Kept) (bodies : List (List ℕ)) (bytes : List ℕ) (body : Body)
-    → LeadIn version m k bodies mid → IsNextIn version m mid bytes body
-    → LeadIn version m k (bodies ++ bytes ∷ []) (after_body mid body)
-lead_more version m k mid [] bytes body is next =
-    (body, subst (λ (z : Kept). IsNextIn version m z bytes body) is next, ap (λ (z : Kept). after_body z body) is)
-lead_more version m k mid (b ∷ bs) bytes body h next =
-    (h.0, h.1, lead_more version m (after_body k h.0) mid bs bytes body h.2 next)
+pub lead_all : (version m : ℕ) (k mid end : Kept) (bodies more : List (List ℕ)) → LeadIn version m k bodies mid
+    → LeadIn version m mid more end → LeadIn version m k (bodies ++ more) end
+lead_all version m k mid end [] more is led = subst (λ (z : Kept). LeadIn version m z more end) is led
+lead_all version m k mid end (b ∷ bs) more h led =
+    (h.0, h.1, lead_all version m (after_body k h.0) mid end bs more h.2 led)
 
-begins_by : (points : List (List ℕ)) (log : Log) (bytes : List ℕ) (base : Kept) → BeginsBy points log base
-    → BeginsBy points (with_body log bytes) base
-begins_by [] log bytes base is = is
-begins_by (p ∷ ps) log bytes base is = record {
+begins_by : (points : List (List ℕ)) (log : Log) (bodies : List (List ℕ)) (base : Kept) → BeginsBy points log base
+    → BeginsBy points (with_bodies log bodies) base
+begins_by [] log bodies base is = is
+begins_by (p ∷ ps) log bodies base is = record {
   points = is.points;
   cursor = is.cursor;
   depth = is.depth;
@@ -25,5 +22,6 @@ begins_by (p ∷ ps) log bytes base is = record {
   sound = is.sound;
 }
 
-pub begins_more : (log : Log) (bytes : List ℕ) (base : Kept) → Begins log base → Begins (with_body log bytes) base
+pub begins_more : (log : Log) (bodies : List (List ℕ)) (base : Kept) → Begins log base
+    → Begins (with_bodies log bodies) base
 begins_more log = begins_by log.points log

@@ -95,6 +95,8 @@ mod Tracks
 mod Without
 mod Lengths
 mod BodyBytes
+mod Rows
+mod Still
 mod Editing
 mod PlainLines
 mod PlainEdits

@@ -32,7 +32,8 @@ use Rattle.editor_core.proofs.Images.{keeps_now}
 use Rattle.editor_core.proofs.Leaving.{IsOwn, left_read, own_plain, plain_so}
 use Rattle.editor_core.proofs.Others.{others_none}
 use Rattle.editor_core.proofs.Quiet.{IsQuiet}
-use Rattle.editor_core.proofs.Removing.{RemovesNone, frees_none, ids_same, no_record, none_given}
+use Rattle.editor_core.proofs.Removing.{PacksNone, RemovesNone, frees_none, frees_refused, ids_same, no_record}
+use Rattle.editor_core.proofs.Removing.{none_given}
 use Rattle.editor_core.proofs.Staying.{stopped_not}
 use Rattle.editor_core.proofs.StudioCache.{ReadsNamed, cache_by_reads}
 use Rattle.editor_core.proofs.Spending.{own_needed}
@@ -119,9 +120,9 @@ module _ {D : Type 0} (disk : Ghosts D) (s : Core D) (is : IsStudio disk s) (sto
     t = studio_of disk s
 
     -- it read what it wanted
-    pub looked_ok : (r : Reply) → disk.read_fault_count store ≡ disk.read_fault_count s.store
+    pub looked_ok : PacksNone c → (r : Reply) → disk.read_fault_count store ≡ disk.read_fault_count s.store
         → (IsHeld disk s → CarriesOut t c silent r t) → Took disk s (quietly c (Ok r)) looked
-    looked_ok r faults step = record {
+    looked_ok plain r faults step = record {
       studio = looked_studio;
       held = looked_held;
       step = λ held. subst (CarriesOut t c silent r) (sym (looked_state ∙ (λ i. record t { read_faults = faults i })))
@@ -137,7 +138,7 @@ module _ {D : Type 0} (disk : Ghosts D) (s : Core D) (is : IsStudio disk s) (sto
       given = none_given (Ok r) s looked refl;
       needed = tt;
       changed = changed_kept (others_none s.next_block s.next_block (MayRemove c s.counts)) kept;
-      frees = frees_none disk s c (Ok r) looked none;
+      frees = frees_none disk s c (Ok r) looked none plain;
       ids = ids_same s looked refl refl;
       untouched = tt;
       stops = inl (refl, kept.same_faults);
@@ -162,7 +163,7 @@ module _ {D : Type 0} (disk : Ghosts D) (s : Core D) (is : IsStudio disk s) (sto
       given = tt;
       needed = needed;
       changed = changed_kept (others_none s.next_block s.next_block (MayRemove c s.counts)) kept;
-      frees = frees_none disk s c (Err why) looked none;
+      frees = frees_refused disk s c why looked none;
       ids = ids_same s looked refl refl;
       untouched = λ device. kept;
       stops = inl (refl, kept.same_faults);

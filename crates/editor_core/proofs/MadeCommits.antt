@@ -33,7 +33,7 @@ use Rattle.editor_core.proofs.Makings.{making_next}
 use Rattle.editor_core.proofs.MadeLeft.{all_changed}
 use Rattle.editor_core.proofs.MadeStudios.{IsNewId, are_made, keeps_outside, made_state, refs, refs_all, refs_ids}
 use Rattle.editor_core.proofs.Premises.{TookWhere}
-use Rattle.editor_core.proofs.Removing.{RemovesNone, frees_none}
+use Rattle.editor_core.proofs.Removing.{PacksNone, RemovesNone, frees_none}
 use Rattle.editor_core.proofs.Staying.{HasMade, stopped_not}
 use Rattle.editor_core.specs.Records.{Records}
 use Rattle.editor_core.specs.Spent.{NamesGiven, Needed}
@@ -109,11 +109,12 @@ module _ {D : Type 0} (disk : Ghosts D) (s : Core D) (is : IsStudio disk s) (giv
         → Needs (outside (studio_of disk mid) sound) (studio_of disk mid) c blocks len
         → Needs (outside t sound) t c blocks len)
         → (IsHeld disk s → (len : ℕ) × CarriesOut t c sound Done (followed (outside t sound) t c n len))
-        → (IsHeld disk s → Answers t c sound told_as (studio_of disk new)) → RemovesNone c → CountsIds s [] new
+        → (IsHeld disk s → Answers t c sound told_as (studio_of disk new)) → RemovesNone c → PacksNone c
+        → CountsIds s [] new
         → IfOk told_as (λ r. NamesGiven s new) → IfErr told_as (Needed disk s c sound)
         → Untouched disk s told_as new → Stops disk s told_as new
         → IfErr told_as (Left disk s new) → Took disk s (with_sound c sound told_as) new
-    composed told_as new took next back carried step none ids named needed untouched stops left =
+    composed told_as new took next back carried step none plain ids named needed untouched stops left =
         let images = making.changed.images in
         let at_next = making_next disk s given makes n mid making in
         let number : mid.commit_number ≡ s.commit_number = ap (λ (z : Core D). z.commit_number) making.is in record {
@@ -142,7 +143,7 @@ module _ {D : Type 0} (disk : Ghosts D) (s : Core D) (is : IsStudio disk s) (giv
           given = named;
           needed = needed;
           changed = all_changed disk s given makes most c sound is told_as took.len mid new making next took.changed;
-          frees = frees_none disk s c told_as new none;
+          frees = frees_none disk s c told_as new none plain;
           ids = ids;
           untouched = untouched;
           stops = stops;

@@ -34,7 +34,7 @@ use Rattle.editor_core.proofs.MadeLeft.{unput_left}
 use Rattle.editor_core.proofs.MadeStudios.{below_same, keeps_outside, made_held, made_state, made_studio, with_held}
 use Rattle.editor_core.proofs.MadeStudios.{with_store}
 use Rattle.editor_core.proofs.Meanings.{same_studio}
-use Rattle.editor_core.proofs.Removing.{RemovesNone, frees_none, off_untouched}
+use Rattle.editor_core.proofs.Removing.{RemovesNone, frees_refused, off_untouched}
 use Rattle.editor_core.proofs.Staying.{some_none, stopped_not}
 use Rattle.editor_core.proofs.Spending.{off_needed}
 
@@ -74,7 +74,7 @@ module _ {D : Type 0} (disk : Ghosts D) (s : Core D) (is : IsStudio disk s) (giv
           given = tt;
           needed = off_needed disk s c sound why off;
           changed = some_changed disk s given makes most c sound why k len new making few;
-          frees = frees_none disk s c (Err why) new none;
+          frees = frees_refused disk s c why new none;
           ids = some_ids disk s given makes most c sound k new making;
           untouched = off_untouched disk s.store new.store why off;
           stops = inl (some_stop disk s given makes most c sound k new making, making.change_faults);
@@ -222,7 +222,7 @@ module _ {D : Type 0} (disk : Ghosts D) (s : Core D) (is : IsStudio disk s) (giv
         given = tt;
         needed = tt;
         changed = unput_changed disk s given makes most c sound k mid new was few left un len;
-        frees = frees_none disk s c (Err refusal.DiskFault) here none;
+        frees = frees_refused disk s c refusal.DiskFault here none;
         ids = unput_ids disk s given makes most c sound k mid new was few left un;
         untouched = off_untouched disk s.store store refusal.DiskFault refl;
         stops = inr (refl, unput_failed disk s given makes most c sound k mid new was few left un, refl);

@@ -28,6 +28,7 @@ use Rattle.project_state.specs.Kept.{history_blocks, point_blocks}
 use Rattle.project_state.specs.KeptSound.{IsSoundTagged}
 use Rattle.project_state.proofs.MeantHistories.{meant_purged}
 use Rattle.editor_core.specs.Adding.{AddsBody, IsNoWant}
+use Rattle.editor_core.specs.Bodies.{single}
 use Rattle.editor_core.specs.Core.{Core}
 use Rattle.editor_core.specs.Occurrences.{HasAll, Dropped, times_named}
 use Rattle.editor_core.specs.Studios.{IsHeld, IsStudio, clip_blocks, ids_of, named_blocks, pin_blocks, studio_of}
@@ -44,9 +45,9 @@ use Rattle.editor_core.proofs.Staying.{none_made, refuses}
 use Rattle.editor_core.proofs.Times.{named_append}
 use Rattle.editor_core.proofs.Spending.{tested_needed}
 
-pub undo_call : IsCommitCall (Line command.Undo) silent 0
+pub undo_call : IsCommitCall (Line command.Undo) silent 0 0
 undo_call = record {
-  one = refl;
+  many = refl;
   no_pin = refl;
   tracks_is = λ rate. refl;
   stops = λ o. refl;
@@ -57,9 +58,9 @@ undo_call = record {
   done = λ rate s. refl;
 }
 
-pub redo_call : IsCommitCall (Line command.Redo) silent 0
+pub redo_call : IsCommitCall (Line command.Redo) silent 0 0
 redo_call = record {
-  one = refl;
+  many = refl;
   no_pin = refl;
   tracks_is = λ rate. refl;
   stops = λ o. refl;
@@ -70,9 +71,9 @@ redo_call = record {
   done = λ rate s. refl;
 }
 
-pub purge_call : (n : ℕ) → IsCommitCall (Line (command.Purge n)) silent 0
+pub purge_call : (n : ℕ) → IsCommitCall (Line (command.Purge n)) silent 0 0
 purge_call n = record {
-  one = refl;
+  many = refl;
   no_pin = refl;
   tracks_is = λ rate. refl;
   stops = λ o. refl;
@@ -85,7 +86,7 @@ purge_call n = record {
 
 module _ {D : Type 0} (disk : Ghosts D) (s : Core D) (is : IsStudio disk s) where
   abbrev Move : Call → Body → History (List Track) → Type 1
-  Move c body h = IsCommit (IsHeld disk s) disk s [] c silent 0 body h s.clipboard s.next_track
+  Move c body h = IsCommit (IsHeld disk s) disk s [] c silent 0 (single body) h s.clipboard s.next_track
 
   same_points : (h : History (List Track)) → h.points ≡ s.history.points → Covers (named_blocks s ++ []) h
   same_points h e P all =
@@ -107,8 +108,12 @@ module _ {D : Type 0} (disk : Ghosts D) (s : Core D) (is : IsStudio disk s) wher
     gives = omega arith;
     block_then = λ n. n;
     block_most = λ n h. h;
-    next = λ m k e room. may_come disk s is m k Undo e room tt
-        (subst (λ (h : History (List Track)). 0 < h.cursor) (sym e.history) some);
+    tells = λ m k e room. (
+      Undo,
+      may_come disk s is m k Undo e (omega (arith, room)) tt
+          (subst (λ (h : History (List Track)). 0 < h.cursor) (sym e.history) some),
+      refl,
+    );
     leads = λ m k e. λ i. record k {
       history = at_cursor (e.history i) ((e.history i).cursor - 1);
       next_track = e.next_track i;
@@ -133,8 +138,12 @@ module _ {D : Type 0} (disk : Ghosts D) (s : Core D) (is : IsStudio disk s) wher
     gives = omega arith;
     block_then = λ n. n;
     block_most = λ n h. h;
-    next = λ m k e room. may_come disk s is m k Redo e room tt
-        (subst (λ (h : History (List Track)). h.cursor + 1 < length h.points) (sym e.history) some);
+    tells = λ m k e room. (
+      Redo,
+      may_come disk s is m k Redo e (omega (arith, room)) tt
+          (subst (λ (h : History (List Track)). h.cursor + 1 < length h.points) (sym e.history) some),
+      refl,
+    );
     leads = λ m k e. λ i. record k {
       history = at_cursor (e.history i) ((e.history i).cursor + 1);
       next_track = e.next_track i;
@@ -168,8 +177,12 @@ module _ {D : Type 0} (disk : Ghosts D) (s : Core D) (is : IsStudio disk s) wher
     gives = omega arith;
     block_then = λ n. n;
     block_most = λ n h. h;
-    next = λ m k e room. may_come disk s is m k (Purge n) e room small
-        (subst (λ (h : History (List Track)). (1 ≤ n) × (n ≤ h.cursor)) (sym e.history) (some, few));
+    tells = λ m k e room. (
+      Purge n,
+      may_come disk s is m k (Purge n) e (omega (arith, room)) small
+          (subst (λ (h : History (List Track)). (1 ≤ n) × (n ≤ h.cursor)) (sym e.history) (some, few)),
+      refl,
+    );
     leads =
         λ m k e. λ i. record k { history = purged (e.history i) n; next_track = e.next_track i; commit = k.commit + 1 };
     covers = purge_covers n;
@@ -192,14 +205,14 @@ module _ {D : Type 0} (disk : Ghosts D) (s : Core D) (is : IsStudio disk s) wher
       (counts : Counts) → Move c body h
       → s.stopped ≡ None → call_tests (outside (studio_of disk s) silent) (studio_of disk s).state c ≡ None
       → s.commit_number < 2 ^ 62
-      → AddsBody disk s body (Ok (tt {0})) mid → h' ≡ h
+      → AddsBody disk s (single body) (Ok (tt {0})) mid → h' ≡ h
       → IsFreshCount (ids_of (history_blocks h ++ (pin_blocks s.pins ++ clip_blocks s.clipboard))) counts
       → ((id : ℕ) → IsSome (counts id) ↔ IsSome (s.counts id))
       → Took disk s (quietly c (Ok Done)) (record mid { history = h'; counts = counts })
   moves c body h mid h' counts move going own number adds is-h counted files =
       let clip = ap (λ (z : Core D). z.clipboard) adds.fields.0 in
-      let took = grows_so disk s [] c silent 0 body h s.clipboard s.next_track is (none_made disk s) move going own
-      (omega (arith, is.counters.track_most)) number (tt {0}) mid adds
+      let took = grows_so disk s [] c silent 0 (single body) h s.clipboard s.next_track is (none_made disk s) move going own
+      (omega (arith, is.counters.track_most)) (omega (arith, number)) (tt {0}) mid adds
       h' counts mid.next_track is-h (ap (λ (z : Core D). z.next_track) adds.fields.0) counted files in
       subst (λ z. Took disk s (quietly c (Ok Done)) (record mid { history = h'; clipboard = z; counts = counts }))
       (sym clip) took
@@ -209,7 +222,7 @@ module _ {D : Type 0} (disk : Ghosts D) (s : Core D) (is : IsStudio disk s) wher
       → Move c body h → h.points ≡ s.history.points
       → s.stopped ≡ None → call_tests (outside (studio_of disk s) silent) (studio_of disk s).state c ≡ None
       → s.commit_number < 2 ^ 62
-      → AddsBody disk s body (Ok (tt {0})) mid → h' ≡ h
+      → AddsBody disk s (single body) (Ok (tt {0})) mid → h' ≡ h
       → Took disk s (quietly c (Ok Done)) (record mid { history = h' })
   moved c body h mid h' move points going own number adds is-h =
       let counts : mid.counts ≡ s.counts = ap (λ (z : Core D). z.counts) adds.fields.0 in
@@ -256,7 +269,7 @@ module _ {D : Type 0} (disk : Ghosts D) (s : Core D) (is : IsStudio disk s) wher
 -- a commit without new blocks that a test refuses
 pub tested_out : {D : Type 0} (disk : Ghosts D) (s : Core D) (c : Call) (tracks len : ℕ) (own : Option Refusal)
     (why : Refusal) → IsStudio disk s → Fewer disk s.store
-    → IsCommitCall c silent tracks
+    → IsCommitCall c silent tracks 0
     → (IsHeld disk s → Needs (outside (studio_of disk s) silent) (studio_of disk s) c 0 len)
     → own ≡ call_tests (outside (studio_of disk s) silent) (studio_of disk s).state c
     → (stop_of s.stopped) otherwise own otherwise (no_room s.next_track tracks) otherwise (no_room s.commit_number 1)
@@ -264,7 +277,7 @@ pub tested_out : {D : Type 0} (disk : Ghosts D) (s : Core D) (c : Call) (tracks 
 tested_out disk s c tracks len own why is fewer call needs is_own h =
     let by = ap (λ (o : Option Refusal). (stop_of s.stopped) otherwise o otherwise
     (no_room s.next_track tracks) otherwise (no_room s.commit_number 1)) (sym is_own) ∙ h in
-    refuses disk s c silent why is fewer (commit_frees disk s c (Err why) s call.one) refl len 0 needs
+    refuses disk s c silent why is fewer (commit_frees disk s c (Err why) s call.many) refl len 0 needs
     (tested (studio_of disk s) c silent tracks call 0 len is.counters.pin_most is.journal.generation_most why
     (omega (arith, is.counters.block_most)) by) (tested_needed disk s c silent tracks call own is_own why h)
 

@@ -21,7 +21,7 @@ use Rattle.editor_core.specs.Took.{Took, quietly, silent}
 use Rattle.editor_core.proofs.Images.{keeps_now}
 use Rattle.editor_core.proofs.Others.{others_none}
 use Rattle.editor_core.proofs.Quiet.{IsQuiet}
-use Rattle.editor_core.proofs.Removing.{RemovesNone, frees_none, ids_still, no_record, none_given}
+use Rattle.editor_core.proofs.Removing.{PacksNone, RemovesNone, frees_none, ids_still, no_record, none_given}
 
 -- another clipboard, other pins and counts
 abbrev pub renamed : {D : Type 0} → Core D → Option (List (List Item)) → List Pin → ℕ → Counts → Core D
@@ -101,11 +101,11 @@ module _ {D : Type 0} (disk : Ghosts D) (s : Core D) (is : IsStudio disk s) (cli
   }
 
   -- `rests` where the studio had stopped
-  pub renamed_took : (c : Call) → IsQuiet c → RemovesNone c → (r : Reply) → Fewer disk s.store
+  pub renamed_took : (c : Call) → IsQuiet c → RemovesNone c → PacksNone c → (r : Reply) → Fewer disk s.store
       → (IsSome s.stopped → new ≡ record s { pins = pins; counts = counts })
       → (IsHeld disk s → CarriesOut (studio_of disk s) c silent r (studio_of disk new))
       → Took disk s (quietly c (Ok r)) new
-  renamed_took c quiet none r fewer rests step = record {
+  renamed_took c quiet none plain r fewer rests step = record {
     studio = renamed_studio;
     held = renamed_held;
     step = step;
@@ -120,7 +120,7 @@ module _ {D : Type 0} (disk : Ghosts D) (s : Core D) (is : IsStudio disk s) (cli
     given = none_given (Ok r) s new refl;
     needed = tt;
     changed = changed_none s.store (others_none s.next_block s.next_block (MayRemove c s.counts)) fewer;
-    frees = frees_none disk s c (Ok r) new none;
+    frees = frees_none disk s c (Ok r) new none plain;
     ids = ids_still s new names.ids refl;
     untouched = tt;
     stops = inl (refl, refl);

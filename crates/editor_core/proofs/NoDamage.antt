@@ -10,6 +10,7 @@ use Rattle.disk_model.specs.declared.store.Store.{Ghosts}
 use Rattle.envelope_view.specs.Answers.{IsUndamaged}
 use Rattle.project_state.specs.declared.track.Track.{Track}
 use Rattle.project_state.specs.Tracks.{track_of}
+use Rattle.project_journal.specs.Journal.{rows_length}
 use Rattle.editor_core.specs.Adding.{Exceeds}
 use Rattle.editor_core.specs.Core.{Core}
 use Rattle.editor_core.specs.Edits.{Carried, NotPrepared, BlockCommit}
@@ -91,21 +92,21 @@ module _ {D : Type 0} (disk : Ghosts D) (s : Core D) (is : IsStudio disk s) (goi
   abbrev n : ℕ
   n = length c.makes
 
-  unprepared : NotPrepared s n c.tracks c.whole (length c.body) why → IsUndamaged why
+  unprepared : NotPrepared s n c.tracks c.count c.whole (rows_length c.bodies) why → IsUndamaged why
   unprepared not = ⊎_elim
       (λ memory. subst IsUndamaged (sym memory) tt)
       (⊎_elim
       (λ spent.
       let block = no_room s.next_block n in
       let track = no_room s.next_track c.tracks in
-      let number = no_room s.commit_number 1 in
+      let number = no_room s.commit_number c.count in
       tests_tell (block otherwise track otherwise number) why
       (either_tells block (track otherwise number) (spent_tells (nat_lt (2 ^ 62) (s.next_block + n)) s.next_block n)
       (either_tells track number (spent_tells (nat_lt (2 ^ 62) (s.next_track + c.tracks)) s.next_track c.tracks)
-      (spent_tells (nat_lt (2 ^ 62) (s.commit_number + 1)) s.commit_number 1)))
+      (spent_tells (nat_lt (2 ^ 62) (s.commit_number + c.count)) s.commit_number c.count)))
       spent)
       (λ over.
-      ⊎_elim (exceeding s.journal_end c.whole why) (exceeding s.journal_end (length c.body) why) over.3))
+      ⊎_elim (exceeding s.journal_end c.whole why) (exceeding s.journal_end (rows_length c.bodies) why) over.3))
       not
 
   pub no_damage : (new : Core D) → IsHeld disk s → PiecesThere (disk.reads s.store) c.makes

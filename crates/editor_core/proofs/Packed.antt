@@ -23,9 +23,8 @@ use Rattle.project_journal.proofs.Parses.{form_known}
 use Rattle.project_journal.proofs.Texts.{text_is}
 use Rattle.project_state.specs.declared.track.Track.{Track}
 use Rattle.project_state.specs.Kept.{Begins, BeginsBy, IsTold, Keeps, Kept, history_blocks, point_bytes}
-use Rattle.editor_core.specs.Compacts.{packed_core}
 use Rattle.editor_core.specs.Core.{Core, form_at}
-use Rattle.editor_core.specs.Packing.{packed_base, packed_log, packed_size, packed_text, points_in}
+use Rattle.editor_core.specs.Packing.{packed_base, packed_core, packed_log, packed_size, packed_text, points_in}
 use Rattle.editor_core.specs.Spent.{kept_of}
 use Rattle.editor_core.specs.Studios.{IsDurable, IsGiven, IsHeld, IsStudio, SameBlocks, clip_blocks, is_given}
 use Rattle.editor_core.specs.Studios.{named_blocks, pin_blocks, shown, studio_by, studio_of}

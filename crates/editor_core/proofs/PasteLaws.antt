@@ -29,7 +29,7 @@ use Rattle.edit_ops.specs.Plans.{Start}
 use Rattle.edit_ops.specs.Runs.{AreClips, ArePastes, clipboard_tests, lengths_of, start_behind}
 use Rattle.envelope_view.specs.Answers.{IsUndamaged}
 use Rattle.project_state.specs.declared.track.Track.{Track}
-use Rattle.project_state.specs.Kept.{meant, meant_track, point_blocks}
+use Rattle.project_state.specs.Kept.{current_tracks, meant, meant_track, point_blocks}
 use Rattle.project_state.specs.Sound.{AllSoundTracks}
 use Rattle.project_state.specs.Tracks.{AreAbove, track_of}
 use Rattle.project_state.proofs.KeptBounds.{all_append}
@@ -38,7 +38,7 @@ use Rattle.editor_core.specs.Copies.{run_of, strips_blocks}
 use Rattle.editor_core.specs.Core.{Core}
 use Rattle.editor_core.specs.Edits.{AreAmong}
 use Rattle.editor_core.specs.Pastes.{NoPastePlan, paste_refusal}
-use Rattle.editor_core.specs.Points.{current_tracks, lacks}
+use Rattle.editor_core.specs.Points.{lacks}
 use Rattle.editor_core.specs.Studios.{IsClipboard, IsGiven, IsStudio, MayPaste, clip_cells}
 use Rattle.editor_core.proofs.Copying.{from_sound, from_track, layout_of, run_is, run_meant}
 use Rattle.editor_core.proofs.CutLaws.{narrow_tells}

@@ -25,10 +25,10 @@ use Rattle.pcm_base.specs.declared.edits.Placing.{Placing}
 use Rattle.pcm_base.specs.declared.edits.Placing.TheVariants.{Insert, Cover}
 use Rattle.pcm_base.specs.Edits.{placed}
 use Rattle.pcm_base.specs.Shape.{paste_line}
+use Rattle.project_state.specs.Kept.{current_tracks}
 use Rattle.editor_core.specs.Core.{Core}
 use Rattle.editor_core.specs.Edits.{IsEditCall, alone}
 use Rattle.editor_core.specs.Pastes.{NoPastePlan, paste_refusal}
-use Rattle.editor_core.specs.Points.{current_tracks}
 use Rattle.editor_core.specs.Studios.{IsStudio}
 use Rattle.editor_core.specs.Studios.{studio_by, studio_of}
 use Rattle.editor_core.specs.Took.{Took, quietly, silent}
@@ -41,10 +41,10 @@ use Rattle.editor_core.proofs.PasteLaws.{line_tests, line_tests_are}
 use Rattle.editor_core.proofs.Spending.{early_needed}
 
 pub paste_call : (e : Placing) (id at : ℕ)
-    → IsEditCall (Line (paste_line e id at)) silent 0 (λ m st. blocks_of_tracks (length (clip_of st)))
+    → IsEditCall (Line (paste_line e id at)) silent 0 0 (λ m st. blocks_of_tracks (length (clip_of st)))
 paste_call Insert id at = record {
   commit = record {
-    one = refl;
+    many = refl;
     no_pin = refl;
     tracks_is = λ rate. refl;
     stops = λ o. refl;
@@ -54,12 +54,12 @@ paste_call Insert id at = record {
     quiet = refl;
     done = λ rate s. refl;
   };
-  needs = λ rate t blocks len h. h;
-  needed = λ rate t blocks len h. h;
+  needs = λ rate t blocks len h. (h.0, omega (arith, h.2));
+  needed = λ rate t blocks len h. (h.0, omega arith, omega (arith, h.1));
 }
 paste_call Cover id at = record {
   commit = record {
-    one = refl;
+    many = refl;
     no_pin = refl;
     tracks_is = λ rate. refl;
     stops = λ o. refl;
@@ -69,8 +69,8 @@ paste_call Cover id at = record {
     quiet = refl;
     done = λ rate s. refl;
   };
-  needs = λ rate t blocks len h. h;
-  needed = λ rate t blocks len h. h;
+  needs = λ rate t blocks len h. (h.0, omega (arith, h.2));
+  needed = λ rate t blocks len h. (h.0, omega arith, omega (arith, h.1));
 }
 
 own_by : (e : Placing) (id at : ℕ) (out : Outside) (st : State) → call_tests out st (Line (paste_line e id at))
@@ -121,8 +121,8 @@ module _ {D : Type 0} (disk : Ghosts D) (s : Core D) (is : IsStudio disk s) (e :
       let own = own_is (samples_on (disk.reads s.store)) in
       let first : ((stop_of s.stopped) otherwise (call_tests (outside t silent) t.state line)) ≡ Some why =
       (λ i. (stop_of s.stopped) otherwise (own i)) ∙ h in
-      refuses disk s line silent why is fewer (commit_frees disk s line (Err why) s call.commit.one) refl 0 0
-      (λ held. call.needs t.rate t 0 0 (omega arith, omega arith))
+      refuses disk s line silent why is fewer (commit_frees disk s line (Err why) s call.commit.many) refl 0 0
+      (λ held. call.needs t.rate t 0 0 (omega arith, omega arith, omega arith))
       (early t line silent 0 call.commit 0 0 why first) (early_needed disk s line silent why first)
 
   pub paste_stopped : (faults : ℕ) → Fewer disk s.store → s.stopped ≡ Some faults
@@ -136,6 +136,6 @@ module _ {D : Type 0} (disk : Ghosts D) (s : Core D) (is : IsStudio disk s) (e :
       (λ own. early_refused why fewer ((λ i. (stop_of (going i)) otherwise refused_by) ∙ own))
       (λ memory.
       subst (λ (r : Refusal). Took disk s (quietly line (Err r)) s) (sym memory)
-      (wants disk s line silent is fewer (commit_removes_none line (paste_call e id at).commit.one) refl 0
-      (λ held. (0, (paste_call e id at).needs t.rate t 0 0 (omega arith, omega arith)))))
+      (wants disk s line silent is fewer (commit_removes_none line (paste_call e id at).commit.many) refl 0
+      (λ held. (0, (paste_call e id at).needs t.rate t 0 0 (omega arith, omega arith, omega arith)))))
       not

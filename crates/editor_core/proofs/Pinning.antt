@@ -16,13 +16,12 @@ use Rattle.disk_model.proofs.Frames.{Fewer}
 use Rattle.sample_block.specs.Sources.{sources_of}
 use Rattle.block_ledger.specs.Counts.{Counts, occurrences}
 use Rattle.project_state.specs.declared.track.Track.{Track}
-use Rattle.project_state.specs.Kept.{point_blocks, history_blocks}
+use Rattle.project_state.specs.Kept.{current_tracks, point_blocks, history_blocks}
 use Rattle.project_state.specs.KeptSound.{IsSoundPoint}
 use Rattle.project_state.proofs.KeptBounds.{all_append}
 use Rattle.editor_core.specs.Core.{Core}
 use Rattle.editor_core.specs.declared.studio.Pin.{Pin}
 use Rattle.editor_core.specs.Occurrences.{Held, times_named}
-use Rattle.editor_core.specs.Points.{current_tracks}
 use Rattle.editor_core.specs.Studios.{IsStudio, pin_at, pin_blocks, clip_blocks, named_blocks, studio_of}
 use Rattle.editor_core.specs.Took.{Took, quietly, silent}
 use Rattle.editor_core.proofs.Editing.{current_sound, current_meant, old_names}
@@ -116,7 +115,7 @@ module _ {D : Type 0} (disk : Ghosts D) (s : Core D) (is : IsStudio disk s) (few
     pinned =
         let passed = quiet_passes t Keep pin_quiet (room_of disk s Keep is) refl (ap stop_of going) refl
         (fits s.next_pin 1 (omega (arith, room))) in
-        renamed_took disk s is s.clipboard pins (s.next_pin + 1) counts pin_renames Keep pin_quiet tt
+        renamed_took disk s is s.clipboard pins (s.next_pin + 1) counts pin_renames Keep pin_quiet tt tt
         (Pinned s.next_pin) fewer (λ some. absurd (stopped_not s.stopped some going))
         (λ _. carried t Keep pin_quiet (room_of disk s Keep is) refl (Pinned s.next_pin)
         (studio_of disk new) passed refl pin_state)

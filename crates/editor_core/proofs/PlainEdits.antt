@@ -24,7 +24,6 @@ use Rattle.disk_model.proofs.Frames.{Fewer}
 use Rattle.block_ledger.specs.Counts.{Counts}
 use Rattle.clip_track.specs.declared.clips.Clip.{Clip}
 use Rattle.clip_track.specs.Clips.{IsLayout, AllHalfFull, layout_blocks}
-use Rattle.project_state.specs.declared.body.Body.{Body}
 use Rattle.project_state.specs.declared.body.Body.TheVariants.{Edit}
 use Rattle.project_state.specs.declared.track.Track.{Track}
 use Rattle.project_state.specs.Kept.{meant, meant_track, meant_history, point_blocks, history_blocks}
@@ -32,7 +31,7 @@ use Rattle.project_state.specs.KeptSound.{IsSoundPoint}
 use Rattle.project_state.specs.Sound.{IsSoundTrack, AllClipsGiven}
 use Rattle.pcm_base.specs.Pieces.{Sources}
 use Rattle.editor_core.specs.Adding.{AddsBody}
-use Rattle.editor_core.specs.Bodies.{IsLength}
+use Rattle.editor_core.specs.Bodies.{IsLength, Writing, single}
 use Rattle.editor_core.specs.Core.{Core}
 use Rattle.editor_core.specs.Occurrences.{Moves}
 use Rattle.editor_core.specs.Plain.{line_of, IsGood, tracks_by, refusal_by, set_by, IsSet, IsEdited, without}
@@ -222,8 +221,8 @@ module _ {D : Type 0} (disk : Ghosts D) (s : Core D) (is : IsStudio disk s) wher
     abbrev track_then : ℕ
     track_then = s.next_track + tracks_by e
 
-    abbrev record_of : Body
-    record_of = Edit 0 s.next_block track_then p
+    abbrev record_of : Writing
+    record_of = single (Edit 0 s.next_block track_then p)
 
     pub sound : IsSoundPoint s.block_size s.next_block track_then p
     sound = sound_by e good none p ed
@@ -258,7 +257,7 @@ module _ {D : Type 0} (disk : Ghosts D) (s : Core D) (is : IsStudio disk s) wher
             → Took disk s (quietly (Line (line_of e)) (Err why)) mid
         edit_fails why mid fewer adds =
             fails disk s [] (Line (line_of e)) silent (tracks_by e) record_of (edited s.history p 0) s.clipboard
-            track_then is (none_made disk s) edits going own ids number why mid fewer adds
+            track_then is (none_made disk s) edits going own ids (omega (arith, number)) why mid fewer adds
 
         pub edit_done : {Q : Type 0} (q : Q) (mid : Core D) (h' : History (List Track)) (counts : Counts)
             (next_track : ℕ)
@@ -269,7 +268,7 @@ module _ {D : Type 0} (disk : Ghosts D) (s : Core D) (is : IsStudio disk s) wher
         edit_done q mid h' counts next_track adds moved moves tracked =
             let clip = ap (λ (z : Core D). z.clipboard) adds.fields.0 in
             let took = grows_so disk s [] (Line (line_of e)) silent (tracks_by e) record_of (edited s.history p 0)
-            s.clipboard track_then is (none_made disk s) edits going own ids number q mid adds
+            s.clipboard track_then is (none_made disk s) edits going own ids (omega (arith, number)) q mid adds
             h' counts next_track moved tracked (counts_then disk s is (edited s.history p 0) counts moves) moves.ids in
             subst (λ z. Took disk s (quietly (Line (line_of e)) (Ok Done))
             (record mid { history = h'; clipboard = z; counts = counts; next_track = next_track })) (sym clip) took

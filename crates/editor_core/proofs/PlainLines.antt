@@ -13,9 +13,9 @@ use Rattle.editor_core.specs.declared.plain.PlainEdit.TheVariants as edit
 use Rattle.editor_core.proofs.Spaces.{IsCommitCall}
 
 -- ---- the lines
-pub call_by : (e : PlainEdit) → IsCommitCall (Line (line_of e)) silent (tracks_by e)
+pub call_by : (e : PlainEdit) → IsCommitCall (Line (line_of e)) silent (tracks_by e) 0
 call_by edit.Track = record {
-  one = refl;
+  many = refl;
   no_pin = refl;
   tracks_is = λ rate. refl;
   stops = λ o. refl;
@@ -26,7 +26,7 @@ call_by edit.Track = record {
   done = λ rate s. refl;
 }
 call_by (edit.Drop id) = record {
-  one = refl;
+  many = refl;
   no_pin = refl;
   tracks_is = λ rate. refl;
   stops = λ o. refl;
@@ -37,7 +37,7 @@ call_by (edit.Drop id) = record {
   done = λ rate s. refl;
 }
 call_by (edit.Level id gain) = record {
-  one = refl;
+  many = refl;
   no_pin = refl;
   tracks_is = λ rate. refl;
   stops = λ o. refl;
@@ -48,7 +48,7 @@ call_by (edit.Level id gain) = record {
   done = λ rate s. refl;
 }
 call_by (edit.Side id side) = record {
-  one = refl;
+  many = refl;
   no_pin = refl;
   tracks_is = λ rate. refl;
   stops = λ o. refl;
@@ -59,7 +59,7 @@ call_by (edit.Side id side) = record {
   done = λ rate s. refl;
 }
 call_by (edit.Mute id mute) = record {
-  one = refl;
+  many = refl;
   no_pin = refl;
   tracks_is = λ rate. refl;
   stops = λ o. refl;

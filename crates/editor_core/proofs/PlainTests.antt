@@ -227,17 +227,17 @@ exceeding_plain end len (refusal.SpaceSpent have need) h = tt
 exceeding_plain end len (refusal.RecordLimit n) h = tt
 exceeding_plain end len why h = absurd h
 
-pub unprepared_plain : {D : Type 0} (s : Core D) (n tracks whole len : ℕ) (why : Refusal)
-    → NotPrepared s n tracks whole len why → IsPlain why
-unprepared_plain s n tracks whole len why not = ⊎_elim
+pub unprepared_plain : {D : Type 0} (s : Core D) (n tracks count whole len : ℕ) (why : Refusal)
+    → NotPrepared s n tracks count whole len why → IsPlain why
+unprepared_plain s n tracks count whole len why not = ⊎_elim
     (λ memory. subst IsPlain (sym memory) tt)
     (⊎_elim
     (λ spent.
     let block = no_room s.next_block n in
     let id = no_room s.next_track tracks in
-    let number = no_room s.commit_number 1 in
+    let number = no_room s.commit_number count in
     plain_by (block otherwise id otherwise number) why
     (either_plain block (id otherwise number) (room s.next_block n)
-    (either_plain id number (room s.next_track tracks) (room s.commit_number 1))) spent)
+    (either_plain id number (room s.next_track tracks) (room s.commit_number count))) spent)
     (λ over. ⊎_elim (exceeding_plain s.journal_end whole why) (exceeding_plain s.journal_end len why) over.3))
     not

@@ -21,7 +21,7 @@ use Rattle.editor_core.specs.Packing.{packed_by}
 use Rattle.editor_core.specs.Studios.{IsHeld, IsStudio, shown, studio_of}
 use Rattle.editor_core.specs.Took.{KeepsOneOf, Took, asks, number_behind, with_sound}
 use Rattle.editor_core.proofs.Others.{Leaving, others_more}
-use Rattle.editor_core.proofs.Removing.{RemovesNone, frees_none}
+use Rattle.editor_core.proofs.Removing.{PacksNone, RemovesNone, frees_none}
 
 -- as `Took` of a call that removes no file, where `Has` stands for that the disk holds the studio; but for what is left
 -- of it
@@ -47,11 +47,11 @@ pub record TookWhere {D : Type 0} (Has : Type 0) (disk : Ghosts D) (old : Core D
 
 pub took_so : {D : Type 0} (disk : Ghosts D) (old : Core D) (call : Call) (sound : SoundMove)
     (told : Result Reply Refusal) (new : Core D) → TookWhere (IsHeld disk old) disk old call sound told new
-    → RemovesNone call → CountsIds old [] new → IfOk told (λ r. NamesGiven old new)
+    → RemovesNone call → PacksNone call → CountsIds old [] new → IfOk told (λ r. NamesGiven old new)
     → IfErr told (Needed disk old call sound) → Untouched disk old told new
     → Stops disk old told new → IfErr told (Left disk old new)
     → Took disk old (with_sound call sound told) new
-took_so disk old call sound told new took none ids given needed untouched stops left = record {
+took_so disk old call sound told new took none plain ids given needed untouched stops left = record {
   studio = took.studio;
   held = took.held;
   step = took.step;
@@ -68,7 +68,7 @@ took_so disk old call sound told new took none ids given needed untouched stops 
   changed =
       changed_wider (others_more old.next_block new.next_block (MayRemove call old.counts))
       (record { files = omega arith; bytes = omega arith; calls = omega arith }) took.changed;
-  frees = frees_none disk old call told new none;
+  frees = frees_none disk old call told new none plain;
   ids = ids;
   untouched = untouched;
   stops = stops;

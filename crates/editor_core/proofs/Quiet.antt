@@ -21,7 +21,8 @@ use Rattle.editor_core.specs.Took.{Took, quietly, silent}
 use Rattle.model_laws.proofs.Answered.{answered_same}
 use Rattle.editor_core.proofs.Images.{keeps_now}
 use Rattle.editor_core.proofs.Others.{others_none}
-use Rattle.editor_core.proofs.Removing.{RemovesNone, frees_none, ids_same, no_record, none_given}
+use Rattle.editor_core.proofs.Removing.{PacksNone, RemovesNone, frees_none, frees_refused, ids_same, no_record}
+use Rattle.editor_core.proofs.Removing.{none_given}
 use Rattle.editor_core.proofs.Spaces.{fits}
 use Rattle.editor_core.proofs.Staying.{refuses, wants}
 use Rattle.editor_core.proofs.Spending.{tests_needed}
@@ -156,7 +157,7 @@ module _ {D : Type 0} (disk : Ghosts D) (s : Core D) (c : Call) (quiet : IsQuiet
   pub refused_by : (why : Refusal) → refusal_of (outside t silent) t c 0 0 ≡ Some why → Needed disk s c silent why
       → Took disk s (quietly c (Err why)) s
   refused_by why first needed =
-      refuses disk s c silent why is fewer (frees_none disk s c (Err why) s none) refl 0 0 (λ held. quiet.needs t)
+      refuses disk s c silent why is fewer (frees_refused disk s c why s none) refl 0 0 (λ held. quiet.needs t)
       first needed
 
   -- it had stopped before
@@ -174,8 +175,9 @@ module _ {D : Type 0} (disk : Ghosts D) (s : Core D) (c : Call) (quiet : IsQuiet
   refused_wanting = wants disk s c silent is fewer none refl 0 (λ held. (0, quiet.needs t))
 
   -- carried out, with nothing changed
-  pub stays_answered : (r : Reply) → (IsHeld disk s → CarriesOut t c silent r t) → Took disk s (quietly c (Ok r)) s
-  stays_answered r step = record {
+  pub stays_answered : PacksNone c → (r : Reply) → (IsHeld disk s → CarriesOut t c silent r t)
+      → Took disk s (quietly c (Ok r)) s
+  stays_answered plain r step = record {
     studio = is;
     held = λ held. held;
     step = step;
@@ -190,7 +192,7 @@ module _ {D : Type 0} (disk : Ghosts D) (s : Core D) (c : Call) (quiet : IsQuiet
     given = none_given (Ok r) s s refl;
     needed = tt;
     changed = changed_none s.store (others_none s.next_block s.next_block (MayRemove c s.counts)) fewer;
-    frees = frees_none disk s c (Ok r) s none;
+    frees = frees_none disk s c (Ok r) s none plain;
     ids = ids_same s s refl refl;
     untouched = tt;
     stops = inl (refl, refl);

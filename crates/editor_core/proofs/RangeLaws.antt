@@ -57,9 +57,9 @@ part_range from to cs src is none =
 
 -- ---- the lines
 
-range_commit : (e : RangeEdit) (id from to : ℕ) → IsCommitCall (Line (range_line e id from to)) silent 0
+range_commit : (e : RangeEdit) (id from to : ℕ) → IsCommitCall (Line (range_line e id from to)) silent 0 0
 range_commit Delete id from to = record {
-  one = refl;
+  many = refl;
   no_pin = refl;
   tracks_is = λ rate. refl;
   stops = λ o. refl;
@@ -70,7 +70,7 @@ range_commit Delete id from to = record {
   done = λ rate s. refl;
 }
 range_commit SplitDelete id from to = record {
-  one = refl;
+  many = refl;
   no_pin = refl;
   tracks_is = λ rate. refl;
   stops = λ o. refl;
@@ -81,7 +81,7 @@ range_commit SplitDelete id from to = record {
   done = λ rate s. refl;
 }
 range_commit Silence id from to = record {
-  one = refl;
+  many = refl;
   no_pin = refl;
   tracks_is = λ rate. refl;
   stops = λ o. refl;
@@ -92,7 +92,7 @@ range_commit Silence id from to = record {
   done = λ rate s. refl;
 }
 range_commit Trim id from to = record {
-  one = refl;
+  many = refl;
   no_pin = refl;
   tracks_is = λ rate. refl;
   stops = λ o. refl;
@@ -103,7 +103,7 @@ range_commit Trim id from to = record {
   done = λ rate s. refl;
 }
 range_commit (Gain gain) id from to = record {
-  one = refl;
+  many = refl;
   no_pin = refl;
   tracks_is = λ rate. refl;
   stops = λ o. refl;
@@ -115,12 +115,12 @@ range_commit (Gain gain) id from to = record {
 }
 
 pub range_call : (e : RangeEdit) (id from to : ℕ)
-    → IsTrackCall (Line (range_line e id from to)) silent (track_command (range_edit e from to) Nothing id 0)
+    → IsTrackCall (Line (range_line e id from to)) silent (track_command (range_edit e from to) Nothing id 0 0)
 range_call Delete id from to = record {
   call = record {
     commit = range_commit Delete id from to;
-    needs = λ rate t blocks len h. h;
-    needed = λ rate t blocks len h. h;
+    needs = λ rate t blocks len h. (h.0, omega (arith, h.2));
+    needed = λ rate t blocks len h. (h.0, omega arith, omega (arith, h.1));
   };
   own = λ out s. refl;
   after_is = λ out s. refl;
@@ -128,8 +128,8 @@ range_call Delete id from to = record {
 range_call SplitDelete id from to = record {
   call = record {
     commit = range_commit SplitDelete id from to;
-    needs = λ rate t blocks len h. h;
-    needed = λ rate t blocks len h. h;
+    needs = λ rate t blocks len h. (h.0, omega (arith, h.2));
+    needed = λ rate t blocks len h. (h.0, omega arith, omega (arith, h.1));
   };
   own = λ out s. refl;
   after_is = λ out s. refl;
@@ -137,8 +137,8 @@ range_call SplitDelete id from to = record {
 range_call Silence id from to = record {
   call = record {
     commit = range_commit Silence id from to;
-    needs = λ rate t blocks len h. h;
-    needed = λ rate t blocks len h. h;
+    needs = λ rate t blocks len h. (h.0, omega (arith, h.2));
+    needed = λ rate t blocks len h. (h.0, omega arith, omega (arith, h.1));
   };
   own = λ out s. refl;
   after_is = λ out s. refl;
@@ -146,8 +146,8 @@ range_call Silence id from to = record {
 range_call Trim id from to = record {
   call = record {
     commit = range_commit Trim id from to;
-    needs = λ rate t blocks len h. h;
-    needed = λ rate t blocks len h. h;
+    needs = λ rate t blocks len h. (h.0, omega (arith, h.2));
+    needed = λ rate t blocks len h. (h.0, omega arith, omega (arith, h.1));
   };
   own = λ out s. refl;
   after_is = λ out s. refl;
@@ -155,8 +155,8 @@ range_call Trim id from to = record {
 range_call (Gain gain) id from to = record {
   call = record {
     commit = range_commit (Gain gain) id from to;
-    needs = λ rate t blocks len h. h;
-    needed = λ rate t blocks len h. h;
+    needs = λ rate t blocks len h. (h.0, omega (arith, h.2));
+    needed = λ rate t blocks len h. (h.0, omega arith, omega (arith, h.1));
   };
   own = λ out s. refl;
   after_is = λ out s. refl;

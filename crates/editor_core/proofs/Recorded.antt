@@ -6,8 +6,7 @@ use Rattle.std.specs.List.{AllByRecursion}
 use Rattle.pcm_base.specs.declared.block.BlockRef.{BlockRef}
 use Rattle.pcm_base.specs.History.{History, kept, edited, amended, is_of_recording, recorded, tag_of, tags_of}
 use Rattle.project_state.specs.declared.track.Track.{Track}
-use Rattle.project_state.specs.Kept.{point_blocks, history_blocks}
-use Rattle.editor_core.specs.Points.{current_tracks}
+use Rattle.project_state.specs.Kept.{current_tracks, point_blocks, history_blocks}
 use Rattle.editor_core.proofs.Histories.{ending_all, ending_current, ending_few}
 use Rattle.editor_core.proofs.Lists.{all_take, all_each, all_joined}
 use Rattle.editor_core.proofs.Pushes.{Tagged}

@@ -1,12 +1,12 @@
 -- Calls that remove no file, and the ids that are counted after them.
-use Rattle.std.proofs.Common.{◌≡◌, ◌↔◌, ◌⊎◌, ◌∙◌, inl, inr, ⊎_elim, refl, sym, subst, ℕ, ◌+◌, ◌≤◌, ◌<◌, IsSome, List, [], true}
-use Rattle.std.proofs.Common.{Option, Some, None, Result, Ok, Err, false, arith}
+use Rattle.std.proofs.Common.{◌≡◌, ◌↔◌, ◌⊎◌, ◌∙◌, inl, inr, ⊎_elim, refl, sym, subst, ℕ, suc, ◌+◌, ◌≤◌, ◌<◌}
+use Rattle.std.proofs.Common.{IsSome, List, [], true, Option, Some, None, Result, Ok, Err, false, arith}
 use Rattle.std.specs.Prelude.{Contains, IfOk}
 use Rattle.std.proofs.lemmas.Bool.{true≢false}
 use Rattle.pcm_base.specs.declared.answer.Reply.{Reply}
 use Rattle.pcm_base.specs.declared.command.Call.{Call}
 use Rattle.pcm_base.specs.declared.command.Call.TheVariants.{Line}
-use Rattle.pcm_base.specs.declared.command.Command.TheVariants.{Reclaim}
+use Rattle.pcm_base.specs.declared.command.Command.TheVariants.{Compact, Reclaim}
 use Rattle.pcm_base.specs.declared.refusal.Refusal.{Refusal}
 use Rattle.pcm_base.specs.Counters.{commits_of}
 use Rattle.disk_model.specs.Frames.{Kept}
@@ -17,7 +17,7 @@ use Rattle.editor_core.specs.Exchanges.{is_broken_off}
 use Rattle.editor_core.specs.Left.{CountsIds}
 use Rattle.editor_core.specs.Makes.{AddsFree}
 use Rattle.editor_core.specs.Records.{Records}
-use Rattle.editor_core.specs.Removals.{Forgets, Frees}
+use Rattle.editor_core.specs.Removals.{Forgets, Frees, PacksJournal}
 use Rattle.editor_core.specs.Spent.{NamesGiven}
 
 -- ---- the files
@@ -27,18 +27,46 @@ abbrev pub RemovesNone : Call → Type 0
 RemovesNone (Line (Reclaim limit)) = ⊥
 RemovesNone call = Unit {0}
 
-pub commit_removes_none : (c : Call) → commits_of c ≡ 1 → RemovesNone c
-commit_removes_none (Line (Reclaim limit)) one = absurd (omega (arith, one))
-commit_removes_none c one = tt
+pub commit_removes_none : {more : ℕ} (c : Call) → commits_of c ≡ suc more → RemovesNone c
+commit_removes_none (Line (Reclaim limit)) many = absurd (omega (arith, many))
+commit_removes_none c many = tt
+
+-- a call that is no compact
+abbrev pub PacksNone : Call → Type 0
+PacksNone (Line Compact) = ⊥
+PacksNone call = Unit {0}
+
+pub commit_leaves_journal : {more : ℕ} (c : Call) → commits_of c ≡ suc more → PacksNone c
+commit_leaves_journal (Line Compact) many = absurd (omega (arith, many))
+commit_leaves_journal c many = tt
 
 pub frees_none : {D : Type 0} (disk : Ghosts D) (old : Core D) (c : Call) (told : Result Reply Refusal) (new : Core D)
-    → RemovesNone c → Frees disk old c told [] new
-frees_none disk old (Line (Reclaim limit)) told new none = absurd none
-frees_none disk old c told new none = refl
+    → RemovesNone c → PacksNone c → Frees disk old c told [] new
+frees_none disk old (Line (Reclaim limit)) told new none plain = absurd none
+frees_none disk old (Line Compact) told new none plain = absurd plain
+frees_none disk old c told new none plain = refl
 
-pub commit_frees : {D : Type 0} (disk : Ghosts D) (old : Core D) (c : Call) (told : Result Reply Refusal) (new : Core D)
-    → commits_of c ≡ 1 → Frees disk old c told [] new
-commit_frees disk old c told new one = frees_none disk old c told new (commit_removes_none c one)
+-- a compact that was refused says nothing of the journal
+pub packs_refused : {D : Type 0} (disk : Ghosts D) (old : Core D) (why : Refusal) (new : Core D)
+    → PacksJournal disk old (Err why) new
+packs_refused disk old why new = record {
+  size = tt;
+  alone = λ told. tt;
+  settled = λ keeps. tt;
+  gone = λ told. tt;
+  fields = tt;
+}
+
+pub frees_refused : {D : Type 0} (disk : Ghosts D) (old : Core D) (c : Call) (why : Refusal) (new : Core D)
+    → RemovesNone c → Frees disk old c (Err why) [] new
+frees_refused disk old (Line (Reclaim limit)) why new none = absurd none
+frees_refused disk old (Line Compact) why new none = (refl, packs_refused disk old why new)
+frees_refused disk old c why new none = refl
+
+pub commit_frees : {D : Type 0} {more : ℕ} (disk : Ghosts D) (old : Core D) (c : Call) (told : Result Reply Refusal)
+    (new : Core D) → commits_of c ≡ suc more → Frees disk old c told [] new
+commit_frees disk old c told new many =
+    frees_none disk old c told new (commit_removes_none c many) (commit_leaves_journal c many)
 
 -- ---- the disk, where it broke the call off
 

@@ -12,34 +12,34 @@ use Rattle.editor_core.specs.Core.{Core}
 abbrev Answer : Type 0
 Answer = Result (Unit {0}) Refusal
 
-pub no_want : {D : Type 0} (disk : Ghosts D) (old : Core D) (added : Result ℕ JournalFault) (result : Answer)
+pub no_want : {D : Type 0} (disk : Ghosts D) (old : Core D) (count : ℕ) (added : Result ℕ JournalFault) (result : Answer)
     (new : Core D) (at len room : ℕ)
     → Appends at len added → (IsErrOf added journal.NoMemory → room < 5 + len) → 5 + len ≤ room
-    → Settles disk old added result new → IfErr result IsNoWant
-no_want disk old (Ok next) result new at len room answer few enough by =
+    → Settles disk old count added result new → IfErr result IsNoWant
+no_want disk old count (Ok next) result new at len room answer few enough by =
     subst (λ (r : Answer). IfErr r IsNoWant) (sym by.0) tt
-no_want disk old (Err journal.DiskFault) result new at len room answer few enough by =
+no_want disk old count (Err journal.DiskFault) result new at len room answer few enough by =
     subst (λ (r : Answer). IfErr r IsNoWant) (sym by.0) tt
-no_want disk old (Err (journal.SpaceSpent have need)) result new at len room answer few enough by =
+no_want disk old count (Err (journal.SpaceSpent have need)) result new at len room answer few enough by =
     subst (λ (r : Answer). IfErr r IsNoWant) (sym by.0) tt
-no_want disk old (Err journal.NoMemory) result new at len room answer few enough by =
+no_want disk old count (Err journal.NoMemory) result new at len room answer few enough by =
     absurd (omega (arith, few refl, enough))
-no_want disk old (Err journal.Absent) result new at len room answer few enough by = absurd answer
-no_want disk old (Err journal.Exists) result new at len room answer few enough by = absurd answer
-no_want disk old (Err (journal.Damaged file place want have)) result new at len room answer few enough by =
+no_want disk old count (Err journal.Absent) result new at len room answer few enough by = absurd answer
+no_want disk old count (Err journal.Exists) result new at len room answer few enough by = absurd answer
+no_want disk old count (Err (journal.Damaged file place want have)) result new at len room answer few enough by =
     absurd answer
 
 -- what the answer of an append makes of a studio tells of no damaged file
-pub undamaged_settle : {D : Type 0} (disk : Ghosts D) (old : Core D) (added : Result ℕ JournalFault) (result : Answer)
-    (new : Core D) → Settles disk old added result new → IfErr result IsUndamaged
-undamaged_settle disk old (Ok next) result new by = subst (λ (r : Answer). IfErr r IsUndamaged) (sym by.0) tt
-undamaged_settle disk old (Err journal.DiskFault) result new by =
+pub undamaged_settle : {D : Type 0} (disk : Ghosts D) (old : Core D) (count : ℕ) (added : Result ℕ JournalFault) (result : Answer)
+    (new : Core D) → Settles disk old count added result new → IfErr result IsUndamaged
+undamaged_settle disk old count (Ok next) result new by = subst (λ (r : Answer). IfErr r IsUndamaged) (sym by.0) tt
+undamaged_settle disk old count (Err journal.DiskFault) result new by =
     subst (λ (r : Answer). IfErr r IsUndamaged) (sym by.0) tt
-undamaged_settle disk old (Err (journal.SpaceSpent have need)) result new by =
+undamaged_settle disk old count (Err (journal.SpaceSpent have need)) result new by =
     subst (λ (r : Answer). IfErr r IsUndamaged) (sym by.0) tt
-undamaged_settle disk old (Err journal.NoMemory) result new by =
+undamaged_settle disk old count (Err journal.NoMemory) result new by =
     subst (λ (r : Answer). IfErr r IsUndamaged) (sym by.0) tt
-undamaged_settle disk old (Err journal.Absent) result new by = subst (λ (r : Answer). IfErr r IsUndamaged) (sym by.0) tt
-undamaged_settle disk old (Err journal.Exists) result new by = subst (λ (r : Answer). IfErr r IsUndamaged) (sym by.0) tt
-undamaged_settle disk old (Err (journal.Damaged file place want have)) result new by =
+undamaged_settle disk old count (Err journal.Absent) result new by = subst (λ (r : Answer). IfErr r IsUndamaged) (sym by.0) tt
+undamaged_settle disk old count (Err journal.Exists) result new by = subst (λ (r : Answer). IfErr r IsUndamaged) (sym by.0) tt
+undamaged_settle disk old count (Err (journal.Damaged file place want have)) result new by =
     subst (λ (r : Answer). IfErr r IsUndamaged) (sym by.0) tt

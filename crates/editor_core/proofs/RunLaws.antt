@@ -13,13 +13,12 @@ use Rattle.edit_ops.specs.Plans.{AllNewFrom, AreNew, AreWritten}
 use Rattle.piece_store.specs.declared.given.Given.TheVariants.{Nothing}
 use Rattle.piece_store.specs.Bringing.{brought}
 use Rattle.project_state.specs.declared.track.Track.{Track}
-use Rattle.project_state.specs.Kept.{meant, point_blocks}
+use Rattle.project_state.specs.Kept.{current_tracks, meant, point_blocks}
 use Rattle.project_state.specs.KeptSound.{IsSoundPoint}
 use Rattle.project_state.specs.Tracks.{track_of}
 use Rattle.editor_core.specs.declared.carrying.Planned.{Planned}
 use Rattle.editor_core.specs.Core.{Core}
 use Rattle.editor_core.specs.Edits.{AreAmong, IsPlanned, alone, beside, blocks_with, clip_behind, tagged}
-use Rattle.editor_core.specs.Points.{current_tracks}
 use Rattle.editor_core.specs.RunEdits.{IsRunPlan, laid_from}
 use Rattle.editor_core.specs.Studios.{IsGiven, IsStudio, MayPaste, clip_blocks, named_blocks}
 use Rattle.editor_core.proofs.Contained.{among_all, among_itself}
@@ -111,12 +110,13 @@ module _ {D : Type 0} (disk : Ghosts D) (s : Core D) (is : IsStudio disk s) (id 
 
   pub run_planned : p.tracks ≡ 0 → (clip : Option (List (List Item))) → clip_behind s p ≡ clip
       → AreAmong every (clip_blocks clip) → length (clip_blocks clip) ≤ 2 ^ 71 → MayPaste m clip
-      → IsPlanned s (tagged p 0 Nothing)
+      → IsPlanned s (tagged p 0 0 Nothing)
   run_planned none clip behind clip_names clip_few clip_fits = record {
     new = fresh;
     readable = all_readable m s.next_block 0 xs makes readable origin fresh;
     origin = new_from_more xs (named_blocks s) 0 makes named origin;
     tag_given = omega arith;
+    tag_counts = λ some. absurd (omega (arith, some));
     sound = subst (λ (k : ℕ). IsSoundPoint m (s.next_block + n) (s.next_track + k) p.point) (sym none)
         (subst (IsSoundPoint m (s.next_block + n) (s.next_track + 0)) (sym run.is) laid_is_sound);
     names = subst (λ (q : List Track). AreAmong every (point_blocks q)) (sym run.is) laid_are_named;

@@ -34,8 +34,9 @@ use Rattle.envelope_view.proofs.AnswerLaws.{reason_damaged}
 use Rattle.project_state.specs.declared.track.Track.{Track}
 use Rattle.project_state.specs.Tracks.{track_of}
 use Rattle.block_cache.specs.Caches.{Entries}
+use Rattle.project_state.specs.Kept.{current_tracks}
 use Rattle.editor_core.specs.Core.{Core}
-use Rattle.editor_core.specs.Points.{current_tracks, lacks}
+use Rattle.editor_core.specs.Points.{lacks}
 use Rattle.editor_core.specs.Reads.{HasLayout}
 use Rattle.editor_core.specs.Studios.{IsHeld, IsStudio, named_blocks, studio_of}
 use Rattle.editor_core.specs.Took.{Took, quietly, silent}
@@ -111,7 +112,7 @@ module _ {D : Type 0} (disk : Ghosts D) (s : Core D) (is : IsStudio disk s) (id 
           show_tests ∙ (λ i. (track_there disk s is id layout has i) otherwise (good i)) in
           let passed = quiet_passes t show show_quiet room refl (ap stop_of going) own
           (fits s.next_pin 0 (omega (arith, is.counters.pin_most))) in
-          looked_ok disk s is store kept cache keeps show show_quiet tt going (reply.Cells cells) faults
+          looked_ok disk s is store kept cache keeps show show_quiet tt going tt (reply.Cells cells) faults
           (λ held. carried t show show_quiet room refl (reply.Cells cells) t passed
           (ap reply.Cells (seen held ∙ ap (part from to) (cells_are layout has))) refl)
 
@@ -169,7 +170,7 @@ module _ {D : Type 0} (disk : Ghosts D) (s : Core D) (is : IsStudio disk s) (id 
           let room = room_of disk s scan is in
           let passed = quiet_passes t scan scan_quiet room refl (ap stop_of going) (tests_are ∙ good)
           (fits s.next_pin 0 (omega (arith, is.counters.pin_most))) in
-          looked_ok disk s is store kept cache keeps scan scan_quiet tt going (reply.Columns found) faults
+          looked_ok disk s is store kept cache keeps scan scan_quiet tt going tt (reply.Columns found) faults
           (λ held. carried t scan scan_quiet room refl (reply.Columns found) t passed
           (ap reply.Columns (seen held ∙ ap (columns_of from to columns) (cells_are layout has))) refl)
 

@@ -1,7 +1,7 @@
 -- Which test refuses a commit.
-use Rattle.std.proofs.Common.{◌≡◌, refl, sym, ap, ◌∙◌, ℕ, ◌+◌, ◌^◌, ◌≤◌, ◌<◌, Bool, true, Option, Some, None, arith}
-use Rattle.std.proofs.Common.{◌==◌, if◌then◌else◌, false}
-use Rattle.std.proofs.lemmas.Bool.{le-ltb, lt-ltb, true≢false}
+use Rattle.std.proofs.Common.{◌≡◌, refl, sym, ap, ◌∙◌, ℕ, ◌+◌, ◌^◌, ◌≤◌, ◌<◌, suc, Bool, true}
+use Rattle.std.proofs.Common.{Option, Some, None, arith, ◌==◌, if◌then◌else◌, false}
+use Rattle.std.proofs.lemmas.Bool.{eqb-true, le-ltb, lt-ltb, true≢false}
 use Rattle.std.proofs.lemmas.Option.{none-some}
 use Rattle.pcm_base.specs.declared.command.Call.{Call}
 use Rattle.pcm_base.specs.declared.command.Call.TheVariants as call
@@ -9,7 +9,7 @@ use Rattle.pcm_base.specs.declared.entry.SoundMove.{SoundMove}
 use Rattle.pcm_base.specs.declared.refusal.Refusal.{Refusal}
 use Rattle.pcm_base.specs.declared.refusal.Refusal.TheVariants.{SpaceSpent, RecordLimit}
 use Rattle.pcm_base.specs.Counters.{no_room, commits_of, generations_by, generations_of, pins_of, places_of}
-use Rattle.pcm_base.specs.Counters.{counter_tests, record_test}
+use Rattle.pcm_base.specs.Counters.{counter_tests, record_bytes, record_test}
 use Rattle.pcm_base.specs.Outside.{Outside}
 use Rattle.pcm_base.specs.Refusals.{◌otherwise◌, refused_if, call_tests}
 use Rattle.pcm_base.specs.Run.{outside, refusal_of, stop_of, stop_test}
@@ -26,7 +26,7 @@ fits have need h = ap (λ b. refused_if b (SpaceSpent have need)) (le-ltb (2 ^ 6
 pub spends : (have need : ℕ) → 2 ^ 62 < have + need → no_room have need ≡ Some (SpaceSpent have need)
 spends have need h = ap (λ b. refused_if b (SpaceSpent have need)) (lt-ltb (2 ^ 62) (have + need) h)
 
-abbrev pub IsCommitCall : Call → SoundMove → ℕ → Type 0
+abbrev pub IsCommitCall : Call → SoundMove → (tracks more : ℕ) → Type 0
 IsCommitCall = commits.IsCommitCall
 
 -- the first two tests
@@ -77,20 +77,35 @@ line_packs_none (Reclaim limit) is = refl
 line_packs_none (Import name) is = refl
 line_packs_none (Export name) is = refl
 
-pub commit_packs_none : (c : Call) → commits_of c ≡ 1 → generations_of c ≡ 0
-commit_packs_none (call.Line c) one = line_packs_none (shape_of c) (by (is_commit (shape_of c)) one)
+pub commit_packs_none : {more : ℕ} (c : Call) → commits_of c ≡ suc more → generations_of c ≡ 0
+commit_packs_none {more = more} (call.Line c) many = line_packs_none (shape_of c) (by (is_commit (shape_of c)) many)
   where
-    by : (b : Bool) → ◌≡◌ {A = ℕ} (if b then 1 else 0) 1 → b ≡ true
-    by true one = refl
-    by false one = absurd (omega (arith, one))
-commit_packs_none (call.Piece track tag samples) one = refl
-commit_packs_none call.Pin one = refl
-commit_packs_none (call.PinLen pin) one = refl
-commit_packs_none (call.ReadPin pin from count) one = refl
-commit_packs_none (call.Unpin pin) one = refl
+    by : (b : Bool) → ◌≡◌ {A = ℕ} (if b then 1 else 0) (suc more) → b ≡ true
+    by true many = refl
+    by false many = absurd (omega (arith, many))
+commit_packs_none (call.Piece track tag samples) many = refl
+commit_packs_none call.Pin many = refl
+commit_packs_none (call.PinLen pin) many = refl
+commit_packs_none (call.ReadPin pin from count) many = refl
+commit_packs_none (call.Unpin pin) many = refl
 
-module _ (t : model.Studio) (c : Call) (sound : SoundMove) (tracks : ℕ) (is : IsCommitCall c sound tracks)
-    (blocks len : ℕ) where
+-- the places of the journal that commits need
+pub commit_places : {more : ℕ} (c : Call) (len : ℕ) → commits_of c ≡ suc more → places_of c len ≡ 6 + len
+commit_places c len many = by (commits_of c == 0) refl
+  where
+    by : (none : Bool) → (commits_of c == 0) ≡ none → (if none then 0 else 6 + len) ≡ 6 + len
+    by true e = absurd (omega (arith, many, eqb-true (commits_of c) 0 e))
+    by false e = refl
+
+pub commit_bytes : {more : ℕ} (c : Call) (len : ℕ) → commits_of c ≡ suc more → record_bytes c len ≡ 5 + len
+commit_bytes c len many = by (commits_of c == 0) refl
+  where
+    by : (none : Bool) → (commits_of c == 0) ≡ none → (if none then 0 else 5 + len) ≡ 5 + len
+    by true e = absurd (omega (arith, many, eqb-true (commits_of c) 0 e))
+    by false e = refl
+
+module _ (t : model.Studio) (c : Call) (sound : SoundMove) (tracks : ℕ) {more : ℕ}
+    (is : IsCommitCall c sound tracks more) (blocks len : ℕ) where
   abbrev out : Outside
   out = outside t sound
 
@@ -104,63 +119,63 @@ module _ (t : model.Studio) (c : Call) (sound : SoundMove) (tracks : ℕ) (is : 
 
   module _ (room : t.state.next_pin ≤ 2 ^ 62) (later : t.generation ≤ 2 ^ 62) where
     places : places_of c len ≡ 6 + len
-    places = ap (λ (k : ℕ). if k == 0 then 0 else 6 + len) is.one
+    places = commit_places c len is.many
 
     no_pins : no_room t.state.next_pin (pins_of c) ≡ None
     no_pins = ap (no_room t.state.next_pin) is.no_pin ∙ fits t.state.next_pin 0 (omega (arith, room))
 
     no_generation : no_room t.generation (generations_of c) ≡ None
-    no_generation = ap (no_room t.generation) (commit_packs_none c is.one)
+    no_generation = ap (no_room t.generation) (commit_packs_none c is.many)
         ∙ fits t.generation 0 (omega (arith, later))
 
     -- the counters by their numbers
     counters : counter_tests out t c blocks len
         ≡ ((no_room t.next_block blocks) otherwise (no_room t.state.next_track tracks) otherwise
-        (no_room t.state.commit 1) otherwise (no_room t.journal_end (6 + len)))
+        (no_room t.state.commit (suc more)) otherwise (no_room t.journal_end (6 + len)))
     counters = (λ i.
         (no_room t.next_block blocks) otherwise (no_room t.state.next_track (is.tracks_is t.rate i))
-        otherwise (no_room t.state.commit (is.one i)) otherwise (no_pins i)
+        otherwise (no_room t.state.commit (is.many i)) otherwise (no_pins i)
         otherwise (no_room t.journal_end (places i)) otherwise (no_generation i))
         ∙ (λ i. (no_room t.next_block blocks) otherwise (no_room t.state.next_track tracks)
-        otherwise (no_room t.state.commit 1) otherwise (only (no_room t.journal_end (6 + len)) i))
+        otherwise (no_room t.state.commit (suc more)) otherwise (only (no_room t.journal_end (6 + len)) i))
 
     -- the studio is stopped, an own test refuses it, or a counter that comes behind that of the blocks
     pub tested : (why : Refusal) → t.next_block + blocks ≤ 2 ^ 62
         → (stop_of t.stopped) otherwise (call_tests out t.state c) otherwise
-        (no_room t.state.next_track tracks) otherwise (no_room t.state.commit 1) ≡ Some why
+        (no_room t.state.next_track tracks) otherwise (no_room t.state.commit (suc more)) ≡ Some why
         → refusal_of out t c blocks len ≡ Some why
     tested why place h =
         let none = fits t.next_block blocks place in
         (λ i. (is.stops t.stopped i) otherwise (call_tests out t.state c) otherwise (counters i) otherwise
         (record_test len))
         ∙ (λ i. (stop_of t.stopped) otherwise (call_tests out t.state c)
-        otherwise ((none i) otherwise (no_room t.state.next_track tracks) otherwise (no_room t.state.commit 1) otherwise
-        (no_room t.journal_end (6 + len))) otherwise (record_test len))
+        otherwise ((none i) otherwise (no_room t.state.next_track tracks) otherwise (no_room t.state.commit (suc more))
+        otherwise (no_room t.journal_end (6 + len))) otherwise (record_test len))
         ∙ first_four (stop_of t.stopped) (call_tests out t.state c) (no_room t.state.next_track tracks)
-        (no_room t.state.commit 1) (no_room t.journal_end (6 + len)) (record_test len) why h
+        (no_room t.state.commit (suc more)) (no_room t.journal_end (6 + len)) (record_test len) why h
 
     module _ (going : t.stopped ≡ None) (own : call_tests out t.state c ≡ None) where
       only_counters : refusal_of out t c blocks len
           ≡ (((no_room t.next_block blocks) otherwise (no_room t.state.next_track tracks) otherwise
-          (no_room t.state.commit 1) otherwise (no_room t.journal_end (6 + len))) otherwise (record_test len))
+          (no_room t.state.commit (suc more)) otherwise (no_room t.journal_end (6 + len))) otherwise (record_test len))
       only_counters = λ i. ((is.stops t.stopped ∙ ap stop_of going) i) otherwise (own i) otherwise
           (counters i) otherwise (record_test len)
 
       -- the next block, the next track or the commit number
       pub counter_spent : (why : Refusal) → (no_room t.next_block blocks) otherwise
-          (no_room t.state.next_track tracks) otherwise (no_room t.state.commit 1) ≡ Some why
+          (no_room t.state.next_track tracks) otherwise (no_room t.state.commit (suc more)) ≡ Some why
           → refusal_of out t c blocks len ≡ Some why
       counter_spent why h =
           only_counters ∙ first_three (no_room t.next_block blocks) (no_room t.state.next_track tracks)
-          (no_room t.state.commit 1) (no_room t.journal_end (6 + len)) (record_test len) why h
+          (no_room t.state.commit (suc more)) (no_room t.journal_end (6 + len)) (record_test len) why h
 
       module _ (place : t.next_block + blocks ≤ 2 ^ 62) (ids : t.state.next_track + tracks ≤ 2 ^ 62)
-          (number : t.state.commit + 1 ≤ 2 ^ 62) where
+          (number : t.state.commit + suc more ≤ 2 ^ 62) where
         only_journal : refusal_of out t c blocks len ≡ ((no_room t.journal_end (6 + len)) otherwise (record_test len))
         only_journal =
             let a = fits t.next_block blocks place in
             let b = fits t.state.next_track tracks ids in
-            let d = fits t.state.commit 1 number in
+            let d = fits t.state.commit (suc more) number in
             only_counters ∙ (λ i. ((a i) otherwise (b i) otherwise (d i) otherwise (no_room t.journal_end (6 + len)))
             otherwise (record_test len))
 

@@ -1,6 +1,6 @@
 -- The numbers of a refusal: what a counter had no room for.
-use Rattle.std.proofs.Common.{◌≡◌, ◌∙◌, ◌⊎◌, inl, inr, ⊎_elim, sym, ap, subst, ℕ, ◌+◌, Bool, true, false, Option, Some, None}
-use Rattle.std.proofs.Common.{arith}
+use Rattle.std.proofs.Common.{◌≡◌, ◌∙◌, ◌⊎◌, inl, inr, ⊎_elim, sym, ap, subst, ℕ, suc, ◌+◌, Bool, true, false}
+use Rattle.std.proofs.Common.{Option, Some, None, arith}
 use Rattle.std.proofs.lemmas.Bool.{true≢false}
 use Rattle.std.proofs.lemmas.Option.{none-some, same_Some}
 use Rattle.pcm_base.specs.declared.command.Call.{Call}
@@ -74,24 +74,24 @@ module _ {D : Type 0} (disk : Ghosts D) (s : Core D) (c : Call) (sound : SoundMo
       let is = room_is have need why h in
       subst (Needed disk s c sound) (sym is) (inl (by (h ∙ ap Some is)))
 
-  module _ (tracks : ℕ) (call : IsCommitCall c sound tracks) where
-    numbers_needed : (why : Refusal) → (no_room s.next_track tracks) otherwise (no_room s.commit_number 1) ≡ Some why
-        → Needed disk s c sound why
+  module _ (tracks : ℕ) {more : ℕ} (call : IsCommitCall c sound tracks more) where
+    numbers_needed : (why : Refusal)
+        → (no_room s.next_track tracks) otherwise (no_room s.commit_number (suc more)) ≡ Some why → Needed disk s c sound why
     numbers_needed why h = ⊎_elim
         (λ track. number_needed s.next_track tracks why track (λ is.
         inl (subst (λ (k : ℕ). IsSpent s.next_track k (refusal.SpaceSpent s.next_track tracks))
         (sym (call.tracks_is s.rate)) is)))
-        (λ number. number_needed s.commit_number 1 why number (λ is.
-        inr (inl (subst (λ (k : ℕ). IsSpent s.commit_number k (refusal.SpaceSpent s.commit_number 1))
-        (sym call.one) is))))
-        (either_of (no_room s.next_track tracks) (no_room s.commit_number 1) why h)
+        (λ number. number_needed s.commit_number (suc more) why number (λ is.
+        inr (inl (subst (λ (k : ℕ). IsSpent s.commit_number k (refusal.SpaceSpent s.commit_number (suc more)))
+        (sym call.many) is))))
+        (either_of (no_room s.next_track tracks) (no_room s.commit_number (suc more)) why h)
 
     -- a test before the record is made
     pub tested_needed : (own : Option Refusal) → own ≡ call_tests out t.state c → (why : Refusal)
         → (stop_of s.stopped) otherwise own otherwise (no_room s.next_track tracks)
-        otherwise (no_room s.commit_number 1) ≡ Some why → Needed disk s c sound why
+        otherwise (no_room s.commit_number (suc more)) ≡ Some why → Needed disk s c sound why
     tested_needed own is why h =
-        let rest = (no_room s.next_track tracks) otherwise (no_room s.commit_number 1) in
+        let rest = (no_room s.next_track tracks) otherwise (no_room s.commit_number (suc more)) in
         ⊎_elim (stop_needed why)
         (λ later. ⊎_elim (λ test. tests_needed why (sym is ∙ test)) (numbers_needed why)
         (either_of own rest why later))
@@ -100,16 +100,17 @@ module _ {D : Type 0} (disk : Ghosts D) (s : Core D) (c : Call) (sound : SoundMo
     -- ---- by what it would have made
 
     pub spent_needed : (it : WouldMake disk s c sound) (why : Refusal) → (no_room s.next_block it.blocks) otherwise
-        (no_room s.next_track tracks) otherwise (no_room s.commit_number 1) ≡ Some why → Needed disk s c sound why
+        (no_room s.next_track tracks) otherwise (no_room s.commit_number (suc more)) ≡ Some why
+        → Needed disk s c sound why
     spent_needed it why h = ⊎_elim
         (λ block.
         let is = room_is s.next_block it.blocks why block in
         subst (Needed disk s c sound) (sym is) (inr (it, inl (block ∙ ap Some is))))
         (numbers_needed why)
         (either_of (no_room s.next_block it.blocks)
-        ((no_room s.next_track tracks) otherwise (no_room s.commit_number 1)) why h)
+        ((no_room s.next_track tracks) otherwise (no_room s.commit_number (suc more))) why h)
 
-  pub exceeding_needed : (it : WouldMake disk s c sound) (len : ℕ) → IsLength s it.body len → (why : Refusal)
+  pub exceeding_needed : (it : WouldMake disk s c sound) (len : ℕ) → IsLength s it.writes len → (why : Refusal)
       → Exceeds s.journal_end len why → Needed disk s c sound why
   exceeding_needed it len one (refusal.SpaceSpent have need) h =
       inr (
@@ -121,7 +122,7 @@ module _ {D : Type 0} (disk : Ghosts D) (s : Core D) (c : Call) (sound : SoundMo
         ),
       )
   exceeding_needed it len one (refusal.RecordLimit n) h =
-      (it, subst (IsLength s it.body) (sym h.0) one, omega (arith, h.0, h.1))
+      (it, subst (IsLength s it.writes) (sym h.0) one, omega (arith, h.0, h.1))
   exceeding_needed it len one why h = absurd h
 
   -- ---- of another call that is no commit either
@@ -131,7 +132,7 @@ module _ {D : Type 0} (disk : Ghosts D) (s : Core D) (c : Call) (sound : SoundMo
       → (why : Refusal) → Needed disk s c sound why → Needed disk s d sound why
   other_needed d none numbers (refusal.SpaceSpent have need) h = ⊎_elim
       (λ number. inl (numbers (refusal.SpaceSpent have need) number))
-      (λ made. absurd (omega (arith, none, made.0.commit)))
+      (λ made. absurd (omega (arith, none, made.0.commits)))
       h
-  other_needed d none numbers (refusal.RecordLimit n) h = absurd (omega (arith, none, h.0.commit))
+  other_needed d none numbers (refusal.RecordLimit n) h = absurd (omega (arith, none, h.0.commits))
   other_needed d none numbers why h = tt

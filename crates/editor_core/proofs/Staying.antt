@@ -1,6 +1,5 @@
 -- A call that is refused before the disk is asked, and what a record asks of it.
-use Rattle.std.proofs.Common.{◌≡◌, inl, inr, refl, sym, ap, ◌∙◌, ℕ, ◌+◌, List, [], Option, Some, None, IsSome, Err, arith}
-use Rattle.std.proofs.Common.{if◌then◌else◌, ◌==◌}
+use Rattle.std.proofs.Common.{◌≡◌, inl, inr, refl, sym, ◌∙◌, ℕ, suc, ◌+◌, List, [], Option, Some, None, IsSome, Err, arith}
 use Rattle.std.proofs.lemmas.Bool.{true≢false}
 use Rattle.std.proofs.lemmas.Option.{none-some}
 use Rattle.std.specs.List.{AllByRecursion}
@@ -27,7 +26,8 @@ use Rattle.editor_core.proofs.Images.{keeps_now}
 use Rattle.editor_core.proofs.Leaving.{IsPlain, left_plain, plain_not}
 use Rattle.editor_core.proofs.Others.{others_none}
 use Rattle.editor_core.proofs.PlainTests.{plain_refusal}
-use Rattle.editor_core.proofs.Removing.{RemovesNone, frees_none, ids_same}
+use Rattle.editor_core.proofs.Spaces.{commit_places}
+use Rattle.editor_core.proofs.Removing.{RemovesNone, frees_refused, ids_same}
 
 pub some_none : {A : Type 0} (x : A) → Some x ≡ None → ⊥
 some_none x e = none-some x (sym e)
@@ -37,11 +37,11 @@ stopped_not None some none = cc
 stopped_not (Some n) some none = some_none n none
 
 -- a record asks no more than a commit may
-pub record_within : (exchange : Exchange) (journal : Option (List ℕ)) (m blocks len packed : ℕ)
-    → commits_of exchange.call ≡ 1
+pub record_within : {more : ℕ} (exchange : Exchange) (journal : Option (List ℕ)) (m blocks len packed : ℕ)
+    → commits_of exchange.call ≡ suc more
     → IsWithin (append_room journal len) (asks exchange journal m blocks len packed)
-record_within exchange journal m blocks len packed one =
-    let places : places_of exchange.call len ≡ 6 + len = ap (λ (k : ℕ). if k == 0 then 0 else 6 + len) one in
+record_within exchange journal m blocks len packed many =
+    let places : places_of exchange.call len ≡ 6 + len = commit_places exchange.call len many in
     record { files = omega arith; bytes = omega (arith, places); calls = omega arith }
 
 -- Blocks that were made for a commit: where `Has`, each is on the disk, in each image.
@@ -109,6 +109,6 @@ pub wants : {D : Type 0} (disk : Ghosts D) (s : Core D) (call : Call) (sound : S
     → Fewer disk s.store → RemovesNone call → sound.after ≡ sound.before → (len : ℕ) → MayNeed disk s call sound len
     → Took disk s (with_sound call sound (Err refusal.NoMemory)) s
 wants disk s call sound is fewer none quiet len needs =
-    stays disk s call sound refusal.NoMemory is fewer (frees_none disk s call (Err refusal.NoMemory) s none) quiet len
+    stays disk s call sound refusal.NoMemory is fewer (frees_refused disk s call refusal.NoMemory s none) quiet len
     tt needs tt
     (λ held. inr (record { same = refl; quiet = quiet }))

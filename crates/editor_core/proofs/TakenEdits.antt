@@ -1,5 +1,5 @@
 -- An edit whose commit was carried out, as the code takes its point, and then its clipboard.
-use Rattle.std.proofs.Common.{◌≡◌, ◌∙◌, sym, ap, subst, ℕ, ◌+◌, List, Option, Ok, ◌<◌, ◌^◌, None}
+use Rattle.std.proofs.Common.{◌≡◌, ◌∙◌, sym, ap, subst, ℕ, suc, ◌+◌, List, Option, Ok, ◌<◌, ◌^◌, None}
 use Rattle.pcm_base.specs.declared.answer.Reply.TheVariants.{Done}
 use Rattle.pcm_base.specs.declared.command.Call.{Call}
 use Rattle.pcm_base.specs.declared.entry.SoundMove.{SoundMove}
@@ -141,7 +141,7 @@ module _ {D : Type 0} (disk : Ghosts D) (s : Core D) (is : IsStudio disk s) (goi
           (taken_counted disk s is going e plan k.mid k.making now.counts moves last.counts takes)
           (taken_ids disk s is going e plan k.mid k.making now.counts moves last.counts takes))
 
-      pub lasts_so : (c : Call) (sound : SoundMove) → commits_of c ≡ 1
+      pub lasts_so : (c : Call) (sound : SoundMove) → commits_of c ≡ suc e.more
           → Lasts disk s (with_sound c sound (Ok Done)) last
       lasts_so c sound one = subst (λ (z : Core D). Lasts disk s (with_sound c sound (Ok Done)) z) (sym all)
           (lasts_ok disk s is going e plan c sound one (tt {0}) new k history_now last.counts

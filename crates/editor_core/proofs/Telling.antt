@@ -15,9 +15,8 @@ use Rattle.disk_model.specs.declared.store.Store.{Ghosts}
 use Rattle.disk_model.proofs.Frames.{Fewer}
 use Rattle.sample_block.specs.Sources.{sources_of}
 use Rattle.project_state.specs.declared.track.Track.{Track}
-use Rattle.project_state.specs.Kept.{meant, meant_track}
+use Rattle.project_state.specs.Kept.{current_tracks, meant, meant_track}
 use Rattle.editor_core.specs.Core.{Core}
-use Rattle.editor_core.specs.Points.{current_tracks}
 use Rattle.editor_core.specs.Studios.{IsStudio, studio_of}
 use Rattle.editor_core.specs.Took.{Took, quietly}
 use Rattle.editor_core.proofs.Editing.{current_meant}
@@ -56,6 +55,6 @@ module _ {D : Type 0} (disk : Ghosts D) (s : Core D) (is : IsStudio disk s) (few
       let room = room_of disk s tell is in
       let passed = quiet_passes t tell tell_quiet room refl (ap stop_of going) refl
       (fits s.next_pin 0 (omega (arith, is.counters.pin_most))) in
-      stays_answered disk s tell tell_quiet tt is fewer (reply.Tracks lines)
+      stays_answered disk s tell tell_quiet tt is fewer tt (reply.Tracks lines)
       (λ _. carried t tell tell_quiet room refl (reply.Tracks lines) t passed
       (ap reply.Tracks (all src ∙ ap (λ (p : Project). map line_of_track p) (sym (current_meant disk s is)))) refl)

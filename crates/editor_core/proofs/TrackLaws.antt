@@ -1,6 +1,7 @@
 -- An edit of one track by a plan, as an edit that makes blocks.
-use Rattle.std.proofs.Common.{◌≡◌, ⊎_elim, refl, sym, ap, ◌∙◌, subst, ℕ, ◌+◌, ◌≤◌, ◌==◌, ℤ, if◌then◌else◌, Option, Some}
-use Rattle.std.proofs.Common.{None, List, [], ◌∷◌, length, Err, arith}
+use Rattle.std.proofs.Common.{◌≡◌, ⊎_elim, refl, sym, ap, ◌∙◌, subst, ℕ, suc, ◌+◌, ◌*◌, ◌≤◌, ◌==◌, ℤ, if◌then◌else◌}
+use Rattle.std.proofs.Common.{Option, Some}
+use Rattle.std.proofs.Common.{None, List, [], ◌∷◌, length, Err, arith, mul-le-mul_left}
 use Rattle.pcm_base.specs.declared.command.Call.{Call}
 use Rattle.pcm_base.specs.declared.entry.SoundMove.{SoundMove}
 use Rattle.pcm_base.specs.declared.refusal.Refusal.{Refusal}
@@ -23,7 +24,7 @@ use Rattle.edit_ops.specs.declared.types.NewBlock.{NewBlock}
 use Rattle.piece_store.specs.declared.given.Given.{Given}
 use Rattle.piece_store.specs.Bringing.{brought, brought_count}
 use Rattle.project_state.specs.declared.track.Track.{Track}
-use Rattle.project_state.specs.Kept.{meant}
+use Rattle.project_state.specs.Kept.{current_tracks, meant}
 use Rattle.project_state.specs.KeptSound.{IsSoundPoint}
 use Rattle.project_state.specs.Sound.{AllSoundTracks}
 use Rattle.project_state.specs.Tracks.{track_of}
@@ -31,7 +32,7 @@ use Rattle.project_state.proofs.MeantHistories.{meant_recorded}
 use Rattle.editor_core.specs.declared.carrying.Planned.{Planned}
 use Rattle.editor_core.specs.Core.{Core}
 use Rattle.editor_core.specs.Edits.{IsEdit, alone, IsEditCall, clip_then, tagged}
-use Rattle.editor_core.specs.Points.{current_tracks, lacks}
+use Rattle.editor_core.specs.Points.{lacks}
 use Rattle.editor_core.specs.Studios.{IsStudio, studio_by, studio_of, clip_cells}
 use Rattle.editor_core.specs.Took.{Took, with_sound}
 use Rattle.editor_core.specs.TrackEdits.{IsTrackCall, IsTrackPlan, NoTrackPlan, TrackEdit, track_command, track_refusal}
@@ -66,9 +67,15 @@ edited_changed id f (t ∷ ts) =
     let rest = edited_changed id f ts in
     λ i. if t.id == id then with_cells f t ∷ ts else t ∷ rest i
 
+-- as few bytes as so many records have
+least_needs : (more low high : ℕ) {most : ℕ} → (0 ≤ most) × (5 * more ≤ 5 * more) × (5 * more ≤ more * (5 + low) + high)
+least_needs more low high =
+    let fives : more * 5 ≤ more * (5 + low) = mul-le-mul_left more (omega arith) in
+    (omega arith, omega arith, omega (arith, fives))
+
 module _ {D : Type 0} (disk : Ghosts D) (s : Core D) (is : IsStudio disk s) (c : Call) (sound : SoundMove)
-    (e : TrackEdit) (given : Given) (id tag : ℕ)
-    (line : IsTrackCall c sound (track_command e given id tag)) where
+    (e : TrackEdit) (given : Given) (id tag more : ℕ)
+    (line : IsTrackCall c sound (track_command e given id tag more)) where
   abbrev old : List Track
   old = current_tracks s.history
 
@@ -100,10 +107,10 @@ module _ {D : Type 0} (disk : Ghosts D) (s : Core D) (is : IsStudio disk s) (c :
       let own = own_is (samples_on (disk.reads s.store)) in
       let first : ((stop_of s.stopped) otherwise (call_tests (outside t sound) t.state c)) ≡ Some why =
       (λ i. (stop_of s.stopped) otherwise (own i)) ∙ h in
-      refuses disk s c sound why is fewer (commit_frees disk s c (Err why) s line.call.commit.one)
-      line.call.commit.quiet 0 0
-      (λ held. line.call.needs t.rate t 0 0 (omega arith, omega arith))
-      (early t c sound 0 line.call.commit 0 0 why first) (early_needed disk s c sound why first)
+      refuses disk s c sound why is fewer (commit_frees disk s c (Err why) s line.call.commit.many)
+      line.call.commit.quiet (5 * more) 0
+      (λ held. line.call.needs t.rate t 0 (5 * more) (least_needs more _ _))
+      (early t c sound 0 line.call.commit 0 (5 * more) why first) (early_needed disk s c sound why first)
 
   pub track_stopped : (faults : ℕ) → Fewer disk s.store → s.stopped ≡ Some faults
       → Took disk s (with_sound c sound (Err (refusal.Stopped faults))) s
@@ -116,19 +123,20 @@ module _ {D : Type 0} (disk : Ghosts D) (s : Core D) (is : IsStudio disk s) (c :
       (λ own. early_refused why fewer ((λ i. (stop_of (going i)) otherwise (track_refusal id e.test found)) ∙ own))
       (λ memory.
       subst (λ (r : Refusal). Took disk s (with_sound c sound (Err r)) s) (sym memory)
-      (wants disk s c sound is fewer (commit_removes_none c line.call.commit.one) line.call.commit.quiet 0
-      (λ held. (0, line.call.needs t.rate t 0 0 (omega arith, omega arith)))))
+      (wants disk s c sound is fewer (commit_removes_none c line.call.commit.many) line.call.commit.quiet (5 * more)
+      (λ held. (0, line.call.needs t.rate t 0 (5 * more) (least_needs more _ _)))))
       not
 
   -- ---- what the call means
 
   module _ (planned : Planned) (p : IsTrackPlan e (brought_count given) id s planned) (none : planned.tracks ≡ 0)
       (keeps : planned.clip ≡ None) where
-    pub track_edit : IsEdit disk s c sound (tagged planned tag given)
+    pub track_edit : IsEdit disk s c sound (tagged planned tag more given)
     track_edit = record {
       most = λ m st. e.most m (cells_at id (current st));
       call =
-          subst (λ (k : ℕ). IsEditCall c sound k (λ m st. e.most m (cells_at id (current st)))) (sym none) line.call;
+          subst (λ (k : ℕ). IsEditCall c sound k more (λ m st. e.most m (cells_at id (current st)))) (sym none)
+          line.call;
       few = λ block.
           let src = alone block in
           let cells : cells_at id (current (studio_by src disk s).state) ≡ layout_cells src p.track.layout =
@@ -147,11 +155,14 @@ module _ {D : Type 0} (disk : Ghosts D) (s : Core D) (is : IsStudio disk s) (c :
           ∙ sym (point_means disk s is e given id planned p block written) in
           let same : s.next_track ≡ s.next_track + planned.tracks = omega (arith, none) in
           line.after_is (outside u sound) now_state
-          ∙ (λ i. record now_state { history = recorded now_state.history (point i) tag; commit = s.commit_number + 1 })
+          ∙ (λ i. record now_state {
+            history = recorded now_state.history (point i) tag;
+            commit = s.commit_number + suc more;
+          })
           ∙ (λ i. record now_state {
             history = sym (meant_recorded src s.history planned.point tag) i;
             clipboard = clip_cells src (clip_then (sym keeps i) s.clipboard);
             next_track = same i;
-            commit = s.commit_number + 1;
+            commit = s.commit_number + suc more;
           });
     }

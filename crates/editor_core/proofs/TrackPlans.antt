@@ -1,5 +1,6 @@
 -- The plan of an edit of one track: what it leaves, and why there is none.
-use Rattle.std.proofs.Common.{◌≡◌, ◌⊎◌, inl, inr, ⊎_elim, refl, sym, ap, ◌∙◌, subst, ℕ, ◌+◌, ◌≤◌, ℤ, Some, None, List}
+use Rattle.std.proofs.Common.{◌≡◌, ◌⊎◌, inl, inr, ⊎_elim, refl, sym, ap, ◌∙◌, subst, ℕ, ◌+◌, ◌≤◌, ◌<◌, ℤ, Some, None}
+use Rattle.std.proofs.Common.{List}
 use Rattle.std.proofs.Common.{[], ◌∷◌, ◌++◌, length, Contains, arith, Option, ◌^◌}
 use Rattle.std.specs.List.{AllByRecursion}
 use Rattle.std.proofs.lemmas.List.{length-map}
@@ -17,14 +18,14 @@ use Rattle.edit_ops.specs.Plans.{AllNewFrom, AreNew, AreOldOrNew, AreWritten}
 use Rattle.piece_store.specs.declared.given.Given.{Given}
 use Rattle.piece_store.specs.Bringing.{brought, brought_count}
 use Rattle.project_state.specs.declared.track.Track.{Track}
-use Rattle.project_state.specs.Kept.{history_blocks, meant, meant_track, point_blocks}
+use Rattle.project_state.specs.Kept.{current_tracks, history_blocks, meant, meant_track, point_blocks}
 use Rattle.project_state.specs.KeptSound.{IsSoundPoint}
 use Rattle.project_state.specs.Sound.{IsSoundTrack}
 use Rattle.project_state.specs.Tracks.{track_of}
 use Rattle.editor_core.specs.declared.carrying.Planned.{Planned}
 use Rattle.editor_core.specs.Core.{Core}
 use Rattle.editor_core.specs.Edits.{AreAmong, IsPlanned, alone, beside, blocks_with, clip_then, tagged}
-use Rattle.editor_core.specs.Points.{current_tracks, put_in, put_one}
+use Rattle.editor_core.specs.Points.{put_in, put_one}
 use Rattle.editor_core.specs.Studios.{IsGiven, IsStudio, clip_blocks, named_blocks, pin_blocks, MayPaste}
 use Rattle.editor_core.specs.TrackEdits.{IsTrackPlan, NoTrackPlan, TrackEdit, track_refusal, with_layout}
 use Rattle.editor_core.proofs.Contained.{among_itself}
@@ -172,14 +173,15 @@ module _ {D : Type 0} (disk : Ghosts D) (s : Core D) (is : IsStudio disk s) (e :
       (all_right (Contains every) (history_blocks s.history) (pin_blocks s.pins ++ clip_blocks s.clipboard)
       (all_left (Contains every) (named_blocks s) (refs makes) (among_itself every)))
 
-  pub track_planned : planned.tracks ≡ 0 → planned.clip ≡ None → (tag : ℕ) → tag ≤ s.commit_number
-      → IsPlanned s (tagged planned tag given)
-  track_planned none keeps tag tag_given = record {
+  pub track_planned : planned.tracks ≡ 0 → planned.clip ≡ None → (tag more : ℕ) → tag ≤ s.commit_number
+      → (0 < more → 1 ≤ tag) → IsPlanned s (tagged planned tag more given)
+  track_planned none keeps tag more tag_given counts = record {
     new = fresh;
     readable = all_readable s.block_size s.next_block (brought_count given) (layout_blocks was.layout) makes
         (layout_of IsNamed id old was p.found (current_may_read disk s is)) origin fresh;
     origin = new_from_more (layout_blocks was.layout) (named_blocks s) (brought_count given) makes was_named origin;
     tag_given = tag_given;
+    tag_counts = counts;
     sound = subst (λ (k : ℕ). IsSoundPoint s.block_size (s.next_block + n) (s.next_track + k) planned.point) (sym none)
         (subst (IsSoundPoint s.block_size (s.next_block + n) (s.next_track + 0)) (sym p.is) put_is_sound);
     names = subst (λ (q : List Track). AreAmong every (point_blocks q)) (sym p.is) put_names;

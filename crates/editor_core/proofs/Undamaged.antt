@@ -9,6 +9,7 @@ use Rattle.edit_ops.specs.Runs.{copy_tests, longest_of}
 use Rattle.envelope_view.specs.Answers.{IsUndamaged}
 use Rattle.project_state.specs.Tracks.{track_of}
 use Rattle.project_state.specs.declared.track.Track.{Track}
+use Rattle.project_journal.specs.Journal.{rows_length}
 use Rattle.editor_core.specs.Adding.{Adds, Fields}
 use Rattle.editor_core.specs.Core.{Core}
 use Rattle.editor_core.specs.Plain.{refusal_by}
@@ -41,12 +42,12 @@ refusal_tells (edit.Side id side) ts = lacks_tells id (track_of id ts)
 refusal_tells (edit.Mute id mute) ts = lacks_tells id (track_of id ts)
 
 -- ---- a record that was not added
-fields_tell : {D : Type 0} (R : Type 0) (disk : Ghosts D) (old new : Core D) (whole len : ℕ)
-    (why : Refusal) → Fields {R = R} disk old whole len (Err why) new → IsUndamaged why
-fields_tell R disk old new whole len (refusal.Damaged file at want have) fields = absurd fields
-fields_tell R disk old new whole len why fields = tt
+fields_tell : {D : Type 0} (R : Type 0) (disk : Ghosts D) (old new : Core D) (whole count len : ℕ)
+    (why : Refusal) → Fields {R = R} disk old whole count len (Err why) new → IsUndamaged why
+fields_tell R disk old new whole count len (refusal.Damaged file at want have) fields = absurd fields
+fields_tell R disk old new whole count len why fields = tt
 
-pub adding_tells : {D R : Type 0} (disk : Ghosts D) (old new : Core D) (body : List ℕ) (whole : ℕ)
-    (why : Refusal) → Adds {R = R} disk old body whole (Err why) new → IsUndamaged why
-adding_tells {R = R} disk old new body whole why adds =
-    fields_tell R disk old new whole (length body) why adds.fields
+pub adding_tells : {D R : Type 0} (disk : Ghosts D) (old new : Core D) (bodies : List (List ℕ)) (count whole : ℕ)
+    (why : Refusal) → Adds {R = R} disk old bodies count whole (Err why) new → IsUndamaged why
+adding_tells {R = R} disk old new bodies count whole why adds =
+    fields_tell R disk old new whole count (rows_length bodies) why adds.fields

@@ -181,8 +181,8 @@ module _ {D : Type 0} (disk : Ghosts D) (s : Core D) (is : IsStudio disk s) (num
           let pin_room = fits s.next_pin 0 (omega (arith, is.counters.pin_most)) in
           let passed = quiet_passes t (Unpin number) unpin_quiet (room_of disk s (Unpin number) is) refl refl
           (has_own pin.point held_there) pin_room in
-          renamed_took disk s is s.clipboard pins s.next_pin counts unpin_renames (Unpin number) unpin_quiet tt Done fewer
-          (λ some. refl)
+          renamed_took disk s is s.clipboard pins s.next_pin counts unpin_renames (Unpin number) unpin_quiet tt tt Done
+          fewer (λ some. refl)
           (λ _. carried t (Unpin number) unpin_quiet (room_of disk s (Unpin number) is) refl Done
           (studio_of disk new) passed refl unpin_state)
 

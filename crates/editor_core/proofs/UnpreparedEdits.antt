@@ -1,5 +1,5 @@
 -- An edit that makes blocks, refused before the first of them.
-use Rattle.std.proofs.Common.{◌≡◌, inl, inr, ⊎_elim, refl, sym, subst, ℕ, ◌+◌, ◌≤◌, None, List, length, Err, arith}
+use Rattle.std.proofs.Common.{◌≡◌, inl, inr, ⊎_elim, refl, sym, subst, ℕ, suc, ◌+◌, ◌≤◌, None, List, length, Err, arith}
 use Rattle.pcm_base.specs.declared.command.Call.{Call}
 use Rattle.pcm_base.specs.declared.entry.SoundMove.{SoundMove}
 use Rattle.pcm_base.specs.declared.refusal.Refusal.{Refusal}
@@ -10,11 +10,10 @@ use Rattle.pcm_base.specs.Run.{outside}
 use Rattle.pcm_base.specs.Studio as model
 use Rattle.disk_model.specs.declared.store.Store.{Ghosts}
 use Rattle.disk_model.proofs.Frames.{Fewer}
-use Rattle.project_state.specs.declared.body.Body.{Body}
 use Rattle.project_state.specs.declared.body.Body.TheVariants.{Edit}
 use Rattle.project_state.specs.declared.track.Track.{Track}
 use Rattle.editor_core.specs.Adding.{Exceeds}
-use Rattle.editor_core.specs.Bodies.{IsLength, body_bytes, whole_len}
+use Rattle.editor_core.specs.Bodies.{IsLength, Writing, all_len, whole_len}
 use Rattle.editor_core.specs.Core.{Core}
 use Rattle.editor_core.specs.Edits.{IsEdit, IsPlanned, NotPrepared, TaggedEdit}
 use Rattle.editor_core.specs.Spent.{WouldMake}
@@ -49,49 +48,50 @@ module _ {D : Type 0} (disk : Ghosts D) (s : Core D) (is : IsStudio disk s) (goi
   abbrev track_then : ℕ
   track_then = s.next_track + tracks
 
-  abbrev told_body : Body
-  told_body = Edit tag (s.next_block + n) track_then point
+  abbrev writes : Writing
+  writes = record { more = e.more; body = Edit tag (s.next_block + n) track_then point }
 
-  abbrev body : List ℕ
-  body = body_bytes s told_body
+  abbrev len : ℕ
+  len = all_len s writes
 
   abbrev t : model.Studio
   t = studio_of disk s
 
-  need : (k : ℕ) → k ≤ n → Needs (outside t sound) t c k (length body)
-  need = edit_needs disk s is going e plan c sound edit (length body) (inr refl)
+  need : (k : ℕ) → k ≤ n → Needs (outside t sound) t c k len
+  need = edit_needs disk s is going e plan c sound edit len (inr refl)
 
   pub not_prepared : (why : Refusal) (new : Core D) → new ≡ s
-      → NotPrepared s n tracks (whole_len told_body) (length body) why
+      → NotPrepared s n tracks (suc e.more) (whole_len s writes) len why
       → Took disk s (with_sound c sound (Err why)) new
   not_prepared why new same not =
       let commit = edit.call.commit in
       let own = edit_own disk s is going e plan c sound edit in
       let would : WouldMake disk s c sound = record {
-        commit = commit.one;
+        writes = writes;
+        commits = commit.many;
         blocks = n;
-        body = told_body;
-        so = inl (record { edit = e; planned = plan; means = edit; blocks_are = refl; body_is = refl });
+        so = inl (record { edit = e; planned = plan; means = edit; blocks_are = refl; writes = refl });
       } in
       let test =
-      refuses disk s c sound why is (fewer s.store) (commit_frees disk s c (Err why) s commit.one) commit.quiet
-      (length body) n (λ held. need n (omega arith)) in
+      refuses disk s c sound why is (fewer s.store) (commit_frees disk s c (Err why) s commit.many) commit.quiet
+      len n (λ held. need n (omega arith)) in
       let memory : Took disk s (with_sound c sound (Err refusal.NoMemory)) s =
-      wants disk s c sound is (fewer s.store) (commit_removes_none c commit.one) commit.quiet (length body)
+      wants disk s c sound is (fewer s.store) (commit_removes_none c commit.many) commit.quiet len
       (λ held. (0, need 0 (omega arith))) in
       subst (λ (z : Core D). Took disk s (with_sound c sound (Err why)) z) (sym same)
       (⊎_elim
       (λ want. subst (λ (e : Refusal). Took disk s (with_sound c sound (Err e)) s) (sym want) memory)
       (⊎_elim
-      (λ spent. test (counter_spent t c sound tracks commit n (length body) is.counters.pin_most
+      (λ spent. test (counter_spent t c sound tracks commit n len is.counters.pin_most
       is.journal.generation_most going own why spent)
       (spent_needed disk s c sound tracks commit would why spent))
       (λ over.
-      let exceeds = λ (len : ℕ) (one : IsLength s told_body len) (h : Exceeds s.journal_end len why).
-      refuses disk s c sound why is (fewer s.store) (commit_frees disk s c (Err why) s commit.one) commit.quiet len n
-      (λ held. edit_needs disk s is going e plan c sound edit len one n (omega arith))
-      (exceeded t c sound tracks commit n len is.counters.pin_most is.journal.generation_most going own over.0 over.1
-      (omega (arith, over.2)) why h)
-      (exceeding_needed disk s c sound would len one why h) in
-      ⊎_elim (exceeds (whole_len told_body) (inl refl)) (exceeds (length body) (inr refl)) over.3))
+      let exceeds = λ (k : ℕ) (one : IsLength s writes k) (h : Exceeds s.journal_end k why).
+      refuses disk s c sound why is (fewer s.store) (commit_frees disk s c (Err why) s commit.many) commit.quiet k n
+      (λ held. edit_needs disk s is going e plan c sound edit k one n (omega arith))
+      (exceeded t c sound tracks commit n k is.counters.pin_most is.journal.generation_most going own over.0 over.1
+      over.2
+      why h)
+      (exceeding_needed disk s c sound would k one why h) in
+      ⊎_elim (exceeds (whole_len s writes) (inl refl)) (exceeds len (inr refl)) over.3))
       not)

@@ -1,5 +1,5 @@
 -- What the parts of a commit do.
-use Rattle.std.specs.Prelude.{◌≡◌, ◌⊎◌, ℕ, ◌+◌, ◌≤◌, ◌<◌, IsTrue, Option, Some, None, List, length, Result, Ok}
+use Rattle.std.specs.Prelude.{◌≡◌, ◌⊎◌, ℕ, suc, ◌+◌, ◌≤◌, ◌<◌, IsTrue, Option, Some, None, List, Result, Ok}
 use Rattle.std.specs.Prelude.{Err}
 use Rattle.std.specs.Prelude.{MatchResult, OnOk}
 use Rattle.pcm_base.specs.Causes.{Rose}
@@ -14,12 +14,11 @@ use Rattle.disk_model.specs.Disk.{SameElsewhere}
 use Rattle.disk_model.specs.Frames.{Changed}
 use Rattle.disk_model.specs.declared.store.Store.{Ghosts}
 use Rattle.project_journal.specs.Gate.{EachSince}
-use Rattle.project_journal.specs.Journal.{Log, IsAt, HasOneOf, with_body}
+use Rattle.project_journal.specs.Journal.{Log, IsAt, HasOneOf, rows_length, with_bodies}
 use Rattle.project_journal.specs.Rooms.{append_room}
 use Rattle.project_journal.specs.declared.fault.JournalFault.{JournalFault}
 use Rattle.project_journal.specs.declared.fault.JournalFault.TheVariants as journal
-use Rattle.project_state.specs.declared.body.Body.{Body}
-use Rattle.editor_core.specs.Bodies.{body_bytes, whole_len}
+use Rattle.editor_core.specs.Bodies.{Writing, all_bytes, whole_len}
 use Rattle.editor_core.specs.Core.{Core, form_at}
 
 -- the first that refuses a commit that needs `tracks` track ids: that the studio is stopped, its own tests, or that a
@@ -59,49 +58,51 @@ pub record HasFailed {D : Type 0} (disk : Ghosts D) (old new : D) : Type 0 where
   pub rose : Rose (disk.change_fault_count old) (disk.change_fault_count new)
   pub later : disk.change_fault_count old ≤ disk.change_fault_count new
 
--- The fields after a record was to be added whose body has `len` bytes, and written out whole has `whole`.
-abbrev pub Fields : {D R : Type 0} → Ghosts D → Core D → (whole len : ℕ) → Result R Refusal → Core D → Type 0
-Fields disk old whole len (Ok _) new =
+-- The fields after so many records were to be added, which have `len` bytes without the gate of the first and the length
+-- of its body, and written out whole `whole`.
+abbrev pub Fields : {D R : Type 0} → Ghosts D → Core D → (whole count len : ℕ) → Result R Refusal → Core D → Type 0
+Fields disk old whole count len (Ok _) new =
     (new ≡ record old {
       store = new.store;
       journal_end = old.journal_end + 5 + len;
-      commit_number = old.commit_number + 1;
+      commit_number = old.commit_number + count;
     })
     × (old.journal_end + (6 + len) ≤ COUNTER_LIMIT)
     × (disk.change_fault_count new.store ≡ disk.change_fault_count old.store) × (len ≤ LONGEST_BODY)
-Fields disk old whole len (Err (refusal.SpaceSpent have need)) new =
+Fields disk old whole count len (Err (refusal.SpaceSpent have need)) new =
     (new ≡ old) × ExceedsBy old.journal_end whole len (refusal.SpaceSpent have need)
-Fields disk old whole len (Err refusal.NoMemory) new = new ≡ old
-Fields disk old whole len (Err (refusal.RecordLimit n)) new =
+Fields disk old whole count len (Err refusal.NoMemory) new = new ≡ old
+Fields disk old whole count len (Err (refusal.RecordLimit n)) new =
     (new ≡ old) × ExceedsBy old.journal_end whole len (refusal.RecordLimit n)
-Fields disk old whole len (Err refusal.DiskFault) new =
+Fields disk old whole count len (Err refusal.DiskFault) new =
     (new ≡ stopped_by disk old new.store) × (old.journal_end + (6 + len) ≤ COUNTER_LIMIT)
     × HasFailed disk old.store new.store × (len ≤ LONGEST_BODY)
-Fields disk old whole len (Err why) new = ⊥
+Fields disk old whole count len (Err why) new = ⊥
 
--- what the answer of an append of the journal makes of a studio that has its store already
-abbrev pub Settles : {D : Type 0} → Ghosts D → Core D → Result ℕ JournalFault → Result (Unit {0}) Refusal → Core D
+-- what the answer of an append of so many records makes of a studio that has its store already
+abbrev pub Settles : {D : Type 0} → Ghosts D → Core D → ℕ → Result ℕ JournalFault → Result (Unit {0}) Refusal → Core D
     → Type 0
-Settles disk old (Ok next) result new =
-    (result ≡ Ok (tt {0})) × (new ≡ record old { journal_end = next; commit_number = old.commit_number + 1 })
-Settles disk old (Err journal.DiskFault) result new = (result ≡ Err refusal.DiskFault)
+Settles disk old count (Ok next) result new =
+    (result ≡ Ok (tt {0})) × (new ≡ record old { journal_end = next; commit_number = old.commit_number + count })
+Settles disk old count (Err journal.DiskFault) result new = (result ≡ Err refusal.DiskFault)
     × (new ≡ stopped_by disk old old.store)
-Settles disk old (Err (journal.SpaceSpent have need)) result new = (result ≡ Err (refusal.SpaceSpent have need))
+Settles disk old count (Err (journal.SpaceSpent have need)) result new = (result ≡ Err (refusal.SpaceSpent have need))
     × (new ≡ old)
-Settles disk old (Err fault) result new = (result ≡ Err refusal.NoMemory) × (new ≡ old)
+Settles disk old count (Err fault) result new = (result ≡ Err refusal.NoMemory) × (new ≡ old)
 
--- a record with this body, which written out whole has `whole` bytes, added to the journal, or not
-pub record Adds {D R : Type 0} (disk : Ghosts D) (old : Core D) (body : List ℕ) (whole : ℕ) (result : Result R Refusal)
-    (new : Core D) : Type 0 where
-  pub fields : Fields disk old whole (length body) result new
+-- records with these bodies, as this many commits, which written out whole have `whole` bytes, added to the journal, all
+-- of them or none
+pub record Adds {D R : Type 0} (disk : Ghosts D) (old : Core D) (bodies : List (List ℕ)) (count whole : ℕ)
+    (result : Result R Refusal) (new : Core D) : Type 0 where
+  pub fields : Fields disk old whole count (rows_length bodies) result new
   pub any_moment : (log : Log) → IsTrue (disk.tells old.store) → IsAt (form_at old) disk old.store old.journal_end log
-      → EachSince disk old.store new.store (HasOneOf (form_at old) log (with_body log body))
+      → EachSince disk old.store new.store (HasOneOf (form_at old) log (with_bodies log bodies))
   pub done : (log : Log) → IsTrue (disk.tells old.store) → IsAt (form_at old) disk old.store old.journal_end log
-      → OnOk result (IsAt (form_at old) disk new.store new.journal_end (with_body log body))
-  pub changed : Changed disk (SameElsewhere old.file) (append_room (disk.reads old.store old.file) (length body))
+      → OnOk result (IsAt (form_at old) disk new.store new.journal_end (with_bodies log bodies))
+  pub changed : Changed disk (SameElsewhere old.file) (append_room (disk.reads old.store old.file) (rows_length bodies))
       old.store new.store
   pub read_faults : disk.read_fault_count new.store ≡ disk.read_fault_count old.store
 
--- the same of the record of a body
-abbrev pub AddsBody : {D R : Type 0} → Ghosts D → Core D → Body → Result R Refusal → Core D → Type 0
-AddsBody disk old body result new = Adds disk old (body_bytes old body) (whole_len body) result new
+-- the same of what a commit writes
+abbrev pub AddsBody : {D R : Type 0} → Ghosts D → Core D → Writing → Result R Refusal → Core D → Type 0
+AddsBody disk old w result new = Adds disk old (all_bytes old w) (suc w.more) (whole_len old w) result new

@@ -1,5 +1,5 @@
 -- Calls that are commits.
-use Rattle.std.specs.Prelude.{◌≡◌, ℕ, IsTrue, Option}
+use Rattle.std.specs.Prelude.{◌≡◌, ℕ, suc, IsTrue, Option}
 use Rattle.pcm_base.specs.declared.answer.Reply.TheVariants.{Done}
 use Rattle.pcm_base.specs.declared.command.Call.{Call}
 use Rattle.pcm_base.specs.declared.entry.SoundMove.{SoundMove}
@@ -9,10 +9,10 @@ use Rattle.pcm_base.specs.State.{State}
 use Rattle.pcm_base.specs.Step.{MayAnswer, sound_after}
 use Rattle.pcm_base.specs.Studio as model
 
--- A call that is a commit, and what it does but for its edit: it gives this many track ids, and leaves the sound that
--- it names as it was. Of each call that is one these are all `refl`.
-pub record IsCommitCall (c : Call) (sound : SoundMove) (tracks : ℕ) : Type 0 where
-  pub one : commits_of c ≡ 1
+-- A call that is this many commits and one, and what it does but for its edit: it gives this many track ids, and leaves
+-- the sound that it names as it was. Of each call that is one these are all `refl`.
+pub record IsCommitCall (c : Call) (sound : SoundMove) (tracks more : ℕ) : Type 0 where
+  pub many : commits_of c ≡ suc more
   pub no_pin : pins_of c ≡ 0
   pub tracks_is : (rate : ℕ) → tracks_of (record { rate = rate; sound = sound.before }) c ≡ tracks
   pub stops : (stopped : Option ℕ) → stop_test stopped c ≡ stop_of stopped

@@ -10,9 +10,9 @@ use Rattle.clip_track.specs.declared.items.Item.{Item}
 use Rattle.clip_track.specs.Items.{strip_blocks}
 use Rattle.edit_ops.specs.Runs.{copy_tests, AreCopies}
 use Rattle.project_state.specs.declared.track.Track.{Track}
+use Rattle.project_state.specs.Kept.{current_tracks}
 use Rattle.editor_core.specs.declared.copies.RunRange.{RunRange}
 use Rattle.editor_core.specs.Core.{Core}
-use Rattle.editor_core.specs.Points.{current_tracks}
 
 -- the block, if there is one
 abbrev pub blocks_in : Option BlockRef → List BlockRef

@@ -1,14 +1,14 @@
 -- An edit that makes blocks: what is known of it before anything of the disk is changed, and what carrying it out
 -- leaves.
-use Rattle.std.specs.Prelude.{◌≡◌, ◌⊎◌, ℕ, ◌+◌, ◌^◌, ◌≤◌, ◌<◌, ℤ, pos, Option, Some, None, List, ◌++◌, length, map}
-use Rattle.std.specs.Prelude.{Result, Ok, Err, Contains}
+use Rattle.std.specs.Prelude.{◌≡◌, ◌⊎◌, ℕ, suc, ◌+◌, ◌^◌, ◌≤◌, ◌<◌, ℤ, pos, Option, Some, None, List, ◌++◌, length, map}
+use Rattle.std.specs.Prelude.{Result, Ok, Err, Contains, false}
 use Rattle.std.specs.List.{AllByRecursion}
 use Rattle.pcm_base.specs.declared.block.BlockRef.{BlockRef}
 use Rattle.pcm_base.specs.declared.command.Call.{Call}
 use Rattle.pcm_base.specs.declared.entry.SoundMove.{SoundMove}
 use Rattle.pcm_base.specs.declared.refusal.Refusal.{Refusal}
 use Rattle.pcm_base.specs.declared.refusal.Refusal.TheVariants as refusal
-use Rattle.pcm_base.specs.Counters.{EditNeeds, Needs, no_room}
+use Rattle.pcm_base.specs.Counters.{Needs, RecordsNeed, no_room}
 use Rattle.pcm_base.specs.History.{History, recorded}
 use Rattle.pcm_base.specs.Outside.{Outside}
 use Rattle.pcm_base.specs.Pieces.{Sources}
@@ -24,6 +24,7 @@ use Rattle.edit_ops.specs.declared.types.NewBlock.{NewBlock}
 use Rattle.edit_ops.specs.Plans.{AreNew, AreWritten, AllNewFrom, ref_of}
 use Rattle.piece_store.specs.declared.given.Given.{Given}
 use Rattle.piece_store.specs.Bringing.{brought, brought_count}
+use Rattle.project_journal.specs.Journal.{rows_length}
 use Rattle.project_state.specs.declared.track.Track.{Track}
 use Rattle.project_state.specs.Kept.{meant_history, point_blocks}
 use Rattle.project_state.specs.KeptSound.{IsSoundPoint}
@@ -31,6 +32,7 @@ use Rattle.editor_core.specs.declared.carrying.Planned.{Planned}
 use Rattle.editor_core.specs.Adding.{Adds, ExceedsBy}
 use Rattle.editor_core.specs.Commits.{IsCommitCall}
 use Rattle.editor_core.specs.Core.{Core}
+use Rattle.editor_core.specs.Exchanges.{is_broken_off}
 use Rattle.editor_core.specs.Made.{PiecesReadable, batch_of, ids_from}
 use Rattle.editor_core.specs.Makes.{AreSynced, Making, Stuck}
 use Rattle.editor_core.specs.Studios.{MayPaste, clip_blocks, clip_cells, named_blocks, studio_by}
@@ -44,14 +46,16 @@ blocks_with s makes = named_blocks s ++ map ref_of makes
 abbrev pub AreAmong : List BlockRef → List BlockRef → Type 0
 AreAmong every bs = AllByRecursion (Contains every) bs
 
--- an edit: its plan, the tag of its new point, where 0 is none, and what its command brings
+-- an edit: its plan, the tag of its new point, where 0 is none, how many commits it is beside one, and what its command
+-- brings
 pub record TaggedEdit : Type 0 where
   pub plan : Planned
   pub tag : ℕ
+  pub more : ℕ
   pub given : Given
 
-abbrev pub tagged : Planned → ℕ → Given → TaggedEdit
-tagged plan tag given = record { plan = plan; tag = tag; given = given }
+abbrev pub tagged : Planned → (tag more : ℕ) → Given → TaggedEdit
+tagged plan tag more given = record { plan = plan; tag = tag; more = more; given = given }
 
 -- the clipboard after an edit: what it takes out, or what was there
 abbrev pub clip_then : {A : Type 0} → Option A → Option A → Option A
@@ -72,6 +76,7 @@ pub record IsPlanned {D : Type 0} (s : Core D) (e : TaggedEdit) : Type 0 where
   pub readable : PiecesReadable (brought_count e.given) e.plan.makes
   pub origin : AllNewFrom (named_blocks s) (brought_count e.given) e.plan.makes
   pub tag_given : e.tag ≤ s.commit_number
+  pub tag_counts : 0 < e.more → 1 ≤ e.tag
   pub sound : IsSoundPoint s.block_size (s.next_block + length e.plan.makes) (s.next_track + e.plan.tracks) e.plan.point
   pub names : AreAmong (blocks_with s e.plan.makes) (point_blocks e.plan.point)
   pub used : AreAmong (point_blocks e.plan.point) (map ref_of e.plan.makes)
@@ -86,13 +91,13 @@ abbrev pub outside_at : ℕ → SoundMove → Outside
 outside_at rate sound = record { rate = rate; sound = sound.before }
 
 -- A call that is an edit: this many blocks it may make, by the block size and the state before it.
-pub record IsEditCall (c : Call) (sound : SoundMove) (tracks : ℕ) (most : ℕ → State → ℕ) : Type 0 where
-  pub commit : IsCommitCall c sound tracks
+pub record IsEditCall (c : Call) (sound : SoundMove) (tracks more : ℕ) (most : ℕ → State → ℕ) : Type 0 where
+  pub commit : IsCommitCall c sound tracks more
   pub needs : (rate : ℕ) (t : model.Studio) (blocks len : ℕ)
-      → EditNeeds (most t.block_size t.state) (outside_at rate sound) t c blocks len
+      → RecordsNeed more (most t.block_size t.state) (outside_at rate sound) t c blocks len
       → Needs (outside_at rate sound) t c blocks len
   pub needed : (rate : ℕ) (t : model.Studio) (blocks len : ℕ) → Needs (outside_at rate sound) t c blocks len
-      → EditNeeds (most t.block_size t.state) (outside_at rate sound) t c blocks len
+      → RecordsNeed more (most t.block_size t.state) (outside_at rate sound) t c blocks len
 
 -- blocks of these samples, by their ids, and what a command brings beside them
 abbrev pub beside : (ℕ → ℕ → ℤ) → (ℕ → ℤ) → Sources
@@ -106,7 +111,7 @@ alone block = beside block (λ _. pos 0)
 pub record IsEdit {D : Type 0} (disk : Ghosts D) (s : Core D) (c : Call) (sound : SoundMove) (e : TaggedEdit)
     : Type 0 where
   pub most : ℕ → State → ℕ
-  pub call : IsEditCall c sound e.plan.tracks most
+  pub call : IsEditCall c sound e.plan.tracks e.more most
   pub few : (block : ℕ → ℕ → ℤ) → length e.plan.makes ≤ most s.block_size (studio_by (alone block) disk s).state
   pub own : (block : ℕ → ℕ → ℤ)
       → call_tests (outside (studio_by (alone block) disk s) sound) (studio_by (alone block) disk s).state c ≡ None
@@ -116,60 +121,67 @@ pub record IsEdit {D : Type 0} (disk : Ghosts D) (s : Core D) (c : Call) (sound 
         history = meant_history (alone block) (history_behind s e);
         clipboard = clip_cells (alone block) (clip_behind s e.plan);
         next_track = s.next_track + e.plan.tracks;
-        commit = s.commit_number + 1;
+        commit = s.commit_number + suc e.more;
       }
 
 -- ---- what carrying it out leaves
 
 -- the next block, the next track or the commit number has no room
-abbrev pub Spends : {D : Type 0} → Core D → (count tracks : ℕ) → Refusal → Type 0
-Spends s count tracks why =
-    (no_room s.next_block count) otherwise (no_room s.next_track tracks) otherwise (no_room s.commit_number 1)
+abbrev pub Spends : {D : Type 0} → Core D → (blocks tracks count : ℕ) → Refusal → Type 0
+Spends s blocks tracks count why =
+    (no_room s.next_block blocks) otherwise (no_room s.next_track tracks) otherwise (no_room s.commit_number count)
     ≡ Some why
 
--- what is prepared for this many blocks and track ids and a record with a body of this length, so that nothing but the
+-- what is prepared for this many blocks, track ids and commits, and records of this length, so that nothing but the
 -- disk can refuse
-pub record IsPrepared {D : Type 0} (s : Core D) (count tracks len : ℕ) : Type 0 where
-  pub blocks : s.next_block + count ≤ COUNTER_LIMIT
+pub record IsPrepared {D : Type 0} (s : Core D) (made tracks count len : ℕ) : Type 0 where
+  pub blocks : s.next_block + made ≤ COUNTER_LIMIT
   pub ids : s.next_track + tracks ≤ COUNTER_LIMIT
-  pub number : s.commit_number < COUNTER_LIMIT
+  pub number : s.commit_number + count ≤ COUNTER_LIMIT
   pub place : s.journal_end + (6 + len) ≤ COUNTER_LIMIT
   pub short : len ≤ LONGEST_BODY
 
--- a counter has no room, or else the journal has none for the record, or it is too long
-abbrev pub Unprepared : {D : Type 0} → Core D → (count tracks whole len : ℕ) → Refusal → Type 0
-Unprepared s count tracks whole len why =
-    Spends s count tracks why
-    ⊎ ((s.next_block + count ≤ COUNTER_LIMIT) × (s.next_track + tracks ≤ COUNTER_LIMIT) × (s.commit_number < COUNTER_LIMIT)
-    × ExceedsBy s.journal_end whole len why)
+-- a counter has no room, or else the journal has none for the records, or they are too long
+abbrev pub Unprepared : {D : Type 0} → Core D → (blocks tracks count whole len : ℕ) → Refusal → Type 0
+Unprepared s blocks tracks count whole len why =
+    Spends s blocks tracks count why
+    ⊎ ((s.next_block + blocks ≤ COUNTER_LIMIT) × (s.next_track + tracks ≤ COUNTER_LIMIT)
+    × (s.commit_number + count ≤ COUNTER_LIMIT) × ExceedsBy s.journal_end whole len why)
 
 -- why it is not prepared: that, or memory
-abbrev pub NotPrepared : {D : Type 0} → Core D → (count tracks whole len : ℕ) → Refusal → Type 0
-NotPrepared s count tracks whole len why = (why ≡ refusal.NoMemory) ⊎ Unprepared s count tracks whole len why
+abbrev pub NotPrepared : {D : Type 0} → Core D → (blocks tracks count whole len : ℕ) → Refusal → Type 0
+NotPrepared s blocks tracks count whole len why =
+    (why ≡ refusal.NoMemory) ⊎ Unprepared s blocks tracks count whole len why
 
--- a commit that makes blocks: the blocks, what its command brings for them, how many track ids it gives, the body of
--- its record, and how long this is written out whole
+-- commits that make blocks: the blocks, what their command brings for them, how many track ids they give and how many
+-- they are, the bodies of their records, and how long these are written out whole
 pub record BlockCommit : Type 0 where
   pub makes : List NewBlock
   pub given : Given
   pub tracks : ℕ
-  pub body : List ℕ
+  pub count : ℕ
+  pub bodies : List (List ℕ)
   pub whole : ℕ
 
--- blocks made, in each image from then on, and then a record added
+-- blocks made, in each image from then on, and then the records added
 pub record Committed {D : Type 0} (disk : Ghosts D) (old : Core D) (c : BlockCommit)
     (result : Result (Unit {0}) Refusal) (new : Core D) : Type 0 where
   pub mid : Core D
   pub making : Making disk old (batch_of c.given c.makes) (length c.makes) mid
   pub reads : disk.read_fault_count mid.store ≡ disk.read_fault_count old.store
   pub synced : AreSynced disk (ids_from old.next_block (length c.makes)) mid.store
-  pub prepared : IsPrepared old (length c.makes) c.tracks (length c.body)
-  pub adds : Adds disk mid c.body c.whole result new
+  pub prepared : IsPrepared old (length c.makes) c.tracks c.count (rows_length c.bodies)
+  pub adds : Adds disk mid c.bodies c.count c.whole result new
 
 -- All of it: want of memory comes before the first block is made, and then the disk alone refuses.
 abbrev pub Carried : {D : Type 0} → Ghosts D → Core D → BlockCommit → Result (Unit {0}) Refusal → Core D → Type 0
 Carried disk old c (Ok done) new = Committed disk old c (Ok done) new
 Carried disk old c (Err why) new =
-    ((new ≡ old) × NotPrepared old (length c.makes) c.tracks c.whole (length c.body) why)
-    ⊎ ((IsPrepared old (length c.makes) c.tracks (length c.body) × Stuck disk old (batch_of c.given c.makes) why new)
+    ((new ≡ old) × NotPrepared old (length c.makes) c.tracks c.count c.whole (rows_length c.bodies) why)
+    ⊎ ((IsPrepared old (length c.makes) c.tracks c.count (rows_length c.bodies)
+    × Stuck disk old (batch_of c.given c.makes) why new)
     ⊎ ((why ≡ refusal.DiskFault) × Committed disk old c (Err why) new))
+
+-- a refusal that the disk had no part in leaves the studio as it was
+abbrev pub IsStill : {D : Type 0} → Core D → Core D → Refusal → Type 0
+IsStill old new why = is_broken_off why ≡ false → new ≡ old

@@ -15,12 +15,12 @@ pub mod Points
 pub mod Plain
 pub mod Occurrences
 pub mod Exchanges
+pub mod Packing
 pub mod Removals
 pub mod Passes
 pub mod Records
 pub mod Spent
 pub mod Bounded
-pub mod Packing
 pub mod Took
 pub mod Frees
 pub mod Compacts

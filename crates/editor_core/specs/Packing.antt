@@ -1,5 +1,5 @@
 -- What a studio's journal is put into: one header with its history, in the next generation.
-use Rattle.std.specs.Prelude.{ℕ, ◌+◌, List, [], ◌∷◌, ◌++◌, length, map}
+use Rattle.std.specs.Prelude.{ℕ, ◌+◌, ◌-◌, List, [], ◌∷◌, ◌++◌, length, map}
 use Rattle.pcm_base.specs.declared.command.Call.{Call}
 use Rattle.pcm_base.specs.declared.command.Call.TheVariants.{Line}
 use Rattle.pcm_base.specs.declared.command.Command.TheVariants.{Compact}
@@ -8,6 +8,7 @@ use Rattle.pcm_base.specs.History.{History}
 use Rattle.pcm_base.specs.Sizes.{project_body_most}
 use Rattle.pcm_base.specs.Studio as model
 use Rattle.project_journal.specs.declared.base.Base.{Base}
+use Rattle.project_journal.specs.Choice.{other_file}
 use Rattle.project_journal.specs.Journal.{Log, points_size}
 use Rattle.project_journal.specs.Packing.{header_row}
 use Rattle.project_state.specs.declared.track.Track.{Track}
@@ -66,3 +67,13 @@ packed_by s call = 0
 abbrev pub packs : Call → ℕ
 packs (Line Compact) = 1
 packs call = 0
+
+-- the studio whose journal is one header, over this store
+abbrev pub packed_core : {D : Type 0} → Core D → D → Core D
+packed_core s store = record s {
+  store = store;
+  file = other_file s.file;
+  version = 2;
+  generation = s.generation + 1;
+  journal_end = packed_size s - 1;
+}

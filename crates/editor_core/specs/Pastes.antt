@@ -11,11 +11,12 @@ use Rattle.edit_ops.specs.declared.types.Plan.{Plan}
 use Rattle.edit_ops.specs.Runs.{ArePastes, clipboard_tests}
 use Rattle.project_state.specs.declared.track.Track.{Track}
 use Rattle.project_state.specs.Tracks.{track_of}
+use Rattle.project_state.specs.Kept.{current_tracks}
 use Rattle.editor_core.specs.declared.carrying.Planned.{Planned}
 use Rattle.pcm_base.specs.declared.edits.Placing.{Placing}
 use Rattle.editor_core.specs.Copies.{run_of}
 use Rattle.editor_core.specs.Core.{Core}
-use Rattle.editor_core.specs.Points.{current_tracks, lacks}
+use Rattle.editor_core.specs.Points.{lacks}
 use Rattle.editor_core.specs.RunEdits.{IsRunPlan}
 use Rattle.editor_core.specs.TrackEdits.{plan_start}
 

@@ -4,9 +4,9 @@ use Rattle.std.specs.List.{AllByRecursion}
 use Rattle.pcm_base.specs.declared.refusal.Refusal.{Refusal}
 use Rattle.pcm_base.specs.declared.refusal.Refusal.TheVariants.{NoPin}
 use Rattle.project_state.specs.declared.track.Track.{Track}
+use Rattle.project_state.specs.Kept.{current_tracks}
 use Rattle.editor_core.specs.Core.{Core}
 use Rattle.editor_core.specs.declared.studio.Pin.{Pin}
-use Rattle.editor_core.specs.Points.{current_tracks}
 
 -- the pin with this number is taken out of the others
 pub record TakesPin (old new : List Pin) (number : ℕ) (pin : Pin) : Type 0 where

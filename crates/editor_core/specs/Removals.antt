@@ -1,25 +1,28 @@
--- Which files a call removes: a reclaim those of blocks that nothing names, the least ids first, and another call none.
-use Rattle.std.specs.Prelude.{◌≡◌, ◌⊎◌, ◌↔◌, ℕ, ◌≤◌, ◌<◌, IsTrue, IsSome, Option, Some, None, List, [], length}
-use Rattle.std.specs.Prelude.{Contains, Result, OnOk, OnErr, IfOk, IfErr, IfSome}
+-- Which files a call removes: a reclaim those of blocks that nothing names, the least ids first, a compact that of the
+-- journal of before, and another call none.
+use Rattle.std.specs.Prelude.{◌≡◌, ◌⊎◌, ◌↔◌, ℕ, ◌≤◌, ◌<◌, IsTrue, IsSome, Option, Some, None, List, [], ◌∷◌}
+use Rattle.std.specs.Prelude.{length, Contains, Result, OnOk, OnErr, IfOk, IfErr, IfSome}
 use Rattle.std.specs.List.Sorted.{IsStrictlyIncreasing}
 use Rattle.pcm_base.specs.declared.limits.TheConstants.{COUNTER_LIMIT, FIRST_BLOCK}
 use Rattle.pcm_base.specs.Causes.{HasCause}
 use Rattle.pcm_base.specs.declared.answer.Reply.{Reply}
-use Rattle.pcm_base.specs.declared.answer.Reply.TheVariants.{Freed}
+use Rattle.pcm_base.specs.declared.answer.Reply.TheVariants.{Freed, Packed}
 use Rattle.pcm_base.specs.declared.command.Call.{Call}
 use Rattle.pcm_base.specs.declared.command.Call.TheVariants.{Line}
-use Rattle.pcm_base.specs.declared.command.Command.TheVariants.{Reclaim}
+use Rattle.pcm_base.specs.declared.command.Command.TheVariants.{Compact, Reclaim}
 use Rattle.pcm_base.specs.declared.refusal.Refusal.{Refusal}
 use Rattle.pcm_base.specs.declared.refusal.Refusal.TheVariants as refusal
 use Rattle.disk_model.specs.Disk.{Files, RemoveStep}
 use Rattle.disk_model.specs.Frames.{Changed}
 use Rattle.disk_model.specs.Room.{Room}
 use Rattle.disk_model.specs.declared.store.Store.{Ghosts}
+use Rattle.project_journal.specs.Choice.{other_file}
 use Rattle.project_journal.specs.Gate.{EachNow}
 use Rattle.block_cache.specs.Caches.{IsCacheWithout}
 use Rattle.block_ledger.specs.Counts.{Counts, IsFirstFree}
 use Rattle.editor_core.specs.Core.{Core}
 use Rattle.editor_core.specs.Occurrences.{times_named}
+use Rattle.editor_core.specs.Packing.{packed_core, packed_text}
 use Rattle.editor_core.specs.Studios.{IsHeld, named_blocks}
 
 -- ---- one file
@@ -104,7 +107,23 @@ pub record FreesUnnamed {D : Type 0} (disk : Ghosts D) (old : Core D) (limit : O
   -- it wants no memory
   pub why : IfErr told (λ e. (e ≡ refusal.DiskFault) ⊎ (faults : ℕ) × (e ≡ refusal.Stopped faults))
 
--- By the call, the ids of the blocks whose files it removes.
+-- What a compact does: the journal is one header, in the other of its two files, and the file that it was in goes.
+pub record PacksJournal {D : Type 0} (disk : Ghosts D) (old : Core D) (told : Result Reply Refusal) (new : Core D)
+    : Type 0 where
+  -- it answers the size of the file, which has an open gate and the text, and nothing else
+  pub size : IfOk told (λ r. r ≡ Packed (length (1 ∷ packed_text old)))
+  pub alone : IsTrue (disk.tells old.store)
+      → OnOk told (disk.reads new.store (other_file old.file) ≡ Some (1 ∷ packed_text old))
+  -- no stop takes that back on a disk that keeps to the model
+  pub settled : IsTrue (disk.keeps_model old.store)
+      → OnOk told (EachNow disk new.store (λ c. c (other_file old.file) ≡ Some (1 ∷ packed_text old)))
+  -- and none brings the old file back
+  pub gone : IsTrue (disk.tells old.store) → OnOk told (EachNow disk new.store (λ c. c old.file ≡ None))
+  -- whatever the disk tells, nothing else of the studio changes
+  pub fields : OnOk told (new ≡ packed_core old new.store)
+
+-- By the call, the ids of the blocks whose files it removes. A compact removes none of these, but the old journal.
 abbrev pub Frees : {D : Type 0} → Ghosts D → Core D → Call → Result Reply Refusal → List ℕ → Core D → Type 0
 Frees disk old (Line (Reclaim limit)) told removed new = FreesUnnamed disk old limit told removed new
+Frees disk old (Line Compact) told removed new = (removed ≡ []) × PacksJournal disk old told new
 Frees disk old call told removed new = removed ≡ []

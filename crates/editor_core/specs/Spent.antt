@@ -1,5 +1,5 @@
 -- What a call spends of the counters, and what it would have spent where one has no room for it.
-use Rattle.std.specs.Prelude.{◌≡◌, ◌⊎◌, ℕ, ◌+◌, ◌≤◌, ◌<◌, Some, List, length}
+use Rattle.std.specs.Prelude.{◌≡◌, ◌⊎◌, ℕ, suc, ◌+◌, ◌≤◌, ◌<◌, Some, List, length}
 use Rattle.pcm_base.specs.declared.command.Call.{Call}
 use Rattle.pcm_base.specs.declared.entry.SoundMove.{SoundMove}
 use Rattle.pcm_base.specs.declared.refusal.Refusal.{Refusal}
@@ -11,11 +11,11 @@ use Rattle.pcm_base.specs.declared.limits.TheConstants.{LONGEST_BODY}
 use Rattle.pcm_base.specs.Step.{after}
 use Rattle.disk_model.specs.declared.store.Store.{Ghosts}
 use Rattle.sample_block.specs.Sources.{sources_of}
-use Rattle.project_state.specs.declared.body.Body.{Body}
 use Rattle.project_state.specs.declared.body.Body.TheVariants.{Edit}
 use Rattle.project_state.specs.declared.track.Track.{Track}
-use Rattle.project_state.specs.Kept.{Kept, after_body, meant_history}
-use Rattle.editor_core.specs.Bodies.{IsLength}
+use Rattle.project_state.specs.Batches.{after_bodies}
+use Rattle.project_state.specs.Kept.{Kept, meant_history}
+use Rattle.editor_core.specs.Bodies.{IsLength, Writing}
 use Rattle.editor_core.specs.Core.{Core}
 use Rattle.editor_core.specs.Edits.{IsEdit, IsPlanned, TaggedEdit}
 use Rattle.editor_core.specs.Occurrences.{times_named}
@@ -30,14 +30,17 @@ NamesGiven old new = (id : ℕ) → old.next_block ≤ id → id < new.next_bloc
 
 -- ---- of one that a counter refuses, or the length of its record
 
--- An edit that makes this many blocks, by a plan of what the call leads to, and the body of its record.
-pub record Plans {D : Type 0} (disk : Ghosts D) (s : Core D) (call : Call) (sound : SoundMove) (blocks : ℕ) (body : Body)
+-- An edit that makes this many blocks, by a plan of what the call leads to, and what it writes.
+pub record Plans {D : Type 0} (disk : Ghosts D) (s : Core D) (call : Call) (sound : SoundMove) (blocks : ℕ) (w : Writing)
     : Type 0 where
   pub edit : TaggedEdit
   pub planned : IsPlanned s edit
   pub means : IsEdit disk s call sound edit
   pub blocks_are : blocks ≡ length edit.plan.makes
-  pub body_is : body ≡ Edit edit.tag (s.next_block + blocks) (s.next_track + edit.plan.tracks) edit.plan.point
+  pub writes : w ≡ record {
+    more = edit.more;
+    body = Edit edit.tag (s.next_block + blocks) (s.next_track + edit.plan.tracks) edit.plan.point;
+  }
 
 -- what the records so far say
 abbrev pub kept_of : {D : Type 0} → Core D → Kept
@@ -48,22 +51,22 @@ kept_of s = record {
   commit = s.commit_number;
 }
 
--- A commit without blocks: the body of its record leads from the studio's history to this one, as does the call.
-pub record Leads {D : Type 0} (disk : Ghosts D) (s : Core D) (call : Call) (sound : SoundMove) (body : Body)
+-- A commit without blocks: what it writes leads from the studio's history to this one, as does the call.
+pub record Leads {D : Type 0} (disk : Ghosts D) (s : Core D) (call : Call) (sound : SoundMove) (w : Writing)
     : Type 0 where
   pub history : History (List Track)
   pub next_track : ℕ
-  pub says : Says s.next_block next_track history body
-  pub leads : (after_body (kept_of s) body).history ≡ history
+  pub says : Says s.next_block next_track history w.body
+  pub leads : (after_bodies (kept_of s) w.more w.body).history ≡ history
   pub means : IsHeld disk s → (after (outside (studio_of disk s) sound) (studio_of disk s).state call).history
       ≡ meant_history (sources_of (disk.reads s.store)) history
 
--- What a commit would have made: this many blocks, and a record with this body.
+-- What a commit would have made: this many blocks, and records of this writing.
 pub record WouldMake {D : Type 0} (disk : Ghosts D) (s : Core D) (call : Call) (sound : SoundMove) : Type 0 where
-  pub commit : commits_of call ≡ 1
+  pub writes : Writing
+  pub commits : commits_of call ≡ suc writes.more
   pub blocks : ℕ
-  pub body : Body
-  pub so : Plans disk s call sound blocks body ⊎ ((blocks ≡ 0) × Leads disk s call sound body)
+  pub so : Plans disk s call sound blocks writes ⊎ ((blocks ≡ 0) × Leads disk s call sound writes)
 
 -- a counter at this number has no room for this many more
 abbrev pub IsSpent : ℕ → ℕ → Refusal → Type 0
@@ -82,7 +85,7 @@ Needed disk s call sound (refusal.SpaceSpent have need) =
     IsNumberSpent disk s call sound (refusal.SpaceSpent have need)
     ⊎ ((it : WouldMake disk s call sound)
     × (IsSpent s.next_block it.blocks (refusal.SpaceSpent have need)
-    ⊎ ((len : ℕ) × IsLength s it.body len × IsSpent s.journal_end (6 + len) (refusal.SpaceSpent have need))))
+    ⊎ ((len : ℕ) × IsLength s it.writes len × IsSpent s.journal_end (6 + len) (refusal.SpaceSpent have need))))
 Needed disk s call sound (refusal.RecordLimit n) =
-    (it : WouldMake disk s call sound) × IsLength s it.body n × (LONGEST_BODY < n)
+    (it : WouldMake disk s call sound) × IsLength s it.writes n × (LONGEST_BODY < n)
 Needed disk s call sound why = Unit {0}

@@ -84,7 +84,7 @@ pub record Took {D : Type 0} (disk : Ghosts D) (old : Core D) (exchange : Exchan
       (asks exchange (disk.reads old.store old.file) old.block_size (new.next_block - old.next_block) len
       (packed_by old exchange.call))
       old.store new.store
-  -- which files of blocks are removed, and which ids are counted then
+  -- which files are removed, and which ids are counted then
   pub frees : Frees disk old exchange.call exchange.told exchange.removed new
   pub ids : CountsIds old exchange.removed new
   -- and what is left of the disk and of the studio, whatever the disk tells

@@ -1,5 +1,5 @@
 -- Edits of one track, each by a plan of its new layout.
-use Rattle.std.specs.Prelude.{◌≡◌, ◌⊎◌, ℕ, ◌+◌, ◌≤◌, ℤ, Option, Some, None, List, length}
+use Rattle.std.specs.Prelude.{◌≡◌, ◌⊎◌, ℕ, suc, ◌+◌, ◌≤◌, ℤ, Option, Some, None, List, length}
 use Rattle.pcm_base.specs.declared.command.Call.{Call}
 use Rattle.pcm_base.specs.declared.entry.SoundMove.{SoundMove}
 use Rattle.pcm_base.specs.declared.refusal.Refusal.{Refusal}
@@ -20,10 +20,11 @@ use Rattle.piece_store.specs.declared.given.Given.{Given}
 use Rattle.piece_store.specs.Bringing.{brought}
 use Rattle.project_state.specs.declared.track.Track.{Track}
 use Rattle.project_state.specs.Tracks.{track_of}
+use Rattle.project_state.specs.Kept.{current_tracks}
 use Rattle.editor_core.specs.declared.carrying.Planned.{Planned}
 use Rattle.editor_core.specs.Core.{Core}
 use Rattle.editor_core.specs.Edits.{IsEditCall}
-use Rattle.editor_core.specs.Points.{current_tracks, put_in, lacks}
+use Rattle.editor_core.specs.Points.{put_in, lacks}
 
 abbrev pub with_layout : Track → List Clip → Track
 with_layout t layout = record t { layout = layout }
@@ -66,23 +67,25 @@ pub record IsTrackPlan {D : Type 0} (e : TrackEdit) (count id : ℕ) (s : Core D
 abbrev pub NoTrackPlan : TrackEdit → ℕ → List Track → Refusal → Type 0
 NoTrackPlan e id old why = (track_refusal id e.test (track_of id old) ≡ Some why) ⊎ (why ≡ refusal.NoMemory)
 
--- An edit of the track of an id, with what its command brings, under a tag, where 0 is none.
+-- An edit of the track of an id, with what its command brings, under a tag, where 0 is none, as this many commits beside
+-- one.
 pub record TrackCommand : Type 0 where
   pub edit : TrackEdit
   pub given : Given
   pub id : ℕ
   pub tag : ℕ
+  pub more : ℕ
 
-abbrev pub track_command : TrackEdit → Given → (id tag : ℕ) → TrackCommand
-track_command edit given id tag = record { edit = edit; given = given; id = id; tag = tag }
+abbrev pub track_command : TrackEdit → Given → (id tag more : ℕ) → TrackCommand
+track_command edit given id tag more = record { edit = edit; given = given; id = id; tag = tag; more = more }
 
 -- A call of this meaning. Of each such call these are all `refl`.
 pub record IsTrackCall (c : Call) (sound : SoundMove) (it : TrackCommand) : Type 0 where
-  pub call : IsEditCall c sound 0 (λ m s. it.edit.most m (cells_at it.id (current s)))
+  pub call : IsEditCall c sound 0 it.more (λ m s. it.edit.most m (cells_at it.id (current s)))
   pub own : (out : Outside) (s : State) → call_tests out s c
       ≡ ((no_track s it.id) otherwise (it.edit.test (length (cells_at it.id (current s)))))
   pub after_is : (out : Outside) (s : State) → after out s c
       ≡ record s {
         history = recorded s.history (edited_at it.id (it.edit.cells (brought it.given)) (current s)) it.tag;
-        commit = s.commit + 1;
+        commit = s.commit + suc it.more;
       }

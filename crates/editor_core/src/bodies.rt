@@ -1,14 +1,19 @@
 // The body of a record, in the way of the journal's version.
-ghost use Rattle.std.specs.Prelude.{◌≡◌, ◌+◌, ◌≤◌, ◌^◌, length, IfErr, IfOk, OnOk};
+ghost use Rattle.std.specs.Prelude.{◌≡◌, ◌⊎◌, ℕ, ◌+◌, ◌*◌, ◌≤◌, ◌<◌, ◌^◌, List, ◌++◌, length, replicate, vec_capacity};
+ghost use Rattle.std.specs.Prelude.{IfErr, IfOk, OnOk};
 ghost use Rattle.pcm_base.specs.declared.limits.TheConstants.{COUNTER_LIMIT, LONGEST_BODY};
+ghost use Rattle.project_journal.specs.Journal.{AreWaiting};
+ghost use Rattle.project_state.specs.Batches.{with_point};
+ghost use Rattle.project_state.specs.Kept.{current_tracks};
 ghost use Rattle.editor_core.specs.Adding.{ExceedsBy};
-ghost use Rattle.editor_core.specs.Bodies.{body_bytes, whole_len};
+ghost use Rattle.editor_core.specs.Bodies.{all_bytes, all_len, body_bytes, single, whole_len, writing};
 ghost use Rattle.editor_core.specs.Core.{core_of};
 
 use super::current::current_of;
 use super::studio::Studio;
 use disk_model::Store;
 use pcm_base::{NoMemory, Refusal};
+use project_journal::add_record;
 use project_state::{Body, body_len, delta_len, write_body, write_delta_body};
 
 // The version whose records are written out whole.
@@ -33,7 +38,7 @@ impl<S: Store> Studio<S> {
         ensures value { IfOk result (λ len. len ≡ length (body_bytes (core_of self.now) body.now)) }
         ensures place { IfOk result (λ len. self.now.journal_end + (6 + len) ≤ COUNTER_LIMIT) }
         ensures short { IfOk result (λ len. len ≤ LONGEST_BODY) }
-        ensures err { IfErr result (ExceedsBy self.now.journal_end (whole_len body.now)
+        ensures err { IfErr result (ExceedsBy self.now.journal_end (whole_len (core_of self.now) (single body.now))
             (length (body_bytes (core_of self.now) body.now))) }
     {
         self.may_add(body_len(body) as u64)?;
@@ -42,10 +47,56 @@ impl<S: Store> Studio<S> {
         Ok(len)
     }
 
+    // A body that says the current point and else the same.
+    fn again(&self, body: &Body) -> Result<Body, NoMemory>
+        ensures { IfOk result (λ b. b ≡ with_point (current_tracks self.now.history.history) body.now) }
+    {
+        match *body {
+            Body::Edit {
+                tag,
+                next_block,
+                next_track,
+                ..
+            } => Ok(Body::Edit {
+                tag,
+                next_block,
+                next_track,
+                point: self.current().copy()?,
+            }),
+            Body::Undo => Ok(Body::Undo),
+            Body::Redo => Ok(Body::Redo),
+            Body::Purge { n } => Ok(Body::Purge { n }),
+        }
+    }
+
+    // The same of records that come together, this many before the last. It returns how many bytes they have without
+    // the gate of the first and the length of its body.
+    pub(crate) fn may_write(&self, body: &Body, more: u64) -> Result<u64, Refusal>
+        requires end { self.now.journal_end ≤ COUNTER_LIMIT }
+        requires few { more < 64 }
+        ensures value { IfOk result (λ len. len ≡ all_len (core_of self.now) (writing more body.now)) }
+        ensures place { IfOk result (λ len. self.now.journal_end + (6 + len) ≤ COUNTER_LIMIT) }
+        ensures short { IfOk result (λ len. len ≤ LONGEST_BODY) }
+        ensures err { IfErr result (λ why. (why ≡ Refusal.NoMemory)
+            ⊎ ExceedsBy self.now.journal_end (whole_len (core_of self.now) (writing more body.now))
+            (all_len (core_of self.now) (writing more body.now)) why) }
+    {
+        if more == 0 {
+            let len = self.may_record(body)?;
+            return Ok(len as u64);
+        }
+        let again = self.again(body)?;
+        self.may_add(len_together(more, body_len(&again), body_len(body)))?;
+        let len = len_together(more, self.body_size(&again), self.body_size(body));
+        self.may_add(len)?;
+        Ok(len)
+    }
+
     // Writes it.
     pub(crate) fn write_record(&mut self, body: &Body) -> Result<(), NoMemory>
         ensures same { core_of self.new ≡ core_of self.old }
         ensures body { OnOk result (self.new.body.items ≡ body_bytes (core_of self.old) body.now) }
+        ensures row { self.new.row ≡ self.old.row }
         ensures history { self.new.history ≡ self.old.history }
         ensures ledger { self.new.ledger ≡ self.old.ledger }
     {
@@ -54,4 +105,66 @@ impl<S: Store> Studio<S> {
         }
         write_delta_body(body, current_of(&self.history), &mut self.body)
     }
+
+    // Writes records that come together into the row of the journal, this many before the last, with room for a byte
+    // more.
+    pub(crate) fn write_records(&mut self, body: &Body, more: u64) -> Result<(), NoMemory>
+        requires short { all_len (core_of self.old) (writing more body.now) ≤ LONGEST_BODY }
+        ensures same { core_of self.new ≡ core_of self.old }
+        ensures rows { OnOk result (AreWaiting self.new.row.items
+            (all_bytes (core_of self.old) (writing more body.now))) }
+        ensures room { OnOk result (1 + length self.new.row.items ≤ vec_capacity self.new.row) }
+        ensures history { self.new.history ≡ self.old.history }
+        ensures ledger { self.new.ledger ≡ self.old.ledger }
+    {
+        self.write_again(body, more)?;
+        self.write_record(body)?;
+        add_record(&mut self.row, &self.body)?;
+        self.row.reserve(1)?;
+        Ok(())
+    }
+
+    // Writes the records that say the current point into the row, this many.
+    fn write_again(&mut self, body: &Body, more: u64) -> Result<(), NoMemory>
+        requires short { 0 < more → length (body_bytes (core_of self.old)
+            (with_point (current_tracks self.old.history.history) body.now)) < 2 ^ 32 }
+        ensures same { core_of self.new ≡ core_of self.old }
+        ensures rows { OnOk result (AreWaiting self.new.row.items (replicate more (body_bytes (core_of self.old)
+            (with_point (current_tracks self.old.history.history) body.now)))) }
+        ensures history { self.new.history ≡ self.old.history }
+        ensures ledger { self.new.ledger ≡ self.old.ledger }
+    {
+        self.row.clear();
+        if more == 0 {
+            return Ok(());
+        }
+        let again = self.again(body)?;
+        self.write_record(&again)?;
+        add_times(&mut self.row, &self.body, more)
+    }
+}
+
+// How many bytes records have that come together, this many of one length before the last. The gate of the first and
+// the length of its body are not counted.
+fn len_together(more: u64, one: usize, last: usize) -> u64
+    requires few { more < 64 }
+    requires one { one ≤ 2 ^ 45 }
+    requires last { last ≤ 2 ^ 45 }
+    ensures value { result ≡ more * (one + 5) + last }
+    ensures small { result ≤ 2 ^ 53 }
+{
+    more * (one as u64 + 5) + last as u64
+}
+
+// Puts the record of this body after those that wait, this many times.
+fn add_times(rows: &mut Vec<u8>, body: &[u8], count: u64) -> Result<(), NoMemory>
+    requires { length body.now < 2 ^ 32 }
+    ensures { OnOk result ((bodies : List (List ℕ)) → AreWaiting rows.old.items bodies
+        → AreWaiting rows.new.items (bodies ++ replicate count body.now)) }
+{
+    'rows: for i in 0..count {
+        let _i = i;
+        add_record(rows, body)?;
+    }
+    Ok(())
 }

@@ -1,5 +1,6 @@
 // An edit that makes blocks, from its plan to its commit.
-ghost use Rattle.std.specs.Prelude.{◌≡◌, ℕ, ◌+◌, ◌≤◌, ◌<◌, ◌^◌, length, vec_capacity, IfErr, IfOk, MatchResult, None};
+ghost use Rattle.std.specs.Prelude.{◌≡◌, ℕ, suc, ◌+◌, ◌≤◌, ◌<◌, ◌^◌, length, vec_capacity, IfErr, IfOk, MatchResult};
+ghost use Rattle.std.specs.Prelude.{None};
 ghost use Rattle.std.specs.Prelude.{OnOk, Some};
 ghost use Rattle.pcm_base.specs.declared.answer.Reply.TheVariants as reply;
 ghost use Rattle.pcm_base.specs.declared.command.Call.{Call};
@@ -11,10 +12,11 @@ ghost use Rattle.edit_ops.specs.Plans.{AreNew};
 ghost use Rattle.piece_store.specs.Bringing.{brought_count};
 ghost use Rattle.envelope_view.specs.Answers.{IsUndamaged};
 ghost use Rattle.editor_core.specs.Applied.{Lasts};
-ghost use Rattle.editor_core.specs.Bodies.{body_bytes, whole_len};
+ghost use Rattle.project_journal.specs.Journal.{AreWaiting};
+ghost use Rattle.editor_core.specs.Bodies.{all_bytes, all_len, whole_len, writing};
 ghost use Rattle.editor_core.specs.Core.{core_of};
 ghost use Rattle.editor_core.specs.Edits.{Spends, IsPlanned, IsEdit, IsPrepared, NotPrepared, Carried, clip_then};
-ghost use Rattle.editor_core.specs.Edits.{tagged};
+ghost use Rattle.editor_core.specs.Edits.{IsStill, tagged};
 ghost use Rattle.editor_core.specs.Imports.{IsInside};
 ghost use Rattle.editor_core.specs.Made.{PiecesReadable};
 ghost use Rattle.editor_core.specs.Occurrences.{HasAll, HasIds, Moves};
@@ -50,34 +52,19 @@ fn has_room(have: u64, need: u64) -> Result<(), Refusal>
 }
 
 impl<S: Store> Studio<S> {
-    // Whether the counters have room for this many blocks and track ids, and for a commit.
-    fn may_make(&self, blocks: u64, tracks: u64) -> Result<(), Refusal>
+    // Whether the counters have room for this many blocks, track ids and commits.
+    fn may_make(&self, blocks: u64, tracks: u64, count: u64) -> Result<(), Refusal>
         requires next { self.now.next_block ≤ COUNTER_LIMIT }
         requires ids { self.now.next_track ≤ COUNTER_LIMIT }
         requires number { self.now.commit_number ≤ COUNTER_LIMIT }
         ensures blocks { OnOk result (self.now.next_block + blocks ≤ COUNTER_LIMIT) }
         ensures ids { OnOk result (self.now.next_track + tracks ≤ COUNTER_LIMIT) }
-        ensures number { OnOk result (self.now.commit_number < COUNTER_LIMIT) }
-        ensures err { IfErr result (Spends (core_of self.now) blocks tracks) }
+        ensures number { OnOk result (self.now.commit_number + count ≤ COUNTER_LIMIT) }
+        ensures err { IfErr result (Spends (core_of self.now) blocks tracks count) }
     {
         has_room(self.next_block, blocks)?;
         has_room(self.next_track, tracks)?;
-        has_room(self.commit_number, 1)
-    }
-
-    // Writes the body of a record, and makes room for the row of the journal.
-    fn ready_row(&mut self, body: &Body, len: usize) -> Result<(), NoMemory>
-        requires few { len ≤ 2 ^ 45 }
-        ensures same { core_of self.new ≡ core_of self.old }
-        ensures body { OnOk result (self.new.body.items ≡ body_bytes (core_of self.old) body.now) }
-        ensures row { OnOk result (5 + len ≤ vec_capacity self.new.row) }
-        ensures history { self.new.history ≡ self.old.history }
-        ensures ledger { self.new.ledger ≡ self.old.ledger }
-    {
-        self.write_record(body)?;
-        self.row.clear();
-        self.row.reserve(len + 5)?;
-        Ok(())
+        has_room(self.commit_number, count)
     }
 
     // Makes room for this many blocks in the ledger, and for a point in the history.
@@ -90,38 +77,44 @@ impl<S: Store> Studio<S> {
         self.make_room()
     }
 
-    // Tests the counters and the journal's places, and takes all memory that is needed. Nothing is asked of the disk.
-    fn prepare(&mut self, body: &Body, blocks: u64, tracks: u64) -> Result<(), Refusal>
+    // Tests the counters and the journal's places, takes all memory that is needed, and writes the records into the
+    // row. Nothing is asked of the disk.
+    fn prepare(&mut self, body: &Body, more: u64, blocks: u64, tracks: u64) -> Result<(), Refusal>
         requires next { self.old.next_block ≤ COUNTER_LIMIT }
         requires ids { self.old.next_track ≤ COUNTER_LIMIT }
         requires number { self.old.commit_number ≤ COUNTER_LIMIT }
         requires end { self.old.journal_end ≤ COUNTER_LIMIT }
+        requires more { more < 64 }
         ensures same { core_of self.new ≡ core_of self.old }
-        ensures prepared { OnOk result (IsPrepared (core_of self.old) blocks tracks
-            (length (body_bytes (core_of self.old) body.now))) }
-        ensures body { OnOk result (self.new.body.items ≡ body_bytes (core_of self.old) body.now) }
-        ensures row { OnOk result (5 + length (body_bytes (core_of self.old) body.now) ≤ vec_capacity self.new.row) }
+        ensures prepared { OnOk result (IsPrepared (core_of self.old) blocks tracks (more + 1)
+            (all_len (core_of self.old) (writing more body.now))) }
+        ensures rows { OnOk result (AreWaiting self.new.row.items
+            (all_bytes (core_of self.old) (writing more body.now))) }
+        ensures room { OnOk result (1 + length self.new.row.items ≤ vec_capacity self.new.row) }
         ensures spare { OnOk result (blocks ≤ self.new.ledger.spare) }
         ensures point { OnOk result (length self.new.history.history.points < self.new.history.capacity) }
-        ensures err { IfErr result (NotPrepared (core_of self.old) blocks tracks (whole_len body.now)
-            (length (body_bytes (core_of self.old) body.now))) }
+        ensures err { IfErr result (NotPrepared (core_of self.old) blocks tracks (more + 1)
+            (whole_len (core_of self.old) (writing more body.now))
+            (all_len (core_of self.old) (writing more body.now))) }
     {
-        self.may_make(blocks, tracks)?;
-        let len = self.may_record(body)?;
+        self.may_make(blocks, tracks, more + 1)?;
+        self.may_write(body, more)?;
         self.ready_counts(blocks)?;
-        self.ready_row(body, len)?;
+        self.write_records(body, more)?;
         Ok(())
     }
 
-    // Makes the blocks of an edit, and adds its record.
+    // Makes the blocks of an edit, and adds its records.
     fn carry(
         &mut self,
         body: &Body,
+        more: u64,
         makes: &[NewBlock],
         tracks: u64,
         given: &Given,
     ) -> Result<(), Refusal>
         requires studio { IsStudio S.Store (core_of self.old) }
+        requires more { more < 64 }
         requires new { AreNew self.old.buffers self.old.next_block makes.now }
         requires pieces { PiecesReadable (brought_count given.now) makes.now }
         ensures carried { Carried S.Store (core_of self.old)
@@ -129,16 +122,17 @@ impl<S: Store> Studio<S> {
               makes = makes.now;
               given = given.now;
               tracks = tracks;
-              body = body_bytes (core_of self.old) body.now;
-              whole = whole_len body.now;
+              count = suc more;
+              bodies = all_bytes (core_of self.old) (writing more body.now);
+              whole = whole_len (core_of self.old) (writing more body.now);
             })
             result (core_of self.new) }
         ensures history { self.new.history.history ≡ self.old.history.history }
         ensures point { OnOk result (length self.new.history.history.points < self.new.history.capacity) }
     {
-        self.prepare(body, makes.len() as u64, tracks)?;
+        self.prepare(body, more, makes.len() as u64, tracks)?;
         self.make_blocks(makes, given)?;
-        self.commit_written()
+        self.commit_rows(more + 1)
     }
 
     // Puts what an edit takes out, if anything, into the clipboard. It takes no memory.
@@ -160,30 +154,33 @@ impl<S: Store> Studio<S> {
         }
     }
 
-    // Carries an edit out: makes its blocks, adds its record, records its point under this tag, where 0 is none, and
-    // puts what it takes out into the clipboard.
+    // Carries an edit out: makes its blocks, adds its record, and before it this many with the current point. It records
+    // the new point under this tag, where 0 is none, and puts what the edit takes out into the clipboard.
     pub(crate) fn carry_out(
         &mut self,
         edit: Planned,
         tag: u64,
+        more: u64,
         given: &Given,
     ) -> Result<u64, Refusal>
         requires studio { IsStudio S.Store (core_of self.old) }
         requires going { self.old.stopped ≡ None }
-        requires planned { IsPlanned (core_of self.old) (tagged edit tag given.now) }
+        requires planned { IsPlanned (core_of self.old) (tagged edit tag more given.now) }
         requires next { edit.next ≡ self.old.next_block + length edit.makes }
         requires few { edit.tracks ≤ 64 }
+        requires more { more < 64 }
         ensures took { (c : Call) → (sound : SoundMove)
-            → IsEdit S.Store (core_of self.old) c sound (tagged edit tag given.now)
+            → IsEdit S.Store (core_of self.old) c sound (tagged edit tag more given.now)
             → Took S.Store (core_of self.old) (with_sound c sound (told_by (λ _. reply.Done) result))
             (core_of self.new) }
         // Whatever the call means, and whatever is reported.
-        ensures lasts { (c : Call) → (sound : SoundMove) → commits_of c ≡ 1
+        ensures lasts { (c : Call) → (sound : SoundMove) → commits_of c ≡ suc more
             → Lasts S.Store (core_of self.old) (with_sound c sound (told_by (λ _. reply.Done) result))
             (core_of self.new) }
         ensures number { IfOk result (λ n. n ≡ self.new.commit_number) }
         ensures sound { IsHeld S.Store (core_of self.old) → IfErr result IsUndamaged }
         ensures device { IfErr result IsInside }
+        ensures still { IfErr result (IsStill (core_of self.old) (core_of self.new)) }
     {
         let Planned {
             point,
@@ -198,7 +195,7 @@ impl<S: Store> Studio<S> {
             next_track: self.next_track + tracks,
             point,
         };
-        self.carry(&body, makes.as_slice(), tracks, given)?;
+        self.carry(&body, more, makes.as_slice(), tracks, given)?;
         let Body::Edit { point, .. } = body else {
             unreachable!();
         };

@@ -1,5 +1,6 @@
 // A commit: whether it may be made, and its record.
-ghost use Rattle.std.specs.Prelude.{◌≡◌, ℕ, ◌+◌, ◌≤◌, ◌<◌, ◌^◌, length, vec_capacity, IfErr, OnOk};
+ghost use Rattle.std.specs.Prelude.{◌≡◌, ℕ, ◌+◌, ◌≤◌, ◌<◌, ◌^◌, List, [], ◌∷◌, length, vec_capacity, IfErr, OnOk};
+ghost use Rattle.project_journal.specs.Journal.{AreWaiting};
 ghost use Rattle.envelope_view.specs.Answers.{IsUndamaged};
 ghost use Rattle.editor_core.specs.Adding.{Adds, Exceeds, IsNoWant, Settles, Tested};
 ghost use Rattle.editor_core.specs.Core.{core_of};
@@ -7,7 +8,7 @@ ghost use Rattle.editor_core.specs.Core.{core_of};
 use super::studio::Studio;
 use disk_model::Store;
 use pcm_base::{COUNTER_LIMIT, LONGEST_BODY, Refusal};
-use project_journal::{JournalFault, append, append_small};
+use project_journal::{JournalFault, append, append_records, append_small};
 
 impl<S: Store> Studio<S> {
     // Whether a commit may be made that its own tests answer so, and that needs this many track ids.
@@ -37,7 +38,7 @@ impl<S: Store> Studio<S> {
 
     // Whether the journal has the places for a record with a body of this many bytes, and the body is short enough.
     pub(crate) fn may_add(&self, len: u64) -> Result<(), Refusal>
-        requires small { len ≤ 2 ^ 45 }
+        requires small { len ≤ 2 ^ 53 }
         requires end { self.now.journal_end ≤ COUNTER_LIMIT }
         ensures ok { OnOk result ((self.now.journal_end + (6 + len) ≤ COUNTER_LIMIT) × (len ≤ LONGEST_BODY)) }
         ensures err { IfErr result (Exceeds self.now.journal_end len) }
@@ -58,19 +59,19 @@ impl<S: Store> Studio<S> {
     pub(crate) fn commit_small(&mut self, body: &[u8]) -> Result<(), Refusal>
         requires small { length body.now ≤ 9 }
         requires room { self.old.commit_number < COUNTER_LIMIT }
-        ensures record { Adds S.Store (core_of self.old) body.now (length body.now) result (core_of self.new) }
+        ensures record { Adds S.Store (core_of self.old) (body.now ∷ []) 1 (length body.now) result (core_of self.new) }
         ensures memory { IfErr result IsNoWant }
         ensures undamaged { IfErr result IsUndamaged }
     {
         let added = append_small(&mut self.store, self.file, self.journal_end, body);
-        self.settle(added)
+        self.settle(added, 1)
     }
 
     // Adds the record whose body was written, and counts the commit. After a fault of the disk the studio is stopped.
     pub(crate) fn commit_written(&mut self) -> Result<(), Refusal>
         requires room { self.old.commit_number < COUNTER_LIMIT }
         requires short { length self.old.body.items ≤ LONGEST_BODY }
-        ensures record { (whole : ℕ) → Adds S.Store (core_of self.old) self.old.body.items whole result
+        ensures record { (whole : ℕ) → Adds S.Store (core_of self.old) (self.old.body.items ∷ []) 1 whole result
             (core_of self.new) }
         ensures memory { 5 + length self.old.body.items ≤ vec_capacity self.old.row → IfErr result IsNoWant }
         ensures undamaged { IfErr result IsUndamaged }
@@ -84,20 +85,37 @@ impl<S: Store> Studio<S> {
             &self.body,
             &mut self.row,
         );
-        self.settle(added)
+        self.settle(added, 1)
     }
 
-    // Counts the commit whose record was added, or stops the studio after a fault of the disk.
-    fn settle(&mut self, added: Result<u64, JournalFault>) -> Result<(), Refusal>
-        requires { self.old.commit_number < COUNTER_LIMIT }
-        ensures fields { Settles S.Store (core_of self.old) added result (core_of self.new) }
+    // Adds the records that wait in the row, this many, and counts their commits. After a fault of the disk the studio
+    // is stopped.
+    pub(crate) fn commit_rows(&mut self, count: u64) -> Result<(), Refusal>
+        requires room { self.old.commit_number + count ≤ COUNTER_LIMIT }
+        requires some { 5 ≤ length self.old.row.items }
+        requires short { length self.old.row.items ≤ LONGEST_BODY + 5 }
+        ensures records { (whole : ℕ) (bodies : List (List ℕ)) → AreWaiting self.old.row.items bodies
+            → length bodies ≡ count → Adds S.Store (core_of self.old) bodies count whole result (core_of self.new) }
+        ensures memory { 1 + length self.old.row.items ≤ vec_capacity self.old.row → IfErr result IsNoWant }
+        ensures undamaged { IfErr result IsUndamaged }
+        ensures history { self.new.history ≡ self.old.history }
+        ensures ledger { self.new.ledger ≡ self.old.ledger }
+    {
+        let added = append_records(&mut self.store, self.file, self.journal_end, &mut self.row);
+        self.settle(added, count)
+    }
+
+    // Counts this many commits whose records were added, or stops the studio after a fault of the disk.
+    fn settle(&mut self, added: Result<u64, JournalFault>, count: u64) -> Result<(), Refusal>
+        requires { self.old.commit_number + count ≤ COUNTER_LIMIT }
+        ensures fields { Settles S.Store (core_of self.old) count added result (core_of self.new) }
         ensures history { self.new.history ≡ self.old.history }
         ensures ledger { self.new.ledger ≡ self.old.ledger }
     {
         match added {
             Ok(next) => {
                 self.journal_end = next;
-                self.commit_number += 1;
+                self.commit_number += count;
                 Ok(())
             }
             Err(JournalFault::DiskFault) => {

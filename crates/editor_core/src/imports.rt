@@ -7,11 +7,11 @@ ghost use Rattle.pcm_base.specs.declared.entry.SoundMove.{SoundMove};
 ghost use Rattle.pcm_base.specs.declared.refusal.Refusal.TheVariants as refusal;
 ghost use Rattle.pcm_base.specs.declared.wav.WavFault.TheVariants.{Truncated};
 ghost use Rattle.envelope_view.specs.Answers.{IsUndamaged};
+ghost use Rattle.project_state.specs.Kept.{current_tracks};
 ghost use Rattle.editor_core.specs.Applied.{Lasts};
 ghost use Rattle.editor_core.specs.Core.{core_of};
 ghost use Rattle.editor_core.specs.Imports.{HasChannels, IsChannelsPlan, IsCutShort, IsInside, VaultCounted};
 ghost use Rattle.editor_core.specs.Imports.{channels_refusal, left_as};
-ghost use Rattle.editor_core.specs.Points.{current_tracks};
 ghost use Rattle.editor_core.specs.Studios.{IsHeld, IsStudio};
 ghost use Rattle.editor_core.specs.Took.{Took, told_by, with_sound};
 
@@ -105,6 +105,7 @@ impl<S: Store> Studio<S> {
         let planned = self.planned_channels(alloc, counts.as_slice())?;
         self.carry_out(
             planned,
+            0,
             0,
             &Given::Samples {
                 samples: samples.as_slice(),

@@ -1,6 +1,8 @@
 // Samples that a command brings, put in at a place of a track or at its end.
-ghost use Rattle.std.specs.Prelude.{◌≡◌, ◌≤◌, IfErr, IfOk, None, length};
+ghost use Rattle.std.specs.Prelude.{◌≡◌, ◌⊎◌, ◌≤◌, ◌<◌, false, IfErr, IfOk, IsErr, IsTrue, None, length, take};
+ghost use Rattle.pcm_base.specs.declared.chunk.TheConstants.{BATCH_SAMPLES};
 ghost use Rattle.pcm_base.specs.declared.limits.TheConstants.{COUNTER_LIMIT};
+ghost use Rattle.pcm_base.specs.Recordings.{later_pieces as pieces_after};
 ghost use Rattle.pcm_base.specs.declared.answer.Reply.TheVariants as reply;
 ghost use Rattle.pcm_base.specs.declared.command.Call.{Call};
 ghost use Rattle.pcm_base.specs.declared.command.Call.TheVariants as call;
@@ -12,9 +14,11 @@ ghost use Rattle.clip_track.specs.Clips.{AllHalfFull, IsLayout, end_of, layout_b
 ghost use Rattle.edit_ops.specs.Plans.{AnswersTest, IsPlan, Means, start_of};
 ghost use Rattle.piece_store.specs.Bringing.{brought_count};
 ghost use Rattle.envelope_view.specs.Answers.{IsUndamaged};
+ghost use Rattle.project_state.specs.Kept.{current_tracks};
 ghost use Rattle.editor_core.specs.Core.{core_of};
+ghost use Rattle.editor_core.specs.Edits.{IsStill};
+ghost use Rattle.editor_core.specs.Exchanges.{is_broken_off};
 ghost use Rattle.editor_core.specs.Inserts.{IsPlace, place_cells, place_edit, place_test};
-ghost use Rattle.editor_core.specs.Points.{current_tracks};
 ghost use Rattle.editor_core.specs.Studios.{IsHeld, IsStudio};
 ghost use Rattle.editor_core.specs.Took.{Took, quietly, told_by, with_sound};
 ghost use Rattle.editor_core.specs.TrackEdits.{IsTrackCall, IsTrackPlan, NoTrackPlan, track_command};
@@ -25,7 +29,7 @@ use super::studio::Studio;
 use clip_track::Layout;
 use disk_model::Store;
 use edit_ops::{Plan, Planner, insert};
-use pcm_base::Refusal;
+use pcm_base::{CHUNK_SAMPLES, Refusal};
 use piece_store::Given;
 use std::alloc::Global;
 
@@ -36,12 +40,42 @@ pub(crate) enum Place {
     End,
 }
 
+/// How many samples of a recording were taken or refused together, and what was answered.
+#[derive(Drop)]
+pub struct Tried {
+    pub count: usize,
+    pub what: Result<u64, Refusal>,
+}
+
+// Whether a test refused it, or want of memory, so that nothing has changed.
+fn is_idle(what: &Result<u64, Refusal>) -> bool
+    ensures { IsTrue result → IfErr what.now (λ why. is_broken_off why ≡ false) × IsErr what.now }
+{
+    match *what {
+        Err(
+            Refusal::NoTrack { .. }
+            | Refusal::LengthLimit { .. }
+            | Refusal::SpaceSpent { .. }
+            | Refusal::RecordLimit { .. }
+            | Refusal::NoMemory,
+        ) => true,
+        _ => false,
+    }
+}
+
 // How many samples there are: a sample takes two bytes.
 fn len_of(samples: &[i16]) -> u64
     ensures value { result ≡ length samples.now }
     ensures few { result ≤ COUNTER_LIMIT }
 {
     samples.len() as u64
+}
+
+// How many pieces these samples of a recording are after the first.
+fn later_pieces(samples: &[i16]) -> u64
+    ensures { result ≡ pieces_after (length samples.now) }
+{
+    len_of(samples).saturating_sub(1) / CHUNK_SAMPLES as u64
 }
 
 // How many samples a command brings.
@@ -103,6 +137,7 @@ impl<S: Store> Studio<S> {
             track,
             Place::At { at },
             0,
+            0,
             &Given::Samples { samples },
         )
     }
@@ -130,12 +165,14 @@ impl<S: Store> Studio<S> {
         ensures sound { IsHeld S.Store (core_of self.old) → IfErr result IsUndamaged }
     {
         let given = Given::Ramp { start, step, count };
-        self.insert_given(alloc, track, Place::At { at }, 0, &given)
+        self.insert_given(alloc, track, Place::At { at }, 0, 0, &given)
     }
 
-    /// Puts samples of a recording in at the end of a track. The tag is the recording's number, from 1 to the number of
-    /// the last commit. Where the current project is of the same recording they go into it, and what could be redone
-    /// goes; else they make a new point.
+    /// Puts samples of a recording in at the end of a track, at most 16,384. They are a piece for each 256 samples, the
+    /// last one shorter, and each piece is a commit. All of them are in the journal at once: at any moment a stop
+    /// leaves none of them or all. The tag is the recording's number, from 1 to the number of the last commit. Where the
+    /// current project is of the same recording they go into it, and what could be redone goes; else they make a new
+    /// point. It answers the number of the last commit.
     ///
     /// # Errors
     ///
@@ -149,38 +186,80 @@ impl<S: Store> Studio<S> {
     ) -> Result<u64, Refusal>
         requires studio { IsStudio S.Store (core_of self.old) }
         requires tag { (1 ≤ tag) × (tag ≤ self.old.commit_number) }
+        requires few { length samples.now ≤ BATCH_SAMPLES }
         ensures took { Took S.Store (core_of self.old)
             (quietly (call.Piece track tag samples.now) (told_by (λ _. reply.Done) result)) (core_of self.new) }
         ensures number { IfOk result (λ n. n ≡ self.new.commit_number) }
         ensures sound { IsHeld S.Store (core_of self.old) → IfErr result IsUndamaged }
+        ensures still { IfErr result (IsStill (core_of self.old) (core_of self.new)) }
     {
-        self.insert_given(alloc, track, Place::End, tag, &Given::Samples { samples })
+        let more = later_pieces(samples);
+        self.insert_given(
+            alloc,
+            track,
+            Place::End,
+            tag,
+            more,
+            &Given::Samples { samples },
+        )
     }
 
-    // Puts what a command brings in, as a point with this tag, where 0 is none.
+    /// Puts these samples in as [`Studio::piece`] does. Where a test or want of memory refuses them together, it does
+    /// so with the first 256 alone.
+    pub fn pieces(&mut self, alloc: Global, track: u64, tag: u64, samples: &[i16]) -> Tried
+        requires studio { IsStudio S.Store (core_of self.old) }
+        requires tag { (1 ≤ tag) × (tag ≤ self.old.commit_number) }
+        requires few { length samples.now ≤ BATCH_SAMPLES }
+        ensures took { Took S.Store (core_of self.old)
+            (quietly (call.Piece track tag (take result.count samples.now)) (told_by (λ _. reply.Done) result.what))
+            (core_of self.new) }
+        ensures count { (result.count ≡ length samples.now)
+            ⊎ ((result.count ≡ CHUNK_SAMPLES) × (CHUNK_SAMPLES < length samples.now)) }
+        ensures number { IfOk result.what (λ n. n ≡ self.new.commit_number) }
+        ensures sound { IsHeld S.Store (core_of self.old) → IfErr result.what IsUndamaged }
+    {
+        let what = self.piece(alloc, track, tag, samples);
+        if samples.len() > CHUNK_SAMPLES && is_idle(&what) {
+            let what = self.piece(alloc, track, tag, &samples[..CHUNK_SAMPLES]);
+            return Tried {
+                count: CHUNK_SAMPLES,
+                what,
+            };
+        }
+        Tried {
+            count: samples.len(),
+            what,
+        }
+    }
+
+    // Puts what a command brings in, as a point with this tag, where 0 is none, and as this many commits beside one.
     fn insert_given(
         &mut self,
         alloc: Global,
         track: u64,
         place: Place,
         tag: u64,
+        more: u64,
         given: &Given,
     ) -> Result<u64, Refusal>
         requires studio { IsStudio S.Store (core_of self.old) }
         requires place { IsPlace place }
         requires tag { tag ≤ self.old.commit_number }
+        requires counts { 0 < more → 1 ≤ tag }
+        requires more { more < 64 }
         ensures took { (c : Call) → (sound : SoundMove)
-            → IsTrackCall c sound (track_command (place_edit place (brought_count given.now)) given.now track tag)
+            → IsTrackCall c sound (track_command (place_edit place (brought_count given.now)) given.now track tag more)
             → Took S.Store (core_of self.old) (with_sound c sound (told_by (λ _. reply.Done) result))
             (core_of self.new) }
         ensures number { IfOk result (λ n. n ≡ self.new.commit_number) }
         ensures sound { IsHeld S.Store (core_of self.old) → IfErr result IsUndamaged }
+        ensures still { IfErr result (IsStill (core_of self.old) (core_of self.new)) }
     {
         if let Some(faults) = self.stopped {
             return Err(Refusal::Stopped { faults });
         }
         let planned = self.planned_insert(alloc, track, place, count_of(given))?;
-        self.carry_out(planned, tag, given)
+        self.carry_out(planned, tag, more, given)
     }
 
     // The project that this many samples in a track make of the current one.

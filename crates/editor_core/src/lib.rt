@@ -49,4 +49,5 @@ mod views;
 pub use assembly::Parts;
 pub use copies::RunRange;
 pub use facts::Facts;
+pub use inserts::Tried;
 pub use studio::{Pin, Studio};

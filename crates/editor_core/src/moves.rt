@@ -1,12 +1,13 @@
 // Undo, redo and purge.
-ghost use Rattle.std.specs.Prelude.{◌≡◌, ◌+◌, ◌==◌, ◌∷◌, length, IfErr, IfOk};
-ghost use Rattle.byteorder.specs.Endian.{little_bytes};
+ghost use Rattle.std.specs.Prelude.{◌≡◌, ◌+◌, ◌==◌, length, IfErr, IfOk};
 ghost use Rattle.pcm_base.specs.declared.answer.Reply.TheVariants as reply;
 ghost use Rattle.pcm_base.specs.declared.command.Call.TheVariants.{Line};
 ghost use Rattle.pcm_base.specs.declared.command.Command.TheVariants as command;
 ghost use Rattle.pcm_base.specs.declared.refusal.Refusal.TheVariants.{NothingToUndo, NothingToRedo};
 ghost use Rattle.pcm_base.specs.History.{IsHistory};
 ghost use Rattle.pcm_base.specs.Refusals.{refused_if, bad_range};
+ghost use Rattle.project_state.specs.declared.body.Body.TheVariants.{Purge};
+ghost use Rattle.project_state.specs.Spelling.{spelling};
 ghost use Rattle.envelope_view.specs.Answers.{IsUndamaged};
 ghost use Rattle.editor_core.specs.Adding.{IsNoWant};
 ghost use Rattle.editor_core.specs.Core.{core_of};
@@ -18,12 +19,13 @@ use super::studio::Studio;
 use byteorder::{ByteOrder, LittleEndian};
 use disk_model::Store;
 use pcm_base::Refusal;
+use project_state::{PURGE_KIND, REDO_KIND, UNDO_KIND};
 
 // The body of the record of a purge.
 fn purge_body(count: u64) -> [u8; 9]
-    ensures { result ≡ 4 ∷ little_bytes 8 count }
+    ensures { result ≡ spelling (Purge count) }
 {
-    let mut body = [4u8; 9];
+    let mut body = [PURGE_KIND; 9];
     LittleEndian::write_u64(&mut body[1..], count);
     body
 }
@@ -45,7 +47,7 @@ impl<S: Store> Studio<S> {
         ensures undamaged { IfErr result IsUndamaged }
     {
         self.may_commit(self.undo_refusal(), 0)?;
-        self.commit_small(&[2])?;
+        self.commit_small(&[UNDO_KIND])?;
         let _ = self.history.undo();
         Ok(self.commit_number)
     }
@@ -77,7 +79,7 @@ impl<S: Store> Studio<S> {
         ensures undamaged { IfErr result IsUndamaged }
     {
         self.may_commit(self.redo_refusal(), 0)?;
-        self.commit_small(&[3])?;
+        self.commit_small(&[REDO_KIND])?;
         let _ = self.history.redo();
         Ok(self.commit_number)
     }

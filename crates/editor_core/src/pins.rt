@@ -6,12 +6,11 @@ ghost use Rattle.pcm_base.specs.declared.refusal.Refusal.TheVariants as refusal;
 ghost use Rattle.block_ledger.specs.Counts.{occurrences};
 ghost use Rattle.block_ledger.specs.Entries.{count_of};
 ghost use Rattle.envelope_view.specs.Answers.{IsUndamaged};
-ghost use Rattle.project_state.specs.Kept.{point_blocks};
+ghost use Rattle.project_state.specs.Kept.{current_tracks, point_blocks};
 ghost use Rattle.editor_core.specs.declared.studio.Pin.{Pin};
 ghost use Rattle.editor_core.specs.Core.{core_of};
 ghost use Rattle.editor_core.specs.Occurrences.{HasIds, Held, times_named};
 ghost use Rattle.editor_core.specs.Pins.{MayTake, AnswersPin, AnswersUnpin};
-ghost use Rattle.editor_core.specs.Points.{current_tracks};
 ghost use Rattle.editor_core.specs.Studios.{IsStudio};
 ghost use Rattle.editor_core.specs.Took.{Took, quietly, told_by};
 

@@ -4,8 +4,8 @@ ghost use Rattle.pcm_base.specs.declared.answer.Reply.TheVariants as reply;
 ghost use Rattle.pcm_base.specs.declared.command.Call.TheVariants.{Line};
 ghost use Rattle.pcm_base.specs.Shape.{range_line};
 ghost use Rattle.envelope_view.specs.Answers.{IsUndamaged};
+ghost use Rattle.project_state.specs.Kept.{current_tracks};
 ghost use Rattle.editor_core.specs.Core.{core_of};
-ghost use Rattle.editor_core.specs.Points.{current_tracks};
 ghost use Rattle.editor_core.specs.Ranges.{range_edit};
 ghost use Rattle.editor_core.specs.Studios.{IsHeld, IsStudio};
 ghost use Rattle.editor_core.specs.Took.{Took, quietly, told_by};
@@ -50,7 +50,7 @@ impl<S: Store> Studio<S> {
             return Err(Refusal::Stopped { faults });
         }
         let planned = self.planned_range(alloc, track, from, to, edit)?;
-        self.carry_out(planned, 0, &Given::Nothing)
+        self.carry_out(planned, 0, 0, &Given::Nothing)
     }
 
     // The project that it makes of the current one.

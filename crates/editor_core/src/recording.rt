@@ -3,7 +3,7 @@ ghost use Rattle.std.specs.Prelude.{◌≡◌, ℕ, ◌+◌, ◌≤◌, ◌<◌,
 ghost use Rattle.pcm_base.specs.declared.limits.TheConstants.{COUNTER_LIMIT};
 ghost use Rattle.block_ledger.specs.Counts.{occurrences};
 ghost use Rattle.block_ledger.specs.Entries.{count_of};
-ghost use Rattle.pcm_base.specs.History.{amended, is_of_recording, recorded};
+ghost use Rattle.pcm_base.specs.History.{amended, recorded};
 ghost use Rattle.project_state.specs.Kept.{point_blocks, history_blocks};
 ghost use Rattle.editor_core.specs.Core.{core_of};
 ghost use Rattle.editor_core.specs.Occurrences.{HasAll, HasIds, Moves, times_named};
@@ -32,11 +32,21 @@ fn count_amended(ledger: &mut Ledger, history: &History<Point>, point: &Point)
     drop_points(ledger, history, current + 1, len);
 }
 
-// Whether the current point is of the recording with this tag; 0 is the tag of all that is no recording.
-fn continues(history: &History<Point>, tag: u64) -> bool
-    ensures { result ≡ is_of_recording history.now.history tag }
+// A point is to be recorded under a tag: its blocks come, and those of the points that go are named no more by them.
+#[tactic(auto, using(crate::proofs::Amending::moves_in_place, crate::proofs::Amending::moves_behind))]
+fn count_recorded(ledger: &mut Ledger, history: &History<Point>, point: &Point, tag: u64)
+    requires there { HasIds (count_of ledger.old) (point_blocks point.now) }
+    requires few { (id : ℕ) →
+        occurrences (count_of ledger.old id) + times_named id (point_blocks point.now) < 2 ^ 128 }
+    requires named { HasAll (count_of ledger.old) (history_blocks history.now.history) }
+    ensures { Moves (count_of ledger.old) (count_of ledger.new) (history_blocks history.now.history)
+        (history_blocks (recorded history.now.history point.now tag)) }
 {
-    tag != 0 && history.tag(history.cursor()) == tag
+    if history.continues(tag) {
+        count_amended(ledger, history, point);
+    } else {
+        count_edit(ledger, history, point);
+    }
 }
 
 impl<S: Store> Studio<S> {
@@ -57,13 +67,8 @@ impl<S: Store> Studio<S> {
         ensures counts { Moves (count_of self.old.ledger) (count_of self.new.ledger)
             (history_blocks self.old.history.history) (history_blocks (recorded self.old.history.history point tag)) }
     {
-        if continues(&self.history, tag) {
-            count_amended(&mut self.ledger, &self.history, &point);
-            self.history.amend(point);
-        } else {
-            count_edit(&mut self.ledger, &self.history, &point);
-            let _ = self.history.push(point, tag);
-        }
+        count_recorded(&mut self.ledger, &self.history, &point, tag);
+        let _ = self.history.record(point, tag);
         self.next_track += tracks;
     }
 }

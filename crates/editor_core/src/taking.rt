@@ -8,6 +8,7 @@ ghost use Rattle.pcm_base.specs.History.{edited};
 ghost use Rattle.project_state.specs.declared.body.Body.TheVariants.{Edit};
 ghost use Rattle.project_state.specs.Kept.{point_blocks, history_blocks};
 ghost use Rattle.editor_core.specs.Adding.{AddsBody};
+ghost use Rattle.editor_core.specs.Bodies.{single};
 ghost use Rattle.editor_core.specs.Core.{core_of};
 ghost use Rattle.editor_core.specs.Occurrences.{HasAll, HasIds, Moves, times_named};
 
@@ -31,7 +32,7 @@ impl<S: Store> Studio<S> {
     pub(crate) fn commit_body(&mut self, body: &Body) -> Result<(), Refusal>
         requires room { self.old.commit_number < COUNTER_LIMIT }
         requires end { self.old.journal_end ≤ COUNTER_LIMIT }
-        ensures record { AddsBody S.Store (core_of self.old) body.now result (core_of self.new) }
+        ensures record { AddsBody S.Store (core_of self.old) (single body.now) result (core_of self.new) }
         ensures history { self.new.history ≡ self.old.history }
         ensures ledger { self.new.ledger ≡ self.old.ledger }
     {
@@ -46,7 +47,7 @@ impl<S: Store> Studio<S> {
         requires ids { self.old.next_track + tracks ≤ COUNTER_LIMIT }
         requires end { self.old.journal_end ≤ COUNTER_LIMIT }
         ensures record { AddsBody S.Store (core_of self.old)
-            (Edit 0 self.old.next_block (self.old.next_track + tracks) point) result (core_of self.new) }
+            (single (Edit 0 self.old.next_block (self.old.next_track + tracks) point)) result (core_of self.new) }
         ensures same { IfOk result (λ p. p ≡ point) }
         ensures history { self.new.history ≡ self.old.history }
         ensures ledger { self.new.ledger ≡ self.old.ledger }

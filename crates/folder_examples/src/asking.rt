@@ -7,7 +7,7 @@ use std::alloc::{AllocError, Global};
 use std::io::ErrorKind;
 
 /// A kind of call of a store on a file.
-#[derive(Clone, Copy, Debug, PartialEq, Eq)]
+#[derive(Clone, Copy, Debug)]
 pub(crate) enum Asked {
     Size,
     Read,
@@ -26,7 +26,7 @@ impl Asked {
 }
 
 /// A call of a store with what it is to answer, or what is wanted of the calls of the system from now on.
-#[derive(Clone, Copy, Debug)]
+#[derive(Clone, Copy)]
 pub(crate) enum Step {
     /// The file has this size, or is absent.
     Size(u64, Option<u64>),
@@ -77,6 +77,16 @@ pub(crate) fn ask<S: Store>(store: &mut S, asked: Asked, file: u64) -> bool {
     }
 }
 
+// Whether the call succeeds on each of these files, from the one up to below the other.
+pub(crate) fn ask_each<S: Store>(store: &mut S, asked: Asked, first: u64, end: u64) -> bool {
+    for file in first..end {
+        if !ask(store, asked, file) {
+            return false;
+        }
+    }
+    true
+}
+
 // Whether these bytes are read from the place on, and what lies after them in the buffer stays.
 fn reads<S: Store>(store: &mut S, file: u64, at: u64, want: &[u8]) -> bool {
     let mut buf = [9u8; 16];
@@ -86,20 +96,29 @@ fn reads<S: Store>(store: &mut S, file: u64, at: u64, want: &[u8]) -> bool {
     match store.read_at(file, at, &mut buf) {
         Ok(count) => {
             let (read, rest) = buf.split_at(count);
-            read == want && rest.iter().all(|byte| *byte == 9)
+            read == want && are_nines(rest)
         }
         Err(_) => false,
     }
 }
 
+fn are_nines(bytes: &[u8]) -> bool {
+    for byte in bytes {
+        if *byte != 9 {
+            return false;
+        }
+    }
+    true
+}
+
 fn list_fails<S: Store>(store: &mut S, alloc: Global) -> bool {
-    store.files(&mut Vec::new(alloc)) == Err(ListFault::Failed)
+    matches!(store.files(&mut Vec::new(alloc)), Err(ListFault::Failed))
 }
 
 fn lists<S: Store>(store: &mut S, alloc: Global, first: u64, end: u64) -> bool {
     let mut listed = Vec::new(alloc);
     let mut wanted = first;
-    if store.files(&mut listed) != Ok(()) {
+    if store.files(&mut listed).is_err() {
         return false;
     }
     for file in &listed {
@@ -111,24 +130,42 @@ fn lists<S: Store>(store: &mut S, alloc: Global, first: u64, end: u64) -> bool {
     wanted == end
 }
 
+// Whether the file has this size, or is absent.
+fn has_size<S: Store>(store: &mut S, file: u64, want: Option<u64>) -> bool {
+    match (store.size(file), want) {
+        (Ok(Some(size)), Some(want)) => size == want,
+        (Ok(None), None) => true,
+        _ => false,
+    }
+}
+
+fn are_same(one: [u32; 6], other: [u32; 6]) -> bool {
+    one[0] == other[0]
+        && one[1] == other[1]
+        && one[2] == other[2]
+        && one[3] == other[3]
+        && one[4] == other[4]
+        && one[5] == other[5]
+}
+
 // Whether a watched store answers the step so.
 fn answers<S: Store>(store: &mut S, watch: &Watch, alloc: Global, step: Step) -> bool {
     match step {
-        Step::Size(file, want) => return store.size(file) == Ok(want),
+        Step::Size(file, want) => return has_size(store, file, want),
         Step::Read(file, at, want) => return reads(store, file, at, want),
         Step::Write(file, at, bytes) => {
             return at < 99 && bytes.len() < 99 && store.write_at(file, at, bytes).is_ok();
         }
         Step::Done(asked, file) => return ask(store, asked, file),
         Step::Fails(asked, file) => return !ask(store, asked, file),
-        Step::All(asked, first, end) => return (first..end).all(|file| ask(store, asked, file)),
+        Step::All(asked, first, end) => return ask_each(store, asked, first, end),
         Step::GrowthFails => return store.write_at(16, 9, b"").is_err(),
         Step::ListFails => return list_fails(store, alloc),
         Step::Lists(first, end) => return lists(store, alloc, first, end),
         Step::Faults(all, changes) => {
             return store.faults() == all && store.change_faults() == changes;
         }
-        Step::Counts(counts) => return watch.count() == counts,
+        Step::Counts(counts) => return are_same(watch.count(), counts),
         Step::FailAt(call, served) => watch.fail(call, served),
         Step::FailAs(kind) => watch.kind.set(kind),
         Step::ServeAll => watch.fails.set(None),

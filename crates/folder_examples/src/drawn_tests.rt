@@ -9,7 +9,7 @@ use std::alloc::AllocError;
 use std::fs;
 
 /// The calls of which one is drawn.
-const CALLS: [Asked; 8] = [
+static CALLS: [Asked; 8] = [
     Asked::Write,
     Asked::Write,
     Asked::Write,
@@ -54,7 +54,7 @@ fn what_is_synced_waits_for_nothing(rt: HostRuntime) -> Result<(), AllocError> {
             "{call} {asked:?} {file}"
         );
         assert!(rt;
-            asked != Asked::Sync || watch.flags.is_synced(file),
+            !matches!(asked, Asked::Sync) || watch.flags.is_synced(file),
             "{call} {file}"
         );
     }

@@ -8,7 +8,7 @@ use std::io::ErrorKind;
 
 /// Calls on file 16, which is there, and on file 17, which is absent, each with the call of the system that fails below
 /// it, and how many of that kind are served before.
-const FAULTS: [(Asked, u64, Call, u32); 21] = [
+static FAULTS: [(Asked, u64, Call, u32); 21] = [
     (Asked::Size, 16, Call::Look, 0),
     (Asked::Read, 16, Call::Look, 0),
     (Asked::Read, 16, Call::Open, 0),
@@ -34,7 +34,7 @@ const FAULTS: [(Asked, u64, Call, u32); 21] = [
 ];
 
 /// Calls of the system below the first write to a folder that is absent.
-const FIRST_FAULTS: [(Call, u32); 6] = [
+static FIRST_FAULTS: [(Call, u32); 6] = [
     (Call::Open, 0),
     (Call::MakeFolder, 0),
     (Call::MakeFolder, 1),
@@ -60,7 +60,7 @@ fn fails(
     Ok(first_other(rt, "faults-store", &steps)?.is_none())
 }
 
-const WRITTEN: [Step; 1] = [Step::Done(Asked::Write, 16)];
+static WRITTEN: [Step; 1] = [Step::Done(Asked::Write, 16)];
 
 #[test]
 fn each_fault_of_a_store_is_counted_as_its_call(rt: HostRuntime) -> Result<(), AllocError> {
@@ -202,7 +202,7 @@ const LONG: [Step; 6] = [
 ];
 
 // Each in a folder of its own.
-const IN_TURN: [(&'static str, &'static [Step]); 9] = [
+static IN_TURN: [(&'static str, &'static [Step]); 9] = [
     ("faults-open", &OPEN),
     ("faults-sync", &LOST),
     ("faults-again", &AGAIN),
@@ -241,7 +241,7 @@ const NOT_SYNCED: Step = Step::Fails(Asked::Sync, 16);
 
 // Which calls fail, which folder is removed before, and what the sync comes to: where both folders above are made,
 // where none is, and where the inner one alone is. The write has opened the project's own.
-const ABOVE: [(Call, u32, &'static str, Step); 9] = [
+static ABOVE: [(Call, u32, &'static str, Step); 9] = [
     (Call::Open, 1, "faults-above", NOT_SYNCED),
     (Call::Open, 0, "", SYNCED),
     (Call::Open, 1, "faults-above/project", SYNCED),

@@ -7,7 +7,7 @@ use std::alloc::AllocError;
 use std::fs;
 use std::os::unix::fs::symlink;
 
-const KEPT: [Step; 18] = [
+static KEPT: [Step; 18] = [
     Step::Size(16, None),
     Step::Write(16, 3, b"abc"),
     Step::Write(0, 5, b""),
@@ -43,7 +43,7 @@ fn decimal_numbers_alone_are_listed(rt: HostRuntime) -> Result<(), AllocError> {
     let mut store = FolderStore::new(rt, rt.alloc(), "folder-names")?;
     let mut listed = Vec::new(rt.alloc());
     assert!(rt; listed.push(7).is_ok());
-    assert!(rt; store.files(&mut listed) == Ok(()) && listed.len() == 0);
+    assert!(rt; store.files(&mut listed).is_ok() && listed.len() == 0);
     for file in [20, 3, 0, 18446744073709551615] {
         assert!(rt; store.write_at(file, 0, b"a").is_ok());
     }
@@ -52,14 +52,14 @@ fn decimal_numbers_alone_are_listed(rt: HostRuntime) -> Result<(), AllocError> {
         assert!(rt; fs::write(&rt, path, b"x".as_slice()).is_ok());
     }
     assert!(rt; fs::create_dir(&rt, "folder-names/project/21").is_ok());
-    assert!(rt; store.files(&mut listed) == Ok(()));
+    assert!(rt; store.files(&mut listed).is_ok());
     assert!(rt; listed.as_slice() == [0, 3, 20, 18446744073709551615].as_slice());
     let _ = fs::remove_dir_all(&rt, "folder-names");
     Ok(())
 }
 
 // File 17 is a link, 18 one that leads nowhere, and 19 a folder.
-const NOT_PLAIN: [Step; 16] = [
+static NOT_PLAIN: [Step; 16] = [
     Step::Fails(Asked::Size, 17),
     Step::Fails(Asked::Read, 17),
     Step::Fails(Asked::Write, 17),
@@ -91,7 +91,7 @@ fn what_is_no_plain_file_fails(rt: HostRuntime) -> Result<(), AllocError> {
     Ok(())
 }
 
-const NO_FOLDER: [Step; 5] = [
+static NO_FOLDER: [Step; 5] = [
     Step::Fails(Asked::Write, 0),
     Step::Faults(1, 1),
     Step::Fails(Asked::Size, 0),
@@ -99,7 +99,7 @@ const NO_FOLDER: [Step; 5] = [
     Step::Faults(3, 1),
 ];
 
-const NO_FOLDER_ABOVE: [Step; 3] = [
+static NO_FOLDER_ABOVE: [Step; 3] = [
     Step::Done(Asked::Sync, 0),
     Step::Fails(Asked::Write, 0),
     Step::Faults(1, 1),
@@ -122,7 +122,7 @@ fn a_file_in_the_folders_place_fails(rt: HostRuntime) -> Result<(), AllocError> 
 
 // Appends of a record after a gate, a put, an edit of three blocks and its record, and a block that is removed, each
 // with the calls of the system that it takes. The first also syncs the folder, and the two above it.
-const CALLS: [Step; 34] = [
+static CALLS: [Step; 34] = [
     Step::Write(0, 60, b"a record"),
     Step::Done(Asked::Sync, 0),
     Step::Write(0, 59, b"A"),
@@ -160,7 +160,7 @@ const CALLS: [Step; 34] = [
 ];
 
 // The journal goes from file 0 to file 1, in the order of a compact, and a record is added there.
-const PACKED: [Step; 22] = [
+static PACKED: [Step; 22] = [
     Step::Write(0, 0, b"journal"),
     Step::Done(Asked::Sync, 0),
     Step::Counts([5, 0, 1, 1, 3, 0]),
@@ -188,7 +188,7 @@ const PACKED: [Step; 22] = [
 // 512 files are kept open up to their sync. One more has all of them synced. The first of them is then
 // opened and synced anew, and the last one synced. The folder is opened by the first write, which makes it, and synced
 // by the first sync, with the two above it.
-const MANY: [Step; 8] = [
+static MANY: [Step; 8] = [
     Step::All(Asked::Write, 16, 528),
     Step::Counts([514, 0, 512, 0, 0, 0]),
     Step::Done(Asked::Write, 528),
@@ -200,7 +200,7 @@ const MANY: [Step; 8] = [
 ];
 
 // 64 files that were read stay open.
-const READ: [Step; 5] = [
+static READ: [Step; 5] = [
     Step::All(Asked::Read, 16, 80),
     Step::Counts([64, 64, 0, 0, 0, 0]),
     Step::All(Asked::Read, 16, 80),
@@ -228,7 +228,7 @@ fn calls_are_as_few_as_the_disk_asks(rt: HostRuntime) -> Result<(), AllocError> 
 }
 
 // The system gives the names of 600 files in several reads, and the second of them, or a later one, may fail.
-const LISTED: [Step; 9] = [
+static LISTED: [Step; 9] = [
     Step::All(Asked::Write, 16, 616),
     Step::Lists(16, 616),
     Step::FailAt(Call::Read, 1),

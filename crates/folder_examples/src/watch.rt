@@ -7,7 +7,7 @@ use std::fs::Metadata;
 use std::io::{self, ErrorKind};
 
 /// A kind of call of the system.
-#[derive(Clone, Copy, Debug, PartialEq, Eq)]
+#[derive(Clone, Copy, Debug)]
 pub(crate) enum Call {
     /// A file or a folder is opened, or a file is made.
     Open,
@@ -81,6 +81,14 @@ impl Watch {
         self.counted.replace([0; 6])
     }
 
+    // Whether calls of this kind fail from now on, or after those that are served.
+    fn is_to_fail(&self, call: Call) -> bool {
+        match self.fails.get() {
+            Some(fails) => number_of(fails) == number_of(call),
+            None => false,
+        }
+    }
+
     /// Counts a call, and fails where that is wanted.
     pub(crate) fn meet(&self, call: Call) -> io::Result<()> {
         if let Some(place) = place_of(call) {
@@ -88,7 +96,7 @@ impl Watch {
             counted[place] = counted[place].saturating_add(1);
             self.counted.set(counted);
         }
-        if self.fails.get() != Some(call) {
+        if !self.is_to_fail(call) {
             return Ok(());
         }
         if self.served.get() > 0 {
@@ -114,6 +122,22 @@ impl Watch {
             Some(length) => Metadata::of_file(length),
             None => metadata,
         }
+    }
+}
+
+// The kind of a call as a number of its own.
+fn number_of(call: Call) -> u32 {
+    match call {
+        Call::Open => 0,
+        Call::Look => 1,
+        Call::List => 2,
+        Call::Read => 3,
+        Call::Write => 4,
+        Call::Resize => 5,
+        Call::SyncFile => 6,
+        Call::SyncFolder => 7,
+        Call::Remove => 8,
+        Call::MakeFolder => 9,
     }
 }
 

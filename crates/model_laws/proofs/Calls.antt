@@ -11,6 +11,7 @@ use Rattle.pcm_base.specs.Edits.{as_cells}
 use Rattle.pcm_base.specs.Form.{IsCallInForm}
 use Rattle.pcm_base.specs.History.{recorded}
 use Rattle.pcm_base.specs.Outside.{Outside}
+use Rattle.pcm_base.specs.Recordings.{pieces_in}
 use Rattle.pcm_base.specs.Refusals.{◌otherwise◌, call_tests}
 use Rattle.pcm_base.specs.Run.{stop_test, refusal_of, followed}
 use Rattle.pcm_base.specs.State.{State, current}
@@ -22,19 +23,21 @@ use Rattle.model_laws.proofs.Histories.{recorded_points}
 use Rattle.model_laws.proofs.Lines.{line_bounded}
 use Rattle.model_laws.proofs.PassedTests.{piece_passed}
 use Rattle.model_laws.proofs.Projects.{edited_track}
-use Rattle.model_laws.proofs.States.{current_project, committed_here, pin_bounded, unpin_bounded}
+use Rattle.model_laws.proofs.States.{counted_here, current_project, pin_bounded, unpin_bounded}
 use Rattle.model_laws.proofs.OwnTests.{both_passed, has_room}
 
-piece_bounded : (s : State) (track tag : ℕ) (samples : List ℤ) → IsBoundedState s → s.commit + 1 ≤ 2 ^ 62 →
-    tag ≤ s.commit → length (cells_at track (current s)) + length samples ≤ 2 ^ 32 →
+piece_bounded : (s : State) (track tag : ℕ) (samples : List ℤ) → IsBoundedState s →
+    s.commit + pieces_in (length samples) ≤ 2 ^ 62 → tag ≤ s.commit →
+    length (cells_at track (current s)) + length samples ≤ 2 ^ 32 →
     IsBoundedState (with_piece s track tag samples)
 piece_bounded s track tag samples b room made few =
     let f = λ (cells : List Cell). trimmed (cells ++ as_cells samples) in
     let good : AreCells (f (cells_at track (current s))) = recorded_cells (cells_at track (current s)) samples few in
     let p = edited_at track f (current s) in
     let project = edited_track s.next_track track f (current s) (current_project s b) good in
-    committed_here s (recorded s.history p tag) b room
-    (recorded_points s.next_track s.next_track s.commit (s.commit + 1) s.history p tag (omega arith) (omega arith)
+    let n = pieces_in (length samples) in
+    counted_here s (recorded s.history p tag) n b room
+    (recorded_points s.next_track s.next_track s.commit (s.commit + n) s.history p tag (omega arith) (omega arith)
     b.history project (omega arith))
 
 pub call_bounded : (out : Outside) (s : State) (c : Call) → IsBoundedState s → IsCallInForm s.commit c →
@@ -49,13 +52,13 @@ call_bounded out s (call.ReadPin pin from count) b form e tracks room pins = b
 call_bounded out s (call.Unpin pin) b form e tracks room pins = unpin_bounded s pin b
 
 -- each counter has room for what is needed of it
-record HasRoom (out : Outside) (t : Studio) (c : Call) (blocks len : ℕ) : Type 0 where
-  ids : t.next_block + blocks ≤ 2 ^ 62
-  tracks : t.state.next_track + tracks_of out c ≤ 2 ^ 62
-  commits : t.state.commit + commits_of c ≤ 2 ^ 62
-  pins : t.state.next_pin + pins_of c ≤ 2 ^ 62
-  places : t.journal_end + places_of c len ≤ 2 ^ 62
-  generations : t.generation + generations_of c ≤ 2 ^ 62
+pub record HasRoom (out : Outside) (t : Studio) (c : Call) (blocks len : ℕ) : Type 0 where
+  pub ids : t.next_block + blocks ≤ 2 ^ 62
+  pub tracks : t.state.next_track + tracks_of out c ≤ 2 ^ 62
+  pub commits : t.state.commit + commits_of c ≤ 2 ^ 62
+  pub pins : t.state.next_pin + pins_of c ≤ 2 ^ 62
+  pub places : t.journal_end + places_of c len ≤ 2 ^ 62
+  pub generations : t.generation + generations_of c ≤ 2 ^ 62
 
 counters_passed : (out : Outside) (t : Studio) (c : Call) (blocks len : ℕ) → counter_tests out t c blocks len ≡ None →
     HasRoom out t c blocks len
@@ -87,7 +90,7 @@ bytes_within c len = by (commits_of c == 0)
     by true = omega arith
     by false = omega arith
 
-room_passed : (out : Outside) (t : Studio) (c : Call) (blocks len : ℕ) → refusal_of out t c blocks len ≡ None →
+pub room_passed : (out : Outside) (t : Studio) (c : Call) (blocks len : ℕ) → refusal_of out t c blocks len ≡ None →
     HasRoom out t c blocks len
 room_passed out t c blocks len e =
     let own = call_tests out t.state c in

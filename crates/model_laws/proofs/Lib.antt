@@ -1,4 +1,7 @@
+pub mod Again
 pub mod Answered
+pub mod Growth
+pub mod Together
 pub mod Calls
 pub mod Commits
 pub mod EditLengths

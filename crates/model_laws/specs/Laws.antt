@@ -1,12 +1,15 @@
 -- What holds of each state that the model reaches.
-use Rattle.std.specs.Prelude.{◌≡◌, ℕ, ◌+◌, ◌≤◌, List, [], ◌∷◌, Result, Ok, Err}
+use Rattle.std.specs.Prelude.{◌≡◌, ℕ, ◌+◌, ◌≤◌, ℤ, List, [], ◌∷◌, Result, Ok, Err}
 use Rattle.pcm_base.specs.declared.command.Call.{Call}
+use Rattle.pcm_base.specs.declared.command.Call.TheVariants.{Piece}
 use Rattle.pcm_base.specs.declared.answer.Reply.{Reply}
+use Rattle.pcm_base.specs.declared.answer.Reply.TheVariants.{Done}
 use Rattle.pcm_base.specs.declared.refusal.Refusal.{Refusal}
 use Rattle.pcm_base.specs.declared.entry.SoundMove.{SoundMove}
 use Rattle.pcm_base.specs.declared.entry.Entry.{Entry}
 use Rattle.pcm_base.specs.Counters.{commits_of}
 use Rattle.pcm_base.specs.Form.{IsCallInForm}
+use Rattle.pcm_base.specs.Recordings.{pieces_of}
 use Rattle.pcm_base.specs.Run.{CarriesOut, Run, Step, result_of}
 use Rattle.pcm_base.specs.Studio.{Studio, fresh}
 use Rattle.model_laws.specs.Bounds.{IsBlockSize, IsBoundedStudio, IsDepth}
@@ -39,6 +42,24 @@ abbrev pub CommitsAreCounted : Type 0
 CommitsAreCounted =
     (t u : Studio) (c : Call) (sound : SoundMove) (r : Reply) → Step t c sound r u →
     u.state.commit ≡ t.state.commit + commits_made c (result_of r)
+
+-- pieces of a recording that were carried out, as entries
+abbrev pub pieces_done : (actor track tag : ℕ) → SoundMove → List (List ℤ) → List Entry
+pieces_done actor track tag sound [] = []
+pieces_done actor track tag sound (samples ∷ more) = record {
+  actor = actor;
+  call = Piece track tag samples;
+  reply = Done;
+  sound = sound;
+} ∷ pieces_done actor track tag sound more
+
+-- Samples of a recording that come at once are their pieces, one after another: from the same studio to the same one,
+-- its next block and the end of its journal too.
+abbrev pub BatchesArePieces : Type 0
+BatchesArePieces =
+    (t u : Studio) (actor track tag : ℕ) (samples : List ℤ) (sound : SoundMove) (r : Reply) → IsBoundedStudio t →
+    1 ≤ tag → CarriesOut t (Piece track tag samples) sound r u →
+    Run t (pieces_done actor track tag sound (pieces_of samples)) u
 
 -- entries behind so many commits, each call in form where it is asked
 abbrev pub AreInForm : ℕ → List Entry → Type 0

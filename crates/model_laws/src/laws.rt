@@ -1,6 +1,6 @@
 // The bounds, from the fresh studio on.
 ghost use Rattle.model_laws.specs.Laws.{CarryingOutIsBounded, CommitsAreCounted, FreshIsBounded, ReachedIsBounded};
-ghost use Rattle.model_laws.specs.Laws.{RunsAreBounded, StepsAreBounded};
+ghost use Rattle.model_laws.specs.Laws.{BatchesArePieces, RunsAreBounded, StepsAreBounded};
 
 /// The fresh studio is within the bounds, where its rate, block size and depth are within theirs.
 pub fn fresh_is_bounded()
@@ -30,4 +30,9 @@ pub fn runs_are_bounded()
 /// Any studio that such a run reaches from a fresh one is within the bounds.
 pub fn reached_is_bounded()
     ensures { ReachedIsBounded }
+{}
+
+/// Samples of a recording that come at once are a run of their pieces, one after another.
+pub fn batches_are_pieces()
+    ensures { BatchesArePieces }
 {}

@@ -8,6 +8,6 @@
 mod laws;
 
 pub use laws::{
-    carrying_out_is_bounded, commits_are_counted, fresh_is_bounded, runs_are_bounded,
-    steps_are_bounded,
+    batches_are_pieces, carrying_out_is_bounded, commits_are_counted, fresh_is_bounded,
+    runs_are_bounded, steps_are_bounded,
 };

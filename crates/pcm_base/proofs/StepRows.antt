@@ -14,6 +14,7 @@ use Rattle.pcm_base.specs.declared.wav.WavFault.TheVariants.{Truncated, BadBits}
 use Rattle.pcm_base.specs.Cells.{cells_at}
 use Rattle.pcm_base.specs.Counters.{counter_tests}
 use Rattle.pcm_base.specs.Outside.{Outside}
+use Rattle.pcm_base.specs.Recordings.{pieces_in}
 use Rattle.pcm_base.specs.Refusals.{own_tests, call_tests}
 use Rattle.pcm_base.specs.Run.{packed, refusal_of}
 use Rattle.pcm_base.specs.State.{State, new_state, current}
@@ -134,6 +135,11 @@ recorded_twice = after nowhere (after nowhere with_five (call.Piece 1 7 (pos 8 �
 one_point : (recorded_twice.history.cursor ≡ 3) × (recorded_twice.commit ≡ 4)
     × (current (behind recorded_twice command.Undo) ≡ current with_five)
 one_point = record { 0 = refl; 1 = refl; 2 = refl }
+
+-- samples that come at once are a piece for each 256, and each is a commit
+pieces_counted : (pieces_in 0 ∷ pieces_in 1 ∷ pieces_in 256 ∷ pieces_in 257 ∷ pieces_in 16384 ∷ [])
+    ≡ 1 ∷ 1 ∷ 1 ∷ 2 ∷ 64 ∷ []
+pieces_counted = refl
 
 -- a studio that was stopped lets pins go, and does nothing else
 abbrev stopped : Studio

@@ -7,7 +7,7 @@ use Rattle.pcm_base.specs.declared.command.Command.{Command}
 use Rattle.pcm_base.specs.declared.command.Call.{Call}
 use Rattle.pcm_base.specs.declared.command.Call.TheVariants as call
 use Rattle.pcm_base.specs.declared.limits.TheConstants.{MAX_GAIN, MAX_RAMP}
-use Rattle.pcm_base.specs.declared.chunk.TheConstants.{CHUNK_SAMPLES}
+use Rattle.pcm_base.specs.declared.chunk.TheConstants.{BATCH_SAMPLES}
 use Rattle.pcm_base.specs.Shape.{Shape, NewTrack, DropTrack, SetTrack, PutIn, EditRange, CutRun, CopyRun, PasteRun}
 use Rattle.pcm_base.specs.Shape.{MoveTo, Purge, Look, Reclaim, Compact, Import, Export, Source, Given, Ramp, View}
 use Rattle.pcm_base.specs.Shape.{Cells, Frames, Columns, Tracks, shape_of, gain_of_setting, gain_of_edit}
@@ -88,10 +88,10 @@ IsShapeInForm (Export name) = IsName name
 abbrev pub IsInForm : Command → Type 0
 IsInForm c = IsShapeInForm (shape_of c)
 
--- A call, where so many commits were made: a recording is numbered by one of them, and its pieces are short.
+-- A call, where so many commits were made: a recording is numbered by one of them, and few samples of it come at once.
 abbrev pub IsCallInForm : ℕ → Call → Type 0
 IsCallInForm commit (call.Line c) = IsInForm c
-IsCallInForm commit (call.Piece track tag samples) = (1 ≤ tag) × (tag ≤ commit) × (length samples ≤ CHUNK_SAMPLES)
+IsCallInForm commit (call.Piece track tag samples) = (1 ≤ tag) × (tag ≤ commit) × (length samples ≤ BATCH_SAMPLES)
 IsCallInForm commit call.Pin = Unit {0}
 IsCallInForm commit (call.PinLen pin) = Unit {0}
 IsCallInForm commit (call.ReadPin pin from count) = Unit {0}

@@ -17,6 +17,7 @@ use Rattle.pcm_base.specs.Edits.{as_cells, part, range_of, inserted, range_edite
 use Rattle.pcm_base.specs.Edits.{with_setting}
 use Rattle.pcm_base.specs.History.{History, edited, recorded, at_cursor, purged}
 use Rattle.pcm_base.specs.Mix.{mix_of, mix_length}
+use Rattle.pcm_base.specs.Recordings.{pieces_in}
 use Rattle.pcm_base.specs.Wave.{Sound, wav_of, wav_text}
 use Rattle.pcm_base.specs.Outside.{Outside}
 use Rattle.pcm_base.specs.Envelope.{columns_of}
@@ -161,11 +162,11 @@ with_pin number p pins n = if n == number then Some p else pins n
 abbrev pub without_pin : ℕ → (ℕ → Option Project) → ℕ → Option Project
 without_pin number pins n = if n == number then None else pins n
 
--- samples of a recording at the end of a track
+-- samples of a recording at the end of a track: a commit for each of their pieces
 abbrev pub with_piece : State → ℕ → ℕ → List ℤ → State
 with_piece s track tag samples = record s {
   history = recorded s.history (edited_at track (λ cells. trimmed (cells ++ as_cells samples)) (current s)) tag;
-  commit = s.commit + 1;
+  commit = s.commit + pieces_in (length samples);
 }
 
 -- the state after a call

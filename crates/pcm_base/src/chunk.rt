@@ -7,6 +7,9 @@ use std::marker::Model;
 /// How many samples a chunk has at most.
 pub const CHUNK_SAMPLES: usize = 256;
 
+/// How many samples of a recording one call adds to a track at most: those of 64 chunks.
+pub const BATCH_SAMPLES: usize = 16_384;
+
 /// Up to 256 samples of 16 bits with their chunk's number in a recording, counted from 0. A chunk with no samples is
 /// the end mark. Contracts see the number and the list of the samples.
 #[derive(Clone, Copy)]

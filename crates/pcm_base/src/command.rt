@@ -179,7 +179,8 @@ pub enum Call {
     Line {
         command: Command,
     },
-    /// The next samples of a recording, at most 256, at the end of a track. The tag is the recording's number.
+    /// The next samples of a recording, at most 16,384, at the end of a track. They are as many pieces as they have
+    /// parts of 256 samples, the last part shorter, and each piece is a commit. The tag is the recording's number.
     Piece {
         track: u64,
         tag: u64,

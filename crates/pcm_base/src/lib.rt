@@ -25,7 +25,7 @@ mod wav;
 pub use answer::{Answer, Reply};
 pub use arithmetic::{clamped, isqrt, scaled};
 pub use block::BlockRef;
-pub use chunk::{CHUNK_SAMPLES, Chunk};
+pub use chunk::{BATCH_SAMPLES, CHUNK_SAMPLES, Chunk};
 pub use command::{Call, Command};
 pub use edits::{Placing, RangeEdit, Removing};
 pub use entry::{Entry, Event, SoundMove};

@@ -6,6 +6,7 @@ mod Changes
 mod Gates
 mod Logs
 mod Adds
+pub mod Together
 pub mod Seen
 pub mod Packed
 pub mod Texts

@@ -102,8 +102,8 @@ pub fn append_small<S: Store>(
 }
 
 // The place of the gate after a record with a body of this many bytes.
-fn next_gate(at: u64, len: usize) -> Result<u64, JournalFault>
-    requires { len < 2 ^ 32 }
+pub(crate) fn next_gate(at: u64, len: usize) -> Result<u64, JournalFault>
+    requires { len < 2 ^ 63 }
     ensures ok { IfOk result (λ next. (next ≡ at + 5 + len) × (next + 1 ≤ COUNTER_LIMIT)) }
     ensures err { IfErr result (λ e. (e ≡ JournalFault.SpaceSpent at (6 + len)) × (COUNTER_LIMIT < at + (6 + len))) }
 {

@@ -19,6 +19,7 @@ pub mod KeptOnce
 pub mod Unpacked
 pub mod NewProjects
 pub mod Leading
+pub mod Batched
 pub mod Meanings
 pub mod MeantHistories
 pub mod Commons

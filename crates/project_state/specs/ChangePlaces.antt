@@ -2,6 +2,7 @@
 use Rattle.std.specs.Prelude.{ℕ, zero, suc, ◌+◌, ◌-◌, ◌*◌, ◌≤◌, ◌==◌, nat_le, List, [], ◌∷◌, ◌++◌, length, slice_index}
 use Rattle.std.specs.Prelude.{if◌then◌else◌, Option}
 use Rattle.project_journal.specs.Fields.{field}
+use Rattle.project_state.specs.declared.kinds.TheConstants.{UNDO_KIND, REDO_KIND, PURGE_KIND, DELTA_KIND}
 use Rattle.project_state.specs.declared.track.Track.{Track}
 use Rattle.project_state.specs.Changes.{Change, Same, Whole, Tail, changed}
 use Rattle.project_state.specs.Places.{blocks_at, clip_count, track_at, track_size, track_count}
@@ -71,10 +72,10 @@ delta_widths bytes = 1 ∷ 8 ∷ 8 ∷ 8 ∷ 4 ∷ all_told_widths (track_count 
 abbrev pub asked_delta : List ℕ → ℕ
 asked_delta [] = 1
 asked_delta (kind ∷ rest) =
-    if kind == 5 then reach (length (kind ∷ rest)) 0 (delta_widths (kind ∷ rest))
-    else if kind == 2 then 1
-    else if kind == 3 then 1
-    else if kind == 4 then 9
+    if kind == DELTA_KIND then reach (length (kind ∷ rest)) 0 (delta_widths (kind ∷ rest))
+    else if kind == UNDO_KIND then 1
+    else if kind == REDO_KIND then 1
+    else if kind == PURGE_KIND then 9
     else length (kind ∷ rest)
 
 -- the tracks have their bytes, up to one whose mark is not known

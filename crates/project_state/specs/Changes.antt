@@ -10,6 +10,7 @@ use Rattle.clip_track.specs.declared.clips.Clip.{Clip}
 use Rattle.project_state.specs.declared.track.Track.{Track}
 use Rattle.project_state.specs.declared.body.Body.{Body}
 use Rattle.project_state.specs.declared.body.Body.TheVariants.{Edit, Undo, Redo, Purge}
+use Rattle.project_state.specs.declared.kinds.TheConstants.{DELTA_KIND}
 use Rattle.project_state.specs.Spelling.{block_bytes, clip_bytes, side_byte, mute_byte, spelling}
 use Rattle.project_state.specs.Tracks.{track_of}
 
@@ -117,10 +118,11 @@ told_bytes current t = little_bytes 8 t.id ++ change_bytes (change_of (track_of 
 abbrev pub delta_bytes : List Track → List Track → List ℕ
 delta_bytes current ts = little_bytes 4 (length ts) ++ flat_map (told_bytes current) ts
 
--- the spelling of a body by the current point: of an edit as kind 5
+-- the spelling of a body by the current point: an edit has a kind of its own
 abbrev pub delta_spelling : List Track → Body → List ℕ
 delta_spelling current (Edit tag next_block next_track point) =
-    5 ∷ (little_bytes 8 tag ++ (little_bytes 8 next_block ++ (little_bytes 8 next_track ++ delta_bytes current point)))
+    DELTA_KIND ∷ (little_bytes 8 tag
+    ++ (little_bytes 8 next_block ++ (little_bytes 8 next_track ++ delta_bytes current point)))
 delta_spelling current Undo = spelling Undo
 delta_spelling current Redo = spelling Redo
 delta_spelling current (Purge n) = spelling (Purge n)

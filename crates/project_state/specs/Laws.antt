@@ -1,10 +1,12 @@
 -- What is proved of the definitions themselves.
-use Rattle.std.specs.Prelude.{◌≡◌, ◌-◌, ◌<◌, ◌≤◌, ◌^◌, ℕ, List, length, Option, Some, None, slice_index}
+use Rattle.std.specs.Prelude.{◌≡◌, ◌+◌, ◌-◌, ◌<◌, ◌≤◌, ◌^◌, ℕ, List, length, Option, Some, None, slice_index}
 use Rattle.pcm_base.specs.declared.block.BlockRef.{BlockRef}
 use Rattle.project_state.specs.declared.track.Track.{Track}
 use Rattle.project_journal.specs.Header.{first_failed}
 use Rattle.project_state.specs.declared.body.Body.{Body}
+use Rattle.project_state.specs.declared.body.Body.TheVariants.{Edit}
 use Rattle.project_state.specs.declared.limits.Before.{Before}
+use Rattle.project_state.specs.Batches.{after_bodies, bodies_in}
 use Rattle.project_state.specs.Changes.{Same, change_of, changed, common, delta_spelling, last_blocks, tailed}
 use Rattle.project_state.specs.ChangeTests.{delta_tests}
 use Rattle.project_state.specs.DeltaBodies.{SaysBody}
@@ -77,3 +79,15 @@ PassedIsNext =
     → IsSoundPoint m k.next_block k.next_track (current_tracks k.history)
     → first_failed (delta_tests m (before_of k) (current_tracks k.history) bytes) ≡ None
     → SaysBody (current_tracks k.history) bytes body → MayFollow k.history body → IsNextTold m k bytes body
+
+-- Records that come together, all but the last of which say the current point under the last one's tag, lead to the
+-- last one's point, and are as many commits.
+abbrev pub BatchesLead : Type 0
+BatchesLead =
+    (version m more : ℕ) (k : Kept) (tag next_block next_track : ℕ) (point : List Track) → 1 ≤ version → version ≤ 2
+    → 4 ≤ m → m < 2 ^ 32 → 1 ≤ k.history.depth → 1 ≤ tag → k.commit + more < COUNTER_LIMIT
+    → HasShortEnds (current_tracks k.history)
+    → IsSound m (before_of k) (Edit tag next_block next_track (current_tracks k.history))
+    → IsSound m (before_of k) (Edit tag next_block next_track point)
+    → LeadIn version m k (bodies_in version (current_tracks k.history) more (Edit tag next_block next_track point))
+    (after_bodies k more (Edit tag next_block next_track point))

@@ -4,6 +4,7 @@ ghost use Rattle.project_state.specs.ChangePlaces as there;
 ghost use Rattle.project_state.specs.Places.{clip_count};
 ghost use Rattle.project_state.specs.Widths.{blocks_widths, clips_widths, Reaches};
 
+use super::kinds::{DELTA_KIND, PURGE_KIND, REDO_KIND, UNDO_KIND};
 use super::measuring::{PastEnd, fit_all, fit_blocks, fit_clips};
 use project_journal::u32_at;
 
@@ -80,12 +81,12 @@ pub(crate) fn asked_delta_len(bytes: &[u8]) -> usize
         return 1;
     }
     match bytes[0] {
-        5 => match fit_delta(bytes) {
+        DELTA_KIND => match fit_delta(bytes) {
             Ok(end) => end,
             Err(past) => past.end,
         },
-        2 | 3 => 1,
-        4 => 9,
+        UNDO_KIND | REDO_KIND => 1,
+        PURGE_KIND => 9,
         _ => bytes.len(),
     }
 }

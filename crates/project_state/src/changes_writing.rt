@@ -5,12 +5,14 @@ ghost use Rattle.std.specs.List.{flat_map};
 ghost use Rattle.byteorder.specs.Endian.{little_bytes};
 ghost use Rattle.project_state.specs.Changes as change;
 ghost use Rattle.project_state.specs.Choices.{change_by, LiesWithin};
+ghost use Rattle.project_state.specs.declared.kinds.TheConstants.{DELTA_KIND};
 ghost use Rattle.project_state.specs.Lengths.{told_tracks};
 ghost use Rattle.project_state.specs.Spelling.{block_bytes, side_byte, mute_byte, spelling};
 ghost use Rattle.project_state.specs.Tracks.{track_of};
 
 use super::body::Body;
 use super::changes::{Choice, choice_of, last_blocks, side_number};
+use super::kinds::DELTA_KIND;
 use super::point::Point;
 use super::track::Track;
 use super::writing::{
@@ -163,12 +165,12 @@ fn write_edit_by(
     out: &mut [u8],
 )
     requires { length out.old ≡ 25 + length (change.delta_bytes current.now point.now) }
-    ensures { out.new ≡ 5 ∷ (little_bytes 8 tag
+    ensures { out.new ≡ DELTA_KIND ∷ (little_bytes 8 tag
         ++ (little_bytes 8 next_block ++ (little_bytes 8 next_track ++ change.delta_bytes current.now point.now))) }
 {
     write_numbers(tag, next_block, next_track, &mut out[1..25]);
     write_delta(current, point, &mut out[25..]);
-    out[0] = 5;
+    out[0] = DELTA_KIND;
 }
 
 /// How many bytes the body has by the current point.

@@ -1,6 +1,6 @@
 // Laws, each the contract of a function that does nothing.
 ghost use Rattle.project_state.specs.Laws.{KeepsOne, PackedIsKept, ChoiceTellsTheTrack, SameStays, FewestGo, WrittenIsRead};
-ghost use Rattle.project_state.specs.Laws.{PassedIsNext};
+ghost use Rattle.project_state.specs.Laws.{BatchesLead, PassedIsNext};
 
 /// A disk keeps one project at most.
 pub fn disks_keep_one_project()
@@ -28,4 +28,10 @@ pub fn what_is_written_is_read()
 /// What bytes say by a valid point may come next, where they pass their tests and the history has room for it.
 pub fn what_passes_may_come_next()
     ensures { PassedIsNext }
+{}
+
+/// Records of pieces that come together, all but the last of which say the current point, lead to the point of the
+/// last.
+pub fn batches_lead()
+    ensures { BatchesLead }
 {}

@@ -14,6 +14,7 @@ mod changes_measuring;
 mod changes_reading;
 mod changes_writing;
 mod delta_reading;
+mod kinds;
 mod laws;
 mod limits;
 mod measuring;
@@ -28,9 +29,10 @@ mod writing;
 pub use body::Body;
 pub use changes_writing::{delta_len, write_delta_body};
 pub use delta_reading::read_delta_body;
+pub use kinds::{DELTA_KIND, EDIT_KIND, PURGE_KIND, REDO_KIND, UNDO_KIND};
 pub use laws::{
-    a_packed_journal_keeps_its_project, disks_keep_one_project, the_writer_tells_each_track,
-    what_is_written_is_read, what_passes_may_come_next,
+    a_packed_journal_keeps_its_project, batches_lead, disks_keep_one_project,
+    the_writer_tells_each_track, what_is_written_is_read, what_passes_may_come_next,
 };
 pub use limits::{BadBody, Before};
 pub use point::Point;

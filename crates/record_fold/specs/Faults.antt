@@ -10,6 +10,7 @@ use Rattle.project_journal.specs.Journal.{Contents}
 use Rattle.project_state.specs.declared.track.Track.{Track}
 use Rattle.project_state.specs.declared.body.Body.{Body}
 use Rattle.project_state.specs.declared.body.Body.TheVariants.{Edit, Undo, Redo, Purge}
+use Rattle.project_state.specs.declared.kinds.TheConstants.{UNDO_KIND, REDO_KIND, DELTA_KIND}
 use Rattle.project_state.specs.declared.limits.Before.{Before}
 use Rattle.project_state.specs.ChangePlaces.{all_told_at}
 use Rattle.project_state.specs.ChangeTests.{delta_tests}
@@ -30,10 +31,10 @@ known (Some t ∷ ts) = t ∷ known ts
 -- what a body's bytes say by the current point
 abbrev pub told_body : List Track → List ℕ → Body
 told_body current bytes =
-    if slice_index bytes 0 == 5 then Edit (field 1 8 bytes) (field 9 8 bytes) (field 17 8 bytes)
+    if slice_index bytes 0 == DELTA_KIND then Edit (field 1 8 bytes) (field 9 8 bytes) (field 17 8 bytes)
     (known (all_told_at current (track_count bytes) 29 bytes))
-    else if slice_index bytes 0 == 2 then Undo
-    else if slice_index bytes 0 == 3 then Redo
+    else if slice_index bytes 0 == UNDO_KIND then Undo
+    else if slice_index bytes 0 == REDO_KIND then Redo
     else Purge (field 1 8 bytes)
 
 -- in a journal of this version, 1 or else 2

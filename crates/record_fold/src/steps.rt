@@ -1,6 +1,6 @@
 // What one record makes of a project.
 ghost use Rattle.std.specs.Prelude.{◌≡◌, ◌+◌, ◌-◌, ◌<◌, ◌^◌, ◌∷◌, [], OnOk};
-ghost use Rattle.pcm_base.specs.History.{at_cursor, purged, recorded};
+ghost use Rattle.pcm_base.specs.History.{at_cursor, purged};
 ghost use Rattle.project_state.specs.declared.body.Body.TheVariants as body;
 ghost use Rattle.project_state.specs.FirstFault.{Finds, least};
 ghost use Rattle.project_state.specs.Kept.{after_body};
@@ -13,20 +13,6 @@ use pcm_base::NoMemory;
 use project_journal::Damaged;
 use project_state::{BadBody, Body, Point};
 use undo_history::History;
-
-/// A further piece of the recording that the current point's tag tells goes into that point; all else is a new point.
-fn record_point(history: &mut History<Point>, point: Point, tag: u64) -> Result<(), NoMemory>
-    ensures { OnOk result (history.new.history ≡ recorded history.old.history point tag) }
-{
-    if tag != 0 && history.tag(history.cursor()) == tag {
-        history.amend(point);
-        return Ok(());
-    }
-    match history.push(point, tag) {
-        Ok(()) => Ok(()),
-        Err(_) => Err(NoMemory),
-    }
-}
 
 /// The history has nowhere to go, which is reported at the record's kind.
 fn nowhere(at: u64) -> BadBody
@@ -102,7 +88,9 @@ fn take_edit(
     ensures { OnOk result (kept_of project.new
         ≡ after_body (kept_of project.old) (body.Edit tag next_block next_track point)) }
 {
-    record_point(&mut project.history, point, tag)?;
+    if project.history.record(point, tag).is_err() {
+        return Err(NoMemory);
+    }
     project.next_block = next_block;
     project.next_track = next_track;
     project.commit += 1;

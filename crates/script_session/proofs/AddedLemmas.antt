@@ -1,6 +1,6 @@
 -- What a script adds to the list of a desk, line by line.
-use Rattle.std.proofs.Common.{◌≡◌, inl, inr, ℕ, if◌then◌else◌, Bool, true, false, IsTrue, List, [], ◌∷◌, ◌++◌}
-use Rattle.std.proofs.Common.{Result, Ok, Err, IfErr, Option, Some, None, IsSome, ◌≤◌, refl, sym, ◌∙◌, ap, subst}
+use Rattle.std.proofs.Common.{◌≡◌, inl, inr, ℕ, ◌+◌, nat_lt, if◌then◌else◌, Bool, true, false, IsTrue, List, [], ◌∷◌}
+use Rattle.std.proofs.Common.{◌++◌, Result, Ok, Err, IfErr, Option, Some, None, IsSome, ◌≤◌, refl, sym, ◌∙◌, ap, subst}
 use Rattle.std.proofs.Common.{append_assoc, eq-eqb, arith}
 use Rattle.std.specs.Prelude.{MatchBool}
 use Rattle.std.proofs.lemmas.List.{append-nil}
@@ -13,20 +13,22 @@ use Rattle.pcm_base.specs.declared.entry.SoundMove.{SoundMove}
 use Rattle.pcm_base.specs.declared.refusal.Refusal.{Refusal}
 use Rattle.pcm_base.specs.Outside.{Sounds}
 use Rattle.pcm_base.specs.declared.refusal.Refusal.TheVariants as refusal
+use Rattle.pcm_base.specs.Arithmetic.{counted_from}
 use Rattle.pcm_base.specs.Causes.{Rose}
 use Rattle.pcm_base.specs.Run.{Follows, name_in_line}
+use Rattle.pcm_base.specs.Shape.{is_commit, shape_of}
 use Rattle.pin_turn.specs.Counts.{Each}
 use Rattle.pin_turn.proofs.Sums.{Each-append}
 use Rattle.editor_core.specs.Imports.{IsNoVault, VaultCountedBy}
 use Rattle.script_text.specs.Grammar.{is_silent, line_of}
 use Rattle.studio_seats.specs.declared.deed.Deed.{Deed}
-use Rattle.studio_seats.specs.Deeds.{commits, deed, entries_of, number_after, raised}
-use Rattle.studio_seats.specs.Merge.{by_seat, deeds_of, numbers_of, number_if}
+use Rattle.studio_seats.specs.Deeds.{commits, deed, entries_of, number_after}
+use Rattle.studio_seats.specs.Merge.{by_seat, deeds_of, numbers_of}
 use Rattle.studio_seats.proofs.FaultLemmas.{rose_first, rose_last}
 use Rattle.studio_seats.proofs.Grown.{entries_append, number_append}
 use Rattle.studio_seats.proofs.MergeLemmas.{deeds_append, deeds_others, numbers_append, numbers_others}
 use Rattle.script_session.specs.Added.{Adds, SessionsAdd, SparesVault}
-use Rattle.script_session.specs.Place.{CountsFaults, Enters, Place, line_deed, seen_after}
+use Rattle.script_session.specs.Place.{CountsFaults, Enters, Place, line_deed, made_commit, seen_after}
 use Rattle.script_session.specs.Session.{Next, Session, Turn}
 
 -- the sounds of one list of entries, and then of another
@@ -39,13 +41,23 @@ own_deed : (seat : ℕ) (c : Command) (what : Result Reply Refusal) (sound : Sou
 own_deed seat c what sound =
     ap (λ (b : Bool). (if b then deed seat (Line c) what sound ∷ [] else []) ++ []) (eq-eqb seat seat refl)
 
+-- a line is one commit or none
+one_or_none : (b : Bool) (n : ℕ) → counted_from (n + 1) (if b then 1 else 0)
+    ≡ (if nat_lt 0 (if b then 1 else 0) then (n + (if b then 1 else 0)) ∷ [] else [])
+one_or_none true n = refl
+one_or_none false n = refl
+
+line_number : (n : ℕ) (c : Command) (what : Result Reply Refusal) → counted_from (n + 1) (commits what (Line c))
+    ≡ (if made_commit what c then (n + commits what (Line c)) ∷ [] else [])
+line_number n c (Ok r) = one_or_none (is_commit (shape_of c)) n
+line_number n c (Err why) = refl
+
 own_number : (seat n : ℕ) (c : Command) (what : Result Reply Refusal) (sound : SoundMove)
     → numbers_of (by_seat seat) n (deed seat (Line c) what sound ∷ [])
-    ≡ (if commits what (Line c) then number_after n (deed seat (Line c) what sound ∷ []) ∷ [] else [])
+    ≡ (if made_commit what c then number_after n (deed seat (Line c) what sound ∷ []) ∷ [] else [])
 own_number seat n c what sound =
-    ap (λ (b : Bool). number_if b (commits what (Line c)) (raised (commits what (Line c)) n) ++ [])
-    (eq-eqb seat seat refl)
-    ∙ append-nil (if commits what (Line c) then raised (commits what (Line c)) n ∷ [] else [])
+    ap (λ (b : Bool). (if b then counted_from (n + 1) (commits what (Line c)) else []) ++ []) (eq-eqb seat seat refl)
+    ∙ (append-nil (counted_from (n + 1) (commits what (Line c))) ∙ line_number n c what)
 
 -- ---- the count of a vault's faults
 
@@ -107,7 +119,7 @@ module _ (p q : Place) (c : Command) (r : Reply) (h : Enters p c r q) where
       ∙ (λ i. deeds_others p.seat h.between h.by_others i ++ own_deed p.seat c h.what e.sound i)
 
   numbers_are : numbers_of (by_seat p.seat) n (h.between ++ e ∷ [])
-      ≡ (if commits h.what (Line c) then number_after (number_after n h.between) (e ∷ []) ∷ [] else [])
+      ≡ (if made_commit h.what c then number_after (number_after n h.between) (e ∷ []) ∷ [] else [])
   numbers_are = numbers_append (by_seat p.seat) n h.between (e ∷ [])
       ∙ (λ i. numbers_others p.seat n h.between h.by_others i
       ++ own_number p.seat (number_after n h.between) c h.what e.sound i)
@@ -125,7 +137,7 @@ module _ (p q : Place) (c : Command) (r : Reply) (h : Enters p c r q) where
     first = ap (λ (z : Place). z.first) h.after;
     tells = ap (λ (z : Place). z.tells) h.after;
     numbers = ap (λ (z : Place). z.commits) h.after ∙ ap (λ (l : List ℕ). p.commits ++ l)
-        (ap (λ (m : ℕ). if commits h.what (Line c) then m ∷ [] else []) told_at ∙ sym numbers_are);
+        (ap (λ (m : ℕ). if made_commit h.what c then m ∷ [] else []) told_at ∙ sym numbers_are);
     sounds = λ told. subst (λ (l : List Deed). Follows p.sounds (entries_of l) q.sounds) (sym own_is)
         (q.sounds, h.heard (λ _. told), refl);
     faults = later (name_in_line c) h.what p.faults q.faults h.counted;

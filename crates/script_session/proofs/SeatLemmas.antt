@@ -21,11 +21,11 @@ use Rattle.editor_core.specs.Imports.{VaultCounted}
 use Rattle.editor_core.specs.Took.{told_by}
 use Rattle.studio_seats.specs.declared.deed.Deed.{Deed}
 use Rattle.studio_seats.specs.declared.held.Held.{Held}
-use Rattle.studio_seats.specs.Deeds.{commits, deed, number_after}
+use Rattle.studio_seats.specs.Deeds.{deed, number_after}
 use Rattle.studio_seats.specs.Desks.{Says, Spends, Turned, asked, spent, views}
 use Rattle.studio_seats.specs.Stands.{origin}
 use Rattle.studio_seats.proofs.Turns.{number_on, said_number, turned_number}
-use Rattle.script_session.specs.Place.{CountsFaults, Enters, place_of, with_number}
+use Rattle.script_session.specs.Place.{CountsFaults, Enters, made_commit, place_of, with_number}
 use Rattle.script_session.specs.Session.{Turn}
 
 module _ {D V : Type 0} (disk : Ghosts D) (vaults : vault.Ghosts V) (start : Core D) where
@@ -78,7 +78,7 @@ module _ {D V : Type 0} (disk : Ghosts D) (vaults : vault.Ghosts V) (start : Cor
     enters : (what : Result Reply Refusal) (at last : ℕ) (numbers numbers' : List ℕ)
         → Turned (origin disk vaults start) (asked (Line c) what sound) at (views v w)
         → last ≤ number_after start.commit_number v.seen
-        → numbers' ≡ with_number (commits what (Line c)) numbers at
+        → numbers' ≡ with_number (made_commit what c) numbers at
         → (IsTold (Line c) tells → Heard (name_in_line c) sound before after)
         → CountsFaults (name_in_line c) what old new
         → Enters (place_of start v last numbers tells before old) c (reply_of what)
@@ -89,8 +89,8 @@ module _ {D V : Type 0} (disk : Ghosts D) (vaults : vault.Ghosts V) (start : Cor
         let up = number_up v w (Line c) what sound at last h low in
         let same : max last at ≡ at = omega (arith, up) in
         let told : max last at ≡ n = same ∙ is in
-        let list : numbers' ≡ with_number (commits what (Line c)) numbers n =
-        listed ∙ ap (λ (m : ℕ). with_number (commits what (Line c)) numbers m) is in
+        let list : numbers' ≡ with_number (made_commit what c) numbers n =
+        listed ∙ ap (λ (m : ℕ). with_number (made_commit what c) numbers m) is in
         record {
           unspent = h.unspent;
           between = h.between;
@@ -138,7 +138,7 @@ module _ {D V : Type 0} (disk : Ghosts D) (vaults : vault.Ghosts V) (start : Cor
     pub ok_turn : (r : Reply) (said : Said (Unit {0})) (last : ℕ) (numbers numbers' : List ℕ) → said.what ≡ Ok tt
         → Says (origin disk vaults start) (asked (Line c) (told_by (λ _. r) said.what) sound) said (views v w)
         → last ≤ number_after start.commit_number v.seen
-        → numbers' ≡ with_number (commits (Ok r) (Line c)) numbers said.at
+        → numbers' ≡ with_number (made_commit (Ok r) c) numbers said.at
         → (IsTold (Line c) tells → Heard (name_in_line c) sound before after)
         → (w.used_up ≡ false → IsSome (name_in_line c) → VaultCounted said.what old new)
         → (name_in_line c ≡ None → new ≡ old)

@@ -1,5 +1,6 @@
 -- Where a script stands at a desk.
-use Rattle.std.specs.Prelude.{◌≡◌, ℕ, if◌then◌else◌, Bool, false, List, [], ◌∷◌, ◌++◌, Option, Some, None, Result}
+use Rattle.std.specs.Prelude.{◌≡◌, ℕ, nat_lt, if◌then◌else◌, Bool, false, List, [], ◌∷◌, ◌++◌, Option, Some, None}
+use Rattle.std.specs.Prelude.{Result}
 use Rattle.pcm_base.specs.declared.answer.Reply.{Reply}
 use Rattle.pcm_base.specs.declared.command.Call.TheVariants.{Line}
 use Rattle.pcm_base.specs.declared.command.Command.{Command}
@@ -43,6 +44,10 @@ place_of start v last numbers tells sounds faults = record {
   faults = faults;
 }
 
+-- whether a line that was answered so made a commit
+abbrev pub made_commit : Result Reply Refusal → Command → Bool
+made_commit what c = nat_lt 0 (commits what (Line c))
+
 -- one number more, where it is a commit's
 abbrev pub with_number : Bool → List ℕ → ℕ → List ℕ
 with_number commit numbers n = numbers ++ (if commit then n ∷ [] else [])
@@ -59,7 +64,7 @@ abbrev pub after_turn : Place → List Deed → Command → Result Reply Refusal
 after_turn p between c what sounds faults = record p {
   seen = seen_after p between c what sounds;
   last = number_after p.first (seen_after p between c what sounds);
-  commits = with_number (commits what (Line c)) p.commits (number_after p.first (seen_after p between c what sounds));
+  commits = with_number (made_commit what c) p.commits (number_after p.first (seen_after p between c what sounds));
   sounds = sounds;
   faults = faults;
 }

@@ -142,12 +142,3 @@ pub fn write_last<O: Sink>(
     put_end(&mut text, out, commit);
     text.finish(out)
 }
-
-/// Writes the last line of a session that neither recorded nor played. After a fault a part of it, from its front, is
-/// written.
-pub fn write_end<O: Sink>(out: &mut O, commit: u64) -> Result<(), Failed>
-    ensures bytes { Writes result (O.written out.old) (O.written out.new) (end_text commit) }
-    ensures cause { HasCause (O.fault_count out.old) (O.fault_count out.new) result }
-{
-    write_last(out, None, None, commit)
-}

@@ -28,7 +28,7 @@ mod tracks;
 mod words;
 
 pub use call_fault::{CallFault, write_refused};
-pub use last::{PlayEnd, PlayLine, RecordEnd, RecordLine, write_end, write_last};
+pub use last::{PlayEnd, PlayLine, RecordEnd, RecordLine, write_last};
 pub use parsing::{MAX_LINE, parse};
 use pcm_base::Refusal;
 pub use project::{ProjectLines, write_checked, write_made, write_project};

@@ -1,6 +1,7 @@
 -- What the calls of a seat tell it.
-use Rattle.std.proofs.Common.{◌≡◌, ⊎_elim, ℕ, ◌+◌, ◌≤◌, Bool, IsTrue, List, [], ◌∷◌, ◌++◌, length, Result, Ok, Err}
-use Rattle.std.proofs.Common.{refl, sym, ap, ◌∙◌, subst, arith, eq-eqb, length-append}
+use Rattle.std.proofs.Common.{◌≡◌, ⊎_elim, ℕ, suc, ◌+◌, ◌-◌, ◌≤◌, ℤ, IsTrue, List, [], ◌∷◌, ◌++◌, length, take, Result}
+use Rattle.std.proofs.Common.{Ok, Err, refl, sym, ap, ◌∙◌, subst, arith, length-append}
+use Rattle.std.proofs.lemmas.List.{length-take-le}
 use Rattle.std.specs.Prelude.{IfOk, OnOk}
 use Rattle.pcm_base.specs.declared.answer.Reply.{Reply}
 use Rattle.pcm_base.specs.declared.command.Call.{Call}
@@ -9,13 +10,15 @@ use Rattle.pcm_base.specs.declared.refusal.Refusal.{Refusal}
 use Rattle.pcm_base.specs.declared.said.Said.{Said}
 use Rattle.pcm_base.specs.Counters.{commits_of}
 use Rattle.disk_model.specs.declared.store.Store.{Ghosts}
+use Rattle.edit_ports.specs.Answers.{AreTaken, numbered_pieces}
+use Rattle.edit_ports.specs.declared.pieces.Taken.{Taken}
 use Rattle.edit_ports.specs.declared.vault.Vault as vault
 use Rattle.pin_turn.specs.declared.view.View.{View}
 use Rattle.editor_core.specs.Core.{Core}
 use Rattle.editor_core.specs.Took.{told_by}
 use Rattle.studio_seats.specs.declared.deed.Deed.{Deed}
 use Rattle.studio_seats.specs.declared.held.Held.{Held}
-use Rattle.studio_seats.specs.Deeds.{deed, entries_of, number_after, raised}
+use Rattle.studio_seats.specs.Deeds.{deed, entries_of, number_after}
 use Rattle.studio_seats.specs.Desks.{Says, Spends, Turned, asked, views}
 use Rattle.studio_seats.specs.Pins.{is_made}
 use Rattle.studio_seats.specs.Stands.{origin}
@@ -56,8 +59,7 @@ module _ {D V A : Type 0} (disk : Ghosts D) (vaults : vault.Ghosts V) (start : C
       let before = number_after start.commit_number (v.seen ++ h.between) in
       let cut = number_append start.commit_number (v.seen ++ h.between) (d ∷ []) in
       let leads : at ≡ number_after before (d ∷ []) = h.number ∙ turned_number h ∙ cut in
-      let commits = eq-eqb (commits_of call) 1 commit in
-      let one : number_after before (d ∷ []) ≡ before + 1 = ap (λ (b : Bool). raised b before) commits in
+      let one : number_after before (d ∷ []) ≡ before + 1 = ap (λ (k : ℕ). before + k) commit in
       omega (arith, leads, one)
   taken (Err why) at h = tt
 
@@ -89,6 +91,20 @@ module _ {D V A : Type 0} (disk : Ghosts D) (vaults : vault.Ghosts V) (start : C
       on_ok OneMore said.what (omega (arith, more, sum)))
       (λ (x : Spends v said w). subst (λ (r : Result A Refusal). OnOk r OneMore) (sym x.what) tt)
       h
+
+numbered_length : (n : ℕ) (chunks : List (List ℤ)) → length (numbered_pieces n chunks) ≡ length chunks
+numbered_length n [] = refl
+numbered_length n (c ∷ cs) = ap (λ (k : ℕ). suc k) (numbered_length (n + 1) cs)
+
+-- as many pieces more as were taken
+pub taken_more : (old new : List (List ℤ × ℕ)) (chunks : List (List ℤ)) (t : Taken) → AreTaken old chunks new t
+    → length new ≡ length old + t.count
+taken_more old new chunks t h =
+    let all = ap length h.are in
+    let sum = length-append old (numbered_pieces (t.last - t.count) (take t.count chunks)) in
+    let numbered = numbered_length (t.last - t.count) (take t.count chunks) in
+    let front = length-take-le t.count chunks h.few in
+    omega (arith, all, sum, numbered, front)
 
 -- what is told of an answer that is no refusal
 pub told_ok : {A : Type 0} (P : A → Type 0) (r : Result A Refusal) → ((why : Refusal) → r ≡ Err why → ⊥) → IfOk r P

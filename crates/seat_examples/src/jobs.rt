@@ -96,8 +96,8 @@ fn record<R: Wait>(
     let mut taker = DeskTaker::new(desk, seat, track, tag);
     'pieces: for number in 0..turns {
         let samples = [i16::from(number), 1000, 2000];
-        let chunk = Chunk::new(u32::from(number), &samples);
-        if let Err(reason) = taker.take_piece(rt, alloc, &chunk).what {
+        let chunks = [Chunk::new(u32::from(number), &samples)];
+        if let Err(reason) = taker.take_pieces(rt, alloc, &chunks).what {
             return (taker.finish(rt), End::Refused(reason));
         }
     }

@@ -6,6 +6,7 @@ use Rattle.pcm_base.specs.declared.answer.Reply.{Reply}
 use Rattle.pcm_base.specs.declared.answer.Reply.TheVariants as reply
 use Rattle.pcm_base.specs.declared.entry.Entry.{Entry}
 use Rattle.pcm_base.specs.declared.refusal.Refusal.{Refusal}
+use Rattle.pcm_base.specs.Arithmetic.{counted_from}
 use Rattle.pcm_base.specs.Counters.{commits_of}
 use Rattle.pcm_base.specs.Run.{result_of}
 use Rattle.pin_turn.specs.Counts.{Each}
@@ -13,10 +14,10 @@ use Rattle.pin_turn.specs.Rule.{ByOthers}
 use Rattle.editor_core.specs.Applied.{reply_of}
 use Rattle.script_session.specs.Session.{is_refusal}
 use Rattle.studio_seats.specs.declared.deed.Deed.{Deed}
-use Rattle.studio_seats.specs.Deeds.{actor_of, commits, entries_of, entry_of, is_commit, number_after, raised}
-use Rattle.studio_seats.specs.Merge.{by_seat, deeds_of, number_if, numbers_of}
+use Rattle.studio_seats.specs.Deeds.{actor_of, commits, entries_of, entry_of, made, number_after, raised_by}
+use Rattle.studio_seats.specs.Merge.{by_seat, deeds_of, numbers_if, numbers_of}
 use Rattle.studio_seats.proofs.MergeLemmas.{deeds_others}
-use Rattle.session_run.specs.Entries.{entries_by, has_number, last_number, number_of, numbers_by}
+use Rattle.session_run.specs.Entries.{commits_in, entries_by, last_number, number_of, numbers_by}
 
 -- what holds of deeds holds of those of a kind
 pub each_of : (P : Deed → Type 0) (kind : Deed → Bool) (ds : List Deed) → Each P ds → Each P (deeds_of kind ds)
@@ -51,26 +52,22 @@ pub not_refused : (what : Result Reply Refusal) → IsOk what → result_of (rep
 not_refused (Ok r) ok is = plain_reply r is
 not_refused (Err why) ok is = cc
 
-numbered : (d : Deed) → IsPlain d → has_number (entry_of d) ≡ is_commit d
-numbered d is = by d.what is
+made_as : (d : Deed) → IsPlain d → commits_in (entry_of d) ≡ made d
+made_as d is = by d.what is
   where
     by : (what : Result Reply Refusal) → result_of (reply_of what) ≡ what
-        → (if is_refusal (reply_of what) then false else commits_of d.call == 1) ≡ commits what d.call
-    by (Ok r) is = ap (λ (b : Bool). if b then false else commits_of d.call == 1) (plain_reply r is)
+        → (if is_refusal (reply_of what) then 0 else commits_of d.call) ≡ commits what d.call
+    by (Ok r) is = ap (λ (b : Bool). if b then 0 else commits_of d.call) (plain_reply r is)
     by (Err why) is = refl
 
-raised_if : (b : Bool) (n : ℕ) → (if b then n + 1 else n) ≡ raised b n
-raised_if true n = refl
-raised_if false n = refl
-
-number_as : (n : ℕ) (d : Deed) → IsPlain d → number_of n (entry_of d) ≡ raised (is_commit d) n
-number_as n d is = ap (λ (b : Bool). if b then n + 1 else n) (numbered d is) ∙ raised_if (is_commit d) n
+number_as : (n : ℕ) (d : Deed) → IsPlain d → number_of n (entry_of d) ≡ raised_by d n
+number_as n d is = ap (λ (k : ℕ). n + k) (made_as d is)
 
 -- the number to which entries lead is that to which the deeds lead
 pub last_as : (n : ℕ) (ds : List Deed) → Each IsPlain ds → last_number n (entries_of ds) ≡ number_after n ds
 last_as n [] h = refl
 last_as n (d ∷ ds) h =
-    ap (λ (m : ℕ). last_number m (entries_of ds)) (number_as n d h.0) ∙ last_as (raised (is_commit d) n) ds h.1
+    ap (λ (m : ℕ). last_number m (entries_of ds)) (number_as n d h.0) ∙ last_as (raised_by d n) ds h.1
 
 pub entries_length : (ds : List Deed) → length (entries_of ds) ≡ length ds
 entries_length [] = refl
@@ -92,19 +89,12 @@ pub numbers_as : (a n : ℕ) (ds : List Deed) → Each IsPlain ds
     → numbers_by a n (entries_of ds) ≡ numbers_of (by_seat a) n ds
 numbers_as a n [] h = refl
 numbers_as a n (d ∷ ds) h =
-    let m = raised (is_commit d) n in
+    let m = raised_by d n in
     (λ i. one (a == d.actor) i ++ (ap (λ (k : ℕ). numbers_by a k (entries_of ds)) (number_as n d h.0)
     ∙ numbers_as a m ds h.1) i)
   where
-    inner : (b : Bool) (x : ℕ) → (if b then x ∷ [] else []) ≡ number_if true b x
-    inner true x = refl
-    inner false x = refl
-
-    one : (b : Bool)
-        → (if b then (if has_number (entry_of d) then number_of n (entry_of d) ∷ [] else []) else [])
-        ≡ number_if b (is_commit d) (raised (is_commit d) n)
-    one true = (λ i. if numbered d h.0 i then number_as n d h.0 i ∷ [] else [])
-        ∙ inner (is_commit d) (raised (is_commit d) n)
+    one : (b : Bool) → (if b then counted_from (n + 1) (commits_in (entry_of d)) else []) ≡ numbers_if b (made d) n
+    one true = ap (counted_from (n + 1)) (made_as d h.0)
     one false = refl
 
 -- deeds by others are none of its entries

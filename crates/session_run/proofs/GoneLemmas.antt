@@ -38,6 +38,7 @@ module _ {D : Type 0} (disk : Ghosts D) (old new : Core D) (told : Result Reply 
         let block = f.unnamed going held id there in
         ((held.durable going).files id block.least block.most).1 block.file;
   }
+  were_there (call.Line command.Compact) f = none f.0
   were_there c f = none f
 
   first_from : (ids : List ℕ) → ((id : ℕ) → Contains ids id → IsSome (old.counts id)) → AreFrom 16 ids

@@ -45,7 +45,7 @@ pub mixed : (out : Outside) (t : Studio) (c : Call) (blocks len few short : ℕ)
     → Needs out t c few short → Needs out t c blocks short
 mixed out t (call.Line c) blocks len few short a b =
     line_mixed out t (call.Line c) (shape_of c) blocks len few short a b
-mixed out t (call.Piece track tag samples) blocks len few short a b = (a.0, b.1)
+mixed out t (call.Piece track tag samples) blocks len few short a b = (a.0, b.1, b.2)
 mixed out t call.Pin blocks len few short a b = (a.0, b.1)
 mixed out t (call.PinLen pin) blocks len few short a b = (a.0, b.1)
 mixed out t (call.ReadPin pin from count) blocks len few short a b = (a.0, b.1)

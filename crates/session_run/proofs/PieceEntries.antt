@@ -1,17 +1,20 @@
 -- The entries of a recorder: pieces of one recording, in order.
-use Rattle.std.proofs.Common.{◌≡◌, inl, inr, ◌∙◌, refl, sym, ap, subst, ℕ, ◌==◌, ◌&&◌, ◌≤◌, ℤ, if◌then◌else◌, Bool}
-use Rattle.std.proofs.Common.{true, false, List, [], ◌∷◌, ◌++◌, length, take, Result, Ok, Err, append_assoc, arith}
-use Rattle.std.proofs.Common.{eq-eqb}
+use Rattle.std.proofs.Common.{◌≡◌, inl, inr, ◌∙◌, refl, sym, ap, subst, ℕ, ◌+◌, nat_lt, ◌==◌, ◌&&◌, ◌≤◌, ℤ}
+use Rattle.std.proofs.Common.{if◌then◌else◌, Bool, true, false, List, [], ◌∷◌, ◌++◌, length, take, Result, Ok, Err}
+use Rattle.std.proofs.Common.{append_assoc, arith, eq-eqb}
 use Rattle.std.specs.Prelude.{IsOk}
+use Rattle.std.proofs.lemmas.Bool.{lt-ltb}
 use Rattle.std.proofs.lemmas.List.{append-nil}
 use Rattle.std.specs.List.{zip}
 use Rattle.pcm_base.specs.declared.answer.Reply.{Reply}
 use Rattle.pcm_base.specs.declared.command.Call.{Call}
 use Rattle.pcm_base.specs.declared.command.Call.TheVariants as call
 use Rattle.pcm_base.specs.declared.refusal.Refusal.{Refusal}
+use Rattle.pcm_base.specs.Recordings.{pieces_in, pieces_of}
+use Rattle.edit_ports.specs.Answers.{numbered_pieces}
 use Rattle.pin_turn.specs.Counts.{Each}
 use Rattle.studio_seats.specs.declared.deed.Deed.{Deed}
-use Rattle.studio_seats.specs.Deeds.{commits, entries_of, entry_of, is_commit, raised}
+use Rattle.studio_seats.specs.Deeds.{commits, entries_of, is_commit, raised_by}
 use Rattle.studio_seats.specs.Merge.{by_seat, deeds_of}
 use Rattle.studio_seats.specs.Onward.{AreDone, Asks, IsPieceOf}
 use Rattle.studio_seats.specs.Pieces.{piece_by, piece_in, pieces_by}
@@ -35,10 +38,14 @@ samples_append : (xs ys : List (List ℤ × ℕ)) → samples_in (xs ++ ys) ≡ 
 samples_append [] ys = refl
 samples_append (x ∷ xs) ys = ap (λ (l : List (List ℤ)). x.0 ∷ l) (samples_append xs ys)
 
--- the samples of a piece
+numbered_samples : (n : ℕ) (chunks : List (List ℤ)) → samples_in (numbered_pieces n chunks) ≡ chunks
+numbered_samples n [] = refl
+numbered_samples n (c ∷ cs) = ap (λ (l : List (List ℤ)). c ∷ l) (numbered_samples (n + 1) cs)
+
+-- the samples of the pieces that a call brings
 abbrev pub call_samples : Call → List (List ℤ)
 call_samples (call.Line c) = []
-call_samples (call.Piece track tag samples) = samples ∷ []
+call_samples (call.Piece track tag samples) = pieces_of samples
 call_samples call.Pin = []
 call_samples (call.PinLen pin) = []
 call_samples (call.ReadPin pin from count) = []
@@ -53,8 +60,8 @@ module _ (track tag : ℕ) where
   piece_samples : (c : Call) (n : ℕ) → IsPieceOf track tag c → samples_in (piece_in track tag c n) ≡ call_samples c
   piece_samples c n (samples, is) =
       subst (λ (x : Call). samples_in (piece_in track tag x n) ≡ call_samples x) (sym is)
-      (ap (λ (b : Bool). samples_in (if b then (samples, n) ∷ [] else []))
-      (λ i. eq-eqb track track refl i && eq-eqb tag tag refl i))
+      (ap (λ (b : Bool). samples_in (if b then numbered_pieces n (pieces_of samples) else []))
+      (λ i. eq-eqb track track refl i && eq-eqb tag tag refl i) ∙ numbered_samples n (pieces_of samples))
 
   one : (d : Deed) (n : ℕ) (b : Bool) → RecorderAsks track tag d.call
       → samples_in (if b then piece_in track tag d.call n else []) ≡ (if b then call_samples d.call else [])
@@ -68,37 +75,43 @@ module _ (track tag : ℕ) where
       → samples_in (pieces_by track tag seat n ds) ≡ done_samples (deeds_of (by_seat seat) ds)
   own_samples seat n [] h = refl
   own_samples seat n (d ∷ ds) h =
-      samples_append (piece_by track tag seat d m) (pieces_by track tag seat m ds)
-      ∙ (ap (λ (l : List (List ℤ)). samples_in (piece_by track tag seat d m) ++ l) (own_samples seat m ds h.1)
+      samples_append (piece_by track tag seat d n) (pieces_by track tag seat m ds)
+      ∙ (ap (λ (l : List (List ℤ)). samples_in (piece_by track tag seat d n) ++ l) (own_samples seat m ds h.1)
       ∙ by (seat == d.actor) refl)
     where
       m : ℕ
-      m = raised (is_commit d) n
+      m = raised_by d n
 
       by : (b : Bool) → (seat == d.actor) ≡ b
-          → samples_in (if b && is_commit d then piece_in track tag d.call (raised (is_commit d) n) else [])
+          → samples_in (if b && is_commit d then piece_in track tag d.call n else [])
           ++ done_samples (deeds_of (by_seat seat) ds)
           ≡ done_samples ((if b then d ∷ [] else []) ++ deeds_of (by_seat seat) ds)
       by true is = ap (λ (l : List (List ℤ)). l ++ done_samples (deeds_of (by_seat seat) ds))
-          (one d (raised (is_commit d) n) (is_commit d) (h.0 (sym (same_seat seat d.actor is))))
+          (one d n (is_commit d) (h.0 (sym (same_seat seat d.actor is))))
       by false is = refl
 
   piece_commits : (d : Deed) → IsPieceOf track tag d.call → IsOk d.what → is_commit d ≡ true
   piece_commits d (samples, is) ok = by d.what ok
     where
-      by : (what : Result Reply Refusal) → IsOk what → commits what d.call ≡ true
-      by (Ok r) ok = subst (λ (c : Call). commits (Ok r) c ≡ true) (sym is) refl
+      by : (what : Result Reply Refusal) → IsOk what → nat_lt 0 (commits what d.call) ≡ true
+      by (Ok r) ok = subst (λ (c : Call). nat_lt 0 (commits (Ok r) c) ≡ true) (sym is)
+          (lt-ltb 0 (pieces_in (length samples)) (omega arith))
       by (Err why) ok = cc
 
   -- deeds that were carried out are pieces with their samples
   pub are_pieces : (ds : List Deed) → Each (λ d. IsPieceOf track tag d.call) ds → AreDone ds → Each IsPlain ds
       → ArePieces track tag (done_samples ds) (entries_of ds)
   are_pieces [] fit done plain = refl
-  are_pieces (d ∷ ds) fit done plain =
-      subst (λ (l : List (List ℤ)). ArePieces track tag (l ++ done_samples ds) (entry_of d ∷ entries_of ds))
-      (sym (ap (λ (b : Bool). if b then call_samples d.call else []) (piece_commits d fit.0 done.0)
-      ∙ ap call_samples fit.0.1))
-      (fit.0.1, not_refused d.what done.0 plain.0, are_pieces ds fit.1 done.1 plain.1)
+  are_pieces (d ∷ ds) fit done plain = (
+    fit.0.0,
+    done_samples ds,
+    ap (λ (l : List (List ℤ)). l ++ done_samples ds)
+        (ap (λ (b : Bool). if b then call_samples d.call else []) (piece_commits d fit.0 done.0)
+        ∙ ap call_samples fit.0.1),
+    fit.0.1,
+    not_refused d.what done.0 plain.0,
+    are_pieces ds fit.1 done.1 plain.1,
+  )
 
 done_append : (xs ys : List Deed) → done_samples (xs ++ ys) ≡ done_samples xs ++ done_samples ys
 done_append [] ys = refl
@@ -110,5 +123,5 @@ done_append (d ∷ ds) ys =
 pub refused_samples : (ds : List Deed) (d : Deed) (why : Refusal) → d.what ≡ Err why
     → done_samples (ds ++ d ∷ []) ≡ done_samples ds
 refused_samples ds d why is = done_append ds (d ∷ [])
-    ∙ (ap (λ (what : Result Reply Refusal). done_samples ds ++ ((if commits what d.call then call_samples d.call else [])
-    ++ [])) is ∙ append-nil (done_samples ds))
+    ∙ (ap (λ (what : Result Reply Refusal). done_samples ds ++ ((if nat_lt 0 (commits what d.call) then
+    call_samples d.call else []) ++ [])) is ∙ append-nil (done_samples ds))

@@ -5,11 +5,12 @@
 -- `EachSince` is about each that a stop may leave at any moment since the earlier state. `shown` is what opening an
 -- image finds of a studio: its history, its rate and block size, the next track and the commit number, and no clipboard
 -- and no pins. `Keeps image project`: opening finds that project, with all blocks whole. An entry is in flight if the
--- disk failed in it, or stops in it. An image then holds what the entry does, whole, or nothing of it. `KeepsPrefix`:
--- the project after the first n entries, of which the last may be in flight. `StopsInFlight`: after all entries up to
--- the one that stopped the studio; that one is in flight, and was answered DiskFault. `preceded read left`: the bytes
--- read, and then those that are left. `BreaksOff`: all answers but the last, and a part of that one. `Rose before
--- now`: a count of faults rose, or stands at the end of its type (2^64 - 1), where it can't.
+-- disk failed in it, or stops in it. An image then holds what the entry does, whole, or nothing of it, so of several
+-- pieces all or none. `KeepsPrefix`: the project after the first n entries, of which the last may be in flight.
+-- `StopsInFlight`: after all entries up to the one that stopped the studio; that one is in flight, and was answered
+-- DiskFault. `preceded read left`: the bytes read, and then those that are left. `BreaksOff`: all answers but the last,
+-- and a part of that one. `Rose before now`: a count of faults rose, or stands at the end of its type (2^64 - 1), where
+-- it can't.
 use Rattle.std.specs.Prelude.{◌≡◌, ◌≢◌, ◌⊎◌, ℕ, ◌<◌, ◌||◌, Bool, true, List, [], ◌∷◌, ◌++◌, length, Option}
 use Rattle.std.specs.Prelude.{Some, None, false, IsSome, IsSomeAnd, IfErr, flat_map}
 use Rattle.pcm_base.specs.declared.limits.TheConstants.{COUNTER_LIMIT}
@@ -140,7 +141,9 @@ pub record Promise {D : Type 0} (disk : Ghosts D) (m : Met D) : Type 0 where
   pub holds : (core : Core D) × (core.store ≡ m.store.now) × IsHeld disk core × (final ≡ studio_of disk core)
   -- ONE RUN of the plain array editor, by the script, which is the actor 0, the recorder and the player. A refused
   -- entry leaves the editor's state as it was and takes no number. One that a device broke off may use up ids of
-  -- blocks, and an export may then leave a part of its sound. The exit status is said in Call (EndsAs).
+  -- blocks, and an export may then leave a part of its sound. An entry of several pieces is a commit for each, and the
+  -- same run as so many entries of one piece (`batches_are_pieces` of model_laws). The exit status is said in Call
+  -- (EndsAs).
   pub run : Run start ((track ++ pin) ++ entries) final
   pub makers : Each (λ e. (is_by 0 e || (is_by end.recorder e || is_by end.player e)) ≡ true) entries
   pub apart : (0 ≢ end.recorder) × (0 ≢ end.player) × (end.recorder ≢ end.player)
@@ -155,9 +158,10 @@ pub record Promise {D : Type 0} (disk : Ghosts D) (m : Met D) : Type 0 where
       (last_number start.state.commit (track ++ pin)) end.lines answers entries
   pub sounds : Follows m.sounds.before (entries_by 0 entries) m.sounds.now
   -- And the recorded PIECES, after a track of their own: the first chunks of what was read of the microphone, up to its
-  -- end, its fault or its limit, all of them unless one was refused. The tag is the commit number of that track; all
-  -- pieces bear it, so they are one point of undo. The recorder frees what they replaced. Lines of the script may
-  -- change or undo them as any sound. A turn makes one entry; no turn is left after 2^62 entries.
+  -- end, its fault or its limit, all of them unless one was refused. Each is one commit; an entry has one piece, or
+  -- several that follow one another. The tag is the commit number of that track; all pieces bear it, so they are one
+  -- point of undo. The recorder frees what they replaced. Lines of the script may change or undo them as any sound. A
+  -- turn makes one entry; no turn is left after 2^62 entries.
   pub track_is : MakesSide (Line Track)
       (λ tag r. (tag ≡ last_number start.state.commit track) × (is_refusal r ≡ false)) end.recording track
   pub pieces : RecordsSide (length ((track ++ pin) ++ entries) ≡ COUNTER_LIMIT) end.recording
@@ -176,7 +180,7 @@ pub record Promise {D : Type 0} (disk : Ghosts D) (m : Met D) : Type 0 where
   pub played : PlaysSide (length ((track ++ pin) ++ entries) ≡ COUNTER_LIMIT) end.playback
       (λ number mix. pin_frames start.rate start.state (track ++ pin) number ≡ Some mix)
       m.speaker end.play_line (entries_by end.player entries)
-  -- the NUMBERS of the run: the first and the last, and those of the script's commits and of the recorder's
+  -- the NUMBERS of the run: the first and the last, and those of the script's commits and of the recorder's, each once
   pub first : m.first_commit ≡ start.state.commit
   pub last : (m.last_commit ≡ final.state.commit)
       × (m.last_commit ≡ last_number m.first_commit ((track ++ pin) ++ entries))

@@ -1,6 +1,6 @@
 -- What was made for a recording or a playback before the script, and how each ends.
 use Rattle.std.specs.Prelude.{◌≡◌, ◌⊎◌, ℕ, ◌+◌, ◌<◌, ◌≤◌, ◌^◌, ◌/◌, ℤ, false, List, [], ◌∷◌, ◌++◌, length}
-use Rattle.std.specs.Prelude.{take, Option, Some, None, sum_by}
+use Rattle.std.specs.Prelude.{take, Option, Some, None, sum_by, true}
 use Rattle.std.specs.Io.KnownBytes.{IsAtEnd}
 use Rattle.pcm_base.specs.declared.answer.Reply.{Reply}
 use Rattle.pcm_base.specs.declared.answer.Reply.TheVariants as reply
@@ -11,6 +11,7 @@ use Rattle.pcm_base.specs.declared.refusal.Refusal.{Refusal}
 use Rattle.pcm_base.specs.declared.refusal.Refusal.TheVariants.{NoMemory}
 use Rattle.pcm_base.specs.declared.sound.Frame.{Frame}
 use Rattle.pcm_base.specs.Causes.{Rose}
+use Rattle.pcm_base.specs.Recordings as recordings
 use Rattle.pcm_base.specs.Recordings.{chunks_of, frame_bytes}
 use Rattle.edit_ports.specs.Told.{grown, preceded}
 use Rattle.pin_turn.specs.Counts.{Each}
@@ -46,12 +47,13 @@ MakesSide call Gives (Made number) es = (r : Reply) × Gives number r × IsOne c
 
 -- ---- the recording
 
--- these entries are pieces of a recording with these samples, in order, each carried out
+-- These chunks are the pieces of a recording, in order and each once: first those of the first entry's samples, then
+-- those of the others. Each entry was carried out, so it made a commit for each of its pieces.
 abbrev pub ArePieces : ℕ → ℕ → List (List ℤ) → List Entry → Type 0
-ArePieces track tag [] es = es ≡ []
-ArePieces track tag (c ∷ cs) [] = ⊥
-ArePieces track tag (c ∷ cs) (e ∷ es) =
-    (e.call ≡ Piece track tag c) × (is_refusal e.reply ≡ false) × ArePieces track tag cs es
+ArePieces track tag cs [] = cs ≡ []
+ArePieces track tag cs (e ∷ es) = (samples : List ℤ) × (more : List (List ℤ))
+    × (cs ≡ recordings.pieces_of samples ++ more) × (e.call ≡ Piece track tag samples)
+    × (is_refusal e.reply ≡ false) × ArePieces track tag more es
 
 -- what ends the reading of the microphone: its end, its fault, or the most that is read of it
 abbrev pub MicWhole : List ℕ → Input → Type 0
@@ -70,8 +72,8 @@ MicEnds rec.Fault bytes mic = MicFails bytes mic
 MicEnds rec.Limit bytes mic = MicLimit bytes mic
 MicEnds (rec.Refused why) bytes mic = MicWhole bytes mic ⊎ (MicFails bytes mic ⊎ MicLimit bytes mic)
 
--- What refused a piece, after those that were taken: the entry of one more piece says why. Where none was made, no turn
--- was left, or memory was wanting before it.
+-- What refused a piece, after those that were taken: one more entry of pieces says why, and none of them was taken.
+-- Where it was not made, no turn was left, or memory was wanting before it.
 abbrev pub PieceRefused : ℕ → ℕ → RecordEnd → List Entry → Type 0
 PieceRefused track tag (rec.Refused why) es = ((samples : List ℤ) × (e : Entry) × (es ≡ e ∷ [])
     × (e.call ≡ Piece track tag samples) × (e.reply ≡ reply.Refused why))
@@ -79,9 +81,10 @@ PieceRefused track tag (rec.Refused why) es = ((samples : List ℤ) × (e : Entr
 PieceRefused track tag end es = es ≡ []
 
 -- The bytes that were read of the microphone were cut into chunks. The first of them are the pieces, each once, in
--- order, and each has a number. They are all of them only where none was refused. The actor's entries are these, and
--- then that of the piece that was refused; and between them reclaims, each of all that nothing names. At no time more
--- than 64 pieces stand after the last reclaim, and at the end none does, or no turn was left for one.
+-- order, and each has a number. They are all of them only where none was refused. The actor's entries are of these
+-- pieces, one of them or several that follow one another, and then that of what was refused; and a reclaim of all that
+-- nothing names after each 64 pieces. At the end one more comes after the pieces since the last, or no turn was left
+-- for it.
 pub record Records (NoTurn : Type 0) (track tag : ℕ) (mic : Input) (line : RecordLine) (numbers : List ℕ)
     (own : List Entry) : Type 0 where
   pub bytes : List ℕ
@@ -96,7 +99,7 @@ pub record Records (NoTurn : Type 0) (track tag : ℕ) (mic : Input) (line : Rec
   pub pieces : ArePieces track tag (take (length numbers) (chunks_of bytes)) taken
   pub refused : PieceRefused track tag line.end last
   pub reclaims : Each (λ e. makes_piece e.call ≡ false → IsFullReclaim e.call) own
-  pub freed : AreFreed 0 own
+  pub freed : AreFreed true 0 own
   pub freed_last : (unfreed 0 own ≡ 0) ⊎ NoTurn
   pub track_is : line.track ≡ track
   pub pieces_are : line.pieces ≡ length numbers

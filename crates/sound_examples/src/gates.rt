@@ -31,7 +31,7 @@ impl Counter {
         }
     }
 
-    // Counts a pass, and tells the counts with it.
+    // Counts a pass, and returns the counts with it.
     fn count<R: Wait>(&self, rt: &R, point: u32) -> Passes {
         let mut passes = self.passes.lock(rt);
         match point {
@@ -68,11 +68,15 @@ impl Gate for HoldingGate {
         let mine = self.counter.count(rt, point);
         for _ in rt.forever() {
             let now = self.counter.now(rt);
-            // After the first piece 65 more chunks are awaited: one was received, and 64 fill the ring. Before the
-            // 100th push 99 pieces are awaited, and the ring is empty. After the first frames were taken six pushes
-            // are awaited, of which the fifth fills the ring.
+            // Before the second push the first chunk is awaited as a piece. After it 65 more pushes are awaited: 64
+            // fill the ring, and are then taken at once. Before the 67th push the 66th chunk is awaited as a piece,
+            // and the ring is empty. After the first frames were taken six pushes are awaited, of which the fifth
+            // fills the ring.
             let waits = match point {
-                BEFORE_PUSH => mine.before_push == 100 && now.after_piece < 99,
+                BEFORE_PUSH => {
+                    mine.before_push == 2 && now.after_piece < 1
+                        || mine.before_push == 67 && now.after_piece < 3
+                }
                 AFTER_PIECE => mine.after_piece == 1 && now.before_push < 66,
                 AFTER_TAKE => mine.after_take == 1 && now.after_push < 6,
                 _ => false,

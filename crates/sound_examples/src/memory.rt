@@ -1,17 +1,40 @@
 // What takes pieces and gives frames in memory.
-ghost use Rattle.std.specs.Prelude.{◌≡◌, ◌^◌, ◌≤◌, length, None};
+ghost use Rattle.std.specs.Prelude.{◌≡◌, ◌+◌, ◌^◌, ◌≤◌, ◌++◌, length, take, None};
+ghost use Rattle.edit_ports.specs.Answers.{numbered_pieces, samples_of};
+ghost use Rattle.sound_examples.specs.Memory.{pieces_of};
 
-use edit_ports::{FrameGiver, PieceTaker};
+use edit_ports::{FrameGiver, PieceTaker, Taken};
 use pcm_base::{Chunk, Frame, Refusal, Said};
 use std::alloc::Global;
 use std::sync::Wait;
 
-/// Takes pieces, up to a number of them.
+/// Takes pieces, up to a number of them, as many at once as there is room for. They are numbered from 1 on.
 #[derive(Drop)]
 pub struct MemTaker {
     pub taken: Vec<(Chunk, u64)>,
     pub most: usize,
     pub refused: Option<Refusal>,
+}
+
+// Adds the first of the chunks, as many as there is room for, and says how many these are.
+fn add(taken: &mut Vec<(Chunk, u64)>, most: usize, chunks: &[Chunk]) -> usize
+    ensures few { result ≤ length chunks.now }
+    ensures count { length taken.new.items ≡ length taken.old.items + result }
+    ensures added { pieces_of taken.new.items ≡ pieces_of taken.old.items
+        ++ numbered_pieces (length taken.old.items) (take result (samples_of chunks.now)) }
+{
+    let mut count = 0;
+    for chunk in chunks {
+        if taken.len() >= most {
+            return count;
+        }
+        let number = taken.len() as u64 + 1;
+        if taken.push((*chunk, number)).is_err() {
+            return count;
+        }
+        count += 1;
+    }
+    count
 }
 
 impl PieceTaker for MemTaker {
@@ -24,19 +47,20 @@ impl PieceTaker for MemTaker {
 
     ghost follows = { λ first stopped now. now.most ≡ first.most };
 
-    fn take_piece<R: Wait>(&mut self, _rt: &R, _alloc: Global, chunk: &Chunk) -> Said<u64> {
-        let number = self.taken.len() as u64;
-        if self.taken.len() < self.most && self.taken.push((*chunk, number)).is_ok() {
+    fn take_pieces<R: Wait>(&mut self, _rt: &R, _alloc: Global, chunks: &[Chunk]) -> Said<Taken> {
+        let count = add(&mut self.taken, self.most, chunks);
+        let last = self.taken.len() as u64;
+        if count > 0 {
             return Said {
-                at: number,
-                what: Ok(number),
+                at: last,
+                what: Ok(Taken { count, last }),
             };
         }
         if self.refused.is_none() {
             self.refused = Some(Refusal::TrackLimit);
         }
         Said {
-            at: number,
+            at: last,
             what: Err(Refusal::TrackLimit),
         }
     }

@@ -125,6 +125,28 @@ fn plain_bytes(alloc: Global, frames: &[Frame]) -> Result<Vec<u8>, AllocError> {
     Ok(bytes)
 }
 
+// Whether all of these samples were recorded, in this many pieces.
+fn are_recorded(recorded: &Recording, got: &[i32], samples: &[i32], pieces: usize) -> bool {
+    recorded.numbers.as_slice().len() == pieces
+        && recorded.samples == samples.len() as u64
+        && got == samples
+}
+
+// Whether the microphone gave all, and no piece was refused.
+fn is_whole(recorded: &Recording) -> bool {
+    matches!(recorded.end, MicEnd::End) && recorded.refused.is_none()
+}
+
+// Whether this many frames were played, and these bytes were written.
+fn are_played(played: &Playing, frames: u64, bytes: &[u8]) -> bool {
+    played.frames == frames && played.speaker.bytes() == bytes
+}
+
+// Whether nothing was refused, and the speaker did not fail.
+fn is_played_whole(played: &Playing) -> bool {
+    played.refused.is_none() && !played.fault
+}
+
 // 100,000 samples and an odd byte in reads of at most 100 bytes, and 100,000 frames in writes of at most 13 bytes. The
 // gate lets each ring be full, and the recorder's be empty, once.
 #[test]
@@ -146,16 +168,12 @@ fn all_is_recorded_and_played(rt: HostRuntime) -> Result<(), Fail> {
         MemSink::new(alloc, 1 << 20, 13, Numbers::new(Vec::new(alloc)))?,
     );
     let (recorded, played) = ran.expect(&rt, "memory");
-    assert!(rt; recorded.end == MicEnd::End);
-    assert!(rt; recorded.refused == None);
-    assert!(rt; recorded.numbers.as_slice().len() == 391);
-    assert!(rt; recorded.samples == 100_000);
     let got = taken_samples(alloc, &recorded.taker.taken)?;
-    assert!(rt; got.as_slice() == samples.as_slice());
-    assert!(rt; played.refused == None);
-    assert!(rt; !played.fault);
-    assert!(rt; played.frames == 100_000);
-    assert!(rt; played.speaker.bytes() == played_bytes.as_slice());
+    assert!(rt; samples.len() == 100_000);
+    assert!(rt; is_whole(&recorded));
+    assert!(rt; are_recorded(&recorded, &got, &samples, 391));
+    assert!(rt; is_played_whole(&played));
+    assert!(rt; are_played(&played, 100_000, &played_bytes));
     Ok(())
 }
 
@@ -185,6 +203,18 @@ fn recorder_and_player_overlap(rt: HostRuntime) -> Result<(), Fail> {
     Ok(())
 }
 
+// Whether the microphone failed once, and a piece was refused by the taker.
+fn is_stopped(recorded: &Recording) -> bool {
+    matches!(recorded.end, MicEnd::Fault)
+        && recorded.mic.faults() == 1
+        && matches!(recorded.refused, Some(Refusal::TrackLimit))
+}
+
+// Whether frames were refused by the giver, and the speaker failed.
+fn is_play_stopped(played: &Playing) -> bool {
+    matches!(played.refused, Some(Refusal::BadRange)) && played.fault
+}
+
 // The microphone's 15th read fails: 1,224 bytes were read. The taker refuses the third piece, the giver the frames from
 // 2,048 on, and the speaker has room for 250 frames and a byte.
 #[test]
@@ -206,18 +236,10 @@ fn faults_and_refusals_end_each(rt: HostRuntime) -> Result<(), Fail> {
         MemSink::new(alloc, 1001, 13, Numbers::new(Vec::new(alloc)))?,
     );
     let (recorded, played) = ran.expect(&rt, "memory");
-    assert!(rt; recorded.end == MicEnd::Fault);
-    assert!(rt; recorded.mic.faults() == 1);
-    assert!(rt; recorded.refused == Some(Refusal::TrackLimit));
-    assert!(rt; recorded.numbers.as_slice().len() == 2);
-    assert!(rt; recorded.samples == 512);
     let got = taken_samples(alloc, &recorded.taker.taken)?;
-    assert!(rt; got.len() == 512);
-    assert!(rt; samples.starts_with(&got));
-    assert!(rt; played.refused == Some(Refusal::BadRange));
-    assert!(rt; played.fault);
-    assert!(rt; played.frames == 250);
-    assert!(rt; played.speaker.bytes().len() == 1001);
-    assert!(rt; played_bytes.starts_with(played.speaker.bytes()));
+    assert!(rt; is_stopped(&recorded));
+    assert!(rt; are_recorded(&recorded, &got, samples.get(..512).ok_or("too few")?, 2));
+    assert!(rt; is_play_stopped(&played));
+    assert!(rt; are_played(&played, 250, played_bytes.get(..1001).ok_or("too few")?));
     Ok(())
 }

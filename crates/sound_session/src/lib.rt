@@ -16,4 +16,3 @@ pub use beside::run_beside;
 pub use lent::{LentSink, LentSource, take_back};
 pub use playback::{PlayRing, Playback};
 pub use recording::{RecordRing, Recording};
-pub use sounds::run_sounds;

@@ -1,13 +1,14 @@
 -- Pieces and the reclaims between them, list by list.
-use Rattle.std.proofs.Common.{◌≡◌, ℕ, ◌≤◌, ◌==◌, ◌&&◌, if◌then◌else◌, ℤ, Bool, true, false, List, [], ◌∷◌, ◌++◌}
+use Rattle.std.proofs.Common.{◌≡◌, ◌⊎◌, inl, inr, ℕ, ◌==◌, ◌&&◌, if◌then◌else◌, ℤ, Bool, true, false, List, []}
+use Rattle.std.proofs.Common.{◌∷◌, ◌++◌}
 use Rattle.std.proofs.Common.{refl, sym, ◌∙◌, ap, arith}
 use Rattle.std.proofs.lemmas.Bool.Decides.{nat_tests}
 use Rattle.pcm_base.specs.declared.command.Call.{Call}
 use Rattle.pcm_base.specs.declared.entry.Entry.{Entry}
 use Rattle.pin_turn.specs.Counts.{Each}
 use Rattle.studio_seats.specs.declared.deed.Deed.{Deed}
-use Rattle.studio_seats.specs.Deeds.{entries_of, is_commit, raised}
-use Rattle.studio_seats.specs.Freeing.{AreFreed, IsFullReclaim, makes_piece, unfreed, unfreed_by}
+use Rattle.studio_seats.specs.Deeds.{entries_of, is_commit, raised_by}
+use Rattle.studio_seats.specs.Freeing.{AreFreed, IsDue, IsFullReclaim, makes_piece, unfreed, unfreed_by}
 use Rattle.studio_seats.specs.Merge.{by_seat, deeds_of}
 use Rattle.studio_seats.specs.Onward.{Asks}
 use Rattle.studio_seats.specs.Pieces.{piece_in, pieces_by}
@@ -31,16 +32,37 @@ pub unfreed_append : (n : ℕ) (xs ys : List Entry) → unfreed n (xs ++ ys) ≡
 unfreed_append n [] ys = refl
 unfreed_append n (e ∷ es) ys = unfreed_append (unfreed_by n e.call) es ys
 
-pub freed_append : (n : ℕ) (xs ys : List Entry) → AreFreed n xs → AreFreed (unfreed n xs) ys → AreFreed n (xs ++ ys)
-freed_append n [] ys h k = k
-freed_append n (e ∷ es) ys h k = (h.0, h.1, freed_append (unfreed_by n e.call) es ys h.2 k)
+-- a call that came after 64 pieces
+full : (Last Other : Type 0) (n : ℕ) → (n ≡ 64) ⊎ (Last × (n ≡ 64)) → (n ≡ 64) ⊎ Other
+full Last Other n (inl is) = inl is
+full Last Other n (inr (last, is)) = inl is
+
+pub freed_append : (ended : Bool) (n : ℕ) (xs ys : List Entry) → AreFreed false n xs
+    → AreFreed ended (unfreed n xs) ys → AreFreed ended n (xs ++ ys)
+freed_append ended n [] ys h k = k
+freed_append ended n (e ∷ es) ys h k = (
+  λ other. full (es ≡ []) ((es ++ ys ≡ []) × IsDue ended n) n (h.0 other),
+  h.1,
+  freed_append ended (unfreed_by n e.call) es ys h.2 k,
+)
+
+-- a recording that goes on is one that may end
+pub freed_ended : (ended : Bool) (n : ℕ) (es : List Entry) → AreFreed false n es → AreFreed ended n es
+freed_ended ended n [] h = tt
+freed_ended ended n (e ∷ es) h = (
+  λ other. full (es ≡ []) ((es ≡ []) × IsDue ended n) n (h.0 other),
+  h.1,
+  freed_ended ended (unfreed_by n e.call) es h.2,
+)
 
 pub none_by : (n : ℕ) (c : Call) → IsFullReclaim c → unfreed_by n c ≡ 0
 none_by n c is = ap (unfreed_by n) is
 
--- a reclaim after a piece
-pub reclaim_frees : (n : ℕ) (d : Deed) → IsFullReclaim d.call → 1 ≤ n → AreFreed n (entries_of (d ∷ []))
-reclaim_frees n d is some = let none = none_by n d.call is in ((λ other. some), omega (arith, none), tt)
+-- a reclaim that is due
+pub reclaim_frees : (ended : Bool) (n : ℕ) (d : Deed) → IsFullReclaim d.call → IsDue ended n
+    → AreFreed ended n (entries_of (d ∷ []))
+reclaim_frees ended n d is due =
+    let none = none_by n d.call is in ((λ other. inr (refl, due)), omega (arith, none), tt)
 
 pub no_piece_among : (ds : List Deed) → Each (λ d. IsFullReclaim d.call) ds → deeds_of asks_piece ds ≡ []
 no_piece_among [] h = refl
@@ -53,14 +75,14 @@ no_pieces_by to by seat n [] h = refl
 no_pieces_by to by seat n (d ∷ ds) h = at (seat == d.actor) refl (no_pieces_by to by seat m ds h.1)
   where
     m : ℕ
-    m = raised (is_commit d) n
+    m = raised_by d n
 
-    either : (b : Bool) → IsFullReclaim d.call → (if b then piece_in to by d.call m else []) ≡ []
-    either true is = ap (λ (c : Call). piece_in to by c m) is
+    either : (b : Bool) → IsFullReclaim d.call → (if b then piece_in to by d.call n else []) ≡ []
+    either true is = ap (λ (c : Call). piece_in to by c n) is
     either false is = refl
 
     at : (b : Bool) → (seat == d.actor) ≡ b → pieces_by to by seat m ds ≡ []
-        → (if b && is_commit d then piece_in to by d.call m else []) ++ pieces_by to by seat m ds ≡ []
+        → (if b && is_commit d then piece_in to by d.call n else []) ++ pieces_by to by seat m ds ≡ []
     at true is later = ap (λ (l : List (List ℤ × ℕ)). l ++ pieces_by to by seat m ds)
         (either (is_commit d) (h.0 (sym (same_seat seat d.actor is)))) ∙ later
     at false is later = later

@@ -30,7 +30,7 @@ use Rattle.editor_core.proofs.Unharmed.{held_undamaged}
 use Rattle.edit_ports.specs.declared.vault.Vault as vault
 use Rattle.pin_turn.proofs.Sums.{Each-append, Each-left, Each-right}
 use Rattle.studio_seats.specs.declared.deed.Deed.{Deed}
-use Rattle.studio_seats.specs.Deeds.{deed, entry_of, entries_of, is_commit, number_after, raised}
+use Rattle.studio_seats.specs.Deeds.{deed, entry_of, entries_of, number_after, raised_by}
 use Rattle.studio_seats.specs.Leads.{HadTurn, IsUnharmed, Leads, StopsInFlight}
 use Rattle.studio_seats.specs.Stands.{AllTell, AreTold, Chain, Does, Origin, StandsFor}
 use Rattle.studio_seats.proofs.Refused.{number_raised, stopped_not, stopped_shown}
@@ -44,7 +44,7 @@ entries_append (d ∷ ds) es = ap (λ (z : List Entry). entry_of d ∷ z) (entri
 
 pub number_append : (n : ℕ) (ds es : List Deed) → number_after n (ds ++ es) ≡ number_after (number_after n ds) es
 number_append n [] es = refl
-number_append n (d ∷ ds) es = number_append (raised (is_commit d) n) ds es
+number_append n (d ∷ ds) es = number_append (raised_by d n) ds es
 
 -- where all vaults tell, they do for each deed
 pub all_told : {V : Type 0} (vaults : vault.Ghosts V) (deeds : List Deed) → AllTell vaults → AreTold vaults deeds
@@ -204,7 +204,7 @@ module _ {D V : Type 0} (o : Origin D V) (old new : Core D) (deeds : List Deed) 
   led_on : Leads o new (deeds ++ d ∷ [])
   led_on = record {
     studio = does.lasts.studio;
-    number = does.lasts.number ∙ number_raised d.what d.call old.commit_number ∙ ap (raised (is_commit d)) was.number
+    number = does.lasts.number ∙ number_raised d.what d.call old.commit_number ∙ ap (raised_by d) was.number
         ∙ sym (number_append start.commit_number deeds (d ∷ []));
     later = upto_trans (disk.clock start.store) (disk.clock old.store) (disk.clock new.store) was.later
         does.lasts.changed.images.later;

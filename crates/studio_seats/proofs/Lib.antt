@@ -9,6 +9,7 @@ pub mod Lines
 pub mod PinSteps
 pub mod PinLemmas
 pub mod FrameLemmas
+pub mod Batches
 pub mod PieceLemmas
 pub mod MergeLemmas
 pub mod FaultLemmas

@@ -1,45 +1,66 @@
 -- One list of deeds, by their makers: what follows.
-use Rattle.std.proofs.Common.{◌≡◌, ℕ, ◌+◌, ◌<◌, ◌≤◌, ◌&&◌, if◌then◌else◌, ℤ, Bool, true, false, List, [], ◌∷◌, ◌++◌}
-use Rattle.std.proofs.Common.{length, take, refl, sym, ◌∙◌, ap, subst, arith, append_assoc, eq-eqb}
+use Rattle.std.proofs.Common.{◌≡◌, ℕ, zero, suc, ◌+◌, ◌<◌, ◌≤◌, nat_lt, ◌&&◌, if◌then◌else◌, ℤ, Bool, true, false, List}
+use Rattle.std.proofs.Common.{[], ◌∷◌, ◌++◌}
+use Rattle.std.proofs.Common.{length, take, drop, Result, Ok, Err, refl, sym, ◌∙◌, ap, subst, arith, append_assoc}
+use Rattle.std.proofs.Common.{eq-eqb}
+use Rattle.std.proofs.lemmas.Bool.{lt-ltb}
 use Rattle.std.proofs.lemmas.List.{append-nil}
 use Rattle.std.specs.List.{zip}
 use Rattle.pin_turn.specs.Counts.{Each, times, once_below}
 use Rattle.pin_turn.specs.Rule.{ByOthers}
 use Rattle.pin_turn.proofs.Sums.{times-append, times_else, once_more}
+use Rattle.pcm_base.specs.Arithmetic.{counted_from}
+use Rattle.pcm_base.specs.Counters.{commits_of}
+use Rattle.pcm_base.specs.Recordings.{parts_of, pieces_in, pieces_of}
+use Rattle.pcm_base.specs.declared.chunk.TheConstants.{CHUNK_SAMPLES}
+use Rattle.pcm_base.specs.declared.answer.Reply.{Reply}
+use Rattle.pcm_base.specs.declared.refusal.Refusal.{Refusal}
 use Rattle.pcm_base.specs.declared.command.Call.{Call}
 use Rattle.pcm_base.specs.declared.command.Call.TheVariants as call
+use Rattle.edit_ports.specs.Answers.{numbered_pieces}
 use Rattle.studio_seats.specs.declared.deed.Deed.{Deed}
-use Rattle.studio_seats.specs.Deeds.{actor_of, is_commit, number_after, raised}
+use Rattle.studio_seats.specs.Deeds.{actor_of, commits, made, number_after, raised_by}
 use Rattle.studio_seats.specs.Pieces.{piece_in, piece_by, pieces_by}
-use Rattle.studio_seats.specs.Merge.{by_seat, any_seat, number_if, numbers_of, deeds_of, Rises, one_if, SplitsIn}
+use Rattle.studio_seats.specs.Merge.{by_seat, any_seat, numbers_if, numbers_of, deeds_of, Rises, one_if, SplitsIn}
 use Rattle.studio_seats.specs.Merge.{MergedNumbers, is_piece, OnlyPieces, numbers_in, PieceNumbers, OwnOrder}
 use Rattle.studio_seats.proofs.Grown.{number_append}
-use Rattle.studio_seats.proofs.Turns.{number_grows, raised_grows}
+use Rattle.studio_seats.proofs.Turns.{number_grows}
 use Rattle.studio_seats.proofs.PieceLemmas.{pieces_append, pieces_others}
 
+-- the numbers of some commits are those that come next
+counted_next : (k n m : ℕ) → once_below k (n + 1) + times k (counted_from (n + 1) m) ≡ once_below k (n + m + 1)
+counted_next k n zero = ap (λ (z : ℕ). once_below k z + 0) {x = n + 1} {y = n + 0 + 1} (omega arith) ∙ omega arith
+counted_next k n (suc m) =
+    let one = once_more k (n + 1) in
+    let split = times-append k ((n + 1) ∷ []) (counted_from (n + 1 + 1) m) in
+    let rest = counted_next k (n + 1) m in
+    let end : once_below k (n + 1 + m + 1) ≡ once_below k (n + suc m + 1) =
+    ap (once_below k) {x = n + 1 + m + 1} {y = n + suc m + 1} (omega arith) in
+    omega (arith, one, split, rest, end)
+
+none_counted : (c : Bool) (k n : ℕ) → times k (numbers_if c 0 n) ≡ 0
+none_counted true k n = refl
+none_counted false k n = refl
+
 -- one deed, of one of two kinds
-one_deed : (k n : ℕ) (a b c : Bool) → (c ≡ true → one_if a + one_if b ≡ 1)
-    → once_below k (n + 1) + (times k (number_if a c (raised c n)) + times k (number_if b c (raised c n)))
-    ≡ once_below k (raised c n + 1)
-one_deed k n true true true h = let x = h refl in absurd (omega (arith, x))
-one_deed k n false false true h = let x = h refl in absurd (omega (arith, x))
-one_deed k n true false true h = let x = once_more k (n + 1) in omega (arith, x)
-one_deed k n false true true h = let x = once_more k (n + 1) in omega (arith, x)
-one_deed k n true true false h = omega arith
-one_deed k n false false false h = omega arith
-one_deed k n true false false h = omega arith
-one_deed k n false true false h = omega arith
+one_deed : (k n m : ℕ) (a b : Bool) → (nat_lt 0 m ≡ true → one_if a + one_if b ≡ 1)
+    → once_below k (n + 1) + (times k (numbers_if a m n) + times k (numbers_if b m n)) ≡ once_below k (n + m + 1)
+one_deed k n zero a b h =
+    let none : (c : Bool) → times k (numbers_if c 0 n) ≡ 0 = λ c. none_counted c k n in
+    omega (arith, none a, none b, counted_next k n 0)
+one_deed k n (suc m) true true h = let x = h (lt-ltb 0 (suc m) (omega arith)) in absurd (omega (arith, x))
+one_deed k n (suc m) false false h = let x = h (lt-ltb 0 (suc m) (omega arith)) in absurd (omega (arith, x))
+one_deed k n (suc m) true false h = omega (arith, counted_next k n (suc m))
+one_deed k n (suc m) false true h = omega (arith, counted_next k n (suc m))
 
 both_kinds : (one two : Deed → Bool) (n : ℕ) (es : List Deed) → SplitsIn one two es → (k : ℕ) → once_below k
     (n + 1) + (times k (numbers_of one n es) + times k (numbers_of two n es)) ≡ once_below k (number_after n es + 1)
 both_kinds one two n [] h k = omega arith
 both_kinds one two n (e ∷ es) h k =
-    let here = one_deed k n (one e) (two e) (is_commit e) h.0 in
-    let later = both_kinds one two (raised (is_commit e) n) es h.1 k in
-    let a = times-append k (number_if (one e) (is_commit e) (raised (is_commit e) n))
-    (numbers_of one (raised (is_commit e) n) es) in
-    let b = times-append k (number_if (two e) (is_commit e) (raised (is_commit e) n))
-    (numbers_of two (raised (is_commit e) n) es) in
+    let here = one_deed k n (made e) (one e) (two e) h.0 in
+    let later = both_kinds one two (raised_by e n) es h.1 k in
+    let a = times-append k (numbers_if (one e) (made e) n) (numbers_of one (raised_by e n) es) in
+    let b = times-append k (numbers_if (two e) (made e) n) (numbers_of two (raised_by e n) es) in
     omega (arith, here, later, a, b)
 
 abbrev no_seat : Deed → Bool
@@ -47,7 +68,7 @@ no_seat e = false
 
 none_of : (n : ℕ) (es : List Deed) → numbers_of no_seat n es ≡ []
 none_of n [] = refl
-none_of n (e ∷ es) = none_of (raised (is_commit e) n) es
+none_of n (e ∷ es) = none_of (raised_by e n) es
 
 splits_all : (es : List Deed) → SplitsIn any_seat no_seat es
 splits_all [] = tt
@@ -58,15 +79,18 @@ rises_from : (m n : ℕ) (xs : List ℕ) → m ≤ n → Rises n xs → Rises m 
 rises_from m n [] le h = tt
 rises_from m n (x ∷ xs) le h = let low = h.0 in (omega (arith, le, low), h.1)
 
-rise_if : (a c : Bool) (n : ℕ) (xs : List ℕ) → Rises (raised c n) xs → Rises n (number_if a c (raised c n) ++ xs)
-rise_if true true n xs h = (omega arith, h)
-rise_if true false n xs h = h
-rise_if false c n xs h = rises_from n (raised c n) xs (raised_grows c n) h
+rise_if : (a : Bool) (m n : ℕ) (xs : List ℕ) → Rises (n + m) xs → Rises n (numbers_if a m n ++ xs)
+rise_if true zero n xs h = rises_from n (n + 0) xs (omega arith) h
+rise_if true (suc m) n xs h = (
+  omega arith,
+  rise_if true m (n + 1) xs (subst (λ (z : ℕ). Rises z xs) {x = n + suc m} {y = n + 1 + m} (omega arith) h),
+)
+rise_if false m n xs h = rises_from n (n + m) xs (omega arith) h
 
 numbers_rise : (kind : Deed → Bool) (n : ℕ) (es : List Deed) → Rises n (numbers_of kind n es)
 numbers_rise kind n [] = tt
-numbers_rise kind n (e ∷ es) = rise_if (kind e) (is_commit e) n (numbers_of kind (raised (is_commit e) n) es)
-    (numbers_rise kind (raised (is_commit e) n) es)
+numbers_rise kind n (e ∷ es) =
+    rise_if (kind e) (made e) n (numbers_of kind (raised_by e n) es) (numbers_rise kind (raised_by e n) es)
 
 pub merged_numbers : MergedNumbers
 merged_numbers first log seats commits h =
@@ -104,30 +128,55 @@ pieces_numbers : (xs ys : List (List ℤ × ℕ)) → numbers_in (xs ++ ys) ≡ 
 pieces_numbers [] ys = refl
 pieces_numbers (x ∷ xs) ys = ap (λ (l : List ℕ). x.1 ∷ l) (pieces_numbers xs ys)
 
+-- the numbers of pieces that come together
+numbers_counted : (n : ℕ) (xs : List (List ℤ)) → numbers_in (numbered_pieces n xs) ≡ counted_from (n + 1) (length xs)
+numbers_counted n [] = refl
+numbers_counted n (x ∷ xs) = ap (λ (l : List ℕ). (n + 1) ∷ l) (numbers_counted (n + 1) xs)
+
+parts_many : (size count : ℕ) (xs : List ℤ) → length (parts_of size count xs) ≡ count
+parts_many size zero xs = refl
+parts_many size (suc count) xs = ap suc (parts_many size count (drop size xs))
+
 piece_number : (to by : ℕ) (asked : Call) (n : ℕ) → is_piece to by asked ≡ true
-    → numbers_in (piece_in to by asked n) ≡ n ∷ []
+    → numbers_in (piece_in to by asked n) ≡ counted_from (n + 1) (commits_of asked)
 piece_number to by (call.Line c) n h = let e : false ≡ true = h in absurd (cc)
 piece_number to by (call.Piece track tag samples) n h =
-    ap (λ (b : Bool). numbers_in (if b then (samples, n) ∷ [] else [])) h
+    ap (λ (b : Bool). numbers_in (if b then numbered_pieces n (pieces_of samples) else [])) h
+    ∙ (numbers_counted n (pieces_of samples)
+    ∙ ap (counted_from (n + 1)) (parts_many CHUNK_SAMPLES (pieces_in (length samples)) samples))
 piece_number to by call.Pin n h = let e : false ≡ true = h in absurd (cc)
 piece_number to by (call.PinLen pin) n h = let e : false ≡ true = h in absurd (cc)
 piece_number to by (call.ReadPin pin from count) n h = let e : false ≡ true = h in absurd (cc)
 piece_number to by (call.Unpin pin) n h = let e : false ≡ true = h in absurd (cc)
 
-one_number : (to by : ℕ) (b : Bool) (asked : Call) (n : ℕ) → (b ≡ true → is_piece to by asked ≡ true)
-    → numbers_in (if b then piece_in to by asked n else []) ≡ (if b then n ∷ [] else [])
-one_number to by true asked n h = piece_number to by asked n (h refl)
-one_number to by false asked n h = refl
+-- of a deed that made commits they are those of its call, and of another there are none
+one_number : (to by : ℕ) (mine : Bool) (what : Result Reply Refusal) (asked : Call) (n : ℕ)
+    → (mine && nat_lt 0 (commits what asked) ≡ true → is_piece to by asked ≡ true)
+    → numbers_in (if mine && nat_lt 0 (commits what asked) then piece_in to by asked n else [])
+    ≡ numbers_if mine (commits what asked) n
+one_number to by false what asked n h = refl
+one_number to by true (Err why) asked n h = refl
+one_number to by true (Ok r) asked n h = some (commits_of asked) refl
+  where
+    some : (m : ℕ) → commits_of asked ≡ m
+        → numbers_in (if nat_lt 0 (commits_of asked) then piece_in to by asked n else [])
+        ≡ counted_from (n + 1) (commits_of asked)
+    some zero is = ap (λ (z : ℕ). numbers_in (if nat_lt 0 z then piece_in to by asked n else [])) is
+        ∙ ap (counted_from (n + 1)) (sym is)
+    some (suc m) is =
+        let yes : nat_lt 0 (commits_of asked) ≡ true = ap (nat_lt 0) is ∙ lt-ltb 0 (suc m) (omega arith) in
+        ap (λ (b : Bool). numbers_in (if b then piece_in to by asked n else [])) yes
+        ∙ piece_number to by asked n (h yes)
 
 piece_numbers : (to by seat n : ℕ) (es : List Deed) → OnlyPieces to by seat es
     → numbers_in (pieces_by to by seat n es) ≡ numbers_of (by_seat seat) n es
 piece_numbers to by seat n [] h = refl
 piece_numbers to by seat n (e ∷ es) h =
-    pieces_numbers (piece_by to by seat e (raised (is_commit e) n)) (pieces_by to by seat (raised (is_commit e) n) es)
-    ∙ (ap (λ (l : List ℕ). l ++ numbers_in (pieces_by to by seat (raised (is_commit e) n) es))
-    (one_number to by (by_seat seat e && is_commit e) e.call (raised (is_commit e) n) h.0)
-    ∙ ap (λ (l : List ℕ). number_if (by_seat seat e) (is_commit e) (raised (is_commit e) n) ++ l)
-    (piece_numbers to by seat (raised (is_commit e) n) es h.1))
+    pieces_numbers (piece_by to by seat e n) (pieces_by to by seat (raised_by e n) es)
+    ∙ (ap (λ (l : List ℕ). l ++ numbers_in (pieces_by to by seat (raised_by e n) es))
+    (one_number to by (by_seat seat e) e.what e.call n h.0)
+    ∙ ap (λ (l : List ℕ). numbers_if (by_seat seat e) (made e) n ++ l)
+    (piece_numbers to by seat (raised_by e n) es h.1))
 
 pub pieces_are_chunks : PieceNumbers
 pieces_are_chunks to by seat first before seen more chunks numbers fresh took others only =
@@ -158,23 +207,23 @@ pub numbers_append : (kind : Deed → Bool) (n : ℕ) (xs ys : List Deed)
     → numbers_of kind n (xs ++ ys) ≡ numbers_of kind n xs ++ numbers_of kind (number_after n xs) ys
 numbers_append kind n [] ys = refl
 numbers_append kind n (e ∷ es) ys =
-    let here = number_if (kind e) (is_commit e) (raised (is_commit e) n) in
-    ap (λ (l : List ℕ). here ++ l) (numbers_append kind (raised (is_commit e) n) es ys)
-    ∙ sym (append_assoc here (numbers_of kind (raised (is_commit e) n) es)
-    (numbers_of kind (number_after (raised (is_commit e) n) es) ys))
+    let here = numbers_if (kind e) (made e) n in
+    ap (λ (l : List ℕ). here ++ l) (numbers_append kind (raised_by e n) es ys)
+    ∙ sym (append_assoc here (numbers_of kind (raised_by e n) es)
+    (numbers_of kind (number_after (raised_by e n) es) ys))
 
-no_number : (b commit : Bool) (n : ℕ) → (if b then 1 else 0) + 0 ≡ 0 → number_if b commit n ≡ []
-no_number true commit n h = absurd (omega (arith, h))
-no_number false commit n h = refl
+no_number : (b : Bool) (count n : ℕ) → (if b then 1 else 0) + 0 ≡ 0 → numbers_if b count n ≡ []
+no_number true count n h = absurd (omega (arith, h))
+no_number false count n h = refl
 
 -- deeds of others have no numbers of the seat
 pub numbers_others : (seat n : ℕ) (more : List Deed) → ByOthers actor_of (seat ∷ []) more
     → numbers_of (by_seat seat) n more ≡ []
 numbers_others seat n [] h = refl
 numbers_others seat n (e ∷ es) h =
-    ap (λ (l : List ℕ). l ++ numbers_of (by_seat seat) (raised (is_commit e) n) es)
-    (no_number (by_seat seat e) (is_commit e) (raised (is_commit e) n) h.0)
-    ∙ numbers_others seat (raised (is_commit e) n) es h.1
+    ap (λ (l : List ℕ). l ++ numbers_of (by_seat seat) (raised_by e n) es)
+    (no_number (by_seat seat e) (made e) n h.0)
+    ∙ numbers_others seat (raised_by e n) es h.1
 
 pub own_order : OwnOrder
 own_order seat seen between e mine others = deeds_append (by_seat seat) (seen ++ between) (e ∷ [])

@@ -1,7 +1,10 @@
 -- The pieces of a seat, turn by turn.
-use Rattle.std.proofs.Common.{◌≡◌, ⊎_elim, ℕ, ◌+◌, ◌≤◌, ◌==◌, ◌&&◌, if◌then◌else◌, ℤ, Bool, true, false, List, [], ◌∷◌}
-use Rattle.std.proofs.Common.{◌++◌, refl, sym, ◌∙◌, ap, subst, arith, append_assoc, eq-eqb, Result, Ok, Err}
+use Rattle.std.proofs.Common.{◌≡◌, ⊎_elim, ℕ, ◌+◌, ◌-◌, ◌≤◌, ◌==◌, ◌&&◌, nat_lt, if◌then◌else◌, ℤ, Bool, true, false}
+use Rattle.std.proofs.Common.{List, []}
+use Rattle.std.proofs.Common.{◌∷◌, ◌++◌, length, refl, sym, ◌∙◌, ap, subst, arith, append_assoc, eq-eqb, Result, Ok}
+use Rattle.std.proofs.Common.{Err}
 use Rattle.std.specs.Prelude.{MatchResult, IfOk, IfErr}
+use Rattle.std.proofs.lemmas.Bool.{lt-ltb}
 use Rattle.std.proofs.lemmas.List.{append-nil}
 use Rattle.pcm_base.specs.declared.answer.Reply.TheVariants.{Done}
 use Rattle.pcm_base.specs.declared.command.Call.TheVariants.{Piece}
@@ -13,9 +16,11 @@ use Rattle.pin_turn.specs.declared.view.View.{View}
 use Rattle.pin_turn.specs.Rule.{ByOthers}
 use Rattle.editor_core.specs.Core.{Core}
 use Rattle.editor_core.specs.Took.{silent, told_by}
+use Rattle.edit_ports.specs.Answers.{numbered_pieces}
+use Rattle.pcm_base.specs.Recordings.{pieces_in, pieces_of}
 use Rattle.studio_seats.specs.declared.deed.Deed.{Deed}
 use Rattle.studio_seats.specs.declared.held.Held.{Held}
-use Rattle.studio_seats.specs.Deeds.{actor_of, deed, is_commit, number_after, raised}
+use Rattle.studio_seats.specs.Deeds.{actor_of, deed, is_commit, number_after, raised_by}
 use Rattle.studio_seats.specs.Desks.{Says, Spends, Turned, asked, views}
 use Rattle.studio_seats.specs.Pieces.{piece_by, piece_in, pieces_by}
 use Rattle.studio_seats.specs.Stands.{origin}
@@ -34,10 +39,10 @@ pub pieces_append : (to by seat n : ℕ) (xs ys : List Deed)
     → pieces_by to by seat n (xs ++ ys) ≡ pieces_by to by seat n xs ++ pieces_by to by seat (number_after n xs) ys
 pieces_append to by seat n [] ys = refl
 pieces_append to by seat n (d ∷ ds) ys =
-    ap (λ (l : List (List ℤ × ℕ)). piece_by to by seat d (raised (is_commit d) n) ++ l)
-    (pieces_append to by seat (raised (is_commit d) n) ds ys)
-    ∙ sym (append_assoc (piece_by to by seat d (raised (is_commit d) n)) (pieces_by to by seat
-    (raised (is_commit d) n) ds) (pieces_by to by seat (number_after (raised (is_commit d) n) ds) ys))
+    ap (λ (l : List (List ℤ × ℕ)). piece_by to by seat d n ++ l)
+    (pieces_append to by seat (raised_by d n) ds ys)
+    ∙ sym (append_assoc (piece_by to by seat d n) (pieces_by to by seat
+    (raised_by d n) ds) (pieces_by to by seat (number_after (raised_by d n) ds) ys))
 
 not_by : (mine commits : Bool) (piece : List (List ℤ × ℕ)) → (if mine then 1 else 0) + 0 ≡ 0
     → (if mine && commits then piece else []) ≡ []
@@ -49,9 +54,9 @@ pub pieces_others : (to by seat n : ℕ) (more : List Deed) → ByOthers actor_o
     → pieces_by to by seat n more ≡ []
 pieces_others to by seat n [] h = refl
 pieces_others to by seat n (d ∷ ds) h =
-    ap (λ (l : List (List ℤ × ℕ)). l ++ pieces_by to by seat (raised (is_commit d) n) ds)
-    (not_by (seat == d.actor) (is_commit d) (piece_in to by d.call (raised (is_commit d) n)) h.0)
-    ∙ pieces_others to by seat (raised (is_commit d) n) ds h.1
+    ap (λ (l : List (List ℤ × ℕ)). l ++ pieces_by to by seat (raised_by d n) ds)
+    (not_by (seat == d.actor) (is_commit d) (piece_in to by d.call n) h.0)
+    ∙ pieces_others to by seat (raised_by d n) ds h.1
 
 -- one turn of the seat
 one_turn : (to by seat n : ℕ) (seen between : List Deed) (d : Deed) → ByOthers actor_of (seat ∷ []) between
@@ -65,10 +70,13 @@ one_turn to by seat n seen between d others =
     (pieces_others to by seat (number_after n seen) between others) ∙ append-nil (pieces_by to by seat n seen)))
 
 piece_taken : (seat n track tag : ℕ) (samples : List ℤ)
-    → pieces_by track tag seat n (deed seat (Piece track tag samples) (Ok Done) silent ∷ []) ≡ (samples, n + 1) ∷ []
+    → pieces_by track tag seat n (deed seat (Piece track tag samples) (Ok Done) silent ∷ [])
+    ≡ numbered_pieces n (pieces_of samples)
 piece_taken seat n track tag samples =
-    λ i. (if (eq-eqb seat seat refl) i && true then
-    (if (eq-eqb track track refl) i && (eq-eqb tag tag refl) i then (samples, n + 1) ∷ [] else []) else []) ++ []
+    let some : nat_lt 0 (pieces_in (length samples)) ≡ true = lt-ltb 0 (pieces_in (length samples)) (omega arith) in
+    (λ i. (if (eq-eqb seat seat refl) i && some i then
+    (if (eq-eqb track track refl) i && (eq-eqb tag tag refl) i then numbered_pieces n (pieces_of samples) else [])
+    else []) ++ []) ∙ append-nil (numbered_pieces n (pieces_of samples))
 
 piece_left : (seat n track tag : ℕ) (samples : List ℤ) (why : Refusal)
     → pieces_by track tag seat n (deed seat (Piece track tag samples) (Err why) silent ∷ []) ≡ []
@@ -76,26 +84,19 @@ piece_left seat n track tag samples why =
     ap (λ (b : Bool). (if b && false then piece_in track tag (Piece track tag samples) n else []) ++ [])
     (eq-eqb seat seat refl)
 
--- the samples of a chunk are those that were asked for
-pub of_samples : {D V : Type 0} (disk : Ghosts D) (vaults : vault.Ghosts V) (start : Core D) (track tag : ℕ)
-    (samples other : List ℤ) (v w : View (Held D V) Deed) (said : Said ℕ) → other ≡ samples
-    → Says (origin disk vaults start) (asked (Piece track tag other) (told_by (λ _. Done) said.what) silent) said
-    (views v w)
-    → Says (origin disk vaults start) (asked (Piece track tag samples) (told_by (λ _. Done) said.what) silent) said
-    (views v w)
-of_samples disk vaults start track tag samples other v w said is h = subst
-    (λ (z : List ℤ).
-    Says (origin disk vaults start) (asked (Piece track tag z) (told_by (λ _. Done) said.what) silent) said (views v w))
-    is h
-
 module _ {D V : Type 0} (disk : Ghosts D) (vaults : vault.Ghosts V) (start : Core D) (track tag : ℕ) (samples : List ℤ)
     (v w : View (Held D V) Deed) where
   abbrev Pieces : View (Held D V) Deed → List (List ℤ × ℕ)
   Pieces x = pieces_by track tag x.number start.commit_number x.seen
 
+  -- the pieces of these samples more, whose numbers lead to this one
+  abbrev Added : ℕ → Type 0
+  Added number = (Pieces w
+      ≡ Pieces v ++ numbered_pieces (number - pieces_in (length samples)) (pieces_of samples))
+      × (pieces_in (length samples) ≤ number)
+
   abbrev Then : Result ℕ Refusal → Type 0
-  Then what = MatchResult what (λ (number : ℕ). Pieces w ≡ Pieces v ++ (samples, number) ∷ [])
-      (λ (why : Refusal). Pieces w ≡ Pieces v)
+  Then what = MatchResult what Added (λ (why : Refusal). Pieces w ≡ Pieces v)
 
   abbrev Took : Result ℕ Refusal → ℕ → Type 0
   Took what at =
@@ -110,12 +111,16 @@ module _ {D V : Type 0} (disk : Ghosts D) (vaults : vault.Ghosts V) (start : Cor
   taken : (what : Result ℕ Refusal) (at : ℕ) → Took what at → IfOk what (λ (number : ℕ). number ≡ at) → Then what
   taken (Ok number) at h is =
       let d : Deed = deed v.number (Piece track tag samples) (Ok Done) silent in
-      let counts : at ≡ number_after start.commit_number (v.seen ++ h.between) + 1 =
+      let before : ℕ = number_after start.commit_number (v.seen ++ h.between) in
+      let counts : at ≡ before + pieces_in (length samples) =
       h.number ∙ turned_number h ∙ number_append start.commit_number (v.seen ++ h.between) (d ∷ []) in
-      ap Pieces h.view ∙ (one_turn track tag v.number start.commit_number v.seen h.between d h.by_others
-      ∙ ap (λ (l : List (List ℤ × ℕ)). pieces_by track tag v.number start.commit_number v.seen ++ l)
-      (piece_taken v.number (number_after start.commit_number (v.seen ++ h.between)) track tag samples
-      ∙ ap (λ (n : ℕ). (samples, n) ∷ []) (sym (is ∙ counts))))
+      let from : before ≡ number - pieces_in (length samples) = omega (arith, is, counts) in (
+        ap Pieces h.view ∙ (one_turn track tag v.number start.commit_number v.seen h.between d h.by_others
+            ∙ ap (λ (l : List (List ℤ × ℕ)). pieces_by track tag v.number start.commit_number v.seen ++ l)
+            (piece_taken v.number before track tag samples
+            ∙ ap (λ (n : ℕ). numbered_pieces n (pieces_of samples)) from)),
+        omega (arith, is, counts),
+      )
   taken (Err why) at h is =
       let d : Deed = deed v.number (Piece track tag samples) (Err why) silent in
       ap Pieces h.view ∙ (one_turn track tag v.number start.commit_number v.seen h.between d h.by_others
@@ -123,7 +128,7 @@ module _ {D V : Type 0} (disk : Ghosts D) (vaults : vault.Ghosts V) (start : Cor
       (piece_left v.number (number_after start.commit_number (v.seen ++ h.between)) track tag samples why)
       ∙ append-nil (pieces_by track tag v.number start.commit_number v.seen)))
 
-  -- after a call at the desk the seat has one piece more, or as many as before
+  -- after a call at the desk the seat has those pieces more, or as many as before
   takes : (said : Said ℕ) → SaysPiece said → IfOk said.what (λ (number : ℕ). number ≡ said.at) → Then said.what
   takes said h is = ⊎_elim
       (λ (x : Took said.what said.at). taken said.what said.at x is)
@@ -131,14 +136,12 @@ module _ {D V : Type 0} (disk : Ghosts D) (vaults : vault.Ghosts V) (start : Cor
       h
 
   pub takes_ok : (said : Said ℕ) → SaysPiece said → IfOk said.what (λ (number : ℕ). number ≡ said.at)
-      → IfOk said.what (λ (number : ℕ). Pieces w ≡ Pieces v ++ (samples, number) ∷ [])
-  takes_ok said h is = ok_of (λ (number : ℕ). Pieces w ≡ Pieces v ++ (samples, number) ∷ [])
-      (λ (why : Refusal). Pieces w ≡ Pieces v) said.what (takes said h is)
+      → IfOk said.what Added
+  takes_ok said h is = ok_of Added (λ (why : Refusal). Pieces w ≡ Pieces v) said.what (takes said h is)
 
   pub takes_err : (said : Said ℕ) → SaysPiece said → IfOk said.what (λ (number : ℕ). number ≡ said.at)
       → IfErr said.what (λ (why : Refusal). Pieces w ≡ Pieces v)
-  takes_err said h is = err_of (λ (number : ℕ). Pieces w ≡ Pieces v ++ (samples, number) ∷ [])
-      (λ (why : Refusal). Pieces w ≡ Pieces v) said.what (takes said h is)
+  takes_err said h is = err_of Added (λ (why : Refusal). Pieces w ≡ Pieces v) said.what (takes said h is)
 
   -- a number to which the deeds led that it had seen is no higher than that to which they lead now
   pub tagged : (said : Said ℕ) (least : ℕ) → SaysPiece said → least ≤ number_after start.commit_number v.seen

@@ -1,9 +1,10 @@
 -- A recorder goes on, call by call.
 use Rattle.std.proofs.Common.{◌≡◌, ◌⊎◌, ⊎_elim, inl, inr, ℕ, ◌+◌, ◌<◌, ◌≤◌, ℤ, Bool, true, false, List, [], ◌∷◌, ◌++◌}
-use Rattle.std.proofs.Common.{Option, None, refl, sym, ◌∙◌, ap, subst, arith, Result, Ok, Err, IfErr}
+use Rattle.std.proofs.Common.{length, Option, None, refl, sym, ◌∙◌, ap, subst, arith, Result, Ok, Err, IfErr}
 use Rattle.std.specs.Prelude.{is_err, IsOk, OnOk}
 use Rattle.std.proofs.lemmas.Bool.{true≢false}
 use Rattle.std.proofs.lemmas.List.{append-nil}
+use Rattle.pcm_base.specs.Recordings.{pieces_in}
 use Rattle.pcm_base.specs.declared.answer.Reply.{Reply}
 use Rattle.pcm_base.specs.declared.answer.Reply.TheVariants.{Done}
 use Rattle.pcm_base.specs.declared.command.Call.{Call}
@@ -24,14 +25,15 @@ use Rattle.studio_seats.specs.declared.held.Held.{Held}
 use Rattle.studio_seats.specs.declared.deed.Deed.{Deed}
 use Rattle.studio_seats.specs.Deeds.{deed, entries_of, entry_of, number_after}
 use Rattle.studio_seats.specs.Desks.{Says, Spends, Turned, asked, spent, views}
-use Rattle.studio_seats.specs.Freeing.{AreFreed, IsFullReclaim, unfreed}
+use Rattle.studio_seats.specs.Freeing.{AreFreed, IsDue, IsFullReclaim, unfreed}
 use Rattle.studio_seats.specs.Merge.{by_seat, deeds_of}
 use Rattle.studio_seats.specs.Onward.{AreDone, Asks, EndsBy, Onward}
 use Rattle.studio_seats.specs.Pieces.{pieces_by}
 use Rattle.studio_seats.specs.Recording.{Frees, FreesOnce, FreesTo, Recorder, RecorderAsks, RecordsOn, asks_piece}
 use Rattle.studio_seats.specs.Recording.{recorder}
 use Rattle.studio_seats.specs.Stands.{origin}
-use Rattle.studio_seats.proofs.FreeingLemmas.{asked_own, freed_append, no_piece_among, no_pieces_by, none_by}
+use Rattle.studio_seats.proofs.FreeingLemmas.{asked_own, freed_append, freed_ended, no_piece_among, no_pieces_by}
+use Rattle.studio_seats.proofs.FreeingLemmas.{none_by}
 use Rattle.studio_seats.proofs.FreeingLemmas.{reclaim_frees, unfreed_append}
 use Rattle.studio_seats.proofs.Grown.{entries_append}
 use Rattle.studio_seats.proofs.MergeLemmas.{deeds_append}
@@ -41,7 +43,7 @@ use Rattle.studio_seats.proofs.Turns.{number_on}
 use Rattle.studio_seats.proofs.WorkLemmas.{ends_later, onward_as, own_turn}
 
 -- a recorder that was asked nothing
-pub records_self : {D V : Type 0} (track tag : ℕ) (v : Recorder D V) → RecordsOn track tag false v v
+pub records_self : {D V : Type 0} (track tag : ℕ) (v : Recorder D V) → RecordsOn track tag false false v v
 records_self track tag v = record {
   onward = onward_self (RecorderAsks track tag) v.view;
   unrefused = λ going. refl;
@@ -50,10 +52,11 @@ records_self track tag v = record {
   since = inl refl;
 }
 
--- a piece more of a recorder that nothing had refused since `a`
+-- some pieces more of a recorder that nothing had refused since `a`
 module _ {D V : Type 0} (track tag : ℕ) (disk : Ghosts D) (vaults : vault.Ghosts V) (start : Core D) (a : Recorder D V)
-    (v w : View (Held D V) Deed) (old new : Option Refusal) (since : ℕ) (samples : List ℤ) (few : since < 64)
-    (h : RecordsOn track tag false a (recorder v old since)) where
+    (v w : View (Held D V) Deed) (old new : Option Refusal) (since count : ℕ) (samples : List ℤ)
+    (many : pieces_in (length samples) ≡ count) (few : since + count ≤ 64)
+    (h : RecordsOn track tag false false a (recorder v old since)) where
   abbrev own : List Deed
   own = deeds_of (by_seat a.view.number) h.onward.added
 
@@ -100,26 +103,27 @@ module _ {D V : Type 0} (track tag : ℕ) (disk : Ghosts D) (vaults : vault.Ghos
   goes : (r : Result ℕ Refusal) (at : ℕ) (t : Taken r at) → (new' : Option Refusal) (failed : Bool)
       → (failed ≡ false → new' ≡ a.refused)
       → (a.refused ≡ None → EndsBy w.used_up new' (deeds_of asks_piece own ++ done_of r ∷ []))
-      → RecordsOn track tag failed a (recorder w new' (since + 1))
+      → RecordsOn track tag false failed a (recorder w new' (since + count))
   goes r at t new' failed unrefused ends =
       let e : Entry = entry_of (done_of r) in
       let is : unfreed a.since (entries_of own) ≡ since = counted t.unspent in
-      let one : unfreed a.since (entries_of own) + 1 ≤ 64 = omega (arith, is, few) in
+      let most : unfreed a.since (entries_of own) + pieces_in (length samples) ≤ 64 = omega (arith, is, many, few) in
       record {
         onward = onward_on (RecorderAsks track tag) a.view v w h.onward
             (onward_taken (RecorderAsks track tag) disk vaults start v w c (what_of r) silent at
             (inl (samples, refl)) t);
         unrefused = unrefused;
         ends = λ none. subst (λ (l : List Deed). EndsBy w.used_up new' l) (sym (pieces_more r at t)) (ends none);
-        freed = subst (λ (l : List Entry). AreFreed a.since l) (sym (entries_more r at t))
-            (freed_append a.since (entries_of own) (e ∷ []) h.freed
-            ((λ other. absurd (true≢false other)), one, tt));
+        freed = subst (λ (l : List Entry). AreFreed false a.since l) (sym (entries_more r at t))
+            (freed_append false a.since (entries_of own) (e ∷ []) h.freed
+            ((λ other. absurd (true≢false other)), most, tt));
         since = inl (ap (unfreed a.since) (entries_more r at t)
-            ∙ (unfreed_append a.since (entries_of own) (e ∷ []) ∙ ap (λ (n : ℕ). n + 1) is));
+            ∙ (unfreed_append a.since (entries_of own) (e ∷ []) ∙ (λ i. is i + many i)));
       }
 
   taken : (r : Result ℕ Refusal) (at : ℕ) → Taken r at → OnOk r (new ≡ old)
-      → IfErr r (λ why. new ≡ first_refusal old why) → RecordsOn track tag (is_err r) a (recorder w new (since + 1))
+      → IfErr r (λ why. new ≡ first_refusal old why)
+      → RecordsOn track tag false (is_err r) a (recorder w new (since + count))
   taken (Ok x) at t same first = goes (Ok x) at t new false (λ going. same ∙ h.unrefused refl)
       (λ none. subst (λ (o : Option Refusal). EndsBy w.used_up o (deeds_of asks_piece own ++ done_of (Ok x) ∷ []))
       (sym (same ∙ none_yet none))
@@ -136,7 +140,8 @@ module _ {D V : Type 0} (track tag : ℕ) (disk : Ghosts D) (vaults : vault.Ghos
       }))
 
   spends : (r : Result ℕ Refusal) → r ≡ Err spent → w ≡ record v { used_up = true }
-      → IfErr r (λ why. new ≡ first_refusal old why) → RecordsOn track tag (is_err r) a (recorder w new (since + 1))
+      → IfErr r (λ why. new ≡ first_refusal old why)
+      → RecordsOn track tag false (is_err r) a (recorder w new (since + count))
   spends (Ok x) is view first = cc
   spends (Err why) is view first =
       let used : w.used_up ≡ true = ap (λ (z : View (Held D V) Deed). z.used_up) view in
@@ -149,14 +154,14 @@ module _ {D V : Type 0} (track tag : ℕ) (disk : Ghosts D) (vaults : vault.Ghos
         ends = λ none. subst (λ (z : Option Refusal × List Deed). EndsBy w.used_up z.0 (deeds_of asks_piece z.1))
             (λ i. (sym (first ∙ ap (λ (o : Option Refusal). first_refusal o why) (none_yet none)) i, sym same i))
             (inr record { each = each_done none; spent_is = cc; found = used });
-        freed = subst (λ (l : List Deed). AreFreed a.since (entries_of l)) (sym same) h.freed;
+        freed = subst (λ (l : List Deed). AreFreed false a.since (entries_of l)) (sym same) h.freed;
         since = inr used;
       }
 
   pub records_turn : (said : Said ℕ)
       → Says (origin disk vaults start) (asked c (what_of said.what) silent) said (views v w)
       → OnOk said.what (new ≡ old) → IfErr said.what (λ why. new ≡ first_refusal old why)
-      → RecordsOn track tag (is_err said.what) a (recorder w new (since + 1))
+      → RecordsOn track tag false (is_err said.what) a (recorder w new (since + count))
   records_turn said says same first = ⊎_elim
       (λ (t : Taken said.what said.at). taken said.what said.at t same first)
       (λ (x : Spends v said w). spends said.what x.what x.view first)
@@ -181,7 +186,7 @@ frees_turn {D} {V} disk vaults start v w what said says = ⊎_elim
 module _ {D V : Type 0} (track tag : ℕ) (v w : View (Held D V) Deed) where
   -- what a recorder did before a reclaim, and that
   module _ (failed : Bool) (a : Recorder D V) (refused : Option Refusal) (since : ℕ)
-      (h : RecordsOn track tag failed a (recorder v refused since)) where
+      (h : RecordsOn track tag false failed a (recorder v refused since)) where
     abbrev before : List Deed
     before = deeds_of (by_seat a.view.number) h.onward.added
 
@@ -193,15 +198,16 @@ module _ {D V : Type 0} (track tag : ℕ) (v w : View (Held D V) Deed) where
     counted_before unspent = ⊎_elim (λ (is : since_before ≡ since). is)
         (λ (used : v.used_up ≡ true). absurd (true≢false (sym used ∙ unspent))) h.since
 
-    -- the entry of the reclaim, if one was made, comes after a piece
-    freed_more : (more : List Deed) → Each (λ d. IsFullReclaim d.call) more → 1 ≤ since → FreesOnce v w more
-        → AreFreed since_before (entries_of more)
-    freed_more more reclaims some (inl x) =
-        subst (λ (l : List Deed). AreFreed since_before (entries_of l)) (sym x.2)
-        (reclaim_frees since_before x.1 (subst (λ (l : List Deed). Each (λ d. IsFullReclaim d.call) l) x.2 reclaims).0
-        (subst (λ (n : ℕ). 1 ≤ n) (sym (counted_before x.0)) some))
-    freed_more more reclaims some (inr x) =
-        subst (λ (l : List Deed). AreFreed since_before (entries_of l)) (sym x.1) tt
+    -- the entry of the reclaim, if one was made, was due
+    freed_more : (ended : Bool) (more : List Deed) → Each (λ d. IsFullReclaim d.call) more → IsDue ended since
+        → FreesOnce v w more → AreFreed ended since_before (entries_of more)
+    freed_more ended more reclaims due (inl x) =
+        subst (λ (l : List Deed). AreFreed ended since_before (entries_of l)) (sym x.2)
+        (reclaim_frees ended since_before x.1
+        (subst (λ (l : List Deed). Each (λ d. IsFullReclaim d.call) l) x.2 reclaims).0
+        (subst (λ (n : ℕ). IsDue ended n) (sym (counted_before x.0)) due))
+    freed_more ended more reclaims due (inr x) =
+        subst (λ (l : List Deed). AreFreed ended since_before (entries_of l)) (sym x.1) tt
 
     -- and after it no piece stands
     none_more : (more : List Deed) → Each (λ d. IsFullReclaim d.call) more → FreesOnce v w more
@@ -210,8 +216,8 @@ module _ {D V : Type 0} (track tag : ℕ) (v w : View (Held D V) Deed) where
         ∙ none_by since_before x.1.call (subst (λ (l : List Deed). Each (λ d. IsFullReclaim d.call) l) x.2 reclaims).0)
     none_more more reclaims (inr x) = inr x.0
 
-    frees : 1 ≤ since → Frees v w → RecordsOn track tag failed a (recorder w refused 0)
-    frees some f =
+    frees : (ended : Bool) → IsDue ended since → Frees v w → RecordsOn track tag ended failed a (recorder w refused 0)
+    frees ended due f =
         let n : ℕ = a.view.number in
         let more : List Deed = deeds_of (by_seat n) f.onward.added in
         let own : deeds_of (by_seat n) (h.onward.added ++ f.onward.added) ≡ before ++ more =
@@ -233,8 +239,9 @@ module _ {D V : Type 0} (track tag : ℕ) (v w : View (Held D V) Deed) where
           unrefused = h.unrefused;
           ends = λ none. subst (λ (l : List Deed). EndsBy w.used_up refused l) (sym pieces)
               (ends_later v.used_up w.used_up refused (deeds_of asks_piece before) f.onward.used_up (h.ends none));
-          freed = subst (λ (l : List Entry). AreFreed a.since l) (sym entries)
-              (freed_append a.since (entries_of before) (entries_of more) h.freed (freed_more more reclaims some once));
+          freed = subst (λ (l : List Entry). AreFreed ended a.since l) (sym entries)
+              (freed_append ended a.since (entries_of before) (entries_of more) h.freed
+              (freed_more ended more reclaims due once));
           since = ⊎_elim
               (λ (none : unfreed since_before (entries_of more) ≡ 0). inl (ap (unfreed a.since) entries
               ∙ (unfreed_append a.since (entries_of before) (entries_of more) ∙ none)))
@@ -242,17 +249,29 @@ module _ {D V : Type 0} (track tag : ℕ) (v w : View (Held D V) Deed) where
               (none_more more reclaims once);
         }
 
-    -- the same where it may have made none
-    pub records_free : (left : ℕ) → FreesTo since v left w → RecordsOn track tag failed a (recorder w refused left)
-    records_free left (inl stays) =
-        subst (λ (z : ℕ × View (Held D V) Deed). RecordsOn track tag failed a (recorder z.1 refused z.0))
-        (λ i. (sym stays.0 i, sym stays.1 i)) h
-    records_free left (inr made) = subst (λ (n : ℕ). RecordsOn track tag failed a (recorder w refused n)) (sym made.0)
-        (frees made.1 made.2)
+    -- it did nothing
+    stays_freed : (ended : Bool) → RecordsOn track tag ended failed a (recorder v refused since)
+    stays_freed ended = record {
+      onward = h.onward;
+      unrefused = h.unrefused;
+      ends = h.ends;
+      freed = freed_ended ended a.since (entries_of before) h.freed;
+      since = h.since;
+    }
 
-  module _ (since left : ℕ) where
+    -- the same where it may have made none
+    pub records_free : (ended : Bool) (left : ℕ) → FreesTo ended since v left w
+        → RecordsOn track tag ended failed a (recorder w refused left)
+    records_free ended left (inl stays) =
+        subst (λ (z : ℕ × View (Held D V) Deed). RecordsOn track tag ended failed a (recorder z.1 refused z.0))
+        (λ i. (sym stays.0 i, sym stays.1 i)) (stays_freed ended)
+    records_free ended left (inr made) =
+        subst (λ (n : ℕ). RecordsOn track tag ended failed a (recorder w refused n)) (sym made.0)
+        (frees ended made.1 made.2)
+
+  module _ (ended : Bool) (since left : ℕ) where
     -- its pieces are the same
-    pub pieces_free : (first : ℕ) → FreesTo since v left w
+    pub pieces_free : (first : ℕ) → FreesTo ended since v left w
         → pieces_by track tag w.number first w.seen ≡ pieces_by track tag v.number first v.seen
     pieces_free first (inl stays) =
         ap (λ (z : View (Held D V) Deed). pieces_by track tag z.number first z.seen) stays.1
@@ -265,7 +284,7 @@ module _ {D V : Type 0} (track tag : ℕ) (v w : View (Held D V) Deed) where
         ∙ append-nil (pieces_by track tag v.number first v.seen)))
 
     -- a number to which the deeds led is no higher than that to which they lead now
-    pub number_free : (first least : ℕ) → FreesTo since v left w → least ≤ number_after first v.seen
+    pub number_free : (first least : ℕ) → FreesTo ended since v left w → least ≤ number_after first v.seen
         → least ≤ number_after first w.seen
     number_free first least (inl stays) low =
         subst (λ (z : View (Held D V) Deed). least ≤ number_after first z.seen) (sym stays.1) low

@@ -15,7 +15,7 @@ use Rattle.pcm_base.specs.Studio as model
 use Rattle.editor_core.specs.Studios.{shown}
 use Rattle.editor_core.specs.Took.{number_behind}
 use Rattle.model_laws.proofs.Answered.{carried_is}
-use Rattle.studio_seats.specs.Deeds.{commits, raised}
+use Rattle.studio_seats.specs.Deeds.{commits}
 
 pub stopped_not : (o : Option ℕ) → IsSome o → o ≡ None → ⊥
 stopped_not None some none = cc
@@ -67,21 +67,8 @@ stopped_shown t u c sound (Err why) h going stops = same_shown t u (refused_same
 
 -- ---- the commit number
 
-line_raised : (commits : Bool) (n : ℕ)
-    → n + (if commits then 1 else 0) ≡ raised ((if commits then 1 else 0) == 1) n
-line_raised true n = refl
-line_raised false n = omega arith
-
-call_raised : (c : Call) (n : ℕ) → n + commits_of c ≡ raised (commits_of c == 1) n
-call_raised (call.Line c) n = line_raised (is_commit (shape_of c)) n
-call_raised (call.Piece track tag samples) n = refl
-call_raised call.Pin n = omega arith
-call_raised (call.PinLen pin) n = omega arith
-call_raised (call.ReadPin pin from count) n = omega arith
-call_raised (call.Unpin pin) n = omega arith
-
--- it is raised by one at each commit
+-- it is raised by the commits of the call
 pub number_raised : (what : Result Reply Refusal) (c : Call) (n : ℕ)
-    → number_behind what c n ≡ raised (commits what c) n
-number_raised (Ok r) c n = call_raised c n
-number_raised (Err why) c n = refl
+    → number_behind what c n ≡ n + commits what c
+number_raised (Ok r) c n = refl
+number_raised (Err why) c n = omega arith

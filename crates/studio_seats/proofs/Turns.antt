@@ -19,7 +19,7 @@ use Rattle.editor_core.specs.Core.{Core, core_of}
 use Rattle.editor_core.specs.Studios.{IsStudio}
 use Rattle.studio_seats.specs.declared.deed.Deed.{Deed}
 use Rattle.studio_seats.specs.declared.held.Held.{Held}
-use Rattle.studio_seats.specs.Deeds.{actor_of, deed, is_commit, number_after, raised}
+use Rattle.studio_seats.specs.Deeds.{actor_of, deed, number_after, raised_by}
 use Rattle.studio_seats.specs.Desks.{Asked, Says, Spends, Turned, Views, asked, deed_of, spent, views}
 use Rattle.studio_seats.specs.Holding.{HeldFor}
 use Rattle.studio_seats.specs.Stands.{AllTell, Does, Origin, origin}
@@ -148,22 +148,97 @@ module _ {D V : Type 0} (disk : Ghosts D) (vaults : vault.Ghosts V) where
     either_way f' w (Ok s) P took still met = met s took.value took.value' took.called
     either_way f' w (Err y) P h still met = still h.1
 
--- ---- the commit number to which deeds lead
+  -- the same where the call itself is known only after the turn, by what the closure left
+  module _ {F A : Type 0} (start : Held D V) (v : View (Held D V) Deed)
+      (g : Mut F (MutBor (Held D V) × Unit {0}) (Said A × (MutBor (Held D V) × Unit {0}))) (f : F)
+      (call : F → Call) (what : Said A → F → Result Reply Refusal) (sound : F → SoundMove) where
+    abbrev done_by : Said A → F → Deed
+    done_by s f' = deed v.number (call f') (what s f') (sound f')
 
-pub raised_grows : (b : Bool) (n : ℕ) → n ≤ raised b n
-raised_grows true n = omega arith
-raised_grows false n = omega arith
+    pub fits_by : ((more : List Deed) (x : Held D V) → ByOthers actor_of (v.number ∷ []) more
+        → HeldFor disk vaults start x (v.seen ++ more) → TakesAtMut g f x)
+        → ((s : Said A) (f' : F) (x x' : Held D V) (called : CalledAtMut g f x s f' x')
+        → Does disk (AllTell vaults) (core called.shown.now) (done_by s f') (core called.left.now))
+        → FitsTurn (meaning (HeldFor disk vaults) actor_of start) v g f (λ s f'. done_by s f' ∷ [])
+    fits_by may does = record {
+      may = λ more x others few stood. may more x others stood;
+      leaves = λ more x others few stood s f' x' called.
+          extends (origin disk vaults (core start)) (core x) (core x') (v.seen ++ more) stood (done_by s f')
+          (does_at x x' called.shown.now called.left.now (done_by s f') (does s f' x x' called) called.shows
+          called.leaves);
+      by_seat = λ s f'. (done_by s f', refl, refl);
+    }
+
+    pub record CalledBy (f' : F) (s : Said A) (x x' : Held D V) (said_call : Call)
+        (said_what : Said A → Result Reply Refusal) (said_sound : SoundMove) : Type 0 where
+      pub does : Does disk (AllTell vaults) (core x) (done_by s f') (core x')
+      pub number : s.at ≡ (core x').commit_number
+      pub call_is : call f' ≡ said_call
+      pub what_is : what s f' ≡ said_what s
+      pub sound_is : sound f' ≡ said_sound
+
+    turned_by : (s : Said A) (f' : F) (w : View (Held D V) Deed) (said_call : Call)
+        (said_what : Said A → Result Reply Refusal) (said_sound : SoundMove)
+        (took : TookTurn (meaning (HeldFor disk vaults) actor_of start) g (called_as f s f')
+        (addition v (done_by s f' ∷ []) w))
+        → CalledBy f' s took.called.shown.now took.called.left.now said_call said_what said_sound
+        → Turned (origin disk vaults (core start)) (asked said_call (said_what s) said_sound) s.at (views v w)
+    turned_by s f' w said_call said_what said_sound took at =
+        let does = does_at took.value took.value' took.called.shown.now took.called.left.now (done_by s f') at.does
+        took.called.shows took.called.leaves in
+        subst (λ (z : Call × Result Reply Refusal × SoundMove).
+        Turned (origin disk vaults (core start)) (asked z.0 z.1 z.2) s.at (views v w))
+        (λ i. (at.call_is i, at.what_is i, at.sound_is i)) record {
+          between = took.between;
+          by_others = took.by_others;
+          few = took.few;
+          unspent = took.unspent;
+          view = took.view;
+          before = core took.value;
+          after = core took.value';
+          stood = took.stood;
+          does = does;
+          stands = extends (origin disk vaults (core start)) (core took.value) (core took.value')
+              (v.seen ++ took.between) took.stood (done_by s f') does;
+          number = at.number ∙ ap (λ (z : Held D V). (core z).commit_number) took.called.leaves;
+        }
+
+    pub says_by : (f' : F) (said_call : Call) (said_what : Said A → Result Reply Refusal) (said_sound : SoundMove)
+        (w : View (Held D V) Deed) (result : Result (Said A) Spent) (said : Said A)
+        → MatchResult result (λ s. TookTurn (meaning (HeldFor disk vaults) actor_of start) g (called_as f s f')
+        (addition v (done_by s f' ∷ []) w))
+        (λ _. (w ≡ record v { used_up = true }) × (f' ≡ f))
+        → MatchResult result (λ s. said ≡ s) (λ _. (said.at ≡ 0) × (said.what ≡ Err spent))
+        → ((s : Said A) (x x' : Held D V) (called : CalledAtMut g f x s f' x')
+        → CalledBy f' s called.shown.now called.left.now said_call said_what said_sound)
+        → Says (origin disk vaults (core start)) (asked said_call (said_what said) said_sound) said (views v w)
+    says_by f' said_call said_what said_sound w (Ok s) said took same at =
+        inl (subst (λ (z : Said A).
+        Turned (origin disk vaults (core start)) (asked said_call (said_what z) said_sound) z.at (views v w)) (sym same)
+        (turned_by s f' w said_call said_what said_sound took (at s took.value took.value' took.called)))
+    says_by f' said_call said_what said_sound w (Err y) said h none at =
+        inr record { at = none.0; what = none.1; view = h.0 }
+
+    -- taken or not
+    pub either_by : (f' : F) (w : View (Held D V) Deed) (result : Result (Said A) Spent) (P : Type 0)
+        → MatchResult result (λ s. TookTurn (meaning (HeldFor disk vaults) actor_of start) g (called_as f s f')
+        (addition v (done_by s f' ∷ []) w))
+        (λ _. (w ≡ record v { used_up = true }) × (f' ≡ f))
+        → (f' ≡ f → P) → ((s : Said A) (x x' : Held D V) (called : CalledAtMut g f x s f' x') → P) → P
+    either_by f' w (Ok s) P took still met = met s took.value took.value' took.called
+    either_by f' w (Err y) P h still met = still h.1
+
+-- ---- the commit number to which deeds lead
 
 pub number_grows : (n : ℕ) (ds : List Deed) → n ≤ number_after n ds
 number_grows n [] = omega arith
 number_grows n (d ∷ ds) =
-    let h = number_grows (raised (is_commit d) n) ds in
-    let k = raised_grows (is_commit d) n in
-    omega (arith, h, k)
+    let h = number_grows (raised_by d n) ds in
+    omega (arith, h)
 
 pub number_on : (n : ℕ) (ds more : List Deed) → number_after n ds ≤ number_after n (ds ++ more)
 number_on n [] more = number_grows n more
-number_on n (d ∷ ds) more = number_on (raised (is_commit d) n) ds more
+number_on n (d ∷ ds) more = number_on (raised_by d n) ds more
 
 -- the number that a turn tells is that to which the deeds lead
 pub turned_number : {D V : Type 0} {o : Origin D V} {a : Asked} {at : ℕ} {seat : Views D V} (x : Turned o a at seat)

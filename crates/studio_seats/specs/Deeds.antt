@@ -1,5 +1,5 @@
 -- What the turns of a desk do.
-use Rattle.std.specs.Prelude.{ℕ, ◌+◌, ◌==◌, Bool, true, false, List, [], ◌∷◌, Result, Ok, Err}
+use Rattle.std.specs.Prelude.{ℕ, ◌+◌, nat_lt, Bool, List, [], ◌∷◌, Result, Ok, Err}
 use Rattle.pcm_base.specs.declared.answer.Reply.{Reply}
 use Rattle.pcm_base.specs.declared.command.Call.{Call}
 use Rattle.pcm_base.specs.declared.entry.Entry.{Entry}
@@ -23,20 +23,23 @@ abbrev pub entries_of : List Deed → List Entry
 entries_of [] = []
 entries_of (d ∷ ds) = entry_of d ∷ entries_of ds
 
--- whether a call was carried out that is a commit
-abbrev pub commits : Result Reply Refusal → Call → Bool
-commits (Ok r) call = commits_of call == 1
-commits (Err why) call = false
+-- how many commits a call made, by its answer
+abbrev pub commits : Result Reply Refusal → Call → ℕ
+commits (Ok r) call = commits_of call
+commits (Err why) call = 0
 
+abbrev pub made : Deed → ℕ
+made d = commits d.what d.call
+
+-- whether it made any
 abbrev pub is_commit : Deed → Bool
-is_commit d = commits d.what d.call
+is_commit d = nat_lt 0 (made d)
 
--- one more where it is a commit
-abbrev pub raised : Bool → ℕ → ℕ
-raised true n = n + 1
-raised false n = n
+-- a commit number after a deed
+abbrev pub raised_by : Deed → ℕ → ℕ
+raised_by d n = n + made d
 
 -- the commit number to which deeds lead from this one
 abbrev pub number_after : ℕ → List Deed → ℕ
 number_after n [] = n
-number_after n (d ∷ ds) = number_after (raised (is_commit d) n) ds
+number_after n (d ∷ ds) = number_after (raised_by d n) ds

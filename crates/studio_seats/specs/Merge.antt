@@ -4,10 +4,11 @@ use Rattle.std.specs.Prelude.{length, take}
 use Rattle.std.specs.List.{zip}
 use Rattle.pin_turn.specs.Counts.{Each, times, once_below}
 use Rattle.pin_turn.specs.Rule.{ByOthers}
+use Rattle.pcm_base.specs.Arithmetic.{counted_from}
 use Rattle.pcm_base.specs.declared.command.Call.{Call}
 use Rattle.pcm_base.specs.declared.command.Call.TheVariants as call
 use Rattle.studio_seats.specs.declared.deed.Deed.{Deed}
-use Rattle.studio_seats.specs.Deeds.{actor_of, is_commit, number_after, raised}
+use Rattle.studio_seats.specs.Deeds.{actor_of, is_commit, made, number_after, raised_by}
 use Rattle.studio_seats.specs.Pieces.{pieces_by}
 
 abbrev pub by_seat : ℕ → Deed → Bool
@@ -16,15 +17,14 @@ by_seat seat e = seat == e.actor
 abbrev pub any_seat : Deed → Bool
 any_seat e = true
 
--- the number of a commit, where it is of a kind
-abbrev pub number_if : Bool → Bool → ℕ → List ℕ
-number_if kind commit n = if kind && commit then n ∷ [] else []
+-- the numbers of so many commits after this one, where they are of a kind
+abbrev pub numbers_if : Bool → ℕ → ℕ → List ℕ
+numbers_if kind count n = if kind then counted_from (n + 1) count else []
 
 -- the commit numbers of the deeds of a kind, by the number before the list
 abbrev pub numbers_of : (Deed → Bool) → ℕ → List Deed → List ℕ
 numbers_of kind n [] = []
-numbers_of kind n (e ∷ es) =
-    number_if (kind e) (is_commit e) (raised (is_commit e) n) ++ numbers_of kind (raised (is_commit e) n) es
+numbers_of kind n (e ∷ es) = numbers_if (kind e) (made e) n ++ numbers_of kind (raised_by e n) es
 
 -- the deeds of a kind, in order
 abbrev pub deeds_of : (Deed → Bool) → List Deed → List Deed

@@ -1,12 +1,12 @@
 -- How what the seat of a recorder knows goes on: by pieces of its recording, and by reclaims.
-use Rattle.std.specs.Prelude.{◌≡◌, ◌⊎◌, ℕ, ◌≤◌, Bool, true, false, List, [], ◌∷◌, Option, None}
+use Rattle.std.specs.Prelude.{◌≡◌, ◌⊎◌, ℕ, Bool, true, false, List, [], ◌∷◌, Option, None}
 use Rattle.pcm_base.specs.declared.command.Call.{Call}
 use Rattle.pcm_base.specs.declared.refusal.Refusal.{Refusal}
 use Rattle.pin_turn.specs.declared.view.View.{View}
 use Rattle.studio_seats.specs.declared.deed.Deed.{Deed}
 use Rattle.studio_seats.specs.declared.held.Held.{Held}
 use Rattle.studio_seats.specs.Deeds.{entries_of}
-use Rattle.studio_seats.specs.Freeing.{AreFreed, IsFullReclaim, makes_piece, unfreed}
+use Rattle.studio_seats.specs.Freeing.{AreFreed, IsDue, IsFullReclaim, makes_piece, unfreed}
 use Rattle.studio_seats.specs.Merge.{by_seat, deeds_of}
 use Rattle.studio_seats.specs.Onward.{EndsBy, IsPieceOf, Onward}
 
@@ -37,19 +37,19 @@ module _ {D V : Type 0} where
     pub onward : Onward IsFullReclaim v w
     pub freed : FreesOnce v w (deeds_of (by_seat v.number) onward.added)
 
-  -- A seat that had asked for `since` pieces since its last reclaim did nothing, or made one after at least one piece.
-  -- Then it has asked for `left` since.
-  abbrev pub FreesTo : ℕ → View (Held D V) Deed → ℕ → View (Held D V) Deed → Type 0
-  FreesTo since v left w = ((left ≡ since) × (w ≡ v)) ⊎ ((left ≡ 0) × (1 ≤ since) × Frees v w)
+  -- A seat that had asked for `since` pieces since its last reclaim did nothing, or made one that was due. Then it has
+  -- asked for `left` since.
+  abbrev pub FreesTo : Bool → ℕ → View (Held D V) Deed → ℕ → View (Held D V) Deed → Type 0
+  FreesTo ended since v left w = ((left ≡ since) × (w ≡ v)) ⊎ ((left ≡ 0) × IsDue ended since × Frees v w)
 
   -- The seat of a recorder went on by pieces and reclaims, each a turn of its own, but for one for which no turn was
-  -- left. Of the pieces none was refused but the last, where it `failed`. At no time there were more than 64 since the
-  -- last reclaim, and it counts them, until no turn is left. Each reclaim comes after a piece.
-  pub record RecordsOn (track tag : ℕ) (failed : Bool) (v w : Recorder D V) : Type 0 where
+  -- left. Of the pieces none was refused but the last, where it `failed`. Each reclaim comes after 64 pieces, and it
+  -- counts those since the last, until no turn is left. If it `ended`, its last entry may be one after fewer.
+  pub record RecordsOn (track tag : ℕ) (ended failed : Bool) (v w : Recorder D V) : Type 0 where
     pub onward : Onward (RecorderAsks track tag) v.view w.view
     pub unrefused : failed ≡ false → w.refused ≡ v.refused
     pub ends : v.refused ≡ None → EndsBy w.view.used_up w.refused
         (deeds_of asks_piece (deeds_of (by_seat v.view.number) onward.added))
-    pub freed : AreFreed v.since (entries_of (deeds_of (by_seat v.view.number) onward.added))
+    pub freed : AreFreed ended v.since (entries_of (deeds_of (by_seat v.view.number) onward.added))
     pub since : (unfreed v.since (entries_of (deeds_of (by_seat v.view.number) onward.added)) ≡ w.since)
         ⊎ (w.view.used_up ≡ true)

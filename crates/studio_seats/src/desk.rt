@@ -13,6 +13,8 @@ mod reclaims;
 mod said;
 mod seats;
 
+pub use pieces::SaidPieces;
+
 /// One studio, which seats use in turns, with vaults of one type.
 pub struct Desk<S: Store, V: Vault> {
     turn: Turn<Held<S, V>>,

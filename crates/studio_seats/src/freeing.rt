@@ -1,5 +1,5 @@
 // What the seat of a recorder frees.
-ghost use Rattle.std.specs.Prelude.{◌+◌, ◌<◌};
+ghost use Rattle.std.specs.Prelude.{◌+◌, ◌<◌, ◌≤◌, false};
 ghost use Rattle.pin_turn.specs.Calls.{known};
 ghost use Rattle.studio_seats.specs.Desks.{IsAt};
 ghost use Rattle.studio_seats.specs.Recording.{Frees, FreesTo};
@@ -9,6 +9,9 @@ use super::held::DeskSeat;
 use disk_model::Store;
 use edit_ports::Vault;
 use std::sync::Wait;
+
+/// How many pieces a recorder's seat adds before it frees what they replaced.
+pub(crate) const PIECES: u64 = 64;
 
 /// Removes the files of blocks that nothing names, in one turn. What it is answered is dropped.
 pub(crate) fn free<R: Wait, S: Store, V: Vault>(
@@ -23,21 +26,23 @@ pub(crate) fn free<R: Wait, S: Store, V: Vault>(
     let _ = desk.reclaim(rt, seat, None);
 }
 
-/// How many pieces there are since the last reclaim, with one more. After 64 it makes one.
-pub(crate) fn count_piece<R: Wait, S: Store, V: Vault>(
+/// How many pieces there are since the last reclaim, with these more. After 64 it makes one.
+pub(crate) fn count_pieces<R: Wait, S: Store, V: Vault>(
     rt: &R,
     desk: &Desk<S, V>,
     seat: &mut DeskSeat<S, V>,
     since: u64,
+    more: u64,
 ) -> u64
     requires at { IsAt desk.now seat.old }
-    requires few { since < 64 }
+    requires few { since + more ≤ PIECES }
     ensures same { IsAt desk.now seat.new }
     ensures few { result < 64 }
-    ensures frees { FreesTo (since + 1) (known seat.old) result (known seat.new) }
+    ensures frees { FreesTo false (since + more) (known seat.old) result (known seat.new) }
 {
-    if since < 63 {
-        return since + 1;
+    let all = since + more;
+    if all < PIECES {
+        return all;
     }
     free(rt, desk, seat);
     0

@@ -2,6 +2,7 @@
 //! makes one call of the studio, and gives the turn back; what all seats did is one list, a run of the model.
 #![tactic(auto)]
 
+mod batch;
 mod deed;
 mod desk;
 mod first;
@@ -12,7 +13,7 @@ mod laws;
 mod taker;
 
 pub use deed::Deed;
-pub use desk::Desk;
+pub use desk::{Desk, SaidPieces};
 pub use giver::DeskGiver;
 pub use held::{DeskSeat, Held};
 pub use laws::{

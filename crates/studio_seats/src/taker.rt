@@ -1,22 +1,24 @@
 // A seat that takes the pieces of a recording.
-ghost use Rattle.std.specs.Prelude.{◌≡◌, ◌<◌, ◌≤◌, None};
+ghost use Rattle.std.specs.Prelude.{◌≡◌, ◌<◌, ◌≤◌, true, None, Ok, Err, MatchResult};
 ghost use Rattle.pin_turn.specs.Calls.{known};
 ghost use Rattle.studio_seats.specs.Deeds.{number_after};
 ghost use Rattle.studio_seats.specs.Desks.{IsAt, start_at};
 ghost use Rattle.studio_seats.specs.Recording.{FreesTo};
 
+use super::batch::{join_chunks, pieces_in};
 use super::desk::Desk;
 use super::first::first_of;
-use super::freeing::{count_piece, free};
+use super::freeing::{PIECES, count_pieces, free};
 use super::held::DeskSeat;
 use disk_model::Store;
-use edit_ports::{PieceTaker, Vault};
-use pcm_base::{Chunk, Refusal, Said};
+use edit_ports::{PieceTaker, Taken, Vault};
+use pcm_base::{BATCH_SAMPLES, Chunk, Refusal, Said};
 use std::alloc::Global;
 use std::sync::Wait;
 
-/// Each piece is one turn of the seat, at the end of a track, with the number of the recording as its tag. After 64
-/// pieces, and at its end, it removes the files of blocks that nothing names, in a turn of its own.
+/// The pieces of chunks that come together are one turn of the seat, at the end of a track, with the number of the
+/// recording as their tag. After 64 pieces, and at its end, it removes the files of blocks that nothing names, in a
+/// turn of its own. It takes no chunks past those 64 at once.
 #[derive(Drop)]
 pub struct DeskTaker<'a, S: Store, V: Vault> {
     desk: &'a Desk<S, V>,
@@ -31,6 +33,7 @@ pub struct DeskTaker<'a, S: Store, V: Vault> {
 }
 
 impl<'a, S: Store, V: Vault> PieceTaker for DeskTaker<'a, S, V> {
+    ghost use Rattle.std.specs.Prelude.{false};
     ghost use Rattle.studio_seats.specs.Pieces.{pieces_by};
     ghost use Rattle.studio_seats.specs.Recording.{RecordsOn, recorder};
 
@@ -40,24 +43,41 @@ impl<'a, S: Store, V: Vault> PieceTaker for DeskTaker<'a, S, V> {
     ghost refused = { λ s. s.refused };
 
     // It is of the same desk, and its seat went on by turns of its own: pieces of this recording, none of them after
-    // one that was refused, and reclaims. At no time there were more than 64 pieces since the last reclaim, and each
-    // reclaim comes after a piece.
+    // one that was refused, and reclaims, each after 64 pieces.
     ghost follows = { λ first failed s. (s.desk.now ≡ first.desk.now) × (s.track ≡ first.track) × (s.tag ≡ first.tag)
-        × RecordsOn first.track first.tag failed (recorder (known first.seat) first.refused first.since)
+        × RecordsOn first.track first.tag false failed (recorder (known first.seat) first.refused first.since)
         (recorder (known s.seat) s.refused s.since) };
 
-    fn take_piece<R: Wait>(&mut self, rt: &R, alloc: Global, chunk: &Chunk) -> Said<u64> {
-        let said = self.desk.piece(
+    fn take_pieces<R: Wait>(&mut self, rt: &R, alloc: Global, chunks: &[Chunk]) -> Said<Taken> {
+        let mut batch = [0i16; BATCH_SAMPLES];
+        let joined = join_chunks(chunks, (PIECES - self.since) as usize, &mut batch);
+        let tried = self.desk.pieces(
             rt,
             alloc,
             &mut self.seat,
             self.track,
             self.tag,
-            chunk.as_slice(),
+            &batch[..joined],
         );
-        self.refused = first_of(self.refused, &said.what);
-        self.since = count_piece(rt, self.desk, &mut self.seat, self.since);
-        said
+        let pieces = pieces_in(tried.count);
+        self.refused = first_of(self.refused, &tried.said.what);
+        self.since = count_pieces(rt, self.desk, &mut self.seat, self.since, pieces as u64);
+        let what = taken_of(tried.said.what, pieces);
+        Said {
+            at: tried.said.at,
+            what,
+        }
+    }
+}
+
+// What was answered, with how many pieces it was about.
+fn taken_of(what: Result<u64, Refusal>, count: usize) -> Result<Taken, Refusal>
+    ensures { MatchResult what (λ last. result ≡ Ok (record { count = count; last = last }))
+        (λ why. result ≡ Err why) }
+{
+    match what {
+        Ok(last) => Ok(Taken { count, last }),
+        Err(reason) => Err(reason),
     }
 }
 
@@ -89,7 +109,7 @@ impl<'a, S: Store, V: Vault> DeskTaker<'a, S, V> {
     /// The seat, which is at the desk as before. If it asked for a piece since its last reclaim it first makes one.
     pub fn finish<R: Wait>(self, rt: &R) -> DeskSeat<S, V>
         ensures at { IsAt self.entry.desk.now result }
-        ensures frees { FreesTo self.entry.since (known self.entry.seat) 0 (known result) }
+        ensures frees { FreesTo true self.entry.since (known self.entry.seat) 0 (known result) }
     {
         let DeskTaker {
             desk,

@@ -8,7 +8,7 @@ use script_text::{
 };
 use std::test::*;
 
-const RECORD_ENDS: [(RecordEnd, &[u8]); 2] = [
+static RECORD_ENDS: [(RecordEnd, &[u8]); 2] = [
     (
         RecordEnd::Refused {
             reason: Refusal::LengthLimit { len: 4294967297 },

@@ -10,7 +10,7 @@ struct Case {
     text: &'static [u8],
 }
 
-const REASONS: [Case; 5] = [
+static REASONS: [Case; 5] = [
     Case {
         reason: Refusal::Spent {
             turns: 4611686018427387904,

@@ -72,7 +72,8 @@ impl Log {
             *due = due.wrapping_add(1);
             fold = mark.fold(fold);
         }
-        fold == self.fold && next == [TURNS; THREADS]
+        let [first, second, third, fourth] = next;
+        fold == self.fold && first == TURNS && second == TURNS && third == TURNS && fourth == TURNS
     }
 }
 
@@ -189,8 +190,8 @@ fn four_threads_write_one_log(rt: HostRuntime) -> Result<(), Fail> {
     };
     let (seat, wrote) = write_by_four(&rt, &turn, seat);
     let log = turn.close(seat);
-    assert!(rt; wrote == true);
+    assert!(rt; wrote);
     assert!(rt; log.marks.len() == 40_000);
-    assert!(rt; log.is_whole() == true);
+    assert!(rt; log.is_whole());
     Ok(())
 }

@@ -2,7 +2,7 @@
 ghost use Rattle.std.specs.Prelude.{◌≡◌, ◌⊎◌, ◌+◌, ◌-◌, ◌<◌, ◌≤◌, ◌∷◌, ◌++◌, [], Some, IfOk, IfErr, OnOk, OnErr, length, slice_index};
 ghost use Rattle.std.specs.Prelude.{slice_get};
 ghost use Rattle.pcm_base.specs.History.{IsHistory, history_of_one, points_of, tags_of, edited, amended, at_cursor};
-ghost use Rattle.pcm_base.specs.History.{purged};
+ghost use Rattle.pcm_base.specs.History.{is_of_recording, purged, recorded};
 
 use pcm_base::{NoMemory, Refusal};
 use std::alloc::Global;
@@ -51,8 +51,8 @@ impl<P: Drop> History<P> {
         })
     }
 
-    /// Makes room for one point, so that the next `push` takes no memory, whatever calls of `amend`, `undo`, `redo` and
-    /// `purge` come before it.
+    /// Makes room for one point, so that the next `push` or `record` takes no memory, whatever calls of `undo`, `redo`
+    /// and `purge` come before it.
     pub fn reserve(&mut self) -> Result<(), NoMemory>
         ensures history { self.new.history ≡ self.old.history }
         ensures ok { OnOk result (length self.new.history.points < self.new.capacity) }
@@ -108,12 +108,38 @@ impl<P: Drop> History<P> {
     }
 
     /// Puts a point in the place of the current one, which keeps its tag. Points that could be redone are dropped.
-    pub fn amend(&mut self, point: P)
+    fn amend(&mut self, point: P)
         ensures { self.new ≡ record self.old { history = amended self.old.history point } }
     {
         let tag = self.tag(self.cursor);
         self.points.truncate(self.cursor);
         self.points.push_back_reserved((point, tag));
+    }
+
+    /// Whether the current point is of the recording with this tag; 0 is the tag of all that is no recording.
+    pub fn continues(&self, tag: u64) -> bool
+        ensures { result ≡ is_of_recording self.now.history tag }
+    {
+        tag != 0 && self.tag(self.cursor) == tag
+    }
+
+    /// Records a point under a tag. A further piece of the current point's recording goes into the place of that point.
+    /// All else is a new point. It takes memory only as `push` does.
+    ///
+    /// # Errors
+    ///
+    /// There is no memory: the point comes back and nothing changes.
+    pub fn record(&mut self, point: P, tag: u64) -> Result<(), P>
+        ensures ok { OnOk result (self.new.history ≡ recorded self.old.history point tag) }
+        ensures err { IfErr result (λ p. (p ≡ point) × (self.new.history ≡ self.old.history)) }
+        ensures full { OnErr result (self.old.capacity ≤ length self.old.history.points) }
+        ensures capacity { self.old.capacity ≤ self.new.capacity }
+    {
+        if self.continues(tag) {
+            self.amend(point);
+            return Ok(());
+        }
+        self.push(point, tag)
     }
 
     /// Makes the point before the current one current: `NothingToUndo` where there is none.

@@ -1,5 +1,5 @@
 -- What came back follows what was lent.
-use Rattle.std.proofs.Common.{refl, sym, subst, ◌∙◌, ap, Bool}
+use Rattle.std.proofs.Common.{refl, sym, subst, ◌∙◌, ap, Bool, true}
 use Rattle.std.specs.Prelude.{is_some}
 use Rattle.player_work.specs.Filled.{reads_to}
 use Rattle.pin_turn.specs.Calls.{known}
@@ -74,12 +74,13 @@ returns-clause-works g c =
           let here = known kept.0 in
           let begun = (start_at a.taker.desk.now).commit_number in
           let freed = records_free w.taker.track w.taker.tag there here (is_some a.taker.refused)
-          (recorder (known w.taker.seat) w.taker.refused w.taker.since) a.taker.refused a.taker.since goes.3 0 h.4.1 in
-          let same = sym (pieces_free a.taker.track a.taker.tag there here a.taker.since 0 begun h.4.1)
+          (recorder (known w.taker.seat) w.taker.refused w.taker.since) a.taker.refused a.taker.since goes.3 true 0
+          h.4.1 in
+          let same = sym (pieces_free a.taker.track a.taker.tag there here true a.taker.since 0 begun h.4.1)
           ∙ (λ i. pieces_by ((goes.1 ∙ track) i) ((goes.2 ∙ tag_is) i) here.number
           (start_at (at i)).commit_number here.seen) in (
             a.taker.refused,
-            subst (λ (X : Type 0). X) (λ i. RecordsOn (track i) (tag_is i) (is_some a.taker.refused)
+            subst (λ (X : Type 0). X) (λ i. RecordsOn (track i) (tag_is i) true (is_some a.taker.refused)
                 (recorder (h.2.3 i) (h.2.6 i) (h.2.7 i)) (recorder here a.taker.refused 0)) freed,
             some_as kept.2 h.4.4
                 (λ k f. subst (λ (X : Type 0). X)
@@ -87,8 +88,8 @@ returns-clause-works g c =
                 (change
                 (pieces_by (track i) (tag_is i) (h.2.3 i).number (start_at (h.2.2 i)).commit_number (h.2.3 i).seen)
                 (same i)) a.taker.refused k)
-                (recorded_of g.M.Source _ _ (λ l. l.source.now) (λ l. refl) (λ l. refl) w.mic w.taker a k h.3 f.0 f.1
-                f.2 f.3)),
+                (recorded_of g.M.Source _ _ (λ l. l.source.now) (λ l. refl) (λ l. refl) (λ l n failed is. is.1)
+                w.mic w.taker a k (refl, λ first is. is) h.3 f.0 f.1 f.2 f.3)),
           ))
           (λ h. (ap known h.2.0 ∙ h.1.0, h.2.3, h.2.2 ∙ h.1.3));
       plays = where_both o.pin
@@ -106,8 +107,8 @@ returns-clause-works g c =
             subst (λ (X : Type 0). X)
                 (λ i. IsPlayed g.P.Sink (change (h.2.1 i) (sym h.4.3 i))
                 (IsMixOf (origin g.S.Store g.V.Vault (start_at (h.2.2 i))) (h.2.3 i).seen (pin_is i)) k)
-                (played_of g.P.Sink _ _ (λ l. l.sink.now) (λ l. refl) (λ l. refl) w.giver w.speaker a k h.3 f.0 f.1
-                f.2),
+                (played_of g.P.Sink _ _ (λ l. l.sink.now) (λ l. refl) (λ l. refl) (λ l n failed is. is.1) w.giver
+                w.speaker a k (refl, λ first is. is) h.3 f.0 f.1 f.2),
           )))
           (λ h. (ap known h.2.0 ∙ h.1.0, h.2.3, h.2.2 ∙ h.1.3));
     }

@@ -13,5 +13,6 @@ invariant-loop g l = record {
   goes : (first : g.row.T.Denot) → g.T.PieceTaker.follows first false l.fn.taker
       → g.T.PieceTaker.follows first (is_some (g.T.PieceTaker.refused l.taker)) l.taker;
   ring : SameOut l.fn.output l.output;
+  wide : length l.batch ≡ 64;
   small : l.tally.samples ≤ 256 * length chunks;
 }

@@ -10,11 +10,11 @@ use Rattle.piece_store.specs.declared.given.Given.TheVariants.{Samples}
 use Rattle.piece_store.specs.Bringing.{brought, brought_count}
 use Rattle.envelope_view.specs.Answers.{IsUndamaged}
 use Rattle.sound_import.specs.declared.fault.ImportFault.TheVariants.{NoMemory}
+use Rattle.project_state.specs.Kept.{current_tracks}
 use Rattle.editor_core.specs.Applied.{Lasts}
 use Rattle.editor_core.specs.Core.{core_of}
 use Rattle.editor_core.specs.Imports.{IsChannelsPlan, IsInside, all_of, channels_refusal, left_as}
 use Rattle.editor_core.specs.Imports.{total_of}
-use Rattle.editor_core.specs.Points.{current_tracks}
 use Rattle.editor_core.specs.Took.{Took, told_by, with_sound}
 use Rattle.editor_core.proofs.Applying.{lasts_idle}
 use Rattle.editor_core.proofs.ChannelLaws.{all_length, channels_plain}

@@ -1,13 +1,63 @@
 -- Blocks, and then a record.
-use Rattle.std.proofs.Common.{◌≡◌, ◌∙◌, sym, ap, subst, ℕ, ◌+◌, ◌≤◌, ◌<◌, IsSome, List, length, vec_capacity, arith}
-use Rattle.editor_core.specs.Edits.{BlockCommit}
+use Rattle.std.proofs.Common.{◌≡◌, ◌∙◌, inl, sym, ap, subst, ℕ, suc, ◌+◌, ◌≤◌, ◌<◌, IsSome, List, length}
+use Rattle.std.proofs.Common.{zero, [], vec_capacity, Err, arith}
+use Rattle.std.proofs.lemmas.Result.{err_from_is_err_and}
+use Rattle.project_state.specs.Kept.{current_tracks}
+use Rattle.editor_core.specs.Edits.{BlockCommit, Carried, IsPrepared, NotPrepared}
 use Rattle.editor_core.specs.Adding.{Adds}
-use Rattle.editor_core.specs.Bodies.{body_bytes, whole_len}
+use Rattle.editor_core.specs.Bodies.{all_bytes, all_len, bodies_by, bytes_by, whole_len, writing}
 use Rattle.editor_core.specs.Core.{Core, core_of}
 use Rattle.editor_core.specs.Made.{batch_of, ids_from}
 use Rattle.editor_core.specs.Makes.{AreSynced, Making}
+use Rattle.pcm_base.specs.declared.limits.TheConstants.{LONGEST_BODY}
+use Rattle.project_journal.specs.Journal.{AreWaiting, rows_length}
+use Rattle.project_journal.proofs.Together.{opened_length}
+use Rattle.project_state.specs.declared.body.Body.{Body}
+use Rattle.project_state.specs.declared.track.Track.{Track}
+use Rattle.project_state.specs.Batches.{with_point}
+use Rattle.editor_core.proofs.BodyBytes.{rows_count}
 use Rattle.editor_core.proofs.CarriedEdits.{carried_by}
 use Rattle.editor_core.proofs.studio.Studio.carry.Goals as goal
+
+-- records that wait, and are short together, are short with the gate and the length of the first
+waiting_short : (version : ℕ) (current : List Track) (body : Body) (more : ℕ) (rows : List ℕ)
+    → AreWaiting rows (bodies_by version current more body)
+    → rows_length (bodies_by version current more body) ≤ LONGEST_BODY → length rows ≤ LONGEST_BODY + 5
+waiting_short version current body zero rows are short =
+    omega (arith, ap length are.spelled, opened_length (bytes_by version current body) [], short)
+waiting_short version current body (suc more) rows are short = omega (
+  arith,
+  ap length are.spelled,
+  opened_length (bytes_by version current (with_point current body)) (bodies_by version current more body),
+  short,
+)
+
+waiting_some : (version : ℕ) (current : List Track) (body : Body) (more : ℕ) (rows : List ℕ)
+    → AreWaiting rows (bodies_by version current more body) → 5 ≤ length rows
+waiting_some version current body zero rows are =
+    omega (arith, ap length are.spelled, opened_length (bytes_by version current body) [])
+waiting_some version current body (suc more) rows are = omega (
+  arith,
+  ap length are.spelled,
+  opened_length (bytes_by version current (with_point current body)) (bodies_by version current more body),
+)
+
+pub commit_rows-requires-clause-short : goal.commit_rows-requires-clause-short
+commit_rows-requires-clause-short g c =
+    let s = core_of c.args.self.now in
+    let rows = c.in_ok-prepare.ensures.rows in
+    let all = waiting_short s.version (current_tracks s.history) c.args.body.now c.args.more
+    c.prepare.new.self.row.items
+    rows c.in_ok-prepare.ensures.prepared.short in
+    omega (arith, ap (λ v. length v.items) c.in_ok-make_blocks.ensures.row, all)
+
+pub commit_rows-requires-clause-some : goal.commit_rows-requires-clause-some
+commit_rows-requires-clause-some g c =
+    let s = core_of c.args.self.now in
+    let rows = c.in_ok-prepare.ensures.rows in
+    let all = waiting_some s.version (current_tracks s.history) c.args.body.now c.args.more c.prepare.new.self.row.items
+    rows in
+    omega (arith, ap (λ v. length v.items) c.in_ok-make_blocks.ensures.row, all)
 
 pub make_blocks-requires-clause-below : goal.make_blocks-requires-clause-below
 make_blocks-requires-clause-below g c =
@@ -18,6 +68,31 @@ pub make_blocks-requires-clause-size : goal.make_blocks-requires-clause-size
 make_blocks-requires-clause-size g c =
     subst (λ (z : Core g.row.S.Denot). z.block_size ≤ 262144)
     (sym c.in_ok-prepare.ensures.same) c.requires.studio.format.block_most
+
+pub returns-in_err-prepare-clause-carried : goal.returns-in_err-prepare-clause-carried
+returns-in_err-prepare-clause-carried g c =
+    let s = core_of c.args.self.now in
+    let new = core_of c.prepare.new.self in
+    let bs = c.args.makes.now in
+    let w = writing c.args.more c.args.body.now in
+    let whole = whole_len s w in
+    let r = err_from_is_err_and c.from_residual.result c.from_residual.ensures.1 in
+    let why = c.in_err-prepare.field-0.0 in
+    let one : c.args.more + 1 ≡ suc c.args.more = omega arith in
+    let commit : BlockCommit = record {
+      makes = bs;
+      given = c.args.given.now;
+      tracks = c.args.tracks;
+      count = suc c.args.more;
+      bodies = all_bytes s w;
+      whole = whole;
+    } in
+    subst (λ x. Carried g.S.Store s commit x new) (sym (r.1 ∙ ap Err r.2))
+    (inl (
+      c.in_err-prepare.ensures.same,
+      subst (λ (n : ℕ). NotPrepared s (length bs) c.args.tracks n whole (all_len s w) why) one
+          c.in_err-prepare.ensures.err,
+    ))
 
 pub returns-clause-carried : goal.returns-clause-carried
 returns-clause-carried g c =
@@ -31,21 +106,27 @@ returns-clause-carried g c =
     let reads = made.1 ∙ ap (λ (z : Core g.row.S.Denot). g.S.Store.read_fault_count z.store) same in
     let synced =
     subst (λ (z : Core g.row.S.Denot). AreSynced g.S.Store (ids_from z.next_block (length bs)) mid.store) same made.2 in
-    let bytes = body_bytes s c.args.body.now in
-    let body : c.make_blocks.new.self.body.items ≡ bytes =
-    ap (λ b. b.items) c.in_ok-make_blocks.ensures.body ∙ c.in_ok-prepare.ensures.body in
-    let adds = subst (λ (b : List ℕ). (whole : ℕ) → Adds g.S.Store mid b whole c.commit_written.result
-    (core_of c.commit_written.new.self)) body c.commit_written.ensures.record in
-    let row = ap vec_capacity c.in_ok-make_blocks.ensures.row in
-    let room : 5 + length c.make_blocks.new.self.body.items ≤ vec_capacity c.make_blocks.new.self.row =
-    omega (arith, ap (λ (b : List ℕ). length b) body, row, c.in_ok-prepare.ensures.row) in
+    let w = writing c.args.more c.args.body.now in
+    let bodies = all_bytes s w in
+    let whole = whole_len s w in
+    let new = core_of c.commit_rows.new.self in
+    let row = c.in_ok-make_blocks.ensures.row in
+    let items : c.make_blocks.new.self.row.items ≡ c.prepare.new.self.row.items = ap (λ v. v.items) row in
+    let waiting = subst (λ (l : List ℕ). AreWaiting l bodies) (sym items) c.in_ok-prepare.ensures.rows in
+    let room : 1 + length c.make_blocks.new.self.row.items ≤ vec_capacity c.make_blocks.new.self.row =
+    omega (arith, ap (λ (l : List ℕ). length l) items, ap vec_capacity row, c.in_ok-prepare.ensures.room) in
+    let one : c.args.more + 1 ≡ suc c.args.more = omega arith in
+    let adds = λ (most : ℕ). subst (λ (n : ℕ). Adds g.S.Store mid bodies n most c.commit_rows.result new) one
+    (c.commit_rows.ensures.records most bodies waiting
+    (rows_count s.version (current_tracks s.history) c.args.body.now c.args.more)) in
     let commit : BlockCommit = record {
       makes = bs;
       given = c.args.given.now;
       tracks = c.args.tracks;
-      body = bytes;
-      whole = whole_len c.args.body.now;
+      count = suc c.args.more;
+      bodies = bodies;
+      whole = whole;
     } in
-    carried_by g.S.Store s mid (core_of c.commit_written.new.self) commit c.commit_written.result making reads synced
-    c.in_ok-prepare.ensures.prepared (adds (length bytes)) (adds (whole_len c.args.body.now))
-    (c.commit_written.ensures.memory room)
+    carried_by g.S.Store s mid new commit c.commit_rows.result making reads synced
+    (subst (λ (n : ℕ). IsPrepared s (length bs) c.args.tracks n (all_len s w)) one c.in_ok-prepare.ensures.prepared)
+    (adds (all_len s w)) (adds whole) (c.commit_rows.ensures.memory room)

@@ -7,7 +7,7 @@ use Rattle.project_state.specs.declared.track.Track.{Track}
 use Rattle.project_state.specs.Kept.{point_blocks}
 use Rattle.editor_core.specs.Applied.{Lasts}
 use Rattle.editor_core.specs.Core.{core_of}
-use Rattle.editor_core.specs.Edits.{tagged}
+use Rattle.editor_core.specs.Edits.{IsStill, tagged}
 use Rattle.editor_core.specs.Imports.{IsInside}
 use Rattle.editor_core.specs.Occurrences.{HasIds}
 use Rattle.editor_core.specs.Took.{Took, told_by, with_sound}
@@ -15,6 +15,7 @@ use Rattle.editor_core.proofs.CarriedOut.{carried_at, commit_of, told_point}
 use Rattle.editor_core.proofs.EditLaws.{pieces_there}
 use Rattle.editor_core.proofs.EditSteps.{edit_err}
 use Rattle.editor_core.proofs.Lasting.{lasts_err}
+use Rattle.editor_core.proofs.Still.{carried_still}
 use Rattle.editor_core.proofs.AsksNoVault.{carried_asks}
 use Rattle.editor_core.proofs.NoDamage.{no_damage}
 use Rattle.editor_core.proofs.TakenEdits.{IsPointed, lasts_so, out_fits, out_named, out_room, out_there}
@@ -26,7 +27,7 @@ pub returns-in_err-carry-clause-took : goal.returns-in_err-carry-clause-took
 returns-in_err-carry-clause-took g c = λ call sound edit.
     let s = core_of c.args.self.now in
     let new = core_of c.carry.new.self in
-    let e = tagged c.args.edit c.args.tag c.args.given.now in
+    let e = tagged c.args.edit c.args.tag c.args.more c.args.given.now in
     let r = err_from_is_err_and c.from_residual.result c.from_residual.ensures.1 in
     let why = c.in_err-carry.field-0.0 in
     let all = carried_at g.S.Store s new e c.as_slice.result.now (Err why) c.as_slice.ensures c.requires.next
@@ -39,7 +40,7 @@ pub returns-in_err-carry-clause-sound : goal.returns-in_err-carry-clause-sound
 returns-in_err-carry-clause-sound g c = λ held.
     let s = core_of c.args.self.now in
     let new = core_of c.carry.new.self in
-    let e = tagged c.args.edit c.args.tag c.args.given.now in
+    let e = tagged c.args.edit c.args.tag c.args.more c.args.given.now in
     let r = err_from_is_err_and c.from_residual.result c.from_residual.ensures.1 in
     let why = c.in_err-carry.field-0.0 in
     let all = carried_at g.S.Store s new e c.as_slice.result.now (Err why) c.as_slice.ensures c.requires.next
@@ -52,7 +53,7 @@ pub returns-in_err-carry-clause-lasts : goal.returns-in_err-carry-clause-lasts
 returns-in_err-carry-clause-lasts g c = λ call sound one.
     let s = core_of c.args.self.now in
     let new = core_of c.carry.new.self in
-    let e = tagged c.args.edit c.args.tag c.args.given.now in
+    let e = tagged c.args.edit c.args.tag c.args.more c.args.given.now in
     let r = err_from_is_err_and c.from_residual.result c.from_residual.ensures.1 in
     let why = c.in_err-carry.field-0.0 in
     let all = carried_at g.S.Store s new e c.as_slice.result.now (Err why) c.as_slice.ensures c.requires.next
@@ -65,18 +66,30 @@ pub returns-in_err-carry-clause-device : goal.returns-in_err-carry-clause-device
 returns-in_err-carry-clause-device g c =
     let s = core_of c.args.self.now in
     let new = core_of c.carry.new.self in
-    let e = tagged c.args.edit c.args.tag c.args.given.now in
+    let e = tagged c.args.edit c.args.tag c.args.more c.args.given.now in
     let r = err_from_is_err_and c.from_residual.result c.from_residual.ensures.1 in
     let why = c.in_err-carry.field-0.0 in
     let all = carried_at g.S.Store s new e c.as_slice.result.now (Err why) c.as_slice.ensures c.requires.next
     c.in_err-carry.ensures.carried in
     subst (λ x. IfErr x IsInside) (sym (r.1 ∙ ap Err r.2)) (carried_asks g.S.Store s new (commit_of s e) why all)
 
+pub returns-in_err-carry-clause-still : goal.returns-in_err-carry-clause-still
+returns-in_err-carry-clause-still g c =
+    let s = core_of c.args.self.now in
+    let new = core_of c.carry.new.self in
+    let e = tagged c.args.edit c.args.tag c.args.more c.args.given.now in
+    let r = err_from_is_err_and c.from_residual.result c.from_residual.ensures.1 in
+    let why = c.in_err-carry.field-0.0 in
+    let all = carried_at g.S.Store s new e c.as_slice.result.now (Err why) c.as_slice.ensures c.requires.next
+    c.in_err-carry.ensures.carried in
+    subst (λ x. IfErr x (IsStill s new)) (sym (r.1 ∙ ap Err r.2))
+    (carried_still g.S.Store s new (commit_of s e) why all)
+
 pub take_recorded-requires-clause-there : goal.take_recorded-requires-clause-there
 take_recorded-requires-clause-there g c =
     let s = core_of c.args.self.now in
     let new = core_of c.carry.new.self in
-    let e = tagged c.args.edit c.args.tag c.args.given.now in
+    let e = tagged c.args.edit c.args.tag c.args.more c.args.given.now in
     let k = carried_at g.S.Store s new e c.as_slice.result.now (Ok (tt {0})) c.as_slice.ensures c.requires.next
     c.in_ok-carry.ensures.carried in
     subst (λ (q : List Track). HasIds new.counts (point_blocks q)) (ap told_point c.in-Edit.is)
@@ -86,7 +99,7 @@ pub take_recorded-requires-clause-few : goal.take_recorded-requires-clause-few
 take_recorded-requires-clause-few g c =
     let s = core_of c.args.self.now in
     let new = core_of c.carry.new.self in
-    let e = tagged c.args.edit c.args.tag c.args.given.now in
+    let e = tagged c.args.edit c.args.tag c.args.more c.args.given.now in
     let k = carried_at g.S.Store s new e c.as_slice.result.now (Ok (tt {0})) c.as_slice.ensures c.requires.next
     c.in_ok-carry.ensures.carried in
     subst (λ (q : List Track). Few new.counts (point_blocks q)) (ap told_point c.in-Edit.is)
@@ -96,7 +109,7 @@ pub take_recorded-requires-clause-named : goal.take_recorded-requires-clause-nam
 take_recorded-requires-clause-named g c =
     let s = core_of c.args.self.now in
     let new = core_of c.carry.new.self in
-    let e = tagged c.args.edit c.args.tag c.args.given.now in
+    let e = tagged c.args.edit c.args.tag c.args.more c.args.given.now in
     let k = carried_at g.S.Store s new e c.as_slice.result.now (Ok (tt {0})) c.as_slice.ensures c.requires.next
     c.in_ok-carry.ensures.carried in
     recorded_named g.S.Store s c.requires.studio c.requires.going e c.requires.planned new k
@@ -106,7 +119,7 @@ pub take_out-requires-clause-there : goal.take_out-requires-clause-there
 take_out-requires-clause-there g c =
     let s = core_of c.args.self.now in
     let new = core_of c.carry.new.self in
-    let e = tagged c.args.edit c.args.tag c.args.given.now in
+    let e = tagged c.args.edit c.args.tag c.args.more c.args.given.now in
     let k = carried_at g.S.Store s new e c.as_slice.result.now (Ok (tt {0})) c.as_slice.ensures c.requires.next
     c.in_ok-carry.ensures.carried in
     let at : IsPointed g.S.Store s e (core_of c.take_recorded.new.self) = record {
@@ -124,7 +137,7 @@ pub take_out-requires-clause-room : goal.take_out-requires-clause-room
 take_out-requires-clause-room g c =
     let s = core_of c.args.self.now in
     let new = core_of c.carry.new.self in
-    let e = tagged c.args.edit c.args.tag c.args.given.now in
+    let e = tagged c.args.edit c.args.tag c.args.more c.args.given.now in
     let k = carried_at g.S.Store s new e c.as_slice.result.now (Ok (tt {0})) c.as_slice.ensures c.requires.next
     c.in_ok-carry.ensures.carried in
     let at : IsPointed g.S.Store s e (core_of c.take_recorded.new.self) = record {
@@ -142,7 +155,7 @@ pub take_out-requires-clause-fits : goal.take_out-requires-clause-fits
 take_out-requires-clause-fits g c =
     let s = core_of c.args.self.now in
     let new = core_of c.carry.new.self in
-    let e = tagged c.args.edit c.args.tag c.args.given.now in
+    let e = tagged c.args.edit c.args.tag c.args.more c.args.given.now in
     let k = carried_at g.S.Store s new e c.as_slice.result.now (Ok (tt {0})) c.as_slice.ensures c.requires.next
     c.in_ok-carry.ensures.carried in
     let at : IsPointed g.S.Store s e (core_of c.take_recorded.new.self) = record {
@@ -160,7 +173,7 @@ pub take_out-requires-clause-named : goal.take_out-requires-clause-named
 take_out-requires-clause-named g c =
     let s = core_of c.args.self.now in
     let new = core_of c.carry.new.self in
-    let e = tagged c.args.edit c.args.tag c.args.given.now in
+    let e = tagged c.args.edit c.args.tag c.args.more c.args.given.now in
     let k = carried_at g.S.Store s new e c.as_slice.result.now (Ok (tt {0})) c.as_slice.ensures c.requires.next
     c.in_ok-carry.ensures.carried in
     let at : IsPointed g.S.Store s e (core_of c.take_recorded.new.self) = record {
@@ -178,7 +191,7 @@ pub returns-clause-took : goal.returns-clause-took
 returns-clause-took g c = λ call sound edit.
     let s = core_of c.args.self.now in
     let new = core_of c.carry.new.self in
-    let e = tagged c.args.edit c.args.tag c.args.given.now in
+    let e = tagged c.args.edit c.args.tag c.args.more c.args.given.now in
     let k = carried_at g.S.Store s new e c.as_slice.result.now (Ok (tt {0})) c.as_slice.ensures c.requires.next
     c.in_ok-carry.ensures.carried in
     let at : IsPointed g.S.Store s e (core_of c.take_recorded.new.self) = record {
@@ -198,7 +211,7 @@ pub returns-clause-lasts : goal.returns-clause-lasts
 returns-clause-lasts g c = λ call sound one.
     let s = core_of c.args.self.now in
     let new = core_of c.carry.new.self in
-    let e = tagged c.args.edit c.args.tag c.args.given.now in
+    let e = tagged c.args.edit c.args.tag c.args.more c.args.given.now in
     let k = carried_at g.S.Store s new e c.as_slice.result.now (Ok (tt {0})) c.as_slice.ensures c.requires.next
     c.in_ok-carry.ensures.carried in
     let at : IsPointed g.S.Store s e (core_of c.take_recorded.new.self) = record {

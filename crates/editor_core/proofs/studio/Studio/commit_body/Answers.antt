@@ -1,9 +1,9 @@
 -- Nothing was asked of the disk, or the record was added whose body was written.
-use Rattle.std.proofs.Common.{◌∙◌, refl, sym, ap, subst, List, ℕ, length, Err}
+use Rattle.std.proofs.Common.{◌∷◌, [], ◌∙◌, refl, sym, ap, subst, List, ℕ, Err}
 use Rattle.std.proofs.lemmas.Result.{err_from_is_err_and}
 use Rattle.pcm_base.specs.declared.refusal.Refusal.TheVariants as refusal
 use Rattle.editor_core.specs.Adding.{Adds, AddsBody}
-use Rattle.editor_core.specs.Bodies.{body_bytes, whole_len}
+use Rattle.editor_core.specs.Bodies.{all_bytes, all_len, body_bytes, single, whole_len}
 use Rattle.editor_core.specs.Core.{Core, core_of}
 use Rattle.editor_core.proofs.Idle.{adds_nothing, exceeds}
 use Rattle.editor_core.proofs.studio.Studio.commit_body.Goals as goal
@@ -12,22 +12,22 @@ pub returns-in_err-may_record-clause-record : goal.returns-in_err-may_record-cla
 returns-in_err-may_record-clause-record g c =
     let p = err_from_is_err_and c.from_residual.result c.from_residual.ensures.1 in
     let s = core_of c.args.self.now in
-    let body = c.args.body.now in
+    let body = single c.args.body.now in
     let why = c.in_err-may_record.field-0.0 in
     subst (λ r. AddsBody g.S.Store s body r s) (sym (p.1 ∙ ap Err p.2))
-    (adds_nothing g.S.Store s (body_bytes s body) (whole_len body) why (g.met.S.Store.may_fewer s.store)
-    (exceeds (Unit {0}) g.S.Store s (whole_len body) (length (body_bytes s body)) why c.in_err-may_record.ensures.err))
+    (adds_nothing g.S.Store s (all_bytes s body) 1 (whole_len s body) why (g.met.S.Store.may_fewer s.store)
+    (exceeds (Unit {0}) g.S.Store s (whole_len s body) 1 (all_len s body) why c.in_err-may_record.ensures.err))
 
 pub returns-in_err-write_record-clause-record : goal.returns-in_err-write_record-clause-record
 returns-in_err-write_record-clause-record g c =
     let p = err_from_is_err_and c.from_residual-in_err-write_record.result
     c.from_residual-in_err-write_record.ensures.1 in
     let s = core_of c.args.self.now in
-    let body = c.args.body.now in
+    let body = single c.args.body.now in
     subst (λ (z : Core g.row.S.Denot). AddsBody g.S.Store s body c.from_residual-in_err-write_record.result z)
     (sym c.write_record.ensures.same)
     (subst (λ r. AddsBody g.S.Store s body r s) (sym (p.1 ∙ ap Err p.2))
-    (adds_nothing g.S.Store s (body_bytes s body) (whole_len body) refusal.NoMemory
+    (adds_nothing g.S.Store s (all_bytes s body) 1 (whole_len s body) refusal.NoMemory
     (g.met.S.Store.may_fewer s.store) refl))
 
 pub returns-clause-record : goal.returns-clause-record
@@ -35,7 +35,8 @@ returns-clause-record g c =
     let body = c.args.body.now in
     let bytes = body_bytes (core_of c.args.self.now) body in
     let new = core_of c.commit_written.new.self in
-    subst (λ (z : Core g.row.S.Denot). Adds g.S.Store z bytes (whole_len body) c.commit_written.result new)
+    let whole = whole_len (core_of c.args.self.now) (single body) in
+    subst (λ (z : Core g.row.S.Denot). Adds g.S.Store z (bytes ∷ []) 1 whole c.commit_written.result new)
     c.write_record.ensures.same
-    (subst (λ (b : List ℕ). Adds g.S.Store (core_of c.write_record.new.self) b (whole_len body)
-    c.commit_written.result new) c.in_ok-write_record.ensures.body (c.commit_written.ensures.record (whole_len body)))
+    (subst (λ (b : List ℕ). Adds g.S.Store (core_of c.write_record.new.self) (b ∷ []) 1 whole
+    c.commit_written.result new) c.in_ok-write_record.ensures.body (c.commit_written.ensures.record whole))

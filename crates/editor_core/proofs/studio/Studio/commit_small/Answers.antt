@@ -1,5 +1,5 @@
 -- What the journal answers.
-use Rattle.std.proofs.Common.{arith, length, refl}
+use Rattle.std.proofs.Common.{◌∷◌, [], arith, length, refl}
 use Rattle.editor_core.specs.Core.{core_of, form_at}
 use Rattle.editor_core.proofs.Idle.{settled}
 use Rattle.editor_core.proofs.RowRoom.{undamaged_settle}
@@ -9,7 +9,7 @@ pub returns-clause-record : goal.returns-clause-record
 returns-clause-record g c =
     let a = c.append_small-added.ensures in
     let s = core_of c.args.self.now in
-    settled g.S.Store s c.append_small-added.new.store c.args.body.now
+    settled g.S.Store s c.append_small-added.new.store (c.args.body.now ∷ []) 1
     (length c.args.body.now)
     (λ log. a.any_moment (form_at s) log refl) a.changed a.read_faults (omega (arith, c.requires.small))
     c.append_small-added.result c.settle.result _
@@ -17,4 +17,4 @@ returns-clause-record g c =
 
 pub returns-clause-undamaged : goal.returns-clause-undamaged
 returns-clause-undamaged g c =
-    undamaged_settle g.S.Store _ c.append_small-added.result c.settle.result _ c.settle.ensures.fields
+    undamaged_settle g.S.Store _ _ c.append_small-added.result c.settle.result _ c.settle.ensures.fields

@@ -1,5 +1,5 @@
 -- What the journal answers.
-use Rattle.std.proofs.Common.{refl}
+use Rattle.std.proofs.Common.{◌∷◌, [], refl}
 use Rattle.editor_core.specs.Core.{core_of, form_at}
 use Rattle.editor_core.proofs.Idle.{settled}
 use Rattle.editor_core.proofs.RowRoom.{no_want, undamaged_settle}
@@ -9,7 +9,7 @@ pub returns-clause-record : goal.returns-clause-record
 returns-clause-record g c whole =
     let a = rw c.deref.ensures.value at c.append-added.ensures in
     let s = core_of c.args.self.now in
-    settled g.S.Store s c.append-added.new.store c.args.self.now.body.items whole
+    settled g.S.Store s c.append-added.new.store (c.args.self.now.body.items ∷ []) 1 whole
     (λ log. a.any_moment (form_at s) log refl) a.changed a.read_faults c.requires.short
     c.append-added.result c.settle.result _ a.answer a.cause a.rose (λ log. a.done (form_at s) log refl) a.untouched
     c.settle.ensures.fields
@@ -17,8 +17,8 @@ returns-clause-record g c whole =
 pub returns-clause-memory : goal.returns-clause-memory
 returns-clause-memory g c room =
     let a = rw c.deref.ensures.value at c.append-added.ensures in
-    no_want g.S.Store _ c.append-added.result c.settle.result _ _ _ _ a.answer a.room room c.settle.ensures.fields
+    no_want g.S.Store _ _ c.append-added.result c.settle.result _ _ _ _ a.answer a.room room c.settle.ensures.fields
 
 pub returns-clause-undamaged : goal.returns-clause-undamaged
 returns-clause-undamaged g c =
-    undamaged_settle g.S.Store _ c.append-added.result c.settle.result _ c.settle.ensures.fields
+    undamaged_settle g.S.Store _ _ c.append-added.result c.settle.result _ c.settle.ensures.fields

@@ -6,9 +6,9 @@ use Rattle.pcm_base.specs.declared.failed.Failed.{Failed}
 use Rattle.pcm_base.specs.declared.refusal.Refusal.{Refusal}
 use Rattle.pcm_base.specs.declared.refusal.Refusal.TheVariants as refusal
 use Rattle.pcm_base.specs.Causes.{HasCause}
-use Rattle.editor_core.specs.Compacts.{Compacts, packed_core}
+use Rattle.editor_core.specs.Compacts.{Compacts}
 use Rattle.editor_core.specs.Core.{Core, core_of}
-use Rattle.editor_core.specs.Packing.{packed_size, packed_text}
+use Rattle.editor_core.specs.Packing.{packed_core, packed_size, packed_text}
 use Rattle.editor_core.proofs.Compacting.{Packs, compact_done, compact_failed, compact_spent, compact_stopped}
 use Rattle.editor_core.proofs.Compacting.{compact_unread, compact_wanting}
 use Rattle.editor_core.proofs.studio.Studio.compact.Goals as goal

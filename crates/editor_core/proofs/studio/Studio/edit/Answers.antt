@@ -11,14 +11,13 @@ use Rattle.undo_history.specs.Stored.{Stored}
 use Rattle.envelope_view.specs.Answers.{IsUndamaged}
 use Rattle.project_state.specs.declared.body.Body.TheVariants.{Edit}
 use Rattle.project_state.specs.declared.track.Track.{Track}
-use Rattle.project_state.specs.Kept.{point_blocks, history_blocks}
+use Rattle.project_state.specs.Kept.{current_tracks, point_blocks, history_blocks}
 use Rattle.project_state.specs.Tracks.{AreAbove, AllBelow}
 use Rattle.editor_core.specs.Adding.{AddsBody, Tested}
-use Rattle.editor_core.specs.Bodies.{body_bytes, whole_len}
+use Rattle.editor_core.specs.Bodies.{all_bytes, single, whole_len}
 use Rattle.editor_core.specs.Core.{Core, core_of}
 use Rattle.editor_core.specs.Occurrences.{HasAll, HasIds, Moves}
 use Rattle.editor_core.specs.Plain.{line_of, tracks_by, refusal_by, IsEdited}
-use Rattle.editor_core.specs.Points.{current_tracks}
 use Rattle.editor_core.specs.Took.{Took, quietly, silent, told_by}
 use Rattle.editor_core.proofs.Bounds.{few_more, named_there}
 use Rattle.editor_core.proofs.Editing.{counts_named, current_below, current_sound}
@@ -53,7 +52,8 @@ returns-in_err-make_room-clause-took g c =
     let s1 = core_of c.make_room.new.self in
     let line = line_of c.args.edit in
     let idle = wants g.S.Store s (Line line) silent c.requires.studio (g.met.S.Store.may_fewer s.store)
-    (commit_removes_none (Line line) (call_by c.args.edit).one) refl 0 (λ held. (0, needs_none g.S.Store s c.requires.studio c.args.edit)) in
+    (commit_removes_none (Line line) (call_by c.args.edit).many) refl 0
+    (λ held. (0, needs_none g.S.Store s c.requires.studio c.args.edit)) in
     subst (λ r. Took g.S.Store s (quietly (Line line) (told_by (λ (n : ℕ). Done) r)) s1) (sym (p.1 ∙ ap Err p.2))
     (subst (λ (z : Core g.row.S.Denot). Took g.S.Store s (quietly (Line line) (Err refusal.NoMemory)) z)
     (sym c.make_room.ensures.same) idle)
@@ -83,7 +83,8 @@ returns-in_err-point-clause-took g c =
     let s1 = core_of c.make_room.new.self in
     let line = line_of c.args.edit in
     let idle = wants g.S.Store s (Line line) silent c.requires.studio (g.met.S.Store.may_fewer s.store)
-    (commit_removes_none (Line line) (call_by c.args.edit).one) refl 0 (λ held. (0, needs_none g.S.Store s c.requires.studio c.args.edit)) in
+    (commit_removes_none (Line line) (call_by c.args.edit).many) refl 0
+    (λ held. (0, needs_none g.S.Store s c.requires.studio c.args.edit)) in
     subst (λ r. Took g.S.Store s (quietly (Line line) (told_by (λ (n : ℕ). Done) r)) s1) (sym (p.1 ∙ ap Err p.2))
     (subst (λ (z : Core g.row.S.Denot). Took g.S.Store s (quietly (Line line) (Err refusal.NoMemory)) z)
     (sym c.make_room.ensures.same) idle)
@@ -105,10 +106,10 @@ returns-in_err-point-2-clause-took g c =
     let mid = core_of c.commit_point.new.self in
     let why = c.in_err-point-2.field-0.0 in
     let adds' = subst (λ (z : Core g.row.S.Denot). AddsBody {R = List Track} g.S.Store z
-    (Edit 0 z.next_block (z.next_track + c.tracks_for-tracks.result) p) (Err why) mid) same
+    (single (Edit 0 z.next_block (z.next_track + c.tracks_for-tracks.result) p)) (Err why) mid) same
     c.in_err-point-2.ensures.record in
-    let adds = subst (λ (n : ℕ). AddsBody {R = List Track} g.S.Store s (Edit 0 s.next_block (s.next_track + n) p)
-    (Err why) mid) c.tracks_for-tracks.ensures adds' in
+    let adds = subst (λ (n : ℕ). AddsBody {R = List Track} g.S.Store s
+    (single (Edit 0 s.next_block (s.next_track + n) p)) (Err why) mid) c.tracks_for-tracks.ensures adds' in
     subst (λ x. Took g.S.Store s (quietly (Line (line_of e)) (told_by (λ (n : ℕ). Done) x))
     mid) (sym (r.1 ∙ ap Err r.2))
     (edit_fails g.S.Store s is e c.requires.good none p ed may.2 may.0 may.3 why mid
@@ -188,10 +189,10 @@ returns-clause-took g c =
     let mid = core_of c.commit_point.new.self in
     let tracks : c.tracks_for-tracks.result ≡ tracks_by e = c.tracks_for-tracks.ensures in
     let adds' = subst (λ (z : Core g.row.S.Denot). AddsBody {R = List Track} g.S.Store z
-    (Edit 0 z.next_block (z.next_track + c.tracks_for-tracks.result) p) (Ok c.in_ok-point-2.point) mid)
+    (single (Edit 0 z.next_block (z.next_track + c.tracks_for-tracks.result) p)) (Ok c.in_ok-point-2.point) mid)
     same c.in_ok-point-2.ensures.record in
-    let adds = subst (λ (n : ℕ). AddsBody {R = List Track} g.S.Store s (Edit 0 s.next_block (s.next_track + n) p)
-    (Ok c.in_ok-point-2.point) mid) tracks adds' in
+    let adds = subst (λ (n : ℕ). AddsBody {R = List Track} g.S.Store s
+    (single (Edit 0 s.next_block (s.next_track + n) p)) (Ok c.in_ok-point-2.point) mid) tracks adds' in
     let was : mid.history ≡ s.history = ap (λ (z : Stored (List Track)). z.history) c.in_ok-point-2.ensures.history
     ∙ ap (λ (z : Core g.row.S.Denot). z.history) same in
     let moved : edited mid.history c.in_ok-point-2.point 0 ≡ edited s.history p 0 = λ i. edited (was i) (p2 i) 0 in
@@ -254,5 +255,5 @@ returns-in_err-point-2-clause-undamaged g c =
     let s = core_of c.make_room.new.self in
     let body = Edit 0 s.next_block (s.next_track + c.tracks_for-tracks.result) c.in_ok-point.point in
     subst (λ r. IfErr r IsUndamaged) (sym (p.1 ∙ ap Err p.2))
-    (adding_tells g.S.Store s (core_of c.commit_point.new.self) (body_bytes s body) (whole_len body)
-    c.in_err-point-2.field-0.0 c.in_err-point-2.ensures.record)
+    (adding_tells g.S.Store s (core_of c.commit_point.new.self) (all_bytes s (single body)) 1
+    (whole_len s (single body)) c.in_err-point-2.field-0.0 c.in_err-point-2.ensures.record)

@@ -6,8 +6,8 @@ use Rattle.pcm_base.specs.declared.command.Call.TheVariants.{Line}
 use Rattle.pcm_base.specs.Shape.{range_line}
 use Rattle.piece_store.specs.declared.given.Given.TheVariants.{Nothing}
 use Rattle.envelope_view.specs.Answers.{IsUndamaged}
+use Rattle.project_state.specs.Kept.{current_tracks}
 use Rattle.editor_core.specs.Core.{core_of}
-use Rattle.editor_core.specs.Points.{current_tracks}
 use Rattle.editor_core.specs.Ranges.{range_edit}
 use Rattle.editor_core.specs.Took.{Took, quietly, silent, told_by}
 use Rattle.editor_core.proofs.NoDamage.{no_plan_tells, range_tells}
@@ -22,7 +22,7 @@ returns-in-Some-clause-took g c =
     let e = range_edit c.args.edit c.args.from c.args.to in
     let line = range_call c.args.edit c.args.track c.args.from c.args.to in
     track_stopped g.S.Store s c.requires (Line (range_line c.args.edit c.args.track c.args.from c.args.to)) silent e
-    Nothing c.args.track 0 line c.in-Some.faults (g.met.S.Store.may_fewer s.store) c.in-Some.is
+    Nothing c.args.track 0 0 line c.in-Some.faults (g.met.S.Store.may_fewer s.store) c.in-Some.is
 
 pub returns-in_err-planned-clause-took : goal.returns-in_err-planned-clause-took
 returns-in_err-planned-clause-took g c =
@@ -33,7 +33,7 @@ returns-in_err-planned-clause-took g c =
     let r = err_from_is_err_and c.from_residual.result c.from_residual.ensures.1 in
     let why = c.in_err-planned.field-0.0 in
     subst (λ x. Took g.S.Store s (quietly call (told_by (λ (n : ℕ). Done) x)) s) (sym (r.1 ∙ ap Err r.2))
-    (track_refused g.S.Store s c.requires call silent e Nothing c.args.track 0 line why
+    (track_refused g.S.Store s c.requires call silent e Nothing c.args.track 0 0 line why
     (g.met.S.Store.may_fewer s.store) c.in_default.is c.in_err-planned.ensures.err)
 
 pub returns-in_err-planned-clause-sound : goal.returns-in_err-planned-clause-sound
@@ -51,7 +51,7 @@ carry_out-requires-clause-planned g c =
     let e = range_edit c.args.edit c.args.from c.args.to in
     let planned = c.in_ok-planned.ensures in
     track_planned g.S.Store s c.requires e Nothing c.args.track c.in_ok-planned.planned planned.plan planned.tracks
-    planned.clip 0 (omega arith)
+    planned.clip 0 0 (omega arith) (λ some. absurd (omega (arith, some)))
 
 pub carry_out-requires-clause-next : goal.carry_out-requires-clause-next
 carry_out-requires-clause-next g c =
@@ -67,5 +67,5 @@ returns-clause-took g c =
     let line = range_call c.args.edit c.args.track c.args.from c.args.to in
     let planned = c.in_ok-planned.ensures in
     c.carry_out.ensures.took call silent
-    (track_edit g.S.Store s c.requires call silent e Nothing c.args.track 0 line c.in_ok-planned.planned planned.plan
+    (track_edit g.S.Store s c.requires call silent e Nothing c.args.track 0 0 line c.in_ok-planned.planned planned.plan
     planned.tracks planned.clip)

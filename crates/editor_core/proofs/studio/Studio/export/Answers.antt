@@ -11,7 +11,7 @@ use Rattle.pcm_base.specs.Wave.{wav_text}
 use Rattle.disk_model.proofs.Frames.{kept_none}
 use Rattle.sample_block.specs.Sources.{sources_of, AllNamed, AllWhole}
 use Rattle.project_state.specs.declared.track.Track.{Track}
-use Rattle.project_state.specs.Kept.{meant, point_blocks}
+use Rattle.project_state.specs.Kept.{current_tracks, meant, point_blocks}
 use Rattle.mix_view.specs.Tracks.{mix_length_of}
 use Rattle.wav_pcm.specs.Written.{MayBegin}
 use Rattle.sound_export.specs.Written.{IsBlockFault}
@@ -20,7 +20,6 @@ use Rattle.block_cache.specs.Caches.{KeepsCache}
 use Rattle.editor_core.specs.Applied.{Lasts}
 use Rattle.editor_core.specs.Core.{core_of}
 use Rattle.editor_core.specs.Exports.{moved_from}
-use Rattle.editor_core.specs.Points.{current_tracks}
 use Rattle.editor_core.specs.Studios.{IsHeld, named_blocks}
 use Rattle.editor_core.specs.Took.{Took, silent, told_by, with_sound}
 use Rattle.editor_core.proofs.Applying.{lasts_idle, lasts_looked}
@@ -145,7 +144,7 @@ returns-in_err-bytes-clause-lasts g c = λ sound.
     subst (λ r. Lasts g.S.Store s (with_sound call sound (told_by reply.Wrote r))
     (record s { store = c.write_stretches.new.store; cache = cache }))
     (sym (p.1 ∙ ap Err p.2))
-    (lasts_looked g.S.Store s c.requires call tt sound c.in_default.is c.write_stretches.new.store
+    (lasts_looked g.S.Store s c.requires call tt tt sound c.in_default.is c.write_stretches.new.store
     c.in_err-bytes.ensures.kept cache keeps (Err _) refl
     (export_left g.S.Store s c.requires c.args.name.now silent c.in_default.is c.write_stretches.new.store
     c.in_err-bytes.ensures.kept cache keeps why
@@ -167,5 +166,5 @@ returns-clause-lasts g c = λ sound.
     cache) c.current_of-point.ensures c.write_stretches.ensures.cache) in
     let same : s.commit_number ≡ s.commit_number + 0 = omega arith in
     lasts_looked g.S.Store s c.requires
-    (Line (command.Export c.args.name.now)) tt sound c.in_default.is c.write_stretches.new.store c.in_ok-bytes.ensures.kept
-    cache keeps (Ok (reply.Wrote c.in_ok-bytes.bytes)) same tt
+    (Line (command.Export c.args.name.now)) tt tt sound c.in_default.is c.write_stretches.new.store
+    c.in_ok-bytes.ensures.kept cache keeps (Ok (reply.Wrote c.in_ok-bytes.bytes)) same tt

@@ -1,12 +1,13 @@
 -- Samples that a command brings, put in, are a step.
-use Rattle.std.proofs.Common.{◌∙◌, sym, ap, subst, ℕ, IfErr, Err}
+use Rattle.std.proofs.Common.{◌∙◌, refl, sym, ap, subst, ℕ, IfErr, Err}
 use Rattle.std.proofs.lemmas.Result.{err_from_is_err_and}
 use Rattle.pcm_base.specs.declared.answer.Reply.TheVariants.{Done}
 use Rattle.piece_store.specs.Bringing.{brought_count}
 use Rattle.envelope_view.specs.Answers.{IsUndamaged}
+use Rattle.project_state.specs.Kept.{current_tracks}
 use Rattle.editor_core.specs.Core.{core_of}
+use Rattle.editor_core.specs.Edits.{IsStill}
 use Rattle.editor_core.specs.Inserts.{place_edit}
-use Rattle.editor_core.specs.Points.{current_tracks}
 use Rattle.editor_core.specs.Took.{Took, told_by, with_sound}
 use Rattle.editor_core.specs.TrackEdits.{IsTrackPlan, NoTrackPlan}
 use Rattle.editor_core.proofs.InsertLaws.{place_tells}
@@ -20,8 +21,15 @@ returns-in-Some-clause-took g c = λ call sound line.
     let s = core_of c.args.self.now in
     let given = c.args.given.now in
     let e = place_edit c.args.place (brought_count given) in
-    track_stopped g.S.Store s c.requires.studio call sound e given c.args.track c.args.tag line c.in-Some.faults
+    track_stopped g.S.Store s c.requires.studio call sound e given c.args.track c.args.tag c.args.more line
+    c.in-Some.faults
     (g.met.S.Store.may_fewer s.store) c.in-Some.is
+
+pub returns-in_err-planned-clause-still : goal.returns-in_err-planned-clause-still
+returns-in_err-planned-clause-still g c =
+    let s = core_of c.args.self.now in
+    let r = err_from_is_err_and c.from_residual.result c.from_residual.ensures.1 in
+    subst (λ x. IfErr x (IsStill s s)) (sym (r.1 ∙ ap Err r.2)) (λ off. refl)
 
 pub returns-in_err-planned-clause-took : goal.returns-in_err-planned-clause-took
 returns-in_err-planned-clause-took g c = λ call sound line.
@@ -33,7 +41,7 @@ returns-in_err-planned-clause-took g c = λ call sound line.
     let not = subst (λ (k : ℕ). NoTrackPlan (place_edit c.args.place k) c.args.track (current_tracks s.history) why)
     c.count_of.ensures.value c.in_err-planned.ensures.err in
     subst (λ x. Took g.S.Store s (with_sound call sound (told_by (λ (n : ℕ). Done) x)) s) (sym (r.1 ∙ ap Err r.2))
-    (track_refused g.S.Store s c.requires.studio call sound e given c.args.track c.args.tag line why
+    (track_refused g.S.Store s c.requires.studio call sound e given c.args.track c.args.tag c.args.more line why
     (g.met.S.Store.may_fewer s.store) c.in_default.is not)
 
 pub returns-in_err-planned-clause-sound : goal.returns-in_err-planned-clause-sound
@@ -53,7 +61,8 @@ carry_out-requires-clause-planned g c =
     let plan = subst (λ (k : ℕ). IsTrackPlan (place_edit c.args.place k) k c.args.track s p) c.count_of.ensures.value
     c.in_ok-planned.ensures.plan in
     track_planned g.S.Store s c.requires.studio (place_edit c.args.place (brought_count given)) given c.args.track p
-    plan c.in_ok-planned.ensures.tracks c.in_ok-planned.ensures.clip c.args.tag c.requires.tag
+    plan c.in_ok-planned.ensures.tracks c.in_ok-planned.ensures.clip c.args.tag c.args.more c.requires.tag
+    c.requires.counts
 
 pub carry_out-requires-clause-next : goal.carry_out-requires-clause-next
 carry_out-requires-clause-next g c =
@@ -74,5 +83,5 @@ returns-clause-took g c = λ call sound line.
     let plan = subst (λ (k : ℕ). IsTrackPlan (place_edit c.args.place k) k c.args.track s p) c.count_of.ensures.value
     c.in_ok-planned.ensures.plan in
     c.carry_out.ensures.took call sound
-    (track_edit g.S.Store s c.requires.studio call sound e given c.args.track c.args.tag line p plan
+    (track_edit g.S.Store s c.requires.studio call sound e given c.args.track c.args.tag c.args.more line p plan
     c.in_ok-planned.ensures.tracks c.in_ok-planned.ensures.clip)

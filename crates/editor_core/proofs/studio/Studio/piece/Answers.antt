@@ -1,14 +1,21 @@
 -- A piece of a recording is a step.
-use Rattle.std.proofs.Common.{refl}
+use Rattle.std.proofs.Common.{refl, sym, subst, ℕ}
 use Rattle.pcm_base.specs.declared.command.Call.TheVariants as call
 use Rattle.piece_store.specs.declared.given.Given.TheVariants as given
+use Rattle.piece_store.specs.Bringing.{brought_count}
+use Rattle.editor_core.specs.declared.inserts.Place.TheVariants.{End}
+use Rattle.editor_core.specs.Inserts.{place_edit}
 use Rattle.editor_core.specs.Took.{silent}
+use Rattle.editor_core.specs.TrackEdits.{IsTrackCall, track_command}
 use Rattle.editor_core.proofs.InsertLaws.{piece_call}
 use Rattle.editor_core.proofs.studio.Studio.piece.Goals as goal
 
 pub returns-clause-took : goal.returns-clause-took
 returns-clause-took g c = c.insert_given.ensures.took (call.Piece c.args.track c.args.tag c.args.samples.now) silent
-    (piece_call c.args.samples.now (given.Samples c.args.samples) refl refl c.args.track c.args.tag)
+    (subst (λ (k : ℕ). IsTrackCall (call.Piece c.args.track c.args.tag c.args.samples.now) silent
+    (track_command (place_edit End (brought_count (given.Samples c.args.samples))) (given.Samples c.args.samples)
+    c.args.track c.args.tag k)) (sym c.later_pieces-more.ensures)
+    (piece_call c.args.samples.now (given.Samples c.args.samples) refl refl c.args.track c.args.tag))
 
 pub insert_given-requires-clause-tag : goal.insert_given-requires-clause-tag
 insert_given-requires-clause-tag g c = c.requires.tag.1

@@ -8,11 +8,10 @@ use Rattle.block_ledger.specs.Entries.{Kept, count_of}
 use Rattle.undo_history.specs.Stored.{Stored}
 use Rattle.envelope_view.specs.Answers.{IsUndamaged}
 use Rattle.project_state.specs.declared.track.Track.{Track}
-use Rattle.project_state.specs.Kept.{point_blocks}
+use Rattle.project_state.specs.Kept.{current_tracks, point_blocks}
 use Rattle.editor_core.specs.Core.{Core, core_of}
 use Rattle.editor_core.specs.Occurrences.{HasIds, Held}
 use Rattle.editor_core.specs.Pins.{AnswersPin}
-use Rattle.editor_core.specs.Points.{current_tracks}
 use Rattle.editor_core.specs.Took.{Took, quietly, told_by}
 use Rattle.editor_core.proofs.Bounds.{named_there, few_more}
 use Rattle.editor_core.proofs.Editing.{current_sound, old_names}

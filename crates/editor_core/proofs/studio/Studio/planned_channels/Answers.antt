@@ -1,9 +1,9 @@
 -- A track more for each channel.
 use Rattle.std.proofs.Common.{◌≡◌, ◌∙◌, refl, sym, subst, ℕ, ◌+◌, List, length, take, slice_index_or, arith}
 use Rattle.std.proofs.lemmas.List.{length-take, take_all}
+use Rattle.project_state.specs.Kept.{current_tracks}
 use Rattle.editor_core.specs.Core.{core_of}
 use Rattle.editor_core.specs.Imports.{AddsChannel, AreGrown}
-use Rattle.editor_core.specs.Points.{current_tracks}
 use Rattle.editor_core.proofs.Editing.{current_below}
 use Rattle.editor_core.proofs.Importing.{grown_more, grown_none}
 use Rattle.editor_core.proofs.ImportTests.{all_grown, brought_few, channels_pass, grown_below, ids_count, short_at}

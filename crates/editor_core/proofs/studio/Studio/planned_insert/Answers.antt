@@ -5,9 +5,10 @@ use Rattle.pcm_base.specs.Sizes.{blocks_of_samples}
 use Rattle.clip_track.specs.Clips.{AllHalfFull, layout_blocks}
 use Rattle.edit_ops.specs.Plans.{IsPlan}
 use Rattle.project_state.specs.Tracks.{AreAbove, track_of}
+use Rattle.project_state.specs.Kept.{current_tracks}
 use Rattle.editor_core.specs.Core.{core_of}
 use Rattle.editor_core.specs.Inserts.{place_edit}
-use Rattle.editor_core.specs.Points.{current_tracks, put_in}
+use Rattle.editor_core.specs.Points.{put_in}
 use Rattle.editor_core.specs.TrackEdits.{NoTrackPlan, with_layout}
 use Rattle.editor_core.proofs.Editing.{current_sound}
 use Rattle.editor_core.proofs.TrackPlans.{current_track, no_such_track, test_fails}

@@ -7,8 +7,9 @@ use Rattle.pcm_base.specs.Edits.{range_of}
 use Rattle.clip_track.specs.Clips.{AllHalfFull, layout_blocks, layout_cells}
 use Rattle.edit_ops.specs.Plans.{IsPlan}
 use Rattle.project_state.specs.Tracks.{AreAbove, track_of}
+use Rattle.project_state.specs.Kept.{current_tracks}
 use Rattle.editor_core.specs.Core.{core_of}
-use Rattle.editor_core.specs.Points.{current_tracks, put_in}
+use Rattle.editor_core.specs.Points.{put_in}
 use Rattle.editor_core.specs.Ranges.{range_edit}
 use Rattle.editor_core.specs.TrackEdits.{NoTrackPlan, with_layout}
 use Rattle.editor_core.proofs.Editing.{current_sound}

@@ -2,7 +2,6 @@
 use Rattle.std.proofs.Common.{◌≡◌, ◌∙◌, refl, sym, ap, subst, ℕ, ◌≤◌, [], ◌∷◌, length, Err, arith, Some, IfErr, IfOk}
 use Rattle.std.proofs.Common.{List, nat_lt, nat_le, ◌&&◌, not, take, drop, flat_map}
 use Rattle.std.proofs.lemmas.Result.{err_from_is_err_and}
-use Rattle.byteorder.specs.Endian.{little_bytes}
 use Rattle.pcm_base.specs.declared.answer.Reply.TheVariants.{Done}
 use Rattle.pcm_base.specs.declared.command.Call.TheVariants.{Line}
 use Rattle.pcm_base.specs.declared.command.Command.TheVariants as command
@@ -15,7 +14,9 @@ use Rattle.envelope_view.specs.Answers.{IsUndamaged}
 use Rattle.project_state.specs.declared.body.Body.TheVariants.{Purge}
 use Rattle.project_state.specs.declared.track.Track.{Track}
 use Rattle.project_state.specs.Kept.{point_blocks}
+use Rattle.project_state.specs.Spelling.{spelling}
 use Rattle.editor_core.specs.Adding.{Adds, IsNoWant}
+use Rattle.editor_core.specs.Bodies.{single}
 use Rattle.editor_core.specs.Core.{Core, core_of}
 use Rattle.editor_core.specs.Occurrences.{HasAll, Dropped}
 use Rattle.editor_core.specs.Took.{Took, quietly, silent, told_by}
@@ -76,13 +77,13 @@ returns-in_err-commit_small-clause-took g c =
     let some = in_range c.args.count s.history.cursor own in
     let why = c.in_err-commit_small.field-0.0 in
     let adds =
-    subst (λ b. Adds g.S.Store s b (length b) (Err why) mid) c.purge_body.ensures
+    subst (λ b. Adds g.S.Store s (b ∷ []) 1 (length b) (Err why) mid) c.purge_body.ensures
     c.in_err-commit_small.ensures.record in
     subst (λ r. Took g.S.Store s (quietly (Line (command.Purge c.args.count)) (told_by (λ (n : ℕ). Done) r)) mid)
     (sym (p.1 ∙ ap Err p.2))
-    (fails g.S.Store s [] (Line (command.Purge c.args.count)) silent 0 (Purge c.args.count)
+    (fails g.S.Store s [] (Line (command.Purge c.args.count)) silent 0 (single (Purge c.args.count))
     (purged s.history c.args.count) s.clipboard s.next_track c.requires (none_made g.S.Store s)
-    (purges g.S.Store s c.requires c.args.count some.0 some.1 c.ranges.count.fits) may.0 own may.2 may.3 why mid
+    (purges g.S.Store s c.requires c.args.count some.0 some.1 c.ranges.count.fits) may.0 own may.2 (omega (arith, may.3)) why mid
     (g.met.S.Store.may_fewer s.store) adds)
 
 pub returns-in_err-commit_small-clause-number : goal.returns-in_err-commit_small-clause-number
@@ -111,8 +112,8 @@ drop_points-requires-clause-within g c =
     let may = c.in_ok-may_commit.ensures in
     let own = sym c.purge_refusal.ensures.value ∙ may.1 in
     let some = in_range n s.history.cursor own in
-    let adds = subst (λ r. Adds g.S.Store s (4 ∷ little_bytes 8 n) 9 r mid) c.in_ok-commit_small.was (subst
-    (λ b. Adds g.S.Store s b (length b) c.commit_small.result mid) c.purge_body.ensures
+    let adds = subst (λ r. Adds g.S.Store s (spelling (Purge n) ∷ []) 1 9 r mid) c.in_ok-commit_small.was (subst
+    (λ b. Adds g.S.Store s (b ∷ []) 1 (length b) c.commit_small.result mid) c.purge_body.ensures
     c.commit_small.ensures.record) in
     let same : mid.history ≡ s.history = ap (λ (z : Core g.row.S.Denot). z.history) adds.fields.0 in
     subst (λ (h : History (List Track)). n ≤ length h.points) (sym same)
@@ -126,8 +127,8 @@ drop_points-requires-clause-all g c =
     let may = c.in_ok-may_commit.ensures in
     let own = sym c.purge_refusal.ensures.value ∙ may.1 in
     let some = in_range n s.history.cursor own in
-    let adds = subst (λ r. Adds g.S.Store s (4 ∷ little_bytes 8 n) 9 r mid) c.in_ok-commit_small.was (subst
-    (λ b. Adds g.S.Store s b (length b) c.commit_small.result mid) c.purge_body.ensures
+    let adds = subst (λ r. Adds g.S.Store s (spelling (Purge n) ∷ []) 1 9 r mid) c.in_ok-commit_small.was (subst
+    (λ b. Adds g.S.Store s (b ∷ []) 1 (length b) c.commit_small.result mid) c.purge_body.ensures
     c.commit_small.ensures.record) in
     let same : mid.history ≡ s.history = ap (λ (z : Core g.row.S.Denot). z.history) adds.fields.0 in
     let counts : mid.counts ≡ s.counts = ap (λ (z : Core g.row.S.Denot). z.counts) adds.fields.0 in
@@ -144,8 +145,8 @@ returns-clause-took g c =
     let may = c.in_ok-may_commit.ensures in
     let own = sym c.purge_refusal.ensures.value ∙ may.1 in
     let some = in_range n s.history.cursor own in
-    let adds = subst (λ r. Adds g.S.Store s (4 ∷ little_bytes 8 n) 9 r mid) c.in_ok-commit_small.was (subst
-    (λ b. Adds g.S.Store s b (length b) c.commit_small.result mid) c.purge_body.ensures
+    let adds = subst (λ r. Adds g.S.Store s (spelling (Purge n) ∷ []) 1 9 r mid) c.in_ok-commit_small.was (subst
+    (λ b. Adds g.S.Store s (b ∷ []) 1 (length b) c.commit_small.result mid) c.purge_body.ensures
     c.commit_small.ensures.record) in
     let same : mid.history ≡ s.history = ap (λ (z : Core g.row.S.Denot). z.history) adds.fields.0 in
     let was : mid.counts ≡ s.counts = ap (λ (z : Core g.row.S.Denot). z.counts) adds.fields.0 in

@@ -1,6 +1,6 @@
 -- Redo is a step.
 use Rattle.std.proofs.Common.{◌≡◌, ◌∙◌, refl, sym, ap, subst, ℕ, ◌+◌, ◌<◌, ◌==◌, [], ◌∷◌, length, Err, Some, IfErr}
-use Rattle.std.proofs.Common.{IfOk}
+use Rattle.std.proofs.Common.{IfOk, arith}
 use Rattle.std.proofs.lemmas.Result.{err_from_is_err_and}
 use Rattle.pcm_base.specs.declared.answer.Reply.TheVariants.{Done}
 use Rattle.pcm_base.specs.declared.command.Call.TheVariants.{Line}
@@ -10,7 +10,9 @@ use Rattle.pcm_base.specs.declared.refusal.Refusal.TheVariants.{NothingToRedo}
 use Rattle.pcm_base.specs.History.{at_cursor}
 use Rattle.envelope_view.specs.Answers.{IsUndamaged}
 use Rattle.project_state.specs.declared.body.Body.TheVariants.{Redo}
+use Rattle.project_state.specs.Spelling.{spelling}
 use Rattle.editor_core.specs.Adding.{Adds, IsNoWant}
+use Rattle.editor_core.specs.Bodies.{single}
 use Rattle.editor_core.specs.Core.{Core, core_of}
 use Rattle.editor_core.specs.Took.{Took, quietly, silent, told_by}
 use Rattle.editor_core.proofs.Committing.{fails}
@@ -69,9 +71,9 @@ returns-in_err-commit_small-clause-took g c =
     let adds = c.in_err-commit_small.ensures.record in
     subst (λ r. Took g.S.Store s (quietly (Line command.Redo) (told_by (λ (n : ℕ). Done) r)) mid)
     (sym (p.1 ∙ ap Err p.2))
-    (fails g.S.Store s [] (Line command.Redo) silent 0 Redo
+    (fails g.S.Store s [] (Line command.Redo) silent 0 (single Redo)
     (at_cursor s.history (s.history.cursor + 1)) s.clipboard s.next_track c.requires (none_made g.S.Store s)
-    (redoes g.S.Store s c.requires some) may.0 own may.2 may.3 why mid (g.met.S.Store.may_fewer s.store) adds)
+    (redoes g.S.Store s c.requires some) may.0 own may.2 (omega (arith, may.3)) why mid (g.met.S.Store.may_fewer s.store) adds)
 
 pub returns-in_err-commit_small-clause-number : goal.returns-in_err-commit_small-clause-number
 returns-in_err-commit_small-clause-number g c =
@@ -98,7 +100,7 @@ returns-clause-took g c =
     let may = c.in_ok-may_commit.ensures in
     let own = sym (own_is g.S.Store s c.redo_refusal.result c.redo_refusal.ensures.value) ∙ may.1 in
     let some = behind s.history NothingToRedo c.redo_refusal.ensures.whole (sym c.redo_refusal.ensures.value ∙ may.1) in
-    let adds = subst (λ r. Adds g.S.Store s (3 ∷ []) 1 r mid) c.in_ok-commit_small.was c.commit_small.ensures.record in
+    let adds = subst (λ r. Adds g.S.Store s (spelling Redo ∷ []) 1 1 r mid) c.in_ok-commit_small.was c.commit_small.ensures.record in
     let same : mid.history ≡ s.history = ap (λ (z : Core g.row.S.Denot). z.history) adds.fields.0 in
     let some' = subst (λ h. h.cursor + 1 < length h.points) (sym same) some in
     let gone = redone c.commit_small.new.self.history c.redo.new.self c.redo.result some' c.redo.ensures.ok

@@ -1,5 +1,6 @@
 -- A command is one turn of the seat.
-use Rattle.std.proofs.Common.{ap, refl, ◌∙◌}
+use Rattle.std.proofs.Common.{◌≡◌, ◌==◌, ap, refl, ◌∙◌, nat_lt, if◌then◌else◌, Bool, true, false}
+use Rattle.pcm_base.specs.Shape.{is_commit, shape_of}
 use Rattle.pin_turn.specs.Calls.{known}
 use Rattle.studio_seats.specs.Desks.{start_at}
 use Rattle.studio_seats.specs.Onward.{IsLine}
@@ -7,6 +8,11 @@ use Rattle.studio_seats.proofs.OnwardLemmas.{onward_on, onward_turn}
 use Rattle.script_session.specs.Place.{with_number}
 use Rattle.script_session.proofs.SeatLemmas.{err_turn, ok_turn, stays_low}
 use Rattle.script_session.proofs.seat.DeskEditorEditor.apply.Goals as goal
+
+-- a line is one commit or none
+one_line : (b : Bool) → ((if b then 1 else 0) == 1) ≡ nat_lt 0 (if b then 1 else 0)
+one_line true = refl
+one_line false = refl
 
 pub invariant_of-self-in-Ok : goal.invariant_of-self-in-Ok
 invariant_of-self-in-Ok g c =
@@ -33,8 +39,8 @@ returns-in-Ok-clause-turn g c =
     (g.V.Vault.fault_count s.vault.now) (g.V.Vault.fault_count c.apply-at.new.vault)
     c.apply-at.new.answer.reply c.apply-at.result s.last s.commits.items c.note.new.numbers.items c.in-Ok.is
     c.apply-at.ensures.says s.low
-    (c.note.ensures ∙ (λ i. with_number (c.is_commit.ensures i) (c.reserve.ensures.items i)
-    c.apply-at.result.at)) c.apply-at.ensures.heard c.apply-at.ensures.faults
+    (c.note.ensures ∙ (λ i. with_number ((c.is_commit.ensures ∙ one_line (is_commit (shape_of c.args.command.now))) i)
+    (c.reserve.ensures.items i) c.apply-at.result.at)) c.apply-at.ensures.heard c.apply-at.ensures.faults
     (λ none. ap g.V.Vault.fault_count (c.apply-at.ensures.untouched none)))
 
 pub returns-in-Err-clause-turn : goal.returns-in-Err-clause-turn

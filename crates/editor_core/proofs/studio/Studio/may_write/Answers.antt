@@ -1,0 +1,48 @@
+-- The lengths of records that come together.
+use Rattle.std.proofs.Common.{◌≡◌, ◌∙◌, inl, inr, ◌⊎◌, sym, ap, subst, ℕ, Err, IfErr}
+use Rattle.std.proofs.lemmas.Result.{err_from_is_err_and}
+use Rattle.pcm_base.specs.declared.refusal.Refusal.{Refusal}
+use Rattle.pcm_base.specs.declared.refusal.Refusal.TheVariants as refusal
+use Rattle.project_state.specs.Kept.{current_tracks}
+use Rattle.editor_core.specs.Adding.{Exceeds, ExceedsBy}
+use Rattle.editor_core.specs.Bodies.{Writing, all_len, whole_len, writing}
+use Rattle.editor_core.specs.Core.{core_of}
+use Rattle.editor_core.proofs.Rows.{rows_total, whole_total}
+use Rattle.editor_core.proofs.studio.Studio.may_write.Goals as goal
+
+pub returns-in_err-may_add-clause-err : goal.returns-in_err-may_add-clause-err
+returns-in_err-may_add-clause-err g c =
+    let p = err_from_is_err_and c.from_residual-in_err-may_add.result c.from_residual-in_err-may_add.ensures.1 in
+    let s = core_of c.args.self.now in
+    let w : Writing = writing c.args.more c.args.body.now in
+    let why = c.in_err-may_add.field-0.0 in
+    let whole : c.len_together.result ≡ whole_len s w =
+    whole_total (current_tracks s.history) c.args.body.now c.in_ok-again.again c.args.more c.body_len.result
+    c.body_len-2.result c.len_together.result c.in_ok-again.ensures c.body_len.ensures.value c.body_len-2.ensures.value
+    c.len_together.ensures.value in
+    let over : Exceeds s.journal_end (whole_len s w) why =
+    subst (λ (n : ℕ). Exceeds s.journal_end n why) whole c.in_err-may_add.ensures.err in
+    subst (λ r. IfErr r (λ (x : Refusal). (x ≡ refusal.NoMemory) ⊎ ExceedsBy s.journal_end (whole_len s w)
+    (all_len s w) x)) (sym (p.1 ∙ ap Err p.2)) (inr (inl over))
+
+pub returns-in_err-may_add-2-clause-err : goal.returns-in_err-may_add-2-clause-err
+returns-in_err-may_add-2-clause-err g c =
+    let p = err_from_is_err_and c.from_residual-in_err-may_add-2.result c.from_residual-in_err-may_add-2.ensures.1 in
+    let s = core_of c.args.self.now in
+    let w : Writing = writing c.args.more c.args.body.now in
+    let why = c.in_err-may_add-2.field-0.0 in
+    let all : c.len_together-len.result ≡ all_len s w =
+    rows_total s.version (current_tracks s.history) c.args.body.now c.in_ok-again.again c.args.more c.body_size.result
+    c.body_size-2.result c.len_together-len.result c.in_ok-again.ensures c.body_size.ensures.value
+    c.body_size-2.ensures.value c.len_together-len.ensures.value in
+    let over : Exceeds s.journal_end (all_len s w) why =
+    subst (λ (n : ℕ). Exceeds s.journal_end n why) all c.in_err-may_add-2.ensures.err in
+    subst (λ r. IfErr r (λ (x : Refusal). (x ≡ refusal.NoMemory) ⊎ ExceedsBy s.journal_end (whole_len s w)
+    (all_len s w) x)) (sym (p.1 ∙ ap Err p.2)) (inr (inr over))
+
+pub returns-clause-value : goal.returns-clause-value
+returns-clause-value g c =
+    let s = core_of c.args.self.now in
+    rows_total s.version (current_tracks s.history) c.args.body.now c.in_ok-again.again c.args.more c.body_size.result
+    c.body_size-2.result c.len_together-len.result c.in_ok-again.ensures c.body_size.ensures.value
+    c.body_size-2.ensures.value c.len_together-len.ensures.value

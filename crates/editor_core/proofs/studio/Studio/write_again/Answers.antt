@@ -1,0 +1,24 @@
+-- The same record as often as it is asked for.
+use Rattle.std.proofs.Common.{◌≡◌, ◌∙◌, ap, [], List, ℕ}
+use Rattle.std.proofs.lemmas.Result.{on_ok_weaker}
+use Rattle.project_state.specs.Batches.{with_point}
+use Rattle.project_state.specs.declared.body.Body.{Body}
+use Rattle.project_state.specs.Kept.{current_tracks}
+use Rattle.editor_core.specs.Bodies.{body_bytes}
+use Rattle.editor_core.specs.Core.{core_of}
+use Rattle.editor_core.proofs.Rows.{again_waits}
+use Rattle.editor_core.proofs.studio.Studio.write_again.Goals as goal
+
+pub returns-clause-rows : goal.returns-clause-rows
+returns-clause-rows g c =
+    let s = core_of c.args.self.now in
+    let current = current_tracks s.history in
+    let body = c.args.body.now in
+    let empty : c.write_record.new.self.row.items ≡ [] =
+    ◌∙◌ {A = List ℕ} (λ i. (c.write_record.ensures.row i).items) c.clear.ensures.items in
+    let written : c.deref.result.now ≡ body_bytes s (with_point current body) =
+    ◌∙◌ {A = List ℕ} c.deref.ensures.value (◌∙◌ {A = List ℕ} c.in_ok-write_record.ensures.body
+    (ap (λ (b : Body). body_bytes s b) c.in_ok-again.ensures)) in
+    on_ok_weaker c.add_times.result
+    (again_waits s.version current body c.args.more c.write_record.new.self.row.items c.add_times.new.rows.items
+    c.deref.result.now empty written) c.add_times.ensures

@@ -1,0 +1,33 @@
+-- The last record comes after those that say the current point.
+use Rattle.std.proofs.Common.{◌≡◌, ◌∙◌, ap, ℕ, List, [], ◌∷◌, ◌++◌, length, arith}
+use Rattle.project_journal.specs.Journal.{opened}
+use Rattle.project_state.specs.Kept.{current_tracks}
+use Rattle.editor_core.specs.Bodies.{body_bytes}
+use Rattle.editor_core.specs.Core.{Core, core_of}
+use Rattle.editor_core.proofs.Rows.{all_wait, last_short}
+use Rattle.editor_core.proofs.studio.Studio.write_records.Goals as goal
+
+pub add_record-requires : goal.add_record-requires
+add_record-requires g c =
+    let s = core_of c.args.self.now in
+    let body = c.args.body.now in
+    let written : c.deref.result.now ≡ body_bytes s body =
+    ◌∙◌ {A = List ℕ} c.deref.ensures.value (◌∙◌ {A = List ℕ} c.in_ok-write_record.ensures.body
+    (ap (λ (z : Core g.row.S.Denot). body_bytes z body) c.write_again.ensures.same)) in
+    omega (
+      arith,
+      ap length written,
+      last_short s.version (current_tracks s.history) body c.args.more c.requires.short,
+    )
+
+pub returns-clause-rows : goal.returns-clause-rows
+returns-clause-rows g c =
+    let s = core_of c.args.self.now in
+    let body = c.args.body.now in
+    let written : c.deref.result.now ≡ body_bytes s body =
+    ◌∙◌ {A = List ℕ} c.deref.ensures.value (◌∙◌ {A = List ℕ} c.in_ok-write_record.ensures.body
+    (ap (λ (z : Core g.row.S.Denot). body_bytes z body) c.write_again.ensures.same)) in
+    all_wait s.version (current_tracks s.history) body c.args.more c.write_again.new.self.row.items
+    c.reserve.new.self.items c.deref.result.now c.in_ok-write_again.ensures.rows written c.requires.short
+    (◌∙◌ {A = List ℕ} c.reserve.ensures.items (◌∙◌ {A = List ℕ} c.in_ok-add_record.ensures.row
+    (λ i. (c.write_record.ensures.row i).items ++ opened (c.deref.result.now ∷ []))))
