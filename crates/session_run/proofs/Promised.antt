@@ -30,7 +30,7 @@ use Rattle.desk_session.specs.Sides.{side_number}
 use Rattle.desk_session.specs.Sounds.{piece_numbers}
 use Rattle.script_text.specs.Last.{last_text}
 use Rattle.session_run.specs.Answered.{Answered}
-use Rattle.session_run.specs.Entries.{last_number, numbers_by}
+use Rattle.session_run.specs.Entries.{last_number, numbers_by, pieces_apart}
 use Rattle.session_run.specs.Last.{play_line, record_line}
 use Rattle.session_run.specs.Opening.{OpensTo}
 use Rattle.session_run.specs.Ports.{Job, lent_of}
@@ -39,6 +39,7 @@ use Rattle.session_run.specs.Runs.{RunsOn}
 use Rattle.session_run.specs.Sides.{PlaysSide, RecordsSide}
 use Rattle.session_run.specs.Streams.{input, output}
 use Rattle.session_run.proofs.AnsweredLemmas.{answered}
+use Rattle.session_run.proofs.ApartLemmas.{all_tagged, deeds_apart}
 use Rattle.session_run.proofs.FourLemmas.{out_stays}
 use Rattle.session_run.proofs.StatusLemmas.{Counted}
 use Rattle.session_run.proofs.EntryLemmas.{IsPlain, entries_as, entries_length, last_as, numbers_as}
@@ -226,6 +227,10 @@ module _ {D V M P : Type 0} (k : Kinds D V M P) (ask : DeedsAsk k.disk k.vaults)
     holds = (final, refl, led.held tell held, refl);
     run = subst (λ (l : List Entry). Run (studio_of disk start) l (studio_of disk final)) entries_are
         (led.run tell held);
+    piece_by_piece = subst
+        (λ (l : List Entry). Run (studio_of disk start) (pieces_apart l) (studio_of disk final)) entries_are
+        (deeds_apart disk k.vaults start s.deeds final s.stands.chain told held s.stands.began
+        (all_tagged s.spent n start.next_track ran.out.opened s.deeds s.numbers.opening_rises s.made));
     makers = each_maker s.made.seats s.made.script_seat rest s.made.all;
     apart = (
       apart_recorder,

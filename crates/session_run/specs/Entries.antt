@@ -1,8 +1,12 @@
 -- Entries of a run, by who made them, and the numbers of their commits.
 use Rattle.std.specs.Prelude.{ℕ, ◌+◌, ◌==◌, if◌then◌else◌, Bool, List, [], ◌∷◌, ◌++◌}
+use Rattle.pcm_base.specs.declared.command.Call.{Call}
+use Rattle.pcm_base.specs.declared.command.Call.TheVariants as call
 use Rattle.pcm_base.specs.declared.entry.Entry.{Entry}
 use Rattle.pcm_base.specs.Arithmetic.{counted_from}
 use Rattle.pcm_base.specs.Counters.{commits_of}
+use Rattle.pcm_base.specs.Recordings.{pieces_of}
+use Rattle.model_laws.specs.Laws.{pieces_done}
 use Rattle.script_session.specs.Session.{is_refusal}
 
 -- how many commits an entry made: none if it was refused, else those of its call
@@ -31,3 +35,19 @@ abbrev pub numbers_by : ℕ → ℕ → List Entry → List ℕ
 numbers_by actor n [] = []
 numbers_by actor n (e ∷ es) =
     (if is_by actor e then counted_from (n + 1) (commits_in e) else []) ++ numbers_by actor (number_of n e) es
+
+-- An entry of pieces that was carried out, as an entry for each piece: at most 256 samples, and the reply Done. A
+-- refused entry and one of another call stay as they are.
+abbrev pub call_apart : Call → Entry → List Entry
+call_apart (call.Line c) e = e ∷ []
+call_apart (call.Piece track tag samples) e =
+    if is_refusal e.reply then e ∷ [] else pieces_done e.actor track tag e.sound (pieces_of samples)
+call_apart call.Pin e = e ∷ []
+call_apart (call.PinLen pin) e = e ∷ []
+call_apart (call.ReadPin pin from count) e = e ∷ []
+call_apart (call.Unpin pin) e = e ∷ []
+
+-- entries, their pieces taken apart
+abbrev pub pieces_apart : List Entry → List Entry
+pieces_apart [] = []
+pieces_apart (e ∷ es) = call_apart e.call e ++ pieces_apart es

@@ -52,7 +52,7 @@ use Rattle.script_session.specs.Spent.{TellSpent}
 use Rattle.desk_session.specs.declared.side.Side.{Side}
 use Rattle.desk_session.specs.Sides.{is_asked, side_number}
 use Rattle.session_run.specs.Answered.{Answered}
-use Rattle.session_run.specs.Entries.{entries_by, is_by, last_number, numbers_by}
+use Rattle.session_run.specs.Entries.{entries_by, is_by, last_number, numbers_by, pieces_apart}
 use Rattle.session_run.specs.Opening.{OpensTo}
 use Rattle.session_run.specs.Sides.{MakesSide, PlaysSide, RecordsSide}
 use Rattle.session_run.specs.Streams.{Input, Output, PrintsFrom, PrintsThen}
@@ -141,10 +141,11 @@ pub record Promise {D : Type 0} (disk : Ghosts D) (m : Met D) : Type 0 where
   pub holds : (core : Core D) × (core.store ≡ m.store.now) × IsHeld disk core × (final ≡ studio_of disk core)
   -- ONE RUN of the plain array editor, by the script, which is the actor 0, the recorder and the player. A refused
   -- entry leaves the editor's state as it was and takes no number. One that a device broke off may use up ids of
-  -- blocks, and an export may then leave a part of its sound. An entry of several pieces is a commit for each, and the
-  -- same run as so many entries of one piece (`batches_are_pieces` of model_laws). The exit status is said in Call
-  -- (EndsAs).
+  -- blocks, and an export may then leave a part of its sound. The exit status is said in Call (EndsAs).
   pub run : Run start ((track ++ pin) ++ entries) final
+  -- The run PIECE BY PIECE. Each entry of pieces that was carried out becomes an entry for each of its pieces, answered
+  -- Done, and all others stay. From the same studio this run leads to the same one.
+  pub piece_by_piece : Run start (pieces_apart ((track ++ pin) ++ entries)) final
   pub makers : Each (λ e. (is_by 0 e || (is_by end.recorder e || is_by end.player e)) ≡ true) entries
   pub apart : (0 ≢ end.recorder) × (0 ≢ end.player) × (end.recorder ≢ end.player)
   pub asked : (is_asked end.recording ≡ m.records) × (is_asked end.playback ≡ m.plays)

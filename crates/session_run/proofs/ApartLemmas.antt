@@ -1,0 +1,220 @@
+-- A run in which each entry of pieces is taken apart into single pieces.
+use Rattle.std.proofs.Common.{◌≡◌, inl, inr, ⊎_elim, ◌∙◌, refl, sym, ap, subst, ℕ, ◌+◌, ◌≤◌, ◌<◌, ℤ, if◌then◌else◌, Bool}
+use Rattle.std.proofs.Common.{true, false, List, [], ◌∷◌, ◌++◌, length, drop, Result, Ok, Err, arith}
+use Rattle.std.specs.Prelude.{◌||◌}
+use Rattle.std.proofs.lemmas.Bool.{cases_lt, eqb-true, or_cases}
+use Rattle.std.proofs.lemmas.List.{at_drop_all}
+use Rattle.pcm_base.specs.declared.answer.Reply.{Reply}
+use Rattle.pcm_base.specs.declared.answer.Reply.TheVariants as reply
+use Rattle.pcm_base.specs.declared.command.Call.{Call}
+use Rattle.pcm_base.specs.declared.command.Call.TheVariants as call
+use Rattle.pcm_base.specs.declared.command.Call.TheVariants.{Line, Piece, Pin}
+use Rattle.pcm_base.specs.declared.command.Command.TheVariants.{Track}
+use Rattle.pcm_base.specs.declared.entry.Entry.{Entry}
+use Rattle.pcm_base.specs.declared.entry.SoundMove.{SoundMove}
+use Rattle.pcm_base.specs.declared.refusal.Refusal.{Refusal}
+use Rattle.pcm_base.specs.declared.refusal.Refusal.TheVariants.{NoTrack}
+use Rattle.pcm_base.specs.Cells.{Project, cells_at, tracks_from}
+use Rattle.pcm_base.specs.Counters.{counter_tests, record_test}
+use Rattle.pcm_base.specs.Recordings.{pieces_of}
+use Rattle.pcm_base.specs.Refusals.{◌otherwise◌, call_tests, is_empty, length_limit, no_track}
+use Rattle.pcm_base.specs.Run.{Answers, CarriesOut, Run, outside, stop_test}
+use Rattle.pcm_base.specs.State.{current, first_point}
+use Rattle.pcm_base.specs.Studio as model
+use Rattle.model_laws.specs.Bounds.{IsBoundedStudio}
+use Rattle.model_laws.specs.Laws.{pieces_done}
+use Rattle.model_laws.proofs.OwnTests.{both_passed, not_refused}
+use Rattle.model_laws.proofs.Together.{batch_pieces}
+use Rattle.disk_model.specs.declared.store.Store.{Ghosts}
+use Rattle.edit_ports.specs.declared.vault.Vault as vault
+use Rattle.pin_turn.specs.Counts.{Each}
+use Rattle.editor_core.specs.Applied.{reply_of}
+use Rattle.editor_core.specs.Core.{Core}
+use Rattle.editor_core.specs.Studios.{IsHeld, IsStudio, studio_of}
+use Rattle.studio_seats.specs.declared.deed.Deed.{Deed}
+use Rattle.studio_seats.specs.Deeds.{entries_of, entry_of}
+use Rattle.studio_seats.specs.Merge.{Rises, by_seat}
+use Rattle.studio_seats.specs.Onward.{Asks, IsLine}
+use Rattle.studio_seats.specs.Stands.{AllTell, Chain}
+use Rattle.studio_seats.proofs.OnwardLemmas.{each_append}
+use Rattle.script_session.specs.Session.{is_refusal}
+use Rattle.desk_session.specs.declared.opening.Opened.{Opened}
+use Rattle.desk_session.specs.declared.side.Side.{Side}
+use Rattle.desk_session.specs.declared.side.Side.TheVariants.{Made, NotAsked, Refused}
+use Rattle.desk_session.specs.Makers.{Seats, is_by}
+use Rattle.desk_session.specs.Opening.{OwnDeed, PinDeed, TrackDeed, play_calls, record_calls, record_commits}
+use Rattle.desk_session.specs.Sessions.{IsMadeOf}
+use Rattle.session_run.specs.Entries.{call_apart, pieces_apart}
+use Rattle.session_run.proofs.BoundLemmas.{bounded}
+use Rattle.session_run.proofs.PromiseLemmas.{plain_of}
+
+-- ---- runs
+
+-- two runs, one after the other
+run_append : (t mid u : model.Studio) (es more : List Entry) → Run t es mid → Run mid more u → Run t (es ++ more) u
+run_append t mid u [] more same run = subst (λ (s : model.Studio). Run s more u) same run
+run_append t mid u (e ∷ es) more (next, step, rest) run = (next, step, run_append next mid u es more rest run)
+
+-- a call and what it was answered, as an entry
+abbrev entry : ℕ → Call → SoundMove → Result Reply Refusal → Entry
+entry actor c sound what = record { actor = actor; call = c; reply = reply_of what; sound = sound }
+
+-- it is a run of its own
+one : (t u : model.Studio) (actor : ℕ) (c : Call) (sound : SoundMove) (what : Result Reply Refusal)
+    → Answers t c sound what u → Run t (entry actor c sound what ∷ []) u
+one t u actor c sound what h =
+    (u, subst (λ (w : Result Reply Refusal). Answers t c sound w u) (sym (plain_of t u c sound what h)) h, refl)
+
+-- ---- a call of pieces
+
+-- where a track is found, one of the points is current
+there : (points : List (Project × ℕ)) (cursor track : ℕ)
+    → is_empty (tracks_from track (first_point (drop cursor points))) ≡ false → cursor < length points
+there points cursor track found = ⊎_elim
+    (λ (below : cursor < length points). below)
+    (λ (past : length points ≤ cursor).
+    let none : is_empty (tracks_from track (first_point (drop cursor points))) ≡ true =
+    at_drop_all (λ l. is_empty (tracks_from track (first_point l))) points cursor past in
+    let no : ⊥ = cc in absurd no)
+    (cases_lt cursor (length points))
+
+-- so one is where a call of pieces was carried out
+found : (t u : model.Studio) (track tag : ℕ) (samples : List ℤ) (sound : SoundMove) (r : Reply)
+    → CarriesOut t (Piece track tag samples) sound r u → t.state.history.cursor < length t.state.history.points
+found t u track tag samples sound r done =
+    let out = outside t sound in
+    let c = Piece track tag samples in
+    let counters = counter_tests out t c done.blocks done.len in
+    let own = call_tests out t.state c in
+    let going = both_passed (stop_test t.stopped c) (own otherwise counters otherwise record_test done.len) done.passed in
+    let passed = both_passed own (counters otherwise record_test done.len) going.1 in
+    let here = both_passed (no_track t.state track)
+    (length_limit ((length (cells_at track (current t.state)) + length samples) ∷ [])) passed.0 in
+    there t.state.history.points t.state.history.cursor track
+    (not_refused (is_empty (tracks_from track (current t.state))) (NoTrack track) here.0)
+
+-- a call of pieces by its answer, its pieces taken apart
+pieces : (t u : model.Studio) (actor track tag : ℕ) (samples : List ℤ) (sound : SoundMove)
+    (what : Result Reply Refusal) → ((r : Reply) → CarriesOut t (Piece track tag samples) sound r u → IsBoundedStudio t)
+    → 1 ≤ tag → Answers t (Piece track tag samples) sound what u
+    → Run t (call_apart (Piece track tag samples) (entry actor (Piece track tag samples) sound what)) u
+pieces t u actor track tag samples sound (Err why) bound numbered h =
+    one t u actor (Piece track tag samples) sound (Err why) h
+pieces t u actor track tag samples sound (Ok r) bound numbered h =
+    subst (λ (b : Bool). Run t (if b then entry actor (Piece track tag samples) sound (Ok r) ∷ []
+    else pieces_done actor track tag sound (pieces_of samples)) u)
+    (sym (ap is_refusal h.answers))
+    (batch_pieces t u actor track tag samples sound r (bound r h) numbered h)
+
+-- ---- deeds
+
+-- the tag of a call of pieces is a commit number from 1 on
+abbrev IsTagged : Call → Type 0
+IsTagged (call.Line c) = Unit {0}
+IsTagged (call.Piece track tag samples) = 1 ≤ tag
+IsTagged call.Pin = Unit {0}
+IsTagged (call.PinLen pin) = Unit {0}
+IsTagged (call.ReadPin pin from count) = Unit {0}
+IsTagged (call.Unpin pin) = Unit {0}
+
+module _ {D V : Type 0} (disk : Ghosts D) (vaults : vault.Ghosts V) where
+  -- one deed
+  by_call : (old new : Core D) (actor : ℕ) (c : Call) (sound : SoundMove) (what : Result Reply Refusal)
+      → IsStudio disk old → IsTagged c → Answers (studio_of disk old) c sound what (studio_of disk new)
+      → Run (studio_of disk old) (call_apart c (entry actor c sound what)) (studio_of disk new)
+  by_call old new actor (call.Line c) sound what is numbered h =
+      one (studio_of disk old) (studio_of disk new) actor (call.Line c) sound what h
+  by_call old new actor (call.Piece track tag samples) sound what is numbered h =
+      pieces (studio_of disk old) (studio_of disk new) actor track tag samples sound what
+      (λ r done.
+      bounded disk old _ is
+      (found (studio_of disk old) (studio_of disk new) track tag samples sound r done))
+      numbered h
+  by_call old new actor call.Pin sound what is numbered h =
+      one (studio_of disk old) (studio_of disk new) actor call.Pin sound what h
+  by_call old new actor (call.PinLen pin) sound what is numbered h =
+      one (studio_of disk old) (studio_of disk new) actor (call.PinLen pin) sound what h
+  by_call old new actor (call.ReadPin pin from count) sound what is numbered h =
+      one (studio_of disk old) (studio_of disk new) actor (call.ReadPin pin from count) sound what h
+  by_call old new actor (call.Unpin pin) sound what is numbered h =
+      one (studio_of disk old) (studio_of disk new) actor (call.Unpin pin) sound what h
+
+  -- the deeds of a studio that a disk holds
+  pub deeds_apart : (old : Core D) (ds : List Deed) (new : Core D) → Chain disk vaults old ds new → AllTell vaults
+      → IsHeld disk old → IsStudio disk old → Each (λ d. IsTagged d.call) ds
+      → Run (studio_of disk old) (pieces_apart (entries_of ds)) (studio_of disk new)
+  deeds_apart old [] new chain told held is numbered = ap (studio_of disk) chain
+  deeds_apart old (d ∷ ds) new (mid, does, chain) told held is numbered =
+      let took = does.took (λ some. told) in
+      run_append (studio_of disk old) (studio_of disk mid) (studio_of disk new) (call_apart d.call (entry_of d))
+      (pieces_apart (entries_of ds))
+      (by_call old mid d.actor d.call d.sound d.what is numbered.0 (took.step held))
+      (deeds_apart mid ds new chain told (took.held held) does.lasts.studio numbered.1)
+
+-- ---- the tags of a session
+
+own_tagged : (spent_ : Bool) (seat : ℕ) (c : Call) (what : Result Reply Refusal) (own : List Deed) → IsTagged c
+    → OwnDeed spent_ seat c what own → Each (λ d. IsTagged d.call) own
+own_tagged spent_ seat c what own is (inl one_) =
+    subst (λ (l : List Deed). Each (λ d. IsTagged d.call) l) (sym one_) (is, tt)
+own_tagged spent_ seat c what own is (inr none) =
+    subst (λ (l : List Deed). Each (λ d. IsTagged d.call) l) (sym none.1) tt
+
+track_tagged : (spent_ : Bool) (made : Side) (own : List Deed) → TrackDeed spent_ 0 made own
+    → Each (λ d. IsTagged d.call) own
+track_tagged spent_ NotAsked own h = subst (λ (l : List Deed). Each (λ d. IsTagged d.call) l) (sym h) tt
+track_tagged spent_ (Made tag) own h = own_tagged spent_ 0 (Line Track) (Ok h.0) own tt h.1
+track_tagged spent_ (Refused why) own h = own_tagged spent_ 0 (Line Track) (Err why) own tt h
+
+pin_tagged : (spent_ : Bool) (made : Side) (own : List Deed) → PinDeed spent_ 0 made own
+    → Each (λ d. IsTagged d.call) own
+pin_tagged spent_ NotAsked own h = subst (λ (l : List Deed). Each (λ d. IsTagged d.call) l) (sym h) tt
+pin_tagged spent_ (Made pin) own h = own_tagged spent_ 0 Pin (Ok (reply.Pinned pin)) own tt h
+pin_tagged spent_ (Refused why) own h = own_tagged spent_ 0 Pin (Err why) own tt h
+
+line_tagged : (c : Call) → IsLine c → IsTagged c
+line_tagged c h = subst IsTagged (sym h.1) tt
+
+record_tagged : (n track : ℕ) (recording : Side) (c : Call) → Rises n (record_commits recording)
+    → record_calls track recording c → IsTagged c
+record_tagged n track NotAsked c rises h = absurd h
+record_tagged n track (Refused why) c rises h = absurd h
+record_tagged n track (Made tag) c rises (inl piece) = subst IsTagged (sym piece.1) (omega (arith, rises.0))
+record_tagged n track (Made tag) c rises (inr reclaim) = subst IsTagged (sym reclaim) tt
+
+play_tagged : (pin : Side) (c : Call) → play_calls pin c → IsTagged c
+play_tagged NotAsked c h = absurd h
+play_tagged (Refused why) c h = absurd h
+play_tagged (Made number) c (inl read) = subst IsTagged (sym read.2) tt
+play_tagged (Made number) c (inr release) = subst IsTagged (sym release) tt
+
+rest_tagged : (seats : Seats) (n track : ℕ) (opened : Opened) (ds : List Deed) → seats.script ≡ 0
+    → Rises n (record_commits opened.recording) → Each (λ d. is_by seats d ≡ true) ds → Asks IsLine 0 ds
+    → Asks (record_calls track opened.recording) seats.recorder ds → Asks (play_calls opened.pin) seats.player ds
+    → Each (λ d. IsTagged d.call) ds
+rest_tagged seats n track opened [] first rises all lines pieces_ reads = tt
+rest_tagged seats n track opened (d ∷ ds) first rises all lines pieces_ reads = (
+  ⊎_elim
+      (λ script. line_tagged d.call (lines.0 (sym (eqb-true seats.script d.actor script) ∙ first)))
+      (λ other. ⊎_elim
+      (λ recorder.
+      record_tagged n track opened.recording d.call rises
+      (pieces_.0 (sym (eqb-true seats.recorder d.actor recorder))))
+      (λ player. play_tagged opened.pin d.call (reads.0 (sym (eqb-true seats.player d.actor player))))
+      (or_cases (by_seat seats.recorder d) (by_seat seats.player d) other))
+      (or_cases (by_seat seats.script d) (by_seat seats.recorder d || by_seat seats.player d) all.0),
+  rest_tagged seats n track opened ds first rises all.1 lines.1 pieces_.1 reads.1,
+)
+
+-- each piece of a session has a tag from 1 on
+pub all_tagged : (spent_ : Bool) (n track : ℕ) (opened : Opened) (deeds : List Deed)
+    → Rises n (record_commits opened.recording) → IsMadeOf spent_ track opened deeds
+    → Each (λ d. IsTagged d.call) deeds
+all_tagged spent_ n track opened deeds rises made =
+    subst (λ (l : List Deed). Each (λ d. IsTagged d.call) l) (sym made.split)
+    (each_append (λ d. IsTagged d.call) made.opening made.rest
+    (subst (λ (l : List Deed). Each (λ d. IsTagged d.call) l) (sym made.opening_is)
+    (each_append (λ d. IsTagged d.call) made.track_own made.pin_own
+    (track_tagged spent_ opened.recording made.track_own made.track_is)
+    (pin_tagged spent_ opened.pin made.pin_own made.pin_is)))
+    (rest_tagged made.seats n track opened made.rest made.script_seat rises made.all made.lines made.pieces made.reads))
