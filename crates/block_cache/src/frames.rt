@@ -22,9 +22,9 @@ use peak_summary::{NOTHING, Summary};
 use sample_block::LONG_FRAME;
 
 /// How many frames a page has, but for the last of a level of a block.
-const PAGE: usize = 256;
+pub(crate) const PAGE: usize = 256;
 
-/// How many frames of a level a block of so many samples has.
+/// How many frames of a level a block of this many samples has.
 fn frames_in(level: Level, len: usize) -> usize
     ensures { result ≡ frame_count (frame_len level) len }
 {

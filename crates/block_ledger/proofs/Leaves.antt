@@ -79,7 +79,7 @@ pub none_found : (es : List Entry) (leaves : List (Option ℕ)) (r : Option ℕ)
 none_found es leaves None le match least = λ id is. least id (free_listed es leaves id le match is)
 none_found es leaves (Some x) le match least = tt
 
--- before the place of a new entry and behind the last one the leaves are as they were
+-- before the place of a new entry and after the last one the leaves are as they were
 pub leaves_before : (es : List Entry) (leaves : List (Option ℕ)) (i : ℕ) (new : Entry) → i ≤ length es
     → IsLeaves es leaves → (k : ℕ) → k < i → get_or leaves k None ≡ get_or (map free_of (insert es i new)) k None
 leaves_before es leaves i new le match k lt =

@@ -23,7 +23,7 @@ count_of kept = count_in kept.entries
 abbrev pub places : Kept → ℕ
 places kept = length kept.entries + kept.spare
 
--- there are places for the ids that are there, and for so many more or as many again
+-- there are places for the ids that are there, and for this many more or as many again
 pub record FollowsIds (count : ℕ) (kept : Kept) : Type 0 where
   pub ids : List ℕ
   pub there : AreThere (count_of kept) ids

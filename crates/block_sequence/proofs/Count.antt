@@ -47,7 +47,7 @@ count_run m t u a h =
       few_blocks (div_ceil t m) m t u (div_ceil_times t m a).1 h,
     )
 
--- so many samples may stand in a run with u pieces that are not sound
+-- this many samples may stand in a run with u pieces that are not sound
 unfoldable credit : ℕ → ℕ → ℕ
 credit m u = m * (2 * u)
 

@@ -27,7 +27,7 @@ no_run : (m : ℕ) → m * made_count (run_parts m 0) ≡ 0
 unfolding run_parts
 no_run m = rw no_sizes (mul-zero m)
 
--- a clip that goes on behind a sound piece has at least the room of one that begins there
+-- a clip that goes on after a sound piece has at least the room of one that begins there
 first_behind : (m : ℕ) (ps : List Piece) → room m First ps ≤ room m Behind ps
 first_behind m [] = omega arith
 first_behind m (p ∷ ps) = elim (cases_Bool (is_sound m p)) [ inl e ↦ rw e (omega arith) | inr e ↦ rw e (omega arith) ]
@@ -42,7 +42,7 @@ within_behind m (p ∷ ps) h = elim (cases_Bool (is_sound m p)) [
     nothing : 0 < 0 → ⊥
     nothing h = omega arith
 
--- the parts behind an open run of t samples, and those where no run is open
+-- the parts after an open run of t samples, and those where no run is open
 abbrev IsRoomy : ℕ → List Piece → Type 0
 IsRoomy m ps = ((t : ℕ) (s : Stand) → m * made_count (laid m t ps) ≤ t + m + room m s ps)
     × (m * made_count (laid m 0 ps) ≤ room m First ps)

@@ -11,7 +11,7 @@ use Rattle.pcm_base.specs.declared.piece.Piece.{Piece}
 use Rattle.pcm_base.specs.declared.piece.Piece.TheVariants.{Old, Scaled, Zero, Given}
 use Rattle.pcm_base.specs.Pieces.{piece_len, total, whole}
 
--- a block that is kept, or a new one of so many samples
+-- a block that is kept, or a new one of this many samples
 pub data Part : Type 0 where
   Kept : BlockRef → Part
   Made : ℕ → Part

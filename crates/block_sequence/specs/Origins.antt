@@ -1,4 +1,4 @@
--- Where pieces come from: blocks of a list, and so many samples that a command brings.
+-- Where pieces come from: blocks of a list, and this many samples that a command brings.
 use Rattle.std.specs.Prelude.{ℕ, ◌≤◌, List, [], ◌∷◌, Contains}
 use Rattle.pcm_base.specs.declared.block.BlockRef.{BlockRef}
 use Rattle.pcm_base.specs.declared.piece.Piece.{Piece}

@@ -41,13 +41,13 @@ pub early_fault : (id len end : ℕ) (bytes : List ℕ) (why : BlockFault)
 early_fault id len end bytes fault.DiskFault none early = tt
 early_fault id len end bytes (fault.Damaged file found) none early = (early.0, inr (early.1, λ there. none))
 
--- a read behind a header that was compared
+-- a read after a header that was compared
 pub early_result : {T : Type 0} (r : Result T BlockFault) (id len end : ℕ) (bytes : List ℕ) → HasHeader id len bytes
     → IfErr r (λ e. IsEarly id len end bytes e) → IfErr r (λ e. IsReadFault id len end bytes e)
 early_result (Ok x) id len end bytes has early = tt
 early_result (Err why) id len end bytes has early = early_fault id len end bytes why has.1 early
 
--- a read of some items ends behind the last of them
+-- a read of some items ends after the last of them
 pub end_some : (n place : ℕ) → 0 < n → end_of n place ≡ place
 end_some zero place some = absurd (omega (arith, some))
 end_some (suc n) place some = refl

@@ -12,6 +12,6 @@ Checks id found (Ok x) = found ≡ None
 Checks id found (Err fault.DiskFault) = Unit {0}
 Checks id found (Err (fault.Damaged file differs)) = (file ≡ id) × (found ≡ Some differs)
 
--- the disk has the block, of so many samples
+-- the disk has the block, of this many samples
 abbrev pub IsWhole : Files → ℕ → ℕ → Type 0
 IsWhole files id len = (xs : List ℤ) × (blocks files id ≡ Some xs) × (length xs ≡ len)

@@ -24,7 +24,7 @@ CountedBy (fault.Damaged file found) old new = new ≡ old
 abbrev pub Counted : {T : Type 0} → Result T BlockFault → ℕ → ℕ → Type 0
 Counted result old new = MatchResult result (λ _. new ≡ old) (λ why. CountedBy why old new)
 
--- The file of a block of so many samples ends before this place: its size is told, at 0.
+-- The file of a block of this many samples ends before this place: its size is told, at 0.
 abbrev pub EndsBefore : (len end : ℕ) → List ℕ → Damaged → Type 0
 EndsBefore len end bytes found =
     (found ≡ record { at = 0; want = size_of len; have = length bytes }) × (length bytes < end)
@@ -72,16 +72,16 @@ abbrev pub frame_len : Level → ℕ
 frame_len Short = 256
 frame_len Long = LONG_FRAME
 
--- how many samples frame i has, of a block of so many
+-- how many samples frame i has, of a block of this many
 abbrev pub frame_samples : Level → ℕ → ℕ → ℕ
 frame_samples level len i = min (frame_len level) (len - frame_len level * i)
 
--- where the frames of this level begin, in a file of so many samples
+-- where the frames of this level begin, in a file of this many samples
 abbrev pub level_place : Level → ℕ → ℕ
 level_place Short len = 16 + 2 * len
 level_place Long len = 16 + 2 * len + 12 * frame_count 256 len
 
--- frame i of this level, as it stands in a file of so many samples
+-- frame i of this level, as it stands in a file of this many samples
 abbrev pub stored_frame : List ℕ → Level → ℕ → ℕ → Summary
 stored_frame bytes level len i = frame_in bytes (level_place level len + 12 * i) (frame_samples level len i)
 

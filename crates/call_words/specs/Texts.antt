@@ -16,7 +16,7 @@ name_and_value text = (
   if list_any is_equals_sign text then Some (after_first is_equals_sign text) else None,
 )
 
--- what stands behind two hyphens, where anything does
+-- what stands after two hyphens, where anything does
 abbrev pub behind_hyphens : Text → Option Text
 behind_hyphens (a ∷ b ∷ c ∷ rest) = if a == 45 && b == 45 then Some (c ∷ rest) else None
 behind_hyphens _ = None

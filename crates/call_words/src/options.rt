@@ -55,7 +55,7 @@ pub fn read_options<'a>(alloc: Global, words: &'a [String]) -> Result<Given<'a>,
     ensures given { IfOk result (λ g. options_read (map string_bytes words.entry.now) ≡ Some (given_in g)) }
     ensures usage { IsErrOf result WordsFault.Usage → options_read (map string_bytes words.entry.now) ≡ None }
 {
-    // `clap` takes a lone `--` behind the options.
+    // `clap` takes a lone `--` after the options.
     if has_odd(words) {
         return Err(WordsFault::Usage);
     }

@@ -88,7 +88,7 @@ fn read_gen(words: &[String]) -> Option<Words>
     }
 }
 
-// A command that has no words behind it.
+// A command that has no words after it.
 fn alone(asked: Words, words: &[String]) -> Option<Words>
     requires bounds { IsInBounds asked }
     ensures value { result ≡ alone asked (map string_bytes words.now) }
@@ -97,7 +97,7 @@ fn alone(asked: Words, words: &[String]) -> Option<Words>
     if words.is_empty() { Some(asked) } else { None }
 }
 
-// A command that is not `new`, and the words behind it.
+// A command that is not `new`, and the words after it.
 fn read_other(command: &[u8], rest: &[String]) -> Option<Words>
     ensures value { result ≡ other_words command.now (map string_bytes rest.now) }
     ensures bounds { IfSome result IsInBounds }

@@ -18,7 +18,7 @@ pub(crate) const MOST: u64 = 3_000;
 pub(crate) enum Turn<'a> {
     /// The first section alone is played.
     Once,
-    /// The disk stops after so many more calls.
+    /// The disk stops after this many more calls.
     Stop(u64),
     /// The call of this number of a device fails.
     Call(&'a str, u64),

@@ -80,7 +80,7 @@ fn has_file<S: Store>(
     are_bytes(alloc, line, bytes.as_slice(), wanted.as_slice())
 }
 
-// The bytes from a place on, and at most so many.
+// The bytes from a place on, and at most this many.
 fn part_of(bytes: &[u8], at: usize, len: usize) -> &[u8] {
     let after = bytes.get(at..).unwrap_or(&[]);
     after.get(..len).unwrap_or(after)
@@ -103,7 +103,7 @@ fn has_part<S: Store>(
     are_bytes(alloc, line, part, wanted.as_slice())
 }
 
-// So many calls of the disk failed, and so many of these were to change it.
+// So many calls of the disk failed, and this many of these were to change it.
 fn has_faults<S: Store>(alloc: Global, store: &S, line: Line<'_>, rest: &str) -> Result<(), Fault> {
     let wanted = numbers_of(alloc, line, rest)?;
     let faults = [store.faults(), store.change_faults()];

@@ -32,7 +32,7 @@ pub(crate) fn write_file<S: Store>(
     put_bytes(store, line, file, at, bytes.as_slice())
 }
 
-/// Leaves so many bytes of a file as a text says.
+/// Leaves as many bytes of a file as a text says.
 pub(crate) fn cut_file<S: Store>(
     alloc: Global,
     store: &mut S,

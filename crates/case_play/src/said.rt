@@ -1,4 +1,4 @@
-// A vault in memory that may say of each sound that it has so many bytes, whether it has fewer or more.
+// A vault in memory that may say of each sound that it has this many bytes, whether it has fewer or more.
 ghost use Rattle.std.specs.Prelude.{false, None};
 
 use edit_ports::{MemVault, Vault};

@@ -77,7 +77,7 @@ fn overwrite(out: &mut Vec<u8>, at: usize, bytes: &[u8]) -> Result<(), Fault> {
     Ok(())
 }
 
-/// Leaves so many bytes of a sound as a text says.
+/// Leaves as many bytes of a sound as a text says.
 pub(crate) fn cut_sound(
     sounds: &mut [Sound],
     line: Line<'_>,

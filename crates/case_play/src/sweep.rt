@@ -77,7 +77,7 @@ fn next_places(place: Option<usize>) -> [usize; 2] {
     }
 }
 
-// Whether a place is the last of so many.
+// Whether a place is the last of this many.
 fn is_last(place: Option<usize>, count: usize) -> bool {
     match place {
         Some(place) => place.saturating_add(1) == count,

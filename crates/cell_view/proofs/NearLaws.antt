@@ -23,7 +23,7 @@ use Rattle.cell_view.specs.Rests.{rest_cells, rest_cell, rest_blocks, IsRest, Is
 use Rattle.cell_view.proofs.RestLaws.{cells_at, first_of, length_from}
 use Rattle.cell_view.proofs.SeenLaws.{named_front, named_back}
 
--- clips before others, and those behind
+-- clips before others, and those after
 clips_front : (at : ℕ) (cs ds : List Clip) → AreClips at (cs ++ ds) → AreClips at cs
 clips_front at [] ds are = tt
 clips_front at (c ∷ cs) ds are = (are.0, are.1, are.2, clips_front (clip_end c + 1) cs ds are.3)
@@ -68,7 +68,7 @@ starts_rise at (c ∷ cs) are (suc i) zero d le lt = absurd (omega (arith, le))
 starts_rise at (c ∷ cs) are (suc i) (suc j) d le lt =
     starts_rise (clip_end c + 1) cs are.3 i j d (omega (arith, le)) (omega (arith, lt))
 
--- the rest from a place on before the start of a clip, behind which it has those that follow
+-- the rest from a place on before the start of a clip, after which it has those that follow
 module _ (from : ℕ) (front more : List Clip) (c : Clip) (r : TrackRest) (late : end_of 0 front ≤ r.at)
     (passed : r.at ≤ from) (before : r.at ≤ c.start) (start : r.start ≡ c.start) (end : r.end ≡ clip_end c)
     (blocks : r.blocks.now ≡ c.blocks) (clips : r.clips.now ≡ more) where

@@ -215,7 +215,7 @@ length_rest src r is =
       is.whole,
     )
 
--- cells that are put, and gaps behind them, are those that are seen
+-- cells that are put, and gaps after them, are those that are seen
 pub seen : (src : Sources) (view : View) (cs : List Clip) (r : TrackRest) (count m : ℕ) (old mid new : List Cell)
     → IsRestOf view.from cs r → view.from + length mid ≡ view.to → count ≡ place_in view (end_of 0 cs)
     → Puts view r.at (rest_cells src r) old mid → m ≡ length mid - count

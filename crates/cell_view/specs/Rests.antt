@@ -25,7 +25,7 @@ rest_cell src r i = slice_index_or (rest_cells src r) (i - r.at) cell.Gap
 abbrev pub rest_blocks : TrackRest → List BlockRef
 rest_blocks r = r.blocks.now ++ layout_blocks r.clips.now
 
--- blocks that a disk may have, and clips behind them, each at its place
+-- blocks that a disk may have, and clips after them, each at its place
 pub record IsRest (r : TrackRest) : Type 0 where
   pub later : r.at ≤ r.start
   pub whole : r.end ≡ r.start + blocks_len r.blocks.now
@@ -34,7 +34,7 @@ pub record IsRest (r : TrackRest) : Type 0 where
   pub named : AllNamed r.blocks.now
   pub clips_named : AllNamed (layout_blocks r.clips.now)
 
--- the first of some blocks ends behind a place, where there is one
+-- the first of some blocks ends after a place, where there is one
 abbrev pub EndsBehind : ℕ → ℕ → List BlockRef → Type 0
 EndsBehind from start [] = Unit {0}
 EndsBehind from start (b ∷ bs) = from < start + b.len

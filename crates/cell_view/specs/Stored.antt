@@ -5,7 +5,7 @@ use Rattle.disk_model.specs.Disk.{Files, bytes_of}
 use Rattle.pcm_base.specs.Pieces.{Sources}
 use Rattle.sample_block.specs.Faults.{number_at}
 
--- those of each block by their places, behind the 16 bytes of the header; 0 past the end of its file
+-- those of each block by their places, after the 16 bytes of the header; 0 past the end of its file
 abbrev pub stored_on : Files → ℕ → ℕ → ℤ
 stored_on files id i = cast_signed w16 (number_at (bytes_of (files id)) (16 + 2 * i) 2)
 

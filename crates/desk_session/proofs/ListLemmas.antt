@@ -154,7 +154,7 @@ module _ {D V : Type 0} (first : ℕ) (pieces reads : Call → Type 0) (x : Part
   player_rest = same_rest x.seat.seen rest (h.by_player.part.added ++ h.more_player) (sym whole
       ∙ behind x.player.seen x.seat.seen h.by_player.part.added h.more_player h.by_player.part.seen h.player_is)
 
-  -- each deed behind the opening is by one of the seats
+  -- each deed after the opening is by one of the seats
   pub all_rest : Each (λ e. is_by seats e ≡ true) rest
   all_rest = Each-right (λ e. is_by seats e ≡ true) x.seat.seen rest
       (subst (λ (l : List Deed). Each (λ e. is_by seats e ≡ true) l) whole made.all)

@@ -215,7 +215,7 @@ module _ {D V A : Type 0} (disk : Ghosts D) (vaults : vault.Ghosts V) (start : C
       let stays : max last said.at ≡ last = omega (arith, none) in
       stays ∙ (is ∙ sym (ap (λ (z : View (Held D V) Deed). number_after start.commit_number z.seen) x.view))
 
-  -- a call tells the commit number behind it
+  -- a call tells the commit number after it
   pub tells_number : Says (origin disk vaults start) (asked call what silent) said (views v w)
       → TellsNumber start.commit_number v said.at w
   tells_number h = ⊎_elim told_turn told_spent h

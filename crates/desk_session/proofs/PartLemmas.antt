@@ -59,7 +59,7 @@ all_others a b c ab ac [] h = tt
 all_others a b c ab ac (e ∷ es) h =
     (not_its a b c e.actor ab ac (by_seat b e) (by_seat c e) refl refl h.0, all_others a b c ab ac es h.1)
 
--- behind what a seat has seen at last, all is by the two others
+-- after what a seat has seen at last, all is by the two others
 others_after : (a b c : ℕ) → a ≢ b → a ≢ c → (es xs more : List Deed) → es ≡ xs ++ more
     → ((n : ℕ) → length xs ≤ n → n < length es
     → 1 ≤ times n (places_of (by_seat b) 0 es) + times n (places_of (by_seat c) 0 es)) → ByOthers actor_of (a ∷ []) more

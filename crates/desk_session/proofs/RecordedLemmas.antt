@@ -116,7 +116,7 @@ module _ {D V : Type 0} (first track tag : ℕ) (v w : View (Held D V) Deed) (h 
         (few [] record { pieces = pieces_by track tag seat first w.seen; refused = refused } told chunks t))
         ∙ (sym k ∙ own)
 
--- deeds of others behind what a seat saw add no pieces
+-- deeds of others after what a seat saw add no pieces
 pub pieces_in : (track tag seat first : ℕ) (log seen more : List Deed) → log ≡ seen ++ more
     → ByOthers actor_of (seat ∷ []) more → pieces_by track tag seat first log ≡ pieces_by track tag seat first seen
 pieces_in track tag seat first log seen more is others = ap (pieces_by track tag seat first) is

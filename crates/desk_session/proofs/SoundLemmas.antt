@@ -20,7 +20,7 @@ use Rattle.desk_session.specs.declared.told.Heard.{Heard}
 use Rattle.desk_session.specs.declared.told.Kept.{Kept}
 use Rattle.desk_session.specs.Sounds.{IsPlayed, IsRecorded}
 
--- A microphone that was lent tells what is left of the one behind it, and counts its faults, and what it follows that
+-- A microphone that was lent tells what is left of the one that lent it, and counts its faults, and what it follows that
 -- one follows.
 pub recorded_of : {L M T : Type 0} (mics : source.Ghosts M) (lent : source.Ghosts L) (takers : taker.Ghosts T)
     (inner : L → M) (left : (l : L) → lent.left l ≡ mics.left (inner l))
@@ -46,7 +46,7 @@ recorded_of mics lent takers inner left count goes m t d k self h end numbers sa
       (λ i. record { numbers = sym numbers i; samples = sym samples i; refused = sym refused i }) h.takes;
 }
 
--- A speaker that was lent tells what was written to the one behind it, and counts its faults, and what it follows that
+-- A speaker that was lent tells what was written to the one that lent it, and counts its faults, and what it follows that
 -- one follows.
 pub played_of : {G L P : Type 0} (speakers : sink.Ghosts P) (lent : sink.Ghosts L) (givers : giver.Ghosts G)
     (inner : L → P) (written : (l : L) → lent.written l ≡ speakers.written (inner l))

@@ -37,7 +37,7 @@ pub record Parts (s : Seats) (ds : List Deed) : Type 0 where
       ++ places_of (by_seat s.recorder) 0 recorder
   pub counts : (k : ℕ) → times k mine ≡ once_below k (length ds)
 
--- then each deed is by one of them, and none behind what a seat has seen is by that seat
+-- then each deed is by one of them, and none after what a seat has seen is by that seat
 pub record Made (s : Seats) (ds : List Deed) (p : Parts s ds) : Type 0 where
   pub all : Each (λ d. is_by s d ≡ true) ds
   pub script : ByOthers actor_of (s.script ∷ []) p.more_script

@@ -51,7 +51,7 @@ IsTagTo recording number = IfMade recording (λ tag. (1 ≤ tag) × (tag ≤ num
 abbrev pub IsPinIn : Side → List Deed → Type 0
 IsPinIn pin seen = IfMade pin (λ number. IsTrue (is_made number (entries_of seen)))
 
--- the commit number behind what a seat has seen of a desk that began so
+-- the commit number after what a seat has seen of a desk that began so
 abbrev pub number_seen : {D V : Type 0} → Core D → View (Held D V) Deed → ℕ
 number_seen start v = number_after start.commit_number v.seen
 
@@ -62,7 +62,7 @@ record_commits (side.Made tag) = tag ∷ []
 record_commits (side.Refused why) = []
 
 module _ {D V : Type 0} where
-  -- what was told is the commit number behind a turn, where there was one, and else 0
+  -- what was told is the commit number after a turn, where there was one, and else 0
   abbrev pub TellsNumber : ℕ → View (Held D V) Deed → ℕ → View (Held D V) Deed → Type 0
   TellsNumber first v at w = (last : ℕ) → last ≡ number_after first v.seen → max last at ≡ number_after first w.seen
 

@@ -17,7 +17,7 @@ use Rattle.desk_session.specs.Sounds.{Played, Recorded}
 use Rattle.desk_session.specs.Works.{RanScript}
 
 -- The studio with which a desk began, the track of the recording, the commit number that was told last before the
--- script, and what the seat knew before it and knows behind it.
+-- script, and what the seat knew before it and knows after it.
 pub record Sitting (D V : Type 0) : Type 0 where
   pub start : Core D
   pub track : ℕ

@@ -67,7 +67,7 @@ place_behind first opening used_up tells sounds faults = record {
   faults = faults;
 }
 
--- The commit number with which a session began, the deeds of its opening, and those behind them.
+-- The commit number with which a session began, the deeds of its opening, and those after them.
 pub record Split : Type 0 where
   pub first : ℕ
   pub opening : List Deed
@@ -84,12 +84,12 @@ pub record IsScripted {V M P : Type 0} (vaults : vault.Ghosts V) (spent : Bool) 
   pub cut : IsCut told.stop read lines lent.left.now
   pub written : WritesAnswers (outcome_of told.stop) lent.written.before lent.written.now answers
   pub no : told.refused ≡ list_any says_no answers
-  -- each answer tells the commit number behind its turn, and where it took none the one that was told last
+  -- each answer tells the commit number after its turn, and where it took none the one that was told last
   pub used_up : Bool
   pub last : Place
   pub session : Session (place_behind deeds.first deeds.opening used_up (vaults.tells lent.vault.before)
       (vaults.holds lent.vault.before) (vaults.fault_count lent.vault.before)) lines answers last
-  -- what its seat saw at last begins the list, and behind that nothing is by it
+  -- what its seat saw at last begins the list, and after that nothing is by it
   pub later : List Deed
   pub seen : deeds.opening ++ deeds.rest ≡ last.seen ++ later
   pub by_others : ByOthers actor_of (0 ∷ []) later
@@ -134,7 +134,7 @@ pub record IsSession {D V M P : Type 0} (k : Kinds D V M P) (start final : Core 
   pub opening_numbers : numbers_of any_seat start.commit_number made.opening ≡ record_commits out.opened.recording
   pub pieces_are : piece_numbers out.kept
       ≡ numbers_of (by_seat made.seats.recorder) (number_after start.commit_number made.opening) made.rest
-  -- the numbers of the new track, of the script and of the pieces are together all behind the first up to the last,
+  -- the numbers of the new track, of the script and of the pieces are together all after the first up to the last,
   -- each once, and each list rises
   pub numbers : Numbers start.commit_number final.commit_number (record {
     opening = record_commits out.opened.recording;

@@ -22,13 +22,13 @@ use Rattle.desk_session.specs.Sides.{WhereMade}
 use Rattle.desk_session.specs.Sounds.{IsPlayed, IsRecorded}
 
 -- The studio with which a desk began, the commit number that was told last before a script, and what the script's seat
--- knew before it and knows behind it.
+-- knew before it and knows after it.
 pub record Scripting (D V : Type 0) : Type 0 where
   pub start : Core D
   pub last : ℕ
   pub seat : Change (View (Held D V) Deed)
 
--- a script ran, from the place of its seat before to that of its seat behind
+-- a script ran, from the place of its seat before to that of its seat after
 abbrev pub RanScript : {D V M P : Type 0} → vault.Ghosts V → Scripting D V → Lent V M P → Told → Type 0
 RanScript vaults s lent told = (told_last : ℕ) × Ran told.stop
     (reached (record {
@@ -42,7 +42,7 @@ RanScript vaults s lent told = (told_last : ℕ) × Ran told.stop
     lent.left
 
 -- The studio with which a desk began, the track of the recording, the commit number that was told last before the
--- script, and what the seats of script, recorder and player knew before and know behind.
+-- script, and what the seats of script, recorder and player knew before and know after.
 pub record Working (D V : Type 0) : Type 0 where
   pub start : Core D
   pub track : ℕ

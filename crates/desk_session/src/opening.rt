@@ -71,7 +71,7 @@ fn open_track<R: Wait, S: Store, V: Vault>(
     }
 }
 
-// The same, where a recording is asked for, and the commit number behind it.
+// The same, where a recording is asked for, and the commit number after it.
 fn open_recording<R: Wait, S: Store, V: Vault>(
     rt: &R,
     alloc: Global,
@@ -125,7 +125,7 @@ fn open_playback<R: Wait, S: Store, V: Vault>(
     }
 }
 
-/// Makes what is asked for, by a seat: the track first, and then the pin. Besides it answers the commit number behind
+/// Makes what is asked for, by a seat: the track first, and then the pin. Besides it answers the commit number after
 /// both, where `last` is the one before.
 pub fn open<R: Wait, S: Store, V: Vault>(
     rt: &R,

@@ -51,7 +51,7 @@ fn let_go<R: Wait, S: Store, V: Vault>(
 }
 
 /// Runs a script, and beside it a recording and a playback where they were opened, each by a seat of its own, lets the
-/// pin go behind them, and hands back what was lent.
+/// pin go after them, and hands back what was lent.
 pub fn run_seats<
     'v,
     'a,

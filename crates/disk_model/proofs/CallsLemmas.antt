@@ -12,7 +12,7 @@ pub history_push : (done : List Step) (row : List ℕ) (calls : List Call) (call
 history_push done row [] call = refl
 history_push done row (c ∷ calls) call = history_push (step_of row c ∷ done) row calls call
 
--- the bytes of a call that is held stay where more bytes come behind
+-- the bytes of a call that is held stay where more bytes come after
 same_bytes : (row more : List ℕ) (from len : ℕ) → from + len ≤ length row
     → take len (drop from (row ++ more)) ≡ take len (drop from row)
 same_bytes row more from len le = ap (λ (l : List ℕ). take len l) (drop-append-le from row more (omega arith))

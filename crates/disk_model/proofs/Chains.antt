@@ -36,7 +36,7 @@ module _ (reads : ℕ → Files) (file_of : ℕ → ℕ) (n : ℕ) where
     chain = λ some. chain_other links more head apart stays same (was.chain some);
   }
 
-  -- a call of the file comes behind its last
+  -- a call of the file comes after its last
   chain_next : (links more : List ℕ) (head : Head) (size : Option ℕ) → file_of n ≡ head.file
       → ((i : ℕ) → i < head.last → get_or more i 0 ≡ get_or links i 0) → get_or more head.last 0 ≡ n
       → IsChain reads file_of n links head → IsChain reads file_of (n + 1) more (record head { last = n; size = size })

@@ -216,7 +216,7 @@ stable_calls xs ys stable f =
     let same : (y : Call) → is_of f y ≡ tests y = λ y. file_ties f y.file in
     filter_agree (is_of f) tests same ys ∙ stable x ∙ sym (filter_agree (is_of f) tests same xs)
 
--- where the file's calls begin is not behind where they end
+-- where the file's calls begin is not after where they end
 pub in_order : (calls : List Call) (from to f : ℕ)
     → from ≤ length calls → ((k : ℕ) → k < from → (get_or calls k no_call).file < f)
     → ((k : ℕ) → to ≤ k → k < length calls → f < (get_or calls k no_call).file) → from ≤ to

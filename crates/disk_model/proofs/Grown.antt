@@ -73,7 +73,7 @@ take_less (suc k) zero calls le = absurd (omega (arith, le))
 take_less (suc k) (suc n) [] le = refl
 take_less (suc k) (suc n) (call ∷ calls) le = ap (λ (l : List Call). call ∷ l) (take_less k n calls (omega (arith, le)))
 
--- more bytes and calls behind those that are there
+-- more bytes and calls after those that are there
 module _ (row longer : List ℕ) (calls more : List Call) (held : AllHeld (length row) calls)
     (kept : take (length row) longer ≡ row) (earlier : take (length calls) more ≡ calls) where
   pub reads_before : (k : ℕ) → k ≤ length calls → reads_at longer more k ≡ reads_at row calls k

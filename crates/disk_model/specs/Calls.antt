@@ -24,7 +24,7 @@ history_on done row (call ∷ calls) = history_on (step_of row call ∷ done) ro
 abbrev pub history_of : List ℕ → List Call → List Step
 history_of row calls = history_on [] row calls
 
--- its bytes are in a row of so many
+-- its bytes are in a row of this many
 pub record Held (n : ℕ) (call : Call) : Type 0 where
   pub within : call.from + call.len ≤ n
   pub fits : call.at + call.len ≤ COUNTER_LIMIT

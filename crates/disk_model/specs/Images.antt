@@ -15,7 +15,7 @@ next_state x = (x * 6364136223846793005 + 1442695040888963407) % 2 ^ 64
 unfoldable pub takes : ℕ → ℕ → Bool
 takes choice state = if choice == 0 then true else if choice == 1 then false else (state / 2 ^ 33) % 2 == 1
 
--- a file made so long at least, with 0 behind its old end, where its length has reached the disk
+-- a file made so long at least, with 0 after its old end, where its length has reached the disk
 abbrev pub grown : Bool → List ℕ → ℕ → List ℕ
 grown true old end = old ++ replicate (end - length old) 0
 grown false old end = old

@@ -61,7 +61,7 @@ with_read tally = record tally { made = counted tally.made }
 abbrev pub with_change : Tally → Tally
 with_change tally = record tally { made = counted tally.made; change_calls = raised tally.change_calls 1 }
 
--- what a write of so many bytes to a file asks, whose content or size is this
+-- what a write of this many bytes to a file asks, whose content or size is this
 abbrev pub with_asked : {A : Type 0} → Tally → Option A → ℕ → Tally
 with_asked tally there n =
     record tally { asked_bytes = raised tally.asked_bytes n; absent_writes = met there tally.absent_writes }
@@ -73,7 +73,7 @@ with_read_fault tally = record tally { read_faults = counted tally.read_faults }
 abbrev pub with_change_fault : Tally → Tally
 with_change_fault tally = record tally { change_faults = counted tally.change_faults }
 
--- there is no room for a write of so many bytes to the file
+-- there is no room for a write of this many bytes to the file
 abbrev pub IsFull : Log → ℕ → ℕ → Type 0
 IsFull log file n =
     (log.calls_left ≡ 0) ⊎ (log.bytes_left < n) ⊎ ((log.files_left ≡ 0) × (reads_of log.history file ≡ None))

@@ -120,7 +120,7 @@ fn is_sync_of(call: &Call, file: u64) -> bool
     call.kind == Kind::Sync && call.file == file
 }
 
-// Where the calls begin that are pending for the file: behind its last sync.
+// Where the calls begin that are pending for the file: after its last sync.
 fn pending_from(calls: &[Call], file: u64) -> usize
     ensures bound { result ≤ length calls.now }
     ensures pending { All (IsNoSync file) (drop result calls.now) }

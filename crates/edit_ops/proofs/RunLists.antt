@@ -21,7 +21,7 @@ use Rattle.edit_ops.specs.Runs.{AllTracksHalfFull, AreClips, IsCopy, AreCopies, 
 use Rattle.edit_ops.specs.Runs.{start_behind}
 use Rattle.edit_ops.specs.Runs.{layouts, next_of, lengths_of}
 
--- the layouts behind references
+-- the layouts after references
 layout_at : (refs : List (Bor (List Clip))) (i : ℕ) (r : Bor (List Clip)) → r ≡ get_or refs i r
     → r.now ≡ get_or (layouts refs) i r.now
 layout_at [] i r e = refl

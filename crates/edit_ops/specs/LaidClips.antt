@@ -52,7 +52,7 @@ AreLaidClips m from [] = Unit {0}
 AreLaidClips m from (c ∷ cs) = (from ≤ c.start) × (0 < laid_len c) × AllMade m c.laid.items
     × IsHalfFull m (sizes c.laid.items) × AreLaidClips m (c.start + laid_len c + 1) cs
 
--- what is laid out comes from these blocks, and so many samples that the command brings
+-- what is laid out comes from these blocks, and this many samples that the command brings
 abbrev pub ClipsFrom : List BlockRef → ℕ → List LaidClip → Type 0
 ClipsFrom old count [] = Unit {0}
 ClipsFrom old count (c ∷ cs) = AllLaidFrom old count c.laid.items × ClipsFrom old count cs

@@ -25,7 +25,7 @@ AreNew m next [] = Unit {0}
 AreNew m next (b ∷ bs) =
     (b.id ≡ next) × (0 < b.len) × (b.len ≤ m) × (total b.pieces ≡ b.len) × AllValid b.pieces × AreNew m (next + 1) bs
 
--- their pieces are parts of these blocks, zeros, or parts of so many samples that the command brings
+-- their pieces are parts of these blocks, zeros, or parts of this many samples that the command brings
 abbrev pub AllNewFrom : List BlockRef → ℕ → List NewBlock → Type 0
 AllNewFrom blocks count [] = Unit {0}
 AllNewFrom blocks count (b ∷ bs) = AllFrom blocks count b.pieces × AllNewFrom blocks count bs
@@ -53,7 +53,7 @@ start_of planner = record { block_size = planner.block_size; next = planner.next
 abbrev pub run_start_of : RunPlanner → Start
 run_start_of planner = record { block_size = planner.block_size; next = planner.next }
 
--- the plan of an edit, of old blocks and so many samples that the command brings
+-- the plan of an edit, of old blocks and this many samples that the command brings
 pub record IsPlan (start : Start) (old : List BlockRef) (count : ℕ) (p : Plan) : Type 0 where
   pub half_full : AllHalfFull start.block_size p.layout
   pub new : AreNew start.block_size start.next p.makes

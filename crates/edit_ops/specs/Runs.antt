@@ -15,7 +15,7 @@ use Rattle.edit_ops.specs.declared.types.Plan.{Plan}
 use Rattle.edit_ops.specs.Plans.{Start, IsPlan, Means}
 use Rattle.edit_ops.specs.Strips.{IsClip, ItemsFrom}
 
--- the layout behind each reference
+-- the layout after each reference
 abbrev pub layouts : List (Bor (List Clip)) → List (List Clip)
 layouts refs = map (λ r. r.now) refs
 

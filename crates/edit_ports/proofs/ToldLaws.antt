@@ -1,4 +1,4 @@
--- Laws of bytes that are told: more behind more, and nothing more.
+-- Laws of bytes that are told: more after more, and nothing more.
 use Rattle.std.specs.Prelude.{◌≡◌, ℕ, ◌+◌, List, [], ◌++◌, take, drop, Option, Some, None, refl}
 use Rattle.std.proofs.Common.{ap, sym, ◌∙◌, append_assoc}
 use Rattle.std.proofs.lemmas.List.{append-nil}

@@ -16,7 +16,7 @@ use Rattle.editor_core.proofs.Pushes.{Tagged, all_blocks, untagged}
 use Rattle.editor_core.proofs.Replaced.{times_all}
 use Rattle.editor_core.proofs.Times.{named_append}
 
--- ---- the blocks of a point behind others do not hang on its tag
+-- ---- the blocks of a point after others do not hang on its tag
 
 abbrev newest_blocks : ℕ → List (List Track) → List BlockRef
 newest_blocks d ps = flat_map point_blocks (drop (length ps - d) ps)
@@ -42,7 +42,7 @@ module _ (h : History (List Track)) (is : IsHistory h) (p current : List Track)
   abbrev n : ℕ
   n = h.cursor
 
-  -- those behind the current one
+  -- those after the current one
   abbrev gone : List BlockRef
   gone = flat_map point_blocks (drop (n + 1) (take (length h.points) (points_of h)))
 

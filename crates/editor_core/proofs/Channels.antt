@@ -1,4 +1,4 @@
--- The plan of a new track of so many of the samples that a command brings, from a place among them on.
+-- The plan of a new track of this many of the samples that a command brings, from a place among them on.
 use Rattle.std.proofs.Common.{◌≡◌, ⊎_elim, inl, inr, refl, sym, ap, ◌∙◌, subst, ℕ, zero, suc, ◌+◌, ◌-◌, ◌/◌, ◌^◌, ◌≤◌}
 use Rattle.std.proofs.Common.{ℤ, List, [], ◌∷◌, ◌++◌, length, map, arith}
 use Rattle.std.specs.List.{AllByRecursion}
@@ -21,7 +21,7 @@ use Rattle.editor_core.specs.Edits.{beside}
 use Rattle.editor_core.specs.Imports.{AllFitBehind, FitsBehind, IsChannelPlan, block_behind, piece_behind, track_with}
 use Rattle.editor_core.proofs.TrackPlans.{layout_given}
 
--- ---- pieces behind others
+-- ---- pieces after others
 
 fit_piece : (count skip : ℕ) (p : Piece) → IsFrom [] count p → IsValid p → skip + count ≤ 2 ^ 62 → FitsBehind skip p
 fit_piece count skip (Old b from to) of valid few = tt

@@ -68,7 +68,7 @@ cuts_few edit start (suc n) (t ∷ ts) [] cuts = absurd cuts
 cuts_few edit start (suc n) (t ∷ ts) (p ∷ ps) cuts =
     omega (arith, cuts_few edit (start_behind start p) n ts ps cuts.1)
 
--- the same edit of each of so many tracks
+-- the same edit of each of this many tracks
 abbrev pub each_so : ℕ → (List Cell → List Cell) → List CellEdit
 each_so n edit = replicate n (λ (src : Sources). edit)
 

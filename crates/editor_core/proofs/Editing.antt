@@ -1,4 +1,4 @@
--- What any edit stands on: the current project, and a new point behind it.
+-- What any edit stands on: the current project, and a new point after it.
 use Rattle.std.proofs.Common.{◌≡◌, refl, sym, ap, ◌∙◌, ℕ, zero, suc, ◌+◌, ◌^◌, ◌≤◌, ◌<◌, List, ◌∷◌, ◌++◌, length}
 use Rattle.std.proofs.Common.{Option, subst, arith}
 use Rattle.std.specs.List.{AllByRecursion}
@@ -145,7 +145,7 @@ module _ {D : Type 0} (disk : Ghosts D) (s : Core D) (is : IsStudio disk s) wher
         commit = s.commit_number + 1;
       })
 
-  -- the project behind a state whose newest point this is
+  -- the project after a state whose newest point this is
   pub then_current : (p : List Track)
       → current (record now { history = meant_history src (edited s.history p 0) }) ≡ meant src p
   then_current p = current_is src (edited s.history p 0)
@@ -192,7 +192,7 @@ module _ {D : Type 0} (disk : Ghosts D) (s : Core D) (is : IsStudio disk s) wher
   counts_named = λ n. least _ _ _ _ (is.counted n)
       (named_append n (history_blocks s.history) (pin_blocks s.pins ++ clip_blocks s.clipboard))
 
-  -- the counts behind a new point, where pins and clipboard stay
+  -- the counts after a new point, where pins and clipboard stay
   pub counts_then : (h : History (List Track)) (counts : Counts)
       → Moves s.counts counts (history_blocks s.history) (history_blocks h)
       → IsFreshCount (ids_of (history_blocks h ++ (pin_blocks s.pins ++ clip_blocks s.clipboard))) counts
@@ -203,7 +203,7 @@ module _ {D : Type 0} (disk : Ghosts D) (s : Core D) (is : IsStudio disk s) wher
 
   module _ (track_then : ℕ) (later : s.next_track ≤ track_then) (most : track_then ≤ 2 ^ 62) (p : List Track)
       (sound : IsSoundPoint s.block_size s.next_block track_then p) where
-    -- the points behind it are sound
+    -- the points after it are sound
     points_then : AllByRecursion (IsSoundTagged s.block_size s.next_block track_then (s.commit_number + 1))
         (edited s.history p 0).points
     points_then =

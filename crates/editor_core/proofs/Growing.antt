@@ -54,7 +54,7 @@ module _ {D : Type 0} {Has : Type 0} {disk : Ghosts D} {s : Core D} {made : List
   abbrev len : ℕ
   len = all_len s w
 
-  -- the pins and the clipboard behind it
+  -- the pins and the clipboard after it
   abbrev rest_then : List BlockRef
   rest_then = pin_blocks s.pins ++ clip_blocks clip
 

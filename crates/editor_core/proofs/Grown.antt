@@ -61,7 +61,7 @@ module _ {D : Type 0} (disk : Ghosts D) (s : Core D) (is : IsStudio disk s) wher
 
   module _ (made : List BlockRef) (h : History (List Track)) (clip : Option (List (List Item))) (track_then : ℕ)
       {count : ℕ} (on : LeadsOn s made h clip track_then count) where
-    -- the pins and the clipboard behind it
+    -- the pins and the clipboard after it
     abbrev rest_then : List BlockRef
     rest_then = pin_blocks s.pins ++ clip_blocks clip
 

@@ -57,7 +57,7 @@ take_few n most xs few = ⊎_elim
     (λ more. ap (λ (k : ℕ). take k xs) (omega (arith, few, more)))
     (cases_lt (length xs) most)
 
--- so many frames, as many as there are
+-- this many frames, as many as there are
 pub as_many : (src : Sources) (ts : List Track) (from most n : ℕ) → n ≡ min most (mix_length_of ts - from)
     → mix_length (meant src ts) ≡ mix_length_of ts
     → take n (drop from (mix_of (meant src ts))) ≡ take most (drop from (mix_of (meant src ts)))

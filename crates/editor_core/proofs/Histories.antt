@@ -11,7 +11,7 @@ use Rattle.project_state.proofs.KeptBounds.{all_append}
 use Rattle.editor_core.proofs.Lists.{all_take, all_drop, all_each, all_joined}
 use Rattle.editor_core.proofs.Pushes.{Tagged}
 
--- ---- a point behind others
+-- ---- a point after others
 
 -- a history does not grow beyond its depth
 pub ending_few : (h : History (List Track)) (before : List Tagged) (p : List Track) (tag : ℕ)
@@ -45,7 +45,7 @@ ending_current h before p tag some =
     let points : drop k xs ≡ drop k before ++ (p, tag) ∷ [] = drop-append-le k before ((p, tag) ∷ []) few in
     ap (λ (z : List Tagged). first_tracks (drop (length z - 1) z)) points ∙ last_of (drop k before) (p, tag)
 
--- ---- behind the current one
+-- ---- after the current one
 
 pub all_edited : (Q : Tagged → Type 0) (h : History (List Track)) (p : List Track) (tag : ℕ) → AllByRecursion Q h.points
     → Q (p, tag) → AllByRecursion Q (edited h p tag).points

@@ -1,5 +1,5 @@
--- A commit behind blocks that were made for it.
-use Rattle.std.proofs.Common.{◌≡◌, inl, inr, ⊎_elim, ap, ◌∙◌, subst, ℕ, ◌+◌, ◌^◌, ◌≤◌, None, List, [], length, Result}
+-- A commit after blocks that were made for it.
+use Rattle.std.proofs.Common.{ℤ, ◌≡◌, inl, inr, ⊎_elim, ap, ◌∙◌, subst, ℕ, ◌+◌, ◌^◌, ◌≤◌, None, List, [], length, Result}
 use Rattle.std.proofs.Common.{Ok, Err, IfErr, OnErr, arith}
 use Rattle.std.specs.List.{AllByRecursion}
 use Rattle.std.proofs.lemmas.List.{take_all}
@@ -20,7 +20,6 @@ use Rattle.project_journal.specs.Gate.{EachSince}
 use Rattle.project_state.specs.Kept.{Keeps}
 use Rattle.edit_ops.specs.declared.types.NewBlock.{NewBlock}
 use Rattle.edit_ops.specs.Plans.{AreNew, ref_of}
-use Rattle.piece_store.specs.declared.given.Given.{Given}
 use Rattle.editor_core.specs.Core.{Core}
 use Rattle.editor_core.specs.Left.{CountsIds, Left, Stops, Untouched}
 use Rattle.editor_core.specs.Made.{PiecesThere, batch_of, ids_from}
@@ -43,7 +42,7 @@ on_err : {R E : Type 0} (result : Result R E) (P Q : Type 0) → (P → Q) → O
 on_err (Ok r) P Q f h = tt
 on_err (Err e) P Q f h = f h
 
-module _ {D : Type 0} (disk : Ghosts D) (s : Core D) (is : IsStudio disk s) (given : Given) (makes : List NewBlock)
+module _ {D : Type 0} (disk : Ghosts D) (s : Core D) (is : IsStudio disk s) (given : ℕ → ℤ) (makes : List NewBlock)
     (going : s.stopped ≡ None)
     (fresh : AreNew s.block_size s.next_block makes) (most : s.next_block + length makes ≤ 2 ^ 62)
     (there : IsHeld disk s → PiecesThere (disk.reads s.store) makes) (c : Call) (sound : SoundMove) where
@@ -112,7 +111,7 @@ module _ {D : Type 0} (disk : Ghosts D) (s : Core D) (is : IsStudio disk s) (giv
         → (IsHeld disk s → Answers t c sound told_as (studio_of disk new)) → RemovesNone c → PacksNone c
         → CountsIds s [] new
         → IfOk told_as (λ r. NamesGiven s new) → IfErr told_as (Needed disk s c sound)
-        → Untouched disk s told_as new → Stops disk s told_as new
+        → Untouched disk s c told_as new → Stops disk s told_as new
         → IfErr told_as (Left disk s new) → Took disk s (with_sound c sound told_as) new
     composed told_as new took next back carried step none plain ids named needed untouched stops left =
         let images = making.changed.images in

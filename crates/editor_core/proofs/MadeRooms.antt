@@ -1,4 +1,4 @@
--- What blocks that are made and a record behind them ask of the disk.
+-- What blocks that are made and a record after them ask of the disk.
 use Rattle.std.proofs.Common.{◌≡◌, sym, subst, ℕ, ◌+◌, ◌*◌, ◌≤◌, IsTrue, List, Option, Err, arith}
 use Rattle.pcm_base.specs.declared.command.Call.{Call}
 use Rattle.pcm_base.specs.declared.entry.SoundMove.{SoundMove}

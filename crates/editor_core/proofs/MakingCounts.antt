@@ -89,7 +89,7 @@ room_more z s n le =
     let sum : (n + 1) * z ≡ n * z + z = omega arith in
     record { files = omega arith; bytes = omega (arith, sum, le); calls = omega arith }
 
--- so many calls are counted
+-- this many calls are counted
 pub called : {D : Type 0} {disk : Ghosts D} {step : Files → Files → Type 0} {much : Room} {old new : D} (n : ℕ)
     → disk.change_calls new ≤ disk.change_calls old + n
     → Changed disk step much old new

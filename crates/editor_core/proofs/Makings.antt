@@ -1,5 +1,5 @@
 -- New blocks are written one after another, and then synced one after another.
-use Rattle.std.proofs.Common.{◌≡◌, inr, ⊎_elim, refl, sym, ap, ◌∙◌, subst, ℕ, ◌+◌, ◌≤◌, ◌<◌}
+use Rattle.std.proofs.Common.{ℤ, ◌≡◌, inr, ⊎_elim, refl, sym, ap, ◌∙◌, subst, ℕ, ◌+◌, ◌≤◌, ◌<◌}
 use Rattle.std.proofs.Common.{IsTrue, Result, Ok, Err, List, length}
 use Rattle.std.proofs.Common.{get_or, arith}
 use Rattle.std.proofs.lemmas.Bool.{cases_lt}
@@ -15,17 +15,16 @@ use Rattle.block_ledger.specs.Counts.{Counts}
 use Rattle.project_journal.specs.Gate.{EachNow}
 use Rattle.edit_ops.specs.declared.types.NewBlock.{NewBlock}
 use Rattle.edit_ops.specs.Plans.{AreNew}
-use Rattle.piece_store.specs.declared.given.Given.{Given}
 use Rattle.editor_core.specs.Adding.{HasFailed, stopped_by}
 use Rattle.editor_core.specs.Core.{Core}
 use Rattle.editor_core.specs.Made.{AreMade, SameOutside, batch_of, ids_from}
-use Rattle.editor_core.specs.Makes.{AddsFree, AreSynced, IsDamageAmong, MadeOne, Makes, Making, NotMade, Stuck, Synced}
+use Rattle.editor_core.specs.Makes.{AddsFree, AreSynced, IsDamageAmong, IsOfDevices, MadeOne, Makes, Making, NotMade, Stuck, Synced}
 use Rattle.editor_core.specs.Makes.{Syncs, Unread, Unsynced, Written, made_room, one_call}
 use Rattle.editor_core.proofs.MadeBlocks.{new_at, next_there, next_absent, made_more, made_none}
 use Rattle.editor_core.proofs.MakingCounts.{called, free_more, free_none, outside_more, outside_then, room_more}
 use Rattle.editor_core.proofs.MakingCounts.{size_most, some_block, then_kept}
 
-module _ {D : Type 0} (disk : Ghosts D) (s : Core D) (given : Given) (bs : List NewBlock) where
+module _ {D : Type 0} (disk : Ghosts D) (s : Core D) (given : ℕ → ℤ) (bs : List NewBlock) where
   abbrev z : ℕ
   z = size_of s.block_size
 
@@ -80,7 +79,7 @@ module _ {D : Type 0} (disk : Ghosts D) (s : Core D) (given : Given) (bs : List 
         change_faults = one.change_faults ∙ was.change_faults;
       }
 
-  -- what is read stays, whatever else the calls behind the blocks do
+  -- what is read stays, whatever else the calls after the blocks do
   making_over : (n : ℕ) (mid new : Core D) → Making disk s (batch_of given bs) n mid
       → new ≡ record mid { store = new.store }
       → disk.reads new.store ≡ disk.reads mid.store
@@ -158,7 +157,7 @@ module _ {D : Type 0} (disk : Ghosts D) (s : Core D) (given : Given) (bs : List 
     stands = (some_block bs (omega (arith, un.some_left))).1;
     damaged = λ told. subst
         (IsDamageAmong (disk.reads un.mid.store) (some_block bs (omega (arith, un.some_left))).0.pieces) (sym un.is) tt;
-    sound = λ told there gone. un.is;
+    sound = λ told there gone. subst IsOfDevices (sym un.is) tt;
   }
 
   pub makes_both : (result : Result (Unit {0}) Refusal) (mid new : Core D)

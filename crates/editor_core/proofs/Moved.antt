@@ -1,4 +1,4 @@
--- The history behind an undo, a redo or a purge that may be made.
+-- The history after an undo, a redo or a purge that may be made.
 use Rattle.std.proofs.Common.{◌≡◌, ◌⊎◌, sym, ap, ◌∙◌, refl, ℕ, zero, suc, ◌+◌, ◌-◌, ◌≤◌, ◌<◌, ◌==◌, nat_lt, nat_le}
 use Rattle.std.proofs.Common.{◌&&◌, not, Bool, true, false, length, ⊎_elim, Option, None, Ok, Err, Result, OnOk, IfErr}
 use Rattle.std.proofs.Common.{arith}

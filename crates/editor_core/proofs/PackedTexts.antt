@@ -18,7 +18,7 @@ tagged (x ∷ xs) zero p e =
     λ j. Some (same j, x.1)
 tagged (x ∷ xs) (suc i) p e = tagged xs i p e
 
--- a point behind its length
+-- a point after its length
 abbrev pub row : List Track × ℕ → List ℕ
 row p = sized (point_bytes p)
 

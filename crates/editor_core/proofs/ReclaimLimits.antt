@@ -13,7 +13,7 @@ pub within : (limit : Option ℕ) (most n : ℕ) → most ≡ unwrap_or limit (2
 within None most n is le = tt
 within (Some m) most n is le = omega (arith, is, le)
 
--- where so many went as the limit says, it is that of the caller: there are fewer ids than the greatest u64
+-- where as many went as the limit says, it is that of the caller: there are fewer ids than the greatest u64
 pub all_of : {D : Type 0} (disk : Ghosts D) (old : Core D) → IsStudio disk old → (limit : Option ℕ) (ids : List ℕ)
     (end most : ℕ) → AreNext old.counts 0 ids end → most ≡ unwrap_or limit (2 ^ 64 - 1) → length ids ≡ most
     → {Left : Type 0} → (limit ≡ Some (length ids)) ⊎ Left

@@ -1,4 +1,4 @@
--- Blocks that come in the place of others: all that are behind a front that is the same, or part by part.
+-- Blocks that come in the place of others: all that are after a front that is the same, or part by part.
 use Rattle.std.proofs.Common.{◌≡◌, refl, sym, ap, ◌∙◌, ℕ, ◌+◌, ◌-◌, List, [], ◌++◌, length, take, drop, flat_map}
 use Rattle.std.proofs.Common.{take-append-drop, slice_get, Some, arith}
 use Rattle.std.proofs.lemmas.List.{length-drop, take_all}
@@ -22,9 +22,9 @@ held_dropped o o1 o2 before after held dropped = record {
   ids = λ id. (λ t. (held.ids id).0 ((dropped.ids id).0 t), λ t. (dropped.ids id).1 ((held.ids id).1 t));
 }
 
--- ---- behind a front that is the same
+-- ---- after a front that is the same
 
--- what is behind the first n, as code cuts it out
+-- what is after the first n, as code cuts it out
 abbrev pub behind : ℕ → List BlockRef → List BlockRef
 behind n bs = take (length bs - n) (drop n bs)
 

@@ -14,7 +14,7 @@ use Rattle.editor_core.specs.Scans.{AreListed, HaveOneLength}
 use Rattle.editor_core.specs.Studios.{ids_of}
 use Rattle.editor_core.proofs.Lists.{all_so}
 
--- no id is above one behind it, and each is below those behind it
+-- no id is above one after it, and each is below those after it
 abbrev pub Up : List BlockRef → Type 0
 Up [] = Unit {0}
 Up (b ∷ bs) = AllByRecursion (λ (c : BlockRef). b.id ≤ c.id) bs × Up bs

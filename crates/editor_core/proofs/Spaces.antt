@@ -44,7 +44,7 @@ first_three None (Some r) z rest tail why h = h
 first_three None None (Some r) rest tail why h = h
 first_three None None None rest tail why h = absurd (none-some why h)
 
--- the first two tests, or one of two counters behind them
+-- the first two tests, or one of two counters after them
 first_four : (stop own x y rest tail : Option Refusal) (why : Refusal)
     → stop otherwise own otherwise x otherwise y ≡ Some why
     → stop otherwise own otherwise (x otherwise y otherwise rest) otherwise tail ≡ Some why
@@ -139,7 +139,7 @@ module _ (t : model.Studio) (c : Call) (sound : SoundMove) (tracks : ℕ) {more 
         ∙ (λ i. (no_room t.next_block blocks) otherwise (no_room t.state.next_track tracks)
         otherwise (no_room t.state.commit (suc more)) otherwise (only (no_room t.journal_end (6 + len)) i))
 
-    -- the studio is stopped, an own test refuses it, or a counter that comes behind that of the blocks
+    -- the studio is stopped, an own test refuses it, or a counter that comes after that of the blocks
     pub tested : (why : Refusal) → t.next_block + blocks ≤ 2 ^ 62
         → (stop_of t.stopped) otherwise (call_tests out t.state c) otherwise
         (no_room t.state.next_track tracks) otherwise (no_room t.state.commit (suc more)) ≡ Some why

@@ -60,7 +60,7 @@ module _ {D : Type 0} (disk : Ghosts D) (s : Core D) (is : IsStudio disk s) (goi
         (subst (λ (z : Counts). HasAll z (history_blocks s.history)) counts_are
         (point_named disk s is going e plan k.mid k.making k.prepared.blocks))
 
-  -- ---- behind it, before the clipboard is taken
+  -- ---- after it, before the clipboard is taken
 
   module _ (now : Core D) (at : IsPointed disk s e now) where
     abbrev new : Core D
@@ -103,7 +103,7 @@ module _ {D : Type 0} (disk : Ghosts D) (s : Core D) (is : IsStudio disk s) (goi
     out_named = subst (λ (z : Option (List (List Item))). HasAll now.counts (clip_blocks z)) (sym clip_was)
         (taken_named disk s is going e plan k.mid k.making now.counts moves)
 
-    -- ---- behind it all
+    -- ---- after it all
 
     module _ (last : Core D)
         (fields : last ≡ record now { clipboard = clip_behind now e.plan; counts = last.counts })

@@ -58,7 +58,7 @@ pub record HasFailed {D : Type 0} (disk : Ghosts D) (old new : D) : Type 0 where
   pub rose : Rose (disk.change_fault_count old) (disk.change_fault_count new)
   pub later : disk.change_fault_count old ≤ disk.change_fault_count new
 
--- The fields after so many records were to be added, which have `len` bytes without the gate of the first and the length
+-- The fields after this many records were to be added, which have `len` bytes without the gate of the first and the length
 -- of its body, and written out whole `whole`.
 abbrev pub Fields : {D R : Type 0} → Ghosts D → Core D → (whole count len : ℕ) → Result R Refusal → Core D → Type 0
 Fields disk old whole count len (Ok _) new =
@@ -79,7 +79,7 @@ Fields disk old whole count len (Err refusal.DiskFault) new =
     × HasFailed disk old.store new.store × (len ≤ LONGEST_BODY)
 Fields disk old whole count len (Err why) new = ⊥
 
--- what the answer of an append of so many records makes of a studio that has its store already
+-- what the answer of an append of this many records makes of a studio that has its store already
 abbrev pub Settles : {D : Type 0} → Ghosts D → Core D → ℕ → Result ℕ JournalFault → Result (Unit {0}) Refusal → Core D
     → Type 0
 Settles disk old count (Ok next) result new =

@@ -41,7 +41,7 @@ packed_log s = record {
   bodies = [];
 }
 
--- what stands behind its open gate: the header, and the gate of the first record
+-- what stands after its open gate: the header, and the gate of the first record
 abbrev pub packed_text : {D : Type 0} → Core D → List ℕ
 packed_text s = header_row (packed_log s) ++ 0 ∷ []
 

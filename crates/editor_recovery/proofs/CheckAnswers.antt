@@ -18,7 +18,7 @@ use Rattle.editor_recovery.proofs.Listed.{contains_there}
 
 -- ---- an answer of blocks as one of a check
 
--- so many, all whole, or what was found of one of them
+-- this many, all whole, or what was found of one of them
 abbrev pub Tells : {T : Type 0} → Result T BlockFault → ℕ → Result ℕ OpenFault → Type 0
 Tells (Ok done) n told = told ≡ Ok n
 Tells (Err why) n told = told ≡ Err (fault_of why)

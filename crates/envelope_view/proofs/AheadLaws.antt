@@ -57,7 +57,7 @@ among_most (Sample s ∷ xs) = omega (arith, among_most xs)
 pub among_few : (n : ℕ) (xs : List Cell) → length (samples_among (take n xs)) ≤ n
 among_few n xs = omega (arith, among_most (take n xs), length-take n xs)
 
--- of a stretch and what follows it so many cells are taken, first some of the stretch
+-- of a stretch and what follows it this many cells are taken, first some of the stretch
 pub swept : (xs ys : List Cell) (left size : ℕ) → size ≤ left → size ≤ length xs
     → samples_among (take left (xs ++ ys)) ≡ samples_among (take size xs)
     ++ samples_among (take (left - size) (drop size xs ++ ys))
@@ -147,7 +147,7 @@ pub entered_ok : (s : Stretch) (old new : List Item) → AreItems old → old �
     → IsInBlock s × (0 < stretch_len s)
 entered_ok s old new ok is = let here = subst AreItems is ok in (in_block s here.0, item_some (stretch_item s) here.0)
 
--- some cells of a stretch are passed, out of so many
+-- some cells of a stretch are passed, out of this many
 
 pub step_heard : (src : Sources) (s t : Stretch) (rest : List Item) (old : List Cell) (left size : ℕ) → size ≤ left
     → size ≤ stretch_len s

@@ -8,7 +8,7 @@ use Rattle.peak_summary.specs.declared.stretch.Summary.{Summary}
 use Rattle.peak_summary.specs.Peaks.{summary_of, joined, nothing, AreSamples}
 use Rattle.peak_summary.proofs.Joins.{joined_two}
 
--- of so many cells so many are left, and among them these samples
+-- of this many cells this many are left, and among them these samples
 pub record Running (all : Summary) (count left : ℕ) (more target : List ℤ) : Type 0 where
   pub done : List ℤ
   pub is : all ≡ summary_of done

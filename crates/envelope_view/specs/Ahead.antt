@@ -1,4 +1,4 @@
--- What is left of a layout: a stretch, and what stands behind it.
+-- What is left of a layout: a stretch, and what stands after it.
 use Rattle.std.specs.Prelude.{ℕ, ◌≤◌, List, ◌∷◌}
 use Rattle.pcm_base.specs.declared.block.BlockRef.{BlockRef}
 use Rattle.pcm_base.specs.declared.sound.Cell.{Cell}

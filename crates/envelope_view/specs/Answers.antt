@@ -9,7 +9,7 @@ use Rattle.pcm_base.specs.Refusals.{◌otherwise◌, bad_range, bad_columns}
 use Rattle.block_store.specs.declared.fault.BlockFault.TheVariants as fault
 use Rattle.block_store.specs.Reads.{IsFaultIn}
 
--- the model's tests of a range of so many cells, and of a number of columns
+-- the model's tests of a range of this many cells, and of a number of columns
 abbrev pub column_tests : ℕ → ℕ → ℕ → ℕ → Option Refusal
 column_tests from to columns len = (bad_range from to len) otherwise (bad_columns columns (to - from))
 

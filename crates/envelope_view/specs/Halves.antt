@@ -37,7 +37,7 @@ IsKnown files None = Unit {0}
 IsKnown files (Some k) = (xs : List ℤ) → blocks files k.block.id ≡ Some xs → length xs ≡ k.block.len
     → k.summary ≡ summary_of (part k.from k.to xs)
 
--- a part ends inside long frame k of a block of so many samples, and begins before the frame or with it
+-- a part ends inside long frame k of a block of this many samples, and begins before the frame or with it
 pub record IsEdgeIn (len from to k : ℕ) : Type 0 where
   pub front : from ≤ LONG_FRAME * k
   pub before : LONG_FRAME * k < to

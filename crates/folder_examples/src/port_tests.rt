@@ -157,7 +157,7 @@ fn takes<S: Sink>(sink: &mut S, bytes: &[u8]) -> bool {
     }
 }
 
-// Whether the speaker's file has so many bytes.
+// Whether the speaker's file has this many bytes.
 fn is_heard(rt: HostRuntime, count: usize) -> bool {
     match fs::read(&rt, "folder-speaker/speaker.raw") {
         Ok(bytes) => bytes.len() == count,

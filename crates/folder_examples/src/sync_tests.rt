@@ -8,7 +8,7 @@ use std::fs::{self, File};
 use std::rt::Files;
 use std::thread::Threads;
 
-// Whether so many files, from 16 on, are written and then synced, where the one at this place, if any, can't be synced.
+// Whether this many files, from 16 on, are written and then synced, where the one at this place, if any, can't be synced.
 fn are_synced<R: Files<File = File> + Threads + Drop + Copy>(
     rt: R,
     alloc: Global,

@@ -33,7 +33,7 @@ found_of p = new_opened p.rate p.block_size p.depth
 abbrev pub room_of_project : FreshProject → Room
 room_of_project p = record { files = p.files; bytes = p.bytes; calls = p.calls }
 
--- what it takes to make it, where so many calls were served
+-- what it takes to make it, where this many calls were served
 abbrev pub made_room : ℕ → Room
 made_room calls = record { files = 1; bytes = 82; calls = calls }
 

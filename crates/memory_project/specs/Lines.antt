@@ -74,7 +74,7 @@ pub record Went {D : Type 0} (disk : Ghosts D) (old : Core D) (c : Command) (new
 
 -- ---- many lines
 
--- so many times the room of a line
+-- this many times the room of a line
 abbrev pub room_for : ℕ → Room
 room_for n = record {
   files = n * line_room.files;

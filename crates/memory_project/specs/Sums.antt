@@ -68,7 +68,7 @@ pub record IsSumOf {D : Type 0} (disk : Ghosts D) (number lines : ℕ) (end : Co
   pub blocks : (ids : List ℕ) × AreBlocksOf end ids × (sum.blocks ≡ length ids)
   pub column : sum.column ≡ scan_of (track_cells (studio_of disk end))
 
--- the project of a script, with room for so many lines
+-- the project of a script, with room for this many lines
 abbrev pub project_for : ℕ → FreshProject
 project_for lines = record {
   rate = 8000;

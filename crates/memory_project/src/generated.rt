@@ -11,7 +11,7 @@ use script_gen::generate;
 use script_text::Summary;
 use std::alloc::Global;
 
-/// The project of the script of a number, with room for so many lines of it: 12 files, 24,576 bytes and 64 changing
+/// The project of the script of a number, with room for this many lines of it: 12 files, 24,576 bytes and 64 changing
 /// calls for each, and 128 more of each.
 fn project_for(lines: u32) -> FreshProject
     requires { lines ≤ 4096 }

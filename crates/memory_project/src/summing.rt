@@ -1,4 +1,4 @@
-// What is told of a project behind the script of a number.
+// What is told of a project after the script of a number.
 ghost use Rattle.std.specs.Prelude.{◌≡◌, IfOk, OnOk, length};
 ghost use Rattle.pcm_base.specs.Envelope.{scan_of};
 ghost use Rattle.editor_core.specs.Core.{core_of};
@@ -60,7 +60,7 @@ fn scan_track<S: Store>(
     }
 }
 
-/// Tells of a project with one track what stands behind the script of a number.
+/// Tells of a project with one track what stands after the script of a number.
 ///
 /// # Errors
 ///

@@ -41,7 +41,7 @@ fn mix_piece(
 /// limited once; a gap adds nothing. It takes no memory, and goes over each stretch once.
 ///
 /// Where the stretches are those of a project's tracks from a place on, in the project's order, continued by gaps
-/// behind a track's end, the frames are the project's from that place on. Muted tracks may be left out, or stand as
+/// after a track's end, the frames are the project's from that place on. Muted tracks may be left out, or stand as
 /// stretches of gaps.
 pub fn mix_into(stretches: &[Cell], gains: &[u32], sides: &[Side], out: &mut [Frame])
     requires few { length gains.now ≤ MAX_TRACKS }
@@ -58,22 +58,38 @@ pub fn mix_into(stretches: &[Cell], gains: &[u32], sides: &[Side], out: &mut [Fr
         → AreStretches from (length out.old) p stretches.now
         → out.new ≡ map (frame_at p) (counted_from from (length out.old)) }
 {
-    mix_pieces(stretches, gains, sides, out);
+    mix_part(stretches, gains, sides, out.len(), 0, out);
 }
 
-/// The frames of [`mix_into`], piece by piece.
-fn mix_pieces(stretches: &[Cell], gains: &[u32], sides: &[Side], out: &mut [Frame])
+/// The frames of a part of such a mix: from place `at` on, as many as `out` has room for, of stretches of `len` cells
+/// each. So a mix may be made in parts, one after the other or at the same time. It is the same however it is cut.
+pub fn mix_part(
+    stretches: &[Cell],
+    gains: &[u32],
+    sides: &[Side],
+    len: usize,
+    at: usize,
+    out: &mut [Frame],
+)
     requires few { length gains.now ≤ MAX_TRACKS }
     requires sides { length sides.now ≡ length gains.now }
-    requires stretches { length stretches.now ≡ length gains.now * length out.old }
-    ensures { out.new ≡ map (frame_at (laid (length out.old) stretches.now gains.now sides.now))
-        (counted_from 0 (length out.old)) }
+    requires stretches { length stretches.now ≡ length gains.now * len }
+    requires within { at + length out.old ≤ len }
+    ensures { out.new ≡ map (frame_at (laid len stretches.now gains.now sides.now))
+        (counted_from at (length out.old)) }
 {
-    let len = out.len();
+    let count = out.len();
     let mut done = 0;
-    'pieces: while done < len {
-        let next = done + PIECE.min(len - done);
-        mix_piece(stretches, gains, sides, len, done, &mut out[done..next]);
+    'pieces: while done < count {
+        let next = done + PIECE.min(count - done);
+        mix_piece(
+            stretches,
+            gains,
+            sides,
+            len,
+            at + done,
+            &mut out[done..next],
+        );
         done = next;
     }
 }

@@ -1,4 +1,4 @@
--- A piece of a recording behind another of it, and a track that is edited twice.
+-- A piece of a recording after another of it, and a track that is edited twice.
 use Rattle.std.proofs.Common.{◌≡◌, ◌==◌, ◌∙◌, refl, sym, ap, ℕ, ◌+◌, ◌-◌, ◌≤◌, Bool, true, false, List, [], ◌∷◌}
 use Rattle.std.proofs.Common.{◌++◌, length, map, take, drop, arith}
 use Rattle.std.specs.Prelude.{if◌then◌else◌, slice_index, ◌&&◌, not}
@@ -89,7 +89,7 @@ module _ {P : Type 0} where
   abbrev chosen : Bool → History P → P → ℕ → History P
   chosen b h p tag = if b then amended h p else edited h p tag
 
-  -- where it goes, whatever point it is: behind these points, with this tag
+  -- where it goes, whatever point it is: after these points, with this tag
   pub recorded_behind : (h : History P) (tag : ℕ)
       → (before : List (P × ℕ)) × ((p : P) → recorded h p tag ≡ ending_with h before (p, tag))
   recorded_behind h tag = by (is_of_recording h tag) refl
@@ -109,7 +109,7 @@ module _ {P : Type 0} where
   recorded_last h p tag some =
       let at = recorded_behind h tag in (staying h.depth at.0, at.1 p ∙ ending_is h at.0 (p, tag) some)
 
-  -- of two pieces of a recording, one behind the other, the second one's point is left
+  -- of two pieces of a recording, one after the other, the second one's point is left
   pub recorded_again : (h : History P) (p q : P) (tag : ℕ) → 1 ≤ h.depth → 1 ≤ tag
       → recorded (recorded h p tag) q tag ≡ recorded h q tag
   recorded_again h p q tag some numbered =

@@ -135,7 +135,7 @@ some_places c len some = by (commits_of c == 0) refl
 
 -- ---- one point
 
--- samples behind cells of which no gap is the last
+-- samples after cells of which no gap is the last
 ended_more : (cells : List Cell) (xs : List ℤ) → trimmed cells ≡ cells →
     trimmed (cells ++ as_cells xs) ≡ cells ++ as_cells xs
 ended_more cells [] ended =
@@ -146,7 +146,7 @@ ended_more cells (x ∷ xs) ended = trimmed-sample cells x (as_cells xs) (ending
     ending z [] = refl
     ending z (w ∷ zs) = ap (λ (l : List Cell). Sample z ∷ l) (ending w zs)
 
--- a piece behind a piece is a piece of both
+-- a piece after a piece is a piece of both
 both_pieces : (s : State) (track tag : ℕ) (xs ys : List ℤ) → 1 ≤ s.history.depth → 1 ≤ tag →
     trimmed (cells_at track (current s)) ≡ cells_at track (current s) →
     (with_piece (with_piece s track tag xs) track tag ys).history ≡ (with_piece s track tag (xs ++ ys)).history
@@ -198,7 +198,7 @@ ended_here : (s : State) (track : ℕ) → IsBoundedState s →
 ended_here s track b =
     first_ended (tracks_from track (current s)) (tracks_from_tracks track (current s) (current_project s b).tracks)
 
--- what a piece leaves of cells for those behind it
+-- what a piece leaves of cells for those after it
 cells_left : (s : State) (track tag : ℕ) (xs : List ℤ) → 1 ≤ s.history.depth →
     length (cells_at track (current (with_piece s track tag xs))) ≤ length (cells_at track (current s)) + length xs
 cells_left s track tag xs some =
@@ -229,7 +229,7 @@ cells_left s track tag xs some =
 
 -- ---- the first of several pieces, and the others
 
--- how many bytes the first takes of so many of both, where `b` are the most for it and `k` records more follow it
+-- how many bytes the first takes of this many of both, where `b` are the most for it and `k` records more follow it
 abbrev first_len : (len k b : ℕ) → ℕ
 first_len len k b = min (len - 5 * (1 + k)) b
 

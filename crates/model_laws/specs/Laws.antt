@@ -61,7 +61,7 @@ BatchesArePieces =
     1 ≤ tag → CarriesOut t (Piece track tag samples) sound r u →
     Run t (pieces_done actor track tag sound (pieces_of samples)) u
 
--- entries behind so many commits, each call in form where it is asked
+-- entries after this many commits, each call in form where it is asked
 abbrev pub AreInForm : ℕ → List Entry → Type 0
 AreInForm commit [] = Unit {0}
 AreInForm commit (e ∷ es) =

@@ -2,7 +2,7 @@
 //!
 //! The model itself stands in `pcm_base`, in `specs/`. Here its bounds are one predicate (`specs/Bounds.antt`), which
 //! the fresh studio has and each step keeps (`specs/Laws.antt`). A law is the contract of a function that does nothing;
-//! the lemmas behind it, on the model's definitions, are public, for the crates that need them too.
+//! the lemmas after it, on the model's definitions, are public, for the crates that need them too.
 #![tactic(auto)]
 
 mod laws;

@@ -88,7 +88,7 @@ IsShapeInForm (Export name) = IsName name
 abbrev pub IsInForm : Command → Type 0
 IsInForm c = IsShapeInForm (shape_of c)
 
--- A call, where so many commits were made: a recording is numbered by one of them, and few samples of it come at once.
+-- A call, where this many commits were made: a recording is numbered by one of them, and few samples of it come at once.
 abbrev pub IsCallInForm : ℕ → Call → Type 0
 IsCallInForm commit (call.Line c) = IsInForm c
 IsCallInForm commit (call.Piece track tag samples) = (1 ≤ tag) × (tag ≤ commit) × (length samples ≤ BATCH_SAMPLES)

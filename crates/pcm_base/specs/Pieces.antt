@@ -11,7 +11,7 @@ pub record Sources : Type 0 where
   pub block : ℕ → ℕ → ℤ
   pub given : ℕ → ℤ
 
--- so many samples, from a place on
+-- this many samples, from a place on
 abbrev pub stretch : (ℕ → ℤ) → ℕ → ℕ → List ℤ
 stretch f from zero = []
 stretch f from (suc n) = f from ∷ stretch f (suc from) n
@@ -37,7 +37,7 @@ abbrev pub all_samples : Sources → List Piece → List ℤ
 all_samples src [] = []
 all_samples src (p ∷ ps) = samples_of src p ++ all_samples src ps
 
--- so many samples of a piece, from a place within it on
+-- this many samples of a piece, from a place within it on
 abbrev pub part_of : ℕ → ℕ → Piece → Piece
 part_of skip n (Old b from to) = Old b (from + skip) (from + skip + n)
 part_of skip n (Scaled b from to gain) = Scaled b (from + skip) (from + skip + n) gain

@@ -39,7 +39,7 @@ stop_test stopped (call.PinLen pin) = stop_of stopped
 stop_test stopped (call.ReadPin pin from count) = stop_of stopped
 stop_test stopped (call.Unpin pin) = None
 
--- all that refuses a call before a device is asked, want of memory aside, where it needs so many blocks and a record of
+-- all that refuses a call before a device is asked, want of memory aside, where it needs this many blocks and a record of
 -- this length; the first in this order is told
 abbrev pub refusal_of : Outside → Studio → Call → ℕ → ℕ → Option Refusal
 refusal_of out t c blocks len =
@@ -79,7 +79,7 @@ answered (reply.Pinned pin) t = t
 answered (reply.Length frames) t = t
 answered (reply.Refused why) t = t
 
--- a call was carried out, with so many new blocks and a record of this length
+-- a call was carried out, with this many new blocks and a record of this length
 pub record CarriesOut (t : Studio) (c : Call) (sound : SoundMove) (r : Reply) (u : Studio) : Type 0 where
   pub blocks : ℕ
   pub len : ℕ

@@ -17,7 +17,7 @@ pub data Setting : Type 0 where
   Sides : Side → Setting
   Muted : Bool → Setting
 
--- the samples that come to a track: these, or so many from a first one on in steps
+-- the samples that come to a track: these, or this many from a first one on in steps
 pub data Source : Type 0 where
   Given : List ℤ → Source
   Ramp : ℕ → ℤ → ℤ → Source

@@ -42,7 +42,7 @@ moved_to s cursor = record s { history = at_cursor s.history cursor; commit = s.
 abbrev pub with_clipboard : State → List (List Cell) → State
 with_clipboard s clip = record s { clipboard = Some clip }
 
--- the tracks with an id and behind it edited, one function for each
+-- the tracks with an id and after it edited, one function for each
 abbrev pub with_run : State → ℕ → List (List Cell → List Cell) → State
 with_run s id edits = with_project s (run_edited id edits (current s))
 

@@ -36,7 +36,7 @@ pub enum Placing {
 }
 
 impl Placing {
-    /// What so many new cells at a place make of a track's length.
+    /// What this many new cells at a place make of a track's length.
     pub fn length(self, at: u64, count: u64, track: u64) -> u64
         requires { at + count + track < 2 ^ 64 }
         ensures { result ≡ placed_length self at count track }

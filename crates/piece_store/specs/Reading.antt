@@ -8,7 +8,7 @@ use Rattle.pcm_base.specs.declared.piece.Piece.TheVariants.{Old, Scaled, Zero, G
 use Rattle.block_store.specs.declared.fault.BlockFault.{BlockFault}
 use Rattle.block_store.specs.Reads.{IsFault}
 
--- a piece is a part of a block that a disk may have, zeros, or a part of so many samples that a command brings
+-- a piece is a part of a block that a disk may have, zeros, or a part of this many samples that a command brings
 abbrev pub IsReadable : ℕ → Piece → Type 0
 IsReadable count (Old b from to) = IsBlock b.id b.len × (from ≤ to) × (to ≤ b.len)
 IsReadable count (Scaled b from to gain) = IsBlock b.id b.len × (from ≤ to) × (to ≤ b.len)

@@ -18,13 +18,13 @@ pub record Meaning (T E : Type 0) : Type 1 where
   pub maker : E → ℕ
   pub start : T
 
--- a closure before a call and behind it, and what it returned
+-- a closure before a call and after it, and what it returned
 pub record Called (F R : Type 0) : Type 0 where
   pub before : F
   pub after : F
   pub result : R
 
--- what a seat knew before a turn, the entries that the turn added, and what the seat knows behind it
+-- what a seat knew before a turn, the entries that the turn added, and what the seat knows after it
 pub record Addition (T E : Type 0) : Type 0 where
   pub before : View T E
   pub added : List E

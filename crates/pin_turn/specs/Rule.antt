@@ -45,7 +45,7 @@ pub record Knows {T E : Type 0} (maker : E → ℕ) (turns : Turns T E) (j : ℕ
   pub start_is : v.stage ≢ Gone → v.start ≡ Some turns.start
   -- the seats that were split from it have higher numbers
   pub above : Each (λ n. v.number < n) v.away
-  -- a seat that is gone left nothing behind
+  -- a seat that is gone left nothing after
   pub bare : v.stage ≡ Gone → (v.mine ≡ []) × (v.away ≡ [])
   -- where it found that no turn is left, the word is 2 ^ 63
   pub spent : v.used_up ≡ true → length turns.log * 2 + turns.busy ≡ 2 ^ 63
@@ -111,7 +111,7 @@ pub record WordStep (T E : Type 0) : Type 0 where
   pub before : Standing T E
   -- the word that it found
   pub word : ℕ
-  -- the seat behind it
+  -- the seat after it
   pub after : Standing T E
 
 -- the turn was taken: the value is in hand, and stands for all that is seen now

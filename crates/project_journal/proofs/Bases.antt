@@ -64,7 +64,7 @@ record SameRows (xs ys : List Row) (x y : List ℕ) : Type 0 where
   bytes : flat_map row xs ≡ flat_map row ys
   rest : x ≡ y
 
--- so many rows, each behind its length, stand at the front of some bytes in one way at most
+-- this many rows, each after its length, stand at the front of some bytes in one way at most
 same_rows : (xs ys : List Row) (x y : List ℕ) → length xs ≡ length ys → AllByRecursion IsRow xs
     → AllByRecursion IsRow ys → flat_map row xs ++ x ≡ flat_map row ys ++ y → SameRows xs ys x y
 same_rows [] [] x y len p q e = record { points = refl; bytes = refl; rest = e }

@@ -192,7 +192,7 @@ cut_here form bytes j d is fewer ends = record {
   ends = ends;
 }
 
--- behind a gate that is open no gate is shut
+-- after a gate that is open no gate is shut
 pub never_shut : (at : ℕ) (rest : List ℕ) → next_point at rest ≡ Shut → ⊥
 never_shut at rest e = not_shut (ltb (length rest) 4) (ltb (length rest) (4 + little_number 4 rest)) _ _ _ e
 

@@ -35,7 +35,7 @@ module _ (rate block_size depth : ℕ) (row : List ℕ) (fits : IsFormat rate bl
   none_or_new c none (inr opened) =
       inr (text_there row (fresh rate block_size depth) 0 c fresh_text opened (λ project. absurd (none project)))
 
-  -- what stands behind the gate has 79 bytes and one gate
+  -- what stands after the gate has 79 bytes and one gate
   fresh_size : length fresh_text.header ≡ 79
   fresh_size = omega (arith, ap length is, ap length fresh_text.parts, length-append fresh_text.header (0 ∷ []))
 

@@ -8,7 +8,7 @@ use Rattle.project_journal.specs.Rests.{stands, point_stands}
 use Rattle.project_journal.specs.Windows.{IsHeldAt, PointStandsAt, PointLiesIn, HasRoomFor, row_from}
 use Rattle.project_journal.proofs.Standing.{HasEnough, same_field, stands_is, stands_len}
 
--- whatever stands behind the row
+-- whatever stands after the row
 standing : (w : Window) (at : ℕ) → IsHeldAt w at → min 4 (w.size - at) ≤ length (row_from w at)
     → PointStandsAt w at (point_stands at (w.size - at) (row_from w at))
 standing w at held long = λ rest follows.

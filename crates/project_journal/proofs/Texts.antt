@@ -167,7 +167,7 @@ module _ (log : Log) (gate : ℕ) (format : IsFormat log.rate log.block_size log
     depth = depth_is;
   }
 
--- a log without records, written behind a gate
+-- a log without records, written after a gate
 pub text_is : (log : Log) (text : List ℕ) → text ≡ header_row log ++ 0 ∷ [] → log.bodies ≡ []
     → IsFormat log.rate log.block_size log.depth → log.rate < 2 ^ 32 → IsBase log.depth log.base
     → length log.points ≡ log.base.count → AreShort log.points → IsText text log

@@ -53,13 +53,13 @@ opened_length b (c ∷ more) = omega (
   opened_length c more,
 )
 
--- that is, behind the first gate and length
+-- that is, after the first gate and length
 pub rows_size : (rows : List ℕ) (bodies : List (List ℕ)) → AreWaiting rows bodies → 5 ≤ length rows
     → length rows - 5 ≡ rows_length bodies
 rows_size rows [] are some = absurd (omega (arith, some, ap length are.spelled))
 rows_size rows (b ∷ bs) are some = omega (arith, ap length are.spelled, opened_length b bs)
 
--- the records that stand in the file, the first behind a gate of any value
+-- the records that stand in the file, the first after a gate of any value
 abbrev pub entries_of : ℕ → List ℕ → List (List ℕ) → List Entry
 entries_of gate first more = entry_of gate first ∷ map (entry_of 1) more
 
@@ -89,7 +89,7 @@ longer_all form front log (e ∷ es) is all =
     (append_assoc log.bodies (e.body ∷ []) (map body_of es))
     (longer_all form (front ++ entry e) (with_body log e.body) es (longer form front log e is all.0) all.1))
 
--- what stands behind the first gate where all wait behind it: the next gate is 0
+-- what stands after the first gate where all wait after it: the next gate is 0
 abbrev pub rows_behind : List ℕ → List (List ℕ) → List ℕ
 rows_behind first more = little_bytes 4 (length first) ++ first ++ opened more ++ 0 ∷ []
 
@@ -207,7 +207,7 @@ done_all form disk store log front rows row (first ∷ more) at next some are is
     at_next_all form disk store log front rows row first more at next is place are.short are.spelled
     (behind_is rows row first more are.spelled row-is) next-is gated same newest each
 
--- ---- an append, by the row that is written behind a gate
+-- ---- an append, by the row that is written after a gate
 
 module _ {D : Type 0} (disk : Ghosts D) (old new : D) (file at : ℕ) (rows row : List ℕ) (much : Room)
     (some : 5 ≤ length rows) (is_row : row ≡ drop 1 (rows ++ 0 ∷ []))

@@ -9,11 +9,11 @@ use Rattle.project_journal.specs.Choice.{other_file}
 use Rattle.project_journal.specs.Header.{Form, IsForm, form_2, base_row}
 use Rattle.project_journal.specs.Journal.{Log, HasLog, IsAt, IsHeader}
 
--- a point behind its length
+-- a point after its length
 abbrev pub sized : List ℕ → List ℕ
 sized point = little_bytes 4 (length point) ++ point
 
--- what stands behind the gate of a header of version 2
+-- what stands after the gate of a header of version 2
 abbrev pub header_row : Log → List ℕ
 header_row log = base_row log.rate log.block_size log.depth log.base ++ flat_map sized log.points
 
@@ -22,7 +22,7 @@ abbrev pub AreShort : List (List ℕ) → Type 0
 AreShort [] = Unit {0}
 AreShort (point ∷ points) = (length point < 2 ^ 32) × AreShort points
 
--- This text, behind a gate, is a journal without records: a header of version 2, and the first record's gate.
+-- This text, after a gate, is a journal without records: a header of version 2, and the first record's gate.
 pub record IsText (text : List ℕ) (log : Log) : Type 0 where
   pub header : List ℕ
   pub parts : text ≡ header ++ 0 ∷ []

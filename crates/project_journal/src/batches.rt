@@ -17,7 +17,7 @@ use byteorder::{ByteOrder, LittleEndian};
 use disk_model::Store;
 use std::alloc::AllocError;
 
-/// Puts a record behind those that wait in `rows`, with its gate open: of no bytes it makes the first. After an error
+/// Puts a record after those that wait in `rows`, with its gate open: of no bytes it makes the first. After an error
 /// the rows are of no use.
 pub fn add_record(rows: &mut Vec<u8>, body: &[u8]) -> Result<(), AllocError>
     requires { length body.now < 2 ^ 32 }
@@ -33,7 +33,7 @@ pub fn add_record(rows: &mut Vec<u8>, body: &[u8]) -> Result<(), AllocError>
     Ok(())
 }
 
-/// Adds the records that wait in `rows`, one or more, to the journal in this file behind the gate at `at`, the first
+/// Adds the records that wait in `rows`, one or more, to the journal in this file after the gate at `at`, the first
 /// that is 0, and answers the place of the next gate. All but that first gate is written at once, with the gates
 /// between the records open: opening the first one makes all of them count. It takes memory only where `rows` has no
 /// room for a byte more.
@@ -58,7 +58,7 @@ pub fn append_records<S: Store>(
         → IfOk result (λ next. IsAt form S.Store store.new next (with_bodies log bodies)) }
     // On every store the file is on the disk then.
     ensures durable { OnOk result (IsDurable S.Store store.new file) }
-    // As of one record whose body is all that stands behind the first gate and length.
+    // As of one record whose body is all that stands after the first gate and length.
     ensures answer { Appends at (length rows.old.items - 5) result }
     ensures cause { Causes S.Store store.old store.new result }
     // A fault is a change that failed.

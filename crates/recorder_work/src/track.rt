@@ -36,7 +36,7 @@ struct Tally {
     refused: Option<Refusal>,
 }
 
-// Lists the numbers of so many pieces, up to that of the last.
+// Lists the numbers of this many pieces, up to that of the last.
 fn list_numbers(numbers: &mut Vec<u64>, count: usize, last: u64)
     requires room { vec_len numbers.old + count ≤ vec_capacity numbers.old }
     requires high { count ≤ last }

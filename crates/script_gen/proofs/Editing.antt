@@ -1,4 +1,4 @@
--- What the state of an editor is behind each line of a script.
+-- What the state of an editor is after each line of a script.
 use Rattle.std.proofs.Common.{◌≡◌, ◌⊎◌, inl, inr, ℕ, ℤ, ◌+◌, ◌-◌, ◌≤◌, ◌<◌, Bool, true, false, List, [], ◌∷◌, ◌++◌}
 use Rattle.std.proofs.Common.{map, Option, Some, refl, ap, sym, subst, ◌∙◌, arith}
 use Rattle.std.specs.Prelude.{unwrap_or}
@@ -16,13 +16,13 @@ use Rattle.script_gen.proofs.Points.{undone-last}
 use Rattle.script_gen.proofs.Samples.{HasSamples, IsSample, changed-full, deleted-full, gained-sample, inserted-full}
 use Rattle.script_gen.proofs.Samples.{quieted-sample, ramp-full, range-full}
 
--- a project of one track, the first of a project, with so many samples and no gap
+-- a project of one track, the first of a project, with this many samples and no gap
 pub record HasTrack (len : ℕ) (p : Project) : Type 0 where
   pub cells : List Cell
   pub is : p ≡ new_track 1 cells ∷ []
   pub full : HasSamples len cells
 
--- the clipboard has one list of so many samples; where the number is 0 nothing is known
+-- the clipboard has one list of this many samples; where the number is 0 nothing is known
 abbrev pub HasCopied : ℕ → Option (List (List Cell)) → Type 0
 HasCopied copied clip =
     (copied ≡ 0) ⊎ ((xs : List Cell) × (clip ≡ Some (xs ∷ [])) × HasSamples copied xs)

@@ -15,7 +15,7 @@ abbrev pub IsSample : Cell → Type 0
 IsSample Gap = ⊥
 IsSample (Sample s) = Unit {0}
 
--- so many cells, of which none is a gap
+-- this many cells, of which none is a gap
 pub record HasSamples (len : ℕ) (cells : List Cell) : Type 0 where
   pub samples : All IsSample cells
   pub length_is : length cells ≡ len

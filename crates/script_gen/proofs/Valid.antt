@@ -24,7 +24,7 @@ use Rattle.script_gen.proofs.Needing.{IsFew, few-blocks, few-bytes}
 use Rattle.script_gen.proofs.Passing.{HasRoom, line-passes}
 use Rattle.script_gen.proofs.Places.{first_place-bounds, line-bounds}
 
--- a studio behind so many lines of a script, its state of this kind
+-- a studio after this many lines of a script, its state of this kind
 pub record IsBehind (made : ℕ) (P : State → Type 0) (t : Studio) : Type 0 where
   pub going : t.stopped ≡ None
   pub state : P t.state
@@ -125,7 +125,7 @@ followed-behind made P Q c out t blocks len b kept goes few =
       generation = b.generation;
     }
 
--- a line, and those behind it
+-- a line, and those after it
 goes-first : (made : ℕ) (P Q : State → Type 0) (c : Command) (cs : List Command) (t : Studio) → made ≤ 4096 →
     IsBehind made P t → IsKept Q → Goes P Q c →
     ((u : Studio) → IsBehind (made + 1) Q u → AreValid u cs) → AreValid t (c ∷ cs)

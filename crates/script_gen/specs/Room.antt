@@ -9,7 +9,7 @@ use Rattle.pcm_base.specs.Counters.{Needs, places_of}
 use Rattle.pcm_base.specs.Run.{CarriesOut, outside}
 use Rattle.pcm_base.specs.Studio.{Studio, fresh}
 
--- Whatever a line needs within its bounds, it makes at most so many blocks, and its record has a body of at most this
+-- Whatever a line needs within its bounds, it makes at most this many blocks, and its record has a body of at most this
 -- length.
 pub record NeedsAtMost (t : Studio) (c : Command) (blocks len : ℕ) : Type 0 where
   pub most : (sound : SoundMove) (b l : ℕ) → Needs (outside t sound) t (Line c) b l → (b ≤ blocks) × (l ≤ len)

@@ -9,12 +9,12 @@ use Rattle.script_gen.specs.declared.kind.Kind.TheVariants as kind
 use Rattle.script_gen.specs.declared.place.Place.{Place}
 use Rattle.script_gen.specs.Draws.{next_state, drawn}
 
--- a line, and the place behind it
+-- a line, and the place after it
 pub record Written : Type 0 where
   pub line : Command
   pub place : Place
 
--- behind the first two lines: the number is the first state, and the track has 1,000 cells
+-- after the first two lines: the number is the first state, and the track has 1,000 cells
 abbrev pub first_place : ℕ → Place
 first_place number = record { state = number; len = 1000; copied = 0; undone = false }
 
@@ -133,7 +133,7 @@ redo_at p = record { line = command.Redo; place = record p { undone = false } }
 
 -- ---- the script
 
--- of a kind, where so many lines are left behind it
+-- of a kind, where this many lines are left after it
 abbrev pub written_as : Kind → ℕ → Place → Written
 written_as kind.Ramp left p = ramp_at p
 written_as kind.Delete left p = delete_at p
@@ -148,11 +148,11 @@ written_as kind.Envelope left p = envelope_at p
 abbrev pub drawn_at : ℕ → Place → Written
 drawn_at left p = written_as (kind_at p) left (drawn_on p)
 
--- the next line, where so many are left behind it
+-- the next line, where this many are left after it
 abbrev pub line_at : ℕ → Place → Written
 line_at left p = if p.undone then redo_at p else drawn_at left p
 
--- so many lines from a place on
+-- this many lines from a place on
 abbrev pub lines_from : ℕ → Place → List Command
 lines_from zero p = []
 lines_from (suc left) p = (line_at left p).line ∷ lines_from left (line_at left p).place

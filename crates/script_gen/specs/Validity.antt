@@ -25,7 +25,7 @@ pub record GoesOn (t : Studio) (c : Command) : Type 0 where
   pub answered : result_of reply ≡ Ok reply
   pub step : CarriesOut t (Line c) sound reply next
 
--- Each line is in form, valid, and carried out by some step; and so are those behind it, by whichever step it was.
+-- Each line is in form, valid, and carried out by some step; and so are those after it, by whichever step it was.
 abbrev pub AreValid : Studio → List Command → Type 0
 AreValid t [] = Unit {0}
 AreValid t (c ∷ cs) =

@@ -6,14 +6,14 @@ ghost use Rattle.script_gen.specs.Script.{drawn_on, range_at};
 
 use super::place::Place;
 
-/// A range of cells: its first, and the one behind its last.
+/// A range of cells: its first, and the one after its last.
 #[derive(Clone, Copy)]
 pub struct CellRange {
     pub from: u64,
     pub to: u64,
 }
 
-// The state behind another.
+// The state after another.
 fn next_state(state: u64) -> u64
     ensures { result ≡ next_state state }
 {

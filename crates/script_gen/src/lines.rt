@@ -1,4 +1,4 @@
-// The line at a place, and the place behind it.
+// The line at a place, and the place after it.
 ghost use Rattle.std.specs.Prelude.{◌≡◌, ◌≤◌};
 ghost use Rattle.script_gen.specs.Bounds.{IsPlace};
 ghost use Rattle.script_gen.specs.Script.{copy_at, delete_at, drawn_at, envelope_at, gain_at, line_at};
@@ -134,7 +134,7 @@ impl Place {
         }
     }
 
-    /// The line that comes next, where so many are left behind it.
+    /// The line that comes next, where this many are left after it.
     pub fn next_line(&mut self, left: u32) -> Command
         requires { IsPlace self.old }
         ensures line { result ≡ (line_at left self.old).line }

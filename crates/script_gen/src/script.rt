@@ -8,7 +8,7 @@ use super::place::Place;
 use pcm_base::{Command, NoMemory};
 use std::alloc::Global;
 
-/// The script of a number, of 2 to 4,096 lines: a track and a ramp, and behind them lines that draws from the number
+/// The script of a number, of 2 to 4,096 lines: a track and a ramp, and after them lines that draws from the number
 /// name. Each line is valid where it stands, in a fresh project.
 ///
 /// NoMemory is its only error.

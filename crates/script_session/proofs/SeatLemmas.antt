@@ -69,7 +69,7 @@ module _ {D V : Type 0} (disk : Ghosts D) (vaults : vault.Ghosts V) (start : Cor
       let at = said_number disk vaults start v w c what sound said h in
       omega (arith, low, more, at)
 
-  -- what a line leaves of the place, where the vault has these sounds and faults before and behind it
+  -- what a line leaves of the place, where the vault has these sounds and faults before and after it
   module _ (v w : View (Held D V) Deed) (c : Command) (tells : Bool) (before after : Sounds) (old new : ℕ) where
     abbrev sound : SoundMove
     sound = move_of (name_in_line c) before after

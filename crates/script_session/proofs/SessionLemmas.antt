@@ -14,7 +14,7 @@ use Rattle.script_text.specs.Text.{text_of}
 use Rattle.script_session.specs.Session.{Session, Next, Answers}
 use Rattle.script_session.specs.Progress.{Printed, Reached, Start, WritesAnswers, reached, says_no}
 
--- what stands behind a line may be weakened
+-- what stands after a line may be weakened
 Next-weaker : (b : Bool) (s : Place) (line : List ℕ) (answers : List Answer) (P Q : Place → List Answer → Type 0)
     → ((m : Place) (later : List Answer) → P m later → Q m later)
     → MatchBool b (P s answers) (Next s line answers P) → MatchBool b (Q s answers) (Next s line answers Q)

@@ -52,14 +52,14 @@ made_commit what c = nat_lt 0 (commits what (Line c))
 abbrev pub with_number : Bool → List ℕ → ℕ → List ℕ
 with_number commit numbers n = numbers ++ (if commit then n ∷ [] else [])
 
--- a line, its answer, and what became of the sound that it names, where the vault has these sounds behind it
+-- a line, its answer, and what became of the sound that it names, where the vault has these sounds after it
 abbrev pub line_deed : Place → Command → Result Reply Refusal → Sounds → Deed
 line_deed p c what sounds = deed p.seat (Line c) what (move_of (name_in_line c) p.sounds sounds)
 
 abbrev pub seen_after : Place → List Deed → Command → Result Reply Refusal → Sounds → List Deed
 seen_after p between c what sounds = (p.seen ++ between) ++ line_deed p c what sounds ∷ []
 
--- behind a turn at which these deeds of others were seen: its number is told
+-- after a turn at which these deeds of others were seen: its number is told
 abbrev pub after_turn : Place → List Deed → Command → Result Reply Refusal → Sounds → ℕ → Place
 after_turn p between c what sounds faults = record p {
   seen = seen_after p between c what sounds;
@@ -69,7 +69,7 @@ after_turn p between c what sounds faults = record p {
   faults = faults;
 }
 
--- The count of a vault's faults behind a line that was answered so. It rises where the line names a sound and the
+-- The count of a vault's faults after a line that was answered so. It rises where the line names a sound and the
 -- answer is that the vault failed, and stays elsewhere.
 abbrev pub CountsFaults : Option (List ℕ) → Result Reply Refusal → ℕ → ℕ → Type 0
 CountsFaults None what old new = new ≡ old

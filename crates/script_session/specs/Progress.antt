@@ -47,7 +47,7 @@ pub record Cut (read : List ℕ) (lines : List (List ℕ)) (part : List ℕ) : T
 abbrev pub says_no : Answer → Bool
 says_no a = is_refusal a.reply
 
--- the texts of some answers were written behind `start`, but for the last one, of which a part from its front was
+-- the texts of some answers were written after `start`, but for the last one, of which a part from its front was
 -- written
 pub record BreaksOff (start now : Option (List ℕ)) (answers : List Answer) : Type 0 where
   pub before : List Answer
@@ -57,12 +57,12 @@ pub record BreaksOff (start now : Option (List ℕ)) (answers : List Answer) : T
   pub within : count < length (text_of last)
   pub written : now ≡ grown start (flat_map text_of before ++ take count (text_of last))
 
--- the texts of some answers were written behind `start`, or after a fault break off in the last one
+-- the texts of some answers were written after `start`, or after a fault break off in the last one
 abbrev pub WritesAnswers : Result (Unit {0}) Failed → Option (List ℕ) → Option (List ℕ) → List Answer → Type 0
 WritesAnswers result start now answers =
     MatchResult result (λ _. now ≡ grown start (flat_map text_of answers)) (λ _. BreaksOff start now answers)
 
--- these lines led from the start there, and their answers were written behind what was written at the start, or after a
+-- these lines led from the start there, and their answers were written after what was written at the start, or after a
 -- fault break off in the last one
 pub record Printed (r : Reached) (result : Result (Unit {0}) Failed) (lines : List (List ℕ)) : Type 0 where
   pub answers : List Answer

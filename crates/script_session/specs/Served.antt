@@ -17,7 +17,7 @@ use Rattle.script_session.specs.Change.{Change, change}
 use Rattle.script_session.specs.Place.{Place}
 use Rattle.script_session.specs.Session.{Session}
 
--- no device is behind this reason: none failed, none had failed before, and no file is damaged
+-- no device caused this reason: none failed, none had failed before, and no file is damaged
 abbrev pub IsOfNoDevice : Refusal → Type 0
 IsOfNoDevice refusal.DiskFault = ⊥
 IsOfNoDevice (refusal.Stopped faults) = ⊥

@@ -9,11 +9,11 @@ use Rattle.script_text.specs.declared.last.PlayEnd.TheVariants as play_end
 use Rattle.script_text.specs.declared.last.PlayLine.{PlayLine}
 use Rattle.script_text.specs.Text.{with_number, reason_text, end_text}
 
--- why a recording or a playback was refused, behind what it did
+-- why a recording or a playback was refused, after what it did
 abbrev pub refused_ending : Refusal → List ℕ
 refused_ending reason = codes " no " ++ reason_text reason
 
--- how a recording ended, behind what it did: nothing where it is whole
+-- how a recording ended, after what it did: nothing where it is whole
 abbrev pub record_ending : RecordEnd → List ℕ
 record_ending record_end.Whole = []
 record_ending (record_end.Refused reason) = refused_ending reason

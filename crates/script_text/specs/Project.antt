@@ -16,7 +16,7 @@ checked_text count commit = codes "checked" ++ with_number count ++ codes "\n" +
 abbrev pub shape_text : ProjectLines → List ℕ
 shape_text p = codes "project" ++ with_number p.rate ++ with_number p.block_size ++ with_number p.depth
 
--- where its history stands, on a line of its own, which begins behind the end of another
+-- where its history stands, on a line of its own, which begins after the end of another
 abbrev pub place_text : ProjectLines → List ℕ
 place_text p =
     codes "\ncommit" ++ with_number p.commit ++ codes " points" ++ with_number p.points

@@ -5,8 +5,8 @@ use Rattle.pcm_base.specs.declared.command.Command.{Command}
 use Rattle.script_text.specs.Words.{Words, End, Word, number_of, count_of, ramp_count_of, sample_of, gain_of, side_of}
 use Rattle.script_text.specs.Words.{switch_of, name_of, option_map_to}
 
--- what the words of a line say, and the words behind; or the column of the first word that is not of the kind that its
--- place wants, the column behind the line where a word is missing
+-- what the words of a line say, and the words after; or the column of the first word that is not of the kind that its
+-- place wants, the column after the line where a word is missing
 abbrev pub Form : Type 0 → Type 0
 Form A = Words → Result (A × Words) ℕ
 
@@ -23,7 +23,7 @@ abbrev pub ◌>>=◌ : {A B : Type 0} → Form A → (A → Form B) → Form B
 abbrev pub says : {A : Type 0} → A → Form A
 says x words = Ok (x, words)
 
--- a form says a function, and the words behind it say what that is applied to
+-- a form says a function, and the words after it say what that is applied to
 infixl 20 ◌<*>◌
 abbrev pub ◌<*>◌ : {A B : Type 0} → Form (A → B) → Form A → Form B
 form <*> kind = do

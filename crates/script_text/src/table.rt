@@ -9,7 +9,7 @@ use super::{LineFault, kinds};
 use pcm_base::Command;
 
 // The command of a line by the row that its first word names: each field is read from a word of its kind, in the order
-// of the fields, and the line ends behind them. Where no row has that word, `$others` is what the line says.
+// of the fields, and the line ends after them. Where no row has that word, `$others` is what the line says.
 macro_rules! line {
     ($first:ident, $words:ident, $others:expr;
         $($word:literal => $command:ident $({ $($field:ident: $kind:ident),+ })?,)+) => {
@@ -22,7 +22,7 @@ macro_rules! line {
     };
 }
 
-/// The command of a line, of its first word and of the words behind it. First the lines on a whole track, or on a place
+/// The command of a line, of its first word and of the words after it. First the lines on a whole track, or on a place
 /// of one.
 #[tactic(auto, unfolding(crate::specs::Grammar::track_rows))]
 pub fn line(first: &Found, words: &mut Words) -> Result<Command, LineFault>

@@ -1,4 +1,4 @@
-// Tracks, each on a line of its own, which begins behind the end of another.
+// Tracks, each on a line of its own, which begins after the end of another.
 ghost use Rattle.std.specs.Prelude.{flat_map};
 ghost use Rattle.script_text.specs.Gathering.{Adds, Counts};
 ghost use Rattle.script_text.specs.Text.{with_side, with_switch, track_text};

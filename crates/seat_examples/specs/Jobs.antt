@@ -48,7 +48,7 @@ piece_count track tag first v = length (pieces_by track tag v.number first v.see
 abbrev pub IsPinOf : {D V : Type 0} → Origin D V → View (Held D V) Deed → ℕ → List Frame → Type 0
 IsPinOf o v pin mix = (all : List Frame) → IsMixOf o v.seen pin all → all ≡ mix
 
--- What a job of so many turns has done, or found, that ended with no refusal: as many turns, of a recording as many
+-- What a job of this many turns has done, or found, that ended with no refusal: as many turns, of a recording as many
 -- pieces, and of a pin, where there was a turn, that it has the frames that were wanted.
 abbrev pub did : {D V : Type 0} → Origin D V → Job → ℕ → Views D V → Type 0
 did o (job.Edit track) turns seat = length seat.after.mine ≡ length seat.before.mine + turns

@@ -18,7 +18,7 @@ use std::alloc::Global;
 use std::sync::Wait;
 use studio_seats::{Desk, DeskGiver, DeskSeat, DeskTaker};
 
-/// What a thread does, in so many turns.
+/// What a thread does, in this many turns.
 #[derive(Clone, Copy, Debug)]
 pub enum Job {
     /// Puts ramps of six samples in front of a track.
@@ -37,9 +37,9 @@ pub enum Job {
 pub enum End {
     /// All its turns were made.
     Done,
-    /// The first refusal, behind which no turn was made.
+    /// The first refusal, after which no turn was made.
     Refused(Refusal),
-    /// Other frames were read than those that were wanted, and no turn was made behind.
+    /// Other frames were read than those that were wanted, and no turn was made after.
     Differs,
 }
 
@@ -154,7 +154,7 @@ fn reclaim<R: Wait>(rt: &R, desk: &RamDesk, mut seat: RamSeat, turns: u8) -> (Ra
     (seat, End::Done)
 }
 
-/// Does a job by this seat, in so many turns or up to the first refusal, and hands the seat back. All that the seat did
+/// Does a job by this seat, in this many turns or up to the first refusal, and hands the seat back. All that the seat did
 /// meanwhile is of this job.
 pub fn work<R: Wait>(
     rt: &R,

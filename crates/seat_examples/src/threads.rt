@@ -13,7 +13,7 @@ use std::alloc::Global;
 use std::sync::Wait;
 use std::thread::{Threads, join};
 
-/// Two jobs in two threads, each of so many turns. The second has a seat that is split off and joined again.
+/// Two jobs in two threads, each of this many turns. The second has a seat that is split off and joined again.
 pub fn by_two<R: Threads + Wait + Sync>(
     rt: &R,
     alloc: Global,
@@ -51,7 +51,7 @@ pub fn by_two<R: Threads + Wait + Sync>(
     (seat, [end, other_end])
 }
 
-/// Four jobs in four threads, each of so many turns: one edits track 1, one adds pieces to the recording's track, one
+/// Four jobs in four threads, each of this many turns: one edits track 1, one adds pieces to the recording's track, one
 /// reads the pin, whose frames have to be these, and one removes files that nothing names. The ends are in this order.
 pub fn by_four<R: Threads + Wait + Sync>(
     rt: &R,

@@ -45,7 +45,7 @@ module _ {D : Type 0} (disk : Ghosts D) (old new : Core D) (told : Result Reply 
   first_from [] were = tt
   first_from (x ∷ xs) were = (is.given x (were x (0, omega arith, refl))).0
 
-  -- so many more ids were given and have no count
+  -- this many more ids were given and have no count
   pub more_missing : (c : Call) → Frees disk old c told removed new → CountsIds old removed new
       → old.next_block ≤ new.next_block → (gone : ℕ) → gone ≤ missing old.counts 16 (old.next_block - 16)
       → gone + length removed ≤ missing new.counts 16 (new.next_block - 16)

@@ -63,7 +63,7 @@ each_reply P [] h plain = tt
 each_reply P (d ∷ ds) h plain =
     (subst (λ (what : Result Reply Refusal). IfErr what P) (sym plain.0) h.0, each_reply P ds h.1 plain.1)
 
--- the same by their calls, of what the disk is not behind
+-- the same by their calls, of what the disk is not after
 pub all_served : (ds : List Deed) → Each (λ d. IfErr d.what (IsServed d.call)) ds → Each IsPlain ds
     → AreServed (entries_of ds)
 all_served [] h plain = tt

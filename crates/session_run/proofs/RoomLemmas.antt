@@ -29,7 +29,7 @@ pub record IsRoom (from room : Room) : Type 0 where
   pub bytes : from.bytes + 67108782 ≤ room.bytes
   pub calls : from.calls + 1048566 ≤ room.calls
 
--- No more than this was asked since, where so many files were removed; and the next block may be begun in vain.
+-- No more than this was asked since, where this many files were removed; and the next block may be begun in vain.
 pub record HasAskedFor (from now : Room) (sum : Sum) (gone vain : ℕ) : Type 0 where
   pub files : now.files ≤ from.files + sum.blocks + vain
   pub bytes : now.bytes ≤ from.bytes + 48 * sum.blocks + 48 * vain + sum.journal

@@ -90,7 +90,7 @@ impl Gate for HoldingGate {
     }
 }
 
-/// A gate at which recorder and player go in step: at each of their first pushes and takes, so many as it was told, the
+/// A gate at which recorder and player go in step: at each of their first pushes and takes, this many as it was told, the
 /// microphone's thread is held until the speaker's has come as far, and the speaker's until the microphone's has.
 #[derive(Drop)]
 pub struct MeetingGate {

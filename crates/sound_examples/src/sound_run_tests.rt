@@ -177,7 +177,7 @@ fn all_is_recorded_and_played(rt: HostRuntime) -> Result<(), Fail> {
     Ok(())
 }
 
-// Recorder and player go in step for eight chunks and eight takes: one behind the other they would not end.
+// Recorder and player go in step for eight chunks and eight takes: one after the other they would not end.
 #[test]
 fn recorder_and_player_overlap(rt: HostRuntime) -> Result<(), Fail> {
     let alloc = rt.alloc();

@@ -57,7 +57,7 @@ impl<'a, P: Sink> Sink for LentSink<'a, P> {
 }
 
 /// Takes a reference back that was lent to a thread and handed back: this use ties it to the one that was lent, so that
-/// what it leads to is what stands behind the lender's.
+/// what it leads to is what stands after the lender's.
 pub fn take_back<T>(lent: &mut T)
     ensures { lent.new ≡ lent.old }
 {}

@@ -85,7 +85,7 @@ joined_end chunks joined n count len is parts =
     ap (λ (m : ℕ). parts_of 256 (pieces_in m) joined) len
     ∙ (ap (λ (m : ℕ). parts_of 256 m joined) is ∙ (parts ∙ ap (λ (m : ℕ). take m (samples_of chunks)) (sym is)))
 
--- samples that are the first of some chunks, at most so many
+-- samples that are the first of some chunks, at most this many
 pub record FirstOf (chunks : List Part) (samples : List ℤ) (count most : ℕ) : Type 0 where
   pub many : pieces_in (length samples) ≡ count
   pub are : pieces_of samples ≡ take count (samples_of chunks)

@@ -28,7 +28,7 @@ use Rattle.studio_seats.proofs.TestFaults.{Tells, served_test, tested}
 
 -- ---- one step
 
--- the counts fall never, and where none rises the store is behind no refusal
+-- the counts fall never, and where none rises the store caused no refusal
 record Went (t u : model.Studio) (c : Call) (what : Result Reply Refusal) : Type 0 where
   reads : t.read_faults ≤ u.read_faults
   changes : t.change_faults ≤ u.change_faults

@@ -21,7 +21,7 @@ pub record IsCalm (t u : model.Studio) : Type 0 where
   pub reads : Rose t.read_faults u.read_faults → ⊥
   pub changes : Rose t.change_faults u.change_faults → ⊥
 
--- The store is not behind this reason: neither did it fail, nor had the studio stopped. That the vault failed is told
+-- The store did not cause this reason: neither did it fail, nor had the studio stopped. That the vault failed is told
 -- only of a call that names a sound.
 abbrev pub IsServed : Call → Refusal → Type 0
 IsServed c refusal.DiskFault = ⊥
@@ -32,7 +32,7 @@ IsServed c why = Unit {0}
 abbrev pub AreServed : List Entry → Type 0
 AreServed es = Each (λ e. IfErr (result_of e.reply) (IsServed e.call)) es
 
--- From a studio that goes on, a run in which no count of faults of the store rises: the store is behind no refusal, and
+-- From a studio that goes on, a run in which no count of faults of the store rises: the store caused no refusal, and
 -- the studio goes on.
 pub record Serves (t u : model.Studio) (es : List Entry) : Type 0 where
   pub going : u.stopped ≡ None

@@ -33,7 +33,7 @@ abbrev pub unfreed : ℕ → List Entry → ℕ
 unfreed n [] = n
 unfreed n (e ∷ es) = unfreed (unfreed_by n e.call) es
 
--- Whether another call may come last after so many pieces: after 64, and at the end of a recording after one at least.
+-- Whether another call may come last after this many pieces: after 64, and at the end of a recording after one at least.
 abbrev pub IsDue : Bool → ℕ → Type 0
 IsDue true n = 1 ≤ n
 IsDue false n = n ≡ 64

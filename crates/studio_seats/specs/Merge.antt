@@ -17,7 +17,7 @@ by_seat seat e = seat == e.actor
 abbrev pub any_seat : Deed → Bool
 any_seat e = true
 
--- the numbers of so many commits after this one, where they are of a kind
+-- the numbers of this many commits after this one, where they are of a kind
 abbrev pub numbers_if : Bool → ℕ → ℕ → List ℕ
 numbers_if kind count n = if kind then counted_from (n + 1) count else []
 

@@ -5,14 +5,14 @@ ghost use Rattle.pcm_base.specs.Recordings.{pieces_in as pieces_of_many, pieces_
 
 use pcm_base::{BATCH_SAMPLES, CHUNK_SAMPLES, Chunk};
 
-/// How many pieces so many samples are.
+/// How many pieces this many samples are.
 pub(crate) fn pieces_in(samples: usize) -> usize
     ensures { result ≡ pieces_of_many samples }
 {
     samples.saturating_sub(1) / CHUNK_SAMPLES + 1
 }
 
-// Whether samples that come after so many whole chunks are none: then they are no piece.
+// Whether samples that come after this many whole chunks are none: then they are no piece.
 fn ends_before(count: usize, samples: &[i16]) -> bool
     ensures some { result ≡ true → 0 < count }
     ensures none { result ≡ false → 0 < count → 0 < length samples.now }
@@ -20,7 +20,7 @@ fn ends_before(count: usize, samples: &[i16]) -> bool
     count > 0 && samples.is_empty()
 }
 
-/// Puts the samples of the first of these chunks together, of so many at most, and says how many samples they are. One
+/// Puts the samples of the first of these chunks together, of this many at most, and says how many samples they are. One
 /// that is shorter than others ends them.
 pub(crate) fn join_chunks(chunks: &[Chunk], most: usize, batch: &mut [i16; BATCH_SAMPLES]) -> usize
     requires some { (0 < length chunks.now) × (0 < most) }

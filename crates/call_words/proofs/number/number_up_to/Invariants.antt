@@ -1,4 +1,4 @@
--- What the digits say is what those that are left say behind the value so far.
+-- What the digits say is what those that are left say after the value so far.
 use Rattle.std.proofs.Common.{◌≡◌, ◌≤◌, drop}
 use Rattle.script_text.specs.Words.{number_up_to}
 use Rattle.script_text.proofs.WordLemmas.{number_after}

@@ -1,4 +1,4 @@
--- What is seen of the rest, and gaps behind it.
+-- What is seen of the rest, and gaps after it.
 use Rattle.std.proofs.Common.{◌≡◌, ◌+◌, ◌-◌, List, ◌++◌, length, take, drop, get_or, arith, ◌∙◌, ap, length-drop}
 use Rattle.std.proofs.lemmas.List.{length-take}
 use Rattle.std.proofs.lemmas.Result.{err_from_is_err_and}

@@ -135,7 +135,7 @@ returns-clause-stored g c = λ told.
     inv.stored told c.rows.out (subst R (sym none) (puts_none c.args.view c.rows.place 0 [] c.rows.out
     (omega (arith, c.requires.size)) refl (ap (place_in c.args.view) stop)))
 
--- the blocks that are left stand behind the view
+-- the blocks that are left stand after the view
 pub returns-then-place-view-clause-stored : goal.returns-then-place-view-clause-stored
 returns-then-place-view-clause-stored g c = λ told.
     let files : Files = g.S.Store.reads c.args.store.now in

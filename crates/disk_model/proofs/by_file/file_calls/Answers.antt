@@ -1,4 +1,4 @@
--- Those below come before the file's own, and those above behind.
+-- Those below come before the file's own, and those above after.
 use Rattle.std.proofs.Common.{leb, ltb, ltb-true, arith, rules}
 use Rattle.std.proofs.lemmas.Bool.{ltb-false, leb-true, leb-false}
 use Rattle.std.proofs.lemmas.List.Sorted.{IsPartitionPoint-from_clause, IsPartitionedBy-ltb, IsPartitionedBy-leb}

@@ -1,4 +1,4 @@
--- The tests of the tracks that are behind the references.
+-- The tests of the tracks that are after the references.
 use Rattle.std.proofs.Common.{◌≡◌, ℕ, take, length, None, ap, subst, ◌∙◌}
 use Rattle.pcm_base.specs.Refusals.{too_narrow, bad_range}
 use Rattle.edit_ops.specs.Plans.{Passes}

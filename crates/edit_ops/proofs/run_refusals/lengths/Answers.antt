@@ -28,7 +28,7 @@ length-len-requires c =
       c.len-in-loop-i.ensures.value,
     )
 
--- the length of this track, and those of the tracks behind it
+-- the length of this track, and those of the tracks after it
 lengths_here : (f : ℕ → ℕ → ℕ) (clip : List (List Item)) (run : List (Bor (List Clip))) (i : ℕ) (s : List Item)
     (t : Bor (List Clip))
     → i < length clip → i < length run → s ≡ get_or clip i s → t ≡ get_or run i t

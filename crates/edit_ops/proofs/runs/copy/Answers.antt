@@ -1,4 +1,4 @@
--- The layouts behind the first references.
+-- The layouts after the first references.
 use Rattle.std.proofs.Common.{List, subst}
 use Rattle.clip_track.specs.declared.clips.Clip.{Clip}
 use Rattle.edit_ops.specs.Runs.{AreCopies}

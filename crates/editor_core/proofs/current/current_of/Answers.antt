@@ -1,4 +1,4 @@
--- The point at the cursor is the first behind those before it.
+-- The point at the cursor is the first after those before it.
 use Rattle.std.proofs.Common.{sym, ap, ◌∙◌, slice_get}
 use Rattle.pcm_base.specs.History.{points_of}
 use Rattle.editor_core.proofs.Currents.{at_cursor}

@@ -1,4 +1,4 @@
--- A point comes in the place of the current one, and those behind it go.
+-- A point comes in the place of the current one, and those after it go.
 use Rattle.std.proofs.Common.{◌≡◌, sym, subst, ℕ, ◌+◌, take, drop, flat_map, slice_get, Some}
 use Rattle.pcm_base.specs.History.{points_of}
 use Rattle.block_ledger.specs.Entries.{count_of}

@@ -1,4 +1,4 @@
--- What is behind the front that both have comes and goes.
+-- What is after the front that both have comes and goes.
 use Rattle.block_ledger.specs.Entries.{count_of}
 use Rattle.editor_core.proofs.Replaced.{rest_all, rest_few, rest_moves, rest_there}
 use Rattle.editor_core.proofs.replacing.replace_blocks.Goals as goal

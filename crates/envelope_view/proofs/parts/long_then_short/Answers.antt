@@ -1,4 +1,4 @@
--- The frames, and then what is behind them.
+-- The frames, and then what is after them.
 use Rattle.std.proofs.Common.{◌≡◌, ◌*◌, ◌∙◌, ℕ, ℤ, List, Some, length, min, sym, subst, ap, arith}
 use Rattle.std.specs.Prelude.{IsTrue}
 use Rattle.disk_model.specs.Disk.{Files}

@@ -1,4 +1,4 @@
--- The front that was known, and what was read behind it.
+-- The front that was known, and what was read after it.
 use Rattle.std.proofs.Common.{◌≡◌, ◌∙◌, ℕ, Some, length, sym, ap}
 use Rattle.disk_model.specs.Disk.{Files}
 use Rattle.pcm_base.specs.declared.block.BlockRef.{BlockRef}

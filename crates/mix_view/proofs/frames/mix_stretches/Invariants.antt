@@ -1,4 +1,4 @@
--- The frames so far are those of the mix, and the reader stands behind them.
+-- The frames so far are those of the mix, and the reader stands after them.
 use Rattle.std.proofs.Common.{◌≡◌, ◌≤◌, ◌+◌, ◌-◌, length, take, map}
 use Rattle.std.specs.Prelude.{IsTrue}
 use Rattle.disk_model.specs.Frames.{Kept}

@@ -1,4 +1,4 @@
--- The passes over the tracks behind are put.
+-- The passes over the tracks after are put.
 use Rattle.std.proofs.Common.{◌≡◌, ◌≤◌, length, drop}
 use Rattle.mix_view.specs.Readers.{AreRestsOf}
 use Rattle.mix_view.proofs.passes.passes_from.Given as goal

@@ -1,4 +1,4 @@
--- The numbers, and then what stands behind them.
+-- The numbers, and then what stands after them.
 use Rattle.std.proofs.Common.{◌≡◌, ◌++◌, subst, None, Some, List}
 use Rattle.project_journal.specs.declared.fault.Damaged.{Damaged}
 use Rattle.project_journal.specs.Header.{base_tests, first_failed, last_tests, number_tests}

@@ -1,4 +1,4 @@
--- The bytes of the piece so far stand behind those that were read before.
+-- The bytes of the piece so far stand after those that were read before.
 use Rattle.std.proofs.Common.{◌≡◌, ◌≤◌, ◌-◌, ℕ, ◌++◌, List, take, length}
 use Rattle.script_session.specs.Progress.{Going, Start, reached}
 use Rattle.script_session.proofs.read.take_piece.Given as goal

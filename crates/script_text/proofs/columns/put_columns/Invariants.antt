@@ -1,4 +1,4 @@
--- The columns so far stand behind the text.
+-- The columns so far stand after the text.
 use Rattle.std.proofs.Common.{take}
 use Rattle.std.specs.List.{flat_map}
 use Rattle.script_text.specs.Gathering.{Adds, Counts}

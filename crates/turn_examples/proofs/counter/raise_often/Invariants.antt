@@ -1,4 +1,4 @@
--- The seat stays at the turn, with its number and none more away, and has made so many raises.
+-- The seat stays at the turn, with its number and none more away, and has made this many raises.
 use Rattle.std.proofs.Common.{◌≡◌, ◌+◌, length}
 use Rattle.pin_turn.specs.Calls.{known, IsOf}
 use Rattle.turn_examples.proofs.counter.raise_often.Given as goal

@@ -1,4 +1,4 @@
--- A step behind what stands at the reader's place among the points.
+-- A step after what stands at the reader's place among the points.
 use Rattle.std.proofs.Common.{sym, subst}
 use Rattle.project_journal.specs.declared.reader.Reader.{Reader}
 use Rattle.project_journal.specs.Reader.{GoesOn}

@@ -1,0 +1,77 @@
+// The frames of a loaded stretch.
+ghost use Rattle.std.specs.Prelude.{◌≡◌, ◌≤◌, ◌<◌, ◌+◌, ◌*◌, ℕ, length, map, IfOk};
+ghost use Rattle.pcm_base.specs.Arithmetic.{counted_from};
+ghost use Rattle.pcm_base.specs.Cells.{Project};
+ghost use Rattle.pcm_base.specs.Mix.{frame_at};
+ghost use Rattle.mixdown.specs.Loads.{IsLoaded, Shows, loaded_tracks};
+
+use super::cut::mix_cut;
+use mixdown::Loaded;
+use pcm_base::{Frame, NoMemory};
+use rayon::current_num_threads;
+use std::alloc::Global;
+use std::thread::Threads;
+
+/// How many cells a stretch has at least that is shared among threads. The mix of fewer takes less time than threads
+/// take to start.
+const SHARED_CELLS: usize = 2_000_000;
+
+/// How many frames a part has: all of them, or this many that each processor has one part.
+fn part_len(rt: &impl Threads, cells: usize, frames: usize) -> usize
+    ensures { 0 < result }
+{
+    if cells < SHARED_CELLS {
+        return frames.max(1);
+    }
+    frames.div_ceil(current_num_threads(rt)).max(1)
+}
+
+/// The mix of a loaded stretch, written to as many frames as it has. A stretch of few cells is mixed in one part and
+/// starts no thread. Of any other each processor has one part. It takes no memory but what a thread takes.
+pub fn mix_loaded(rt: &(impl Threads + Sync), loaded: &Loaded, out: &mut [Frame])
+    requires loaded { IsLoaded loaded.now }
+    requires room { length out.old ≡ loaded.now.len }
+    ensures frames { out.new ≡ map (frame_at (loaded_tracks loaded.now)) (counted_from 0 loaded.now.len) }
+    // Where it shows a project from a place on these are the project's frames from there on.
+    ensures heard { (from : ℕ) (p : Project) → Shows from p loaded.now
+        → out.new ≡ map (frame_at p) (counted_from from loaded.now.len) }
+{
+    mix_tracks(rt, loaded, out);
+}
+
+/// The frames of [`mix_loaded`].
+fn mix_tracks(rt: &(impl Threads + Sync), loaded: &Loaded, out: &mut [Frame])
+    requires loaded { IsLoaded loaded.now }
+    requires room { length out.old ≡ loaded.now.len }
+    ensures { out.new ≡ map (frame_at (loaded_tracks loaded.now)) (counted_from 0 loaded.now.len) }
+{
+    let count = loaded.gains.len() * loaded.len;
+    let cells = &loaded.cells.as_slice()[..count];
+    let size = part_len(rt, count, loaded.len);
+    mix_cut(
+        rt,
+        cells,
+        loaded.gains.as_slice(),
+        loaded.sides.as_slice(),
+        size,
+        out,
+    );
+}
+
+/// The mix of a loaded stretch. The memory for the frames is asked for before any thread starts.
+pub fn mix_par(
+    rt: &(impl Threads + Sync),
+    alloc: Global,
+    loaded: &Loaded,
+) -> Result<Vec<Frame>, NoMemory>
+    requires { IsLoaded loaded.now }
+    ensures frames { IfOk result (λ v. v.items
+        ≡ map (frame_at (loaded_tracks loaded.now)) (counted_from 0 loaded.now.len)) }
+    ensures heard { (from : ℕ) (p : Project) → Shows from p loaded.now
+        → IfOk result (λ v. v.items ≡ map (frame_at p) (counted_from from loaded.now.len)) }
+{
+    let silence = Frame { left: 0, right: 0 };
+    let mut frames = vec![in alloc; silence; loaded.len]?;
+    mix_loaded(rt, loaded, frames.as_mut_slice());
+    Ok(frames)
+}
