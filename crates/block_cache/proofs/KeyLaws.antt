@@ -1,12 +1,12 @@
 -- Keys are compared by all of their fields.
 use Rattle.std.proofs.Common.{◌≡◌, Bool, true, false, refl, rules, arith, sym, List, [], ◌∷◌, Contains, length, ◌<◌}
-use Rattle.std.proofs.Common.{◌⊎◌, inl, inr, subst, ap, ◌∙◌, ⊎_elim, Option, Some, None}
+use Rattle.std.proofs.Common.{◌⊎◌, inl, inr, subst, ap, ◌∙◌, ◌++◌, append-nil, ⊎_elim, Option, Some, None}
 use Rattle.std.specs.Prelude.{◌≢◌, is_some, Result, Ok, Err, OnOk, OnErr}
 use Rattle.std.specs.Map.{lookup, lookup_entry, remove_entry, keys_of}
 use Rattle.std.specs.Option.{option_map_or}
-use Rattle.lru.specs.LruCache.{LruCache, promoted, put_entries}
-use Rattle.lru.proofs.Splits.{Contains-head, Contains-tail, Contains-cons, Contains-nil}
-use Rattle.lru.proofs.CallerLemmas.{Contains-lookup, Contains-promoted, Contains-put_entries}
+use Rattle.lru.specs.LruCache.{LruCache, demoted, promoted, put_entries}
+use Rattle.lru.proofs.Splits.{Contains-head, Contains-tail, Contains-cons, Contains-middle, Contains-nil, Contains-with}
+use Rattle.lru.proofs.CallerLemmas.{Contains-demoted, Contains-lookup, Contains-promoted, Contains-put_entries}
 use Rattle.block_cache.specs.declared.keys.PageKey.{PageKey}
 use Rattle.block_cache.specs.contracts.keys.PageKeyPartialEq.TheImpl.{eq-value}
 use Rattle.block_cache.specs.Entries.{HasKey, SameEntries}
@@ -72,6 +72,24 @@ module _ {V : Type 0} where
   promoted_same k es new e x = (
     λ has. Contains-promoted (same_key k) es x (subst (λ l. Contains l x) e has),
     λ has. subst (λ l. Contains l x) (sym e) (still_there k es (lookup_entry (same_key k) es) refl x has),
+  )
+
+  still_last : (k : PageKey) (es : List (PageKey × V)) (o : Option (PageKey × V)) → lookup_entry (same_key k) es ≡ o
+      → (e : PageKey × V) → Contains es e
+      → Contains (option_map_or (λ f. remove_entry (same_key k) es ++ f ∷ []) o es) e
+  still_last k es None found e has = has
+  still_last k es (Some f) found e has = ⊎_elim
+      (λ (same : f ≡ e). subst (Contains (remove_entry (same_key k) es ++ f ∷ [])) same
+      (Contains-middle (remove_entry (same_key k) es) f []))
+      (λ (r : Contains (remove_entry (same_key k) es) e). Contains-with (remove_entry (same_key k) es) f [] e
+      (subst (λ l. Contains l e) (sym (append-nil (remove_entry (same_key k) es))) r))
+      (first_or_rest k es f e found has)
+
+  -- a page that is moved to the end stays, and none comes
+  pub demoted_same : (k : PageKey) (es new : List (PageKey × V)) → new ≡ demoted (same_key k) es → SameEntries es new
+  demoted_same k es new e x = (
+    λ has. Contains-demoted (same_key k) es x (subst (λ l. Contains l x) e has),
+    λ has. subst (λ l. Contains l x) (sym e) (still_last k es (lookup_entry (same_key k) es) refl x has),
   )
 
   -- a page that is put is that one

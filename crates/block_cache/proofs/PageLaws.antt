@@ -50,6 +50,15 @@ pub page_header : (files : Files) (k : PageKey) (b : BlockRef) (page : ℕ) (xs 
 page_header files k b page xs key right =
     subst (λ (j : PageKey). HasHeader j.id j.len (bytes_of (files j.id))) key right.header
 
+-- a page of samples that is right ends within the file
+pub page_whole : (files : Files) (k : PageKey) (b : BlockRef) (from n : ℕ) (xs : List ℤ)
+    → k ≡ sample_key b (from / 4096) → IsSamplePage files k xs → from % 4096 + n ≤ length xs
+    → 16 + 2 * (from + n) ≤ length (bytes_of (files b.id))
+page_whole files k b from n xs key page le =
+    let right : IsSamplePage files (sample_key b (from / 4096)) xs = subst (λ (j : PageKey). IsSamplePage files j xs)
+    key page in
+    omega (arith, right.whole, le)
+
 -- what was read of a page is right
 pub page_read : (was now : Files) (b : BlockRef) (page start n : ℕ) (xs : List ℤ) → now ≡ was → start ≡ 4096 * page
     → HasHeader b.id b.len (bytes_of (was b.id)) → 16 + 2 * (start + n) ≤ length (bytes_of (now b.id))
@@ -160,3 +169,12 @@ frame_page_whole files l k b from fs key page size =
     let right : IsFramePage files l (frame_key l b (from / 256)) fs = subst (λ (j : PageKey). IsFramePage files l j
     fs) key page in
     omega (arith, right.whole, size)
+
+-- and so does each part of it
+pub frame_part_whole : (files : Files) (l : Level) (k : PageKey) (b : BlockRef) (from n : ℕ) (fs : List Summary)
+    → k ≡ frame_key l b (from / 256) → IsFramePage files l k fs → from % 256 + n ≤ length fs
+    → level_place l b.len + 12 * (from + n) ≤ length (bytes_of (files b.id))
+frame_part_whole files l k b from n fs key page le =
+    let right : IsFramePage files l (frame_key l b (from / 256)) fs = subst (λ (j : PageKey). IsFramePage files l j
+    fs) key page in
+    omega (arith, right.whole, le)

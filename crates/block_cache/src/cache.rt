@@ -9,7 +9,7 @@ ghost use Rattle.block_cache.specs.Pages.{IsPage, page_len};
 ghost use Rattle.block_cache.specs.Caches.{AllPass, IsBounded, IsCacheOf, IsCacheWithout, SameCache, no_entries};
 
 use super::keys::PageKey;
-use super::pages::{copy_page, drop_pages, keep_page};
+use super::pages::{copy_page, drop_pages, keep_page, release_page};
 use lru::LruCache;
 use pcm_base::NoMemory;
 use peak_summary::Summary;
@@ -17,8 +17,9 @@ use std::alloc::Global;
 use std::marker::Model;
 use std::num::NonZeroUsize;
 
-/// Pages of blocks that were read: so many of samples, as many of frames, and of as many blocks that their header was
-/// compared. A new one takes the place of the one that was used longest ago.
+/// Pages of blocks that were read: this many of samples, as many of frames, and of as many blocks that their header was
+/// compared. A new one takes the place of the one that was used longest ago. A page of samples that was read to its end
+/// goes before all others: who reads on does not ask for it again.
 ///
 /// Contracts see the entries as lists, and how many each may have.
 #[derive(Drop)]
@@ -119,6 +120,13 @@ impl Cache {
         ensures pages { self.new.pages ≡ self.old.pages }
     {
         keep_page(&mut self.samples, key, samples);
+    }
+
+    // Has a page of samples give its place before all others.
+    pub(crate) fn release_samples(&mut self, key: PageKey)
+        ensures { SameCache self.old self.new }
+    {
+        release_page(&mut self.samples, key);
     }
 
     // The same of frames.

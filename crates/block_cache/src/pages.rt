@@ -1,4 +1,4 @@
-// Pages of one kind of item, the one that was used last first.
+// Pages of one kind of item, in the order in which they give their places, the next one last.
 ghost use Rattle.std.specs.Prelude.{◌≡◌, ◌≢◌, ◌⊎◌, ◌+◌, ◌≤◌, None, IfSome, true, false, List, length, take, drop};
 ghost use Rattle.std.specs.Prelude.{Contains};
 ghost use Rattle.std.specs.Global.{Vec as vec_of};
@@ -50,6 +50,14 @@ pub(crate) fn keep_page<T: Copy + Drop>(
         return;
     }
     let _ = pages.put(key, page);
+}
+
+/// Has a page that is there give its place before all others.
+pub(crate) fn release_page<T: Copy + Drop>(pages: &mut LruCache<PageKey, Vec<T>>, key: PageKey)
+    ensures same { SameEntries pages.old.entries pages.new.entries }
+    ensures cap { pages.new.cap ≡ pages.old.cap }
+{
+    let _ = pages.demote(&key);
 }
 
 /// The first key of a page of a block.

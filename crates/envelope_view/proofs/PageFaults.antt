@@ -9,12 +9,6 @@ use Rattle.block_store.proofs.FaultLaws.{fault_on}
 use Rattle.block_store.proofs.FrameLaws.{frames_within}
 use Rattle.block_cache.specs.Pages.{page_end}
 
--- a page of samples
-pub samples_fault : (id len i : ℕ) (bytes : List ℕ) (why : BlockFault)
-    → IsReadFault id len (16 + 2 * page_end 4096 len i) bytes why → IsFault id len bytes why
-samples_fault id len i bytes why fault =
-    fault_on id len (16 + 2 * page_end 4096 len i) (size_of len) bytes why (omega arith) fault
-
 -- a page of frames
 pub frames_fault : (level : Level) (id len i : ℕ) (bytes : List ℕ) (why : BlockFault)
     → IsReadFault id len (level_place level len + 12 * page_end 256 (frame_count (frame_len level) len) i) bytes why

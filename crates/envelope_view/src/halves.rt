@@ -51,6 +51,7 @@ fn other_side<S: Store>(
     store: &mut S,
     cache: &mut Cache,
     block: BlockRef,
+    reach: u64,
     from: u32,
     to: u32,
     whole: Summary,
@@ -72,7 +73,7 @@ fn other_side<S: Store>(
 {
     match rest_of(whole, side) {
         Some(rest) => Ok(rest),
-        None => by_short(store, cache, block, from, to),
+        None => by_short(store, cache, block, reach, from, to),
     }
 }
 
@@ -81,6 +82,7 @@ fn sides<S: Store>(
     store: &mut S,
     cache: &mut Cache,
     block: BlockRef,
+    reach: u64,
     from: u32,
     edge: u32,
     to: u32,
@@ -103,12 +105,12 @@ fn sides<S: Store>(
     ensures faults { Counted result (S.read_fault_count store.old) (S.read_fault_count store.new) }
 {
     if edge - from <= to - edge {
-        let before = by_short(store, cache, block, from, edge)?;
-        let after = other_side(store, cache, block, edge, to, whole, before)?;
+        let before = by_short(store, cache, block, reach, from, edge)?;
+        let after = other_side(store, cache, block, reach, edge, to, whole, before)?;
         return Ok(Halves { before, after });
     }
-    let after = by_short(store, cache, block, edge, to)?;
-    let before = other_side(store, cache, block, from, edge, whole, after)?;
+    let after = by_short(store, cache, block, reach, edge, to)?;
+    let before = other_side(store, cache, block, reach, from, edge, whole, after)?;
     Ok(Halves { before, after })
 }
 
@@ -148,6 +150,7 @@ pub(crate) fn up_to_edge<S: Store>(
     store: &mut S,
     cache: &mut Cache,
     block: BlockRef,
+    reach: u64,
     from: u32,
     frame: u32,
     edge: u32,
@@ -170,12 +173,13 @@ pub(crate) fn up_to_edge<S: Store>(
     ensures faults { Counted result (S.read_fault_count store.old) (S.read_fault_count store.new) }
 {
     let first = from.div_ceil(LONG_FRAME);
-    let front = by_short(store, cache, block, from, LONG_FRAME * first)?;
+    let front = by_short(store, cache, block, reach, from, LONG_FRAME * first)?;
     let long = long_frames(store, cache, block, first, frame)?;
     let halves = sides(
         store,
         cache,
         block,
+        reach,
         LONG_FRAME * frame,
         edge,
         to,

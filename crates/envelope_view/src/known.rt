@@ -100,10 +100,10 @@ pub(crate) fn summarize_on<S: Store>(
     ensures faults { Counted result (S.read_fault_count store.old) (S.read_fault_count store.new) }
 {
     let Some(frame) = frame_at(block.len, from, to, reach) else {
-        return summarize(store, cache, block, from, to);
+        return summarize(store, cache, block, reach, from, to);
     };
     let stop = frame_stop(block.len, frame);
-    let halves = up_to_edge(store, cache, block, from, frame, to, stop)?;
+    let halves = up_to_edge(store, cache, block, reach, from, frame, to, stop)?;
     *known = Some(Known {
         block,
         from: to,

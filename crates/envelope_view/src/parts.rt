@@ -10,7 +10,8 @@ ghost use Rattle.block_cache.specs.Caches.{IsCacheOf, KeepsCache};
 ghost use Rattle.peak_summary.specs.Peaks.{joined, nothing, frame_count};
 ghost use Rattle.envelope_view.specs.Parts.{Summarizes};
 
-use block_cache::{Cache, read_frames_cached, read_samples_cached};
+use super::reads::{read_frames, read_samples};
+use block_cache::Cache;
 use block_store::{BlockFault, Level};
 use disk_model::Store;
 use pcm_base::BlockRef;
@@ -67,6 +68,7 @@ fn by_samples<S: Store>(
     store: &mut S,
     cache: &mut Cache,
     block: BlockRef,
+    reach: u64,
     from: u32,
     to: u32,
 ) -> Result<Summary, BlockFault>
@@ -87,7 +89,7 @@ fn by_samples<S: Store>(
     }
     let mut buf = [0i16; PIECE];
     let samples = &mut buf[..(to - from) as usize];
-    read_samples_cached(store, cache, block, from, samples)?;
+    read_samples(store, cache, block, reach, from, samples)?;
     Ok(of(samples))
 }
 
@@ -98,6 +100,7 @@ fn by_frames<S: Store>(
     store: &mut S,
     cache: &mut Cache,
     block: BlockRef,
+    reach: u64,
     level: Level,
     first: u32,
     end: u32,
@@ -117,7 +120,7 @@ fn by_frames<S: Store>(
 {
     let mut buf = [NOTHING; PIECE];
     let frames = &mut buf[..(end - first) as usize];
-    read_frames_cached(store, cache, block, level, first, frames)?;
+    read_frames(store, cache, block, reach, level, first, frames)?;
     Ok(join_all(frames))
 }
 
@@ -126,6 +129,7 @@ fn short_then_samples<S: Store>(
     store: &mut S,
     cache: &mut Cache,
     block: BlockRef,
+    reach: u64,
     first: u32,
     end: u32,
     to: u32,
@@ -146,9 +150,9 @@ fn short_then_samples<S: Store>(
     ensures kept { Kept S.Store store.old store.new }
     ensures faults { Counted result (S.read_fault_count store.old) (S.read_fault_count store.new) }
 {
-    let front = by_frames(store, cache, block, Level::Short, first, end)?;
+    let front = by_frames(store, cache, block, reach, Level::Short, first, end)?;
     let from = to.min(256 * end);
-    let back = by_samples(store, cache, block, from, to)?;
+    let back = by_samples(store, cache, block, reach, from, to)?;
     Ok(join(front, back))
 }
 
@@ -157,6 +161,7 @@ pub(crate) fn by_short<S: Store>(
     store: &mut S,
     cache: &mut Cache,
     block: BlockRef,
+    reach: u64,
     from: u32,
     to: u32,
 ) -> Result<Summary, BlockFault>
@@ -175,10 +180,10 @@ pub(crate) fn by_short<S: Store>(
     let first = from.div_ceil(256);
     let end = short_end(block.len, to);
     if first >= end {
-        return by_samples(store, cache, block, from, to);
+        return by_samples(store, cache, block, reach, from, to);
     }
-    let front = by_samples(store, cache, block, from, 256 * first)?;
-    let back = short_then_samples(store, cache, block, first, end, to)?;
+    let front = by_samples(store, cache, block, reach, from, 256 * first)?;
+    let back = short_then_samples(store, cache, block, reach, first, end, to)?;
     Ok(join(front, back))
 }
 
@@ -187,6 +192,7 @@ fn long_then_short<S: Store>(
     store: &mut S,
     cache: &mut Cache,
     block: BlockRef,
+    reach: u64,
     first: u32,
     end: u32,
     to: u32,
@@ -206,9 +212,9 @@ fn long_then_short<S: Store>(
     ensures kept { Kept S.Store store.old store.new }
     ensures faults { Counted result (S.read_fault_count store.old) (S.read_fault_count store.new) }
 {
-    let front = by_frames(store, cache, block, Level::Long, first, end)?;
+    let front = by_frames(store, cache, block, reach, Level::Long, first, end)?;
     let from = to.min(LONG_FRAME * end);
-    let back = by_short(store, cache, block, from, to)?;
+    let back = by_short(store, cache, block, reach, from, to)?;
     Ok(join(front, back))
 }
 
@@ -218,6 +224,7 @@ pub(crate) fn summarize<S: Store>(
     store: &mut S,
     cache: &mut Cache,
     block: BlockRef,
+    reach: u64,
     from: u32,
     to: u32,
 ) -> Result<Summary, BlockFault>
@@ -235,9 +242,9 @@ pub(crate) fn summarize<S: Store>(
     let first = from.div_ceil(LONG_FRAME);
     let end = long_end(block.len, to);
     if first >= end {
-        return by_short(store, cache, block, from, to);
+        return by_short(store, cache, block, reach, from, to);
     }
-    let front = by_short(store, cache, block, from, LONG_FRAME * first)?;
-    let back = long_then_short(store, cache, block, first, end, to)?;
+    let front = by_short(store, cache, block, reach, from, LONG_FRAME * first)?;
+    let back = long_then_short(store, cache, block, reach, first, end, to)?;
     Ok(join(front, back))
 }

@@ -63,8 +63,8 @@ fn scan_columns<S: Store>(
 }
 
 /// What a fresh scan finds of the cells of each of some columns of a range of a layout. It reads frames of blocks,
-/// and samples at the edges of columns alone, by whole pages, but for those that the cache has. It takes memory for the
-/// columns.
+/// and samples at the edges of columns alone, but for those that the cache has. Where columns are narrower than a page it
+/// reads the whole page and keeps it. It takes memory for the columns.
 ///
 /// # Errors
 ///

@@ -1,10 +1,11 @@
 -- Tracks of a point, one after another.
-use Rattle.std.proofs.Common.{◌≡◌, ℕ, zero, suc, ◌≤◌, ◌<◌, Bool, true, false, List, [], ◌∷◌, ◌++◌, length, take, drop}
-use Rattle.std.proofs.Common.{max, get_or, refl, sym, ap, ap₂, subst, ◌∙◌, arith}
-use Rattle.std.specs.Prelude.{Contains, if◌then◌else◌}
-use Rattle.std.proofs.lemmas.List.Elements.{Contains-append_left, Contains-append_right}
+use Rattle.std.proofs.Common.{◌≡◌, ℕ, zero, suc, ◌+◌, ◌≤◌, ◌<◌, Bool, true, false, List, [], ◌∷◌, ◌++◌, length, take}
+use Rattle.std.proofs.Common.{drop, max, cond, slice_get, length-append, Some, get_or, refl, sym, ap, ap₂, subst, ◌∙◌}
+use Rattle.std.proofs.Common.{arith}
+use Rattle.std.specs.Prelude.{Contains, not, if◌then◌else◌}
+use Rattle.std.proofs.lemmas.List.Elements.{Contains-append_left, Contains-append_right, filter-append}
 use Rattle.pcm_base.specs.declared.block.BlockRef.{BlockRef}
-use Rattle.std.proofs.lemmas.List.{length-take}
+use Rattle.std.proofs.lemmas.List.{append-nil, length-take}
 use borrow.Rule.Slice.PartMut.{put_mid}
 use lib.ListN.{set}
 use Rattle.disk_model.specs.Disk.{Files}
@@ -18,7 +19,8 @@ use Rattle.pcm_base.specs.Mix.{mix_length, mix_of, unmuted}
 use Rattle.clip_track.specs.Clips.{layout_cells}
 use Rattle.clip_track.specs.Clips.{layout_blocks}
 use Rattle.project_state.specs.declared.track.Track.{Track}
-use Rattle.project_state.specs.Kept.{meant, point_blocks}
+use Rattle.project_state.specs.Kept.{meant, meant_track, point_blocks}
+use Rattle.project_state.proofs.Parts.{take_some}
 use Rattle.block_store.specs.Reads.{IsFaultIn}
 use Rattle.sample_block.specs.Sources.{sources_of, AllNamed, AllWhole}
 use Rattle.cell_view.specs.Rests.{IsRestOf}
@@ -30,7 +32,7 @@ use Rattle.cell_view.proofs.StoredLaws.{stored_cells}
 use Rattle.mixdown.specs.Stretches.{IsStretch, AreStretches, gains_of, sides_of}
 use Rattle.mix_view.specs.declared.passes.TrackPass.{TrackPass}
 use Rattle.mix_view.specs.Readers.{AreRestsOf}
-use Rattle.mix_view.specs.Tracks.{stored_mix, track_gains, track_sides}
+use Rattle.mix_view.specs.Tracks.{heard_tracks, stored_mix, track_gains, track_sides}
 
 -- facts of the tracks that are left
 pub named_drop : (i : ℕ) (ts : List Track) → AllNamed (point_blocks ts) → AllNamed (point_blocks (drop i ts))
@@ -61,6 +63,12 @@ rests_set from (t ∷ ts) (p ∷ ps) zero d p' lt are is = (is, are.1)
 rests_set from (t ∷ ts) (p ∷ ps) (suc i) d p' lt are is =
     (are.0, rests_set from ts ps i d p' (omega (arith, lt)) are.1 is)
 
+-- there is one for each
+pub rests_few : (from : ℕ) (ts : List Track) (ps : List TrackPass) → AreRestsOf from ts ps → length ts ≤ length ps
+rests_few from [] ps are = omega arith
+rests_few from (t ∷ ts) [] are = absurd are
+rests_few from (t ∷ ts) (p ∷ ps) are = omega (arith, rests_few from ts ps are.1)
+
 pub rests_later : (from to : ℕ) (ts : List Track) (ps : List TrackPass) → from ≤ to → AreRestsOf from ts ps
     → AreRestsOf to ts ps
 rests_later from to [] ps le are = tt
@@ -81,7 +89,7 @@ pub blocks_at : (k : ℕ) (ts us : List Track) (t : Track) (b : BlockRef) → dr
 blocks_at k ts us t b e has = blocks_drop k ts b (subst (λ (vs : List Track). Contains (point_blocks vs) b) (sym e)
     (Contains-append_left (layout_blocks t.layout) (point_blocks us) b has))
 
--- a stretch is put before those of the tracks behind
+-- a stretch is put before those of the tracks after
 pub stretch_put : (from len a k : ℕ) (xs ys : List Cell) (t : cells.Track) (ts : cells.Project) → a ≤ length xs
     → length ys ≡ len → k ≡ len → IsStretch from len t ys
     → AreStretches from len ts (drop len (drop a xs)) → AreStretches from len (t ∷ ts) (drop a (put_mid a k xs ys))
@@ -128,3 +136,55 @@ stored_meant files (t ∷ ts) whole =
 pub stored_whole : (files : Files) (ts : List Track) → AllWhole files (point_blocks ts)
     → stored_mix files ts ≡ mix_of (meant (sources_of files) ts)
 stored_whole files ts whole = ap mix_of (stored_meant files ts whole)
+
+-- ---- the tracks that are heard
+
+pub heard_loud : (t : Track) (ts : List Track) → t.mute ≡ false → heard_tracks (t ∷ ts) ≡ t ∷ heard_tracks ts
+heard_loud t ts loud = ap (λ (m : Bool). cond (not m) (t ∷ heard_tracks ts) (heard_tracks ts)) loud
+
+pub heard_silent : (t : Track) (ts : List Track) → t.mute ≡ true → heard_tracks (t ∷ ts) ≡ heard_tracks ts
+heard_silent t ts silent = ap (λ (m : Bool). cond (not m) (t ∷ heard_tracks ts) (heard_tracks ts)) silent
+
+pub unmuted_loud : (src : Sources) (t : Track) (ts : cells.Project) → t.mute ≡ false
+    → unmuted (meant_track src t ∷ ts) ≡ meant_track src t ∷ unmuted ts
+unmuted_loud src t ts loud = ap (λ (m : Bool). cond (not m) (meant_track src t ∷ unmuted ts) (unmuted ts)) loud
+
+pub unmuted_silent : (src : Sources) (t : Track) (ts : cells.Project) → t.mute ≡ true
+    → unmuted (meant_track src t ∷ ts) ≡ unmuted ts
+unmuted_silent src t ts silent = ap (λ (m : Bool). cond (not m) (meant_track src t ∷ unmuted ts) (unmuted ts)) silent
+
+unmuted_first : (src : Sources) (t : Track) (ts : List Track) (m : Bool) → t.mute ≡ m
+    → unmuted (meant src ts) ≡ meant src (heard_tracks ts)
+    → unmuted (meant src (t ∷ ts)) ≡ meant src (heard_tracks (t ∷ ts))
+unmuted_first src t ts true e rest =
+    unmuted_silent src t (meant src ts) e ∙ rest ∙ sym (ap (meant src) (heard_silent t ts e))
+unmuted_first src t ts false e rest =
+    unmuted_loud src t (meant src ts) e ∙ ap (λ (us : cells.Project). meant_track src t ∷ us) rest
+    ∙ sym (ap (meant src) (heard_loud t ts e))
+
+pub unmuted_meant : (src : Sources) (ts : List Track) → unmuted (meant src ts) ≡ meant src (heard_tracks ts)
+unmuted_meant src [] = refl
+unmuted_meant src (t ∷ ts) = unmuted_first src t ts t.mute refl (unmuted_meant src ts)
+
+-- of the first tracks, with one more that is heard, and with one that is not
+pub heard_more : (ts : List Track) (i : ℕ) (t : Track) → slice_get ts i ≡ Some t → t.mute ≡ false
+    → heard_tracks (take (i + 1) ts) ≡ heard_tracks (take i ts) ++ t ∷ []
+heard_more ts i t e loud =
+    ap heard_tracks (take_some ts i t e) ∙ filter-append (λ (u : Track). not u.mute) (take i ts) (t ∷ [])
+    ∙ ap (λ (us : List Track). heard_tracks (take i ts) ++ us) (heard_loud t [] loud)
+
+pub heard_same : (ts : List Track) (i : ℕ) (t : Track) → slice_get ts i ≡ Some t → t.mute ≡ true
+    → heard_tracks (take (i + 1) ts) ≡ heard_tracks (take i ts)
+heard_same ts i t e silent =
+    ap heard_tracks (take_some ts i t e) ∙ filter-append (λ (u : Track). not u.mute) (take i ts) (t ∷ [])
+    ∙ ap (λ (us : List Track). heard_tracks (take i ts) ++ us) (heard_silent t [] silent)
+    ∙ append-nil (heard_tracks (take i ts))
+
+pub heard_count_more : (ts : List Track) (i : ℕ) (t : Track) → slice_get ts i ≡ Some t → t.mute ≡ false
+    → length (heard_tracks (take (i + 1) ts)) ≡ length (heard_tracks (take i ts)) + 1
+heard_count_more ts i t e loud =
+    ap length (heard_more ts i t e loud) ∙ length-append (heard_tracks (take i ts)) (t ∷ [])
+
+pub heard_count_same : (ts : List Track) (i : ℕ) (t : Track) → slice_get ts i ≡ Some t → t.mute ≡ true
+    → length (heard_tracks (take (i + 1) ts)) ≡ length (heard_tracks (take i ts))
+heard_count_same ts i t e silent = ap length (heard_same ts i t e silent)

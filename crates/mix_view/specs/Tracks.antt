@@ -1,5 +1,5 @@
 -- Tracks of a point, as they are heard.
-use Rattle.std.specs.Prelude.{ℕ, List, [], ◌∷◌, map, max, if◌then◌else◌}
+use Rattle.std.specs.Prelude.{ℕ, List, [], ◌∷◌, map, max, filter, not, if◌then◌else◌}
 use Rattle.disk_model.specs.Disk.{Files}
 use Rattle.pcm_base.specs.declared.sound.Frame.{Frame}
 use Rattle.pcm_base.specs.declared.sound.Side.{Side}
@@ -8,6 +8,10 @@ use Rattle.clip_track.specs.Clips.{end_of}
 use Rattle.project_state.specs.declared.track.Track.{Track}
 use Rattle.project_state.specs.Kept.{meant}
 use Rattle.cell_view.specs.Stored.{stored_of}
+
+-- the tracks that are heard
+abbrev pub heard_tracks : List Track → List Track
+heard_tracks ts = filter (λ t. not t.mute) ts
 
 -- how many cells are heard of a track
 abbrev pub heard_length : Track → ℕ

@@ -22,7 +22,7 @@ use disk_model::Store;
 use pcm_base::{Cell, Frame};
 use project_state::Point;
 
-/// How long a stretch of each track may be.
+/// How long a stretch of each track that is heard may be.
 fn stretch_room(cells: usize, tracks: usize) -> usize
     requires fits { tracks ≤ cells }
     requires some { 0 < cells }
@@ -32,7 +32,8 @@ fn stretch_room(cells: usize, tracks: usize) -> usize
     if tracks == 0 { cells } else { cells / tracks }
 }
 
-/// Mixes the next frames of a reader, a stretch of each track at a time, each as long as the buffer has room for.
+/// Mixes the next frames of a reader, a stretch of each track that is heard at a time, each as long as the buffer has
+/// room for.
 pub(crate) fn mix_stretches<'a, S: Store>(
     store: &mut S,
     cache: &mut Cache,
@@ -58,7 +59,7 @@ pub(crate) fn mix_stretches<'a, S: Store>(
     ensures kept { Kept S.Store store.old store.new }
     ensures faults { Counted result (S.read_fault_count store.old) (S.read_fault_count store.new) }
 {
-    let tracks = reader.point.len();
+    let tracks = reader.heard.count;
     let most = stretch_room(cells.len(), tracks);
     let mut done = 0;
     'stretches: while done < out.len() {
@@ -80,8 +81,8 @@ pub(crate) fn mix_stretches<'a, S: Store>(
 
 /// Reads the frames of the mix of a point's tracks from a place on, as many as there are and as `out` has room for, and
 /// answers how many. A buffer is handed in, of at least one cell for each track that a project may have: the more cells
-/// it has, the longer are the stretches that are read of each track. After an error `out` may have been written in
-/// part.
+/// it has for a track that is heard, the longer are the stretches that are read of each of them. After an error `out`
+/// may have been written in part.
 pub fn read_frames<S: Store>(
     store: &mut S,
     cache: &mut Cache,

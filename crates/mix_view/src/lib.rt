@@ -7,11 +7,13 @@
 #![tactic(auto)]
 
 mod frames;
+mod loads;
 mod passes;
 mod reader;
 mod stretches;
 mod tracks;
 
 pub use frames::read_frames;
+pub use loads::{LoadFault, load_stretch};
 pub use reader::MixReader;
 pub use tracks::mix_len;

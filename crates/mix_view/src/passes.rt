@@ -1,5 +1,5 @@
 // A pass over one track, a stretch at a time.
-ghost use Rattle.std.specs.Prelude.{◌<◌, ◌+◌, ◌^◌, length, IsTrue, OnOk, IfErr};
+ghost use Rattle.std.specs.Prelude.{◌≡◌, ◌<◌, ◌+◌, ◌^◌, false, length, IsTrue, OnOk, IfErr};
 ghost use Rattle.disk_model.specs.Frames.{Kept};
 ghost use Rattle.block_store.specs.Reads.{Counted, IsFaultIn};
 ghost use Rattle.clip_track.specs.Clips.{layout_blocks};
@@ -13,7 +13,7 @@ ghost use Rattle.mix_view.specs.Readers.{AreRestsOf};
 
 use block_cache::Cache;
 use block_store::BlockFault;
-use cell_view::{TrackRest, fill_gaps, no_rest, pass, read_ahead, rest_at};
+use cell_view::{TrackRest, no_rest, pass, read_ahead, rest_at};
 use disk_model::Store;
 use pcm_base::{Cell, MAX_TRACKS};
 use project_state::{Point, Track};
@@ -40,7 +40,7 @@ pub(crate) fn passes_from<'a>(point: &'a Point, from: u64) -> [TrackPass<'a>; MA
     out
 }
 
-/// Reads the cells that are heard of a track from a place on: gaps, where it is muted.
+/// Reads the cells of a track that is heard, from a place on.
 pub(crate) fn read_track<'a, S: Store>(
     store: &mut S,
     cache: &mut Cache,
@@ -49,6 +49,7 @@ pub(crate) fn read_track<'a, S: Store>(
     from: u64,
     out: &mut [Cell],
 ) -> Result<(), BlockFault>
+    requires heard { track.now.mute ≡ false }
     requires rest { IsRestOf from track.now.layout left.old.rest }
     requires cached { IsTrue (S.tells store.old) → IsCacheOf (S.reads store.old) cache.old }
     requires few { from + length out.old < 2 ^ 64 }
@@ -62,10 +63,6 @@ pub(crate) fn read_track<'a, S: Store>(
     ensures kept { Kept S.Store store.old store.new }
     ensures faults { Counted result (S.read_fault_count store.old) (S.read_fault_count store.new) }
 {
-    if track.mute {
-        fill_gaps(out);
-        return Ok(());
-    }
     let rest = pass(left.rest, from);
     left.rest = rest;
     read_ahead(store, cache, &track.layout, &rest, from, out)

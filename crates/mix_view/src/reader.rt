@@ -13,11 +13,11 @@ ghost use Rattle.mix_view.specs.Tracks.{mix_length_of, stored_mix};
 
 use super::frames::mix_stretches;
 use super::passes::{TrackPass, passes_from};
-use super::tracks::{gains_of, mix_len, sides_of};
+use super::tracks::{Heard, heard_of, mix_len};
 use block_cache::Cache;
 use block_store::BlockFault;
 use disk_model::Store;
-use pcm_base::{Cell, Frame, MAX_TRACKS, Side};
+use pcm_base::{Cell, Frame, MAX_TRACKS};
 use project_state::Point;
 
 /// A pass over the mix of a project's tracks, from a place on. It lasts over several reads, each of which goes on where
@@ -28,9 +28,9 @@ pub struct MixReader<'a> {
     pub point: &'a Point,
     /// Where the next frame stands.
     pub at: u64,
+    /// Of the tracks that are heard, in their order.
+    pub(crate) heard: Heard,
     /// Of each track, at its place in the project.
-    pub(crate) gains: [u32; MAX_TRACKS],
-    pub(crate) sides: [Side; MAX_TRACKS],
     pub(crate) passes: [TrackPass<'a>; MAX_TRACKS],
 }
 
@@ -45,17 +45,15 @@ impl<'a> MixReader<'a> {
         MixReader {
             point,
             at: from,
-            gains: gains_of(point),
-            sides: sides_of(point),
+            heard: heard_of(point),
             passes: passes_from(point, from),
         }
     }
 
     /// Reads the next frames of the mix, as many as are left and as `out` has room for, and answers how many. A buffer
-    /// is handed in, of at least one cell for each track that a project may have: the more cells it has, the longer are
-    /// the stretches that are read of each track. After an error `out` may have been written in part, and the reader
-    /// may have gone on over a part of the
-    /// frames.
+    /// is handed in, of at least one cell for each track that a project may have: the more cells it has for a track
+    /// that is heard, the longer are the stretches that are read of each of them. After an error `out` may have been
+    /// written in part, and the reader may have gone on over a part of the frames.
     pub fn read<S: Store>(
         &mut self,
         store: &mut S,

@@ -1,11 +1,12 @@
 // The tracks of a point, as they are heard.
-ghost use Rattle.std.specs.Prelude.{◌≡◌, ◌≤◌, length, take, if◌then◌else◌};
+ghost use Rattle.std.specs.Prelude.{◌≡◌, ◌≤◌, length, if◌then◌else◌};
 ghost use Rattle.pcm_base.specs.declared.limits.TheConstants.{MAX_CELLS};
 ghost use Rattle.clip_track.specs.Clips.{layout_cells};
 ghost use Rattle.pcm_base.specs.Mix.{mix_length};
 ghost use Rattle.pcm_base.specs.Pieces.{Sources};
 ghost use Rattle.project_state.specs.Kept.{meant};
-ghost use Rattle.mix_view.specs.Tracks.{heard_length, mix_length_of, track_gains, track_sides};
+ghost use Rattle.mix_view.specs.Readers.{AreHeard};
+ghost use Rattle.mix_view.specs.Tracks.{heard_length, mix_length_of};
 
 use pcm_base::{MAX_TRACKS, Side};
 use project_state::{Point, Track};
@@ -33,24 +34,33 @@ pub fn mix_len(point: &Point) -> u64
     len
 }
 
-/// The tracks' gains, and others after them.
-pub(crate) fn gains_of(point: &Point) -> [u32; MAX_TRACKS]
-    ensures { take (length point.now) result ≡ track_gains point.now }
-{
-    let mut out = [0; MAX_TRACKS];
-    'rows: for i in 0..point.len() {
-        out[i] = point.track_at(i).gain;
-    }
-    out
+/// How many tracks are heard, and of each its gain and its side, with others after them.
+#[derive(Clone, Copy)]
+pub(crate) struct Heard {
+    pub(crate) count: usize,
+    pub(crate) gains: [u32; MAX_TRACKS],
+    pub(crate) sides: [Side; MAX_TRACKS],
 }
 
-/// The sides on which they are heard, and others after them.
-pub(crate) fn sides_of(point: &Point) -> [Side; MAX_TRACKS]
-    ensures { take (length point.now) result ≡ track_sides point.now }
+/// The tracks of a point that are heard.
+pub(crate) fn heard_of(point: &Point) -> Heard
+    ensures { AreHeard point.now result }
 {
-    let mut out = [Side::Both; MAX_TRACKS];
+    let mut count = 0;
+    let mut gains = [0; MAX_TRACKS];
+    let mut sides = [Side::Both; MAX_TRACKS];
     'rows: for i in 0..point.len() {
-        out[i] = point.track_at(i).side;
+        let track = point.track_at(i);
+        if track.mute {
+            continue;
+        }
+        gains[count] = track.gain;
+        sides[count] = track.side;
+        count += 1;
     }
-    out
+    Heard {
+        count,
+        gains,
+        sides,
+    }
 }

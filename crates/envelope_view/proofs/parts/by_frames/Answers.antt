@@ -4,7 +4,6 @@ use Rattle.std.proofs.lemmas.Result.{err_from_is_err_and}
 use Rattle.std.proofs.lemmas.Grind.{common_steps}
 use Rattle.block_store.specs.Reads.{frame_len}
 use Rattle.peak_summary.specs.Peaks.{frame_count}
-use Rattle.envelope_view.proofs.PageFaults.{frames_fault}
 use Rattle.envelope_view.proofs.SumLaws.{frames_read, block_samples_fit, block_samples_few}
 use Rattle.envelope_view.proofs.parts.by_frames.Goals as goal
 
@@ -13,12 +12,12 @@ returns-clause-read g c = λ told xs e len.
     let files = g.S.Store.reads c.args.store.now in
     let n : ℕ = frame_len c.args.level in
     let W : ℕ → Type 0 = λ k. c.args.end ≤ frame_count n k in
-    frames_read n c.args.first c.args.end _ xs c.join_all.result c.read_frames_cached.new.out
+    frames_read n c.args.first c.args.end _ xs c.join_all.result c.read_frames.new.out
     (block_samples_fit files c.args.block.id xs e) (block_samples_few files c.args.block.id xs e)
     c.requires.rising (subst W (sym len) c.requires.within) c.join_all.ensures
-    (c.in_ok-read_frames_cached.ensures.read xs told e len) (grind (arith, common_steps))
+    (c.in_ok-read_frames.ensures.read xs told e len) (grind (arith, common_steps))
 
-pub returns-in_err-read_frames_cached-clause-damaged : goal.returns-in_err-read_frames_cached-clause-damaged
-returns-in_err-read_frames_cached-clause-damaged g c = λ told.
+pub returns-in_err-read_frames-clause-damaged : goal.returns-in_err-read_frames-clause-damaged
+returns-in_err-read_frames-clause-damaged g c = λ told.
     let p = err_from_is_err_and c.from_residual.result c.from_residual.ensures.1 in
-    rw (p.1, p.2) (frames_fault c.args.level _ _ _ _ _ (c.in_err-read_frames_cached.ensures.damaged told))
+    rw (p.1, p.2) (c.in_err-read_frames.ensures.damaged told)

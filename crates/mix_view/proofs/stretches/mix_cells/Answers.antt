@@ -1,14 +1,15 @@
--- The stretches are those of what the tracks mean.
-use Rattle.std.proofs.Common.{sym, ap, ◌∙◌, take}
+-- The stretches are those of what the tracks that are heard mean.
+use Rattle.std.proofs.Common.{sym, ap, ◌∙◌}
 use Rattle.project_state.specs.Kept.{meant}
-use Rattle.mix_view.proofs.TrackLaws.{gains_meant, sides_meant}
+use Rattle.mixdown.specs.Stretches.{gains_of, sides_of}
+use Rattle.mix_view.specs.Tracks.{heard_tracks}
+use Rattle.mix_view.proofs.TrackLaws.{gains_meant, sides_meant, unmuted_meant}
 use Rattle.mix_view.proofs.stretches.mix_cells.Goals as goal
 
 pub returns : goal.returns
 returns c = λ src from are.
-    let r = c.args.reader.now in
-    let ts = r.point.now in
-    let all = c.len-tracks.ensures.value in
-    c.mix_into.ensures.project from (meant src ts)
-    (ap (λ n. take n r.gains) all ∙ c.requires.gains ∙ sym (gains_meant src ts))
-    (ap (λ n. take n r.sides) all ∙ c.requires.sides ∙ sym (sides_meant src ts)) are
+    let ts = c.args.reader.now.point.now in
+    let h = c.requires.heard in
+    c.mix_into.ensures.heard from (meant src ts)
+    (h.gains ∙ sym (ap gains_of (unmuted_meant src ts) ∙ gains_meant src (heard_tracks ts)))
+    (h.sides ∙ sym (ap sides_of (unmuted_meant src ts) ∙ sides_meant src (heard_tracks ts))) are

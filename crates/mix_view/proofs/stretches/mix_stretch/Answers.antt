@@ -1,7 +1,7 @@
 -- The stretches are mixed.
 use Rattle.std.proofs.Common.{◌+◌, length, arith}
 use Rattle.cell_view.specs.Stored.{stored_of}
-use Rattle.mix_view.proofs.TrackLaws.{rests_later}
+use Rattle.mix_view.proofs.TrackLaws.{rests_few, rests_later}
 use Rattle.mix_view.proofs.stretches.mix_stretch.Goals as goal
 
 pub returns-clause-stored : goal.returns-clause-stored
@@ -13,8 +13,12 @@ pub returns-clause-reader : goal.returns-clause-reader
 returns-clause-reader g c =
     let r = c.args.reader.now in
     record {
-      gains = c.requires.reader.gains;
-      sides = c.requires.reader.sides;
+      heard = c.requires.reader.heard;
       rests = rests_later r.at (r.at + length c.mix_cells.new.out) r.point.now c.read_stretches.new.passes
           (omega arith) c.read_stretches.ensures.rests;
     }
+
+pub read_stretches-requires-clause-tracks : goal.read_stretches-requires-clause-tracks
+read_stretches-requires-clause-tracks g c =
+    let r = c.args.reader.now in
+    rests_few r.at r.point.now r.passes c.requires.reader.rests

@@ -1,14 +1,15 @@
 -- One track more is read, from the last to the first.
-use Rattle.std.proofs.Common.{◌≡◌, ℕ, ◌+◌, ◌-◌, ◌*◌, ◌≤◌, ◌<◌, Bool, List, ◌∷◌, length, take, drop, get_or, refl, sym}
-use Rattle.std.proofs.Common.{ap, subst, ◌∙◌, arith, length-drop}
+use Rattle.std.proofs.Common.{◌≡◌, ℕ, ◌+◌, ◌-◌, ◌*◌, ◌≤◌, ◌<◌, List, ◌∷◌, length, take, drop, get_or, refl, sym}
+use Rattle.std.proofs.Common.{ap, subst, ◌∙◌, arith, length-drop, slice_get, Some, Bool, false}
 use Rattle.std.specs.Prelude.{IsTrue}
-use Rattle.std.proofs.Math.Nat.{mul-le-mul_right}
-use Rattle.std.proofs.lemmas.List.{drop_all, drop-drop, length-take}
+use Rattle.std.proofs.lemmas.List.{drop_all, drop-drop, length-take, take_all}
 use Rattle.std.proofs.lemmas.Option.{get_or_from_slice_get}
 use borrow.Rule.Slice.PartMut.{put_mid}
 use Rattle.disk_model.specs.Disk.{Files}
 use Rattle.disk_model.proofs.Frames.{kept_none, kept_turn}
 use Rattle.pcm_base.specs.declared.sound.Cell.{Cell}
+use Rattle.pcm_base.specs.Cells.{Project}
+use Rattle.pcm_base.specs.Mix.{unmuted}
 use Rattle.clip_track.specs.Clips.{layout_blocks}
 use Rattle.project_state.specs.declared.track.Track.{Track}
 use Rattle.project_state.proofs.Parts.{drop_some}
@@ -20,16 +21,32 @@ use Rattle.mix_view.specs.declared.passes.TrackPass.{TrackPass}
 use Rattle.cell_view.specs.Rests.{IsRestOf}
 use Rattle.cell_view.proofs.SeenLaws.{fault_first}
 use Rattle.mixdown.specs.Stretches.{IsStretch, AreStretches}
+use Rattle.mix_view.specs.Tracks.{heard_tracks}
 use Rattle.mix_view.proofs.TrackLaws.{blocks_at, rests_at, rests_set, fault_drop, stretch_put}
+use Rattle.mix_view.proofs.TrackLaws.{heard_count_more, heard_count_same, unmuted_loud, unmuted_silent}
 use Rattle.mix_view.proofs.stretches.read_stretches.Goals as goal
+
+-- where the stretch of a track that is heard begins, and where it ends
+track_place : (ts : List Track) (i k at len : ℕ) (t : Track) → slice_get ts k ≡ Some t → t.mute ≡ false → k + 1 ≡ i
+    → at ≡ length (heard_tracks (take i ts)) * len → at ≡ length (heard_tracks (take k ts)) * len + len
+track_place ts i k at len t e loud next place =
+    let count : ℕ = length (heard_tracks (take k ts)) in
+    let more : (count + 1) * len ≡ count * len + len = omega arith in
+    place ∙ ap (λ (n : ℕ). length (heard_tracks (take n ts)) * len) (sym next)
+    ∙ ap (λ (n : ℕ). n * len) (heard_count_more ts k t e loud) ∙ more
 
 pub rows-init : goal.rows-init
 rows-init g c =
     let P : List Track
-    → Type 0 = λ ts. AreStretches c.args.from c.args.len (meant (stored_of (g.S.Store.reads c.args.store.now)) ts)
-    (drop (c.len-i.result * c.args.len) c.args.cells.now) in
+    → Type 0 = λ ts. AreStretches c.args.from c.args.len
+    (unmuted (meant (stored_of (g.S.Store.reads c.args.store.now)) ts))
+    (drop (length c.args.cells.now) c.args.cells.now) in
     record {
       within = omega (arith, c.len-i.ensures.value);
+      place = c.requires.room
+          ∙ ap (λ (ts : List Track). length (heard_tracks ts) * c.args.len)
+          (sym (take_all c.len-i.result c.args.point.now (omega (arith, c.len-i.ensures.value))));
+      fits = omega arith;
       rests = c.requires.rests;
       cache = keeps_same _ _ _ _ _ (same_none _);
       kept = kept_none _ (g.met.S.Store.may_fewer _);
@@ -38,31 +55,23 @@ rows-init g c =
           λ told. subst P (sym (drop_all c.len-i.result c.args.point.now (omega (arith, c.len-i.ensures.value)))) tt;
     }
 
-pub overflow_mul-at : goal.overflow_mul-at
-overflow_mul-at g c =
-    let rows : (c.rows.i - 1 + 1) * c.args.len ≤ length c.args.point.now * c.args.len =
-    mul-le-mul_right c.args.len (omega (arith, c.rows.invariant.within, c.rows-test.true)) in
-    omega (arith, rows, c.rows.auto.cells, c.requires.room)
-
-pub overflow_add-at : goal.overflow_add-at
-overflow_add-at g c =
-    let rows : (c.rows.i - 1 + 1) * c.args.len ≤ length c.args.point.now * c.args.len =
-    mul-le-mul_right c.args.len (omega (arith, c.rows.invariant.within, c.rows-test.true)) in
-    omega (arith, rows, c.rows.auto.cells, c.requires.room)
-
-pub offset_bounds-cells-at : goal.offset_bounds-cells-at
-offset_bounds-cells-at g c =
-    let rows : (c.rows.i - 1 + 1) * c.args.len ≤ length c.args.point.now * c.args.len =
-    mul-le-mul_right c.args.len (omega (arith, c.rows.invariant.within, c.rows-test.true)) in
-    omega (arith, rows, c.rows.auto.cells, c.requires.room)
+pub overflow_sub-at : goal.overflow_sub-at
+overflow_sub-at g c =
+    let k = c.rows.i - 1 in
+    let next : k + 1 ≡ c.rows.i = omega (arith, c.rows-test.true) in
+    omega (
+      arith,
+      track_place c.args.point.now c.rows.i k c.rows.at c.args.len c.track_at-track.result.now
+          c.track_at-track.ensures c.if-track.false next c.rows.invariant.place,
+    )
 
 pub slice_bounds-read_track-end : goal.slice_bounds-read_track-end
 slice_bounds-read_track-end g c =
-    let rows : (c.rows.i - 1 + 1) * c.args.len ≤ length c.args.point.now * c.args.len =
-    mul-le-mul_right c.args.len (omega (arith, c.rows.invariant.within, c.rows-test.true)) in
-    let long = c.rows.auto.cells in
-    let room = c.requires.room in
-    grind arith
+    let k = c.rows.i - 1 in
+    let next : k + 1 ≡ c.rows.i = omega (arith, c.rows-test.true) in
+    let place = track_place c.args.point.now c.rows.i k c.rows.at c.args.len c.track_at-track.result.now
+    c.track_at-track.ensures c.if-track.false next c.rows.invariant.place in
+    omega (arith, place, c.rows.invariant.fits)
 
 pub read_track-requires-clause-rest : goal.read_track-requires-clause-rest
 read_track-requires-clause-rest g c =
@@ -122,25 +131,24 @@ rows-preserved g c =
     let ts : List Track = c.args.point.now in
     let k = c.rows.i - 1 in
     let len = c.args.len in
+    let at : ℕ = c.rows.at - len in
     let t : Track = c.track_at-track.result.now in
     let inv = c.rows.invariant in
+    let loud = c.if-track.false in
     let files : Files = g.S.Store.reads c.args.store.now in
     let below : k < length ts = omega (arith, inv.within, c.rows-test.true) in
     let next : k + 1 ≡ c.rows.i = omega (arith, c.rows-test.true) in
     let e : drop k ts ≡ t ∷ drop c.rows.i ts =
     drop_some ts k t c.track_at-track.ensures ∙ ap (λ n. t ∷ drop n ts) next in
-    let rows : (k + 1) * len ≤ length ts * len = mul-le-mul_right len (omega (arith, below)) in
-    let fits : k * len + len ≤ length c.rows.cells = omega (arith, rows, c.rows.auto.cells, c.requires.room) in
-    let size : length (take (k * len + len - k * len) (drop (k * len) c.rows.cells)) ≡ len =
-    omega (
-      arith,
-      length-take (k * len + len - k * len) (drop (k * len) c.rows.cells),
-      length-drop (k * len) c.rows.cells,
-      fits,
-    ) in
+    let place = track_place ts c.rows.i k c.rows.at len t c.track_at-track.ensures loud next inv.place in
+    let fits : at + len ≤ length c.rows.cells = omega (arith, place, inv.fits) in
+    let size : length (take (at + len - at) (drop at c.rows.cells)) ≡ len =
+    omega (arith, length-take (at + len - at) (drop at c.rows.cells), length-drop at c.rows.cells, fits) in
     let I : Track → Type 0 = λ u. IsRestOf c.args.from u.layout c.read_track.new.left.rest in
     record {
       within = omega (arith, below);
+      place = omega (arith, place);
+      fits = omega (arith, fits);
       rests = rests_set c.args.from ts c.rows.passes k t c.read_track.new.left below inv.rests
           (subst I (sym (get_or_from_slice_get ts k t t c.track_at-track.ensures)) c.read_track.ensures.rest);
       cache = keeps_turn _ _ _ _ _ _ inv.cache (keeps_before c.args.store.now c.rows.store _ _ _ inv.kept
@@ -153,30 +161,60 @@ rows-preserved g c =
           let still : IsTrue (g.S.Store.tells c.rows.store) =
           subst (λ (b : Bool). IsTrue b) (sym inv.kept.same_tells) told in
           let P : Files → Type 0 =
-          λ f. IsStretch c.args.from (length (take (k * len + len - k * len) (drop (k * len) c.rows.cells)))
+          λ f. IsStretch c.args.from (length (take (at + len - at) (drop at c.rows.cells)))
           (meant_track (stored_of f) t) c.read_track.new.out in
           let one = subst P inv.kept.same_reads (c.in_default.ensures.stored still) in
           let Q : ℕ → Type 0 = λ n. IsStretch c.args.from n (meant_track (stored_of files) t) c.read_track.new.out in
-          let from : drop (c.rows.i * len) c.rows.cells ≡ drop len (drop (k * len) c.rows.cells) =
-          (let place : c.rows.i * len ≡ k * len + len = omega (arith, ap (λ n. n * len) next) in
-          ap (λ n. drop n c.rows.cells) place ∙ sym (drop-drop len (k * len) c.rows.cells)) in
-          let R : List Cell → Type 0 =
-          λ cs. AreStretches c.args.from len (meant (stored_of files) (drop c.rows.i ts)) cs in
-          let all = stretch_put c.args.from len (k * len) (k * len + len - k * len) c.rows.cells c.read_track.new.out
-          (meant_track (stored_of files) t) (meant (stored_of files) (drop c.rows.i ts))
+          let from : drop c.rows.at c.rows.cells ≡ drop len (drop at c.rows.cells) =
+          (let start : c.rows.at ≡ at + len = omega (arith, place) in
+          ap (λ n. drop n c.rows.cells) start ∙ sym (drop-drop len at c.rows.cells)) in
+          let rest : Project = unmuted (meant (stored_of files) (drop c.rows.i ts)) in
+          let R : List Cell → Type 0 = λ cs. AreStretches c.args.from len rest cs in
+          let all = stretch_put c.args.from len at (at + len - at) c.rows.cells c.read_track.new.out
+          (meant_track (stored_of files) t) rest
           (omega (arith, fits)) (omega (arith, c.read_track.auto.out, size)) (omega arith) (subst Q size one)
           (subst R from (inv.stored told)) in
-          let S : List Track → Type 0 = λ us. AreStretches c.args.from len (meant (stored_of files) us)
-          (drop (k * len) (put_mid (k * len) (k * len + len - k * len) c.rows.cells c.read_track.new.out)) in
-          subst S (sym e) all;
+          let S : Project → Type 0 = λ p. AreStretches c.args.from len p
+          (drop at (put_mid at (at + len - at) c.rows.cells c.read_track.new.out)) in
+          subst S (sym (ap (λ us. unmuted (meant (stored_of files) us)) e
+          ∙ unmuted_loud (stored_of files) t (meant (stored_of files) (drop c.rows.i ts)) loud)) all;
+    }
+
+pub rows-preserved-then-track : goal.rows-preserved-then-track
+rows-preserved-then-track g c =
+    let ts : List Track = c.args.point.now in
+    let k = c.rows.i - 1 in
+    let t : Track = c.track_at-track.result.now in
+    let inv = c.rows.invariant in
+    let silent = c.if-track.true in
+    let files : Files = g.S.Store.reads c.args.store.now in
+    let next : k + 1 ≡ c.rows.i = omega (arith, c.rows-test.true) in
+    let e : drop k ts ≡ t ∷ drop c.rows.i ts =
+    drop_some ts k t c.track_at-track.ensures ∙ ap (λ n. t ∷ drop n ts) next in
+    let S : Project → Type 0 = λ p. AreStretches c.args.from c.args.len p (drop c.rows.at c.rows.cells) in
+    record {
+      within = omega (arith, inv.within);
+      place = inv.place ∙ ap (λ (n : ℕ). length (heard_tracks (take n ts)) * c.args.len) (sym next)
+          ∙ ap (λ (n : ℕ). n * c.args.len) (heard_count_same ts k t c.track_at-track.ensures silent);
+      fits = inv.fits;
+      rests = inv.rests;
+      cache = inv.cache;
+      kept = inv.kept;
+      count = inv.count;
+      stored = λ told. subst S (sym (ap (λ us. unmuted (meant (stored_of files) us)) e
+          ∙ unmuted_silent (stored_of files) t (meant (stored_of files) (drop c.rows.i ts)) silent)) (inv.stored told);
     }
 
 pub returns-clause-stored : goal.returns-clause-stored
 returns-clause-stored g c = λ told.
     let none : c.rows.i ≡ 0 = omega arith in
-    let start : c.rows.i * c.args.len ≡ 0 = omega (arith, ap (λ n. n * c.args.len) none) in
-    let P : ℕ → Type 0 = λ n. AreStretches c.args.from c.args.len (meant (stored_of (g.S.Store.reads c.args.store.now))
-    (drop n c.args.point.now)) (drop (c.rows.i * c.args.len) c.rows.cells) in
+    let first : length (heard_tracks (take c.rows.i c.args.point.now)) ≡ 0 =
+    ap (λ (n : ℕ). length (heard_tracks (take n c.args.point.now))) none in
+    let start : c.rows.at ≡ 0 =
+    omega (arith, c.rows.invariant.place, ap (λ (n : ℕ). n * c.args.len) first) in
+    let P : ℕ → Type 0 = λ n. AreStretches c.args.from c.args.len
+    (unmuted (meant (stored_of (g.S.Store.reads c.args.store.now)) (drop n c.args.point.now)))
+    (drop c.rows.at c.rows.cells) in
     let Q : ℕ → Type 0 = λ n. AreStretches c.args.from c.args.len
-    (meant (stored_of (g.S.Store.reads c.args.store.now)) c.args.point.now) (drop n c.rows.cells) in
+    (unmuted (meant (stored_of (g.S.Store.reads c.args.store.now)) c.args.point.now)) (drop n c.rows.cells) in
     subst Q start (subst P none (c.rows.invariant.stored told))

@@ -1,0 +1,28 @@
+-- The samples so far are those of the file, and nothing of the disk has changed.
+use Rattle.std.proofs.Common.{◌≡◌, ◌<◌, ◌≤◌, ◌+◌, ◌*◌, ◌-◌, take, length, [], ◌∷◌}
+use Rattle.std.specs.Prelude.{IsTrue}
+use Rattle.disk_model.specs.Disk.{bytes_of}
+use Rattle.disk_model.specs.Frames.{Kept}
+use Rattle.sample_block.specs.Faults.{samples_in}
+use Rattle.block_store.specs.Reads.{HasHeader}
+use Rattle.block_cache.specs.Caches.{HasSamples, KeepsCache, SameCache}
+use Rattle.block_cache.proofs.samples_once.read_parts.Given as goal
+
+abbrev pub invariant-pages : goal.invariant-pages
+invariant-pages g l = record {
+  within : l.done ≤ length l.out;
+  kept : Kept g.S.Store l.fn.store l.store;
+  count : g.S.Store.read_fault_count l.store ≡ g.S.Store.read_fault_count l.fn.store;
+  cache : KeepsCache (g.S.Store.tells l.fn.store) (g.S.Store.reads l.fn.store) (l.block ∷ []) l.fn.cache l.cache;
+  hit : HasSamples l.fn.cache l.block l.from (length l.fn.out) → (l.store ≡ l.fn.store) × SameCache l.fn.cache l.cache;
+  header : IsTrue (g.S.Store.tells l.fn.store) → 0 < l.done
+      → HasHeader l.block.id l.block.len (bytes_of (g.S.Store.reads l.fn.store l.block.id));
+  whole : IsTrue (g.S.Store.tells l.fn.store) → 0 < l.done
+      → 16 + 2 * (l.from + l.done)
+      ≤ length (bytes_of (g.S.Store.reads l.fn.store l.block.id));
+  samples : IsTrue (g.S.Store.tells l.fn.store)
+      → take l.done l.out ≡ samples_in (bytes_of (g.S.Store.reads l.fn.store l.block.id)) (16 + 2 * l.from) l.done;
+}
+
+abbrev pub decreases-pages : goal.decreases-pages
+decreases-pages g l = length l.initial.out - l.done

@@ -1,0 +1,165 @@
+// Samples of a block that are read once: of a page that is not kept they are read alone.
+ghost use Rattle.std.specs.Prelude.{◌≡◌, ◌+◌, ◌-◌, ◌*◌, ◌/◌, ◌%◌, ◌<◌, ◌≤◌, [], ◌∷◌, length, take, drop, IsTrue, IsOk};
+ghost use Rattle.std.specs.Prelude.{IsOkUnless, List, ℤ, Some, OnOk, IfErr};
+ghost use Rattle.disk_model.specs.Disk.{bytes_of};
+ghost use Rattle.disk_model.specs.Frames.{Kept};
+ghost use Rattle.sample_block.specs.Spelling.{IsBlock};
+ghost use Rattle.sample_block.specs.Faults.{samples_in};
+ghost use Rattle.sample_block.specs.Blocks.{blocks};
+ghost use Rattle.block_store.specs.declared.fault.BlockFault.TheVariants as fault;
+ghost use Rattle.block_store.specs.Reads.{Counted, HasHeader, IsReadFault};
+ghost use Rattle.block_cache.specs.Entries.{HasKey};
+ghost use Rattle.block_cache.specs.Pages.{sample_key as key_at};
+ghost use Rattle.block_cache.specs.Caches.{HasSamples, IsCacheOf, KeepsCache, SameCache};
+
+use super::cache::Cache;
+use super::headers::compare_kept;
+use super::keys::sample_key;
+use super::samples::PAGE;
+use block_store::{BlockFault, read_compared_samples};
+use disk_model::Store;
+use pcm_base::BlockRef;
+
+/// Reads samples alone, and keeps none.
+fn read_alone<S: Store>(
+    store: &mut S,
+    cache: &mut Cache,
+    block: BlockRef,
+    from: usize,
+    out: &mut [i16],
+) -> Result<(), BlockFault>
+    requires block { IsBlock block.id block.len }
+    requires within { from + length out.old ≤ block.len }
+    requires some { 0 < length out.old }
+    requires cached { IsTrue (S.tells store.old) → IsCacheOf (S.reads store.old) cache.old }
+    ensures cache { KeepsCache (S.tells store.old) (S.reads store.old) (block ∷ []) cache.old cache.new }
+    ensures samples { IsTrue (S.tells store.old)
+        → OnOk result (out.new ≡ samples_in (bytes_of (S.reads store.old block.id)) (16 + 2 * from) (length out.old)) }
+    ensures header { IsTrue (S.tells store.old)
+        → OnOk result (HasHeader block.id block.len (bytes_of (S.reads store.old block.id))) }
+    ensures whole { IsTrue (S.tells store.old) → OnOk result
+        (16 + 2 * (from + length out.old) ≤ length (bytes_of (S.reads store.old block.id))) }
+    ensures damaged { IsTrue (S.tells store.old) → IfErr result (λ e. IsReadFault block.id block.len
+        (16 + 2 * (from + length out.old)) (bytes_of (S.reads store.old block.id)) e) }
+    ensures kept { Kept S.Store store.old store.new }
+    ensures faults { Counted result (S.read_fault_count store.old) (S.read_fault_count store.new) }
+{
+    if let Err(fault) = compare_kept(store, cache, block) {
+        return Err(fault);
+    }
+    read_compared_samples(store, block, from as u32, out)
+}
+
+/// Reads samples that lie on one page, by the page where it is kept.
+fn read_part<S: Store>(
+    store: &mut S,
+    cache: &mut Cache,
+    block: BlockRef,
+    from: usize,
+    out: &mut [i16],
+) -> Result<(), BlockFault>
+    requires block { IsBlock block.id block.len }
+    requires within { from + length out.old ≤ block.len }
+    requires some { 0 < length out.old }
+    requires one { from % 4096 + length out.old ≤ 4096 }
+    requires cached { IsTrue (S.tells store.old) → IsCacheOf (S.reads store.old) cache.old }
+    ensures cache { KeepsCache (S.tells store.old) (S.reads store.old) (block ∷ []) cache.old cache.new }
+    ensures hit { HasKey cache.old.samples (key_at block (from / 4096))
+        → IsOk result × (store.new ≡ store.old) × SameCache cache.old cache.new }
+    ensures samples { IsTrue (S.tells store.old)
+        → OnOk result (out.new ≡ samples_in (bytes_of (S.reads store.old block.id)) (16 + 2 * from) (length out.old)) }
+    ensures header { IsTrue (S.tells store.old)
+        → OnOk result (HasHeader block.id block.len (bytes_of (S.reads store.old block.id))) }
+    ensures whole { IsTrue (S.tells store.old) → OnOk result
+        (16 + 2 * (from + length out.old) ≤ length (bytes_of (S.reads store.old block.id))) }
+    ensures damaged { IsTrue (S.tells store.old) → IfErr result (λ e. IsReadFault block.id block.len
+        (16 + 2 * (from + length out.old)) (bytes_of (S.reads store.old block.id)) e) }
+    ensures kept { Kept S.Store store.old store.new }
+    ensures faults { Counted result (S.read_fault_count store.old) (S.read_fault_count store.new) }
+{
+    let key = sample_key(block, (from / PAGE) as u32);
+    if cache.copy_samples(key, from % PAGE, out) {
+        return Ok(());
+    }
+    read_alone(store, cache, block, from, out)
+}
+
+/// Reads samples, those of a page at a time.
+fn read_parts<S: Store>(
+    store: &mut S,
+    cache: &mut Cache,
+    block: BlockRef,
+    from: usize,
+    out: &mut [i16],
+) -> Result<(), BlockFault>
+    requires block { IsBlock block.id block.len }
+    requires within { from + length out.old ≤ block.len }
+    requires cached { IsTrue (S.tells store.old) → IsCacheOf (S.reads store.old) cache.old }
+    ensures cache { KeepsCache (S.tells store.old) (S.reads store.old) (block ∷ []) cache.old cache.new }
+    ensures hit { HasSamples cache.old block from (length out.old)
+        → IsOk result × (store.new ≡ store.old) × SameCache cache.old cache.new }
+    ensures samples { IsTrue (S.tells store.old)
+        → OnOk result (out.new ≡ samples_in (bytes_of (S.reads store.old block.id)) (16 + 2 * from) (length out.old)) }
+    ensures header { IsTrue (S.tells store.old) → OnOk result (0 < length out.old
+        → HasHeader block.id block.len (bytes_of (S.reads store.old block.id))) }
+    ensures whole { IsTrue (S.tells store.old) → OnOk result (0 < length out.old
+        → 16 + 2 * (from + length out.old) ≤ length (bytes_of (S.reads store.old block.id))) }
+    ensures damaged { IsTrue (S.tells store.old) → IfErr result (λ e. IsReadFault block.id block.len
+        (16 + 2 * (from + length out.old)) (bytes_of (S.reads store.old block.id)) e) }
+    ensures kept { Kept S.Store store.old store.new }
+    ensures faults { Counted result (S.read_fault_count store.old) (S.read_fault_count store.new) }
+{
+    let mut done = 0;
+    'pages: while done < out.len() {
+        let at = from + done;
+        let next = done + (PAGE - at % PAGE).min(out.len() - done);
+        if let Err(fault) = read_part(store, cache, block, at, &mut out[done..next]) {
+            return Err(fault);
+        }
+        done = next;
+    }
+    Ok(())
+}
+
+/// Reads the samples of a block as `read_samples` does, for a reader that asks for no others of their pages next. They
+/// are copied from the pages that the cache has. Of any other page these samples are read alone, and it is not kept. So
+/// a file that ends after them is no fault here. Of no samples nothing is read. After an error `out` may have been
+/// written in part.
+pub fn read_samples_once<S: Store>(
+    store: &mut S,
+    cache: &mut Cache,
+    block: BlockRef,
+    from: u32,
+    out: &mut [i16],
+) -> Result<(), BlockFault>
+    requires block { IsBlock block.id block.len }
+    requires within { from + length out.old ≤ block.len }
+    // Each entry is what a read of that page gives of the files as they stand. It stays so.
+    requires cached { IsTrue (S.tells store.old) → IsCacheOf (S.reads store.old) cache.old }
+    ensures cache { KeepsCache (S.tells store.old) (S.reads store.old) (block ∷ []) cache.old cache.new }
+    // Where all pages are there it is Ok, whatever the store would answer, and the store is not called.
+    ensures hit { HasSamples cache.old block from (length out.old)
+        → IsOk result × (store.new ≡ store.old) × SameCache cache.old cache.new }
+    // Of a block of the disk they are its samples, and then nothing but the disk refuses.
+    ensures read { (xs : List ℤ) → IsTrue (S.tells store.old) → blocks (S.reads store.old) block.id ≡ Some xs
+        → length xs ≡ block.len
+        → OnOk result (out.new ≡ take (length out.old) (drop from xs)) }
+    ensures sound { (xs : List ℤ) → IsTrue (S.tells store.old) → blocks (S.reads store.old) block.id ≡ Some xs
+        → length xs ≡ block.len
+        → IsOkUnless result fault.DiskFault }
+    // Of any file they are what stands there.
+    ensures samples { IsTrue (S.tells store.old)
+        → OnOk result (out.new ≡ samples_in (bytes_of (S.reads store.old block.id)) (16 + 2 * from) (length out.old)) }
+    // Ok comes for the header of this block alone, and where the file has all of them.
+    ensures header { IsTrue (S.tells store.old) → OnOk result (0 < length out.old
+        → HasHeader block.id block.len (bytes_of (S.reads store.old block.id))) }
+    ensures whole { IsTrue (S.tells store.old) → OnOk result (0 < length out.old
+        → 16 + 2 * (from + length out.old) ≤ length (bytes_of (S.reads store.old block.id))) }
+    // A fault is a header of another block, or else that the file ends before the last of them does.
+    ensures damaged { IsTrue (S.tells store.old) → IfErr result (λ e. IsReadFault block.id block.len
+        (16 + 2 * (from + length out.old)) (bytes_of (S.reads store.old block.id)) e) }
+    ensures kept { Kept S.Store store.old store.new }
+    ensures faults { Counted result (S.read_fault_count store.old) (S.read_fault_count store.new) }
+{
+    read_parts(store, cache, block, from as usize, out)
+}
