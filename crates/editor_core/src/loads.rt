@@ -1,0 +1,47 @@
+// A pin's tracks, loaded.
+ghost use Rattle.std.specs.Prelude.{◌≡◌, ◌+◌, ◌^◌, ◌<◌, ◌≤◌};
+ghost use Rattle.editor_core.specs.Core.{core_of};
+ghost use Rattle.editor_core.specs.Loads.{Loads};
+ghost use Rattle.editor_core.specs.Studios.{IsStudio};
+
+use super::pinned::point_of;
+use super::studio::Studio;
+use disk_model::Store;
+use mix_view::load_stretch;
+use mixdown::Loaded;
+use pcm_base::Refusal;
+
+impl<S: Store> Studio<S> {
+    /// Loads the cells of a pinned project's tracks that are heard, with their gains and sides, from a place on: as
+    /// many frames as there are, up to `n`. It answers how many. It asks for all memory before it asks the disk.
+    /// Nothing is changed but the pages that are kept, which take memory only where there is some. After an error
+    /// what is loaded may have been replaced in part.
+    ///
+    /// # Errors
+    ///
+    /// `Stopped` where a change of the disk failed in an earlier call; else `NoPin` where no pin has the number; else
+    /// `NoMemory` where there is none for the cells; else `DiskFault` where a read fails: the studio goes on. A disk
+    /// that holds what the studio stands for shows no damaged file.
+    pub fn load_pin(
+        &mut self,
+        pin: u64,
+        from: u64,
+        n: usize,
+        loaded: &mut Loaded,
+    ) -> Result<usize, Refusal>
+        requires studio { IsStudio S.Store (core_of self.old) }
+        requires most { n ≤ 65536 }
+        requires few { from + n < 2 ^ 64 }
+        ensures { Loads S.Store (core_of self.old) (record { pin = pin; from = from; most = n }) result loaded.new
+            (core_of self.new) }
+    {
+        if let Some(faults) = self.stopped {
+            return Err(Refusal::Stopped { faults });
+        }
+        let point = point_of(&self.pins, pin)?;
+        match load_stretch(&mut self.store, &mut self.cache, point, from, n, loaded) {
+            Ok(count) => Ok(count),
+            Err(fault) => Err(fault.into()),
+        }
+    }
+}

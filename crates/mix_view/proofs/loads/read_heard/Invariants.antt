@@ -1,0 +1,27 @@
+-- The stretches of the tracks after it are read.
+use Rattle.std.proofs.Common.{◌≡◌, ◌≤◌, ◌+◌, ◌*◌, length, drop}
+use Rattle.std.specs.Prelude.{IsTrue}
+use Rattle.disk_model.specs.Frames.{Kept}
+use Rattle.pcm_base.specs.Mix.{unmuted}
+use Rattle.project_state.specs.Kept.{meant, point_blocks}
+use Rattle.block_cache.specs.Caches.{KeepsCache}
+use Rattle.cell_view.specs.Stored.{stored_of}
+use Rattle.mixdown.specs.Stretches.{AreStretches}
+use Rattle.mix_view.specs.Heard.{heard_count}
+use Rattle.mix_view.proofs.loads.read_heard.Given as goal
+
+abbrev pub invariant-rows : goal.invariant-rows
+invariant-rows g l = record {
+  within : l.i ≤ length l.point;
+  place : l.end + heard_count (drop l.i l.point) * l.len ≡ heard_count l.point * l.len;
+  cache : KeepsCache (g.S.Store.tells l.fn.store) (g.S.Store.reads l.fn.store) (point_blocks l.point) l.fn.cache
+      l.cache;
+  kept : Kept g.S.Store l.fn.store l.store;
+  count : g.S.Store.read_fault_count l.store ≡ g.S.Store.read_fault_count l.fn.store;
+  stored : IsTrue (g.S.Store.tells l.fn.store)
+      → AreStretches l.from l.len (unmuted (meant (stored_of (g.S.Store.reads l.fn.store)) (drop l.i l.point)))
+      (drop l.end l.cells);
+}
+
+abbrev pub decreases-rows : goal.decreases-rows
+decreases-rows g l = l.i

@@ -1,0 +1,29 @@
+-- Stretches of the tracks that are heard, in memory.
+use Rattle.std.specs.Prelude.{◌≡◌, ◌≤◌, ◌*◌, ℕ, List, length, take}
+use Rattle.pcm_base.specs.declared.limits.TheConstants.{MAX_TRACKS}
+use Rattle.pcm_base.specs.declared.sound.Cell.{Cell}
+use Rattle.pcm_base.specs.Cells.{Project}
+use Rattle.pcm_base.specs.Mix.{unmuted}
+use Rattle.mixdown.specs.Laid.{laid}
+use Rattle.mixdown.specs.Stretches.{AreStretches, gains_of, sides_of}
+use Rattle.mixdown.specs.declared.loaded.Loaded.{Loaded}
+
+-- the cells of its tracks, one track after the other
+abbrev pub loaded_cells : Loaded → List Cell
+loaded_cells l = take (length l.gains.items * l.len) l.cells.items
+
+-- its tracks, as tracks of the model that are heard
+abbrev pub loaded_tracks : Loaded → Project
+loaded_tracks l = laid l.len (loaded_cells l) l.gains.items l.sides.items
+
+-- no more tracks than a project may have, each with a gain, a side, and a cell for each frame
+pub record IsLoaded (l : Loaded) : Type 0 where
+  pub few : length l.gains.items ≤ MAX_TRACKS
+  pub sides : length l.sides.items ≡ length l.gains.items
+  pub cells : length l.gains.items * l.len ≤ length l.cells.items
+
+-- the unmuted tracks of a project from a place on, continued by gaps
+pub record Shows (from : ℕ) (p : Project) (l : Loaded) : Type 0 where
+  pub gains : l.gains.items ≡ gains_of (unmuted p)
+  pub sides : l.sides.items ≡ sides_of (unmuted p)
+  pub cells : AreStretches from l.len (unmuted p) (loaded_cells l)
