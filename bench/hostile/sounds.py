@@ -102,6 +102,9 @@ def format_body(draw, channels):
 def chunks(draw):
     channels = draw.choice([1, 1, 2, 2, 3, 8])
     frames = draw.choice([0, 1, 2, 3, 5, 17, draw.randrange(60)])
+    # Some are read and written in several pieces.
+    if draw.random() < 0.02:
+        frames = draw.randrange(4_000, 40_000)
     samples = draw.randbytes(2 * channels * frames)
     out = [chunk(draw, b"fmt ", format_body(draw, channels)), chunk(draw, b"data", samples)]
     for _ in range(draw.choice([0, 0, 1, 2])):

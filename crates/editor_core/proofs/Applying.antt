@@ -1,10 +1,16 @@
 -- What a call does over a vault, from what it does by itself.
-use Rattle.std.proofs.Common.{◌≡◌, inl, IfErr, refl, sym, ap, subst, ℕ, Bool, IsTrue, Option, Some, None, is_some, List, []}
-use Rattle.std.proofs.Common.{Result, Ok, Err}
+use Rattle.std.proofs.Common.{◌≡◌, ◌⊎◌, ◌<◌, ◌∙◌, inl, IfErr, IfOk, refl, sym, ap, subst, ℕ, Bool, IsTrue, Option, Some}
+use Rattle.std.proofs.Common.{None, is_some, List, [], Result, Ok, Err}
+use Rattle.std.proofs.lemmas.Bool.{true≢false}
+use Rattle.std.proofs.lemmas.Option.{none-some, same_Some}
 use Rattle.pcm_base.specs.declared.answer.Reply.{Reply}
+use Rattle.pcm_base.specs.declared.answer.Reply.TheVariants as reply
 use Rattle.pcm_base.specs.declared.command.Call.{Call}
+use Rattle.pcm_base.specs.declared.command.Call.TheVariants.{Line}
 use Rattle.pcm_base.specs.declared.entry.SoundMove.{SoundMove}
 use Rattle.pcm_base.specs.declared.refusal.Refusal.{Refusal}
+use Rattle.pcm_base.specs.declared.refusal.Refusal.TheVariants as refusal
+use Rattle.pcm_base.specs.declared.wav.WavFault.TheVariants.{Truncated}
 use Rattle.pcm_base.specs.Outside.{SameElsewhere, Sounds}
 use Rattle.pcm_base.specs.declared.command.Command.{Command}
 use Rattle.pcm_base.specs.declared.command.Command.TheVariants as command
@@ -14,10 +20,11 @@ use Rattle.disk_model.specs.declared.store.Store.{Ghosts}
 use Rattle.disk_model.proofs.Frames.{Fewer, changed_kept, changed_none, kept_none}
 use Rattle.block_cache.specs.Caches.{Entries}
 pub use Rattle.editor_core.specs.Applied.{spanned}
-use Rattle.editor_core.specs.Applied.{Lasts, TookOver, move_of, Span, sound_moved}
+use Rattle.editor_core.specs.Applied.{Imported, Lasts, TookOver, move_of, Span, sound_moved}
 use Rattle.editor_core.specs.Core.{Core}
 use Rattle.editor_core.specs.Exports.{moved_from}
-use Rattle.editor_core.specs.Imports.{VaultCounted}
+use Rattle.editor_core.specs.Exchanges.{reads_sound}
+use Rattle.editor_core.specs.Imports.{IsCutShort, VaultCounted, left_as}
 use Rattle.editor_core.specs.Left.{Left, MayRemove, Untouched}
 use Rattle.editor_core.specs.Studios.{IsStudio}
 use Rattle.editor_core.specs.Took.{Exchange, Took, exchange_of, freeing, number_behind, told_by, with_sound}
@@ -29,10 +36,10 @@ use Rattle.editor_core.proofs.Removing.{none_given}
 use Rattle.editor_core.proofs.Staying.{stopped_not}
 use Rattle.editor_core.proofs.StudioCache.{ReadsNamed}
 
-kept_untouched : {D : Type 0} (disk : Ghosts D) (s new : Core D) (told : Result Reply Refusal)
-    → Kept disk s.store new.store → Untouched disk s told new
-kept_untouched disk s new (Ok r) kept = tt
-kept_untouched disk s new (Err why) kept = λ device. kept
+kept_untouched : {D : Type 0} (disk : Ghosts D) (s new : Core D) (call : Call) (told : Result Reply Refusal)
+    → Kept disk s.store new.store → Untouched disk s call told new
+kept_untouched disk s new call (Ok r) kept = tt
+kept_untouched disk s new call (Err why) kept = λ device. kept
 
 module _ {D : Type 0} (disk : Ghosts D) (s : Core D) where
   -- a step lasts
@@ -53,8 +60,8 @@ module _ {D : Type 0} (disk : Ghosts D) (s : Core D) where
   }
 
   -- nothing was done
-  pub lasts_idle : IsStudio disk s → Fewer disk s.store → (call : Call) → RemovesNone call → (sound : SoundMove) (why : Refusal)
-      → IsPlain why
+  pub lasts_idle : IsStudio disk s → Fewer disk s.store → (call : Call) → RemovesNone call → (sound : SoundMove)
+      (why : Refusal) → IsPlain why
       → Lasts disk s (with_sound call sound (Err why)) s
   lasts_idle is fewer call none sound why plain = record {
     studio = is;
@@ -89,7 +96,7 @@ module _ {D : Type 0} (disk : Ghosts D) (s : Core D) where
     changed = changed_kept (others_none s.next_block s.next_block (MayRemove call s.counts)) kept;
     frees = frees_none disk s call told (record s { store = store; cache = cache }) none plain;
     ids = ids_same s (record s { store = store; cache = cache }) refl refl;
-    untouched = kept_untouched disk s (record s { store = store; cache = cache }) told kept;
+    untouched = kept_untouched disk s (record s { store = store; cache = cache }) call told kept;
     stops = inl (refl, kept.same_faults);
     left = left;
   }
@@ -107,6 +114,7 @@ module _ {D : Type 0} (disk : Ghosts D) (s : Core D) where
         took = λ is. all;
         heard = λ is. subst (λ (o : Option (List ℕ)). Heard o (move_of o sounds sounds) sounds sounds) (sym none) refl;
         lasts = lasts_took (exchange_of call (move_of (name_in call) sounds sounds) told removed) new all;
+        imported = λ name is. absurd (none-some name (sym none ∙ ap name_in is));
       }
 
 -- one that names a sound
@@ -115,15 +123,37 @@ pub over_sound : {D : Type 0} (disk : Ghosts D) (span : Span D) (call : Call) (n
     → (IsTrue span.tells
     → Took disk span.old (with_sound call (moved_from (span.old_sounds name) (span.new_sounds name)) told) span.new)
     → (IsTrue span.tells → SameElsewhere name span.old_sounds span.new_sounds)
-    → ((sound : SoundMove) → Lasts disk span.old (with_sound call sound told) span.new) → TookOver disk span call told
-over_sound disk span call name told named took others lasts = record {
+    → ((sound : SoundMove) → Lasts disk span.old (with_sound call sound told) span.new)
+    → ((n : List ℕ) → call ≡ Line (command.Import n) → Imported disk span.old n told span.new)
+    → TookOver disk span call told
+over_sound disk span call name told named took others lasts imported = record {
   removed = [];
   took = λ is. subst (λ (o : Option (List ℕ)). Took disk span.old (with_sound call (sound_moved span o) told) span.new)
       (sym named) (took (is (ap is_some named)));
   heard = λ is. subst (λ (o : Option (List ℕ)). Heard o (sound_moved span o) span.old_sounds span.new_sounds)
       (sym named) (refl, refl, others (is (ap is_some named)));
   lasts = lasts (sound_moved span (name_in call));
+  imported = imported;
 }
+
+-- an import in the words of a line
+pub imported_done : {D : Type 0} (disk : Ghosts D) (old : Core D) (name : List ℕ) (result : Result ℕ Refusal)
+    (new : Core D) → IfOk result (λ n. (bytes : List ℕ) × Took disk old
+    (with_sound (Line (command.Import name)) (left_as (Some bytes)) (told_by (λ _. reply.Done) result)) new)
+    → IfErr result (λ why. IsCutShort why ⊎ ((sound : Option (List ℕ)) × Took disk old
+    (with_sound (Line (command.Import name)) (left_as sound) (told_by (λ _. reply.Done) result)) new))
+    → ((want have : ℕ) → IfErr result (λ why. why ≡ refusal.BadWav (Truncated want have) → have < want))
+    → Imported disk old name (told_by (λ _. reply.Done) result) new
+imported_done disk old name (Ok n) new some reason short = record { some = some; reason = tt; short = λ want have. tt }
+imported_done disk old name (Err why) new some reason short = record { some = tt; reason = reason; short = short }
+
+-- an import names one sound
+pub import_name : (name n : List ℕ) → Line (command.Import name) ≡ Line (command.Import n) → name ≡ n
+import_name name n same = same_Some name n (ap name_in same)
+
+-- an export is none
+pub export_none : (name n : List ℕ) → Line (command.Export name) ≡ Line (command.Import n) → ⊥
+export_none name n same = true≢false (sym (ap reads_sound same))
 
 -- a reply tells of the vault's count what the answer told
 pub counted_told : {A : Type 0} (f : A → Reply) (answer : Result A Refusal) (old new : ℕ) → VaultCounted answer old new

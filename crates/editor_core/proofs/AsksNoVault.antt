@@ -1,17 +1,19 @@
--- No vault refuses an edit that makes blocks.
-use Rattle.std.proofs.Common.{⊎_elim, sym, subst, ℕ, nat_lt, ◌+◌, ◌^◌, Bool, true, false, Option, Some, None}
-use Rattle.std.proofs.Common.{length, Err}
+-- No vault refuses what is prepared for an edit that makes blocks, nor its records.
+use Rattle.std.proofs.Common.{◌≡◌, ⊎_elim, refl, sym, subst, ℕ, nat_lt, ◌+◌, ◌^◌, Bool, true, false, Option, Some, None}
+use Rattle.std.proofs.Common.{List, Result, Ok, Err, IfErr}
 use Rattle.pcm_base.specs.declared.refusal.Refusal.{Refusal}
 use Rattle.pcm_base.specs.declared.refusal.Refusal.TheVariants as refusal
 use Rattle.pcm_base.specs.Counters.{no_room}
 use Rattle.pcm_base.specs.Refusals.{◌otherwise◌, refused_if}
 use Rattle.disk_model.specs.declared.store.Store.{Ghosts}
-use Rattle.project_journal.specs.Journal.{rows_length}
-use Rattle.editor_core.specs.Adding.{Exceeds}
+use Rattle.piece_store.specs.Brought.{Brought}
+use Rattle.editor_core.specs.Adding.{Adds, Exceeds}
 use Rattle.editor_core.specs.Core.{Core}
-use Rattle.editor_core.specs.Edits.{Carried, NotPrepared, BlockCommit}
-use Rattle.editor_core.specs.Imports.{IsInside}
-use Rattle.editor_core.specs.Makes.{NotMade}
+use Rattle.editor_core.specs.Edits.{NotPrepared}
+use Rattle.editor_core.specs.Exchanges.{may_begin}
+use Rattle.editor_core.specs.Imports.{IsInside, IsInsideOr}
+use Rattle.editor_core.specs.Makes.{RefusedBrought, RefusedBroughtBy}
+use Rattle.editor_core.proofs.Leaving.{IsPlain}
 
 -- a test tells of no vault
 abbrev AsksNone : Option Refusal → Type 0
@@ -31,13 +33,7 @@ exceeding_asks end len (refusal.SpaceSpent have need) h = tt
 exceeding_asks end len (refusal.RecordLimit n) h = tt
 exceeding_asks end len why h = absurd h
 
-not_made_asks : {D : Type 0} (disk : Ghosts D) (old new : Core D) (why : Refusal) → NotMade disk old why new
-    → IsInside why
-not_made_asks disk old new refusal.DiskFault by = tt
-not_made_asks disk old new (refusal.Damaged file at want have) by = tt
-not_made_asks disk old new why by = absurd by
-
-unprepared_asks : {D : Type 0} (s : Core D) (n tracks count whole len : ℕ) (why : Refusal)
+pub unprepared_asks : {D : Type 0} (s : Core D) (n tracks count whole len : ℕ) (why : Refusal)
     → NotPrepared s n tracks count whole len why → IsInside why
 unprepared_asks s n tracks count whole len why not = ⊎_elim
     (λ memory. subst IsInside (sym memory) tt)
@@ -53,11 +49,52 @@ unprepared_asks s n tracks count whole len why not = ⊎_elim
     (λ over. ⊎_elim (exceeding_asks s.journal_end whole why) (exceeding_asks s.journal_end len why) over.3))
     not
 
-pub carried_asks : {D : Type 0} (disk : Ghosts D) (s new : Core D) (c : BlockCommit) (why : Refusal)
-    → Carried disk s c (Err why) new → IsInside why
-carried_asks disk s new c why carried = ⊎_elim
-    (λ not. unprepared_asks s (length c.makes) c.tracks c.count c.whole (rows_length c.bodies) why not.1)
-    (⊎_elim
-    (λ some. not_made_asks disk some.1.mid new why some.1.by)
-    (λ last. subst IsInside (sym last.0) tt))
-    carried
+-- ---- what it leaves
+
+-- where neither the vault nor the disk refused, nothing of the disk was begun
+pub inside_begins_none : (why : Refusal) → IsInside why → IsPlain why → may_begin why ≡ false
+inside_begins_none refusal.DiskFault inside plain = absurd plain
+inside_begins_none (refusal.Damaged file at want have) inside plain = absurd plain
+inside_begins_none refusal.VaultFault inside plain = absurd inside
+inside_begins_none (refusal.BadWav fault) inside plain = absurd inside
+inside_begins_none why inside plain = refl
+
+pub exceeding_begins_none : (end len : ℕ) (why : Refusal) → Exceeds end len why → may_begin why ≡ false
+exceeding_begins_none end len (refusal.SpaceSpent have need) h = refl
+exceeding_begins_none end len (refusal.RecordLimit n) h = refl
+exceeding_begins_none end len why h = absurd h
+
+pub inside_or : (b : Brought) (why : Refusal) → IsInside why → IsInsideOr b why
+inside_or b refusal.VaultFault inside = absurd inside
+inside_or b (refusal.BadWav fault) inside = absurd inside
+inside_or b why inside = tt
+
+-- no vault failed, so its count stays
+pub inside_counted : (why : Refusal) (n : ℕ) → IsInside why → RefusedBroughtBy why n n
+inside_counted refusal.VaultFault n inside = absurd inside
+inside_counted why n inside = refl
+
+-- ---- records
+
+adds_asks : {D R : Type 0} (disk : Ghosts D) (old new : Core D) (bodies : List (List ℕ)) (count whole : ℕ)
+    (why : Refusal) → Adds {R = R} disk old bodies count whole (Err why) new → IsInside why
+adds_asks disk old new bodies count whole (refusal.SpaceSpent have need) adds = tt
+adds_asks disk old new bodies count whole refusal.NoMemory adds = tt
+adds_asks disk old new bodies count whole (refusal.RecordLimit n) adds = tt
+adds_asks disk old new bodies count whole refusal.DiskFault adds = tt
+adds_asks disk old new bodies count whole why adds = absurd adds.fields
+
+pub adds_inside : {D R : Type 0} (disk : Ghosts D) (old new : Core D) (bodies : List (List ℕ)) (count whole : ℕ)
+    (b : Brought) (result : Result R Refusal) → Adds disk old bodies count whole result new
+    → IfErr result (IsInsideOr b)
+adds_inside disk old new bodies count whole b (Ok done) adds = tt
+adds_inside disk old new bodies count whole b (Err why) adds =
+    inside_or b why (adds_asks disk old new bodies count whole why adds)
+
+pub adds_counted : {D R : Type 0} (disk : Ghosts D) (old new : Core D) (bodies : List (List ℕ)) (count whole : ℕ)
+    (result : Result R Refusal) (before after : ℕ) → Adds disk old bodies count whole result new → after ≡ before
+    → RefusedBrought result before after
+adds_counted disk old new bodies count whole (Ok done) before after adds same = same
+adds_counted disk old new bodies count whole (Err why) before after adds same =
+    subst (λ (n : ℕ). RefusedBroughtBy why before n) (sym same)
+    (inside_counted why before (adds_asks disk old new bodies count whole why adds))

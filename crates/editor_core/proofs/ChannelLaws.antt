@@ -1,24 +1,21 @@
 -- Tracks for the channels of a sound, as an edit that makes blocks.
-use Rattle.std.proofs.Common.{◌≡◌, refl, sym, ap, ◌∙◌, subst, ℕ, ◌+◌, ◌^◌, ◌≤◌, nat_lt, not, ℤ, pos, Bool, true}
-use Rattle.std.proofs.Common.{false, Option, Some, None, List, [], ◌∷◌, ◌++◌, append_assoc, length, length-append, map}
-use Rattle.std.proofs.Common.{take, get_or, arith}
-use Rattle.std.proofs.Math.Seq.{drop-append_seam, take-append_seam}
+use Rattle.std.proofs.Common.{◌≡◌, refl, sym, ap, ap₂, ◌∙◌, subst, ℕ, zero, suc, ◌+◌, ◌*◌, ◌^◌, ◌≤◌, nat_lt, not, ℤ}
+use Rattle.std.proofs.Common.{Bool, true, false, Option, Some, None, List, [], ◌∷◌, ◌++◌, length, map, replicate, arith}
 use Rattle.std.proofs.lemmas.Bool.{eq-eqb}
 use Rattle.std.proofs.lemmas.List.{length-map}
 use Rattle.pcm_base.specs.declared.refusal.Refusal.{Refusal}
 use Rattle.pcm_base.specs.declared.refusal.Refusal.TheVariants as refusal
-use Rattle.pcm_base.specs.Pieces.{stretch}
 use Rattle.pcm_base.specs.Refusals.{◌otherwise◌, file_tests, import_tests, length_limit, refused_if}
 use Rattle.pcm_base.specs.Refusals.{track_limit}
 use Rattle.pcm_base.specs.Sizes.{lists_length}
 use Rattle.pcm_base.specs.State.{State, current}
 use Rattle.pcm_base.specs.Step.{channels_in, channels_of}
-use Rattle.block_store.proofs.StretchLaws.{stretch_part}
+use Rattle.pcm_base.proofs.Pieces.{length-stretch}
 use Rattle.envelope_view.specs.Answers.{IsUndamaged}
 use Rattle.project_state.specs.declared.track.Track.{Track}
 use Rattle.project_state.specs.Sound.{AllSoundTracks}
 use Rattle.project_state.specs.Tracks.{AllBelow, AreAbove}
-use Rattle.editor_core.specs.Imports.{HasChannels, IsInside, all_of}
+use Rattle.editor_core.specs.Imports.{HasChannels, IsInside}
 use Rattle.editor_core.specs.Imports.{channels_refusal, parts_from, total_of}
 use Rattle.editor_core.proofs.Leaving.{IsPlain, own_plain}
 use Rattle.editor_core.proofs.PlainTests.{either, lengths, one, own_by}
@@ -46,31 +43,18 @@ pub total_lists : (channels : List (List ℤ)) → total_of (map length channels
 total_lists [] = refl
 total_lists (c ∷ cs) = ap (λ (n : ℕ). length c + n) (total_lists cs)
 
-pub all_length : (channels : List (List ℤ)) → length (all_of channels) ≡ total_of (map length channels)
-all_length [] = refl
-all_length (c ∷ cs) = length-append c (all_of cs) ∙ ap (λ (n : ℕ). length c + n) (all_length cs)
+-- parts of what is brought have the lengths that were asked for
+pub parts_counts : (given : ℕ → ℤ) (from : ℕ) (counts : List ℕ) → map length (parts_from given from counts) ≡ counts
+parts_counts given from [] = refl
+parts_counts given from (n ∷ ns) =
+    ap₂ (λ (k : ℕ) (ks : List ℕ). k ∷ ks) (length-stretch given from n) (parts_counts given (from + n) ns)
 
--- the items of a list by their places
-abbrev pub placed : List ℤ → ℕ → ℤ
-placed xs i = get_or xs i (pos 0)
-
-part_here : (before c rest : List ℤ) → stretch (placed (before ++ (c ++ rest))) (length before) (length c) ≡ c
-part_here before c rest =
-    let fits : length before + length c ≤ length (before ++ (c ++ rest)) =
-    omega (arith, length-append before (c ++ rest), length-append c rest) in
-    stretch_part (before ++ (c ++ rest)) (length before) (length c) fits
-    ∙ ap (take (length c)) (drop-append_seam before (c ++ rest)) ∙ take-append_seam c rest
-
-pub parts_are : (xs : List ℤ) (channels : List (List ℤ)) (before : List ℤ) → before ++ all_of channels ≡ xs
-    → parts_from (placed xs) (length before) (map length channels) ≡ channels
-parts_are xs [] before e = refl
-parts_are xs (c ∷ cs) before e =
-    let head : stretch (placed xs) (length before) (length c) ≡ c =
-    subst (λ (ys : List ℤ). stretch (placed ys) (length before) (length c) ≡ c) e (part_here before c (all_of cs)) in
-    let tail : parts_from (placed xs) (length before + length c) (map length cs) ≡ cs =
-    ap (λ (k : ℕ). parts_from (placed xs) k (map length cs)) (sym (length-append before c))
-    ∙ parts_are xs cs (before ++ c) (append_assoc before c (all_of cs) ∙ e) in
-    λ i. head i ∷ tail i
+pub total_alike : (n frames : ℕ) → total_of (replicate n frames) ≡ n * frames
+total_alike zero frames = omega arith
+total_alike (suc n) frames =
+    let rest = total_alike n frames in
+    let more : frames + n * frames ≡ suc n * frames = omega arith in
+    ap (λ (k : ℕ). frames + k) rest ∙ more
 
 -- ---- what refuses them tells of no damaged file and of no vault
 
@@ -111,7 +95,7 @@ channels_plain tracks counts why is =
     (either (refused_if many refusal.TrackLimit) (length_limit counts) (one many refusal.TrackLimit tt)
     (lengths counts)) is)
 
--- ---- tracks behind others
+-- ---- tracks after others
 
 pub rising_append : (n id : ℕ) (xs ys : List Track) → n ≤ id → AreAbove n xs → AllBelow id xs → AreAbove id ys
     → AreAbove n (xs ++ ys)

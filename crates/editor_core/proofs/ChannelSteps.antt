@@ -24,8 +24,6 @@ use Rattle.sample_block.specs.Sources.{sources_of}
 use Rattle.clip_track.specs.Clips.{layout_blocks}
 use Rattle.edit_ops.specs.declared.types.NewBlock.{NewBlock}
 use Rattle.edit_ops.specs.Plans.{AllNewFrom, AreWritten}
-use Rattle.piece_store.specs.declared.given.Given as brings
-use Rattle.piece_store.specs.Bringing.{brought, brought_count}
 use Rattle.project_state.specs.declared.track.Track.{Track}
 use Rattle.project_state.specs.Kept.{current_tracks, history_blocks, meant, meant_history, meant_track, point_blocks}
 use Rattle.project_state.specs.KeptSound.{IsSoundPoint}
@@ -36,7 +34,7 @@ use Rattle.editor_core.specs.declared.growth.Growing.{Growing}
 use Rattle.editor_core.specs.Commits.{IsCommitCall}
 use Rattle.editor_core.specs.Core.{Core}
 use Rattle.editor_core.specs.Edits.{AreAmong, IsEdit, IsPlanned, alone, beside, blocks_with, tagged}
-use Rattle.editor_core.specs.Imports.{AreGrown, HasChannels, IsChannelsPlan, all_of}
+use Rattle.editor_core.specs.Imports.{AreGrown, HasChannels, IsChannelsPlan, parts_from}
 use Rattle.editor_core.specs.Imports.{channels_refusal, left_as, parts_from, total_of}
 use Rattle.editor_core.specs.Studios.{IsStudio, clip_blocks, named_blocks, pin_blocks, studio_by}
 use Rattle.editor_core.specs.Took.{Took, with_sound}
@@ -48,7 +46,7 @@ use Rattle.editor_core.proofs.Lists.{all_left, all_right}
 use Rattle.editor_core.proofs.MadeStudios.{point_more, refs}
 use Rattle.editor_core.proofs.PlanBlocks.{all_readable, new_from_more}
 use Rattle.editor_core.proofs.Tracks.{current_is}
-use Rattle.editor_core.proofs.ChannelLaws.{channels_are, parts_are, placed, rising_append, sound_append, tests_are}
+use Rattle.editor_core.proofs.ChannelLaws.{channels_are, rising_append, sound_append, tests_are}
 use Rattle.editor_core.proofs.ChannelLaws.{total_lists}
 
 module _ {D : Type 0} (disk : Ghosts D) (s : Core D) (is : IsStudio disk s) (channels : List (List ℤ)) where
@@ -158,15 +156,15 @@ module _ {D : Type 0} (disk : Ghosts D) (s : Core D) (is : IsStudio disk s) (cha
           (all_right (Contains every) (history_blocks s.history)
           (pin_blocks s.pins ++ clip_blocks s.clipboard) was_named)
 
-      grown_planned : (given : brings.Given) → brought_count given ≡ total_of counts
-          → IsPlanned s (tagged plan_then 0 0 given)
-      grown_planned given all =
-          let origin : AllNewFrom [] (brought_count given) makes =
+      grown_planned : (count : ℕ) (given : ℕ → ℤ) → count ≡ total_of counts
+          → IsPlanned s (tagged plan_then 0 0 count given)
+      grown_planned count given all =
+          let origin : AllNewFrom [] count makes =
           subst (λ (k : ℕ). AllNewFrom [] k makes) (are.brought ∙ sym all) are.origin in
           record {
             new = are.new;
-            readable = all_readable m s.next_block (brought_count given) [] makes tt origin are.new;
-            origin = new_from_more [] (named_blocks s) (brought_count given) makes tt origin;
+            readable = all_readable m s.next_block count [] makes tt origin are.new;
+            origin = new_from_more [] (named_blocks s) count makes tt origin;
             tag_given = omega arith;
             tag_counts = λ some. absurd (omega (arith, some));
             sound = point_sound;
@@ -179,8 +177,8 @@ module _ {D : Type 0} (disk : Ghosts D) (s : Core D) (is : IsStudio disk s) (cha
 
       -- ---- what it means
 
-      module _ (given : brings.Given) (bring : brought given ≡ placed (all_of channels)) (block : ℕ → ℕ → ℤ)
-          (written : AreWritten (beside block (brought given)) makes) where
+      module _ (given : ℕ → ℤ) (bring : parts_from given 0 counts ≡ channels) (block : ℕ → ℕ → ℤ)
+          (written : AreWritten (beside block given) makes) where
         abbrev src : Sources
         src = alone block
 
@@ -189,9 +187,7 @@ module _ {D : Type 0} (disk : Ghosts D) (s : Core D) (is : IsStudio disk s) (cha
 
         news_mean : meant src are.news ≡ channel_tracks s.next_track channels
         news_mean =
-            let parts : parts_from (brought given) 0 counts ≡ channels =
-            ap (λ (f : ℕ → ℤ). parts_from f 0 counts) bring ∙ parts_are (all_of channels) channels [] refl in
-            are.means block (brought given) written ∙ ap (channel_tracks s.next_track) parts
+            are.means block given written ∙ ap (channel_tracks s.next_track) bring
 
         point_means : current st ++ channel_tracks s.next_track channels ≡ meant src point
         point_means =
@@ -218,8 +214,8 @@ module _ {D : Type 0} (disk : Ghosts D) (s : Core D) (is : IsStudio disk s) (cha
             })
 
       module _ (name : List ℕ) (sound : Option (List ℕ)) (has : HasChannels sound s.rate channels)
-          (given : brings.Given)
-          (bring : brought given ≡ placed (all_of channels)) where
+          (count : ℕ) (given : ℕ → ℤ)
+          (bring : parts_from given 0 counts ≡ channels) where
         few_blocks : n ≤ blocks_of_channels m channels
         few_blocks = omega (
           arith,
@@ -228,7 +224,7 @@ module _ {D : Type 0} (disk : Ghosts D) (s : Core D) (is : IsStudio disk s) (cha
           ap (λ (k : ℕ). k / m) (are.brought ∙ total_lists channels),
         )
 
-        grown_edit : IsEdit disk s (Line (command.Import name)) (left_as sound) (tagged plan_then 0 0 given)
+        grown_edit : IsEdit disk s (Line (command.Import name)) (left_as sound) (tagged plan_then 0 0 count given)
         grown_edit = record {
           most = λ size state. blocks_of_channels size (channels_of sound);
           call = record {
@@ -245,7 +241,7 @@ module _ {D : Type 0} (disk : Ghosts D) (s : Core D) (is : IsStudio disk s) (cha
     -- ---- by the plan that the code has
 
     module _ (p : Planned) (plan : IsChannelsPlan s counts p) (keeps : p.clip ≡ None)
-        (given : brings.Given) where
+        (count : ℕ) (given : ℕ → ℤ) where
       same : plan_then plan.grown plan.are ≡ p
       same = λ i. record {
         point = sym (plan.point_is ∙ plan.are.point) i;
@@ -255,13 +251,13 @@ module _ {D : Type 0} (disk : Ghosts D) (s : Core D) (is : IsStudio disk s) (cha
         clip = sym keeps i;
       }
 
-      pub channels_planned : brought_count given ≡ total_of counts → IsPlanned s (tagged p 0 0 given)
-      channels_planned all = subst (λ (q : Planned). IsPlanned s (tagged q 0 0 given)) same
-          (grown_planned plan.grown plan.are given all)
+      pub channels_planned : count ≡ total_of counts → IsPlanned s (tagged p 0 0 count given)
+      channels_planned all = subst (λ (q : Planned). IsPlanned s (tagged q 0 0 count given)) same
+          (grown_planned plan.grown plan.are count given all)
 
       pub channels_edit : (name : List ℕ) (sound : Option (List ℕ)) → HasChannels sound s.rate channels
-          → brought given ≡ placed (all_of channels)
-          → IsEdit disk s (Line (command.Import name)) (left_as sound) (tagged p 0 0 given)
+          → parts_from given 0 counts ≡ channels
+          → IsEdit disk s (Line (command.Import name)) (left_as sound) (tagged p 0 0 count given)
       channels_edit name sound has bring =
-          subst (λ (q : Planned). IsEdit disk s (Line (command.Import name)) (left_as sound) (tagged q 0 0 given)) same
-          (grown_edit plan.grown plan.are name sound has given bring)
+          subst (λ (q : Planned). IsEdit disk s (Line (command.Import name)) (left_as sound) (tagged q 0 0 count given)) same
+          (grown_edit plan.grown plan.are name sound has count given bring)

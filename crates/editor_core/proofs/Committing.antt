@@ -1,7 +1,8 @@
--- A commit whose records are not added: the journal is full, the record too long, there is no memory, or the disk fails.
+-- A commit whose records are not added: the journal is full, the record too long, memory is short, or the disk fails.
 use Rattle.std.proofs.Common.{◌≡◌, inl, inr, ⊎_elim, refl, sym, ap, subst, ℕ, ◌+◌, ◌-◌, ◌^◌, ◌≤◌, ◌<◌, IsTrue, List}
 use Rattle.std.proofs.Common.{Option, None, Err}
-use Rattle.std.proofs.Common.{arith}
+use Rattle.std.proofs.Common.{◌∙◌, arith}
+use Rattle.std.proofs.lemmas.Bool.{true≢false}
 use Rattle.pcm_base.specs.declared.block.BlockRef.{BlockRef}
 use Rattle.pcm_base.specs.declared.command.Call.{Call}
 use Rattle.pcm_base.specs.declared.entry.SoundMove.{SoundMove}
@@ -24,6 +25,7 @@ use Rattle.editor_core.specs.Spent.{WouldMake, kept_of}
 use Rattle.editor_core.specs.Packing.{packed_by}
 use Rattle.editor_core.specs.Studios.{IsHeld, IsStudio, named_blocks, studio_by, studio_of}
 use Rattle.editor_core.specs.Took.{Took, with_sound}
+use Rattle.editor_core.proofs.AsksNoVault.{exceeding_begins_none}
 use Rattle.editor_core.proofs.Flights.{IsCommit, IsTested, flight, number_left, whole_still}
 use Rattle.editor_core.proofs.Grown.{stopped_studio}
 use Rattle.editor_core.proofs.Lists.{all_left}
@@ -31,7 +33,8 @@ use Rattle.editor_core.proofs.Leaving.{left_stopped}
 use Rattle.editor_core.proofs.Others.{NoneGoes, others_record}
 use Rattle.editor_core.proofs.Premises.{TookWhere, took_so}
 use Rattle.editor_core.proofs.Removing.{commit_frees, commit_leaves_journal, commit_removes_none, ids_same}
-use Rattle.editor_core.proofs.Removing.{off_untouched}
+use Rattle.editor_core.proofs.Removing.{begun_untouched}
+use Rattle.editor_core.proofs.Removing.{broken_begins}
 use Rattle.editor_core.proofs.Sounds.{sources_elsewhere}
 use Rattle.editor_core.proofs.Spaces.{exceeded}
 use Rattle.editor_core.proofs.Spending.{exceeding_needed}
@@ -157,7 +160,8 @@ module _ {D : Type 0} (disk : Ghosts D) (s : Core D) (made : List BlockRef) (c :
   unfit_by : (n : ℕ) → IsLength s w n → (why : Refusal) → Fewer disk s.store → Exceeds s.journal_end n why
       → Took disk s (with_sound c sound (Err why)) s
   unfit_by n one why fewer over =
-      refuses disk s c sound why is fewer (commit_frees disk s c (Err why) s move.call.many) move.call.quiet n 0
+      refuses disk s c sound why is fewer (commit_frees disk s c (Err why) s move.call.many) move.call.quiet n
+      (λ off. absurd (true≢false (sym off ∙ exceeding_begins_none s.journal_end n why over))) 0
       (λ held. move.needs held n one)
       (exceeded (studio_of disk s) c sound tracks move.call 0 n is.counters.pin_most
       is.journal.generation_most going own
@@ -189,6 +193,6 @@ module _ {D : Type 0} (disk : Ghosts D) (s : Core D) (made : List BlockRef) (c :
       (took_so disk s c sound (Err refusal.DiskFault) (after tested mid adds) (failed tested mid adds)
       (commit_removes_none c move.call.many) (commit_leaves_journal c move.call.many)
       (ids_same s (after tested mid adds) refl refl) tt tt
-      (off_untouched disk s.store mid.store refusal.DiskFault refl)
+      (begun_untouched disk s.store mid.store c refusal.DiskFault (broken_begins c refusal.DiskFault refl))
       (inr (refl, adds.fields.2, refl)) (left_stopped disk s mid.store adds.fields.2))
   fails why mid fewer adds = absurd adds.fields

@@ -139,8 +139,8 @@ module _ {D : Type 0} (disk : Ghosts D) (s : Core D) (is : IsStudio disk s) (e :
       let own = own_is (samples_on (disk.reads s.store)) in
       let first : ((stop_of s.stopped) otherwise (call_tests (outside t silent) t.state line)) ≡ Some why =
       (λ i. (stop_of s.stopped) otherwise (own i)) ∙ h in
-      refuses disk s line silent why is fewer (commit_frees disk s line (Err why) s call.commit.many) refl 0 0
-      (λ held. call.needs t.rate t 0 0 (omega arith, omega arith, omega arith))
+      refuses disk s line silent why is fewer (commit_frees disk s line (Err why) s call.commit.many) refl 0
+      (λ off. omega arith) 0 (λ held. call.needs t.rate t 0 0 (omega arith, omega arith, omega arith))
       (early t line silent 0 call.commit 0 0 why first) (early_needed disk s line silent why first)
 
   pub cut_stopped : (faults : ℕ) → s.stopped ≡ Some faults → Took disk s (quietly line (Err (refusal.Stopped faults))) s

@@ -26,6 +26,7 @@ use Rattle.edit_ops.specs.declared.types.NewBlock.{NewBlock}
 use Rattle.edit_ops.specs.Plans.{AreWritten}
 use Rattle.edit_ops.specs.Runs.{AreCopies, AreCuts, copy_tests}
 use Rattle.piece_store.specs.declared.given.Given.TheVariants.{Nothing}
+use Rattle.piece_store.specs.Bringing.{brought, brought_by}
 use Rattle.project_state.specs.declared.track.Track.{Track}
 use Rattle.project_state.specs.Kept.{current_tracks, meant, meant_history, point_blocks}
 use Rattle.project_state.specs.KeptSound.{IsSoundPoint}
@@ -38,7 +39,7 @@ use Rattle.editor_core.specs.Copies.{Copies, run_of, strips_blocks}
 use Rattle.editor_core.specs.Core.{Core}
 use Rattle.editor_core.specs.Cuts.{IsCutPlan, cut_line}
 use Rattle.editor_core.specs.Edits.{AreAmong, IsEdit, IsEditCall, IsPlanned, alone, blocks_with, clip_behind, clip_then}
-use Rattle.editor_core.specs.Edits.{tagged}
+use Rattle.editor_core.specs.Edits.{tagged_by}
 use Rattle.editor_core.specs.Points.{lacks}
 use Rattle.editor_core.specs.Reads.{HasLayout}
 use Rattle.editor_core.specs.Studios.{IsClipboard, IsStudio, clip_cells, named_blocks, studio_by}
@@ -140,7 +141,7 @@ module _ {D : Type 0} (disk : Ghosts D) (s : Core D) (is : IsStudio disk s) (e :
     behind : clip_behind s planned ≡ Some v
     behind = ap (λ (z : Option (List (List Item))). clip_then z s.clipboard) p.clip_is
 
-    pub cut_planned : IsPlanned s (tagged planned 0 0 Nothing)
+    pub cut_planned : IsPlanned s (tagged_by planned 0 0 (brought_by Nothing) (brought Nothing))
     cut_planned =
         run_planned disk s is id found.0 found.1 xs old_named (current_may_read disk s is)
         (each_so n f) p.plans laid planned p.laid none (Some v) behind v_named v_few clipboard
@@ -202,7 +203,7 @@ module _ {D : Type 0} (disk : Ghosts D) (s : Core D) (is : IsStudio disk s) (e :
             commit = s.commit_number + 1;
           })
 
-    pub cut_edit : IsEdit disk s line silent (tagged planned 0 0 Nothing)
+    pub cut_edit : IsEdit disk s line silent (tagged_by planned 0 0 (brought_by Nothing) (brought Nothing))
     cut_edit = record {
       most = λ m st. blocks_of_tracks n;
       call = subst (λ (k : ℕ). IsEditCall line silent k 0 (λ m st. blocks_of_tracks n)) (sym none) (cut_call e range);

@@ -22,8 +22,6 @@ use Rattle.block_ledger.specs.Counts.{Counts}
 use Rattle.clip_track.specs.declared.items.Item.{Item}
 use Rattle.edit_ops.specs.declared.types.NewBlock.{NewBlock}
 use Rattle.edit_ops.specs.Plans.{AreWritten}
-use Rattle.piece_store.specs.declared.given.Given as brings
-use Rattle.piece_store.specs.Bringing.{brought, brought_count}
 use Rattle.project_state.specs.declared.body.Body.{Body}
 use Rattle.project_state.specs.declared.body.Body.TheVariants.{Edit}
 use Rattle.project_state.specs.declared.track.Track.{Track}
@@ -59,7 +57,7 @@ use Rattle.editor_core.proofs.NamedThere.{makes_all, IsCounted, counted_there, t
 
 module _ {D : Type 0} (disk : Ghosts D) (s : Core D) (is : IsStudio disk s) (going : s.stopped ≡ None)
     (e : TaggedEdit) (plan : IsPlanned s e) where
-  abbrev given : brings.Given
+  abbrev given : ℕ → ℤ
   given = e.given
 
   abbrev makes : List NewBlock
@@ -96,7 +94,7 @@ module _ {D : Type 0} (disk : Ghosts D) (s : Core D) (is : IsStudio disk s) (goi
   edit_history = history_behind s e
 
   pub pieces_there : IsHeld disk s → PiecesThere (disk.reads s.store) makes
-  pieces_there held = makes_all (disk.reads s.store) (named_blocks s) (brought_count given) makes held.whole plan.origin
+  pieces_there held = makes_all (disk.reads s.store) (named_blocks s) e.count makes held.whole plan.origin
 
   -- ---- the counts have room for what is named
 
@@ -171,7 +169,7 @@ module _ {D : Type 0} (disk : Ghosts D) (s : Core D) (is : IsStudio disk s) (goi
     abbrev project_then : model.Studio → Project
     project_then u = current (after (outside u sound) u.state c)
 
-    then_meant : (block : ℕ → ℕ → ℤ) → AreWritten (beside block (brought given)) makes
+    then_meant : (block : ℕ → ℕ → ℤ) → AreWritten (beside block given) makes
         → project_then (by block) ≡ meant (alone block) point
     then_meant block written =
         ap current (edit.means block written) ∙ current_is (alone block) edit_history
@@ -188,7 +186,7 @@ module _ {D : Type 0} (disk : Ghosts D) (s : Core D) (is : IsStudio disk s) (goi
         (current_sound disk s is, omega arith)).0
 
     short_by : (len : ℕ) → IsLength s writes len → (block : ℕ → ℕ → ℤ)
-        → AreWritten (beside block (brought given)) makes → ShortBy len (by block)
+        → AreWritten (beside block given) makes → ShortBy len (by block)
     short_by len one block written =
         subst (λ (p : Project). (5 * e.more ≤ len) × (len ≤ e.more * (5 + project_body_most s.block_size p)
         + project_body_most s.block_size (project_then (by block)))) (sym (current_is (alone block) s.history))
@@ -202,14 +200,14 @@ module _ {D : Type 0} (disk : Ghosts D) (s : Core D) (is : IsStudio disk s) (goi
     short : (len : ℕ) → IsLength s writes len → ShortBy len t
     short len one =
         let old = samples_on (disk.reads s.store) in
-        let new = supposed old (brought given) s.next_block makes in
+        let new = supposed old given s.next_block makes in
         let below = all_so (λ (b : BlockRef). IsGiven s.next_block b.id) (λ (b : BlockRef). b.id < s.next_block)
         (λ b h. h.1) (named_blocks s) is.ids in
-        let written = supposed_written old (brought given) s.next_block makes (named_blocks s) below
-        (brought_count given) s.block_size plan.new plan.origin in
+        let written = supposed_written old given s.next_block makes (named_blocks s) below
+        e.count s.block_size plan.new plan.origin in
         let same = same_by old new disk s
         (all_so (λ (b : BlockRef). b.id < s.next_block) (λ (b : BlockRef). new b.id ≡ old b.id)
-        (λ b low. old_same old (brought given) s.next_block makes b.id low) (named_blocks s) below) in
+        (λ b low. old_same old given s.next_block makes b.id low) (named_blocks s) below) in
         subst (ShortBy len) same (short_by len one new written)
 
     pub edit_needs : (len : ℕ) → IsLength s writes len → (k : ℕ) → k ≤ n → Needs (outside t sound) t c k len
@@ -237,11 +235,11 @@ module _ {D : Type 0} (disk : Ghosts D) (s : Core D) (is : IsStudio disk s) (goi
         pub grown_made : AreSynced disk (ids_from s.next_block n) store → HasMade (IsHeld disk s) disk grown made
         grown_made = has_made disk s is given makes going plan.new most pieces_there c sound grown making
 
-        written : IsHeld disk s → AreWritten (beside (samples_on (disk.reads store)) (brought given)) makes
+        written : IsHeld disk s → AreWritten (beside (samples_on (disk.reads store)) given) makes
         written held =
             let first = (are_made disk s is given makes n grown making going
             (omega arith) plan.new most pieces_there held).written in
-            subst (AreWritten (beside (samples_on (disk.reads store)) (brought given)))
+            subst (AreWritten (beside (samples_on (disk.reads store)) given))
             (take_all n makes (omega arith)) first
 
         sound_then : (m : ℕ) (k : Kept) → Matches grown m k → (ts : List Track)

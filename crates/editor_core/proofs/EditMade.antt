@@ -1,5 +1,5 @@
 -- An edit whose blocks are made: what is left is one commit, and the call from there is the call from the start.
-use Rattle.std.proofs.Common.{◌≡◌, inr, refl, subst, ℕ, suc, ◌+◌, ◌≤◌, Option, None}
+use Rattle.std.proofs.Common.{ℤ, ◌≡◌, inr, refl, subst, ℕ, suc, ◌+◌, ◌≤◌, Option, None}
 use Rattle.std.proofs.Common.{List, [], length, Result, IfErr, arith}
 use Rattle.std.specs.Prelude.{IfOk}
 use Rattle.pcm_base.specs.declared.answer.Reply.{Reply}
@@ -17,7 +17,6 @@ use Rattle.disk_model.proofs.Frames.{Fewer}
 use Rattle.block_ledger.specs.Counts.{Counts}
 use Rattle.clip_track.specs.declared.items.Item.{Item}
 use Rattle.edit_ops.specs.declared.types.NewBlock.{NewBlock}
-use Rattle.piece_store.specs.declared.given.Given as brings
 use Rattle.project_state.specs.declared.body.Body.TheVariants.{Edit}
 use Rattle.project_state.specs.declared.track.Track.{Track}
 use Rattle.editor_core.specs.Bodies.{Writing, all_bytes, all_len}
@@ -45,7 +44,7 @@ module _ {D : Type 0} (disk : Ghosts D) (s : Core D) (is : IsStudio disk s) (goi
     (c : Call) (sound : SoundMove)
     (edit : IsEdit disk s c sound e)
     (fewer : (store : D) → Fewer disk store) where
-  abbrev given : brings.Given
+  abbrev given : ℕ → ℤ
   given = e.given
 
   abbrev makes : List NewBlock
@@ -163,7 +162,7 @@ module _ {D : Type 0} (disk : Ghosts D) (s : Core D) (is : IsStudio disk s) (goi
         → TookWhere (IsHeld disk s) disk mid c sound told_as new
         → new.next_block ≡ mid.next_block → (IsHeld disk s → Answers t c sound told_as (studio_of disk new))
         → CountsIds s [] new → IfOk told_as (λ r. NamesGiven s new) → IfErr told_as (Needed disk s c sound)
-        → Untouched disk s told_as new → Stops disk s told_as new
+        → Untouched disk s c told_as new → Stops disk s told_as new
         → IfErr told_as (Left disk s new) → Took disk s (with_sound c sound told_as) new
     from_start told_as new took next step ids named needed untouched stops left =
         composed disk s is given makes going plan.new prepared.blocks

@@ -1,11 +1,13 @@
 -- An edit that makes blocks, as one step: its record was added, or was not, or nothing was prepared.
-use Rattle.std.proofs.Common.{◌≡◌, ◌↔◌, inl, inr, ⊎_elim, refl, sym, ap, ◌∙◌, subst, ℕ, suc, ◌+◌, IsSome, Option, None}
+use Rattle.std.proofs.Common.{ℤ, ◌≡◌, ◌↔◌, inl, inr, ⊎_elim, refl, sym, ap, ◌∙◌, subst, ℕ, suc, ◌+◌, IsSome}
+use Rattle.std.proofs.Common.{Option, None}
 use Rattle.std.proofs.Common.{List, ◌++◌, length, Ok, Err, arith}
 use Rattle.pcm_base.specs.declared.answer.Reply.TheVariants.{Done}
 use Rattle.pcm_base.specs.declared.command.Call.{Call}
 use Rattle.pcm_base.specs.declared.entry.SoundMove.{SoundMove}
 use Rattle.pcm_base.specs.declared.refusal.Refusal.{Refusal}
 use Rattle.pcm_base.specs.declared.refusal.Refusal.TheVariants as refusal
+use Rattle.pcm_base.specs.declared.wav.WavFault.TheVariants.{Truncated}
 use Rattle.pcm_base.specs.History.{History}
 use Rattle.pcm_base.specs.Run.{followed, outside}
 use Rattle.pcm_base.specs.Studio as model
@@ -14,17 +16,16 @@ use Rattle.disk_model.proofs.Frames.{Fewer}
 use Rattle.block_ledger.specs.Counts.{Counts, IsFreshCount}
 use Rattle.clip_track.specs.declared.items.Item.{Item}
 use Rattle.edit_ops.specs.declared.types.NewBlock.{NewBlock}
-use Rattle.piece_store.specs.declared.given.Given as brings
 use Rattle.project_state.specs.declared.body.Body.TheVariants.{Edit}
 use Rattle.project_state.specs.declared.track.Track.{Track}
 use Rattle.project_state.specs.Kept.{current_tracks, history_blocks}
 use Rattle.editor_core.specs.Adding.{Adds, AddsBody, stopped_by}
 use Rattle.editor_core.specs.Bodies.{Writing, all_bytes, all_len, whole_len}
 use Rattle.editor_core.specs.Core.{Core}
-use Rattle.editor_core.specs.Edits.{Carried, Committed, IsEdit, IsPlanned, IsPrepared, TaggedEdit, clip_behind}
+use Rattle.editor_core.specs.Edits.{Carried, Committed, IsEdit, IsPlanned, IsPrepared, TaggedEdit, clip_behind, Serves}
 use Rattle.editor_core.specs.Edits.{history_behind}
 use Rattle.editor_core.specs.Made.{batch_of, ids_from}
-use Rattle.editor_core.specs.Makes.{AreSynced, Making}
+use Rattle.editor_core.specs.Makes.{AreSynced, Making, OrCut}
 use Rattle.editor_core.specs.Studios.{IsHeld, IsStudio, clip_blocks, ids_of, pin_blocks, studio_of}
 use Rattle.editor_core.specs.Took.{Took, with_sound}
 use Rattle.editor_core.proofs.CarriedOut.{commit_of}
@@ -36,7 +37,7 @@ use Rattle.editor_core.proofs.MadeFailures.{not_made}
 use Rattle.editor_core.proofs.MadeLeft.{all_failed, all_ids, all_left}
 use Rattle.editor_core.proofs.MadeStudios.{refs}
 use Rattle.editor_core.proofs.Premises.{TookWhere}
-use Rattle.editor_core.proofs.Removing.{commit_removes_none, ids_made, off_untouched}
+use Rattle.editor_core.proofs.Removing.{commit_removes_none, ids_made, begun_untouched, broken_begins}
 use Rattle.editor_core.proofs.UnpreparedEdits.{not_prepared}
 use Rattle.editor_core.proofs.EditMade.{from_start, mid_state, mid_tested, need, passes}
 use Rattle.editor_core.proofs.Used.{names_given}
@@ -47,7 +48,7 @@ module _ {D : Type 0} (disk : Ghosts D) (s : Core D) (is : IsStudio disk s) (goi
     (c : Call) (sound : SoundMove)
     (edit : IsEdit disk s c sound e)
     (fewer : (store : D) → Fewer disk store) where
-  abbrev given : brings.Given
+  abbrev given : ℕ → ℤ
   given = e.given
 
   abbrev makes : List NewBlock
@@ -141,7 +142,8 @@ module _ {D : Type 0} (disk : Ghosts D) (s : Core D) (is : IsStudio disk s) (goi
           );
         }))
         (all_ids disk s given makes prepared.blocks c sound store counts making new.store adds.fields.2) tt tt
-        (off_untouched disk s.store new.store refusal.DiskFault refl) (inr (refl, failed_change, refl))
+        (begun_untouched disk s.store new.store c refusal.DiskFault (broken_begins c refusal.DiskFault refl))
+        (inr (refl, failed_change, refl))
         (all_left disk s given makes prepared.blocks c sound store counts making new.store adds.fields.2))
 
     -- they were
@@ -199,27 +201,31 @@ module _ {D : Type 0} (disk : Ghosts D) (s : Core D) (is : IsStudio disk s) (goi
       (record s { store = it.store; counts = it.counts; next_block = s.next_block + n })
   made_so it making = subst (λ (z : Core D). Making disk s (batch_of given makes) n z) making.is making
 
-  pub edit_err : (why : Refusal) (new : Core D) → Carried disk s (commit_of s e) (Err why) new
-      → Took disk s (with_sound c sound (Err why)) new
-  edit_err why new carried = ⊎_elim
-      (λ not. not_prepared disk s is going e plan c sound edit fewer why new not.0
-      not.1)
+  or_cut : (why : Refusal) {P : Type 0} → P → OrCut why P
+  or_cut (refusal.BadWav (Truncated want have)) p = tt
+  or_cut why p = p
+
+  pub edit_err : (why : Refusal) (new : Core D) → Serves c why → Carried disk s (commit_of s e) (Err why) new
+      → OrCut why (Took disk s (with_sound c sound (Err why)) new)
+  edit_err why new serves carried = ⊎_elim
+      (λ not. or_cut why (not_prepared disk s is going e plan c sound edit fewer why new not.0
+      not.1))
       (⊎_elim
       (λ some.
       not_made disk s is given makes going plan.new some.0.blocks
       (pieces_there disk s is going e plan) c sound (commit_removes_none c edit.call.commit.many)
       len some.0.short edit.call.commit.changes (edit.call.commit.leaves t)
-      (λ held. need disk s is going e plan c sound edit fewer) plan.origin why new some.1)
+      (λ held. need disk s is going e plan c sound edit fewer) e.count plan.origin why new some.1 serves)
       (λ last.
       let it = last.1 in
-      let adds = subst (λ (r : Refusal). Adds {R = Unit {0}} disk it.mid bodies (suc e.more) (whole_len s writes)
-      (Err r) new)
-      last.0 it.adds in
-      subst (λ (e : Refusal). Took disk s (with_sound c sound (Err e)) new) (sym last.0)
+      let count = suc e.more in
+      let whole = whole_len s writes in
+      let adds =
+      subst (λ (r : Refusal). Adds {R = Unit {0}} disk it.mid bodies count whole (Err r) new) last.0 it.adds in
+      or_cut why (subst (λ (e : Refusal). Took disk s (with_sound c sound (Err e)) new) (sym last.0)
       (edit_failed it.prepared it.mid.store it.mid.counts (made_so it.mid it.making) it.reads it.synced new
-      (subst (λ (z : Core D). Adds {R = Unit {0}} disk z bodies (suc e.more) (whole_len s writes)
-      (Err refusal.DiskFault) new)
-      it.making.is adds))))
+      (subst (λ (z : Core D). Adds {R = Unit {0}} disk z bodies count whole (Err refusal.DiskFault) new)
+      it.making.is adds)))))
       carried
 
   pub edit_ok : (done : Unit {0}) (new : Core D) (it : Committed disk s (commit_of s e) (Ok done) new)

@@ -100,7 +100,8 @@ module _ {D : Type 0} (disk : Ghosts D) (s : Core D) (is : IsStudio disk s) (nam
   pub export_stopped : Fewer disk s.store → sound.after ≡ sound.before → (faults : ℕ) → s.stopped ≡ Some faults
       → Took disk s (with_sound call sound (Err (refusal.Stopped faults))) s
   export_stopped fewer quiet faults stopped =
-      refuses disk s call sound (refusal.Stopped faults) is fewer refl quiet 0 0 (λ held. (refl, refl))
+      refuses disk s call sound (refusal.Stopped faults) is fewer refl quiet 0 (λ off. omega arith) 0
+      (λ held. (refl, refl))
       (ap (λ (z : Option Refusal). z otherwise rest) (ap stop_of stopped)) tt
     where
       rest : Option Refusal

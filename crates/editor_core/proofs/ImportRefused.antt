@@ -1,7 +1,7 @@
 -- An import that reading the sound refuses.
-use Rattle.std.proofs.Common.{◌≡◌, ◌⊎◌, ◌<◌, inr, refl, ap, subst, ℕ, ◌+◌, Option, Some, None, List, Result, Ok, Err}
+use Rattle.std.proofs.Common.{◌≡◌, ◌<◌, inr, refl, ap, subst, ℕ, ◌+◌, Option, Some, None, List, Result, Ok, Err}
 use Rattle.std.proofs.Common.{arith}
-use Rattle.std.specs.Prelude.{IfErr, IfOk}
+use Rattle.std.specs.Prelude.{IfErr}
 use Rattle.pcm_base.specs.declared.command.Call.{Call}
 use Rattle.pcm_base.specs.declared.command.Call.TheVariants.{Line}
 use Rattle.pcm_base.specs.declared.command.Command.TheVariants as command
@@ -15,75 +15,62 @@ use Rattle.pcm_base.specs.Run.{outside, stop_of}
 use Rattle.pcm_base.specs.Studio as model
 use Rattle.disk_model.specs.declared.store.Store.{Ghosts}
 use Rattle.disk_model.proofs.Frames.{Fewer}
-use Rattle.wav_pcm.specs.declared.wav.Wav.{Wav}
+use Rattle.wav_pcm.specs.declared.fault.SoundFault.TheVariants.{NoFile, Vault, BadWav, TooLong}
 use Rattle.sound_import.specs.declared.fault.ImportFault.{ImportFault}
-use Rattle.sound_import.specs.declared.fault.ImportFault.TheVariants.{NoFile, Vault, BadWav, RateDiffers, NoMemory}
+use Rattle.sound_import.specs.declared.fault.ImportFault.TheVariants.{Sound, RateDiffers}
 use Rattle.sound_import.specs.Imported as imported
-use Rattle.sound_import.specs.Imported.{IsRefused, IsTaken, import_refusal}
+use Rattle.sound_import.specs.Imported.{IsRefused, import_refusal}
 use Rattle.editor_core.specs.Core.{Core}
-use Rattle.editor_core.specs.Imports.{HasChannels, IsCutShort, IsInside, VaultCounted, VaultCountedBy, left_as}
+use Rattle.piece_store.specs.Brought.{Brought}
+use Rattle.editor_core.specs.Imports.{IsCutShort, IsInsideOr, VaultCounted, VaultCountedBy, left_as}
+use Rattle.editor_core.specs.Makes.{RefusedBrought, RefusedBroughtBy}
 use Rattle.editor_core.specs.Studios.{IsStudio, studio_of}
 use Rattle.editor_core.specs.Took.{Took, with_sound}
 use Rattle.editor_core.proofs.Leaving.{IsPlain}
 use Rattle.editor_core.proofs.Staying.{refuses, stays, wants}
 use Rattle.editor_core.proofs.Spending.{tests_needed}
 
--- where the vault did not fail it has counted nothing
-counted_by : (why : Refusal) (old new : ℕ) → IsInside why → new ≡ old → VaultCountedBy why old new
-counted_by refusal.VaultFault old new none same = absurd none
-counted_by why old new none same = same
+-- the vault's count of faults is that of who brought its samples
+counted_by : (why : Refusal) (old new : ℕ) → RefusedBroughtBy why old new → VaultCountedBy why old new
+counted_by refusal.VaultFault old new counted = counted
+counted_by why old new counted = counted
 
-pub counted_so : {T : Type 0} (r : Result T Refusal) (old new : ℕ) → IfErr r IsInside → new ≡ old
-    → VaultCounted r old new
-counted_so (Ok x) old new none same = same
-counted_so (Err why) old new none same = counted_by why old new none same
+pub counted_so : {T : Type 0} (r : Result T Refusal) (old new : ℕ) → RefusedBrought r old new → VaultCounted r old new
+counted_so (Ok x) old new counted = counted
+counted_so (Err why) old new counted = counted_by why old new counted
 
 -- ---- what a vault gave
 
--- no sound is cut short
-pub inside_short : {T : Type 0} (r : Result T Refusal) (want have : ℕ) → IfErr r IsInside
+-- a sound that is cut short has fewer bytes than it should
+pub inside_short : {T : Type 0} (b : Brought) (r : Result T Refusal) (want have : ℕ) → IfErr r (IsInsideOr b)
     → IfErr r (λ why. why ≡ refusal.BadWav (Truncated want have) → have < want)
-inside_short (Ok x) want have inside = tt
-inside_short (Err why) want have inside = λ is. absurd (subst IsInside is inside)
+inside_short b (Ok x) want have inside = tt
+inside_short b (Err why) want have inside = λ is. (subst (IsInsideOr b) is inside).1
 
 abbrev HasLess : Refusal → Type 0
 HasLess (refusal.BadWav (Truncated want have)) = have < want
 HasLess why = Unit {0}
 
-told_less : (why : ImportFault) → ((want have : ℕ) → why ≡ BadWav (Truncated want have) → have < want)
+told_less : (why : ImportFault) → ((want have : ℕ) → why ≡ Sound (BadWav (Truncated want have)) → have < want)
     → HasLess (import_refusal why)
-told_less (BadWav (Truncated want have)) less = less want have refl
+told_less (Sound (BadWav (Truncated want have))) less = less want have refl
 told_less why less = tt
 
-pub told_short : (why : ImportFault) → ((want have : ℕ) → why ≡ BadWav (Truncated want have) → have < want)
+pub told_short : (why : ImportFault) → ((want have : ℕ) → why ≡ Sound (BadWav (Truncated want have)) → have < want)
     → (want have : ℕ) → import_refusal why ≡ refusal.BadWav (Truncated want have) → have < want
 told_short why less want have is = subst HasLess is (told_less why less)
 
 pub told_cut : (why : ImportFault) → imported.IsCutShort why → IsCutShort (import_refusal why)
-told_cut (BadWav (Truncated want have)) cut = cut
+told_cut (Sound (BadWav (Truncated want have))) cut = cut
 told_cut why cut = absurd cut
-
-pub where_ok : {T E P : Type 0} (r : Result T E) → P → IfOk r (λ _. P)
-where_ok (Ok x) p = p
-where_ok (Err e) p = tt
-
-pub where_err : {T E P : Type 0} (C : E → Type 0) (r : Result T E) → P → IfErr r (λ e. C e ⊎ P)
-where_err C (Ok x) p = tt
-where_err C (Err e) p = inr p
 
 -- nothing of it is told of the disk
 pub import_plain : (why : ImportFault) → IsPlain (import_refusal why)
-import_plain NoFile = tt
-import_plain (BadWav fault) = tt
+import_plain (Sound NoFile) = tt
+import_plain (Sound Vault) = tt
+import_plain (Sound (BadWav fault)) = tt
+import_plain (Sound (TooLong frames)) = tt
 import_plain (RateDiffers have want) = tt
-import_plain NoMemory = tt
-import_plain Vault = tt
-
--- a sound that was taken has these channels
-pub taken_has : (sound : Option (List ℕ)) (rate : ℕ) (wav : Wav) → IsTaken sound rate wav
-    → HasChannels sound rate wav.channels
-taken_has None rate wav h = absurd h
-taken_has (Some bytes) rate wav h = subst (λ (r : ℕ). HasChannels (Some bytes) r wav.channels) h.1 h.0
 
 module _ {D : Type 0} (disk : Ghosts D) (s : Core D) (is : IsStudio disk s) (fewer : Fewer disk s.store) (name : List ℕ)
     (sound : Option (List ℕ)) where
@@ -102,7 +89,7 @@ module _ {D : Type 0} (disk : Ghosts D) (s : Core D) (is : IsStudio disk s) (few
   pub import_stopped : (faults : ℕ) → s.stopped ≡ Some faults
       → Took disk s (with_sound call (left_as sound) (Err (refusal.Stopped faults))) s
   import_stopped faults at =
-      refuses disk s call (left_as sound) (refusal.Stopped faults) is fewer refl refl 0 0
+      refuses disk s call (left_as sound) (refusal.Stopped faults) is fewer refl refl 0 (λ off. omega arith) 0
       (λ held. (omega arith, omega arith))
       (ap (λ (z : Option Refusal). z otherwise ((call_tests out t.state call) otherwise rest)) (ap stop_of at)) tt
 
@@ -110,20 +97,23 @@ module _ {D : Type 0} (disk : Ghosts D) (s : Core D) (is : IsStudio disk s) (few
     pub own_refused : (why : Refusal) → call_tests out t.state call ≡ Some why
         → Took disk s (with_sound call (left_as sound) (Err why)) s
     own_refused why test =
-        refuses disk s call (left_as sound) why is fewer refl refl 0 0 (λ held. (omega arith, omega arith))
+        refuses disk s call (left_as sound) why is fewer refl refl 0 (λ off. omega arith) 0
+        (λ held. (omega arith, omega arith))
         (λ i. (stop_of (going i)) otherwise (test i) otherwise rest)
         (tests_needed disk s call (left_as sound) why test)
 
+    pub import_wants : Took disk s (with_sound call (left_as sound) (Err refusal.NoMemory)) s
+    import_wants = wants disk s call (left_as sound) is fewer tt refl 0 (λ held. (0, (omega arith, omega arith)))
+
     pub import_refused : (why : ImportFault) → IsRefused sound s.rate why
         → Took disk s (with_sound call (left_as sound) (Err (import_refusal why))) s
-    import_refused NoFile h = own_refused refusal.NoFile (h t.state)
-    import_refused (BadWav fault) h = own_refused (refusal.BadWav fault) (h t.state)
+    import_refused (Sound NoFile) h = own_refused refusal.NoFile (h t.state)
+    import_refused (Sound (BadWav fault)) h = own_refused (refusal.BadWav fault) (h t.state)
+    import_refused (Sound (TooLong frames)) h = absurd h
     import_refused (RateDiffers have want) h = own_refused (refusal.RateDiffers have want) (h t.state)
-    import_refused NoMemory h =
-        wants disk s call (left_as sound) is fewer tt refl 0 (λ held. (0, (omega arith, omega arith)))
-    import_refused Vault h =
+    import_refused (Sound Vault) h =
         let none : s.next_block ≡ s.next_block + 0 = omega arith in
-        stays disk s call (left_as sound) refusal.VaultFault is fewer refl refl 0 tt
+        stays disk s call (left_as sound) refusal.VaultFault is fewer refl refl 0 (λ off. omega arith) tt
         (λ held. (0, (omega arith, omega arith))) tt (λ held. inr (
           refl,
           record {

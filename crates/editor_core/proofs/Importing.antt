@@ -25,7 +25,7 @@ use Rattle.project_state.proofs.KeptBounds.{all_append, tagged_more}
 use Rattle.editor_core.specs.Core.{Core}
 use Rattle.editor_core.specs.declared.growth.Growing.{Growing}
 use Rattle.editor_core.specs.Edits.{AreAmong, alone, beside}
-use Rattle.editor_core.specs.Imports.{AddsChannel, AreGrown, all_of, parts_from, total_of, track_with}
+use Rattle.editor_core.specs.Imports.{AddsChannel, AreGrown, parts_from, total_of, track_with}
 use Rattle.editor_core.specs.Studios.{IsGiven}
 use Rattle.editor_core.proofs.Contained.{among_all, among_itself}
 use Rattle.editor_core.proofs.Lists.{all_left, all_right, all_so}
@@ -35,11 +35,7 @@ use Rattle.editor_core.proofs.TrackPlans.{layout_given}
 use Rattle.editor_core.proofs.Used.{new_in}
 use Rattle.editor_core.proofs.Without.{above_less, given_below, more_rising, more_sound}
 
--- ---- lists one behind another
-
-pub all_of_more : (xss : List (List ℤ)) (x : List ℤ) → all_of (xss ++ x ∷ []) ≡ all_of xss ++ x
-all_of_more [] x = append-nil x
-all_of_more (y ∷ ys) x = ap (λ (z : List ℤ). y ++ z) (all_of_more ys x) ∙ sym (append_assoc y (all_of ys) x)
+-- ---- lists one after another
 
 total_more : (counts : List ℕ) (count : ℕ) → total_of (counts ++ count ∷ []) ≡ total_of counts + count
 total_more [] count = omega arith
@@ -78,7 +74,7 @@ meant_more : (src : Sources) (ts : List Track) (t : Track)
 meant_more src [] t = refl
 meant_more src (x ∷ xs) t = ap (λ (z : Project). meant_track src x ∷ z) (meant_more src xs t)
 
--- ---- blocks behind others
+-- ---- blocks after others
 
 new_append : (m next : ℕ) (xs ys : List NewBlock) → AreNew m next xs → AreNew m (next + length xs) ys
     → AreNew m next (xs ++ ys)

@@ -1,6 +1,6 @@
 -- What holds of an edit that makes blocks, whatever its call means and whatever is told; and that no vault refuses it.
-use Rattle.std.proofs.Common.{◌≡◌, ◌↔◌, ◌⊎◌, ◌<◌, inl, inr, ⊎_elim, refl, sym, ap, ◌∙◌, subst, ℕ, suc, ◌+◌, ◌-◌, ◌^◌}
-use Rattle.std.proofs.Common.{◌≤◌}
+use Rattle.std.proofs.Common.{ℤ, ◌≡◌, ◌↔◌, ◌⊎◌, ◌<◌, inl, inr, ⊎_elim, refl, sym, ap, ◌∙◌, subst, ℕ, suc, ◌+◌}
+use Rattle.std.proofs.Common.{◌-◌, ◌^◌, ◌≤◌}
 use Rattle.std.proofs.Common.{IfErr, IsSome, Option, None, List, [], true, ◌++◌, length, Result, Ok, Err, arith}
 use Rattle.std.specs.Prelude.{IfOk}
 use Rattle.pcm_base.specs.declared.answer.Reply.{Reply}
@@ -10,6 +10,7 @@ use Rattle.pcm_base.specs.declared.command.Call.{Call}
 use Rattle.pcm_base.specs.declared.entry.SoundMove.{SoundMove}
 use Rattle.pcm_base.specs.declared.refusal.Refusal.{Refusal}
 use Rattle.pcm_base.specs.declared.refusal.Refusal.TheVariants as refusal
+use Rattle.pcm_base.specs.declared.wav.WavFault.TheVariants.{Truncated}
 use Rattle.pcm_base.specs.Counters.{commits_of}
 use Rattle.pcm_base.specs.History.{History}
 use Rattle.disk_model.specs.Disk.{StaysStep}
@@ -19,7 +20,6 @@ use Rattle.disk_model.proofs.Frames.{Fewer, changed_wider}
 use Rattle.block_ledger.specs.Counts.{Counts, IsFreshCount}
 use Rattle.clip_track.specs.declared.items.Item.{Item}
 use Rattle.edit_ops.specs.declared.types.NewBlock.{NewBlock}
-use Rattle.piece_store.specs.declared.given.Given as brings
 use Rattle.project_state.specs.declared.body.Body.TheVariants.{Edit}
 use Rattle.project_state.specs.declared.track.Track.{Track}
 use Rattle.project_state.specs.Kept.{current_tracks, history_blocks}
@@ -27,8 +27,8 @@ use Rattle.editor_core.specs.Adding.{Adds, AddsBody, stopped_by}
 use Rattle.editor_core.specs.Bodies.{Writing, all_bytes, all_len, whole_len}
 use Rattle.editor_core.specs.Applied.{Lasts}
 use Rattle.editor_core.specs.Core.{Core}
-use Rattle.editor_core.specs.Exchanges.{is_broken_off}
-use Rattle.editor_core.specs.Edits.{Carried, Committed, IsPlanned, IsPrepared, TaggedEdit, clip_behind}
+use Rattle.editor_core.specs.Exchanges.{may_have_begun}
+use Rattle.editor_core.specs.Edits.{Carried, Committed, IsPlanned, IsPrepared, TaggedEdit, clip_behind, Serves}
 use Rattle.editor_core.specs.Records.{Records}
 use Rattle.editor_core.specs.Spent.{NamesGiven}
 use Rattle.editor_core.specs.Left.{CountsIds, IsSoOf, Left, LeavesOthers, MayRemove, Stops, Untouched}
@@ -51,16 +51,17 @@ use Rattle.editor_core.proofs.Makings.{making_unread}
 use Rattle.editor_core.proofs.Others.{NoneGoes, others_record}
 use Rattle.editor_core.proofs.PlainTests.{unprepared_plain}
 use Rattle.editor_core.proofs.Recorded.{recorded_current, recorded_depth, recorded_few}
-use Rattle.editor_core.proofs.Removing.{commit_frees, commit_removes_none, ids_made, no_record, off_untouched}
+use Rattle.editor_core.proofs.Removing.{commit_frees, commit_removes_none, ids_made, no_record, begun_untouched}
+use Rattle.editor_core.proofs.Removing.{broken_begins, cut_begins}
 use Rattle.editor_core.proofs.Staying.{record_within, stopped_not}
 use Rattle.editor_core.proofs.Used.{names_given}
 
--- ---- the studio behind it
+-- ---- the studio after it
 
 module _ {D : Type 0} (disk : Ghosts D) (s : Core D) (is : IsStudio disk s) (going : s.stopped ≡ None)
     (e : TaggedEdit) (plan : IsPlanned s e)
     (c : Call) (sound : SoundMove) (one : commits_of c ≡ suc e.more) where
-  abbrev given : brings.Given
+  abbrev given : ℕ → ℤ
   given = e.given
 
   abbrev makes : List NewBlock
@@ -100,7 +101,7 @@ module _ {D : Type 0} (disk : Ghosts D) (s : Core D) (is : IsStudio disk s) (goi
       (asks (with_sound c sound told) (disk.reads s.store s.file) s.block_size (new.next_block - s.next_block) len
       (packed_by s c))
       s.store new.store
-      → CountsIds s [] new → Untouched disk s told new → Stops disk s told new → IfErr told (Left disk s new)
+      → CountsIds s [] new → Untouched disk s c told new → Stops disk s told new → IfErr told (Left disk s new)
       → Lasts disk s (with_sound c sound told) new
   lasts_going told new studio number len records named changed ids untouched stops left = record {
     studio = studio;
@@ -121,13 +122,13 @@ module _ {D : Type 0} (disk : Ghosts D) (s : Core D) (is : IsStudio disk s) (goi
 
   module _ (fits : s.next_block + n ≤ 2 ^ 62) (k : ℕ) (few : k ≤ n) where
     unread_lasts : (why : Refusal) (mid new : Core D) → Making disk s (batch_of given makes) k mid → Unread disk mid new
-        → is_broken_off why ≡ true → IsSoOf disk s new why → Lasts disk s (with_sound c sound (Err why)) new
+        → may_have_begun c why ≡ true → IsSoOf disk s new why → Lasts disk s (with_sound c sound (Err why)) new
     unread_lasts why mid new was un off so =
         let making = making_unread disk s given makes k mid new was un in
         lasts_going (Err why) new (made_studio disk s is given makes k new making going few plan.new fits there)
         (ap (λ (z : Core D). z.commit_number) making.is) 0 (no_record s (Err why) new) tt
         (some_changed disk s given makes fits c sound why k 0 new making few)
-        (some_ids disk s given makes fits c sound k new making) (off_untouched disk s.store new.store why off)
+        (some_ids disk s given makes fits c sound k new making) (begun_untouched disk s.store new.store c why off)
         (inl (some_stop disk s given makes fits c sound k new making, making.change_faults))
         (some_left disk s given makes fits c sound k new making why so)
 
@@ -146,25 +147,33 @@ module _ {D : Type 0} (disk : Ghosts D) (s : Core D) (is : IsStudio disk s) (goi
           (lasts_going (Err refusal.DiskFault) here studio refl 0 (no_record s (Err refusal.DiskFault) here) tt
           (unput_changed disk s given makes fits c sound k mid new was few left un 0)
           (unput_ids disk s given makes fits c sound k mid new was few left un)
-          (off_untouched disk s.store new.store refusal.DiskFault refl)
+          (begun_untouched disk s.store new.store c refusal.DiskFault (broken_begins c refusal.DiskFault refl))
           (inr (refl, unput_failed disk s given makes fits c sound k mid new was few left un, refl))
           (unput_left disk s given makes fits c sound k mid new was few left un))
 
   module _ (fits : s.next_block + n ≤ 2 ^ 62) where
-    stuck_lasts : (why : Refusal) (new : Core D) → Stuck disk s (batch_of given makes) why new
+    stuck_lasts : (why : Refusal) (new : Core D) → Stuck disk s (batch_of given makes) why new → Serves c why
         → Lasts disk s (with_sound c sound (Err why)) new
-    stuck_lasts refusal.DiskFault new stuck =
+    stuck_lasts refusal.DiskFault new stuck serves =
         ⊎_elim
         (λ un.
-        unread_lasts fits stuck.made stuck.few refusal.DiskFault stuck.mid new stuck.before un.0 refl
+        unread_lasts fits stuck.made stuck.few refusal.DiskFault stuck.mid new stuck.before un.0
+        (broken_begins c refusal.DiskFault refl)
         (inl (missed_so disk s given makes fits c sound stuck.mid.store new.store stuck.read_faults un.1)))
         (λ un. unput_lasts fits stuck.made stuck.few stuck.mid new stuck.before stuck.left un)
         stuck.by
-    stuck_lasts (refusal.Damaged file at want have) new stuck =
+    stuck_lasts (refusal.Damaged file at want have) new stuck serves =
         let why = refusal.Damaged file at want have in
-        unread_lasts fits stuck.made stuck.few why stuck.mid new stuck.before stuck.by.0 refl
-        (damaged_so disk s given makes fits c sound is plan.origin why new stuck)
-    stuck_lasts why new stuck = absurd stuck.by
+        unread_lasts fits stuck.made stuck.few why stuck.mid new stuck.before stuck.by.0 (broken_begins c why refl)
+        (damaged_so disk s given makes fits c sound e.count is plan.origin why new stuck)
+    stuck_lasts refusal.VaultFault new stuck serves =
+        unread_lasts fits stuck.made stuck.few refusal.VaultFault stuck.mid new stuck.before stuck.by.0
+        (cut_begins c refusal.VaultFault serves refl) tt
+    stuck_lasts (refusal.BadWav (Truncated want have)) new stuck serves =
+        let why = refusal.BadWav (Truncated want have) in
+        unread_lasts fits stuck.made stuck.few why stuck.mid new stuck.before stuck.by.0
+        (cut_begins c why serves refl) tt
+    stuck_lasts why new stuck serves = absurd stuck.by
 
   -- ---- all of them
 
@@ -208,7 +217,7 @@ module _ {D : Type 0} (disk : Ghosts D) (s : Core D) (is : IsStudio disk s) (goi
         (record_within (with_sound c sound (Err refusal.DiskFault)) (disk.reads store s.file) mid.block_size
         (mid.next_block - mid.next_block) len (packed_by mid c) one) adds.changed))
         (all_ids disk s given makes prepared.blocks c sound store counts making new.store adds.fields.2)
-        (off_untouched disk s.store new.store refusal.DiskFault refl)
+        (begun_untouched disk s.store new.store c refusal.DiskFault (broken_begins c refusal.DiskFault refl))
         (inr (
           refl,
           all_failed disk s given makes prepared.blocks c sound store counts making new.store adds.fields.2,
@@ -270,24 +279,24 @@ module _ {D : Type 0} (disk : Ghosts D) (s : Core D) (is : IsStudio disk s) (goi
       (record s { store = it.store; counts = it.counts; next_block = s.next_block + n })
   made_so it making = subst (λ (z : Core D). Making disk s (batch_of given makes) n z) making.is making
 
-  pub lasts_err : Fewer disk s.store → (why : Refusal) (new : Core D)
+  pub lasts_err : Fewer disk s.store → (why : Refusal) (new : Core D) → Serves c why
       → Carried disk s (commit_of s e) (Err why) new → Lasts disk s (with_sound c sound (Err why)) new
-  lasts_err fewer why new carried = ⊎_elim
+  lasts_err fewer why new serves carried = ⊎_elim
       (λ not.
       subst (λ (z : Core D). Lasts disk s (with_sound c sound (Err why)) z) (sym not.0)
       (lasts_idle disk s is fewer c (commit_removes_none c one) sound why
       (unprepared_plain s n e.plan.tracks (suc e.more) (whole_len s writes) len why not.1)))
       (⊎_elim
-      (λ some. stuck_lasts some.0.blocks why new some.1)
+      (λ some. stuck_lasts some.0.blocks why new some.1 serves)
       (λ last.
       let it = last.1 in
-      let adds = subst (λ (r : Refusal). Adds {R = Unit {0}} disk it.mid bodies (suc e.more) (whole_len s writes)
-      (Err r) new)
-      last.0 it.adds in
+      let count = suc e.more in
+      let whole = whole_len s writes in
+      let adds =
+      subst (λ (r : Refusal). Adds {R = Unit {0}} disk it.mid bodies count whole (Err r) new) last.0 it.adds in
       subst (λ (e : Refusal). Lasts disk s (with_sound c sound (Err e)) new) (sym last.0)
       (failed_lasts it.prepared it.mid.store it.mid.counts (made_so it.mid it.making) new
-      (subst (λ (z : Core D). Adds {R = Unit {0}} disk z bodies (suc e.more) (whole_len s writes)
-      (Err refusal.DiskFault) new)
+      (subst (λ (z : Core D). Adds {R = Unit {0}} disk z bodies count whole (Err refusal.DiskFault) new)
       it.making.is adds))))
       carried
 

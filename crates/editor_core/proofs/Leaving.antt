@@ -1,5 +1,5 @@
 -- What a refusal leaves of a studio, by why it came.
-use Rattle.std.proofs.Common.{◌≡◌, inl, inr, refl, false}
+use Rattle.std.proofs.Common.{◌≡◌, inl, inr, refl}
 use Rattle.std.proofs.Common.{Result}
 use Rattle.pcm_base.specs.declared.refusal.Refusal.{Refusal}
 use Rattle.pcm_base.specs.declared.refusal.Refusal.TheVariants as refusal
@@ -7,7 +7,6 @@ use Rattle.disk_model.specs.declared.store.Store.{Ghosts}
 use Rattle.editor_core.specs.Adding.{HasFailed, stopped_by}
 use Rattle.block_cache.specs.Caches.{Entries}
 use Rattle.editor_core.specs.Core.{Core}
-use Rattle.editor_core.specs.Exchanges.{is_broken_off}
 use Rattle.editor_core.specs.Left.{IsSoOf, Left, Stops}
 
 -- nothing is told of the disk
@@ -28,11 +27,6 @@ pub own_plain : (why : Refusal) → IsOwn why → IsPlain why
 own_plain refusal.DiskFault own = absurd own
 own_plain (refusal.Damaged file at want have) own = absurd own
 own_plain why own = tt
-
-pub plain_not : (why : Refusal) → IsPlain why → is_broken_off why ≡ false
-plain_not refusal.DiskFault plain = absurd plain
-plain_not (refusal.Damaged file at want have) plain = absurd plain
-plain_not why plain = refl
 
 pub plain_so : {D : Type 0} (disk : Ghosts D) (old new : Core D) (why : Refusal) → IsPlain why → IsSoOf disk old new why
 plain_so disk old new refusal.DiskFault plain = absurd plain

@@ -1,5 +1,10 @@
+mod HeadChannels
+mod Knowing
+mod Serving
+mod Bringing
+mod OrderLaws
 mod Spending
-mod Bounding
+pub mod Bounding
 mod Used
 mod Removing
 mod Quiet
@@ -25,6 +30,7 @@ mod ReclaimFails
 mod Currents
 mod Looking
 mod Seeing
+mod Loading
 mod PinNumbers
 mod Pinning
 mod Unpinning
@@ -64,6 +70,7 @@ mod RunMeaning
 mod RunLaws
 mod CutLaws
 mod CutRefused
+mod CutShort
 mod CutSteps
 mod PasteLaws
 mod PasteRefused

@@ -17,8 +17,6 @@ use Rattle.sample_block.specs.Sources.{samples_on, sources_with, IsWhole}
 use Rattle.sample_block.proofs.BlockLaws.{blocks_have}
 use Rattle.edit_ops.specs.declared.types.NewBlock.{NewBlock}
 use Rattle.edit_ops.specs.Plans.{AreWritten, AreNew, ref_of}
-use Rattle.piece_store.specs.declared.given.Given as brings
-use Rattle.piece_store.specs.Bringing.{brought}
 use Rattle.piece_store.specs.Reading.{IsThere, AllThere}
 use Rattle.editor_core.specs.Made.{AreAbsent, AreMade, PiecesThere, SameOutside, batch_of, ids_from}
 use Rattle.editor_core.proofs.Sounds.{same_whole}
@@ -156,7 +154,7 @@ module _ (next n : ℕ) (old new : Files) (same : SameOutside next n old new) (g
   outside_pieces [] there = tt
   outside_pieces (b ∷ bs) there = (outside_all b.pieces there.0, outside_pieces bs there.1)
 
-module _ (given : brings.Given) (m next n : ℕ) (bs : List NewBlock) (d : NewBlock) (old mid : Files)
+module _ (given : ℕ → ℤ) (m next n : ℕ) (bs : List NewBlock) (d : NewBlock) (old mid : Files)
     (lt : n < length bs) (fresh : AreNew m next bs)
     (gone : AreAbsent next (length bs) old) (there : PiecesThere old bs)
     (made : AreMade (batch_of given bs) (ids_from next n) old mid) where
@@ -177,18 +175,18 @@ module _ (given : brings.Given) (m next n : ℕ) (bs : List NewBlock) (d : NewBl
 
   -- one new block more is made
   pub made_more : (new : Files) → SameElsewhere b.id mid new
-      → blocks new b.id ≡ Some (all_samples (sources_with mid (brought given)) b.pieces)
+      → blocks new b.id ≡ Some (all_samples (sources_with mid given) b.pieces)
       → AreMade (batch_of given bs) (ids_from next (n + 1)) old new
   made_more new same stored =
       let is = new_at m next bs n d lt fresh in
       let first : PiecesThere mid (take n bs) = each-take (λ x. AllThere mid x.pieces) n bs still in
-      let now = written_now (brought given) b.id mid new same next_absent b next_there is.total stored in
+      let now = written_now given b.id mid new same next_absent b next_there is.total stored in
       let e : take (n + 1) bs ≡ take n bs ++ b ∷ [] = take_more bs n d lt in
-      let src = sources_with new (brought given) in
+      let src = sources_with new given in
       let W : NewBlock → Type 0 = λ x. IsWhole new (ref_of x) in
-      let whole = all_whole_kept (brought given) b.id mid new same next_absent (take n bs) made.whole in
+      let whole = all_whole_kept given b.id mid new same next_absent (take n bs) made.whole in
       let written =
-      written_kept (brought given) b.id mid new same next_absent (take n bs) made.whole first made.written in
+      written_kept given b.id mid new same next_absent (take n bs) made.whole first made.written in
       record {
         same = λ f apart.
             let other : f ≢ b.id = λ at. ⊎_elim (λ low. absurd (omega (arith, low, at, is.id)))
@@ -199,6 +197,6 @@ module _ (given : brings.Given) (m next n : ℕ) (bs : List NewBlock) (d : NewBl
       }
 
 -- none is made yet
-pub made_none : (given : brings.Given) (next : ℕ) (bs : List NewBlock) (files : Files)
+pub made_none : (given : ℕ → ℤ) (next : ℕ) (bs : List NewBlock) (files : Files)
     → AreMade (batch_of given bs) (ids_from next 0) files files
 made_none given next bs files = record { same = λ f apart. refl; written = tt; whole = tt }

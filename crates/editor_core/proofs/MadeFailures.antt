@@ -1,10 +1,11 @@
 -- A making of blocks that failed.
-use Rattle.std.proofs.Common.{◌≡◌, ◌⊎◌, ◌<◌, inl, inr, ⊎_elim, refl, sym, ap, ◌∙◌, subst, ℕ, ◌+◌, ◌^◌, ◌≤◌, IsTrue}
+use Rattle.std.proofs.Common.{ℤ, ◌≡◌, ◌⊎◌, ◌<◌, inl, inr, ⊎_elim, refl, sym, ap, ◌∙◌, subst, ℕ, ◌+◌, ◌^◌, ◌≤◌, IsTrue}
 use Rattle.std.proofs.Common.{None, List, length, Err, true, arith}
 use Rattle.pcm_base.specs.declared.command.Call.{Call}
 use Rattle.pcm_base.specs.declared.entry.SoundMove.{SoundMove}
 use Rattle.pcm_base.specs.declared.refusal.Refusal.{Refusal}
 use Rattle.pcm_base.specs.declared.refusal.Refusal.TheVariants as refusal
+use Rattle.pcm_base.specs.declared.wav.WavFault.TheVariants.{Truncated}
 use Rattle.pcm_base.specs.Counters.{Needs}
 use Rattle.pcm_base.specs.Run.{Answers, Leaves, may_change, outside}
 use Rattle.pcm_base.specs.declared.limits.TheConstants.{LONGEST_BODY}
@@ -16,16 +17,16 @@ use Rattle.disk_model.specs.declared.store.Store.{Ghosts}
 use Rattle.sample_block.specs.Spelling.{size_of}
 use Rattle.edit_ops.specs.declared.types.NewBlock.{NewBlock}
 use Rattle.edit_ops.specs.Plans.{AllNewFrom, AreNew}
-use Rattle.piece_store.specs.declared.given.Given.{Given}
-use Rattle.piece_store.specs.Bringing.{brought_count}
 use Rattle.editor_core.specs.Adding.{stopped_by}
 use Rattle.editor_core.specs.Core.{Core}
-use Rattle.editor_core.specs.Exchanges.{is_broken_off}
+use Rattle.editor_core.specs.Edits.{Serves}
+use Rattle.editor_core.specs.Exchanges.{may_have_begun, reads_sound}
 use Rattle.editor_core.specs.Left.{IsSoOf}
 use Rattle.editor_core.specs.Made.{PiecesThere, SameOutside, batch_of}
-use Rattle.editor_core.specs.Makes.{HasMissed, Making, Stuck, Unput, Unread, made_room, one_call}
+use Rattle.editor_core.specs.Makes.{HasMissed, Making, Stuck, Unput, Unread, made_room, one_call, OrCut}
 use Rattle.editor_core.specs.Studios.{IsHeld, IsStudio, named_blocks, studio_of}
 use Rattle.editor_core.specs.Took.{Took, with_sound}
+use Rattle.editor_core.specs.Spent.{Needed}
 use Rattle.editor_core.proofs.Images.{keeps_now}
 use Rattle.editor_core.proofs.Makings.{making_unread}
 use Rattle.editor_core.proofs.MadeLeft.{damaged_so, missed_so, some_changed, some_ids, some_left, some_stop}
@@ -34,11 +35,11 @@ use Rattle.editor_core.proofs.MadeLeft.{unput_left}
 use Rattle.editor_core.proofs.MadeStudios.{below_same, keeps_outside, made_held, made_state, made_studio, with_held}
 use Rattle.editor_core.proofs.MadeStudios.{with_store}
 use Rattle.editor_core.proofs.Meanings.{same_studio}
-use Rattle.editor_core.proofs.Removing.{RemovesNone, frees_refused, off_untouched}
+use Rattle.editor_core.proofs.Removing.{RemovesNone, broken_begins, cut_begins, frees_refused, names_sound}
+use Rattle.editor_core.proofs.Removing.{begun_untouched}
 use Rattle.editor_core.proofs.Staying.{some_none, stopped_not}
-use Rattle.editor_core.proofs.Spending.{off_needed}
 
-module _ {D : Type 0} (disk : Ghosts D) (s : Core D) (is : IsStudio disk s) (given : Given) (makes : List NewBlock)
+module _ {D : Type 0} (disk : Ghosts D) (s : Core D) (is : IsStudio disk s) (given : ℕ → ℤ) (makes : List NewBlock)
     (going : s.stopped ≡ None)
     (fresh : AreNew s.block_size s.next_block makes) (most : s.next_block + length makes ≤ 2 ^ 62)
     (there : IsHeld disk s → PiecesThere (disk.reads s.store) makes) (c : Call) (sound : SoundMove)
@@ -51,12 +52,12 @@ module _ {D : Type 0} (disk : Ghosts D) (s : Core D) (is : IsStudio disk s) (giv
 
   module _ (len : ℕ) (short : len ≤ LONGEST_BODY) (changes : IsTrue (may_change c)) (leaves : Leaves t c sound)
       (need : IsHeld disk s → (k : ℕ) → k ≤ n → Needs (outside t sound) t c k len)
-      (origin : AllNewFrom (named_blocks s) (brought_count given) makes) where
+      (count : ℕ) (origin : AllNewFrom (named_blocks s) count makes) where
     going_on : (why : Refusal) (k : ℕ) (new : Core D) → Making disk s (batch_of given makes) k new → k ≤ n
-        → is_broken_off why ≡ true → IsSoOf disk s new why
+        → may_have_begun c why ≡ true → Needed disk s c sound why → IsSoOf disk s new why
         → (IsHeld disk s → Answers t c sound (Err why) (studio_of disk new))
         → Took disk s (with_sound c sound (Err why)) new
-    going_on why k new making few off so step =
+    going_on why k new making few off needed so step =
         let studio = made_studio disk s is given makes k new making going few fresh most there in
         let holds = made_held disk s is given makes k new making going few fresh most there in
         let images = making.changed.images in record {
@@ -72,11 +73,11 @@ module _ {D : Type 0} (disk : Ghosts D) (s : Core D) (is : IsStudio disk s) (giv
           needs = λ held. (k, need held k few);
           records = λ device. short;
           given = tt;
-          needed = off_needed disk s c sound why off;
+          needed = needed;
           changed = some_changed disk s given makes most c sound why k len new making few;
           frees = frees_refused disk s c why new none;
           ids = some_ids disk s given makes most c sound k new making;
-          untouched = off_untouched disk s.store new.store why off;
+          untouched = begun_untouched disk s.store new.store c why off;
           stops = inl (some_stop disk s given makes most c sound k new making, making.change_faults);
           left = some_left disk s given makes most c sound k new making why so;
         }
@@ -107,7 +108,7 @@ module _ {D : Type 0} (disk : Ghosts D) (s : Core D) (is : IsStudio disk s) (giv
           })
 
       unread : HasMissed disk mid.store new.store → Took disk s (with_sound c sound (Err refusal.DiskFault)) new
-      unread missed = going_on refusal.DiskFault k new making few refl
+      unread missed = going_on refusal.DiskFault k new making few (broken_begins c refusal.DiskFault refl) tt
           (inl (missed_so disk s given makes most c sound mid.store new.store reads missed)) (λ held. inr (record {
             breaks = record {
               going = going;
@@ -130,7 +131,8 @@ module _ {D : Type 0} (disk : Ghosts D) (s : Core D) (is : IsStudio disk s) (giv
           → IsSoOf disk s new (refusal.Damaged file at want have)
           → Took disk s (with_sound c sound (Err (refusal.Damaged file at want have))) new
       damaged file at want have same so =
-          going_on (refusal.Damaged file at want have) k new making few refl so (λ held. inr (record {
+          going_on (refusal.Damaged file at want have) k new making few
+          (broken_begins c (refusal.Damaged file at want have) refl) tt so (λ held. inr (record {
             breaks = record {
               going = going;
               blocks = k;
@@ -144,6 +146,29 @@ module _ {D : Type 0} (disk : Ghosts D) (s : Core D) (is : IsStudio disk s) (giv
             reads = same ∙ reads;
             changes = making.change_faults;
           }))
+
+      -- the vault failed as samples were brought
+      vault : reads_sound c ≡ true → disk.read_fault_count new.store ≡ disk.read_fault_count mid.store
+          → Took disk s (with_sound c sound (Err refusal.VaultFault)) new
+      vault sounds same =
+          let begun = cut_begins c refusal.VaultFault sounds refl in
+          going_on refusal.VaultFault k new making few begun tt tt (λ held. inr (
+            names_sound c sounds,
+            record {
+              breaks = record {
+                going = going;
+                blocks = k;
+                len = len;
+                needs = need held k few;
+                room = omega (arith, most, few);
+                is = new_state held;
+                leaves = leaves;
+              };
+              stopped = still_going;
+              reads = same ∙ reads;
+              changes = making.change_faults;
+            },
+          ))
 
     -- the disk failed as a block was written or synced
     module _ (k : ℕ) (mid new : Core D) (was : Making disk s (batch_of given makes) k mid) (few : k ≤ n)
@@ -224,7 +249,7 @@ module _ {D : Type 0} (disk : Ghosts D) (s : Core D) (is : IsStudio disk s) (giv
         changed = unput_changed disk s given makes most c sound k mid new was few left un len;
         frees = frees_refused disk s c refusal.DiskFault here none;
         ids = unput_ids disk s given makes most c sound k mid new was few left un;
-        untouched = off_untouched disk s.store store refusal.DiskFault refl;
+        untouched = begun_untouched disk s.store store c refusal.DiskFault (broken_begins c refusal.DiskFault refl);
         stops = inr (refl, unput_failed disk s given makes most c sound k mid new was few left un, refl);
         left = unput_left disk s given makes most c sound k mid new was few left un;
       }
@@ -233,14 +258,17 @@ module _ {D : Type 0} (disk : Ghosts D) (s : Core D) (is : IsStudio disk s) (giv
       unput = subst (λ (z : Core D). Took disk s (with_sound c sound (Err refusal.DiskFault)) z)
           (sym (unput_is disk s given makes most c sound k mid new was few left un)) here_took
 
-    pub not_made : (why : Refusal) (new : Core D) → Stuck disk s (batch_of given makes) why new
-        → Took disk s (with_sound c sound (Err why)) new
-    not_made refusal.DiskFault new stuck = ⊎_elim
+    pub not_made : (why : Refusal) (new : Core D) → Stuck disk s (batch_of given makes) why new → Serves c why
+        → OrCut why (Took disk s (with_sound c sound (Err why)) new)
+    not_made refusal.DiskFault new stuck serves = ⊎_elim
         (λ un. unread stuck.made stuck.mid new stuck.before stuck.few stuck.read_faults un.0 un.1)
         (λ un. unput stuck.made stuck.mid new stuck.before stuck.few stuck.left stuck.read_faults un)
         stuck.by
-    not_made (refusal.Damaged file at want have) new stuck =
+    not_made (refusal.Damaged file at want have) new stuck serves =
         damaged stuck.made stuck.mid new stuck.before stuck.few stuck.read_faults stuck.by.0 file at want have
         stuck.by.1
-        (damaged_so disk s given makes most c sound is origin (refusal.Damaged file at want have) new stuck)
-    not_made why new stuck = absurd stuck.by
+        (damaged_so disk s given makes most c sound count is origin (refusal.Damaged file at want have) new stuck)
+    not_made refusal.VaultFault new stuck serves =
+        vault stuck.made stuck.mid new stuck.before stuck.few stuck.read_faults stuck.by.0 serves stuck.by.1
+    not_made (refusal.BadWav (Truncated want have)) new stuck serves = tt
+    not_made why new stuck serves = absurd stuck.by

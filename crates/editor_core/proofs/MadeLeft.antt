@@ -1,5 +1,5 @@
 -- What blocks that were made, and then a record or a fault, leave of other files and of a studio that refuses.
-use Rattle.std.proofs.Common.{◌≡◌, ◌⊎◌, inl, inr, ⊎_elim, refl, sym, ap, ◌∙◌, subst, ℕ, ◌+◌, ◌-◌, ◌^◌, ◌≤◌, ◌<◌, IsTrue}
+use Rattle.std.proofs.Common.{ℤ, ◌≡◌, ◌⊎◌, inl, inr, ⊎_elim, refl, sym, ap, ◌∙◌, subst, ℕ, ◌+◌, ◌-◌, ◌^◌, ◌≤◌, ◌<◌, IsTrue}
 use Rattle.std.proofs.Common.{List, [], length, Result, Err, arith}
 use Rattle.pcm_base.specs.declared.block.BlockRef.{BlockRef}
 use Rattle.pcm_base.specs.declared.answer.Reply.{Reply}
@@ -18,8 +18,6 @@ use Rattle.block_ledger.specs.Counts.{Counts}
 use Rattle.envelope_view.specs.Answers.{IsDamagedIn}
 use Rattle.edit_ops.specs.declared.types.NewBlock.{NewBlock}
 use Rattle.edit_ops.specs.Plans.{AllNewFrom}
-use Rattle.piece_store.specs.declared.given.Given.{Given}
-use Rattle.piece_store.specs.Bringing.{brought_count}
 use Rattle.editor_core.specs.Adding.{HasFailed, stopped_by}
 use Rattle.editor_core.specs.Core.{Core}
 use Rattle.editor_core.specs.Left.{CountsIds, IsSoOf, Left, LeavesOthers, MayRemove}
@@ -36,7 +34,7 @@ use Rattle.editor_core.proofs.NamedDamage.{damage_named, from_at}
 use Rattle.editor_core.proofs.Others.{Leaving, NoneGoes, others_made, others_then, others_wider}
 use Rattle.editor_core.proofs.Removing.{ids_made}
 
-module _ {D : Type 0} (disk : Ghosts D) (s : Core D) (given : Given) (makes : List NewBlock)
+module _ {D : Type 0} (disk : Ghosts D) (s : Core D) (given : ℕ → ℤ) (makes : List NewBlock)
     (most : s.next_block + length makes ≤ 2 ^ 62) (c : Call) (sound : SoundMove) where
   abbrev n : ℕ
   n = length makes
@@ -90,15 +88,15 @@ module _ {D : Type 0} (disk : Ghosts D) (s : Core D) (given : Given) (makes : Li
       record { rose = omega (arith, missed.rose, reads); later = omega (arith, missed.later, reads) }
 
   -- a file was not as it has to be
-  pub damaged_so : IsStudio disk s → AllNewFrom (named_blocks s) (brought_count given) makes
+  pub damaged_so : (count : ℕ) → IsStudio disk s → AllNewFrom (named_blocks s) count makes
       → (why : Refusal) (new : Core D)
       → Stuck disk s (batch_of given makes) why new → IsTrue (disk.tells s.store)
       → IsDamagedIn (disk.reads s.store) (named_blocks s) why
-  damaged_so is origin why new stuck told =
-      damage_named (named_blocks s) (brought_count given) (disk.reads s.store)
+  damaged_so count is origin why new stuck told =
+      damage_named (named_blocks s) count (disk.reads s.store)
       (disk.reads stuck.mid.store) stuck.block.pieces why
       (from_at (named_blocks s)
-      (brought_count given) makes origin stuck.stands.0 stuck.block stuck.stands.1 stuck.stands.2)
+      count makes origin stuck.stands.0 stuck.block stuck.stands.1 stuck.stands.2)
       (λ b has. stuck.before.changed.reads told b.id
       (inl (contained (λ (x : BlockRef). IsGiven s.next_block x.id) (named_blocks s) b is.ids has).1))
       (stuck.damaged (subst IsTrue (sym stuck.before.changed.tells) told))

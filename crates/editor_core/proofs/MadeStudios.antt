@@ -1,5 +1,5 @@
 -- A studio whose new blocks are made is a studio, and what it stands for is as before.
-use Rattle.std.proofs.Common.{◌≡◌, inl, inr, ⊎_elim, refl, sym, ◌∙◌, subst, ℕ, zero, suc, ◌+◌, ◌^◌, ◌≤◌, ◌<◌, IsTrue}
+use Rattle.std.proofs.Common.{ℤ, ◌≡◌, inl, inr, ⊎_elim, refl, sym, ◌∙◌, subst, ℕ, zero, suc, ◌+◌, ◌^◌, ◌≤◌, ◌<◌, IsTrue}
 use Rattle.std.proofs.Common.{IsSome, Option, None, List, [], ◌∷◌, length, map, take, arith}
 use Rattle.std.specs.List.{AllByRecursion}
 use Rattle.std.proofs.lemmas.Bool.{cases_lt}
@@ -14,7 +14,6 @@ use Rattle.project_journal.specs.Choice.{other_file}
 use Rattle.project_journal.proofs.Kept.{SameJournals, each_since, is_at_still}
 use Rattle.edit_ops.specs.declared.types.NewBlock.{NewBlock}
 use Rattle.edit_ops.specs.Plans.{AreNew, ref_of}
-use Rattle.piece_store.specs.declared.given.Given.{Given}
 use Rattle.piece_store.proofs.MadeLaws.{file_of_block}
 use Rattle.project_state.specs.declared.track.Track.{Track}
 use Rattle.project_state.specs.Kept.{Keeps}
@@ -187,7 +186,7 @@ module _ {D : Type 0} (disk : Ghosts D) (s : Core D) (is : IsStudio disk s) wher
           durable = durable;
         }
 
-  module _ (given : Given) (makes : List NewBlock) (n : ℕ) (mid : Core D)
+  module _ (given : ℕ → ℤ) (makes : List NewBlock) (n : ℕ) (mid : Core D)
       (making : Making disk s (batch_of given makes) n mid)
       (going : s.stopped ≡ None)
       (few : n ≤ length makes) (fresh : AreNew s.block_size s.next_block makes)

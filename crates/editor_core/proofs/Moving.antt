@@ -13,6 +13,7 @@ use Rattle.pcm_base.specs.declared.command.Call.TheVariants.{Line}
 use Rattle.pcm_base.specs.declared.command.Command.TheVariants as command
 use Rattle.pcm_base.specs.declared.refusal.Refusal.{Refusal}
 use Rattle.pcm_base.specs.declared.refusal.Refusal.TheVariants as refusal
+use Rattle.pcm_base.specs.declared.limits.TheConstants.{LONGEST_BODY}
 use Rattle.pcm_base.specs.Counters.{Needs, no_room}
 use Rattle.pcm_base.specs.History.{History, at_cursor, points_of, purged}
 use Rattle.pcm_base.specs.Refusals.{◌otherwise◌, call_tests, refused_if}
@@ -253,7 +254,7 @@ module _ {D : Type 0} (disk : Ghosts D) (s : Core D) (is : IsStudio disk s) wher
     named_append id (history_blocks s.history) (pin_blocks s.pins ++ clip_blocks s.clipboard),
   )
 
-  -- the counts behind a purge
+  -- the counts after a purge
   pub purged_counts : (n : ℕ) (counts : Counts) → Dropped s.counts counts (oldest n)
       → IsFreshCount
       (ids_of (history_blocks (purged s.history n) ++ (pin_blocks s.pins ++ clip_blocks s.clipboard))) counts
@@ -269,15 +270,15 @@ module _ {D : Type 0} (disk : Ghosts D) (s : Core D) (is : IsStudio disk s) wher
 -- a commit without new blocks that a test refuses
 pub tested_out : {D : Type 0} (disk : Ghosts D) (s : Core D) (c : Call) (tracks len : ℕ) (own : Option Refusal)
     (why : Refusal) → IsStudio disk s → Fewer disk s.store
-    → IsCommitCall c silent tracks 0
+    → IsCommitCall c silent tracks 0 → len ≤ LONGEST_BODY
     → (IsHeld disk s → Needs (outside (studio_of disk s) silent) (studio_of disk s) c 0 len)
     → own ≡ call_tests (outside (studio_of disk s) silent) (studio_of disk s).state c
     → (stop_of s.stopped) otherwise own otherwise (no_room s.next_track tracks) otherwise (no_room s.commit_number 1)
     ≡ Some why → Took disk s (quietly c (Err why)) s
-tested_out disk s c tracks len own why is fewer call needs is_own h =
+tested_out disk s c tracks len own why is fewer call short needs is_own h =
     let by = ap (λ (o : Option Refusal). (stop_of s.stopped) otherwise o otherwise
     (no_room s.next_track tracks) otherwise (no_room s.commit_number 1)) (sym is_own) ∙ h in
-    refuses disk s c silent why is fewer (commit_frees disk s c (Err why) s call.many) refl len 0 needs
+    refuses disk s c silent why is fewer (commit_frees disk s c (Err why) s call.many) refl len (λ off. short) 0 needs
     (tested (studio_of disk s) c silent tracks call 0 len is.counters.pin_most is.journal.generation_most why
     (omega (arith, is.counters.block_most)) by) (tested_needed disk s c silent tracks call own is_own why h)
 

@@ -1,21 +1,19 @@
 -- The next block of some that are made.
-use Rattle.std.proofs.Common.{◌≡◌, inl, ⊎_elim, refl, sym, ◌∙◌, subst, ℕ, ◌+◌, ◌^◌, ◌≤◌, ◌<◌}
+use Rattle.std.proofs.Common.{ℤ, ◌≡◌, inl, ⊎_elim, refl, sym, ◌∙◌, subst, ℕ, ◌+◌, ◌^◌, ◌≤◌, ◌<◌}
 use Rattle.std.proofs.Common.{IsTrue, IsSome, Option, Some, None, List, length}
 use Rattle.std.proofs.Common.{get_or, slice_get, arith}
 use Rattle.std.proofs.lemmas.Option.{slice_get-get_or, same_Some}
 use Rattle.pcm_base.specs.Pieces.{total}
 use Rattle.pcm_base.specs.declared.refusal.Refusal.{Refusal}
-use Rattle.pcm_base.specs.declared.refusal.Refusal.TheVariants as refusal
 use Rattle.disk_model.specs.declared.store.Store.{Ghosts}
 use Rattle.sample_block.specs.Spelling.{IsBlock}
 use Rattle.block_ledger.specs.Counts.{Counts}
 use Rattle.edit_ops.specs.declared.types.NewBlock.{NewBlock}
 use Rattle.edit_ops.specs.Plans.{AreNew}
-use Rattle.piece_store.specs.declared.given.Given.{Given}
 use Rattle.piece_store.specs.Reading.{AllThere}
 use Rattle.editor_core.specs.Core.{Core}
 use Rattle.editor_core.specs.Made.{AreAbsent, PiecesThere, batch_of}
-use Rattle.editor_core.specs.Makes.{AddsFree, IsDamageAmong, Making, NotMade, Stuck}
+use Rattle.editor_core.specs.Makes.{AddsFree, IsDamageAmong, IsOfDevices, Making, NotMade, Stuck}
 use Rattle.editor_core.proofs.MadeBlocks.{new_at, next_there}
 
 -- ---- the next block of some
@@ -58,7 +56,7 @@ fresh_next next n old mid id was below is = none_where (mid id)
     (λ h. ⊎_elim (λ o. absurd (omega (arith, below id o, is))) (λ r. absurd (omega (arith, r.1, is)))
     ((was.ids id).0 h))
 
-module _ {D : Type 0} (disk : Ghosts D) (s : Core D) (given : Given) (bs : List NewBlock) (n : ℕ) (mid : Core D)
+module _ {D : Type 0} (disk : Ghosts D) (s : Core D) (given : ℕ → ℤ) (bs : List NewBlock) (n : ℕ) (mid : Core D)
     (was : Making disk s (batch_of given bs) n mid)
     (lt : n < length bs) (fresh : AreNew s.block_size s.next_block bs) (b : NewBlock)
     (here : slice_get bs n ≡ Some b) where
@@ -73,7 +71,7 @@ module _ {D : Type 0} (disk : Ghosts D) (s : Core D) (given : Given) (bs : List 
   -- the next block was not made
   pub stuck_here : (why : Refusal) (new : Core D) → disk.read_fault_count mid.store ≡ disk.read_fault_count s.store
       → NotMade disk mid why new
-      → (IsTrue (disk.tells mid.store) → AllThere (disk.reads mid.store) b.pieces → why ≡ refusal.DiskFault)
+      → (IsTrue (disk.tells mid.store) → AllThere (disk.reads mid.store) b.pieces → IsOfDevices why)
       → (IsTrue (disk.tells mid.store) → IsDamageAmong (disk.reads mid.store) b.pieces why)
       → Stuck disk s (batch_of given bs) why new
   stuck_here why new reads by sound damaged = record {

@@ -3,6 +3,7 @@ use Rattle.std.proofs.Common.{◌≡◌, ⊎_elim, sym, subst, ℕ, nat_lt, nat_
 use Rattle.std.proofs.Common.{Option, Some, None, List, length, Err}
 use Rattle.pcm_base.specs.declared.refusal.Refusal.{Refusal}
 use Rattle.pcm_base.specs.declared.refusal.Refusal.TheVariants as refusal
+use Rattle.pcm_base.specs.declared.wav.WavFault.TheVariants.{Truncated}
 use Rattle.pcm_base.specs.Counters.{no_room}
 use Rattle.pcm_base.specs.Refusals.{◌otherwise◌, bad_range, refused_if}
 use Rattle.pcm_base.specs.Run.{stop_of}
@@ -15,6 +16,7 @@ use Rattle.editor_core.specs.Adding.{Exceeds}
 use Rattle.editor_core.specs.Core.{Core}
 use Rattle.editor_core.specs.Edits.{Carried, NotPrepared, BlockCommit}
 use Rattle.editor_core.specs.Made.{PiecesThere}
+use Rattle.editor_core.specs.Makes.{IsOfDevices}
 use Rattle.editor_core.specs.Points.{lacks}
 use Rattle.editor_core.specs.Studios.{IsHeld, IsStudio}
 use Rattle.editor_core.specs.TrackEdits.{NoTrackPlan, TrackEdit, end_of_track, track_refusal}
@@ -87,6 +89,13 @@ no_plan_tells e id old why fine not = ⊎_elim
     (λ memory. subst IsUndamaged (sym memory) tt)
     not
 
+-- a device's fault is no damage
+device_undamaged : (why : Refusal) → IsOfDevices why → IsUndamaged why
+device_undamaged refusal.DiskFault of = tt
+device_undamaged refusal.VaultFault of = tt
+device_undamaged (refusal.BadWav (Truncated want have)) of = tt
+device_undamaged why of = absurd of
+
 module _ {D : Type 0} (disk : Ghosts D) (s : Core D) (is : IsStudio disk s) (going : s.stopped ≡ None)
     (c : BlockCommit) (why : Refusal) where
   abbrev n : ℕ
@@ -114,6 +123,6 @@ module _ {D : Type 0} (disk : Ghosts D) (s : Core D) (is : IsStudio disk s) (goi
   no_damage new held there carried = ⊎_elim
       (λ not. unprepared not.1)
       (⊎_elim
-      (λ some. subst IsUndamaged (sym (some.1.sound held.tells there (absent disk s is n going held some.0.blocks))) tt)
+      (λ some. device_undamaged why (some.1.sound held.tells there (absent disk s is n going held some.0.blocks)))
       (λ last. subst IsUndamaged (sym last.0) tt))
       carried

@@ -26,6 +26,7 @@ use Rattle.edit_ops.specs.declared.types.NewBlock.{NewBlock}
 use Rattle.edit_ops.specs.Plans.{AreWritten}
 use Rattle.edit_ops.specs.Runs.{ArePastes, clipboard_tests}
 use Rattle.piece_store.specs.declared.given.Given.TheVariants.{Nothing}
+use Rattle.piece_store.specs.Bringing.{brought, brought_by}
 use Rattle.project_state.specs.declared.track.Track.{Track}
 use Rattle.project_state.specs.Kept.{current_tracks, history_blocks, meant, meant_history, point_blocks}
 use Rattle.project_state.specs.KeptSound.{IsSoundPoint}
@@ -40,7 +41,7 @@ use Rattle.pcm_base.specs.Shape.{paste_line}
 use Rattle.editor_core.specs.Copies.{run_of, strips_blocks}
 use Rattle.editor_core.specs.Core.{Core}
 use Rattle.editor_core.specs.Edits.{AreAmong, IsEdit, IsEditCall, IsPlanned, alone, blocks_with, clip_behind, clip_then}
-use Rattle.editor_core.specs.Edits.{tagged}
+use Rattle.editor_core.specs.Edits.{tagged_by}
 use Rattle.editor_core.specs.Pastes.{IsPastePlan}
 use Rattle.editor_core.specs.Studios.{IsClipboard, IsGiven, IsStudio, MayPaste, clip_blocks, clip_cells, named_blocks}
 use Rattle.editor_core.specs.Studios.{pin_blocks, studio_by}
@@ -139,7 +140,7 @@ module _ {D : Type 0} (disk : Ghosts D) (s : Core D) (is : IsStudio disk s) (e :
     behind : clip_behind s planned ≡ s.clipboard
     behind = ap (λ (z : Option (List (List Item))). clip_then z s.clipboard) keeps
 
-    pub paste_planned : IsPlanned s (tagged planned 0 0 Nothing)
+    pub paste_planned : IsPlanned s (tagged_by planned 0 0 (brought_by Nothing) (brought Nothing))
     paste_planned =
         let C : BlockRef → Type 0 = Contains every in
         run_planned disk s is id found.0 found.1 xs xs_named xs_readable fs p.plans laid planned p.laid none
@@ -193,7 +194,7 @@ module _ {D : Type 0} (disk : Ghosts D) (s : Core D) (is : IsStudio disk s) (e :
             commit = s.commit_number + 1;
           })
 
-    pub paste_edit : IsEdit disk s line silent (tagged planned 0 0 Nothing)
+    pub paste_edit : IsEdit disk s line silent (tagged_by planned 0 0 (brought_by Nothing) (brought Nothing))
     paste_edit = record {
       most = λ m st. blocks_of_tracks (length (clip_of st));
       call = subst (λ (k : ℕ). IsEditCall line silent k 0 (λ m st. blocks_of_tracks (length (clip_of st)))) (sym none)

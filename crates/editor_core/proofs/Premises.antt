@@ -48,7 +48,7 @@ pub record TookWhere {D : Type 0} (Has : Type 0) (disk : Ghosts D) (old : Core D
 pub took_so : {D : Type 0} (disk : Ghosts D) (old : Core D) (call : Call) (sound : SoundMove)
     (told : Result Reply Refusal) (new : Core D) → TookWhere (IsHeld disk old) disk old call sound told new
     → RemovesNone call → PacksNone call → CountsIds old [] new → IfOk told (λ r. NamesGiven old new)
-    → IfErr told (Needed disk old call sound) → Untouched disk old told new
+    → IfErr told (Needed disk old call sound) → Untouched disk old call told new
     → Stops disk old told new → IfErr told (Left disk old new)
     → Took disk old (with_sound call sound told) new
 took_so disk old call sound told new took none plain ids given needed untouched stops left = record {

@@ -142,7 +142,7 @@ module _ {D : Type 0} (disk : Ghosts D) (old : Core D) (limit : Option ℕ) wher
         why = inr (faults, refl);
       } in record {
         ids = [];
-        took = refuses disk old call silent (refusal.Stopped faults) is fewer frees refl 0 0
+        took = refuses disk old call silent (refusal.Stopped faults) is fewer frees refl 0 (λ off. omega arith) 0
             (λ held. quiet.needs (studio_of disk old))
             (stopped_first (studio_of disk old) call 0 0 faults refl stopped) tt;
       }

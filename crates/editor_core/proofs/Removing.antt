@@ -1,19 +1,21 @@
 -- Calls that remove no file, and the ids that are counted after them.
 use Rattle.std.proofs.Common.{◌≡◌, ◌↔◌, ◌⊎◌, ◌∙◌, inl, inr, ⊎_elim, refl, sym, subst, ℕ, suc, ◌+◌, ◌≤◌, ◌<◌}
-use Rattle.std.proofs.Common.{IsSome, List, [], true, Option, Some, None, Result, Ok, Err, false, arith}
+use Rattle.std.proofs.Common.{IsSome, List, [], true}
+use Rattle.std.proofs.Common.{Option, Some, None, Result, Ok, Err, Bool, false, if◌then◌else◌, ap, arith}
 use Rattle.std.specs.Prelude.{Contains, IfOk}
 use Rattle.std.proofs.lemmas.Bool.{true≢false}
 use Rattle.pcm_base.specs.declared.answer.Reply.{Reply}
 use Rattle.pcm_base.specs.declared.command.Call.{Call}
 use Rattle.pcm_base.specs.declared.command.Call.TheVariants.{Line}
-use Rattle.pcm_base.specs.declared.command.Command.TheVariants.{Compact, Reclaim}
+use Rattle.pcm_base.specs.declared.command.Command.TheVariants.{Compact, Import, Reclaim}
 use Rattle.pcm_base.specs.declared.refusal.Refusal.{Refusal}
 use Rattle.pcm_base.specs.Counters.{commits_of}
 use Rattle.disk_model.specs.Frames.{Kept}
 use Rattle.disk_model.specs.declared.store.Store.{Ghosts}
 use Rattle.block_ledger.specs.Counts.{Counts}
 use Rattle.editor_core.specs.Core.{Core}
-use Rattle.editor_core.specs.Exchanges.{is_broken_off}
+use Rattle.pcm_base.specs.Run.{name_in}
+use Rattle.editor_core.specs.Exchanges.{is_broken_off, is_cut_off, may_begin, may_have_begun, reads_sound}
 use Rattle.editor_core.specs.Left.{CountsIds}
 use Rattle.editor_core.specs.Makes.{AddsFree}
 use Rattle.editor_core.specs.Records.{Records}
@@ -73,6 +75,34 @@ commit_frees disk old c told new many =
 pub off_untouched : {D : Type 0} (disk : Ghosts D) (old new : D) (why : Refusal) → is_broken_off why ≡ true
     → is_broken_off why ≡ false → Kept disk old new
 off_untouched disk old new why off plain = absurd (true≢false (sym off ∙ plain))
+
+-- the same of any call
+pub begun_untouched : {D : Type 0} (disk : Ghosts D) (old new : D) (c : Call) (why : Refusal)
+    → may_have_begun c why ≡ true → may_have_begun c why ≡ false → Kept disk old new
+begun_untouched disk old new c why off plain = absurd (true≢false (sym off ∙ plain))
+
+if_so : (b c : Bool) → c ≡ true → (if b then true else c) ≡ true
+if_so true c e = refl
+if_so false c e = e
+
+if_both : (b c d : Bool) → c ≡ true → d ≡ true → (if b then c else d) ≡ true
+if_both true c d one two = one
+if_both false c d one two = two
+
+pub broken_begins : (c : Call) (why : Refusal) → is_broken_off why ≡ true → may_have_begun c why ≡ true
+broken_begins c why off = if_both (reads_sound c) (may_begin why) (is_broken_off why)
+    (if_so (is_cut_off why) (is_broken_off why) off) off
+
+pub cut_begins : (c : Call) (why : Refusal) → reads_sound c ≡ true → is_cut_off why ≡ true
+    → may_have_begun c why ≡ true
+cut_begins c why reads cut =
+    ap (λ (b : Bool). if b then may_begin why else is_broken_off why) reads
+    ∙ ap (λ (b : Bool). if b then true else is_broken_off why) cut
+
+-- a call that reads a sound names it
+pub names_sound : (c : Call) → reads_sound c ≡ true → IsSome (name_in c)
+names_sound (Line (Import name)) reads = refl
+names_sound c reads = absurd (true≢false (sym reads))
 
 -- ---- the record
 

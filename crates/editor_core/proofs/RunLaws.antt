@@ -11,14 +11,14 @@ use Rattle.edit_ops.specs.declared.types.NewBlock.{NewBlock}
 use Rattle.edit_ops.specs.declared.types.Plan.{Plan}
 use Rattle.edit_ops.specs.Plans.{AllNewFrom, AreNew, AreWritten}
 use Rattle.piece_store.specs.declared.given.Given.TheVariants.{Nothing}
-use Rattle.piece_store.specs.Bringing.{brought}
+use Rattle.piece_store.specs.Bringing.{brought, brought_by}
 use Rattle.project_state.specs.declared.track.Track.{Track}
 use Rattle.project_state.specs.Kept.{current_tracks, meant, point_blocks}
 use Rattle.project_state.specs.KeptSound.{IsSoundPoint}
 use Rattle.project_state.specs.Tracks.{track_of}
 use Rattle.editor_core.specs.declared.carrying.Planned.{Planned}
 use Rattle.editor_core.specs.Core.{Core}
-use Rattle.editor_core.specs.Edits.{AreAmong, IsPlanned, alone, beside, blocks_with, clip_behind, tagged}
+use Rattle.editor_core.specs.Edits.{AreAmong, IsPlanned, alone, beside, blocks_with, clip_behind, tagged_by}
 use Rattle.editor_core.specs.RunEdits.{IsRunPlan, laid_from}
 use Rattle.editor_core.specs.Studios.{IsGiven, IsStudio, MayPaste, clip_blocks, named_blocks}
 use Rattle.editor_core.proofs.Contained.{among_all, among_itself}
@@ -110,7 +110,7 @@ module _ {D : Type 0} (disk : Ghosts D) (s : Core D) (is : IsStudio disk s) (id 
 
   pub run_planned : p.tracks ≡ 0 → (clip : Option (List (List Item))) → clip_behind s p ≡ clip
       → AreAmong every (clip_blocks clip) → length (clip_blocks clip) ≤ 2 ^ 71 → MayPaste m clip
-      → IsPlanned s (tagged p 0 0 Nothing)
+      → IsPlanned s (tagged_by p 0 0 (brought_by Nothing) (brought Nothing))
   run_planned none clip behind clip_names clip_few clip_fits = record {
     new = fresh;
     readable = all_readable m s.next_block 0 xs makes readable origin fresh;

@@ -1,5 +1,6 @@
 -- A call that is refused before the disk is asked, and what a record asks of it.
-use Rattle.std.proofs.Common.{◌≡◌, inl, inr, refl, sym, ◌∙◌, ℕ, suc, ◌+◌, List, [], Option, Some, None, IsSome, Err, arith}
+use Rattle.std.proofs.Common.{◌≡◌, inl, inr, refl, sym, ℕ, suc, ◌+◌, ◌≤◌, List, [], Option, Some, None, IsSome}
+use Rattle.std.proofs.Common.{Err, true, arith}
 use Rattle.std.proofs.lemmas.Bool.{true≢false}
 use Rattle.std.proofs.lemmas.Option.{none-some}
 use Rattle.std.specs.List.{AllByRecursion}
@@ -8,6 +9,7 @@ use Rattle.pcm_base.specs.declared.command.Call.{Call}
 use Rattle.pcm_base.specs.declared.entry.SoundMove.{SoundMove}
 use Rattle.pcm_base.specs.declared.refusal.Refusal.{Refusal}
 use Rattle.pcm_base.specs.declared.refusal.Refusal.TheVariants as refusal
+use Rattle.pcm_base.specs.declared.limits.TheConstants.{LONGEST_BODY}
 use Rattle.pcm_base.specs.Counters.{Needs, commits_of, places_of}
 use Rattle.pcm_base.specs.Run.{Answers, outside, refusal_of}
 use Rattle.disk_model.specs.Room.{IsWithin}
@@ -17,13 +19,14 @@ use Rattle.sample_block.specs.Sources.{AllWhole}
 use Rattle.project_journal.specs.Gate.{EachNow}
 use Rattle.project_journal.specs.Rooms.{append_room}
 use Rattle.editor_core.specs.Core.{Core}
+use Rattle.editor_core.specs.Exchanges.{may_begin}
 use Rattle.editor_core.specs.Left.{MayRemove}
 use Rattle.editor_core.specs.Removals.{Frees}
 use Rattle.editor_core.specs.Spent.{Needed}
 use Rattle.editor_core.specs.Studios.{IsGiven, IsHeld, IsStudio, SameBlocks, studio_of}
 use Rattle.editor_core.specs.Took.{Exchange, Took, asks, with_sound}
 use Rattle.editor_core.proofs.Images.{keeps_now}
-use Rattle.editor_core.proofs.Leaving.{IsPlain, left_plain, plain_not}
+use Rattle.editor_core.proofs.Leaving.{IsPlain, left_plain}
 use Rattle.editor_core.proofs.Others.{others_none}
 use Rattle.editor_core.proofs.PlainTests.{plain_refusal}
 use Rattle.editor_core.proofs.Spaces.{commit_places}
@@ -60,7 +63,7 @@ MayNeed disk s call sound len =
 
 module _ {D : Type 0} (disk : Ghosts D) (s : Core D) (call : Call) (sound : SoundMove) (why : Refusal)
     (is : IsStudio disk s) (fewer : Fewer disk s.store) (frees : Frees disk s call (Err why) [] s)
-    (quiet : sound.after ≡ sound.before) (len : ℕ) where
+    (quiet : sound.after ≡ sound.before) (len : ℕ) (brief : may_begin why ≡ true → len ≤ LONGEST_BODY) where
   -- a refusal that asked nothing of the disk
   pub stays : IsPlain why → MayNeed disk s call sound len → Needed disk s call sound why
       → (IsHeld disk s → Answers (studio_of disk s) call sound (Err why) (studio_of disk s))
@@ -76,7 +79,7 @@ module _ {D : Type 0} (disk : Ghosts D) (s : Core D) (call : Call) (sound : Soun
     rests = λ some. refl;
     len = len;
     needs = needs;
-    records = λ off. absurd (true≢false (sym off ∙ plain_not why plain));
+    records = brief;
     given = tt;
     needed = needed;
     changed = changed_none s.store (others_none s.next_block s.next_block (MayRemove call s.counts)) fewer;
@@ -110,5 +113,5 @@ pub wants : {D : Type 0} (disk : Ghosts D) (s : Core D) (call : Call) (sound : S
     → Took disk s (with_sound call sound (Err refusal.NoMemory)) s
 wants disk s call sound is fewer none quiet len needs =
     stays disk s call sound refusal.NoMemory is fewer (frees_refused disk s call refusal.NoMemory s none) quiet len
-    tt needs tt
+    (λ off. absurd (true≢false (sym off))) tt needs tt
     (λ held. inr (record { same = refl; quiet = quiet }))

@@ -1,5 +1,6 @@
--- What an edit takes out comes into the clipboard, behind the point that it records.
-use Rattle.std.proofs.Common.{◌≡◌, ◌↔◌, sym, ap, ◌∙◌, ℕ, ◌+◌, ◌*◌, ◌^◌, ◌≤◌, ◌<◌, IsSome, Option, None, List, [], ◌∷◌}
+-- What an edit takes out comes into the clipboard, after the point that it records.
+use Rattle.std.proofs.Common.{ℤ, ◌≡◌, ◌↔◌, sym, ap, ◌∙◌, ℕ, ◌+◌, ◌*◌, ◌^◌, ◌≤◌, ◌<◌, IsSome, Option, None, List}
+use Rattle.std.proofs.Common.{[], ◌∷◌}
 use Rattle.std.proofs.Common.{◌++◌, length, length-append, flat_map, arith}
 use Rattle.std.specs.List.{AllByRecursion}
 use Rattle.pcm_base.specs.History.{History}
@@ -7,7 +8,6 @@ use Rattle.disk_model.specs.declared.store.Store.{Ghosts}
 use Rattle.block_ledger.specs.Counts.{Counts, IsFreshCount, occurrences}
 use Rattle.clip_track.specs.declared.items.Item.{Item}
 use Rattle.edit_ops.specs.declared.types.NewBlock.{NewBlock}
-use Rattle.piece_store.specs.declared.given.Given.{Given}
 use Rattle.project_state.specs.declared.track.Track.{Track}
 use Rattle.project_state.specs.Kept.{history_blocks, point_blocks}
 use Rattle.project_state.specs.KeptSound.{IsSoundTagged}
@@ -47,7 +47,7 @@ points_few (p ∷ ps) h = omega (
 
 module _ {D : Type 0} (disk : Ghosts D) (s : Core D) (is : IsStudio disk s) (going : s.stopped ≡ None)
     (e : TaggedEdit) (plan : IsPlanned s e) where
-  abbrev given : Given
+  abbrev given : ℕ → ℤ
   given = e.given
 
   abbrev makes : List NewBlock

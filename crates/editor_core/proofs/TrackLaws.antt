@@ -1,5 +1,6 @@
 -- An edit of one track by a plan, as an edit that makes blocks.
-use Rattle.std.proofs.Common.{◌≡◌, ⊎_elim, refl, sym, ap, ◌∙◌, subst, ℕ, suc, ◌+◌, ◌*◌, ◌≤◌, ◌==◌, ℤ, if◌then◌else◌}
+use Rattle.std.proofs.Common.{◌≡◌, ⊎_elim, refl, sym, ap, ◌∙◌, subst, ℕ, suc, ◌+◌, ◌*◌, ◌≤◌, ◌<◌, ◌==◌, ℤ}
+use Rattle.std.proofs.Common.{if◌then◌else◌}
 use Rattle.std.proofs.Common.{Option, Some}
 use Rattle.std.proofs.Common.{None, List, [], ◌∷◌, length, Err, arith, mul-le-mul_left}
 use Rattle.pcm_base.specs.declared.command.Call.{Call}
@@ -22,7 +23,7 @@ use Rattle.clip_track.specs.Clips.{layout_cells, end_of}
 use Rattle.clip_track.proofs.Layouts.{length-layout}
 use Rattle.edit_ops.specs.declared.types.NewBlock.{NewBlock}
 use Rattle.piece_store.specs.declared.given.Given.{Given}
-use Rattle.piece_store.specs.Bringing.{brought, brought_count}
+use Rattle.piece_store.specs.Bringing.{brought, brought_by, brought_count}
 use Rattle.project_state.specs.declared.track.Track.{Track}
 use Rattle.project_state.specs.Kept.{current_tracks, meant}
 use Rattle.project_state.specs.KeptSound.{IsSoundPoint}
@@ -31,7 +32,7 @@ use Rattle.project_state.specs.Tracks.{track_of}
 use Rattle.project_state.proofs.MeantHistories.{meant_recorded}
 use Rattle.editor_core.specs.declared.carrying.Planned.{Planned}
 use Rattle.editor_core.specs.Core.{Core}
-use Rattle.editor_core.specs.Edits.{IsEdit, alone, IsEditCall, clip_then, tagged}
+use Rattle.editor_core.specs.Edits.{IsEdit, alone, IsEditCall, clip_then, tagged_by}
 use Rattle.editor_core.specs.Points.{lacks}
 use Rattle.editor_core.specs.Studios.{IsStudio, studio_by, studio_of, clip_cells}
 use Rattle.editor_core.specs.Took.{Took, with_sound}
@@ -67,7 +68,7 @@ edited_changed id f (t ∷ ts) =
     let rest = edited_changed id f ts in
     λ i. if t.id == id then with_cells f t ∷ ts else t ∷ rest i
 
--- as few bytes as so many records have
+-- as few bytes as this many records have
 least_needs : (more low high : ℕ) {most : ℕ} → (0 ≤ most) × (5 * more ≤ 5 * more) × (5 * more ≤ more * (5 + low) + high)
 least_needs more low high =
     let fives : more * 5 ≤ more * (5 + low) = mul-le-mul_left more (omega arith) in
@@ -100,27 +101,28 @@ module _ {D : Type 0} (disk : Ghosts D) (s : Core D) (is : IsStudio disk s) (c :
 
   -- ---- a stopped studio, a test of the edit, or memory
 
-  early_refused : (why : Refusal) → Fewer disk s.store
+  early_refused : (why : Refusal) → Fewer disk s.store → more < 64
       → ((stop_of s.stopped) otherwise (track_refusal id e.test found)) ≡ Some why
       → Took disk s (with_sound c sound (Err why)) s
-  early_refused why fewer h =
+  early_refused why fewer few h =
       let own = own_is (samples_on (disk.reads s.store)) in
       let first : ((stop_of s.stopped) otherwise (call_tests (outside t sound) t.state c)) ≡ Some why =
       (λ i. (stop_of s.stopped) otherwise (own i)) ∙ h in
       refuses disk s c sound why is fewer (commit_frees disk s c (Err why) s line.call.commit.many)
-      line.call.commit.quiet (5 * more) 0
+      line.call.commit.quiet (5 * more) (λ off. omega (arith, few)) 0
       (λ held. line.call.needs t.rate t 0 (5 * more) (least_needs more _ _))
       (early t c sound 0 line.call.commit 0 (5 * more) why first) (early_needed disk s c sound why first)
 
-  pub track_stopped : (faults : ℕ) → Fewer disk s.store → s.stopped ≡ Some faults
+  pub track_stopped : (faults : ℕ) → Fewer disk s.store → more < 64 → s.stopped ≡ Some faults
       → Took disk s (with_sound c sound (Err (refusal.Stopped faults))) s
-  track_stopped faults fewer at =
-      early_refused (refusal.Stopped faults) fewer (λ i. (stop_of (at i)) otherwise (track_refusal id e.test found))
+  track_stopped faults fewer few at =
+      early_refused (refusal.Stopped faults) fewer few (λ i. (stop_of (at i)) otherwise (track_refusal id e.test found))
 
-  pub track_refused : (why : Refusal) → Fewer disk s.store → s.stopped ≡ None → NoTrackPlan e id old why
+  pub track_refused : (why : Refusal) → Fewer disk s.store → more < 64 → s.stopped ≡ None
+      → NoTrackPlan e id old why
       → Took disk s (with_sound c sound (Err why)) s
-  track_refused why fewer going not = ⊎_elim
-      (λ own. early_refused why fewer ((λ i. (stop_of (going i)) otherwise (track_refusal id e.test found)) ∙ own))
+  track_refused why fewer few going not = ⊎_elim
+      (λ own. early_refused why fewer few ((λ i. (stop_of (going i)) otherwise (track_refusal id e.test found)) ∙ own))
       (λ memory.
       subst (λ (r : Refusal). Took disk s (with_sound c sound (Err r)) s) (sym memory)
       (wants disk s c sound is fewer (commit_removes_none c line.call.commit.many) line.call.commit.quiet (5 * more)
@@ -131,7 +133,7 @@ module _ {D : Type 0} (disk : Ghosts D) (s : Core D) (is : IsStudio disk s) (c :
 
   module _ (planned : Planned) (p : IsTrackPlan e (brought_count given) id s planned) (none : planned.tracks ≡ 0)
       (keeps : planned.clip ≡ None) where
-    pub track_edit : IsEdit disk s c sound (tagged planned tag more given)
+    pub track_edit : IsEdit disk s c sound (tagged_by planned tag more (brought_by given) (brought given))
     track_edit = record {
       most = λ m st. e.most m (cells_at id (current st));
       call =

@@ -16,7 +16,7 @@ use Rattle.clip_track.specs.Clips.{end_of, layout_blocks, layout_cells}
 use Rattle.edit_ops.specs.declared.types.NewBlock.{NewBlock}
 use Rattle.edit_ops.specs.Plans.{AllNewFrom, AreNew, AreOldOrNew, AreWritten}
 use Rattle.piece_store.specs.declared.given.Given.{Given}
-use Rattle.piece_store.specs.Bringing.{brought, brought_count}
+use Rattle.piece_store.specs.Bringing.{brought, brought_by, brought_count}
 use Rattle.project_state.specs.declared.track.Track.{Track}
 use Rattle.project_state.specs.Kept.{current_tracks, history_blocks, meant, meant_track, point_blocks}
 use Rattle.project_state.specs.KeptSound.{IsSoundPoint}
@@ -24,7 +24,7 @@ use Rattle.project_state.specs.Sound.{IsSoundTrack}
 use Rattle.project_state.specs.Tracks.{track_of}
 use Rattle.editor_core.specs.declared.carrying.Planned.{Planned}
 use Rattle.editor_core.specs.Core.{Core}
-use Rattle.editor_core.specs.Edits.{AreAmong, IsPlanned, alone, beside, blocks_with, clip_then, tagged}
+use Rattle.editor_core.specs.Edits.{AreAmong, IsPlanned, alone, beside, blocks_with, clip_then, tagged_by}
 use Rattle.editor_core.specs.Points.{put_in, put_one}
 use Rattle.editor_core.specs.Studios.{IsGiven, IsStudio, clip_blocks, named_blocks, pin_blocks, MayPaste}
 use Rattle.editor_core.specs.TrackEdits.{IsTrackPlan, NoTrackPlan, TrackEdit, track_refusal, with_layout}
@@ -174,7 +174,7 @@ module _ {D : Type 0} (disk : Ghosts D) (s : Core D) (is : IsStudio disk s) (e :
       (all_left (Contains every) (named_blocks s) (refs makes) (among_itself every)))
 
   pub track_planned : planned.tracks ≡ 0 → planned.clip ≡ None → (tag more : ℕ) → tag ≤ s.commit_number
-      → (0 < more → 1 ≤ tag) → IsPlanned s (tagged planned tag more given)
+      → (0 < more → 1 ≤ tag) → IsPlanned s (tagged_by planned tag more (brought_by given) (brought given))
   track_planned none keeps tag more tag_given counts = record {
     new = fresh;
     readable = all_readable s.block_size s.next_block (brought_count given) (layout_blocks was.layout) makes

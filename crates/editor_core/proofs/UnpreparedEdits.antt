@@ -1,9 +1,12 @@
 -- An edit that makes blocks, refused before the first of them.
-use Rattle.std.proofs.Common.{◌≡◌, inl, inr, ⊎_elim, refl, sym, subst, ℕ, suc, ◌+◌, ◌≤◌, None, List, length, Err, arith}
+use Rattle.std.proofs.Common.{◌≡◌, inl, inr, ⊎_elim, refl, sym, subst, ℕ, suc, ◌+◌, ◌≤◌, None, List, length}
+use Rattle.std.proofs.Common.{Err, ◌∙◌, true, false, arith}
+use Rattle.std.proofs.lemmas.Bool.{true≢false}
 use Rattle.pcm_base.specs.declared.command.Call.{Call}
 use Rattle.pcm_base.specs.declared.entry.SoundMove.{SoundMove}
 use Rattle.pcm_base.specs.declared.refusal.Refusal.{Refusal}
 use Rattle.pcm_base.specs.declared.refusal.Refusal.TheVariants as refusal
+use Rattle.pcm_base.specs.declared.limits.TheConstants.{LONGEST_BODY}
 use Rattle.pcm_base.specs.Counters.{Needs}
 use Rattle.pcm_base.specs.History.{History, recorded}
 use Rattle.pcm_base.specs.Run.{outside}
@@ -16,10 +19,13 @@ use Rattle.editor_core.specs.Adding.{Exceeds}
 use Rattle.editor_core.specs.Bodies.{IsLength, Writing, all_len, whole_len}
 use Rattle.editor_core.specs.Core.{Core}
 use Rattle.editor_core.specs.Edits.{IsEdit, IsPlanned, NotPrepared, TaggedEdit}
+use Rattle.editor_core.specs.Exchanges.{may_begin}
 use Rattle.editor_core.specs.Spent.{WouldMake}
 use Rattle.editor_core.specs.Studios.{IsStudio, studio_of}
 use Rattle.editor_core.specs.Took.{Took, with_sound}
+use Rattle.editor_core.proofs.AsksNoVault.{inside_begins_none, unprepared_asks}
 use Rattle.editor_core.proofs.EditLaws.{edit_needs, edit_own}
+use Rattle.editor_core.proofs.PlainTests.{unprepared_plain}
 use Rattle.editor_core.proofs.Removing.{commit_frees, commit_removes_none}
 use Rattle.editor_core.proofs.Spaces.{counter_spent, exceeded}
 use Rattle.editor_core.proofs.Spending.{exceeding_needed, spent_needed}
@@ -72,9 +78,13 @@ module _ {D : Type 0} (disk : Ghosts D) (s : Core D) (is : IsStudio disk s) (goi
         blocks = n;
         so = inl (record { edit = e; planned = plan; means = edit; blocks_are = refl; writes = refl });
       } in
+      let none : may_begin why ≡ false =
+      inside_begins_none why (unprepared_asks s n tracks (suc e.more) (whole_len s writes) len why not)
+      (unprepared_plain s n tracks (suc e.more) (whole_len s writes) len why not) in
+      let brief : (k : ℕ) → may_begin why ≡ true → k ≤ LONGEST_BODY = λ k off. absurd (true≢false (sym off ∙ none)) in
       let test =
       refuses disk s c sound why is (fewer s.store) (commit_frees disk s c (Err why) s commit.many) commit.quiet
-      len n (λ held. need n (omega arith)) in
+      len (brief len) n (λ held. need n (omega arith)) in
       let memory : Took disk s (with_sound c sound (Err refusal.NoMemory)) s =
       wants disk s c sound is (fewer s.store) (commit_removes_none c commit.many) commit.quiet len
       (λ held. (0, need 0 (omega arith))) in
@@ -87,8 +97,8 @@ module _ {D : Type 0} (disk : Ghosts D) (s : Core D) (is : IsStudio disk s) (goi
       (spent_needed disk s c sound tracks commit would why spent))
       (λ over.
       let exceeds = λ (k : ℕ) (one : IsLength s writes k) (h : Exceeds s.journal_end k why).
-      refuses disk s c sound why is (fewer s.store) (commit_frees disk s c (Err why) s commit.many) commit.quiet k n
-      (λ held. edit_needs disk s is going e plan c sound edit k one n (omega arith))
+      refuses disk s c sound why is (fewer s.store) (commit_frees disk s c (Err why) s commit.many) commit.quiet k
+      (brief k) n (λ held. edit_needs disk s is going e plan c sound edit k one n (omega arith))
       (exceeded t c sound tracks commit n k is.counters.pin_most is.journal.generation_most going own over.0 over.1
       over.2
       why h)

@@ -1,24 +1,30 @@
 -- What a call does that may name a sound of a vault.
-use Rattle.std.specs.Prelude.{◌≡◌, ℕ, Bool, IsTrue, IsSome, Option, Some, None, List, Result, Ok, Err, IfErr, IfOk, ◌-◌}
+use Rattle.std.specs.Prelude.{◌≡◌, ◌⊎◌, ◌<◌, ℕ, Bool, IsTrue, IsSome, Option, Some, None, List, Result, Ok, Err, IfErr}
+use Rattle.std.specs.Prelude.{IfOk, ◌-◌}
 use Rattle.pcm_base.specs.declared.answer.Answer.{Answer}
 use Rattle.pcm_base.specs.declared.answer.Reply.{Reply}
 use Rattle.pcm_base.specs.declared.answer.Reply.TheVariants as reply
 use Rattle.pcm_base.specs.declared.command.Call.{Call}
+use Rattle.pcm_base.specs.declared.command.Call.TheVariants.{Line}
+use Rattle.pcm_base.specs.declared.command.Command.TheVariants.{Import}
 use Rattle.pcm_base.specs.declared.entry.SoundMove.{SoundMove}
 use Rattle.pcm_base.specs.declared.refusal.Refusal.{Refusal}
+use Rattle.pcm_base.specs.declared.refusal.Refusal.TheVariants as refusal
+use Rattle.pcm_base.specs.declared.wav.WavFault.TheVariants.{Truncated}
 use Rattle.pcm_base.specs.Outside.{Sounds}
 use Rattle.pcm_base.specs.Run.{Heard, name_in}
 use Rattle.disk_model.specs.Frames.{Changed}
 use Rattle.disk_model.specs.declared.store.Store.{Ghosts}
 use Rattle.editor_core.specs.Core.{Core}
 use Rattle.editor_core.specs.Exports.{moved_from}
+use Rattle.editor_core.specs.Imports.{IsCutShort, left_as}
 use Rattle.editor_core.specs.Left.{CountsIds, Left, LeavesOthers, MayRemove, Stops, Untouched}
 use Rattle.editor_core.specs.Packing.{packed_by}
 use Rattle.editor_core.specs.Records.{Records}
 use Rattle.editor_core.specs.Removals.{Frees}
 use Rattle.editor_core.specs.Spent.{NamesGiven}
 use Rattle.editor_core.specs.Studios.{IsStudio}
-use Rattle.editor_core.specs.Took.{Exchange, Took, asks, exchange_of, number_behind, silent}
+use Rattle.editor_core.specs.Took.{Exchange, Took, asks, exchange_of, number_behind, silent, with_sound}
 
 -- what becomes of the sound that a call names, where a vault has these sounds before it and after it
 abbrev pub move_of : Option (List ℕ) → Sounds → Sounds → SoundMove
@@ -45,7 +51,7 @@ pub record Lasts {D : Type 0} (disk : Ghosts D) (old : Core D) (exchange : Excha
       old.store new.store
   pub frees : Frees disk old exchange.call exchange.told exchange.removed new
   pub ids : CountsIds old exchange.removed new
-  pub untouched : Untouched disk old exchange.told new
+  pub untouched : Untouched disk old exchange.call exchange.told new
   pub stops : Stops disk old exchange.told new
   pub left : IfErr exchange.told (Left disk old new)
 
@@ -71,6 +77,16 @@ sound_moved span name = move_of name span.old_sounds span.new_sounds
 abbrev pub exchange_over : {D : Type 0} → Span D → Call → Result Reply Refusal → List ℕ → Exchange
 exchange_over span call told removed = exchange_of call (sound_moved span (name_in call)) told removed
 
+-- An import, whatever the vault reports: what is added are the tracks of some bytes, and a reason is that of some
+-- sound, or of one that is cut short; of such a one fewer bytes came than it should have.
+pub record Imported {D : Type 0} (disk : Ghosts D) (old : Core D) (name : List ℕ) (told : Result Reply Refusal)
+    (new : Core D) : Type 0 where
+  pub some : IfOk told (λ r. (bytes : List ℕ)
+      × Took disk old (with_sound (Line (Import name)) (left_as (Some bytes)) told) new)
+  pub reason : IfErr told (λ why. IsCutShort why ⊎ ((sound : Option (List ℕ))
+      × Took disk old (with_sound (Line (Import name)) (left_as sound) told) new))
+  pub short : (want have : ℕ) → IfErr told (λ why. why ≡ refusal.BadWav (Truncated want have) → have < want)
+
 -- One call, over a vault: where the vault tells its bytes it is a step, of which the vault's move is a part.
 pub record TookOver {D : Type 0} (disk : Ghosts D) (span : Span D) (call : Call) (told : Result Reply Refusal)
     : Type 0 where
@@ -80,6 +96,8 @@ pub record TookOver {D : Type 0} (disk : Ghosts D) (span : Span D) (call : Call)
   pub heard : IsTold call span.tells
       → Heard (name_in call) (sound_moved span (name_in call)) span.old_sounds span.new_sounds
   pub lasts : Lasts disk span.old (exchange_over span call told removed) span.new
+  -- and of an import this, where the vault does not
+  pub imported : (name : List ℕ) → call ≡ Line (Import name) → Imported disk span.old name told span.new
 
 -- an answer as what a line gets: the commit number, and the reply or why there is none
 abbrev pub reply_of : Result Reply Refusal → Reply

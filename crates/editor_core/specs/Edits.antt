@@ -1,13 +1,14 @@
 -- An edit that makes blocks: what is known of it before anything of the disk is changed, and what carrying it out
 -- leaves.
 use Rattle.std.specs.Prelude.{◌≡◌, ◌⊎◌, ℕ, suc, ◌+◌, ◌^◌, ◌≤◌, ◌<◌, ℤ, pos, Option, Some, None, List, ◌++◌, length, map}
-use Rattle.std.specs.Prelude.{Result, Ok, Err, Contains, false}
+use Rattle.std.specs.Prelude.{Result, Ok, Err, Contains, true, false, IsTrue}
 use Rattle.std.specs.List.{AllByRecursion}
 use Rattle.pcm_base.specs.declared.block.BlockRef.{BlockRef}
 use Rattle.pcm_base.specs.declared.command.Call.{Call}
 use Rattle.pcm_base.specs.declared.entry.SoundMove.{SoundMove}
 use Rattle.pcm_base.specs.declared.refusal.Refusal.{Refusal}
 use Rattle.pcm_base.specs.declared.refusal.Refusal.TheVariants as refusal
+use Rattle.pcm_base.specs.declared.wav.WavFault.TheVariants.{Truncated}
 use Rattle.pcm_base.specs.Counters.{Needs, RecordsNeed, no_room}
 use Rattle.pcm_base.specs.History.{History, recorded}
 use Rattle.pcm_base.specs.Outside.{Outside}
@@ -22,8 +23,7 @@ use Rattle.disk_model.specs.declared.store.Store.{Ghosts}
 use Rattle.clip_track.specs.declared.items.Item.{Item}
 use Rattle.edit_ops.specs.declared.types.NewBlock.{NewBlock}
 use Rattle.edit_ops.specs.Plans.{AreNew, AreWritten, AllNewFrom, ref_of}
-use Rattle.piece_store.specs.declared.given.Given.{Given}
-use Rattle.piece_store.specs.Bringing.{brought, brought_count}
+use Rattle.piece_store.specs.Brought.{Brought}
 use Rattle.project_journal.specs.Journal.{rows_length}
 use Rattle.project_state.specs.declared.track.Track.{Track}
 use Rattle.project_state.specs.Kept.{meant_history, point_blocks}
@@ -32,7 +32,7 @@ use Rattle.editor_core.specs.declared.carrying.Planned.{Planned}
 use Rattle.editor_core.specs.Adding.{Adds, ExceedsBy}
 use Rattle.editor_core.specs.Commits.{IsCommitCall}
 use Rattle.editor_core.specs.Core.{Core}
-use Rattle.editor_core.specs.Exchanges.{is_broken_off}
+use Rattle.editor_core.specs.Exchanges.{may_begin, reads_sound}
 use Rattle.editor_core.specs.Made.{PiecesReadable, batch_of, ids_from}
 use Rattle.editor_core.specs.Makes.{AreSynced, Making, Stuck}
 use Rattle.editor_core.specs.Studios.{MayPaste, clip_blocks, clip_cells, named_blocks, studio_by}
@@ -46,16 +46,21 @@ blocks_with s makes = named_blocks s ++ map ref_of makes
 abbrev pub AreAmong : List BlockRef → List BlockRef → Type 0
 AreAmong every bs = AllByRecursion (Contains every) bs
 
--- an edit: its plan, the tag of its new point, where 0 is none, how many commits it is beside one, and what its command
--- brings
+-- an edit: its plan, the tag of its new point, where 0 is none, how many commits it is beside one, how many samples its
+-- command brings, and which
 pub record TaggedEdit : Type 0 where
   pub plan : Planned
   pub tag : ℕ
   pub more : ℕ
-  pub given : Given
+  pub count : ℕ
+  pub given : ℕ → ℤ
 
-abbrev pub tagged : Planned → (tag more : ℕ) → Given → TaggedEdit
-tagged plan tag more given = record { plan = plan; tag = tag; more = more; given = given }
+abbrev pub tagged : Planned → (tag more count : ℕ) → (ℕ → ℤ) → TaggedEdit
+tagged plan tag more count given = record { plan = plan; tag = tag; more = more; count = count; given = given }
+
+-- the same of samples that may be brought, of which some are known
+abbrev pub tagged_by : Planned → (tag more : ℕ) → Brought → (ℕ → ℤ) → TaggedEdit
+tagged_by plan tag more b given = tagged plan tag more b.count given
 
 -- the clipboard after an edit: what it takes out, or what was there
 abbrev pub clip_then : {A : Type 0} → Option A → Option A → Option A
@@ -73,8 +78,8 @@ history_behind s e = recorded s.history e.plan.point e.tag
 -- of these.
 pub record IsPlanned {D : Type 0} (s : Core D) (e : TaggedEdit) : Type 0 where
   pub new : AreNew s.block_size s.next_block e.plan.makes
-  pub readable : PiecesReadable (brought_count e.given) e.plan.makes
-  pub origin : AllNewFrom (named_blocks s) (brought_count e.given) e.plan.makes
+  pub readable : PiecesReadable e.count e.plan.makes
+  pub origin : AllNewFrom (named_blocks s) e.count e.plan.makes
   pub tag_given : e.tag ≤ s.commit_number
   pub tag_counts : 0 < e.more → 1 ≤ e.tag
   pub sound : IsSoundPoint s.block_size (s.next_block + length e.plan.makes) (s.next_track + e.plan.tracks) e.plan.point
@@ -115,7 +120,7 @@ pub record IsEdit {D : Type 0} (disk : Ghosts D) (s : Core D) (c : Call) (sound 
   pub few : (block : ℕ → ℕ → ℤ) → length e.plan.makes ≤ most s.block_size (studio_by (alone block) disk s).state
   pub own : (block : ℕ → ℕ → ℤ)
       → call_tests (outside (studio_by (alone block) disk s) sound) (studio_by (alone block) disk s).state c ≡ None
-  pub means : (block : ℕ → ℕ → ℤ) → AreWritten (beside block (brought e.given)) e.plan.makes
+  pub means : (block : ℕ → ℕ → ℤ) → AreWritten (beside block e.given) e.plan.makes
       → after (outside (studio_by (alone block) disk s) sound) (studio_by (alone block) disk s).state c
       ≡ record (studio_by (alone block) disk s).state {
         history = meant_history (alone block) (history_behind s e);
@@ -157,7 +162,7 @@ NotPrepared s blocks tracks count whole len why =
 -- they are, the bodies of their records, and how long these are written out whole
 pub record BlockCommit : Type 0 where
   pub makes : List NewBlock
-  pub given : Given
+  pub given : ℕ → ℤ
   pub tracks : ℕ
   pub count : ℕ
   pub bodies : List (List ℕ)
@@ -173,7 +178,7 @@ pub record Committed {D : Type 0} (disk : Ghosts D) (old : Core D) (c : BlockCom
   pub prepared : IsPrepared old (length c.makes) c.tracks c.count (rows_length c.bodies)
   pub adds : Adds disk mid c.bodies c.count c.whole result new
 
--- All of it: want of memory comes before the first block is made, and then the disk alone refuses.
+-- All of it: want of memory comes before the first block is made, and then the disk and the vault alone refuse.
 abbrev pub Carried : {D : Type 0} → Ghosts D → Core D → BlockCommit → Result (Unit {0}) Refusal → Core D → Type 0
 Carried disk old c (Ok done) new = Committed disk old c (Ok done) new
 Carried disk old c (Err why) new =
@@ -182,6 +187,16 @@ Carried disk old c (Err why) new =
     × Stuck disk old (batch_of c.given c.makes) why new)
     ⊎ ((why ≡ refusal.DiskFault) × Committed disk old c (Err why) new))
 
--- a refusal that the disk had no part in leaves the studio as it was
+-- a refusal that no device had a part in leaves the studio as it was
 abbrev pub IsStill : {D : Type 0} → Core D → Core D → Refusal → Type 0
-IsStill old new why = is_broken_off why ≡ false → new ≡ old
+IsStill old new why = may_begin why ≡ false → new ≡ old
+
+-- samples that may fail to come are brought only for a call that reads a sound
+abbrev pub MayServe : Brought → Call → Type 0
+MayServe b c = IsTrue b.may_fail → reads_sound c ≡ true
+
+-- the same, where this refusal came
+abbrev pub Serves : Call → Refusal → Type 0
+Serves c refusal.VaultFault = reads_sound c ≡ true
+Serves c (refusal.BadWav (Truncated want have)) = reads_sound c ≡ true
+Serves c why = Unit {0}

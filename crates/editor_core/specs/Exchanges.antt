@@ -2,8 +2,12 @@
 use Rattle.std.specs.Prelude.{ℕ, Bool, true, false, if◌then◌else◌, None, List, [], Result, Ok, Err}
 use Rattle.pcm_base.specs.declared.answer.Reply.{Reply}
 use Rattle.pcm_base.specs.declared.command.Call.{Call}
+use Rattle.pcm_base.specs.declared.command.Call.TheVariants.{Line}
+use Rattle.pcm_base.specs.declared.command.Command.TheVariants.{Import}
 use Rattle.pcm_base.specs.declared.entry.SoundMove.{SoundMove}
 use Rattle.pcm_base.specs.declared.refusal.Refusal.{Refusal}
+use Rattle.pcm_base.specs.declared.refusal.Refusal.TheVariants as refusal
+use Rattle.pcm_base.specs.declared.wav.WavFault.TheVariants.{Truncated}
 use Rattle.pcm_base.specs.Causes.{Cause, Test, Damage, Disk, Vault, Memory, cause_of}
 
 -- no sound was named
@@ -39,7 +43,7 @@ abbrev pub freeing : Call → Result Reply Refusal → List ℕ → Exchange
 freeing call told removed = exchange_of call silent told removed
 
 -- Whether the disk broke a call off: a read or a change of it failed, or the file of a block is not as it has to be.
--- Each other reason comes before the disk is changed.
+-- Each other reason comes before the disk is changed, but for an import that a vault cuts off.
 abbrev pub breaks_off : Cause → Bool
 breaks_off Test = false
 breaks_off Damage = true
@@ -49,6 +53,25 @@ breaks_off Memory = false
 
 abbrev pub is_broken_off : Refusal → Bool
 is_broken_off why = breaks_off (cause_of why)
+
+-- a vault failed, or gave fewer bytes than it said
+abbrev pub is_cut_off : Refusal → Bool
+is_cut_off refusal.VaultFault = true
+is_cut_off (refusal.BadWav (Truncated want have)) = true
+is_cut_off why = false
+
+-- whether a device refused a call, so that it may have made blocks before
+abbrev pub may_begin : Refusal → Bool
+may_begin why = if is_cut_off why then true else is_broken_off why
+
+-- a call that reads a sound while it makes blocks
+abbrev pub reads_sound : Call → Bool
+reads_sound (Line (Import name)) = true
+reads_sound call = false
+
+-- the same of one call: a vault cuts off none but an import
+abbrev pub may_have_begun : Call → Refusal → Bool
+may_have_begun call why = if reads_sound call then may_begin why else is_broken_off why
 
 -- how many blocks may be begun in vain: the next one, where the disk breaks the call off
 abbrev pub begun_in_vain : Result Reply Refusal → ℕ

@@ -1,6 +1,6 @@
 -- New tracks of a sound's channels. What is brought is the samples of all channels, those of each after those of the
 -- one before.
-use Rattle.std.specs.Prelude.{◌≡◌, ℕ, ◌+◌, ◌/◌, ◌^◌, ◌<◌, ◌≤◌, nat_lt, ℤ, false, Option, Some, None, List, [], ◌∷◌}
+use Rattle.std.specs.Prelude.{◌≡◌, ℕ, ◌+◌, ◌/◌, ◌^◌, ◌<◌, ◌≤◌, nat_lt, ℤ, false, IsTrue, Option, Some, None, List, [], ◌∷◌}
 use Rattle.std.specs.Prelude.{◌++◌, length, map, Result, Ok, Err}
 use Rattle.std.specs.List.{AllByRecursion}
 use Rattle.pcm_base.specs.declared.limits.TheConstants.{MAX_TRACKS, UNITY_GAIN}
@@ -12,6 +12,7 @@ use Rattle.pcm_base.specs.declared.refusal.Refusal.TheVariants as refusal
 use Rattle.pcm_base.specs.declared.sound.Side.TheVariants.{Both}
 use Rattle.pcm_base.specs.declared.wav.WavFault.TheVariants.{Truncated}
 use Rattle.pcm_base.specs.Causes.{Rose}
+use Rattle.piece_store.specs.Brought.{Brought}
 use Rattle.pcm_base.specs.Edits.{as_cells}
 use Rattle.pcm_base.specs.Pieces.{Sources, stretch}
 use Rattle.pcm_base.specs.Refusals.{◌otherwise◌, length_limit, refused_if}
@@ -73,11 +74,6 @@ track_with id layout = record { id = id; gain = UNITY_GAIN; side = Both; mute = 
 abbrev pub total_of : List ℕ → ℕ
 total_of [] = 0
 total_of (n ∷ ns) = n + total_of ns
-
--- lists one after another
-abbrev pub all_of : List (List ℤ) → List ℤ
-all_of [] = []
-all_of (xs ∷ more) = xs ++ all_of more
 
 -- this many samples each, from a place on
 abbrev pub parts_from : (ℕ → ℤ) → ℕ → List ℕ → List (List ℤ)
@@ -141,16 +137,24 @@ abbrev pub IsCutShort : Refusal → Type 0
 IsCutShort (refusal.BadWav (Truncated want have)) = have < want
 IsCutShort why = ⊥
 
--- a refusal that is not of the vault
-abbrev pub IsNoVault : Refusal → Type 0
-IsNoVault refusal.VaultFault = ⊥
-IsNoVault why = Unit {0}
+-- the same as an answer
+abbrev pub IfCutShort : {T : Type 0} → Result T Refusal → Type 0
+IfCutShort (Ok x) = ⊥
+IfCutShort (Err why) = IsCutShort why
 
 -- a refusal that is neither of the vault nor of the bytes that it gave
 abbrev pub IsInside : Refusal → Type 0
 IsInside refusal.VaultFault = ⊥
 IsInside (refusal.BadWav fault) = ⊥
 IsInside why = Unit {0}
+
+-- a refusal is neither of the vault nor of the bytes that it gave, unless samples are brought that may fail to come; and
+-- of bytes it says that fewer came than it had said
+abbrev pub IsInsideOr : Brought → Refusal → Type 0
+IsInsideOr b refusal.VaultFault = IsTrue b.may_fail
+IsInsideOr b (refusal.BadWav (Truncated want have)) = IsTrue b.may_fail × (have < want) × (b.tells ≡ false)
+IsInsideOr b (refusal.BadWav fault) = ⊥
+IsInsideOr b why = Unit {0}
 
 -- the vault's count of faults rises where it failed, and stays elsewhere
 abbrev pub VaultCountedBy : Refusal → ℕ → ℕ → Type 0

@@ -14,7 +14,7 @@ use Rattle.block_ledger.specs.Counts.{Counts}
 use Rattle.envelope_view.specs.Answers.{IsDamagedIn}
 use Rattle.editor_core.specs.Adding.{HasFailed, stopped_by}
 use Rattle.editor_core.specs.Core.{Core}
-use Rattle.editor_core.specs.Exchanges.{is_broken_off}
+use Rattle.editor_core.specs.Exchanges.{may_have_begun}
 use Rattle.editor_core.specs.Makes.{HasMissed}
 use Rattle.editor_core.specs.Studios.{named_blocks}
 
@@ -65,9 +65,10 @@ CountsIds old removed new =
     (id : ℕ) → IsSome (new.counts id)
     ↔ ((IsSome (old.counts id) ⊎ ((old.next_block ≤ id) × (id < new.next_block))) × (Contains removed id → ⊥))
 
--- A refusal that does not come of the disk leaves the disk as it was.
-abbrev pub Untouched : {D R : Type 0} → Ghosts D → Core D → Result R Refusal → Core D → Type 0
-Untouched disk old told new = IfErr told (λ why. is_broken_off why ≡ false → Kept disk old.store new.store)
+-- A refusal that does not come of the disk leaves the disk as it was, but for an import that a vault cuts off, which
+-- may have made blocks that nothing names.
+abbrev pub Untouched : {D R : Type 0} → Ghosts D → Core D → Call → Result R Refusal → Core D → Type 0
+Untouched disk old call told new = IfErr told (λ why. may_have_begun call why ≡ false → Kept disk old.store new.store)
 
 -- A refusal leaves all as it was but for the disk, that the studio may have stopped, and the ids of blocks that nothing
 -- names.

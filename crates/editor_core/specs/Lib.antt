@@ -38,3 +38,4 @@ pub mod Applied
 pub mod Events
 pub mod Left
 pub mod Lines
+pub mod Loads

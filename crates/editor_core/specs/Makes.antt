@@ -1,7 +1,8 @@
 -- New blocks that are written and then synced before a record names them, and what a failure leaves.
 use Rattle.std.specs.Prelude.{◌≡◌, ◌↔◌, ◌⊎◌, ℕ, ◌+◌, ◌*◌, ◌≤◌, ◌<◌, IsTrue, IsSome, Some, None, List, length, Contains}
-use Rattle.std.specs.Prelude.{Result, MatchResult}
+use Rattle.std.specs.Prelude.{Result, MatchResult, ℤ}
 use Rattle.pcm_base.specs.Causes.{Rose}
+use Rattle.pcm_base.specs.declared.wav.WavFault.TheVariants.{Truncated}
 use Rattle.pcm_base.specs.Pieces.{all_samples}
 use Rattle.pcm_base.specs.declared.refusal.Refusal.{Refusal}
 use Rattle.pcm_base.specs.declared.refusal.Refusal.TheVariants as refusal
@@ -17,8 +18,8 @@ use Rattle.block_ledger.specs.Counts.{Counts, occurrences}
 use Rattle.block_store.specs.declared.fault.BlockFault.TheVariants as fault
 use Rattle.project_journal.specs.Gate.{EachNow}
 use Rattle.edit_ops.specs.declared.types.NewBlock.{NewBlock}
-use Rattle.piece_store.specs.declared.given.Given.{Given}
-use Rattle.piece_store.specs.Bringing.{brought}
+use Rattle.piece_store.specs.declared.fault.BringFault.TheVariants as bring
+use Rattle.piece_store.specs.Brought.{Brought, IsNotBrought}
 use Rattle.piece_store.specs.Reading.{AllThere, IsFaultAmong}
 use Rattle.editor_core.specs.Adding.{HasFailed, stopped_by}
 use Rattle.editor_core.specs.Core.{Core}
@@ -37,7 +38,7 @@ made_room bytes n = record { files = n; bytes = n * bytes; calls = 2 * n }
 abbrev pub one_call : Room
 one_call = record { files = 0; bytes = 0; calls = 1 }
 
--- a piece of the next block could not be read: the disk is as it was, and the studio goes on
+-- a piece of the next block could not be read, or samples did not come: the disk is as it was, and the studio goes on
 pub record Unread {D : Type 0} (disk : Ghosts D) (old new : Core D) : Type 0 where
   pub is : new ≡ record old { store = new.store }
   pub kept : Kept disk old.store new.store
@@ -60,23 +61,54 @@ IsDamageAmong files ps (refusal.Damaged file at want have) =
     IsFaultAmong files ps (fault.Damaged file (record { at = at; want = want; have = have }))
 IsDamageAmong files ps why = Unit {0}
 
+-- the disk failed, or the vault, which may have given fewer bytes than it said
+abbrev pub IsOfDevices : Refusal → Type 0
+IsOfDevices refusal.DiskFault = Unit {0}
+IsOfDevices refusal.VaultFault = Unit {0}
+IsOfDevices (refusal.BadWav (Truncated want have)) = Unit {0}
+IsOfDevices why = ⊥
+
+-- what the vault did not bring comes only where it may fail to
+abbrev pub IsBroughtRefusal : Brought → Refusal → Type 0
+IsBroughtRefusal b refusal.VaultFault = IsNotBrought b bring.Vault
+IsBroughtRefusal b (refusal.BadWav (Truncated want have)) = IsNotBrought b (bring.Short want have)
+IsBroughtRefusal b (refusal.BadWav fault) = ⊥
+IsBroughtRefusal b why = Unit {0}
+
+-- nothing holds of a sound that is cut short: fewer bytes came than were said
+abbrev pub OrCut : Refusal → Type 0 → Type 0
+OrCut (refusal.BadWav (Truncated want have)) fact = Unit {0}
+OrCut why fact = fact
+
+-- where a vault failed its count of faults rose, and elsewhere it stays
+abbrev pub RefusedBroughtBy : Refusal → ℕ → ℕ → Type 0
+RefusedBroughtBy refusal.VaultFault old new = Rose old new × (old ≤ new)
+RefusedBroughtBy why old new = new ≡ old
+
+abbrev pub RefusedBrought : {T : Type 0} → Result T Refusal → ℕ → ℕ → Type 0
+RefusedBrought result old new = MatchResult result (λ _. new ≡ old) (λ why. RefusedBroughtBy why old new)
+
 -- why the next block was not written
 abbrev pub NotMade : {D : Type 0} → Ghosts D → Core D → Refusal → Core D → Type 0
 NotMade disk old refusal.DiskFault new =
     (Unread disk old new × HasMissed disk old.store new.store) ⊎ Unput disk old new
 NotMade disk old (refusal.Damaged file at want have) new =
     Unread disk old new × (disk.read_fault_count new.store ≡ disk.read_fault_count old.store)
+NotMade disk old refusal.VaultFault new =
+    Unread disk old new × (disk.read_fault_count new.store ≡ disk.read_fault_count old.store)
+NotMade disk old (refusal.BadWav (Truncated want have)) new =
+    Unread disk old new × (disk.read_fault_count new.store ≡ disk.read_fault_count old.store)
 NotMade disk old why new = ⊥
 
 -- One block is written, and the ledger has its id.
-pub record MadeOne {D : Type 0} (disk : Ghosts D) (old : Core D) (given : Given) (b : NewBlock)
+pub record MadeOne {D : Type 0} (disk : Ghosts D) (old : Core D) (given : ℕ → ℤ) (b : NewBlock)
     (new : Core D) : Type 0 where
   pub is : new ≡ record old { store = new.store; counts = new.counts; next_block = old.next_block + 1 }
   pub ledger : AddsFree old.next_block 1 old.counts new.counts
   pub stored : IsTrue (disk.tells old.store) → AllThere (disk.reads old.store) b.pieces
       → disk.reads old.store b.id ≡ None
       → blocks (disk.reads new.store) b.id
-      ≡ Some (all_samples (sources_with (disk.reads old.store) (brought given)) b.pieces)
+      ≡ Some (all_samples (sources_with (disk.reads old.store) given) b.pieces)
   pub changed : Changed disk (SameElsewhere b.id) (record {
     files = 1;
     bytes = size_of b.len;
@@ -129,7 +161,7 @@ pub record Unsynced {D : Type 0} (disk : Ghosts D) (old : Core D) (ids : IdRange
   pub stays : Changed disk StaysStep one_call mid.store new.store
 
 -- Some were written, and the next one was not; or all were, and a sync failed, which left the files as they were. Where
--- the disk has the blocks of all pieces, the disk failed.
+-- the disk has the blocks of all pieces, the disk failed, or the vault.
 pub record Stuck {D : Type 0} (disk : Ghosts D) (old : Core D) (batch : Batch) (why : Refusal) (new : Core D)
     : Type 0 where
   pub made : ℕ
@@ -143,7 +175,7 @@ pub record Stuck {D : Type 0} (disk : Ghosts D) (old : Core D) (batch : Batch) (
   pub stands : Contains batch.blocks block
   pub damaged : IsTrue (disk.tells mid.store) → IsDamageAmong (disk.reads mid.store) block.pieces why
   pub sound : IsTrue (disk.tells old.store) → PiecesThere (disk.reads old.store) batch.blocks
-      → AreAbsent old.next_block (length batch.blocks) (disk.reads old.store) → why ≡ refusal.DiskFault
+      → AreAbsent old.next_block (length batch.blocks) (disk.reads old.store) → IsOfDevices why
 
 -- all are written, or the next one was not
 abbrev pub Writes : {D : Type 0} → Ghosts D → Core D → Batch → Result (Unit {0}) Refusal → Core D → Type 0

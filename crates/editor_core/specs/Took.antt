@@ -1,5 +1,6 @@
 -- What one call of a studio does.
-use Rattle.std.specs.Prelude.{◌≡◌, ◌⊎◌, ℕ, ◌+◌, ◌-◌, ◌*◌, Option, None, IsSome, Result, Ok, Err, IfErr, IfOk, OnErr, List}
+use Rattle.std.specs.Prelude.{◌≡◌, ◌⊎◌, ℕ, ◌+◌, ◌-◌, ◌*◌, Option, None, IsSome, Result, Ok, Err, IfErr, IfOk}
+use Rattle.std.specs.Prelude.{OnErr, List}
 use Rattle.std.specs.Prelude.{length}
 use Rattle.pcm_base.specs.declared.answer.Reply.{Reply}
 use Rattle.pcm_base.specs.declared.command.Call.{Call}
@@ -42,7 +43,7 @@ number_behind (Err why) call n = n
 
 -- What a call asks of the disk that makes this many blocks, and a record with a body of this length where it is a
 -- commit: the file of the journal is made where it is absent, and the next block may be begun in vain. A `compact`
--- makes a file, and writes so many bytes of it.
+-- makes a file, and writes this many bytes of it.
 abbrev pub asks : Exchange → Option (List ℕ) → (m blocks len packed : ℕ) → Room
 asks exchange journal m blocks len packed = record {
   files = files_made journal + packs exchange.call + (blocks + begun_in_vain exchange.told);
@@ -88,6 +89,6 @@ pub record Took {D : Type 0} (disk : Ghosts D) (old : Core D) (exchange : Exchan
   pub frees : Frees disk old exchange.call exchange.told exchange.removed new
   pub ids : CountsIds old exchange.removed new
   -- and what is left of the disk and of the studio, whatever the disk tells
-  pub untouched : Untouched disk old exchange.told new
+  pub untouched : Untouched disk old exchange.call exchange.told new
   pub stops : Stops disk old exchange.told new
   pub left : IfErr exchange.told (Left disk old new)

@@ -1,37 +1,66 @@
-// What a block is made in.
-ghost use Rattle.std.specs.Prelude.{◌≡◌, ◌≤◌, IfOk, IfErr, IsOkUnless, IsTrue, OnOk, None, Some};
+// What a block is made in, and bytes of sounds are read and written by.
+ghost use Rattle.std.specs.Prelude.{◌≡◌, ◌⊎◌, ◌≤◌, ◌<◌, ◌+◌, ◌*◌, ℕ, IfOk, IfErr, IsOkUnless, IsTrue, OnOk, Option, None};
+ghost use Rattle.std.specs.Prelude.{List, false, MatchResult};
 ghost use Rattle.pcm_base.specs.declared.limits.TheConstants.{MAX_BLOCK_SAMPLES};
 ghost use Rattle.block_store.specs.Checks.{Checks, IsWhole};
 ghost use Rattle.block_store.specs.Reads.{Counted};
 ghost use Rattle.block_store.specs.declared.fault.BlockFault.TheVariants as fault;
-ghost use Rattle.pcm_base.specs.Pieces.{all_samples, total};
+ghost use Rattle.pcm_base.specs.Pieces.{total};
+ghost use Rattle.pcm_base.specs.declared.wav.WavFault.TheVariants.{Truncated};
+ghost use Rattle.pcm_base.specs.Mix.{mix_of};
+ghost use Rattle.pcm_base.specs.Outside as outside;
+ghost use Rattle.pcm_base.specs.Wave.{wav_text};
 ghost use Rattle.disk_model.specs.Disk.{SameElsewhere, bytes_of};
 ghost use Rattle.disk_model.specs.Frames.{Kept, Changed};
 ghost use Rattle.sample_block.specs.Blocks.{blocks};
 ghost use Rattle.sample_block.specs.Faults.{damage_of};
-ghost use Rattle.sample_block.specs.Sources.{sources_with};
+ghost use Rattle.sample_block.specs.Sources.{sources_of, AllNamed, AllWhole};
 ghost use Rattle.sample_block.specs.Spelling.{IsBlock, size_of};
-ghost use Rattle.piece_store.specs.Bringing.{brought, brought_count};
-ghost use Rattle.piece_store.specs.Making.{IsDiskFault, IsFaultRead, NotPut, MadeCounted};
+ghost use Rattle.block_cache.specs.Caches.{IsCacheOf, KeepsCache};
+ghost use Rattle.project_state.specs.Kept.{meant, point_blocks};
+ghost use Rattle.mix_view.specs.Tracks.{mix_length_of};
+ghost use Rattle.piece_store.specs.Brought.{AreInOrder};
+ghost use Rattle.piece_store.specs.Bringers.{StillBrings};
+ghost use Rattle.piece_store.specs.Making.{IsFilled, IsOfDevice, IsFaultRead, IsBroughtFault, NotPut, MadeCounted};
+ghost use Rattle.piece_store.specs.Making.{MadeBrought};
 ghost use Rattle.piece_store.specs.Reading.{AllReadable, AllThere};
+ghost use Rattle.wav_pcm.specs.Heads.{HasShape, IsHeadOf};
+ghost use Rattle.wav_pcm.specs.Wavs.{FitsFile};
+ghost use Rattle.wav_pcm.specs.declared.fault.SoundFault.TheVariants.{BadWav};
+ghost use Rattle.sound_import.specs.declared.fault.ImportFault.TheVariants as import;
+ghost use Rattle.sound_import.specs.Imported.{IsRefused, IsCutShort, ImportCounted};
+ghost use Rattle.sound_export.specs.Written as export;
+ghost use Rattle.sound_export.specs.Written.{ExportCounted, IsBlockFault, IsLengthFault, IsNoDamage};
 ghost use Rattle.editor_core.specs.Buffers.{IsRoomy};
+ghost use Rattle.editor_core.specs.Exports.{Writes};
 
+use super::exports::write_stretches;
+use block_cache::Cache;
 use block_store::{BlockFault, check_block};
 use disk_model::Store;
 use edit_ops::NewBlock;
+use edit_ports::Vault;
 use pcm_base::{BlockRef, NoMemory};
-use piece_store::{Given, MakeFault, write_new_block};
+use piece_store::{Brings, MakeFault, write_new_block};
+use project_state::Point;
 use sample_block::file_size;
+use sound_export::ExportFault;
+use sound_import::{ImportFault, find_sound};
 use std::alloc::Global;
 use std::marker::Model;
+use wav_pcm::WavHead;
 
-/// Room for the samples of one block and for the bytes of its file, so that no block that is made takes memory.
-/// Contracts see the most samples that a block may have.
+// How many bytes of a sound are read or written at a time.
+const SOUND_BYTES: usize = 65_536;
+
+/// Room for the samples of one block and for the bytes of its file, so that no block that is made takes memory, and for
+/// 65,536 bytes of a sound. Contracts see the most samples that a block may have.
 #[derive(Drop)]
 pub(crate) struct BlockBuffers {
     block_size: u32,
     samples: Vec<i16>,
     file: Vec<u8>,
+    sound: Vec<u8>,
 }
 
 impl Model for BlockBuffers {
@@ -42,7 +71,8 @@ impl Model for BlockBuffers {
 
     ghost view = { λ b. b.block_size };
 
-    ghost invariant = { λ b. IsRoomy b.block_size (length b.samples.items) (vec_capacity b.file) };
+    ghost invariant = { λ b. IsRoomy b.block_size (length b.samples.items) (vec_capacity b.file)
+        (length b.sound.items) };
 }
 
 impl BlockBuffers {
@@ -53,10 +83,12 @@ impl BlockBuffers {
     {
         let samples = vec![in alloc; 0i16; block_size as usize]?;
         let file = Vec::with_capacity(alloc, file_size(block_size as usize))?;
+        let sound = vec![in alloc; 0u8; SOUND_BYTES]?;
         Ok(BlockBuffers {
             block_size,
             samples,
             file,
+            sound,
         })
     }
 
@@ -69,20 +101,22 @@ impl BlockBuffers {
     }
 
     // As `write_new_block`, in these buffers. It takes no memory.
-    pub(crate) fn write_new<S: Store>(
+    pub(crate) fn write_new<S: Store, G: Brings>(
         &mut self,
         store: &mut S,
         block: &NewBlock,
-        given: &Given,
+        given: &mut G,
     ) -> Result<(), MakeFault>
         requires block { IsBlock block.now.id block.now.len }
-        requires pieces { AllReadable (brought_count given.now) block.now.pieces }
+        requires pieces { AllReadable (G.brings given.old).count block.now.pieces }
+        requires order { (G.brings given.old).tells ≡ false
+            → AreInOrder 0 (G.brings given.old).count block.now.pieces }
         requires total { total block.now.pieces ≡ block.now.len }
         requires room { block.now.len ≤ self.old }
         ensures stored { IsTrue (S.tells store.old) → AllThere (S.reads store.old) block.now.pieces
             → S.reads store.old block.now.id ≡ None
-            → OnOk result (blocks (S.reads store.new) block.now.id ≡ Some (all_samples
-            (sources_with (S.reads store.old) (brought given.now)) block.now.pieces)) }
+            → OnOk result (IsFilled (G.brings given.old) (S.reads store.old) block.now.pieces
+            (blocks (S.reads store.new) block.now.id)) }
         ensures changed { Changed S.Store (SameElsewhere block.now.id) (record {
           files = 1;
           bytes = size_of block.now.len;
@@ -90,14 +124,86 @@ impl BlockBuffers {
         }) store.old store.new }
         ensures untouched { IfErr result (λ e. NotPut e (Kept S.Store store.old store.new)) }
         ensures sound { IsTrue (S.tells store.old) → AllThere (S.reads store.old) block.now.pieces
-            → IfErr result IsDiskFault }
+            → IfErr result IsOfDevice }
+        ensures refused { IfErr result (IsBroughtFault (G.brings given.old)) }
         ensures damaged { IsTrue (S.tells store.old)
             → IfErr result (IsFaultRead (S.reads store.old) block.now.pieces) }
         ensures faults { MadeCounted result (S.read_fault_count store.old) (S.read_fault_count store.new)
             (S.change_fault_count store.old) (S.change_fault_count store.new) }
+        ensures still { StillBrings G.Brings given.old given.new }
+        ensures given { MadeBrought result (G.fault_count given.old) (G.fault_count given.new) }
         ensures same { self.new ≡ self.old }
     {
-        write_new_block(store, block, given, &mut self.samples, &mut self.file)
+        write_new_block(
+            store,
+            block,
+            given,
+            &mut self.samples,
+            &mut self.file,
+            &mut self.sound,
+        )
+    }
+
+    // As `find_sound`, by the buffer for sounds. It takes no memory.
+    pub(crate) fn find<V: Vault>(
+        &mut self,
+        vault: &mut V,
+        name: &str,
+        rate: u32,
+    ) -> Result<WavHead, ImportFault>
+        ensures found { IsTrue (V.tells vault.old) → IfOk result (IsHeadOf (V.holds vault.old name.now)) }
+        ensures rate { IfOk result (λ head. head.rate ≡ rate) }
+        ensures some { IfOk result (λ head. 0 < head.rate) }
+        ensures shape { IfOk result HasShape }
+        ensures refused { IsTrue (V.tells vault.old) → IfErr result (IsRefused (V.holds vault.old name.now) rate) }
+        ensures reason { IfErr result
+            (λ why. IsCutShort why ⊎ ((sound : Option (List ℕ)) × IsRefused sound rate why)) }
+        ensures short { (want have : ℕ)
+            → IfErr result (λ why. why ≡ import.Sound (BadWav (Truncated want have)) → have < want) }
+        ensures held { V.holds vault.new ≡ V.holds vault.old }
+        ensures tells { V.tells vault.new ≡ V.tells vault.old }
+        ensures faults { ImportCounted result (V.fault_count vault.old) (V.fault_count vault.new) }
+        ensures same { self.new ≡ self.old }
+    {
+        find_sound(vault, name, rate, &mut self.sound)
+    }
+
+    // As `write_stretches`, by the buffer for sounds. It takes no memory.
+    pub(crate) fn write_sound<S: Store, V: Vault>(
+        &mut self,
+        store: &mut S,
+        cache: &mut Cache,
+        vault: &mut V,
+        name: &str,
+        point: &Point,
+        rate: u32,
+    ) -> Result<u64, ExportFault>
+        requires named { AllNamed (point_blocks point.now) }
+        requires cached { IsTrue (S.tells store.old) → IsCacheOf (S.reads store.old) cache.old }
+        ensures cache { KeepsCache (S.tells store.old) (S.reads store.old) (point_blocks point.now) cache.old
+            cache.new }
+        ensures written { IsTrue (V.tells vault.old) → IsTrue (S.tells store.old)
+            → AllWhole (S.reads store.old) (point_blocks point.now)
+            → Writes (wav_text (mix_of (meant (sources_of (S.reads store.old)) point.now)) rate)
+            (V.holds vault.old name.now) (V.holds vault.new name.now) result }
+        ensures len { IfOk result (λ n. n ≡ 44 + 4 * mix_length_of point.now) }
+        ensures fits { MatchResult result (λ n. FitsFile (mix_length_of point.now))
+            (IsLengthFault (mix_length_of point.now)) }
+        ensures untouched { IsTrue (V.tells vault.old) → IfErr result (λ e. export.IsOfDevice e
+            ⊎ (V.holds vault.new name.now ≡ V.holds vault.old name.now)) }
+        ensures sound { IsTrue (S.tells store.old) → AllWhole (S.reads store.old) (point_blocks point.now)
+            → IfErr result IsNoDamage }
+        ensures damaged { IsTrue (S.tells store.old)
+            → IfErr result (λ e. IsBlockFault (S.reads store.old) (point_blocks point.now) e) }
+        ensures kept { Kept S.Store store.old store.new }
+        ensures others { IsTrue (V.tells vault.old) → outside.SameElsewhere name.now (V.holds vault.old)
+            (V.holds vault.new) }
+        ensures tells { V.tells vault.new ≡ V.tells vault.old }
+        ensures faults { ExportCounted result (S.read_fault_count store.old) (S.read_fault_count store.new)
+            (V.fault_count vault.old) (V.fault_count vault.new) }
+        ensures same { self.new ≡ self.old }
+    {
+        write_stretches(store, cache, vault, name, point, rate, &mut self.sound)
     }
 
     // As `check_block`, in these buffers. It takes no memory.

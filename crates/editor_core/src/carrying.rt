@@ -1,7 +1,6 @@
 // An edit that makes blocks, from its plan to its commit.
-ghost use Rattle.std.specs.Prelude.{◌≡◌, ℕ, suc, ◌+◌, ◌≤◌, ◌<◌, ◌^◌, length, vec_capacity, IfErr, IfOk, MatchResult};
-ghost use Rattle.std.specs.Prelude.{None};
-ghost use Rattle.std.specs.Prelude.{OnOk, Some};
+ghost use Rattle.std.specs.Prelude.{◌≡◌, ◌⊎◌, ℕ, ℤ, suc, ◌+◌, ◌≤◌, ◌<◌, ◌^◌, length, vec_capacity, IfErr, IfOk};
+ghost use Rattle.std.specs.Prelude.{MatchResult, OnOk, None, Some, false};
 ghost use Rattle.pcm_base.specs.declared.answer.Reply.TheVariants as reply;
 ghost use Rattle.pcm_base.specs.declared.command.Call.{Call};
 ghost use Rattle.pcm_base.specs.declared.entry.SoundMove.{SoundMove};
@@ -9,16 +8,18 @@ ghost use Rattle.pcm_base.specs.Counters.{commits_of, no_room};
 ghost use Rattle.block_ledger.specs.Counts.{occurrences};
 ghost use Rattle.block_ledger.specs.Entries.{count_of};
 ghost use Rattle.edit_ops.specs.Plans.{AreNew};
-ghost use Rattle.piece_store.specs.Bringing.{brought_count};
+ghost use Rattle.piece_store.specs.Brought.{MayBring};
+ghost use Rattle.piece_store.specs.Bringers.{StillBrings};
 ghost use Rattle.envelope_view.specs.Answers.{IsUndamaged};
 ghost use Rattle.editor_core.specs.Applied.{Lasts};
 ghost use Rattle.project_journal.specs.Journal.{AreWaiting};
 ghost use Rattle.editor_core.specs.Bodies.{all_bytes, all_len, whole_len, writing};
 ghost use Rattle.editor_core.specs.Core.{core_of};
 ghost use Rattle.editor_core.specs.Edits.{Spends, IsPlanned, IsEdit, IsPrepared, NotPrepared, Carried, clip_then};
-ghost use Rattle.editor_core.specs.Edits.{IsStill, tagged};
-ghost use Rattle.editor_core.specs.Imports.{IsInside};
-ghost use Rattle.editor_core.specs.Made.{PiecesReadable};
+ghost use Rattle.editor_core.specs.Edits.{IsStill, MayServe, tagged_by};
+ghost use Rattle.editor_core.specs.Imports.{IfCutShort, IsInsideOr};
+ghost use Rattle.editor_core.specs.Makes.{RefusedBrought};
+ghost use Rattle.editor_core.specs.Made.{AllInOrder, PiecesReadable};
 ghost use Rattle.editor_core.specs.Occurrences.{HasAll, HasIds, Moves};
 ghost use Rattle.editor_core.specs.Studios.{IsHeld, IsStudio, MayPaste, clip_blocks};
 ghost use Rattle.editor_core.specs.Took.{Took, told_by, with_sound};
@@ -27,7 +28,7 @@ use super::studio::Studio;
 use disk_model::Store;
 use edit_ops::{NewBlock, NewBlocks, Strips};
 use pcm_base::{COUNTER_LIMIT, NoMemory, Refusal};
-use piece_store::Given;
+use piece_store::Brings;
 use project_state::{Body, Point};
 
 /// A new point, the blocks that are to be made for it, the id of the next block after them, how many track ids it
@@ -105,30 +106,36 @@ impl<S: Store> Studio<S> {
     }
 
     // Makes the blocks of an edit, and adds its records.
-    fn carry(
+    fn carry<G: Brings>(
         &mut self,
         body: &Body,
         more: u64,
         makes: &[NewBlock],
         tracks: u64,
-        given: &Given,
+        given: &mut G,
     ) -> Result<(), Refusal>
         requires studio { IsStudio S.Store (core_of self.old) }
         requires more { more < 64 }
         requires new { AreNew self.old.buffers self.old.next_block makes.now }
-        requires pieces { PiecesReadable (brought_count given.now) makes.now }
-        ensures carried { Carried S.Store (core_of self.old)
+        requires pieces { PiecesReadable (G.brings given.old).count makes.now }
+        requires order { (G.brings given.old).tells ≡ false
+            → AllInOrder 0 (G.brings given.old).count makes.now }
+        ensures carried { (samples : ℕ → ℤ) × MayBring (G.brings given.old) samples
+            × Carried S.Store (core_of self.old)
             (record {
               makes = makes.now;
-              given = given.now;
+              given = samples;
               tracks = tracks;
               count = suc more;
               bodies = all_bytes (core_of self.old) (writing more body.now);
               whole = whole_len (core_of self.old) (writing more body.now);
             })
             result (core_of self.new) }
+        ensures device { IfErr result (IsInsideOr (G.brings given.old)) }
         ensures history { self.new.history.history ≡ self.old.history.history }
         ensures point { OnOk result (length self.new.history.history.points < self.new.history.capacity) }
+        ensures still { StillBrings G.Brings given.old given.new }
+        ensures given { RefusedBrought result (G.fault_count given.old) (G.fault_count given.new) }
     {
         self.prepare(body, more, makes.len() as u64, tracks)?;
         self.make_blocks(makes, given)?;
@@ -154,33 +161,40 @@ impl<S: Store> Studio<S> {
         }
     }
 
-    // Carries an edit out: makes its blocks, adds its record, and before it this many with the current point. It records
-    // the new point under this tag, where 0 is none, and puts what the edit takes out into the clipboard.
-    pub(crate) fn carry_out(
+    // Carries an edit out: makes its blocks, adds its record, and this many with the current point before it, records
+    // its point under this tag, where 0 is none, and puts what it takes out into the clipboard.
+    pub(crate) fn carry_out<G: Brings>(
         &mut self,
         edit: Planned,
         tag: u64,
         more: u64,
-        given: &Given,
+        given: &mut G,
     ) -> Result<u64, Refusal>
         requires studio { IsStudio S.Store (core_of self.old) }
         requires going { self.old.stopped ≡ None }
-        requires planned { IsPlanned (core_of self.old) (tagged edit tag more given.now) }
+        requires planned { (samples : ℕ → ℤ)
+            → IsPlanned (core_of self.old) (tagged_by edit tag more (G.brings given.old) samples) }
+        requires order { (G.brings given.old).tells ≡ false → AllInOrder 0 (G.brings given.old).count edit.makes }
         requires next { edit.next ≡ self.old.next_block + length edit.makes }
         requires few { edit.tracks ≤ 64 }
         requires more { more < 64 }
-        ensures took { (c : Call) → (sound : SoundMove)
-            → IsEdit S.Store (core_of self.old) c sound (tagged edit tag more given.now)
-            → Took S.Store (core_of self.old) (with_sound c sound (told_by (λ _. reply.Done) result))
-            (core_of self.new) }
+        // By some samples that may be brought it is what each call does that the edit is, unless fewer came than were
+        // said.
+        ensures took { (samples : ℕ → ℤ) × MayBring (G.brings given.old) samples
+            × ((c : Call) → (sound : SoundMove) → MayServe (G.brings given.old) c
+            → IsEdit S.Store (core_of self.old) c sound (tagged_by edit tag more (G.brings given.old) samples)
+            → IfCutShort result ⊎ Took S.Store (core_of self.old)
+            (with_sound c sound (told_by (λ _. reply.Done) result)) (core_of self.new)) }
         // Whatever the call means, and whatever is reported.
-        ensures lasts { (c : Call) → (sound : SoundMove) → commits_of c ≡ suc more
+        ensures lasts { (c : Call) → (sound : SoundMove) → MayServe (G.brings given.old) c → commits_of c ≡ suc more
             → Lasts S.Store (core_of self.old) (with_sound c sound (told_by (λ _. reply.Done) result))
             (core_of self.new) }
         ensures number { IfOk result (λ n. n ≡ self.new.commit_number) }
         ensures sound { IsHeld S.Store (core_of self.old) → IfErr result IsUndamaged }
-        ensures device { IfErr result IsInside }
+        ensures device { IfErr result (IsInsideOr (G.brings given.old)) }
         ensures still { IfErr result (IsStill (core_of self.old) (core_of self.new)) }
+        ensures keeps { StillBrings G.Brings given.old given.new }
+        ensures given { RefusedBrought result (G.fault_count given.old) (G.fault_count given.new) }
     {
         let Planned {
             point,

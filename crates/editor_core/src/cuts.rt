@@ -58,7 +58,7 @@ impl<S: Store> Studio<S> {
             return Err(Refusal::Stopped { faults });
         }
         let planned = self.planned_cut(alloc, range, removing)?;
-        self.carry_out(planned, 0, 0, &Given::Nothing)
+        self.carry_out(planned, 0, 0, &mut Given::Nothing)
     }
 
     // The project without the range, and the clipboard with it.

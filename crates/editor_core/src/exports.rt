@@ -1,5 +1,5 @@
 // The mix of the current project as a sound of a vault.
-ghost use Rattle.std.specs.Prelude.{◌≡◌, ◌⊎◌, ◌+◌, ◌*◌, IsTrue, IfErr, IfOk, MatchResult};
+ghost use Rattle.std.specs.Prelude.{◌≡◌, ◌⊎◌, ◌≤◌, ◌+◌, ◌*◌, length, IsTrue, IfErr, IfOk, MatchResult};
 ghost use Rattle.pcm_base.specs.declared.answer.Reply.TheVariants as reply;
 ghost use Rattle.pcm_base.specs.declared.command.Call.TheVariants.{Line};
 ghost use Rattle.pcm_base.specs.declared.command.Command.TheVariants as command;
@@ -35,21 +35,21 @@ use sound_export::{ExportFault, write_mix};
 // How many cells of tracks are read at a time, all tracks together.
 const EXPORT_CELLS: usize = 8192;
 
-// How many frames are written at a time, and their bytes.
-const EXPORT_FRAMES: usize = 4096;
+// How many frames are mixed and written at a time.
+const EXPORT_FRAMES: usize = 16_384;
 
-const EXPORT_BYTES: usize = 16_384;
-
-// Writes the mix of a project in stretches, by buffers of its own, and answers how many bytes the sound has.
-fn write_stretches<S: Store, V: Vault>(
+// Writes the mix of a project in stretches, whose bytes are written by `bytes`, and answers how many bytes the sound has.
+pub(crate) fn write_stretches<S: Store, V: Vault>(
     store: &mut S,
     cache: &mut Cache,
     vault: &mut V,
     name: &str,
     point: &Point,
     rate: u32,
+    bytes: &mut [u8],
 ) -> Result<u64, ExportFault>
     requires named { AllNamed (point_blocks point.now) }
+    requires bytes { 64 ≤ length bytes.old }
     requires cached { IsTrue (S.tells store.old) → IsCacheOf (S.reads store.old) cache.old }
     ensures cache { KeepsCache (S.tells store.old) (S.reads store.old) (point_blocks point.now) cache.old cache.new }
     ensures written { IsTrue (V.tells vault.old) → IsTrue (S.tells store.old)
@@ -73,7 +73,6 @@ fn write_stretches<S: Store, V: Vault>(
 {
     let mut cells = [Cell::Gap; EXPORT_CELLS];
     let mut frames = [Frame { left: 0, right: 0 }; EXPORT_FRAMES];
-    let mut bytes = [0; EXPORT_BYTES];
     write_mix(
         store,
         cache,
@@ -83,15 +82,16 @@ fn write_stretches<S: Store, V: Vault>(
         rate,
         &mut cells,
         &mut frames,
-        &mut bytes,
+        bytes,
     )
 }
 
 impl<S: Store> Studio<S> {
     /// Writes the mix of the current project to a vault as a WAV file of two channels, and answers how many bytes it
-    /// has. The length is tested before the sound is touched; then the header is written, and stretches of 4,096 frames
-    /// are read, mixed and appended. The stretches stand on the stack, in 64 KiB. Nothing of the studio and its disk
-    /// changes but the pages that are kept, which take memory only where there is some.
+    /// has. The length is tested before the sound is touched; then the header is written, and stretches of 16,384 frames
+    /// are read, mixed and appended, each by one call. The frames stand on the stack, in 96 KiB, and their bytes in a
+    /// buffer that the studio has. Nothing of the studio and its disk changes but the pages that are kept, which take
+    /// memory only where there is some.
     ///
     /// # Errors
     ///
@@ -120,7 +120,7 @@ impl<S: Store> Studio<S> {
             return Err(Refusal::Stopped { faults });
         }
         let point = current_of(&self.history);
-        let bytes = write_stretches(
+        let bytes = self.buffers.write_sound(
             &mut self.store,
             &mut self.cache,
             vault,

@@ -1,5 +1,5 @@
 // A sound of a vault as new tracks.
-ghost use Rattle.std.specs.Prelude.{◌≡◌, ◌⊎◌, ◌<◌, ℕ, IsTrue, IfErr, IfOk, Option, Some, None, List, length};
+ghost use Rattle.std.specs.Prelude.{◌≡◌, ◌⊎◌, ◌<◌, ℕ, ℤ, replicate, IsTrue, IfErr, IfOk, Option, Some, None, List, length};
 ghost use Rattle.pcm_base.specs.declared.answer.Reply.TheVariants as reply;
 ghost use Rattle.pcm_base.specs.declared.command.Call.TheVariants.{Line};
 ghost use Rattle.pcm_base.specs.declared.command.Command.TheVariants as command;
@@ -10,31 +10,30 @@ ghost use Rattle.envelope_view.specs.Answers.{IsUndamaged};
 ghost use Rattle.project_state.specs.Kept.{current_tracks};
 ghost use Rattle.editor_core.specs.Applied.{Lasts};
 ghost use Rattle.editor_core.specs.Core.{core_of};
-ghost use Rattle.editor_core.specs.Imports.{HasChannels, IsChannelsPlan, IsCutShort, IsInside, VaultCounted};
-ghost use Rattle.editor_core.specs.Imports.{channels_refusal, left_as};
+ghost use Rattle.wav_pcm.specs.Heads.{HasShape};
+ghost use Rattle.sound_import.specs.Reading.{brought_from};
+ghost use Rattle.piece_store.specs.Brought.{MayBring};
+ghost use Rattle.editor_core.specs.Imports.{HasChannels, IfCutShort, IsChannelsPlan, IsCutShort, IsInsideOr, VaultCounted};
+ghost use Rattle.editor_core.specs.Imports.{channels_refusal, left_as, parts_from, total_of};
+ghost use Rattle.editor_core.specs.Made.{AllInOrder};
 ghost use Rattle.editor_core.specs.Studios.{IsHeld, IsStudio};
 ghost use Rattle.editor_core.specs.Took.{Took, told_by, with_sound};
 
 use super::carrying::Planned;
+use super::counts::{counts_of, length_refusal};
 use super::growth::{Growing, add_channel, planned_of};
-use super::joining::{counts_of, joined, length_refusal};
 use super::studio::Studio;
 use disk_model::Store;
 use edit_ports::Vault;
 use pcm_base::{MAX_TRACKS, Refusal};
-use piece_store::Given;
-use sound_import::read_sound;
+use sound_import::SoundReader;
 use std::alloc::Global;
-use wav_pcm::Channels;
+use wav_pcm::WavHead;
 
 impl<S: Store> Studio<S> {
-    /// Adds a track for each channel of a sound, in one commit. The vault is read whole before anything is changed, and
-    /// the sound stays as it is.
-    ///
-    /// It takes the file's bytes in memory, and beside them its samples, which are as many bytes; the bytes are let go
-    /// before the first block is made. The samples of more than one channel are then put one after another, by which
-    /// there are again no more than twice as many bytes as the file has. A block is made in buffers that the studio
-    /// has.
+    /// Adds a track for each channel of a sound, in one commit. What stands before the sound's frames is read first;
+    /// then each block is made of the samples that are read for it, so that a sound of any length takes no more memory
+    /// than one of a few frames. The sound stays as it is.
     ///
     /// # Errors
     ///
@@ -46,6 +45,9 @@ impl<S: Store> Studio<S> {
     /// `RecordLimit`. `VaultFault` where the vault fails: the studio goes on. `DiskFault` where the disk does: it
     /// stops.
     /// `NoMemory` may come in the place of any, and then nothing has changed.
+    ///
+    /// `VaultFault`, `DiskFault` and `Truncated` may come when blocks were made. Nothing names these, their ids are not
+    /// given again, and a `reclaim` removes their files.
     pub fn import<V: Vault>(
         &mut self,
         alloc: Global,
@@ -79,38 +81,48 @@ impl<S: Store> Studio<S> {
         if let Some(faults) = self.stopped {
             return Err(Refusal::Stopped { faults });
         }
-        let wav = read_sound(alloc, vault, name, self.rate)?;
-        self.add_channels(alloc, wav.channels)
+        let head = self.buffers.find(vault, name, self.rate)?;
+        self.add_channels(alloc, vault, name, head)
     }
 
-    // Adds a track for each channel, in one commit.
-    fn add_channels(&mut self, alloc: Global, channels: Channels) -> Result<u64, Refusal>
+    // Adds a track for each channel of a sound whose frames are where the head says, in one commit.
+    fn add_channels<V: Vault>(
+        &mut self,
+        alloc: Global,
+        vault: &mut V,
+        name: &str,
+        head: WavHead,
+    ) -> Result<u64, Refusal>
         requires studio { IsStudio S.Store (core_of self.old) }
         requires going { self.old.stopped ≡ None }
-        ensures took { (name : List ℕ) → (sound : Option (List ℕ)) → HasChannels sound self.old.rate channels
-            → Took S.Store (core_of self.old)
-            (with_sound (Line (command.Import name)) (left_as sound) (told_by (λ _. reply.Done) result))
-            (core_of self.new) }
-        ensures lasts { (name : List ℕ) → (sound : SoundMove) → Lasts S.Store (core_of self.old)
-            (with_sound (Line (command.Import name)) sound (told_by (λ _. reply.Done) result)) (core_of self.new) }
+        requires shape { HasShape head }
+        requires rate { (head.rate ≡ self.old.rate) × (0 < head.rate) }
+        // By some samples that may be brought they are the tracks of each sound that says these, unless fewer came than
+        // were said.
+        ensures took { (samples : ℕ → ℤ)
+            × MayBring (brought_from (V.tells vault.old) (V.holds vault.old) name.now head) samples
+            × ((sound : Option (List ℕ))
+            → HasChannels sound self.old.rate (parts_from samples 0 (replicate head.channels head.frames))
+            → IfCutShort result ⊎ Took S.Store (core_of self.old)
+            (with_sound (Line (command.Import name.now)) (left_as sound) (told_by (λ _. reply.Done) result))
+            (core_of self.new)) }
+        ensures lasts { (sound : SoundMove) → Lasts S.Store (core_of self.old)
+            (with_sound (Line (command.Import name.now)) sound (told_by (λ _. reply.Done) result)) (core_of self.new) }
+        ensures device { IfErr result
+            (IsInsideOr (brought_from (V.tells vault.old) (V.holds vault.old) name.now head)) }
         ensures number { IfOk result (λ n. n ≡ self.new.commit_number) }
         ensures sound { IsHeld S.Store (core_of self.old) → IfErr result IsUndamaged }
-        ensures device { IfErr result IsInside }
+        ensures same { V.holds vault.new ≡ V.holds vault.old }
+        ensures tells { V.tells vault.new ≡ V.tells vault.old }
+        ensures faults { VaultCounted result (V.fault_count vault.old) (V.fault_count vault.new) }
     {
-        let counts = counts_of(alloc, channels.as_slice())?;
+        let counts = counts_of(alloc, &head)?;
         if let Some(reason) = self.channels_refusal(counts.as_slice()) {
             return Err(reason);
         }
-        let samples = joined(alloc, channels)?;
         let planned = self.planned_channels(alloc, counts.as_slice())?;
-        self.carry_out(
-            planned,
-            0,
-            0,
-            &Given::Samples {
-                samples: samples.as_slice(),
-            },
-        )
+        let mut reader = SoundReader::new(vault, name, head);
+        self.carry_out(planned, 0, 0, &mut reader)
     }
 
     // What refuses a track for each channel, where they have this many samples each.
@@ -130,6 +142,7 @@ impl<S: Store> Studio<S> {
         requires tests { channels_refusal (length (current_tracks self.now.history.history)) counts.now ≡ None }
         ensures plan { IfOk result (IsChannelsPlan (core_of self.now) counts.now) }
         ensures clip { IfOk result (λ p. p.clip ≡ None) }
+        ensures order { IfOk result (λ p. AllInOrder 0 (total_of counts.now) p.makes) }
         ensures err { IfErr result (λ e. e ≡ refusal.NoMemory) }
     {
         let mut growing = Growing {

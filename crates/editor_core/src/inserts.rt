@@ -17,7 +17,7 @@ ghost use Rattle.envelope_view.specs.Answers.{IsUndamaged};
 ghost use Rattle.project_state.specs.Kept.{current_tracks};
 ghost use Rattle.editor_core.specs.Core.{core_of};
 ghost use Rattle.editor_core.specs.Edits.{IsStill};
-ghost use Rattle.editor_core.specs.Exchanges.{is_broken_off};
+ghost use Rattle.editor_core.specs.Exchanges.{may_begin};
 ghost use Rattle.editor_core.specs.Inserts.{IsPlace, place_cells, place_edit, place_test};
 ghost use Rattle.editor_core.specs.Studios.{IsHeld, IsStudio};
 ghost use Rattle.editor_core.specs.Took.{Took, quietly, told_by, with_sound};
@@ -49,7 +49,7 @@ pub struct Tried {
 
 // Whether a test refused it, or want of memory, so that nothing has changed.
 fn is_idle(what: &Result<u64, Refusal>) -> bool
-    ensures { IsTrue result → IfErr what.now (λ why. is_broken_off why ≡ false) × IsErr what.now }
+    ensures { IsTrue result → IfErr what.now (λ why. may_begin why ≡ false) × IsErr what.now }
 {
     match *what {
         Err(
@@ -259,7 +259,8 @@ impl<S: Store> Studio<S> {
             return Err(Refusal::Stopped { faults });
         }
         let planned = self.planned_insert(alloc, track, place, count_of(given))?;
-        self.carry_out(planned, tag, more, given)
+        let mut given = *given;
+        self.carry_out(planned, tag, more, &mut given)
     }
 
     // The project that this many samples in a track make of the current one.

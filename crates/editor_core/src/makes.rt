@@ -1,16 +1,17 @@
 // New blocks, which are written and then synced before a record names them.
-ghost use Rattle.std.specs.Prelude.{◌≡◌, ℕ, IsSome, ◌+◌, ◌≤◌, ◌<◌, ◌^◌, IsTrue, IfErr, MatchResult, None, length};
+ghost use Rattle.std.specs.Prelude.{◌≡◌, ℕ, ℤ, IsSome, ◌+◌, ◌≤◌, ◌<◌, ◌^◌, IsTrue, IfErr, MatchResult, None, false, length};
 ghost use Rattle.pcm_base.specs.declared.limits.TheConstants.{COUNTER_LIMIT, FIRST_BLOCK, MAX_BLOCK_SAMPLES};
 ghost use Rattle.pcm_base.specs.Pieces.{total};
-ghost use Rattle.pcm_base.specs.declared.refusal.Refusal.TheVariants as refusal;
 ghost use Rattle.sample_block.specs.Spelling.{IsBlock};
 ghost use Rattle.block_ledger.specs.Entries.{count_of};
-ghost use Rattle.piece_store.specs.Bringing.{brought_count};
+ghost use Rattle.piece_store.specs.Brought.{AreInOrder, MayBring};
+ghost use Rattle.piece_store.specs.Bringers.{StillBrings};
 ghost use Rattle.piece_store.specs.Reading.{AllReadable, AllThere};
 ghost use Rattle.edit_ops.specs.Plans.{AreNew};
 ghost use Rattle.editor_core.specs.Core.{core_of};
-ghost use Rattle.editor_core.specs.Made.{PiecesReadable, batch_of, ids_from};
-ghost use Rattle.editor_core.specs.Makes.{AddsFree, IsDamageAmong, MadeOne, Makes, NotMade, Syncs, Writes};
+ghost use Rattle.editor_core.specs.Made.{AllInOrder, PiecesReadable, batch_of, ids_from};
+ghost use Rattle.editor_core.specs.Makes.{AddsFree, IsBroughtRefusal, IsDamageAmong, IsOfDevices, MadeOne, Makes};
+ghost use Rattle.editor_core.specs.Makes.{NotMade, RefusedBrought, Syncs, Writes};
 
 use super::studio::Studio;
 use block_ledger::Ledger;
@@ -18,7 +19,7 @@ use block_store::sync_block;
 use disk_model::Store;
 use edit_ops::NewBlock;
 use pcm_base::Refusal;
-use piece_store::{Given, MakeFault};
+use piece_store::{Brings, MakeFault};
 
 // The ledger has the id of a file that nothing names.
 fn count_free(ledger: &mut Ledger, id: u64)
@@ -33,22 +34,28 @@ fn count_free(ledger: &mut Ledger, id: u64)
 
 impl<S: Store> Studio<S> {
     // Writes the next block. After a failed change the studio is stopped.
-    fn write_one(&mut self, block: &NewBlock, given: &Given) -> Result<(), Refusal>
+    fn write_one<G: Brings>(&mut self, block: &NewBlock, given: &mut G) -> Result<(), Refusal>
         requires id { block.now.id ≡ self.old.next_block }
         requires block { IsBlock block.now.id block.now.len }
-        requires pieces { AllReadable (brought_count given.now) block.now.pieces }
+        requires pieces { AllReadable (G.brings given.old).count block.now.pieces }
+        requires order { (G.brings given.old).tells ≡ false
+            → AreInOrder 0 (G.brings given.old).count block.now.pieces }
         requires total { total block.now.pieces ≡ block.now.len }
         requires size { block.now.len ≤ self.old.buffers }
         requires spare { 0 < self.old.ledger.spare }
         requires fresh { count_of self.old.ledger block.now.id ≡ None }
         requires few { self.old.next_block < COUNTER_LIMIT }
         ensures made { MatchResult result
-            (λ _. MadeOne S.Store (core_of self.old) given.now block.now (core_of self.new))
+            (λ _. (samples : ℕ → ℤ) × MayBring (G.brings given.old) samples
+            × MadeOne S.Store (core_of self.old) samples block.now (core_of self.new))
             (λ e. NotMade S.Store (core_of self.old) e (core_of self.new)) }
         ensures sound { IsTrue (S.tells self.old.store) → AllThere (S.reads self.old.store) block.now.pieces
-            → IfErr result (λ e. e ≡ refusal.DiskFault) }
+            → IfErr result IsOfDevices }
+        ensures refused { IfErr result (IsBroughtRefusal (G.brings given.old)) }
         ensures damaged { IsTrue (S.tells self.old.store)
             → IfErr result (IsDamageAmong (S.reads self.old.store) block.now.pieces) }
+        ensures still { StillBrings G.Brings given.old given.new }
+        ensures given { RefusedBrought result (G.fault_count given.old) (G.fault_count given.new) }
         ensures spare { self.old.ledger.spare ≤ self.new.ledger.spare + 1 }
         ensures history { self.new.history ≡ self.old.history }
         ensures body { self.new.body ≡ self.old.body }
@@ -61,6 +68,7 @@ impl<S: Store> Studio<S> {
                 Ok(())
             }
             Err(MakeFault::Read { fault }) => Err(Refusal::from(fault)),
+            Err(MakeFault::Bring { fault }) => Err(Refusal::from(fault)),
             Err(MakeFault::Put) => {
                 self.stopped = Some(self.store.faults());
                 Err(Refusal::DiskFault)
@@ -70,15 +78,21 @@ impl<S: Store> Studio<S> {
 
     // Writes new blocks, one after another. After a fault the blocks so far are there, and nothing names them. It takes
     // no memory.
-    fn write_blocks(&mut self, makes: &[NewBlock], given: &Given) -> Result<(), Refusal>
+    fn write_blocks<G: Brings>(&mut self, makes: &[NewBlock], given: &mut G) -> Result<(), Refusal>
         requires new { AreNew self.old.buffers self.old.next_block makes.now }
-        requires pieces { PiecesReadable (brought_count given.now) makes.now }
+        requires pieces { PiecesReadable (G.brings given.old).count makes.now }
+        requires order { (G.brings given.old).tells ≡ false
+            → AllInOrder 0 (G.brings given.old).count makes.now }
         requires least { FIRST_BLOCK ≤ self.old.next_block }
         requires most { self.old.next_block + length makes.now ≤ COUNTER_LIMIT }
         requires size { self.old.buffers ≤ MAX_BLOCK_SAMPLES }
         requires spare { length makes.now ≤ self.old.ledger.spare }
         requires below { (id : ℕ) → IsSome (count_of self.old.ledger id) → id < self.old.next_block }
-        ensures written { Writes S.Store (core_of self.old) (batch_of given.now makes.now) result (core_of self.new) }
+        ensures written { (samples : ℕ → ℤ) × MayBring (G.brings given.old) samples
+            × Writes S.Store (core_of self.old) (batch_of samples makes.now) result (core_of self.new) }
+        ensures refused { IfErr result (IsBroughtRefusal (G.brings given.old)) }
+        ensures still { StillBrings G.Brings given.old given.new }
+        ensures given { RefusedBrought result (G.fault_count given.old) (G.fault_count given.new) }
         ensures history { self.new.history ≡ self.old.history }
         ensures body { self.new.body ≡ self.old.body }
         ensures row { self.new.row ≡ self.old.row }
@@ -108,16 +122,27 @@ impl<S: Store> Studio<S> {
     }
 
     // Makes new blocks: writes all of them and then syncs them, so that one sync of a folder can serve them all. After
-    // a fault of a piece the blocks so far are there, and nothing names them. It takes no memory.
-    pub(crate) fn make_blocks(&mut self, makes: &[NewBlock], given: &Given) -> Result<(), Refusal>
+    // a fault of a piece, or where samples do not come, the blocks so far are there, and nothing names them. It takes no
+    // memory.
+    pub(crate) fn make_blocks<G: Brings>(
+        &mut self,
+        makes: &[NewBlock],
+        given: &mut G,
+    ) -> Result<(), Refusal>
         requires new { AreNew self.old.buffers self.old.next_block makes.now }
-        requires pieces { PiecesReadable (brought_count given.now) makes.now }
+        requires pieces { PiecesReadable (G.brings given.old).count makes.now }
+        requires order { (G.brings given.old).tells ≡ false
+            → AllInOrder 0 (G.brings given.old).count makes.now }
         requires least { FIRST_BLOCK ≤ self.old.next_block }
         requires most { self.old.next_block + length makes.now ≤ COUNTER_LIMIT }
         requires size { self.old.buffers ≤ MAX_BLOCK_SAMPLES }
         requires spare { length makes.now ≤ self.old.ledger.spare }
         requires below { (id : ℕ) → IsSome (count_of self.old.ledger id) → id < self.old.next_block }
-        ensures made { Makes S.Store (core_of self.old) (batch_of given.now makes.now) result (core_of self.new) }
+        ensures made { (samples : ℕ → ℤ) × MayBring (G.brings given.old) samples
+            × Makes S.Store (core_of self.old) (batch_of samples makes.now) result (core_of self.new) }
+        ensures refused { IfErr result (IsBroughtRefusal (G.brings given.old)) }
+        ensures still { StillBrings G.Brings given.old given.new }
+        ensures given { RefusedBrought result (G.fault_count given.old) (G.fault_count given.new) }
         ensures history { self.new.history ≡ self.old.history }
         ensures body { self.new.body ≡ self.old.body }
         ensures row { self.new.row ≡ self.old.row }

@@ -53,7 +53,7 @@ impl<S: Store> Studio<S> {
             return Err(Refusal::Stopped { faults });
         }
         let planned = self.planned_paste(alloc, track, at, placing)?;
-        self.carry_out(planned, 0, 0, &Given::Nothing)
+        self.carry_out(planned, 0, 0, &mut Given::Nothing)
     }
 
     // The project with the strips of the clipboard in it.

@@ -50,7 +50,7 @@ impl<S: Store> Studio<S> {
             return Err(Refusal::Stopped { faults });
         }
         let planned = self.planned_range(alloc, track, from, to, edit)?;
-        self.carry_out(planned, 0, 0, &Given::Nothing)
+        self.carry_out(planned, 0, 0, &mut Given::Nothing)
     }
 
     // The project that it makes of the current one.

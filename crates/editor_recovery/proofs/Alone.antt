@@ -1,5 +1,5 @@
 -- Whether a project is there.
-use Rattle.std.proofs.Common.{◌≡◌, ◌⊎◌, inl, inr, ⊎_elim, ◌∙◌, ℕ, Bool, true, false, refl, sym, subst, arith}
+use Rattle.std.proofs.Common.{◌≡◌, inl, inr, ⊎_elim, ◌∙◌, ℕ, Bool, true, false, refl, sym, subst}
 use Rattle.std.specs.Prelude.{◌≤◌, ◌||◌, ◌↔◌, IsTrue}
 use Rattle.disk_model.specs.Disk.{Files, bytes_of}
 use Rattle.project_journal.specs.declared.fault.Damaged.{Damaged}

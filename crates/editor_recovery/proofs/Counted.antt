@@ -1,5 +1,5 @@
 -- Calls in turn, by the faults that the disk counts in them.
-use Rattle.std.proofs.Common.{◌≡◌, ◌≤◌, ℕ, inl, inr, ⊎_elim, ◌⊎◌, Result, Ok, Err, refl, sym, subst, ◌∙◌, arith}
+use Rattle.std.proofs.Common.{◌≡◌, ℕ, inl, inr, ⊎_elim, Result, Ok, Err, refl, subst, ◌∙◌, arith}
 use Rattle.std.specs.Prelude.{IfErr, IsErrOf}
 use Rattle.pcm_base.specs.Causes.{Rose}
 use Rattle.disk_model.specs.declared.store.Store.{Ghosts}

@@ -1,12 +1,12 @@
 -- From the fold of a journal to what opening makes of it.
-use Rattle.std.proofs.Common.{◌≡◌, ◌≤◌, ◌+◌, ◌^◌, ℕ, ◌⊎◌, inl, inr, ⊎_elim, List, [], ◌∷◌, map, length, Ok, Err, sym, ap, subst, ◌∙◌, arith}
+use Rattle.std.proofs.Common.{◌≡◌, ◌≤◌, ◌+◌, ◌^◌, ℕ, ⊎_elim, List, [], ◌∷◌, map, length, Ok, Err, sym, ap, subst, ◌∙◌, arith}
 use Rattle.std.proofs.lemmas.List.{length-map}
 use Rattle.disk_model.specs.declared.store.Store.{Ghosts}
 use Rattle.project_journal.specs.declared.base.Base.{Base}
 use Rattle.project_journal.specs.declared.fault.JournalFault.{JournalFault}
 use Rattle.project_journal.specs.declared.fault.JournalFault.TheVariants as journal
 use Rattle.project_journal.specs.declared.reader.Reader.{Reader}
-use Rattle.project_journal.specs.Header.{Form, IsForm, form_1, form_of}
+use Rattle.project_journal.specs.Header.{Form, IsForm, form_of}
 use Rattle.project_journal.specs.Journal.{Contents, IsHeader, IsJournal, body_at, log_of}
 use Rattle.project_journal.specs.Readable.{IsReadable}
 use Rattle.project_journal.specs.Reader.{IsLater, reader_form}
@@ -14,7 +14,7 @@ use Rattle.project_journal.proofs.AnyFormats.{HasBase, base_sound}
 use Rattle.project_journal.proofs.Bases.{plain}
 use Rattle.project_journal.proofs.Found.{read_whole}
 use Rattle.project_journal.proofs.Readables.{readable}
-use Rattle.project_state.specs.Kept.{Kept, Begins, LeadIn, new_project, version_of}
+use Rattle.project_state.specs.Kept.{Kept, Begins, LeadIn, version_of}
 use Rattle.project_state.proofs.KeptBounds.{lead_sound}
 use Rattle.record_fold.specs.Bases.{base_by, base_of}
 use Rattle.record_fold.specs.Folds.{kept_of, FoldsStored, IsValid, Leads}

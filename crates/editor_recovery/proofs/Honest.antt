@@ -1,12 +1,11 @@
 -- What opening an honest disk finds.
-use Rattle.std.proofs.Common.{◌≡◌, ℕ, ◌+◌, ◌≤◌, ◌<◌, ◌^◌, ℤ, Bool, inl, inr, ⊎_elim, List, [], ◌∷◌, ◌++◌, length, map}
+use Rattle.std.proofs.Common.{◌≡◌, ℕ, ◌≤◌, ◌<◌, ◌^◌, ℤ, ⊎_elim, List, [], ◌∷◌, length, map}
 use Rattle.std.proofs.Common.{Option, Some, None, Result, Ok, Err, refl, sym, ap, subst, ◌∙◌, arith}
 use Rattle.std.specs.Prelude.{slice_index_or, unwrap_or, pos, Contains, IsSome, IsTrue}
 use Rattle.std.specs.Option.{option_or}
-use Rattle.std.specs.List.{All, AllByRecursion}
+use Rattle.std.specs.List.{AllByRecursion}
 use Rattle.std.proofs.lemmas.List.Elements.{All-from_recursion, recursion_from_All, All-contains, All-contains_itself}
 use Rattle.pcm_base.specs.declared.block.BlockRef.{BlockRef}
-use Rattle.pcm_base.specs.Pieces.{Sources}
 use Rattle.disk_model.specs.MomentLaws.{upto_refl}
 use Rattle.disk_model.specs.Disk.{Files, bytes_of, Follows, StaysStep}
 use Rattle.disk_model.specs.declared.store.Store.{Ghosts}
@@ -38,17 +37,15 @@ use Rattle.record_fold.specs.Bases.{base_of}
 use Rattle.record_fold.specs.Faults.{first_fault_in, journal_fault}
 use Rattle.record_fold.proofs.HeaderSound.{points_sound}
 use Rattle.record_fold.proofs.Sound.{leading_sound_in}
-use Rattle.block_ledger.specs.Entries.{count_of}
 use Rattle.editor_core.specs.Parts.{HasParts, assembled}
 use Rattle.editor_core.specs.Studios.{SameBlocks, named_blocks}
 use Rattle.editor_core.specs.declared.assembly.Parts.{Parts}
 use Rattle.editor_recovery.specs.declared.fault.OpenFault.{OpenFault}
 use Rattle.editor_recovery.specs.declared.fault.OpenFault.TheVariants as fault
-use Rattle.editor_recovery.specs.Files.{NoForeign, IsFirstForeign}
 use Rattle.editor_recovery.specs.Found.{Found, found_in}
-use Rattle.editor_recovery.specs.Sizes.{HasSize, AllHaveSize, IsFirstWrong, file_size}
+use Rattle.editor_recovery.specs.Sizes.{HasSize, AllHaveSize}
 use Rattle.editor_recovery.specs.Opening.{HeaderFault, RecordFault, SizeFault, FirstFault, Finds, Opens}
-use Rattle.editor_recovery.specs.Honest.{Names, IsHonest, FindsKept, OpensHonest}
+use Rattle.editor_recovery.specs.Honest.{Names, IsHonest, OpensHonest}
 use Rattle.editor_recovery.specs.Standing.{Stands}
 use Rattle.editor_recovery.proofs.Alone.{none_log, none_some}
 

@@ -1,24 +1,24 @@
 -- The points of a history, one by one.
-use Rattle.std.proofs.Common.{◌≡◌, ◌≢◌, ℕ, zero, suc, ◌+◌, ◌<◌, ◌≤◌, List, [], ◌∷◌, ◌++◌, length, map, drop, get_or}
+use Rattle.std.proofs.Common.{◌≡◌, ℕ, zero, suc, ◌+◌, ◌<◌, ◌≤◌, List, [], ◌∷◌, ◌++◌, length, map, drop, get_or}
 use Rattle.std.proofs.Common.{Option, Some, None, refl, sym, ap, subst, ◌∙◌, arith}
-use Rattle.std.specs.Prelude.{slice_get, slice_index_or, Contains, IsSome}
+use Rattle.std.specs.Prelude.{slice_get, Contains, IsSome}
 use Rattle.std.specs.Option.{option_map}
 use Rattle.std.specs.List.{All, AllByRecursion, flat_map}
 use Rattle.std.proofs.lemmas.List.{length-map}
 use Rattle.std.proofs.lemmas.Option.{slice_get_within, slice_get-get_or, slice_get-map}
 use Rattle.std.proofs.lemmas.List.Elements.{All-from_recursion, recursion_from_All, All-get_or, All-contains}
-use Rattle.std.proofs.lemmas.List.Elements.{All-weaker, Contains-append_right}
+use Rattle.std.proofs.lemmas.List.Elements.{Contains-append_right}
 use Rattle.project_state.proofs.Parts.{drop_some}
 use Rattle.pcm_base.specs.declared.block.BlockRef.{BlockRef}
-use Rattle.pcm_base.specs.History.{point_of, points_of}
+use Rattle.pcm_base.specs.History.{point_of}
 use Rattle.sample_block.specs.Spelling.{IsBlock}
 use Rattle.project_state.specs.declared.track.Track.{Track}
-use Rattle.project_state.specs.Kept.{point_blocks, history_blocks}
+use Rattle.project_state.specs.Kept.{point_blocks}
 use Rattle.project_state.proofs.KeptBounds.{all_append, IsBlockRef}
 use Rattle.block_ledger.specs.Counts.{Counts, one_more}
-use Rattle.editor_recovery.specs.Ledgers.{held, AreNoted, occurrences}
+use Rattle.editor_recovery.specs.Ledgers.{held, AreNoted}
 use Rattle.editor_recovery.specs.Sizes.{first_wrong}
-use Rattle.editor_recovery.proofs.Wrong.{found_wrong, FoundOne, Found, IsRight}
+use Rattle.editor_recovery.proofs.Wrong.{found_wrong, FoundOne, Found}
 use Rattle.std.proofs.Common.{⊎_elim}
 
 -- the blocks of points

@@ -1,5 +1,5 @@
 -- What may refuse an opening, by what its steps tell.
-use Rattle.std.proofs.Common.{◌≡◌, ◌∙◌, refl, sym, ap, subst, ℕ, Bool, true, false, cond, List, [], ◌∷◌, Option, Some, None, Result}
+use Rattle.std.proofs.Common.{◌≡◌, ◌∙◌, refl, sym, ap, subst, ℕ, Bool, true, false, cond, List, [], ◌∷◌, Option, Some, Result}
 use Rattle.std.proofs.Common.{Err, IfErr, Ok}
 use Rattle.std.specs.Prelude.{find}
 use Rattle.pcm_base.specs.declared.block.BlockRef.{BlockRef}

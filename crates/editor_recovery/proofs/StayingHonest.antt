@@ -1,5 +1,5 @@
 -- The calls of a studio leave an honest disk honest.
-use Rattle.std.proofs.Common.{◌≡◌, ◌≢◌, ◌⊎◌, ◌∙◌, inl, inr, ⊎_elim, sym, ap, subst, refl, ℕ, ◌++◌, ◌≤◌, ◌<◌, Bool}
+use Rattle.std.proofs.Common.{◌≡◌, ◌⊎◌, ◌∙◌, inl, inr, ⊎_elim, sym, ap, subst, refl, ℕ, ◌++◌, ◌≤◌, ◌<◌, Bool}
 use Rattle.std.proofs.Common.{true, false, Option, Some, None, List, [], ◌∷◌, arith}
 use Rattle.std.specs.Prelude.{Contains, IsSome, IsTrue, if◌then◌else◌, nat_le, nat_lt, ◌&&◌, ◌||◌}
 use Rattle.std.specs.List.{AllByRecursion}
@@ -8,7 +8,6 @@ use Rattle.std.proofs.lemmas.List.Elements.{All-contains, All-from_recursion}
 use Rattle.std.specs.Option.{option_and_then}
 use Rattle.pcm_base.specs.declared.limits.TheConstants.{COUNTER_LIMIT, FIRST_BLOCK}
 use Rattle.pcm_base.specs.declared.block.BlockRef.{BlockRef}
-use Rattle.pcm_base.specs.Studio as model
 use Rattle.disk_model.specs.Disk.{Files}
 use Rattle.disk_model.specs.MomentLaws.{upto_refl}
 use Rattle.disk_model.specs.declared.store.Store.{Ghosts}
@@ -19,8 +18,8 @@ use Rattle.project_journal.proofs.Parses.{form_known}
 use Rattle.project_state.specs.Kept as keeping
 use Rattle.project_state.specs.Kept.{history_blocks}
 use Rattle.editor_core.specs.Core.{Core, form_at}
-use Rattle.editor_core.specs.Left.{IsBegun, LeavesOthers, MayRemove}
-use Rattle.editor_core.specs.Studios.{IsDurable, IsHeld, IsStudio, clip_blocks, named_blocks, pin_blocks, shown}
+use Rattle.editor_core.specs.Left.{LeavesOthers, MayRemove}
+use Rattle.editor_core.specs.Studios.{IsDurable, IsHeld, IsStudio, clip_blocks, pin_blocks, shown}
 use Rattle.editor_core.specs.Studios.{studio_of}
 use Rattle.editor_core.specs.Took.{Exchange, Took}
 use Rattle.editor_recovery.specs.Files.{NoForeign, is_foreign}

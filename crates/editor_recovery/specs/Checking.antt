@@ -5,7 +5,6 @@ use Rattle.pcm_base.specs.declared.block.BlockRef.{BlockRef}
 use Rattle.disk_model.specs.Disk.{Files}
 use Rattle.disk_model.specs.Frames.{Kept}
 use Rattle.disk_model.specs.declared.store.Store.{Ghosts}
-use Rattle.sample_block.specs.declared.damage.Damaged.{Damaged}
 use Rattle.sample_block.specs.Sources.{IsWhole, AllWhole}
 use Rattle.block_store.specs.declared.fault.BlockFault.{BlockFault}
 use Rattle.block_store.specs.declared.fault.BlockFault.TheVariants as block

@@ -1,5 +1,5 @@
 -- When each answer of a creation comes.
-use Rattle.std.specs.Prelude.{◌≡◌, ℕ, List, [], ◌∷◌, Result, Ok, Err}
+use Rattle.std.specs.Prelude.{ℕ, [], Result, Ok, Err}
 use Rattle.pcm_base.specs.History.{history_of_one}
 use Rattle.disk_model.specs.Disk.{Files}
 use Rattle.disk_model.specs.Frames.{Kept}

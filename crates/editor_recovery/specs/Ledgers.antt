@@ -1,5 +1,5 @@
 -- The counts of a ledger, of the blocks that points name.
-use Rattle.std.specs.Prelude.{◌≡◌, ◌≤◌, ◌⊎◌, ℕ, zero, suc, ◌+◌, ◌-◌, ◌^◌, ◌==◌, min, if◌then◌else◌, Option, Some, None}
+use Rattle.std.specs.Prelude.{◌≡◌, ◌≤◌, ◌⊎◌, ℕ, zero, suc, ◌+◌, ◌==◌, if◌then◌else◌, Option, Some, None}
 use Rattle.std.specs.Prelude.{IsSome, List, [], ◌∷◌, Contains}
 use Rattle.pcm_base.specs.declared.block.BlockRef.{BlockRef}
 use Rattle.disk_model.specs.Disk.{Files}

@@ -1,3 +1,4 @@
+pub mod BringLaws
 mod ReadLaws
 pub mod BroughtLaws
 pub mod MadeLaws

@@ -1,6 +1,6 @@
 -- The samples of pieces, by the blocks of a disk.
 use Rattle.std.proofs.Common.{◌≡◌, ℕ, zero, suc, ◌+◌, ◌-◌, ◌≤◌, ◌<◌, ℤ, pos, List, [], ◌∷◌, ◌++◌, length, get_or, take}
-use Rattle.std.proofs.Common.{drop, map, Some, refl, sym, ap, ◌∙◌, arith, ⊎_elim, append_assoc}
+use Rattle.std.proofs.Common.{drop, map, Some, refl, sym, ap, ◌∙◌, arith, ⊎_elim}
 use Rattle.std.proofs.lemmas.List.{get_or-drop, drop-drop, take_more_set, map_more, drop-set-lt}
 use Rattle.std.proofs.Math.ListN.{set}
 use Rattle.std.specs.Prelude.{◌+ℤ◌, ◌*ℤ◌}
@@ -12,13 +12,16 @@ use Rattle.sample_block.specs.Blocks.{blocks}
 use Rattle.pcm_base.specs.declared.block.BlockRef.{BlockRef}
 use Rattle.pcm_base.specs.declared.piece.Piece.{Piece}
 use Rattle.pcm_base.specs.declared.piece.Piece.TheVariants.{Old, Scaled, Zero, Given}
-use Rattle.pcm_base.specs.Pieces.{Sources, stretch, samples_of, all_samples}
+use Rattle.pcm_base.specs.Pieces.{stretch}
 use Rattle.block_store.specs.declared.fault.BlockFault.{BlockFault}
 use Rattle.block_store.specs.declared.fault.BlockFault.TheVariants as fault
 use Rattle.block_store.proofs.FaultLaws.{block_sound}
 use Rattle.block_store.proofs.StretchLaws.{block_stretch}
 use Rattle.piece_store.specs.declared.given.Given.TheVariants as brings
 use Rattle.sample_block.specs.Sources.{samples_on, IsWhole}
+use Rattle.piece_store.specs.declared.fault.MakeFault.{MakeFault}
+use Rattle.piece_store.specs.declared.fault.MakeFault.TheVariants.{Read, Bring, Put}
+use Rattle.piece_store.specs.Making.{IsFaultRead, IsOfDevice}
 use Rattle.piece_store.specs.Reading.{IsThere, AllThere, IsFaultOf, IsFaultAmong}
 
 -- a part of a block that was read is that of the piece
@@ -41,19 +44,18 @@ sound_piece files (Scaled b from to gain) why there is =
 sound_piece files (Zero len) why there is = absurd is
 sound_piece files (Given from to) why there is = absurd is
 
-pub sound_pieces : (files : Files) (ps : List Piece) (why : BlockFault) → AllThere files ps → IsFaultAmong files ps why
+sound_pieces : (files : Files) (ps : List Piece) (why : BlockFault) → AllThere files ps → IsFaultAmong files ps why
     → why ≡ fault.DiskFault
 sound_pieces files [] why there is = absurd is
 sound_pieces files (p ∷ ps) why there is =
     ⊎_elim (sound_piece files p why there.0) (sound_pieces files ps why there.1) is
 
--- one piece more of those that are read
-pub pieces_more : (src : Sources) (done : ℕ) (out out' part : List ℤ) (p : Piece) (ps : List Piece) (all : List ℤ)
-    → take done out ++ all_samples src (p ∷ ps) ≡ all → part ≡ samples_of src p → out' ≡ take done out ++ part
-    → out' ++ all_samples src ps ≡ all
-pieces_more src done out out' part p ps all before got is =
-    ap (λ (xs : List ℤ). xs ++ all_samples src ps) (is ∙ ap (λ (xs : List ℤ). take done out ++ xs) got)
-    ∙ append_assoc (take done out) (samples_of src p) (all_samples src ps) ∙ before
+-- so nothing refuses but a device
+pub sound_made : (files : Files) (ps : List Piece) (why : MakeFault) → AllThere files ps → IsFaultRead files ps why
+    → IsOfDevice why
+sound_made files ps (Read why) there is = sound_pieces files ps why there is
+sound_made files ps (Bring why) there is = tt
+sound_made files ps Put there is = tt
 
 -- two lists that are the same from a place on have the same item there
 head_same : (xs ys : List ℤ) (i : ℕ) (d : ℤ) → drop i xs ≡ drop i ys → get_or xs i d ≡ get_or ys i d

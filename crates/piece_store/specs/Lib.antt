@@ -1,3 +1,5 @@
+pub mod Bringers
 pub mod Bringing
+pub mod Brought
 pub mod Making
 pub mod Reading

@@ -6,11 +6,13 @@
 //! them all. Which ids are free, and which blocks are needed, the caller knows.
 #![tactic(auto)]
 
+mod brings;
 mod fault;
 mod given;
 mod making;
 mod pieces;
 
-pub use fault::MakeFault;
+pub use brings::Brings;
+pub use fault::{BringFault, MakeFault};
 pub use given::Given;
 pub use making::{make_block, write_new_block};

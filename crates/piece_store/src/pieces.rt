@@ -1,17 +1,21 @@
 // The samples of pieces.
-ghost use Rattle.std.specs.Prelude.{◌≡◌, ◌+◌, ◌≤◌, ℤ, List, length, map, take, drop, Some, IsTrue, OnOk, IfErr};
+ghost use Rattle.std.specs.Prelude.{◌≡◌, ◌+◌, ◌≤◌, ℤ, List, length, map, take, drop, Some, IsTrue, false, OnOk};
+ghost use Rattle.std.specs.Prelude.{IfErr};
 ghost use Rattle.pcm_base.specs.Arithmetic.{clamped, scaled};
-ghost use Rattle.pcm_base.specs.Pieces.{samples_of, all_samples, piece_len as len_of, total};
+ghost use Rattle.pcm_base.specs.Pieces.{piece_len as len_of, total};
 ghost use Rattle.disk_model.specs.Disk.{bytes_of};
 ghost use Rattle.disk_model.specs.Frames.{Kept};
 ghost use Rattle.sample_block.specs.Blocks.{blocks};
-ghost use Rattle.sample_block.specs.Sources.{sources_with};
 ghost use Rattle.sample_block.specs.Spelling.{IsBlock};
 ghost use Rattle.block_store.specs.Reads.{Counted, IsCompared, IsFault};
-ghost use Rattle.piece_store.specs.Bringing.{brought, brought_count};
-ghost use Rattle.piece_store.specs.Reading.{IsReadable, AllReadable, IsThere, AllThere, IsFaultOf, IsFaultAmong};
+ghost use Rattle.piece_store.specs.Brought.{AreInOrder};
+ghost use Rattle.piece_store.specs.Bringers.{StillBrings};
+ghost use Rattle.piece_store.specs.Making.{IsPart, AreParts, IsFaultReadOf, IsFaultRead, IsBroughtFault, MadeCounted};
+ghost use Rattle.piece_store.specs.Making.{MadeBrought};
+ghost use Rattle.piece_store.specs.Reading.{IsReadable, AllReadable, IsThere, AllThere};
 
-use super::given::Given;
+use super::brings::Brings;
+use super::fault::MakeFault;
 use block_sequence::piece_len;
 use block_store::{BlockFault, compare_once, read_compared_samples};
 use disk_model::Store;
@@ -57,28 +61,34 @@ fn read_old<S: Store>(
 }
 
 /// Makes `out` the samples of a piece, of a block of the disk or of what the command brings. It takes no memory. After
-/// an error `out` may have been written in part.
-fn read_piece<S: Store>(
+/// an error `out` may have been written in part. Bytes of a vault are read into `buf` first.
+fn read_piece<S: Store, G: Brings>(
     store: &mut S,
     last: &mut Option<BlockRef>,
     piece: Piece,
-    given: &Given,
+    given: &mut G,
     out: &mut [i16],
-) -> Result<(), BlockFault>
-    requires piece { IsReadable (brought_count given.now) piece }
+    buf: &mut [u8],
+) -> Result<(), MakeFault>
+    requires piece { IsReadable (G.brings given.old).count piece }
     requires len { length out.old ≡ len_of piece }
+    requires buffer { 64 ≤ length buf.old }
     requires compared { IsTrue (S.tells store.old) → IsCompared (S.reads store.old) last.old }
     ensures compared { IsTrue (S.tells store.old) → IsCompared (S.reads store.old) last.new }
     ensures read { IsTrue (S.tells store.old) → IsThere (S.reads store.old) piece
-        → OnOk result (out.new ≡ samples_of (sources_with (S.reads store.old) (brought given.now)) piece) }
-    ensures damaged { IsTrue (S.tells store.old) → IfErr result (λ e. IsFaultOf (S.reads store.old) piece e) }
+        → OnOk result (IsPart (G.brings given.old) (S.reads store.old) piece out.new) }
+    ensures damaged { IsTrue (S.tells store.old) → IfErr result (IsFaultReadOf (S.reads store.old) piece) }
+    ensures refused { IfErr result (IsBroughtFault (G.brings given.old)) }
     ensures kept { Kept S.Store store.old store.new }
-    ensures faults { Counted result (S.read_fault_count store.old) (S.read_fault_count store.new) }
+    ensures faults { MadeCounted result (S.read_fault_count store.old) (S.read_fault_count store.new)
+        (S.change_fault_count store.old) (S.change_fault_count store.new) }
+    ensures still { StillBrings G.Brings given.old given.new }
+    ensures given { MadeBrought result (G.fault_count given.old) (G.fault_count given.new) }
 {
     match piece {
         Piece::Old { block, from, to: _ } => {
             if let Err(fault) = read_old(store, last, block, from, out) {
-                return Err(fault);
+                return Err(MakeFault::Read { fault });
             }
             Ok(())
         }
@@ -89,7 +99,7 @@ fn read_piece<S: Store>(
             gain,
         } => {
             if let Err(fault) = read_old(store, last, block, from, out) {
-                return Err(fault);
+                return Err(MakeFault::Read { fault });
             }
             scale(gain, out);
             Ok(())
@@ -99,34 +109,44 @@ fn read_piece<S: Store>(
             Ok(())
         }
         Piece::Given { from, to: _ } => {
-            given.fill(from, out);
+            if let Err(fault) = given.fill(from, out, buf) {
+                return Err(MakeFault::Bring { fault });
+            }
             Ok(())
         }
     }
 }
 
-/// The same of pieces one after another.
-pub(crate) fn read_pieces<S: Store>(
+/// The same of pieces one after another. Where it is not known before which samples the command brings, none of them
+/// is read twice.
+pub(crate) fn read_pieces<S: Store, G: Brings>(
     store: &mut S,
     pieces: &[Piece],
-    given: &Given,
+    given: &mut G,
     out: &mut [i16],
-) -> Result<(), BlockFault>
-    requires pieces { AllReadable (brought_count given.now) pieces.now }
+    buf: &mut [u8],
+) -> Result<(), MakeFault>
+    requires pieces { AllReadable (G.brings given.old).count pieces.now }
+    requires order { (G.brings given.old).tells ≡ false → AreInOrder 0 (G.brings given.old).count pieces.now }
     requires len { length out.old ≡ total pieces.now }
+    requires buffer { 64 ≤ length buf.old }
     ensures read { IsTrue (S.tells store.old) → AllThere (S.reads store.old) pieces.now
-        → OnOk result (out.new ≡ all_samples (sources_with (S.reads store.old) (brought given.now)) pieces.now) }
-    ensures damaged { IsTrue (S.tells store.old)
-        → IfErr result (λ e. IsFaultAmong (S.reads store.old) pieces.now e) }
+        → OnOk result (AreParts (G.brings given.old) (S.reads store.old) pieces.now out.new) }
+    ensures damaged { IsTrue (S.tells store.old) → IfErr result (IsFaultRead (S.reads store.old) pieces.now) }
+    ensures refused { IfErr result (IsBroughtFault (G.brings given.old)) }
     ensures kept { Kept S.Store store.old store.new }
-    ensures faults { Counted result (S.read_fault_count store.old) (S.read_fault_count store.new) }
+    ensures faults { MadeCounted result (S.read_fault_count store.old) (S.read_fault_count store.new)
+        (S.change_fault_count store.old) (S.change_fault_count store.new) }
+    ensures still { StillBrings G.Brings given.old given.new }
+    ensures given { MadeBrought result (G.fault_count given.old) (G.fault_count given.new) }
 {
     let mut done = 0;
     let mut last = None;
     'pieces: for piece in pieces {
         let next = done + piece_len(*piece) as usize;
-        if let Err(fault) = read_piece(store, &mut last, *piece, given, &mut out[done..next]) {
-            return Err(fault);
+        let part = &mut out[done..next];
+        if let Err(why) = read_piece(store, &mut last, *piece, given, part, buf) {
+            return Err(why);
         }
         done = next;
     }

@@ -19,7 +19,7 @@ use Rattle.pcm_base.specs.Run.{Follows, name_in_line}
 use Rattle.pcm_base.specs.Shape.{is_commit, shape_of}
 use Rattle.pin_turn.specs.Counts.{Each}
 use Rattle.pin_turn.proofs.Sums.{Each-append}
-use Rattle.editor_core.specs.Imports.{IsNoVault, VaultCountedBy}
+use Rattle.editor_core.specs.Imports.{VaultCountedBy}
 use Rattle.script_text.specs.Grammar.{is_silent, line_of}
 use Rattle.studio_seats.specs.declared.deed.Deed.{Deed}
 use Rattle.studio_seats.specs.Deeds.{commits, deed, entries_of, number_after}
@@ -27,7 +27,7 @@ use Rattle.studio_seats.specs.Merge.{by_seat, deeds_of, numbers_of}
 use Rattle.studio_seats.proofs.FaultLemmas.{rose_first, rose_last}
 use Rattle.studio_seats.proofs.Grown.{entries_append, number_append}
 use Rattle.studio_seats.proofs.MergeLemmas.{deeds_append, deeds_others, numbers_append, numbers_others}
-use Rattle.script_session.specs.Added.{Adds, SessionsAdd, SparesVault}
+use Rattle.script_session.specs.Added.{Adds, IsNoVault, SessionsAdd, SparesVault}
 use Rattle.script_session.specs.Place.{CountsFaults, Enters, Place, line_deed, made_commit, seen_after}
 use Rattle.script_session.specs.Session.{Next, Session, Turn}
 

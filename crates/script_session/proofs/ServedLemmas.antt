@@ -1,5 +1,5 @@
 -- Where no device fails, a script's deeds tell of none.
-use Rattle.std.proofs.Common.{subst, ℕ, if◌then◌else◌, Bool, true, false, IsSome, IfErr, List, [], ◌∷◌, ◌++◌, Result}
+use Rattle.std.proofs.Common.{subst, if◌then◌else◌, Bool, true, false, IsSome, IfErr, List, [], ◌∷◌, ◌++◌, Result}
 use Rattle.std.proofs.Common.{Ok, Err}
 use Rattle.pcm_base.specs.declared.answer.Reply.{Reply}
 use Rattle.pcm_base.specs.declared.command.Call.{Call}
@@ -11,14 +11,13 @@ use Rattle.edit_ports.specs.declared.vault.Vault as vault
 use Rattle.pin_turn.specs.Counts.{Each}
 use Rattle.pin_turn.proofs.Sums.{Each-left, Each-right}
 use Rattle.editor_core.specs.Core.{Core}
-use Rattle.editor_core.specs.Imports.{IsNoVault}
 use Rattle.studio_seats.specs.declared.deed.Deed.{Deed}
 use Rattle.studio_seats.specs.Faults.{IsServed}
 use Rattle.studio_seats.specs.Merge.{by_seat, deeds_of}
 use Rattle.studio_seats.specs.Leads.{IsUnharmed}
 use Rattle.studio_seats.specs.Stands.{StandsFor, origin}
 use Rattle.studio_seats.proofs.FaultLemmas.{desks_serve}
-use Rattle.script_session.specs.Added.{Adds, SparesVault}
+use Rattle.script_session.specs.Added.{Adds, IsNoVault, SparesVault}
 use Rattle.script_session.specs.Change.{change}
 use Rattle.script_session.specs.Place.{Place}
 use Rattle.script_session.specs.Served.{IsOfNoDevice, IsUndisturbed, SessionsServe, TellsNoDevice}

@@ -1,15 +1,21 @@
 -- What a script adds to the list of a desk, line by line.
 use Rattle.std.specs.Prelude.{◌≡◌, ℕ, ◌≤◌, IsTrue, IsSome, List, ◌++◌, IfErr}
 use Rattle.pcm_base.specs.declared.answer.Answer.{Answer}
+use Rattle.pcm_base.specs.declared.refusal.Refusal.{Refusal}
+use Rattle.pcm_base.specs.declared.refusal.Refusal.TheVariants as refusal
 use Rattle.pcm_base.specs.Causes.{Rose}
 use Rattle.pcm_base.specs.Run.{Follows, name_in}
 use Rattle.pin_turn.specs.Counts.{Each}
-use Rattle.editor_core.specs.Imports.{IsNoVault}
 use Rattle.studio_seats.specs.declared.deed.Deed.{Deed}
 use Rattle.studio_seats.specs.Deeds.{entries_of, number_after}
 use Rattle.studio_seats.specs.Merge.{by_seat, deeds_of, numbers_of}
 use Rattle.script_session.specs.Place.{Place}
 use Rattle.script_session.specs.Session.{Session}
+
+-- a refusal that is not of the vault
+abbrev pub IsNoVault : Refusal → Type 0
+IsNoVault refusal.VaultFault = ⊥
+IsNoVault why = Unit {0}
 
 -- a deed does not tell that the vault failed, or it names no sound
 abbrev pub SparesVault : Deed → Type 0

@@ -3,7 +3,7 @@ use Rattle.std.proofs.Common.{◌≡◌, inl, inr, ⊎_elim, ◌∙◌, refl, sy
 use Rattle.std.proofs.Common.{true, false, List, [], ◌∷◌, ◌++◌, length, drop, Result, Ok, Err, arith}
 use Rattle.std.specs.Prelude.{◌||◌}
 use Rattle.std.proofs.lemmas.Bool.{cases_lt, eqb-true, or_cases}
-use Rattle.std.proofs.lemmas.List.{at_drop_all}
+use Rattle.std.proofs.lemmas.List.{at_drop_all, length-map}
 use Rattle.pcm_base.specs.declared.answer.Reply.{Reply}
 use Rattle.pcm_base.specs.declared.answer.Reply.TheVariants as reply
 use Rattle.pcm_base.specs.declared.command.Call.{Call}
@@ -16,6 +16,7 @@ use Rattle.pcm_base.specs.declared.refusal.Refusal.{Refusal}
 use Rattle.pcm_base.specs.declared.refusal.Refusal.TheVariants.{NoTrack}
 use Rattle.pcm_base.specs.Cells.{Project, cells_at, tracks_from}
 use Rattle.pcm_base.specs.Counters.{counter_tests, record_test}
+use Rattle.pcm_base.specs.History.{IsHistory}
 use Rattle.pcm_base.specs.Recordings.{pieces_of}
 use Rattle.pcm_base.specs.Refusals.{◌otherwise◌, call_tests, is_empty, length_limit, no_track}
 use Rattle.pcm_base.specs.Run.{Answers, CarriesOut, Run, outside, stop_test}
@@ -31,6 +32,7 @@ use Rattle.pin_turn.specs.Counts.{Each}
 use Rattle.editor_core.specs.Applied.{reply_of}
 use Rattle.editor_core.specs.Core.{Core}
 use Rattle.editor_core.specs.Studios.{IsHeld, IsStudio, studio_of}
+use Rattle.editor_core.proofs.Bounding.{bounded}
 use Rattle.studio_seats.specs.declared.deed.Deed.{Deed}
 use Rattle.studio_seats.specs.Deeds.{entries_of, entry_of}
 use Rattle.studio_seats.specs.Merge.{Rises, by_seat}
@@ -45,7 +47,6 @@ use Rattle.desk_session.specs.Makers.{Seats, is_by}
 use Rattle.desk_session.specs.Opening.{OwnDeed, PinDeed, TrackDeed, play_calls, record_calls, record_commits}
 use Rattle.desk_session.specs.Sessions.{IsMadeOf}
 use Rattle.session_run.specs.Entries.{call_apart, pieces_apart}
-use Rattle.session_run.proofs.BoundLemmas.{bounded}
 use Rattle.session_run.proofs.PromiseLemmas.{plain_of}
 
 -- ---- runs
@@ -93,6 +94,14 @@ found t u track tag samples sound r done =
     there t.state.history.points t.state.history.cursor track
     (not_refused (is_empty (tracks_from track (current t.state))) (NoTrack track) here.0)
 
+-- where a point is current of what a studio stands for, one is of its own
+stands : {D : Type 0} (disk : Ghosts D) (s : Core D) → IsStudio disk s
+    → (studio_of disk s).state.history.cursor < length (studio_of disk s).state.history.points → IsHistory s.history
+stands disk s is current =
+    let many : length (studio_of disk s).state.history.points ≡ length s.history.points =
+    length-map s.history.points _ in
+    record { current = omega (arith, current, many); few = is.few_points }
+
 -- a call of pieces by its answer, its pieces taken apart
 pieces : (t u : model.Studio) (actor track tag : ℕ) (samples : List ℤ) (sound : SoundMove)
     (what : Result Reply Refusal) → ((r : Reply) → CarriesOut t (Piece track tag samples) sound r u → IsBoundedStudio t)
@@ -109,7 +118,7 @@ pieces t u actor track tag samples sound (Ok r) bound numbered h =
 -- ---- deeds
 
 -- the tag of a call of pieces is a commit number from 1 on
-abbrev IsTagged : Call → Type 0
+abbrev pub IsTagged : Call → Type 0
 IsTagged (call.Line c) = Unit {0}
 IsTagged (call.Piece track tag samples) = 1 ≤ tag
 IsTagged call.Pin = Unit {0}
@@ -127,8 +136,8 @@ module _ {D V : Type 0} (disk : Ghosts D) (vaults : vault.Ghosts V) where
   by_call old new actor (call.Piece track tag samples) sound what is numbered h =
       pieces (studio_of disk old) (studio_of disk new) actor track tag samples sound what
       (λ r done.
-      bounded disk old _ is
-      (found (studio_of disk old) (studio_of disk new) track tag samples sound r done))
+      bounded disk old is
+      (stands disk old is (found (studio_of disk old) (studio_of disk new) track tag samples sound r done)) _)
       numbered h
   by_call old new actor call.Pin sound what is numbered h =
       one (studio_of disk old) (studio_of disk new) actor call.Pin sound what h

@@ -15,8 +15,8 @@ pub mod RecordLemmas
 pub mod PlayLemmas
 pub mod SeatEntries
 pub mod PromiseLemmas
-pub mod BoundLemmas
 pub mod ApartLemmas
+pub mod ByReadLemmas
 pub mod NeedLemmas
 pub mod MissingLemmas
 pub mod GoneLemmas

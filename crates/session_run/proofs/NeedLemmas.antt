@@ -15,7 +15,8 @@ use Rattle.pcm_base.specs.Run.{Answers, Breaks, BreaksOff, CarriesOut, Refuses, 
 use Rattle.pcm_base.specs.Shape.{Shape, NewTrack, DropTrack, SetTrack, PutIn, EditRange, CutRun, CopyRun, PasteRun}
 use Rattle.pcm_base.specs.Shape.{MoveTo, Purge, Look, Reclaim, Compact, Import, Export, shape_of}
 use Rattle.pcm_base.specs.Studio.{Studio}
-use Rattle.editor_core.specs.Exchanges.{begun_in_vain, is_broken_off}
+use Rattle.editor_core.specs.Exchanges.{begun_in_vain, is_broken_off, is_cut_off, may_begin, may_have_begun}
+use Rattle.editor_core.specs.Exchanges.{reads_sound}
 use Rattle.model_laws.proofs.Answered.{carried_is}
 use Rattle.studio_seats.specs.Faults.{IsServed}
 use Rattle.studio_seats.specs.Leads.{IsUnharmed}
@@ -116,11 +117,23 @@ module _ (t u : Studio) (c : Call) (sound : SoundMove) where
   idle (Err why) is (inl h) = h.same
   idle (Err why) is (inr h) = unbroken why is h
 
--- ---- what the disk broke off
+-- ---- what no device broke off
 
-pub not_broken : (why : Refusal) → has_begun (Err why) ≡ false → is_broken_off why ≡ false
-not_broken refusal.VaultFault is = refl
-not_broken why is = is
+-- a choice of two is false only where the other is
+other_false : (b c : Bool) → (if b then true else c) ≡ false → c ≡ false
+other_false true c is = absurd (true≢false is)
+other_false false c is = is
+
+both_false : (b c d : Bool) → c ≡ false → d ≡ false → (if b then c else d) ≡ false
+both_false true c d one two = one
+both_false false c d one two = two
+
+-- then no call may have made a block
+pub not_begun : (c : Call) (why : Refusal) → has_begun (Err why) ≡ false → may_have_begun c why ≡ false
+not_begun c why is = both_false (reads_sound c) (may_begin why) (is_broken_off why) is
+    (other_false (is_cut_off why) (is_broken_off why) is)
+
+-- ---- what the disk broke off
 
 -- the disk did not fail, and no file is damaged
 quiet : (c : Call) (why : Refusal) → IsServed c why → IsUnharmed why → is_broken_off why ≡ false

@@ -21,7 +21,7 @@ use Rattle.edit_ports.specs.declared.vault.Vault as vault
 use Rattle.pcm_base.specs.Run.{name_in}
 use Rattle.editor_core.specs.Applied.{reply_of}
 use Rattle.editor_core.specs.Core.{Core}
-use Rattle.editor_core.specs.Exchanges.{begun_in_vain, exchange_of, is_broken_off}
+use Rattle.editor_core.specs.Exchanges.{begun_in_vain, exchange_of, may_have_begun}
 use Rattle.editor_core.specs.Left.{Left}
 use Rattle.editor_core.specs.Packing.{packed_by, packed_size, packs}
 use Rattle.editor_core.specs.Studios.{IsStudio, studio_of}
@@ -39,7 +39,7 @@ use Rattle.session_run.specs.Outgrown.{plus}
 use Rattle.session_run.specs.Tries.{faults_of, tried_project}
 use Rattle.session_run.proofs.GoneLemmas.{more_missing}
 use Rattle.session_run.proofs.MissingLemmas.{missing}
-use Rattle.session_run.proofs.NeedLemmas.{Began, began, idle, mixed, not_broken, vain_most, vain_none}
+use Rattle.session_run.proofs.NeedLemmas.{Began, began, idle, mixed, not_begun, vain_most, vain_none}
 use Rattle.session_run.proofs.PromiseLemmas.{plain_of}
 use Rattle.session_run.proofs.RoomLemmas.{HasAskedFor, IsFine, gone_few, much_more, room_on, too_much}
 
@@ -157,10 +157,10 @@ module _ {D V : Type 0} (disk : Ghosts D) (vaults : vault.Ghosts V) (from : Room
   kept is = by d.what is took.untouched
     where
       by : (what : Result Reply Refusal) → has_begun what ≡ false
-          → IfErr what (λ why. is_broken_off why ≡ false → Kept disk old.store new.store)
+          → IfErr what (λ why. may_have_begun d.call why ≡ false → Kept disk old.store new.store)
           → Kept disk old.store new.store
       by (Ok r) is h = absurd (true≢false is)
-      by (Err why) is h = h (not_broken why is)
+      by (Err why) is h = h (not_begun d.call why is)
 
   asked_idle : has_begun d.what ≡ false
       → HasAskedFor from (asked disk new.store) (plus sum nothing_needed) gone 0

@@ -6,11 +6,10 @@ use Rattle.pcm_base.specs.declared.command.Call.TheVariants.{Line}
 use Rattle.pcm_base.specs.declared.command.Command.TheVariants.{Compact}
 use Rattle.pcm_base.specs.declared.entry.Entry.{Entry}
 use Rattle.pcm_base.specs.declared.refusal.Refusal.{Refusal}
-use Rattle.pcm_base.specs.declared.refusal.Refusal.TheVariants as refusal
 use Rattle.pcm_base.specs.Counters.{Needs, places_of}
 use Rattle.pcm_base.specs.Run.{Step, outside, result_of}
 use Rattle.pcm_base.specs.Studio.{Studio}
-use Rattle.editor_core.specs.Exchanges.{is_broken_off}
+use Rattle.editor_core.specs.Exchanges.{may_begin}
 use Rattle.editor_core.specs.Packing.{packed_most, packs}
 use Rattle.memory_project.specs.declared.fresh.FreshProject.{FreshProject}
 
@@ -31,8 +30,7 @@ plus a b = record { calls = a.calls + b.calls; blocks = a.blocks + b.blocks; jou
 -- whether a call may have asked the disk: it was carried out, or a device broke it off
 abbrev pub has_begun : Result Reply Refusal → Bool
 has_begun (Ok r) = true
-has_begun (Err refusal.VaultFault) = true
-has_begun (Err why) = is_broken_off why
+has_begun (Err why) = may_begin why
 
 -- how many bytes a journal may have that a call puts into one header
 abbrev pub packed_within : Studio → Call → ℕ

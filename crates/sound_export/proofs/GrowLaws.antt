@@ -1,5 +1,6 @@
 -- How long a mix is, its text, and what is at fault where it is not written.
-use Rattle.std.proofs.Common.{◌≡◌, ℕ, zero, suc, ◌+◌, List, ◌++◌, length, refl, ap, ◌∙◌, arith}
+use Rattle.std.proofs.Common.{◌≡◌, ℕ, zero, suc, ◌+◌, List, ◌++◌, length, Option, Some, refl, sym, ap, subst, ◌∙◌}
+use Rattle.std.proofs.Common.{arith}
 use Rattle.std.proofs.lemmas.List.{length-map}
 use Rattle.disk_model.specs.Disk.{Files}
 use Rattle.pcm_base.specs.declared.block.BlockRef.{BlockRef}
@@ -12,9 +13,17 @@ use Rattle.wav_pcm.specs.Wavs.{FitsFile, wav_head}
 use Rattle.pcm_base.specs.Recordings.{frame_bytes}
 use Rattle.sample_block.specs.Sources.{AllWhole}
 use Rattle.cell_view.proofs.SeenLaws.{sound_in}
+use Rattle.pcm_base.specs.declared.refusal.Refusal.{Refusal}
+use Rattle.pcm_base.specs.declared.refusal.Refusal.TheVariants as refusal
+use Rattle.wav_pcm.specs.declared.fault.SoundFault.{SoundFault}
+use Rattle.wav_pcm.specs.declared.fault.SoundFault.TheVariants.{NoFile, Vault, BadWav}
+use Rattle.wav_pcm.specs.declared.fault.SoundFault.TheVariants as wav
+use Rattle.wav_pcm.specs.Parts.{IsFor, SoundCountedBy, sound_refusal}
+use Rattle.wav_pcm.specs.Written.{IsNotStarted, IsThere}
 use Rattle.sound_export.specs.declared.fault.ExportFault.{ExportFault}
 use Rattle.sound_export.specs.declared.fault.ExportFault.TheVariants.{TooLong, Block, VaultFault}
-use Rattle.sound_export.specs.Written.{IsOfDevice, IsLengthFault, IsBlockFault, IsNoDamage}
+use Rattle.sound_export.specs.Written.{IsOfDevice, IsLengthFault, IsBlockFault, IsNoDamage, ExportCountedBy}
+use Rattle.sound_export.specs.Written.{fault_of_start}
 
 -- how many frames a mix has
 length_counted : (n k : ℕ) → length (counted_from n k) ≡ k
@@ -39,3 +48,50 @@ pub no_damage : (files : Files) (bs : List BlockRef) (why : ExportFault) → All
 no_damage files bs (TooLong frames) whole is = tt
 no_damage files bs (Block why) whole is = sound_in files bs why whole is
 no_damage files bs VaultFault whole is = tt
+
+-- ---- the file is begun
+
+-- a sound that is there
+pub is_there : (o : Option (List ℕ)) (bytes : List ℕ) → o ≡ Some bytes → IsThere o
+is_there o bytes is = subst IsThere (sym is) refl
+
+-- a fault of one that was not begun
+start_by : (len : ℕ) (why : SoundFault) → IsNotStarted len why → IsLengthFault len (fault_of_start (sound_refusal why))
+start_by len NoFile not = absurd not
+start_by len Vault not = not
+start_by len (BadWav fault) not = absurd not
+start_by len (wav.TooLong count) not = not
+
+pub start_long : (len : ℕ) (reason : Refusal) (why : ExportFault) → IsFor (IsNotStarted len) reason
+    → why ≡ fault_of_start reason → IsLengthFault len why
+start_long len reason why for is =
+    subst (IsLengthFault len) (sym (is ∙ ap fault_of_start for.1)) (start_by len for.0 for.2)
+
+-- its count: one was not begun as the vault failed, or as it is too long
+counted_by : (reads old new len : ℕ) (why same : SoundFault) → IsNotStarted len why
+    → sound_refusal why ≡ sound_refusal same → SoundCountedBy same old new
+    → ExportCountedBy (fault_of_start (sound_refusal same)) reads reads old new
+counted_by reads old new len NoFile same not is counted = absurd not
+counted_by reads old new len (BadWav fault) same not is counted = absurd not
+counted_by reads old new len Vault NoFile not is counted = absurd cc
+counted_by reads old new len Vault Vault not is counted = (refl, counted)
+counted_by reads old new len Vault (BadWav fault) not is counted = absurd cc
+counted_by reads old new len Vault (wav.TooLong count) not is counted = (refl, counted)
+counted_by reads old new len (wav.TooLong frames) NoFile not is counted = absurd cc
+counted_by reads old new len (wav.TooLong frames) Vault not is counted = (refl, counted)
+counted_by reads old new len (wav.TooLong frames) (BadWav fault) not is counted = absurd cc
+counted_by reads old new len (wav.TooLong frames) (wav.TooLong count) not is counted = (refl, counted)
+
+pub start_counted : (reads old new len : ℕ) (reason : Refusal) (why : ExportFault) → IsFor (IsNotStarted len) reason
+    → IsFor (λ why. SoundCountedBy why old new) reason → why ≡ fault_of_start reason
+    → ExportCountedBy why reads reads old new
+start_counted reads old new len reason why not for is =
+    subst (λ (w : ExportFault). ExportCountedBy w reads reads old new) (sym (is ∙ ap fault_of_start for.1))
+    (counted_by reads old new len not.0 for.0 not.2 (sym not.1 ∙ for.1) for.2)
+
+pub start_sound : (reason : Refusal) (why : ExportFault) → why ≡ fault_of_start reason → IsNoDamage why
+start_sound reason why is = subst IsNoDamage (sym is) (by reason)
+  where
+    by : (reason : Refusal) → IsNoDamage (fault_of_start reason)
+    by (refusal.TooLong frames) = tt
+    by reason = tt

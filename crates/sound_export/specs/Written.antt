@@ -37,6 +37,11 @@ IsNoDamage (TooLong frames) = Unit {0}
 IsNoDamage (Block why) = why ≡ block.DiskFault
 IsNoDamage VaultFault = Unit {0}
 
+-- the fault where a file was not begun, by its reason
+abbrev pub fault_of_start : Refusal → ExportFault
+fault_of_start (refusal.TooLong frames) = TooLong frames
+fault_of_start why = VaultFault
+
 -- the reason of a line
 abbrev pub refusal_of : ExportFault → Refusal
 refusal_of (TooLong frames) = refusal.TooLong frames

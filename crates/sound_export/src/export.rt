@@ -13,7 +13,7 @@ ghost use Rattle.mix_view.specs.Tracks.{mix_length_of, stored_mix};
 ghost use Rattle.sound_export.specs.declared.fault.ExportFault.TheVariants as fault;
 ghost use Rattle.sound_export.specs.Written.{IsLengthFault, IsBlockFault, IsNoDamage, ExportCounted};
 
-use super::fault::ExportFault;
+use super::fault::{ExportFault, start_fault};
 use super::stretch::append_mix;
 use block_cache::Cache;
 use disk_model::Store;
@@ -21,12 +21,12 @@ use edit_ports::Vault;
 use mix_view::mix_len;
 use pcm_base::{Cell, Frame};
 use project_state::Point;
-use wav_pcm::{MAX_FRAMES, write_start};
+use wav_pcm::start_wav;
 
 /// Writes the mix of a point's tracks to a vault as a WAV file, and answers how many bytes it has. The length is tested
 /// before anything is written. Then the header is written, and frames are read, mixed and appended a stretch at a
-/// time, as many as the buffers have room for. After an error the sound is as it was, or holds the first bytes of the
-/// file.
+/// time, as many as `frames` has room for. Their bytes are written by `bytes`. After an error the sound is as it was,
+/// or holds the first bytes of the file.
 pub fn write_mix<S: Store, V: Vault>(
     store: &mut S,
     cache: &mut Cache,
@@ -41,8 +41,7 @@ pub fn write_mix<S: Store, V: Vault>(
     requires named { AllNamed (point_blocks point.now) }
     requires cells { MAX_TRACKS ≤ length cells.old }
     requires some { 0 < length frames.old }
-    requires bytes { 4 * length frames.old ≤ length bytes.old }
-    requires head { 44 ≤ length bytes.old }
+    requires bytes { 64 ≤ length bytes.old }
     requires few_frames { length frames.old ≤ MAX_CELLS }
     requires cached { IsTrue (S.tells store.old) → IsCacheOf (S.reads store.old) cache.old }
     ensures cache { KeepsCache (S.tells store.old) (S.reads store.old) (point_blocks point.now) cache.old cache.new }
@@ -70,10 +69,9 @@ pub fn write_mix<S: Store, V: Vault>(
         (V.fault_count vault.old) (V.fault_count vault.new) }
 {
     let len = mix_len(point);
-    if len > MAX_FRAMES as u64 {
-        return Err(ExportFault::TooLong { frames: len });
+    if let Err(why) = start_wav(vault, name, len, rate, bytes) {
+        return Err(start_fault(why));
     }
-    write_start(vault, name, len as u32, rate, bytes)?;
     append_mix(store, cache, vault, name, point, len, cells, frames, bytes)?;
     Ok(44 + 4 * len)
 }

@@ -1,10 +1,10 @@
 // Why a mix is not written.
 ghost use Rattle.std.specs.Prelude.{◌≡◌};
 ghost use Rattle.sound_export.specs.declared.fault.ExportFault.TheVariants as fault;
-ghost use Rattle.sound_export.specs.Written.{refusal_of};
+ghost use Rattle.sound_export.specs.Written.{fault_of_start, refusal_of};
 
 use block_store::BlockFault;
-use pcm_base::{Failed, Refusal};
+use pcm_base::Refusal;
 
 /// Why a mix is not written.
 #[derive(Clone, Copy, Debug, PartialEq, Eq)]
@@ -17,19 +17,21 @@ pub enum ExportFault {
     VaultFault,
 }
 
+/// The fault where a file was not begun.
+pub(crate) fn start_fault(why: Refusal) -> ExportFault
+    ensures { result ≡ fault_of_start why }
+{
+    match why {
+        Refusal::TooLong { frames } => ExportFault::TooLong { frames },
+        _ => ExportFault::VaultFault,
+    }
+}
+
 impl From<BlockFault> for ExportFault {
     ghost from_gives = { λ why export. export ≡ fault.Block why };
 
     fn from(fault: BlockFault) -> ExportFault {
         ExportFault::Block { fault }
-    }
-}
-
-impl From<Failed> for ExportFault {
-    ghost from_gives = { λ _ export. export ≡ fault.VaultFault };
-
-    fn from(_: Failed) -> ExportFault {
-        ExportFault::VaultFault
     }
 }
 

@@ -13,6 +13,7 @@ ghost use Rattle.block_cache.specs.Caches.{IsCacheOf, KeepsCache};
 ghost use Rattle.mix_view.specs.Readers.{IsReader};
 ghost use Rattle.mix_view.specs.Tracks.{mix_length_of, stored_mix};
 ghost use Rattle.pcm_base.specs.Recordings.{frame_bytes};
+ghost use Rattle.wav_pcm.specs.Written.{IsThere};
 ghost use Rattle.sound_export.specs.Written.{IsOfDevice, IsBlockFault, ExportCounted};
 
 use super::fault::ExportFault;
@@ -22,9 +23,10 @@ use edit_ports::Vault;
 use mix_view::MixReader;
 use pcm_base::{Cell, Frame};
 use project_state::Point;
-use wav_pcm::append_piece;
+use wav_pcm::append_frames;
 
-/// Appends the next frames of a mix, as many as are left and as fit, and answers how many.
+/// Appends the next frames of a mix to a sound that is there, as many as are left and as fit into `frames`, and answers
+/// how many.
 fn append_stretch<'a, S: Store, V: Vault>(
     store: &mut S,
     cache: &mut Cache,
@@ -38,7 +40,7 @@ fn append_stretch<'a, S: Store, V: Vault>(
     requires reader { IsReader reader.old }
     requires cached { IsTrue (S.tells store.old) → IsCacheOf (S.reads store.old) cache.old }
     requires cells { MAX_TRACKS ≤ length cells.old }
-    requires bytes { 4 * length frames.old ≤ length bytes.old }
+    requires bytes { 64 ≤ length bytes.old }
     requires few { reader.old.at + length frames.old < 2 ^ 64 }
     ensures count { IfOk result
         (λ n. n ≡ min (length frames.old) (mix_length_of reader.old.point.now - reader.old.at)) }
@@ -47,10 +49,11 @@ fn append_stretch<'a, S: Store, V: Vault>(
     ensures point { reader.new.point.now ≡ reader.old.point.now }
     ensures cache { KeepsCache (S.tells store.old) (S.reads store.old) (point_blocks reader.old.point.now) cache.old
         cache.new }
-    ensures appended { IsTrue (V.tells vault.old) → IsTrue (S.tells store.old)
+    ensures appended { IsTrue (V.tells vault.old) → IsTrue (S.tells store.old) → IsThere (V.holds vault.old name.now)
         → IfOk result (λ n. V.holds vault.new name.now ≡ Some (sound_bytes (V.holds vault.old name.now)
         ++ frame_bytes (take n (drop reader.old.at (stored_mix (S.reads store.old) reader.old.point.now))))) }
-    ensures failed { IsTrue (V.tells vault.old) → IsTrue (S.tells store.old) → OnErr result ((n : ℕ)
+    ensures failed { IsTrue (V.tells vault.old) → IsTrue (S.tells store.old) → IsThere (V.holds vault.old name.now)
+        → OnErr result ((n : ℕ)
         × MayHaveGrown (frame_bytes (take n (drop reader.old.at (stored_mix (S.reads store.old) reader.old.point.now))))
         (V.holds vault.old name.now) (V.holds vault.new name.now)) }
     ensures others { IsTrue (V.tells vault.old) → SameElsewhere name.now (V.holds vault.old) (V.holds vault.new) }
@@ -63,7 +66,9 @@ fn append_stretch<'a, S: Store, V: Vault>(
         (V.fault_count vault.old) (V.fault_count vault.new) }
 {
     let count = reader.read(store, cache, cells, frames)?;
-    append_piece(vault, name, &frames[..count], bytes)?;
+    if let Err(_) = append_frames(vault, name, &frames[..count], bytes) {
+        return Err(ExportFault::VaultFault);
+    }
     Ok(count)
 }
 
@@ -87,7 +92,7 @@ pub(crate) fn append_mix<S: Store, V: Vault>(
         → V.holds vault.old name.now ≡ Some (sound_bytes (V.holds vault.old name.now)) }
     requires cells { MAX_TRACKS ≤ length cells.old }
     requires some { 0 < length frames.old }
-    requires bytes { 4 * length frames.old ≤ length bytes.old }
+    requires bytes { 64 ≤ length bytes.old }
     requires few_frames { length frames.old ≤ MAX_CELLS }
     requires cached { IsTrue (S.tells store.old) → IsCacheOf (S.reads store.old) cache.old }
     ensures cache { KeepsCache (S.tells store.old) (S.reads store.old) (point_blocks point.now) cache.old cache.new }

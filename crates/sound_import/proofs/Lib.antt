@@ -1,2 +1,4 @@
-mod TakenLaws
-mod ShortLaws
+mod FoundLaws
+mod ReaderLaws
+pub mod PartsLaws
+pub mod SomeLaws

@@ -1,12 +1,14 @@
-//! The front of an import: a sound of a vault, read whole.
+//! The front of an import: a sound of a vault is found, and its samples are brought to those who make blocks.
 //!
-//! The layer above uses one call. `read_sound` answers the sound that the bytes say, at the rate that is wanted, or the
-//! reason that the model has for them. The vault is read only.
+//! The layer above uses two things. `find_sound` answers where the samples are, at the rate that is wanted, or the
+//! reason that the model has for the sound. `SoundReader` brings them to `piece_store` a piece at a time. The vault is
+//! read only, and no memory is taken.
 #![tactic(auto)]
 
-mod bytes;
 mod fault;
-mod sound;
+mod find;
+mod reader;
 
 pub use fault::ImportFault;
-pub use sound::read_sound;
+pub use find::find_sound;
+pub use reader::SoundReader;

@@ -3,6 +3,7 @@ use Rattle.std.proofs.Common.{◌≡◌, ◌⊎◌, inl, inr, ⊎_elim, refl, sy
 use Rattle.std.proofs.Common.{List, [], ◌∷◌, ◌++◌, append_assoc, Result, Ok, Err}
 use Rattle.std.specs.Prelude.{IfErr}
 use Rattle.std.proofs.lemmas.List.{append-nil}
+use Rattle.std.proofs.lemmas.Option.{none-some}
 use Rattle.pcm_base.specs.declared.answer.Reply.{Reply}
 use Rattle.pcm_base.specs.declared.answer.Reply.TheVariants.{Refused}
 use Rattle.pcm_base.specs.declared.command.Call.{Call}
@@ -74,10 +75,14 @@ flight_more t es e c h = record {
 
 -- a call that names no sound
 pub does_silent : {D : Type 0} {actor : ℕ} (disk : Ghosts D) (told : Type 0) (old : Core D) (call : Call)
-    (what : Result Reply Refusal) (removed : List ℕ) (new : Core D)
+    (what : Result Reply Refusal) (removed : List ℕ) (new : Core D) → name_in call ≡ None
     → Took disk old (freeing call what removed) new → Does disk told old (deed actor call what silent) new
-does_silent disk told old call what removed new took =
-    record { removed = removed; took = λ may. took; lasts = lasts_took disk old (freeing call what removed) new took }
+does_silent disk told old call what removed new none took = record {
+  removed = removed;
+  took = λ may. took;
+  imported = λ name is. absurd (none-some name (sym none ∙ ap name_in is));
+  lasts = lasts_took disk old (freeing call what removed) new took;
+}
 
 -- where the disk held the studio, no call tells a damaged file
 unharmed : {D : Type 0} (disk : Ghosts D) (old new : Core D) (what : Result Reply Refusal) → IsHeld disk old

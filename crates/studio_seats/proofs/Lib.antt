@@ -3,6 +3,7 @@ pub mod Refused
 pub mod TestFaults
 pub mod Chains
 pub mod Grown
+pub mod ImportLemmas
 pub mod AskLemmas
 pub mod Turns
 pub mod Lines

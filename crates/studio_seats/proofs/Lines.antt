@@ -34,7 +34,12 @@ module _ {R : Type 0} where
       subst (λ (z : Result Reply Refusal).
       Does disk told span.old (deed actor (Line c) z (sound_moved span (name_in_line c))) span.new)
       (told_is a.told result answer.reply a.reply a.ends)
-      (record { removed = a.over.removed; took = λ may. a.over.took (λ some. tell (may some)); lasts = a.over.lasts })
+      (record {
+        removed = a.over.removed;
+        took = λ may. a.over.took (λ some. tell (may some));
+        imported = a.over.imported;
+        lasts = a.over.lasts;
+      })
 
   -- a refusal stands in the answer too
   pub refused_reply : (told : Result Reply Refusal) (result : Result R Refusal) (reply : Reply) → reply ≡ reply_of told

@@ -1,5 +1,5 @@
 -- A recorder goes on, call by call.
-use Rattle.std.proofs.Common.{◌≡◌, ◌⊎◌, ⊎_elim, inl, inr, ℕ, ◌+◌, ◌<◌, ◌≤◌, ℤ, Bool, true, false, List, [], ◌∷◌, ◌++◌}
+use Rattle.std.proofs.Common.{◌≡◌, ◌⊎◌, ⊎_elim, inl, inr, ℕ, ◌+◌, ◌≤◌, ℤ, Bool, true, false, List, [], ◌∷◌, ◌++◌}
 use Rattle.std.proofs.Common.{length, Option, None, refl, sym, ◌∙◌, ap, subst, arith, Result, Ok, Err, IfErr}
 use Rattle.std.specs.Prelude.{is_err, IsOk, OnOk}
 use Rattle.std.proofs.lemmas.Bool.{true≢false}

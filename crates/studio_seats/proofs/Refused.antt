@@ -1,16 +1,13 @@
 -- What is answered, and what a refusal leaves.
 use Rattle.std.proofs.lemmas.Option.{none-some}
-use Rattle.std.proofs.Common.{◌≡◌, inl, inr, refl, sym, ap, ◌∙◌, subst, ℕ, ◌+◌, ◌==◌, Option, Some, None, IsSome}
-use Rattle.std.proofs.Common.{Result, Ok, Err, Bool, true, false, if◌then◌else◌, arith}
+use Rattle.std.proofs.Common.{◌≡◌, inl, inr, refl, sym, ap, ◌∙◌, subst, ℕ, ◌+◌, Option, Some, None, IsSome}
+use Rattle.std.proofs.Common.{Result, Ok, Err, arith}
 use Rattle.pcm_base.specs.declared.answer.Reply.{Reply}
 use Rattle.pcm_base.specs.declared.command.Call.{Call}
-use Rattle.pcm_base.specs.declared.command.Call.TheVariants as call
 use Rattle.pcm_base.specs.declared.entry.SoundMove.{SoundMove}
 use Rattle.pcm_base.specs.declared.refusal.Refusal.{Refusal}
 use Rattle.pcm_base.specs.Causes.{Cause, Test, Damage, Disk, Vault, Memory, cause_of}
-use Rattle.pcm_base.specs.Counters.{commits_of}
 use Rattle.pcm_base.specs.Run.{Answers, BreaksBy}
-use Rattle.pcm_base.specs.Shape.{is_commit, shape_of}
 use Rattle.pcm_base.specs.Studio as model
 use Rattle.editor_core.specs.Studios.{shown}
 use Rattle.editor_core.specs.Took.{number_behind}

@@ -4,6 +4,7 @@ pub mod Stands
 pub mod Holding
 pub mod Desks
 pub mod Leads
+pub mod Imports
 pub mod Pins
 pub mod PinLaws
 pub mod Shows

@@ -1,10 +1,12 @@
 -- What a studio stands for after the deeds of a desk.
 use Rattle.std.specs.Prelude.{◌≡◌, ℕ, IsTrue, IsSome, List, [], ◌∷◌}
+use Rattle.pcm_base.specs.declared.command.Call.TheVariants.{Line}
+use Rattle.pcm_base.specs.declared.command.Command.TheVariants.{Import}
 use Rattle.pcm_base.specs.Run.{name_in}
 use Rattle.disk_model.specs.declared.store.Store.{Ghosts}
 use Rattle.edit_ports.specs.declared.vault.Vault as vault
 use Rattle.pin_turn.specs.Counts.{Each}
-use Rattle.editor_core.specs.Applied.{Lasts}
+use Rattle.editor_core.specs.Applied.{Imported, Lasts}
 use Rattle.editor_core.specs.Core.{Core}
 use Rattle.editor_core.specs.Studios.{IsStudio}
 use Rattle.editor_core.specs.Took.{Took, exchange_of}
@@ -31,11 +33,12 @@ abbrev pub AreTold : {V : Type 0} → vault.Ghosts V → List Deed → Type 0
 AreTold vaults deeds = Each (λ d. IsSome (name_in d.call) → AllTell vaults) deeds
 
 -- One deed is one call of the studio: a step, where its call names no sound, or `told` holds: vaults report their
--- bytes.
+-- bytes. Whatever they report, an import is a step by some sound, unless its sound is told to be cut short.
 pub record Does {D : Type 0} (disk : Ghosts D) (told : Type 0) (old : Core D) (d : Deed) (new : Core D) : Type 0 where
   -- the ids of the blocks whose files went
   pub removed : List ℕ
   pub took : (IsSome (name_in d.call) → told) → Took disk old (exchange_of d.call d.sound d.what removed) new
+  pub imported : (name : List ℕ) → d.call ≡ Line (Import name) → Imported disk old name d.what new
   pub lasts : Lasts disk old (exchange_of d.call d.sound d.what removed) new
 
 -- the deeds took the studio from one to the other, one after another

@@ -1,5 +1,6 @@
 // What the list of all seats says of each. These functions do nothing: their contracts are the laws.
 ghost use Rattle.studio_seats.specs.Faults.{DesksServe, FaultsAreCounted};
+ghost use Rattle.studio_seats.specs.Imports.{ImportsLead};
 ghost use Rattle.studio_seats.specs.Leads.{DeedsAsk, DeedsLead};
 ghost use Rattle.studio_seats.specs.Merge.{MergedNumbers, PieceNumbers, OwnOrder};
 ghost use Rattle.studio_seats.specs.PinLaws.{PinsStay};
@@ -10,6 +11,12 @@ use edit_ports::Vault;
 /// Where deeds lead: what a studio stands for after them, the run that they are, and what a stop may leave.
 pub fn deeds_lead<S: Store, V: Vault>()
     ensures { DeedsLead S.Store V.Vault }
+{}
+
+/// Where deeds lead over vaults that do not report their bytes: each import reads some sound, and with these sounds the
+/// deeds lead as over vaults that do. No deed may write a sound, and no sound may be told to be cut short.
+pub fn imports_lead<S: Store, V: Vault>()
+    ensures { ImportsLead S.Store V.Vault }
 {}
 
 /// What deeds ask of the disk is at most what each of them may ask, and no file changes that is not the studio's.
@@ -38,7 +45,7 @@ pub fn pins_stay()
     ensures { PinsStay }
 {}
 
-/// In a run from a studio that goes on, in which no count of faults of the store rises, the store is behind no refusal.
+/// In a run from a studio that goes on, in which no count of faults of the store rises, the store caused no refusal.
 pub fn faults_are_counted()
     ensures { FaultsAreCounted }
 {}

@@ -17,7 +17,7 @@ pub use desk::{Desk, SaidPieces};
 pub use giver::DeskGiver;
 pub use held::{DeskSeat, Held};
 pub use laws::{
-    deeds_are_served, deeds_ask, deeds_lead, faults_are_counted, numbers_are_merged,
+    deeds_are_served, deeds_ask, deeds_lead, faults_are_counted, imports_lead, numbers_are_merged,
     pieces_are_chunks, pins_stay, turns_keep_order,
 };
 pub use taker::DeskTaker;

@@ -92,7 +92,7 @@ cut_found head from done count all have bytes xs c why le long is few lt named =
 
 -- ---- what the whole sound says
 
-channel_length : (head : WavHead) (c count : ℕ) (xs : List ℕ) → 0 < head.channels → length xs ≡ bytes_of head count
+pub channel_length : (head : WavHead) (c count : ℕ) (xs : List ℕ) → 0 < head.channels → length xs ≡ bytes_of head count
     → length (channel_of head.channels xs c) ≡ count
 channel_length head c count xs some long =
     let n : ℕ = head.channels in
@@ -110,7 +110,7 @@ add_up : (a b rest : ℕ) → a + b + rest ≡ a + (b + rest)
 add_up a b rest = omega arith
 
 -- a channel of some frames among all
-channel_part : (head : WavHead) (from c count : ℕ) (bytes : List ℕ) → c < head.channels
+pub channel_part : (head : WavHead) (from c count : ℕ) (bytes : List ℕ) → c < head.channels
     → from + count ≤ head.frames → head.at + bytes_of head head.frames ≤ length bytes
     → channel_of head.channels (part (place_of head from) (bytes_of head count) bytes) c
     ≡ take count (drop from (channel_of head.channels (frames_in head bytes) c))

@@ -3,5 +3,8 @@ pub mod PieceLaws
 pub mod WrittenLaws
 mod HeadLaws
 mod WalkLaws
-mod ChannelLaws
+pub mod ChannelLaws
+mod SampleLaws
+mod ReasonLaws
 pub mod GrowLaws
+pub mod LessLaws

@@ -1,7 +1,8 @@
 -- What is found of the head of a WAV file, beside what its bytes say.
 use Rattle.std.specs.Prelude.{◌≡◌, ◌≢◌, ◌⊎◌, ◌≤◌, ◌<◌, ◌+◌, ◌*◌, ◌^◌, ℕ, List, length, take, drop, Option, Some, None}
 use Rattle.std.specs.Prelude.{Result, Ok, Err}
-use Rattle.std.specs.Prelude.{MatchResult, ◌-◌, ℤ, [], slice_index_or}
+use Rattle.std.specs.Prelude.{MatchResult, ◌-◌, ℤ, [], slice_index_or, All, FitsSigned}
+use Rattle.std.specs.Int.{w16}
 use Rattle.pcm_base.specs.Wave.{Sound, sound_of, wav_of, channel_of}
 use Rattle.pcm_base.specs.declared.wav.WavFault.{WavFault}
 use Rattle.pcm_base.specs.declared.wav.WavFault.TheVariants as wav
@@ -68,6 +69,10 @@ IsRefusedFor sound (BadWav fault) = IsRefusedWith sound fault
 IsRefusedFor sound (TooLong count) = ⊥
 
 -- ---- the samples of a channel
+
+-- they fit 16 bits, which their type says
+abbrev pub FitSamples : List ℤ → Type 0
+FitSamples samples = All (λ s. FitsSigned w16 s) samples
 
 -- the place of a frame
 abbrev pub place_of : WavHead → ℕ → ℕ

@@ -1,9 +1,10 @@
 -- Calls over a vault that is read in parts.
-use Rattle.std.specs.Prelude.{◌≡◌, ◌≤◌, ℕ, List, take, drop, codes, Result, Ok, Err, MatchResult}
+use Rattle.std.specs.Prelude.{◌≡◌, ◌⊎◌, ◌<◌, ◌≤◌, ℕ, List, take, drop, codes, Result, Ok, Err, MatchResult}
 use Rattle.std.specs.Str.{bytes_eq}
 use Rattle.pcm_base.specs.Causes.{Rose}
-use Rattle.pcm_base.specs.Wave.{u32_at}
+use Rattle.pcm_base.specs.Wave.{u32_at, wav_of}
 use Rattle.pcm_base.specs.declared.wav.WavFault.{WavFault}
+use Rattle.pcm_base.specs.declared.wav.WavFault.TheVariants as wav
 use Rattle.pcm_base.specs.declared.refusal.Refusal.{Refusal}
 use Rattle.pcm_base.specs.declared.refusal.Refusal.TheVariants as refusal
 use Rattle.wav_pcm.specs.declared.fault.SoundFault.{SoundFault}
@@ -27,6 +28,29 @@ IsVaultAlone NoFile = ⊥
 IsVaultAlone Vault = Unit {0}
 IsVaultAlone (BadWav fault) = ⊥
 IsVaultAlone (TooLong count) = ⊥
+
+-- fewer bytes came than were wanted
+abbrev pub HasFewer : WavFault → Type 0
+HasFewer (wav.Truncated want have) = have < want
+HasFewer fault = ⊥
+
+-- the same, or the vault failed
+abbrev pub IsShort : SoundFault → Type 0
+IsShort NoFile = ⊥
+IsShort Vault = Unit {0}
+IsShort (BadWav fault) = HasFewer fault
+IsShort (TooLong count) = ⊥
+
+-- fewer bytes came, or some bytes say this fault
+abbrev pub IsOfSome : WavFault → Type 0
+IsOfSome fault = HasFewer fault ⊎ ((bytes : List ℕ) × (wav_of bytes ≡ Err fault))
+
+-- the reason is that of some sound, or of one that is cut short, unless the vault failed
+abbrev pub IsSomeReason : SoundFault → Type 0
+IsSomeReason NoFile = Unit {0}
+IsSomeReason Vault = Unit {0}
+IsSomeReason (BadWav fault) = IsOfSome fault
+IsSomeReason (TooLong count) = ⊥
 
 -- the fault is the one that the bytes say, unless the vault failed
 abbrev pub IsFault : {U : Type 0} → SoundFault → Result U WavFault → Type 0

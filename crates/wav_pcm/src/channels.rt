@@ -1,15 +1,19 @@
 // The samples of a channel of a WAV file of a vault, a piece at a time.
-ghost use Rattle.std.specs.Prelude.{◌≡◌, ◌≤◌, ◌<◌, ◌+◌, ◌-◌, ◌*◌, ◌^◌, length, min, IsTrue, IfOk, IfErr, OnOk};
+ghost use Rattle.std.specs.Prelude.{◌≡◌, ◌≤◌, ◌<◌, ◌+◌, ◌-◌, ◌*◌, ◌/◌, ◌^◌, length, min, IsTrue, IfOk, IfErr, OnOk};
+ghost use Rattle.pcm_base.specs.Wave.{channel_of};
 ghost use Rattle.edit_ports.specs.Sounds.{sound_bytes};
 ghost use Rattle.pcm_base.specs.declared.wav.WavFault.TheVariants as wav;
 ghost use Rattle.wav_pcm.specs.declared.fault.SoundFault.TheVariants as fault;
-ghost use Rattle.wav_pcm.specs.Parts.{SoundCounted, RefusalCounted, IsFor, IsVaultAlone};
+ghost use Rattle.wav_pcm.specs.Parts.{SoundCounted, RefusalCounted, IsFor, IsShort, IsVaultAlone};
 ghost use Rattle.wav_pcm.specs.Heads.{HasShape, IsHeadOf, IsChannelOf, IsCut, SaysChannel, bytes_of, place_of};
+ghost use Rattle.wav_pcm.specs.Heads.{FitSamples};
 
 use super::fault::SoundFault;
 use super::heads::WavHead;
 use super::interleaved::take_channel;
 use super::parts::read_some;
+use super::reading::take_mono;
+use super::stereo::take_one;
 use edit_ports::Vault;
 use pcm_base::{Refusal, WavFault};
 
@@ -32,6 +36,22 @@ fn place(head: &WavHead, from: u64) -> u64
     head.at + bytes_in(head, from)
 }
 
+/// The samples of channel `c` of `n`, from frames.
+fn take_samples(body: &[u8], n: usize, c: usize, out: &mut [i16])
+    requires few { n ≤ 8 }
+    requires within { c < n }
+    requires size { length out.old ≡ length body.now / (2 * n) }
+    ensures value { out.new ≡ channel_of n body.now c }
+    ensures fit { FitSamples out.new }
+{
+    // As in `read`, one channel and two are read by faster ways than any number.
+    match n {
+        1 => take_mono(body, out),
+        2 => take_one(body, c, out),
+        _ => take_channel(body, n, c, out),
+    }
+}
+
 /// Reads samples of a channel whose frames fit into `buf`, and answers how many of the bytes are there.
 fn read_piece<V: Vault>(
     vault: &mut V,
@@ -51,6 +71,7 @@ fn read_piece<V: Vault>(
     ensures count { IsTrue (V.tells vault.old) → IfOk result (λ have. have ≡ min (bytes_of head.now (length out.old))
         (length (sound_bytes (V.holds vault.old name.now)) - place_of head.now from)) }
     ensures within { IfOk result (λ have. have ≤ bytes_of head.now (length out.old)) }
+    ensures fit { IfOk result (λ have. have ≡ bytes_of head.now (length out.old) → FitSamples out.new) }
     ensures failed { IfErr result (λ why. why ≡ fault.Vault) }
     ensures same { V.holds vault.new ≡ V.holds vault.old }
     ensures tells { V.tells vault.new ≡ V.tells vault.old }
@@ -62,7 +83,7 @@ fn read_piece<V: Vault>(
         Ok(have) => {
             let have = have as u64;
             if have == size {
-                take_channel(piece, usize::from(head.channels), usize::from(c), out);
+                take_samples(piece, usize::from(head.channels), usize::from(c), out);
             }
             Ok(have)
         }
@@ -75,7 +96,8 @@ fn cut(head: &WavHead, all: u64, done: u64, have: u64) -> SoundFault
     requires shape { HasShape head.now }
     requires within { all ≤ head.now.frames }
     requires some { bytes_of head.now done + have < bytes_of head.now all }
-    ensures { result ≡ fault.BadWav (wav.Truncated (bytes_of head.now all) (bytes_of head.now done + have)) }
+    ensures value { result ≡ fault.BadWav (wav.Truncated (bytes_of head.now all) (bytes_of head.now done + have)) }
+    ensures short { IsShort result }
 {
     SoundFault::from(WavFault::Truncated {
         want: bytes_in(head, all),
@@ -93,8 +115,8 @@ fn frames_in(head: &WavHead, room: usize) -> usize
     room / (2 * usize::from(head.channels))
 }
 
-// As `channel`, with a reason of this crate, and before what the whole sound says.
-fn read_channel<V: Vault>(
+/// As [`channel`], with a reason of this crate.
+pub fn read_channel<V: Vault>(
     vault: &mut V,
     name: &str,
     head: &WavHead,
@@ -111,6 +133,8 @@ fn read_channel<V: Vault>(
         (sound_bytes (V.holds vault.old name.now)) c out.new) }
     ensures refused { IsTrue (V.tells vault.old) → IfErr result (IsCut head.now from (length out.old)
         (sound_bytes (V.holds vault.old name.now))) }
+    ensures fit { OnOk result (FitSamples out.new) }
+    ensures short { IfErr result IsShort }
     ensures same { V.holds vault.new ≡ V.holds vault.old }
     ensures tells { V.tells vault.new ≡ V.tells vault.old }
     ensures faults { SoundCounted result (V.fault_count vault.old) (V.fault_count vault.new) }
@@ -160,6 +184,8 @@ pub fn channel<V: Vault>(
         → OnOk result (SaysChannel (V.holds vault.old name.now) c from out.new) }
     ensures whole { IsTrue (V.tells vault.old) → IsHeadOf (V.holds vault.old name.now) head.now
         → IfErr result (IsFor IsVaultAlone) }
+    // Whatever the vault tells: fewer bytes came than were asked for.
+    ensures short { IfErr result (IsFor IsShort) }
     ensures same { V.holds vault.new ≡ V.holds vault.old }
     ensures tells { V.tells vault.new ≡ V.tells vault.old }
     ensures faults { RefusalCounted result (V.fault_count vault.old) (V.fault_count vault.new) }

@@ -5,7 +5,7 @@ ghost use Rattle.std.specs.Str.{bytes_eq};
 ghost use Rattle.pcm_base.specs.Wave.{format_of, seen_after, data_of, chunks_from, wav_of, padded};
 ghost use Rattle.edit_ports.specs.Sounds.{sound_bytes};
 ghost use Rattle.wav_pcm.specs.Wavs.{seen_in, format_in};
-ghost use Rattle.wav_pcm.specs.Parts.{IsFound, SoundCounted, RefusalCounted, IsFor};
+ghost use Rattle.wav_pcm.specs.Parts.{IsFound, SoundCounted, RefusalCounted, IsFor, IsOfSome, IsSomeReason};
 ghost use Rattle.wav_pcm.specs.Heads.{HasShape, IsHeadFound, IsDataFound, IsSized, IsHeadOf, IsRefusedFor};
 ghost use Rattle.pcm_base.specs.declared.wav.WavFault.TheVariants as wav;
 
@@ -44,6 +44,7 @@ fn format_at<V: Vault>(
     requires left { IsTrue (V.tells vault.old) → length (sound_bytes (V.holds vault.old name.now)) ≡ at + left }
     ensures says { IsTrue (V.tells vault.old)
         → IsFound format_in result (format_of (take size (drop at (sound_bytes (V.holds vault.old name.now))))) }
+    ensures reason { IfErr result IsSomeReason }
     ensures same { V.holds vault.new ≡ V.holds vault.old }
     ensures tells { V.tells vault.new ≡ V.tells vault.old }
     ensures faults { SoundCounted result (V.fault_count vault.old) (V.fault_count vault.new) }
@@ -74,6 +75,7 @@ fn see_at<V: Vault>(
     ensures says { IsTrue (V.tells vault.old)
         → (name_bytes : List ℕ) → chunk.is_format ≡ bytes_eq name_bytes (codes "fmt ") → IsFound seen_in result
         (seen_after (seen_in seen) name_bytes chunk.size (drop at (sound_bytes (V.holds vault.old name.now)))) }
+    ensures reason { IfErr result IsSomeReason }
     ensures same { V.holds vault.new ≡ V.holds vault.old }
     ensures tells { V.tells vault.new ≡ V.tells vault.old }
     ensures faults { SoundCounted result (V.fault_count vault.old) (V.fault_count vault.new) }
@@ -110,7 +112,9 @@ fn head_at(seen: Option<Format>, size: u32, at: u64, left: u64) -> Result<WavHea
     requires { at + left < 2 ^ 64 }
     ensures says { (rest : List ℕ) → length rest ≡ left
         → IsDataFound at rest result (data_of (seen_in seen) size rest) }
+    ensures reason { IfErr result IsOfSome }
     ensures shape { IfOk result HasShape }
+    ensures rate { IfOk result (λ head. 0 < head.rate) }
 {
     let Some(format) = seen else {
         return Err(WavFault::NoFmt);
@@ -147,7 +151,9 @@ fn find_head<V: Vault>(
     requires size { IsTrue (V.tells vault.old) → length (sound_bytes (V.holds vault.old name.now)) ≡ size }
     ensures says { IsTrue (V.tells vault.old) → IsHeadFound (sound_bytes (V.holds vault.old name.now)) result
         (chunks_from None 0 (drop 12 (sound_bytes (V.holds vault.old name.now)))) }
+    ensures reason { IfErr result IsSomeReason }
     ensures shape { IfOk result HasShape }
+    ensures rate { IfOk result (λ head. 0 < head.rate) }
     ensures same { V.holds vault.new ≡ V.holds vault.old }
     ensures tells { V.tells vault.new ≡ V.tells vault.old }
     ensures faults { SoundCounted result (V.fault_count vault.old) (V.fault_count vault.new) }
@@ -187,7 +193,9 @@ fn head_of<V: Vault>(
     requires size { IsTrue (V.tells vault.old) → length (sound_bytes (V.holds vault.old name.now)) ≡ size }
     ensures says { IsTrue (V.tells vault.old) → IsHeadFound (sound_bytes (V.holds vault.old name.now)) result
         (wav_of (sound_bytes (V.holds vault.old name.now))) }
+    ensures reason { IfErr result IsSomeReason }
     ensures shape { IfOk result HasShape }
+    ensures rate { IfOk result (λ head. 0 < head.rate) }
     ensures same { V.holds vault.new ≡ V.holds vault.old }
     ensures tells { V.tells vault.new ≡ V.tells vault.old }
     ensures faults { SoundCounted result (V.fault_count vault.old) (V.fault_count vault.new) }
@@ -199,12 +207,19 @@ fn head_of<V: Vault>(
     }
 }
 
-// As `head`, with a reason of this crate.
-fn sound_head<V: Vault>(vault: &mut V, name: &str, buf: &mut [u8]) -> Result<WavHead, SoundFault>
+/// As [`head`], with a reason of this crate.
+pub fn sound_head<V: Vault>(
+    vault: &mut V,
+    name: &str,
+    buf: &mut [u8],
+) -> Result<WavHead, SoundFault>
     requires { 64 ≤ length buf.old }
     ensures found { IsTrue (V.tells vault.old) → IfOk result (IsHeadOf (V.holds vault.old name.now)) }
     ensures refused { IsTrue (V.tells vault.old) → IfErr result (IsRefusedFor (V.holds vault.old name.now)) }
+    // Whatever the vault tells.
+    ensures reason { IfErr result IsSomeReason }
     ensures shape { IfOk result HasShape }
+    ensures rate { IfOk result (λ head. 0 < head.rate) }
     ensures same { V.holds vault.new ≡ V.holds vault.old }
     ensures tells { V.tells vault.new ≡ V.tells vault.old }
     ensures faults { SoundCounted result (V.fault_count vault.old) (V.fault_count vault.new) }
@@ -225,7 +240,10 @@ pub fn head<V: Vault>(vault: &mut V, name: &str, buf: &mut [u8]) -> Result<WavHe
     ensures found { IsTrue (V.tells vault.old) → IfOk result (IsHeadOf (V.holds vault.old name.now)) }
     // NoFile comes for an absent sound, and BadWav with what the bytes say.
     ensures refused { IsTrue (V.tells vault.old) → IfErr result (IsFor (IsRefusedFor (V.holds vault.old name.now))) }
+    // Whatever the vault tells, the reason is that of some sound, or of one that is cut short.
+    ensures reason { IfErr result (IsFor IsSomeReason) }
     ensures shape { IfOk result HasShape }
+    ensures rate { IfOk result (λ head. 0 < head.rate) }
     ensures same { V.holds vault.new ≡ V.holds vault.old }
     ensures tells { V.tells vault.new ≡ V.tells vault.old }
     ensures faults { RefusalCounted result (V.fault_count vault.old) (V.fault_count vault.new) }

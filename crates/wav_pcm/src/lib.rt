@@ -23,9 +23,9 @@ mod wav;
 mod writing;
 
 pub use bad::{BadFrames, BadWav};
-pub use channels::channel;
+pub use channels::{channel, read_channel};
 pub use fault::SoundFault;
-pub use heads::{WavHead, head};
+pub use heads::{WavHead, head, sound_head};
 pub use pieces::{append_frames, append_piece, start_wav, write_start};
 pub use reading::read;
 pub use wav::{Channels, Wav};

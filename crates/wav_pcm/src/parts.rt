@@ -3,7 +3,7 @@ ghost use Rattle.std.specs.Prelude.{◌≡◌, ◌≤◌, ◌+◌, ◌-◌, leng
 ghost use Rattle.pcm_base.specs.Wave.{is_riff as says_riff};
 ghost use Rattle.edit_ports.specs.Sounds.{sound_bytes};
 ghost use Rattle.wav_pcm.specs.declared.fault.SoundFault.TheVariants as fault;
-ghost use Rattle.wav_pcm.specs.Parts.{part, SoundCounted, IsChunk, IsVaultAlone};
+ghost use Rattle.wav_pcm.specs.Parts.{part, SoundCounted, IsChunk, IsShort, IsVaultAlone};
 
 use super::bytes::u32_at;
 use super::chunks::is_riff;
@@ -55,6 +55,7 @@ pub(crate) fn read_part<V: Vault>(
     ensures read { IsTrue (V.tells vault.old)
         → OnOk result (buf.new ≡ part at (length buf.old) (sound_bytes (V.holds vault.old name.now))) }
     ensures refused { IsTrue (V.tells vault.old) → IfErr result IsVaultAlone }
+    ensures short { IfErr result IsShort }
     ensures same { V.holds vault.new ≡ V.holds vault.old }
     ensures tells { V.tells vault.new ≡ V.tells vault.old }
     ensures faults { SoundCounted result (V.fault_count vault.old) (V.fault_count vault.new) }
@@ -85,6 +86,7 @@ pub(crate) fn riff_at<V: Vault>(
         → IfOk result (λ is. is ≡ says_riff (sound_bytes (V.holds vault.old name.now))) }
     ensures long { IfOk result (λ is. IsTrue is → 12 ≤ size) }
     ensures refused { IsTrue (V.tells vault.old) → IfErr result IsVaultAlone }
+    ensures short { IfErr result IsShort }
     ensures same { V.holds vault.new ≡ V.holds vault.old }
     ensures tells { V.tells vault.new ≡ V.tells vault.old }
     ensures faults { SoundCounted result (V.fault_count vault.old) (V.fault_count vault.new) }
@@ -110,6 +112,7 @@ pub(crate) fn chunk_at<V: Vault>(
     ensures says { IsTrue (V.tells vault.old)
         → IfOk result (λ chunk. IsChunk chunk (drop at (sound_bytes (V.holds vault.old name.now)))) }
     ensures refused { IsTrue (V.tells vault.old) → IfErr result IsVaultAlone }
+    ensures short { IfErr result IsShort }
     ensures same { V.holds vault.new ≡ V.holds vault.old }
     ensures tells { V.tells vault.new ≡ V.tells vault.old }
     ensures faults { SoundCounted result (V.fault_count vault.old) (V.fault_count vault.new) }

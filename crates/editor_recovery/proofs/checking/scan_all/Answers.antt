@@ -1,5 +1,5 @@
 -- One block after another.
-use Rattle.std.proofs.Common.{List, take, sym, subst, arith}
+use Rattle.std.proofs.Common.{List, take, subst, arith}
 use Rattle.std.proofs.lemmas.List.{take_all}
 use Rattle.pcm_base.specs.declared.block.BlockRef.{BlockRef}
 use Rattle.editor_core.specs.Core.{core_of}

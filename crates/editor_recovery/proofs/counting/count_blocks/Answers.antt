@@ -1,14 +1,13 @@
 -- The blocks of one point more are held.
-use Rattle.std.proofs.Common.{ℕ, ◌≤◌, ◌+◌, ◌≡◌, ◌++◌, List, [], length, length-append, drop, sym, ap, subst, ◌∙◌, arith}
+use Rattle.std.proofs.Common.{◌≤◌, ◌+◌, ◌≡◌, ◌++◌, List, [], length, length-append, drop, sym, ap, subst, ◌∙◌, arith}
 use Rattle.std.specs.Prelude.{IsSome, Contains}
 use Rattle.std.specs.List.{All}
 use Rattle.std.proofs.lemmas.List.{drop_all}
 use Rattle.std.proofs.lemmas.List.Elements.{All-weaker}
 use Rattle.pcm_base.specs.declared.block.BlockRef.{BlockRef}
 use Rattle.block_ledger.specs.Entries.{count_of}
-use Rattle.project_state.specs.declared.track.Track.{Track}
 use Rattle.project_state.specs.Kept.{point_blocks}
-use Rattle.editor_recovery.specs.Ledgers.{held, occurrences}
+use Rattle.editor_recovery.specs.Ledgers.{occurrences}
 use Rattle.editor_recovery.proofs.Ledgers.{Holding, holding_some, holding_all, counted}
 use Rattle.editor_recovery.proofs.Points.{all_blocks, blocks_left, all_at, all_flat, both_all, is_held, noted_there}
 use Rattle.editor_recovery.proofs.counting.count_blocks.Goals as goal

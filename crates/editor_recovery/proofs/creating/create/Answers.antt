@@ -1,9 +1,8 @@
 -- Calls that write nothing, and then the journal is made.
-use Rattle.std.proofs.Common.{List, Option, ap, refl, sym, subst, ◌∙◌, arith}
+use Rattle.std.proofs.Common.{ap, refl, ◌∙◌, arith}
 use Rattle.disk_model.specs.Disk.{Files}
 use Rattle.disk_model.specs.Room.{files_made}
 use Rattle.disk_model.proofs.Frames.{changed_kept, changed_turn}
-use Rattle.project_journal.specs.Rooms.{create_room}
 use Rattle.editor_recovery.proofs.Alone.{none_after}
 use Rattle.editor_recovery.proofs.Counted.{causes_turn}
 use Rattle.editor_recovery.proofs.Created.{any_moment_both, any_or_none, still_honest, made_honest, made_done, left_turn}

@@ -1,17 +1,14 @@
 -- A studio of what was found, and what an honest disk has of it.
-use Rattle.std.proofs.Common.{◌≡◌, ◌≤◌, Result, Ok, Err, sym, ap, subst, ◌∙◌}
-use Rattle.disk_model.specs.Disk.{Files, StaysStep}
+use Rattle.std.proofs.Common.{◌≤◌, Ok, Err, sym, ap, subst, ◌∙◌}
+use Rattle.disk_model.specs.Disk.{StaysStep}
 use Rattle.disk_model.specs.Frames.{Changed}
 use Rattle.project_journal.specs.Gate.{EachNow, IsDurable}
 use Rattle.project_journal.specs.Header.{Form, IsForm}
 use Rattle.project_journal.specs.Journal.{Log, HasLog, IsAt}
 use Rattle.project_journal.proofs.Kept.{each_has}
 use Rattle.project_state.specs.Kept.{Keeps, history_blocks}
-use Rattle.editor_core.specs.Core.{Core}
-use Rattle.editor_core.specs.Parts.{HasParts}
 use Rattle.editor_core.specs.Scans.{HaveOneLength}
 use Rattle.editor_core.specs.Studios.{shown, studio_of}
-use Rattle.editor_recovery.specs.declared.fault.OpenFault.{OpenFault}
 use Rattle.editor_recovery.specs.Causes.{Causes}
 use Rattle.editor_recovery.specs.Found.{IsNew, found_in}
 use Rattle.editor_recovery.specs.Honest.{FindsKept, IsHonest, OpensHonest}

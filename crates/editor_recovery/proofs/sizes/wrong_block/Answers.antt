@@ -1,5 +1,5 @@
 -- One point more is searched.
-use Rattle.std.proofs.Common.{◌+◌, ◌++◌, List, drop, sym, ap, subst, ◌∙◌}
+use Rattle.std.proofs.Common.{◌+◌, List, drop, sym, ap, subst, ◌∙◌}
 use Rattle.std.specs.List.{All}
 use Rattle.pcm_base.specs.declared.block.BlockRef.{BlockRef}
 use Rattle.project_state.specs.Kept.{point_blocks}

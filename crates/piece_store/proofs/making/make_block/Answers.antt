@@ -1,14 +1,16 @@
 -- A write and then a sync.
-use Rattle.std.proofs.Common.{◌∙◌, ap, arith}
+use Rattle.std.proofs.Common.{sym, subst, arith}
 use Rattle.disk_model.specs.Disk.{Files}
 use Rattle.disk_model.proofs.Frames.{changed_then_stays, changed_wider}
 use Rattle.sample_block.specs.Blocks.{blocks}
+use Rattle.piece_store.specs.Making.{IsFilled}
 use Rattle.piece_store.proofs.making.make_block.Goals as goal
 
 pub returns-clause-stored : goal.returns-clause-stored
 returns-clause-stored g c = λ told there absent.
-    ap (λ (f : Files). blocks f c.args.block.now.id) c.sync_block.ensures.reads
-    ∙ c.in_ok-write_new_block.ensures.stored told there absent
+    let B : Files → Type 0 = λ f. IsFilled (g.G.Brings.brings c.args.given.now) (g.S.Store.reads c.args.store.now)
+    c.args.block.now.pieces (blocks f c.args.block.now.id) in
+    subst B (sym c.sync_block.ensures.reads) (c.in_ok-write_new_block.ensures.stored told there absent)
 
 pub returns-clause-changed : goal.returns-clause-changed
 returns-clause-changed g c =

@@ -15,37 +15,10 @@ use Rattle.block_cache.proofs.CacheLaws.{keeps_same, same_none}
 use Rattle.mix_view.specs.Tracks.{mix_length_of}
 use Rattle.mix_view.proofs.TrackLaws.{stored_whole}
 use Rattle.wav_pcm.proofs.GrowLaws.{begun_more, begun_front}
-use Rattle.sound_export.proofs.GrowLaws.{length_mix, whole_text, device_fits, no_damage}
+use Rattle.sound_export.proofs.GrowLaws.{length_mix, whole_text, device_fits, no_damage, start_long}
+use Rattle.sound_export.proofs.GrowLaws.{start_counted, start_sound}
+use Rattle.sound_export.specs.Written.{IsLengthFault}
 use Rattle.sound_export.proofs.export.write_mix.Goals as goal
-
-pub returns-then-len-clause-kept : goal.returns-then-len-clause-kept
-returns-then-len-clause-kept g c = kept_none _ (g.met.S.Store.may_fewer _)
-
-pub returns-then-len-clause-whole : goal.returns-then-len-clause-whole
-returns-then-len-clause-whole g c = λ whole. stored_whole (g.S.Store.reads c.args.store.now) c.args.point.now whole
-
-pub returns-in_err-write_start-clause-kept : goal.returns-in_err-write_start-clause-kept
-returns-in_err-write_start-clause-kept g c = kept_none _ (g.met.S.Store.may_fewer _)
-
-pub returns-in_err-write_start-clause-whole : goal.returns-in_err-write_start-clause-whole
-returns-in_err-write_start-clause-whole g c =
-    λ whole. stored_whole (g.S.Store.reads c.args.store.now) c.args.point.now whole
-
-pub returns-in_err-write_start-clause-failed : goal.returns-in_err-write_start-clause-failed
-returns-in_err-write_start-clause-failed g c = λ told mine.
-    let src = stored_of (g.S.Store.reads c.args.store.now) in
-    let mix : List Frame = mix_of (meant src c.args.point.now) in
-    let name = c.args.name.now in
-    let old = g.V.Vault.holds c.args.vault.now name in
-    let new = g.V.Vault.holds c.write_start.new.vault name in
-    let len : c.mix_len-len.result ≡ length mix =
-    sym (length_mix (meant src c.args.point.now) ∙ c.mix_len-len.ensures.frames src) in
-    let M : List ℕ → Type 0 = λ text. MayBegin text old new in
-    let p = err_from_is_err_and c.from_residual.result c.from_residual.ensures.1 in
-    rw p.1
-    (subst M (whole_text mix c.args.rate c.mix_len-len.result len)
-    (begun_front old new (wav_head c.mix_len-len.result c.args.rate) (frame_bytes mix)
-    (c.in_err-write_start.ensures.failed told)))
 
 pub returns-in_err-append_mix-clause-whole : goal.returns-in_err-append_mix-clause-whole
 returns-in_err-append_mix-clause-whole g c =
@@ -57,29 +30,29 @@ returns-in_err-append_mix-clause-failed g c = λ told mine.
     let mix : List Frame = mix_of (meant src c.args.point.now) in
     let name = c.args.name.now in
     let old = g.V.Vault.holds c.args.vault.now name in
-    let mid = g.V.Vault.holds c.write_start.new.vault name in
+    let mid = g.V.Vault.holds c.start_wav.new.vault name in
     let new = g.V.Vault.holds c.append_mix.new.vault name in
     let len : c.mix_len-len.result ≡ length mix =
     sym (length_mix (meant src c.args.point.now) ∙ c.mix_len-len.ensures.frames src) in
-    let still : IsTrue (g.V.Vault.tells c.write_start.new.vault) =
-    subst (λ (b : Bool). IsTrue b) (sym c.write_start.ensures.tells) told in
+    let still : IsTrue (g.V.Vault.tells c.start_wav.new.vault) =
+    subst (λ (b : Bool). IsTrue b) (sym c.start_wav.ensures.tells) told in
     let M : List ℕ → Type 0 = λ text. MayBegin text old new in
-    let p = err_from_is_err_and c.from_residual-in_err-append_mix.result c.from_residual-in_err-append_mix.ensures.1 in
+    let p = err_from_is_err_and c.from_residual.result c.from_residual.ensures.1 in
     rw p.1
     (subst M (whole_text mix c.args.rate c.mix_len-len.result len)
     (begun_more old mid new (wav_head c.mix_len-len.result c.args.rate) (frame_bytes mix)
-    (c.in_ok-write_start.ensures.started told) (c.in_err-append_mix.ensures.failed still mine)))
+    (c.in_default.ensures.started told) (c.in_err-append_mix.ensures.failed still mine)))
 
 pub returns-in_err-append_mix-clause-long : goal.returns-in_err-append_mix-clause-long
 returns-in_err-append_mix-clause-long g c =
-    let p = err_from_is_err_and c.from_residual-in_err-append_mix.result c.from_residual-in_err-append_mix.ensures.1 in
+    let p = err_from_is_err_and c.from_residual.result c.from_residual.ensures.1 in
     rw (p.1, p.2)
     (device_fits (mix_length_of c.args.point.now) _
-    (omega (arith, c.mix_len-len.ensures.value)) c.in_err-append_mix.ensures.device)
+    (omega (arith, c.mix_len-len.ensures.value, c.in_default.ensures.fits)) c.in_err-append_mix.ensures.device)
 
 pub returns-in_err-append_mix-clause-sound : goal.returns-in_err-append_mix-clause-sound
 returns-in_err-append_mix-clause-sound g c = λ mine whole.
-    let p = err_from_is_err_and c.from_residual-in_err-append_mix.result c.from_residual-in_err-append_mix.ensures.1 in
+    let p = err_from_is_err_and c.from_residual.result c.from_residual.ensures.1 in
     rw (p.1, p.2)
     (no_damage (g.S.Store.reads c.args.store.now) (point_blocks c.args.point.now) _ whole
     (c.in_err-append_mix.ensures.damaged mine))
@@ -93,14 +66,45 @@ returns-clause-written g c = λ told mine.
     let mix : List Frame = mix_of (meant src c.args.point.now) in
     let len : c.mix_len-len.result ≡ length mix =
     sym (length_mix (meant src c.args.point.now) ∙ c.mix_len-len.ensures.frames src) in
-    let still : IsTrue (g.V.Vault.tells c.write_start.new.vault) =
-    subst (λ (b : Bool). IsTrue b) (sym c.write_start.ensures.tells) told in
+    let still : IsTrue (g.V.Vault.tells c.start_wav.new.vault) =
+    subst (λ (b : Bool). IsTrue b) (sym c.start_wav.ensures.tells) told in
     c.in_ok-append_mix.ensures.appended still mine
-    ∙ ap (λ o. Some (sound_bytes o ++ frame_bytes mix)) (c.in_ok-write_start.ensures.started told)
+    ∙ ap (λ o. Some (sound_bytes o ++ frame_bytes mix)) (c.in_default.ensures.started told)
     ∙ ap Some (whole_text mix c.args.rate c.mix_len-len.result len)
 
-pub returns-then-len-clause-cache : goal.returns-then-len-clause-cache
-returns-then-len-clause-cache g c = keeps_same _ _ _ _ _ (same_none _)
+pub returns-in-Err-clause-kept : goal.returns-in-Err-clause-kept
+returns-in-Err-clause-kept g c = kept_none _ (g.met.S.Store.may_fewer _)
 
-pub returns-in_err-write_start-clause-cache : goal.returns-in_err-write_start-clause-cache
-returns-in_err-write_start-clause-cache g c = keeps_same _ _ _ _ _ (same_none _)
+pub returns-in-Err-clause-whole : goal.returns-in-Err-clause-whole
+returns-in-Err-clause-whole g c = λ whole. stored_whole (g.S.Store.reads c.args.store.now) c.args.point.now whole
+
+pub returns-in-Err-clause-failed : goal.returns-in-Err-clause-failed
+returns-in-Err-clause-failed g c = λ told mine.
+    let src = stored_of (g.S.Store.reads c.args.store.now) in
+    let mix : List Frame = mix_of (meant src c.args.point.now) in
+    let name = c.args.name.now in
+    let old = g.V.Vault.holds c.args.vault.now name in
+    let new = g.V.Vault.holds c.start_wav.new.vault name in
+    let len : c.mix_len-len.result ≡ length mix =
+    sym (length_mix (meant src c.args.point.now) ∙ c.mix_len-len.ensures.frames src) in
+    let M : List ℕ → Type 0 = λ text. MayBegin text old new in
+    subst M (whole_text mix c.args.rate c.mix_len-len.result len)
+    (begun_front old new (wav_head c.mix_len-len.result c.args.rate) (frame_bytes mix) (c.in-Err.ensures.failed told))
+
+pub returns-in-Err-clause-long : goal.returns-in-Err-clause-long
+returns-in-Err-clause-long g c =
+    let L : ℕ → Type 0 = λ n. IsLengthFault n c.start_fault.result in
+    subst L c.mix_len-len.ensures.value
+    (start_long c.mix_len-len.result c.in-Err.why c.start_fault.result c.in-Err.ensures.refused c.start_fault.ensures)
+
+pub returns-in-Err-clause-cache : goal.returns-in-Err-clause-cache
+returns-in-Err-clause-cache g c = keeps_same _ _ _ _ _ (same_none _)
+
+pub returns-in-Err-clause-faults : goal.returns-in-Err-clause-faults
+returns-in-Err-clause-faults g c =
+    start_counted (g.S.Store.read_fault_count c.args.store.now) (g.V.Vault.fault_count c.args.vault.now)
+    (g.V.Vault.fault_count c.start_wav.new.vault) c.mix_len-len.result c.in-Err.why c.start_fault.result
+    c.in-Err.ensures.refused c.in-Err.ensures.faults c.start_fault.ensures
+
+pub returns-in-Err-clause-sound : goal.returns-in-Err-clause-sound
+returns-in-Err-clause-sound g c = λ mine whole. start_sound c.in-Err.why c.start_fault.result c.start_fault.ensures

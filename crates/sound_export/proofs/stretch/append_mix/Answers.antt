@@ -16,7 +16,7 @@ use Rattle.block_cache.proofs.CacheLaws.{cached_on, keeps_before, keeps_same, ke
 use Rattle.mix_view.specs.Tracks.{mix_length_of, stored_mix}
 use Rattle.pcm_base.specs.Recordings.{frame_bytes}
 use Rattle.wav_pcm.proofs.GrowLaws.{held_more, held_failed}
-use Rattle.sound_export.proofs.GrowLaws.{length_mix}
+use Rattle.sound_export.proofs.GrowLaws.{is_there, length_mix}
 use Rattle.sound_export.proofs.stretch.append_mix.Goals as goal
 
 pub stretches-init : goal.stretches-init
@@ -72,7 +72,8 @@ stretches-preserved g c =
           → List Track → Type 0 = λ f us. g.V.Vault.holds c.append_stretch.new.vault name ≡ Some (sound_bytes
           (g.V.Vault.holds c.stretches.vault name) ++ frame_bytes (take n (drop at (stored_mix f us)))) in
           let got = subst (λ (f : Files). P f c.stretches.reader.point.now) inv.kept.same_reads
-          (c.in_default.ensures.appended (subst T (sym inv.tells) told) (subst T (sym inv.kept.same_tells) mine)) in
+          (c.in_default.ensures.appended (subst T (sym inv.tells) told) (subst T (sym inv.kept.same_tells) mine)
+          (is_there (g.V.Vault.holds c.stretches.vault name) _ (inv.held told mine))) in
           let Q : ℕ → Type 0 = λ k. g.V.Vault.holds c.append_stretch.new.vault name ≡ Some
           (sound_bytes (g.V.Vault.holds c.args.vault.now name) ++ frame_bytes (take k (stored_mix files ts))) in
           subst Q (sym c.in_default.ensures.place)
@@ -93,7 +94,8 @@ returns-in-Err-clause-failed g c = λ told mine.
     → List Track → Type 0 = λ f us. (n : ℕ) × MayHaveGrown (frame_bytes (take n (drop at (stored_mix f us))))
     (g.V.Vault.holds c.stretches.vault name) (g.V.Vault.holds c.append_stretch.new.vault name) in
     let got = subst (λ (f : Files). P f c.stretches.reader.point.now) inv.kept.same_reads
-    (c.in-Err.ensures.failed (subst T (sym inv.tells) told) (subst T (sym inv.kept.same_tells) mine)) in
+    (c.in-Err.ensures.failed (subst T (sym inv.tells) told) (subst T (sym inv.kept.same_tells) mine)
+    (is_there (g.V.Vault.holds c.stretches.vault name) _ (inv.held told mine))) in
     let grown = subst (P files) inv.point got in
     held_failed (g.V.Vault.holds c.args.vault.now name) (g.V.Vault.holds c.stretches.vault name)
     (g.V.Vault.holds c.append_stretch.new.vault name) at grown.0 (stored_mix files ts) (inv.held told mine) grown.1

@@ -1,12 +1,8 @@
 -- One chunk more, and the end.
-use Rattle.std.proofs.Common.{◌≡◌, ⊎_elim, ℕ, ◌+◌, ◌-◌, ◌*◌, ◌<◌, ◌≤◌, ℤ, List, ◌++◌, length, take, get_or, sym, ap}
-use Rattle.std.proofs.Common.{◌∙◌, arith, rules}
-use Rattle.std.proofs.lemmas.Grind.{common_steps}
+use Rattle.std.proofs.Common.{◌≡◌, ℕ, ◌+◌, ◌-◌, ◌*◌, ◌<◌, ◌≤◌, ℤ, List, length, take, ap}
+use Rattle.std.proofs.Common.{◌∙◌, arith}
 use Rattle.std.proofs.lemmas.List.{length-take-le}
-use Rattle.std.proofs.lemmas.Slice.{take-put_mid}
 use Rattle.pcm_base.specs.Parts.{Part}
-use Rattle.pcm_base.specs.Recordings.{parts_of, pieces_in}
-use Rattle.edit_ports.specs.Answers.{samples_of}
 use Rattle.studio_seats.proofs.Batches.{joined_end, joined_length, joined_put, one_more, put_length}
 use Rattle.studio_seats.proofs.batch.join_chunks.Goals as goal
 

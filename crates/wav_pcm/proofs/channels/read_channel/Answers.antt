@@ -1,11 +1,13 @@
 -- One piece more is read, or it is not whole.
 use Rattle.std.proofs.Common.{◌≡◌, ◌<◌, ◌+◌, ◌-◌, ℕ, Bool, List, take, drop, length, min, arith, ap, sym, ◌∙◌, subst}
-use Rattle.std.specs.Prelude.{IsTrue, ℤ}
+use Rattle.std.specs.Prelude.{IsTrue, ℤ, FitsSigned}
+use Rattle.std.specs.Int.{w16}
 use Rattle.std.proofs.lemmas.List.{length-drop, length-take}
+use Rattle.std.proofs.lemmas.List.Elements.{All-append}
 use Rattle.std.proofs.lemmas.Slice.{take-put_mid}
 use Rattle.pcm_base.specs.Outside.{Sounds}
 use Rattle.edit_ports.specs.Sounds.{sound_bytes}
-use Rattle.wav_pcm.specs.Heads.{IsChannelOf, bytes_of, place_of}
+use Rattle.wav_pcm.specs.Heads.{FitSamples, IsChannelOf, bytes_of, place_of}
 use Rattle.wav_pcm.proofs.ChannelLaws.{bytes_le, cut_found, channel_joined}
 use Rattle.wav_pcm.proofs.channels.read_channel.Goals as goal
 
@@ -42,7 +44,7 @@ returns-then-have-bytes_in-clause-refused g c = λ told.
     let less : c.in-Ok.have < bytes_of head count = omega (arith, c.if-have-bytes_in.true, c.bytes_in.ensures.value) in
     cut_found head c.args.from done count (length c.args.out.now) c.in-Ok.have bytes (take done out) c.args.c
     c.cut.result
-    (omega (arith, c.min-count.ensures, inv.within)) front (inv.read told) (few ∙ same) less c.cut.ensures
+    (omega (arith, c.min-count.ensures, inv.within)) front (inv.read told) (few ∙ same) less c.cut.ensures.value
 
 pub pieces-preserved : goal.pieces-preserved
 pieces-preserved g c =
@@ -78,6 +80,8 @@ pieces-preserved g c =
           (channel_joined head c.args.from c.args.c done count bytes (take done out) c.read_piece.new.out
           c.requires.channel front new (inv.read told)
           (subst R inv.same (c.in-Ok.ensures.read (subst T (sym inv.tells) told)) whole));
+      fit = subst FitSamples (sym put)
+          (All-append (λ s. FitsSigned w16 s) (take done out) c.read_piece.new.out inv.fit (c.in-Ok.ensures.fit whole));
       same = c.in-Ok.ensures.same ∙ inv.same;
       tells = c.in-Ok.ensures.tells ∙ inv.tells;
       faults = c.in-Ok.ensures.faults ∙ inv.faults;

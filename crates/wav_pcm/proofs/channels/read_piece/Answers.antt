@@ -9,7 +9,7 @@ counted n m count size some same is =
     sym (ap (λ (k : ℕ). size / (2 * k)) same ∙ ap (λ (k : ℕ). k / (2 * n)) is
     ∙ mul-div_cancel_left count (omega (arith, some)))
 
-pub take_channel-requires-clause-size : goal.take_channel-requires-clause-size
-take_channel-requires-clause-size g c =
+pub take_samples-requires-clause-size : goal.take_samples-requires-clause-size
+take_samples-requires-clause-size g c =
     counted c.args.head.now.channels c.from.result (length c.args.out.now) (length c.read_some.new.buf)
     c.requires.shape.some c.from.ensures (grind (arith, common_steps))

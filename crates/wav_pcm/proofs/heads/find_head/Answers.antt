@@ -8,6 +8,7 @@ use Rattle.edit_ports.specs.Sounds.{sound_bytes}
 use Rattle.wav_pcm.specs.Parts.{IsChunk, IsFault}
 use Rattle.wav_pcm.specs.Wavs.{seen_in}
 use Rattle.wav_pcm.proofs.WalkLaws.{data_finds, data_refuses, walks_on, chunk_refuses, end_refuses}
+use Rattle.wav_pcm.proofs.ReasonLaws.{end_of_some, named}
 use Rattle.wav_pcm.proofs.heads.find_head.Goals as goal
 
 pub returns-in-Ok-head_at-clause-says : goal.returns-in-Ok-head_at-clause-says
@@ -94,3 +95,7 @@ returns-clause-says g c = λ told.
     end_refuses (seen_in c.chunks.seen) (sound_bytes (g.V.Vault.holds c.args.vault.now c.args.name.now)) c.args.size
     c.chunks.left _ c.from-2.result c.end.result (c.requires.size told) (omega (arith, inv.within)) c.chunks-test.false
     (inv.says told) c.from-2.ensures c.end.ensures
+
+pub returns-clause-reason : goal.returns-clause-reason
+returns-clause-reason g c =
+    named c.from-2.result c.end.result c.from-2.ensures (end_of_some (seen_in c.chunks.seen) c.end.result c.end.ensures)

@@ -7,6 +7,7 @@ use Rattle.wav_pcm.specs.declared.fault.SoundFault.{SoundFault}
 use Rattle.wav_pcm.specs.declared.fault.SoundFault.TheVariants.{BadWav}
 use Rattle.wav_pcm.specs.Parts.{IsFault}
 use Rattle.wav_pcm.proofs.HeadLaws.{format_part}
+use Rattle.wav_pcm.proofs.ReasonLaws.{format_refuses, named}
 use Rattle.wav_pcm.proofs.heads.format_at.Goals as goal
 
 -- what was read says what the body says
@@ -37,3 +38,8 @@ returns-in-Err-read_format-clause-says g c = λ told.
     fault_found _ _ _ c.from-in-Err-read_format.ensures
     (sym (read_says c.args.at c.args.left c.args.size _ c.min-count.result c.read_part.new.buf _ (c.requires.left told)
     size (omega (arith, room, size, c.requires.room)) (c.in_default.ensures.read told)) ∙ c.in-Err-read_format.ensures)
+
+pub returns-in-Err-read_format-clause-reason : goal.returns-in-Err-read_format-clause-reason
+returns-in-Err-read_format-clause-reason g c =
+    named c.from-in-Err-read_format.result c.in-Err-read_format.fault c.from-in-Err-read_format.ensures
+    (format_refuses c.read_part.new.buf c.in-Err-read_format.fault c.in-Err-read_format.ensures)

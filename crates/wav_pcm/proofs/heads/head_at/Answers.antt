@@ -9,6 +9,7 @@ use Rattle.pcm_base.specs.Wave.{Format, sound_of, data_of}
 use Rattle.wav_pcm.specs.Wavs.{seen_in}
 use Rattle.wav_pcm.specs.Heads.{IsSized}
 use Rattle.wav_pcm.proofs.HeadLaws.{data_found_all, data_found_sized, frames_inside}
+use Rattle.wav_pcm.proofs.ReasonLaws.{no_format}
 use Rattle.wav_pcm.proofs.heads.head_at.Goals as goal
 
 head_says : (f : Format) (m at count size left : ℕ) (seen : Option Format) (rest : List ℕ) → m ≡ f.channels
@@ -35,3 +36,6 @@ returns-in-Ok-clause-says c = λ rest long. head_says _ c.from.result c.args.at 
 pub returns-in-Err-clause-says : goal.returns-in-Err-clause-says
 returns-in-Err-clause-says c = λ rest long. cut_says _ c.args.size c.args.left (seen_in c.args.seen) rest c.in-Err.fault
     (ap seen_in c.in-Some.is) long c.in-Err.ensures.refused.0 c.in-Err.ensures.refused.1 c.in-Err.ensures.refused.2
+
+pub returns-in_default-clause-reason : goal.returns-in_default-clause-reason
+returns-in_default-clause-reason c = no_format

@@ -1,5 +1,6 @@
 -- Blocks, and then a record.
-use Rattle.std.proofs.Common.{◌≡◌, ◌∙◌, inl, sym, ap, subst, ℕ, suc, ◌+◌, ◌≤◌, ◌<◌, IsSome, List, length}
+use Rattle.std.proofs.Common.{◌≡◌, ◌∙◌, inl, inr, refl, sym, ap, subst, ℕ, suc, ◌+◌, ◌≤◌, ◌<◌, IfErr, IsSome}
+use Rattle.std.proofs.Common.{List, length}
 use Rattle.std.proofs.Common.{zero, [], vec_capacity, Err, arith}
 use Rattle.std.proofs.lemmas.Result.{err_from_is_err_and}
 use Rattle.project_state.specs.Kept.{current_tracks}
@@ -7,16 +8,20 @@ use Rattle.editor_core.specs.Edits.{BlockCommit, Carried, IsPrepared, NotPrepare
 use Rattle.editor_core.specs.Adding.{Adds}
 use Rattle.editor_core.specs.Bodies.{all_bytes, all_len, bodies_by, bytes_by, whole_len, writing}
 use Rattle.editor_core.specs.Core.{Core, core_of}
+use Rattle.editor_core.specs.Imports.{IsInsideOr}
 use Rattle.editor_core.specs.Made.{batch_of, ids_from}
-use Rattle.editor_core.specs.Makes.{AreSynced, Making}
+use Rattle.editor_core.specs.Makes.{AreSynced, Making, RefusedBrought, Stuck}
 use Rattle.pcm_base.specs.declared.limits.TheConstants.{LONGEST_BODY}
 use Rattle.project_journal.specs.Journal.{AreWaiting, rows_length}
 use Rattle.project_journal.proofs.Together.{opened_length}
 use Rattle.project_state.specs.declared.body.Body.{Body}
 use Rattle.project_state.specs.declared.track.Track.{Track}
 use Rattle.project_state.specs.Batches.{with_point}
+use Rattle.piece_store.proofs.BringLaws.{any_brought}
+use Rattle.editor_core.proofs.AsksNoVault.{adds_counted, adds_inside, inside_counted, inside_or, unprepared_asks}
 use Rattle.editor_core.proofs.BodyBytes.{rows_count}
 use Rattle.editor_core.proofs.CarriedEdits.{carried_by}
+use Rattle.editor_core.proofs.Serving.{brought_inside}
 use Rattle.editor_core.proofs.studio.Studio.carry.Goals as goal
 
 -- records that wait, and are short together, are short with the gate and the length of the first
@@ -79,20 +84,24 @@ returns-in_err-prepare-clause-carried g c =
     let r = err_from_is_err_and c.from_residual.result c.from_residual.ensures.1 in
     let why = c.in_err-prepare.field-0.0 in
     let one : c.args.more + 1 ≡ suc c.args.more = omega arith in
+    let any = any_brought (g.G.Brings.brings c.args.given.now) in
     let commit : BlockCommit = record {
       makes = bs;
-      given = c.args.given.now;
+      given = any.0;
       tracks = c.args.tracks;
       count = suc c.args.more;
       bodies = all_bytes s w;
       whole = whole;
-    } in
-    subst (λ x. Carried g.S.Store s commit x new) (sym (r.1 ∙ ap Err r.2))
-    (inl (
-      c.in_err-prepare.ensures.same,
-      subst (λ (n : ℕ). NotPrepared s (length bs) c.args.tracks n whole (all_len s w) why) one
-          c.in_err-prepare.ensures.err,
-    ))
+    } in (
+      any.0,
+      any.1,
+      subst (λ x. Carried g.S.Store s commit x new) (sym (r.1 ∙ ap Err r.2))
+          (inl (
+            c.in_err-prepare.ensures.same,
+            subst (λ (n : ℕ). NotPrepared s (length bs) c.args.tracks n whole (all_len s w) why) one
+                c.in_err-prepare.ensures.err,
+          )),
+    )
 
 pub returns-clause-carried : goal.returns-clause-carried
 returns-clause-carried g c =
@@ -100,9 +109,10 @@ returns-clause-carried g c =
     let same : core_of c.prepare.new.self ≡ s = c.in_ok-prepare.ensures.same in
     let mid = core_of c.make_blocks.new.self in
     let bs = c.args.makes.now in
-    let made = c.in_ok-make_blocks.ensures.made in
+    let by = c.in_ok-make_blocks.ensures.made in
+    let made = by.2 in
     let making =
-    subst (λ (z : Core g.row.S.Denot). Making g.S.Store z (batch_of c.args.given.now bs) (length bs) mid) same made.0 in
+    subst (λ (z : Core g.row.S.Denot). Making g.S.Store z (batch_of by.0 bs) (length bs) mid) same made.0 in
     let reads = made.1 ∙ ap (λ (z : Core g.row.S.Denot). g.S.Store.read_fault_count z.store) same in
     let synced =
     subst (λ (z : Core g.row.S.Denot). AreSynced g.S.Store (ids_from z.next_block (length bs)) mid.store) same made.2 in
@@ -116,17 +126,126 @@ returns-clause-carried g c =
     let room : 1 + length c.make_blocks.new.self.row.items ≤ vec_capacity c.make_blocks.new.self.row =
     omega (arith, ap (λ (l : List ℕ). length l) items, ap vec_capacity row, c.in_ok-prepare.ensures.room) in
     let one : c.args.more + 1 ≡ suc c.args.more = omega arith in
+    let prepared = subst (λ (n : ℕ). IsPrepared s (length bs) c.args.tracks n (all_len s w)) one
+    c.in_ok-prepare.ensures.prepared in
     let adds = λ (most : ℕ). subst (λ (n : ℕ). Adds g.S.Store mid bodies n most c.commit_rows.result new) one
     (c.commit_rows.ensures.records most bodies waiting
     (rows_count s.version (current_tracks s.history) c.args.body.now c.args.more)) in
     let commit : BlockCommit = record {
       makes = bs;
-      given = c.args.given.now;
+      given = by.0;
       tracks = c.args.tracks;
       count = suc c.args.more;
       bodies = bodies;
       whole = whole;
-    } in
-    carried_by g.S.Store s mid new commit c.commit_rows.result making reads synced
-    (subst (λ (n : ℕ). IsPrepared s (length bs) c.args.tracks n (all_len s w)) one c.in_ok-prepare.ensures.prepared)
-    (adds (all_len s w)) (adds whole) (c.commit_rows.ensures.memory room)
+    } in (
+      by.0,
+      by.1,
+      carried_by g.S.Store s mid new commit c.commit_rows.result making reads synced
+          prepared (adds (all_len s w)) (adds whole) (c.commit_rows.ensures.memory room),
+    )
+
+-- ---- what is left of the devices
+
+pub returns-in_err-prepare-clause-device : goal.returns-in_err-prepare-clause-device
+returns-in_err-prepare-clause-device g c =
+    let s = core_of c.args.self.now in
+    let b = g.G.Brings.brings c.args.given.now in
+    let w = writing c.args.more c.args.body.now in
+    let r = err_from_is_err_and c.from_residual.result c.from_residual.ensures.1 in
+    let why = c.in_err-prepare.field-0.0 in
+    subst (λ x. IfErr x (IsInsideOr b)) (sym (r.1 ∙ ap Err r.2))
+    (inside_or b why (unprepared_asks s (length c.args.makes.now) c.args.tracks (c.args.more + 1) (whole_len s w)
+    (all_len s w) why c.in_err-prepare.ensures.err))
+
+pub returns-in_err-prepare-clause-given : goal.returns-in_err-prepare-clause-given
+returns-in_err-prepare-clause-given g c =
+    let s = core_of c.args.self.now in
+    let n = g.G.Brings.fault_count c.args.given.now in
+    let w = writing c.args.more c.args.body.now in
+    let r = err_from_is_err_and c.from_residual.result c.from_residual.ensures.1 in
+    let why = c.in_err-prepare.field-0.0 in
+    subst (λ x. RefusedBrought x n n) (sym (r.1 ∙ ap Err r.2))
+    (inside_counted why n (unprepared_asks s (length c.args.makes.now) c.args.tracks (c.args.more + 1) (whole_len s w)
+    (all_len s w) why c.in_err-prepare.ensures.err))
+
+pub returns-in_err-prepare-clause-still : goal.returns-in_err-prepare-clause-still
+returns-in_err-prepare-clause-still g c = record { same = refl; goes = λ first follows. follows }
+
+pub returns-in_err-make_blocks-clause-carried : goal.returns-in_err-make_blocks-clause-carried
+returns-in_err-make_blocks-clause-carried g c =
+    let s = core_of c.args.self.now in
+    let new = core_of c.make_blocks.new.self in
+    let bs = c.args.makes.now in
+    let w = writing c.args.more c.args.body.now in
+    let residual = c.from_residual-in_err-make_blocks in
+    let r = err_from_is_err_and residual.result residual.ensures.1 in
+    let why = c.in_err-make_blocks.field-0.0 in
+    let by = c.in_err-make_blocks.ensures.made in
+    let one : c.args.more + 1 ≡ suc c.args.more = omega arith in
+    let commit : BlockCommit = record {
+      makes = bs;
+      given = by.0;
+      tracks = c.args.tracks;
+      count = suc c.args.more;
+      bodies = all_bytes s w;
+      whole = whole_len s w;
+    } in (
+      by.0,
+      by.1,
+      subst (λ x. Carried g.S.Store s commit x new) (sym (r.1 ∙ ap Err r.2))
+          (inr (inl (
+            subst (λ (n : ℕ). IsPrepared s (length bs) c.args.tracks n (all_len s w)) one
+                c.in_ok-prepare.ensures.prepared,
+            subst (λ (z : Core g.row.S.Denot). Stuck g.S.Store z (batch_of by.0 bs) why new)
+                c.in_ok-prepare.ensures.same by.2,
+          ))),
+    )
+
+pub returns-in_err-make_blocks-clause-device : goal.returns-in_err-make_blocks-clause-device
+returns-in_err-make_blocks-clause-device g c =
+    let b = g.G.Brings.brings c.args.given.now in
+    let residual = c.from_residual-in_err-make_blocks in
+    let r = err_from_is_err_and residual.result residual.ensures.1 in
+    subst (λ x. IfErr x (IsInsideOr b)) (sym (r.1 ∙ ap Err r.2))
+    (brought_inside b c.in_err-make_blocks.field-0.0 c.in_err-make_blocks.ensures.refused)
+
+pub returns-in_err-make_blocks-clause-given : goal.returns-in_err-make_blocks-clause-given
+returns-in_err-make_blocks-clause-given g c =
+    let residual = c.from_residual-in_err-make_blocks in
+    let r = err_from_is_err_and residual.result residual.ensures.1 in
+    subst (λ x. RefusedBrought x (g.G.Brings.fault_count c.args.given.now)
+    (g.G.Brings.fault_count c.make_blocks.new.given)) (sym (r.1 ∙ ap Err r.2)) c.in_err-make_blocks.ensures.given
+
+pub returns-in_err-make_blocks-clause-still : goal.returns-in_err-make_blocks-clause-still
+returns-in_err-make_blocks-clause-still g c = c.in_err-make_blocks.ensures.still
+
+pub returns-clause-device : goal.returns-clause-device
+returns-clause-device g c =
+    let s = core_of c.args.self.now in
+    let w = writing c.args.more c.args.body.now in
+    let bodies = all_bytes s w in
+    let items : c.make_blocks.new.self.row.items ≡ c.prepare.new.self.row.items =
+    ap (λ v. v.items) c.in_ok-make_blocks.ensures.row in
+    let waiting = subst (λ (l : List ℕ). AreWaiting l bodies) (sym items) c.in_ok-prepare.ensures.rows in
+    adds_inside g.S.Store (core_of c.make_blocks.new.self) (core_of c.commit_rows.new.self) bodies (c.args.more + 1)
+    (whole_len s w) (g.G.Brings.brings c.args.given.now) c.commit_rows.result
+    (c.commit_rows.ensures.records (whole_len s w) bodies waiting
+    (rows_count s.version (current_tracks s.history) c.args.body.now c.args.more))
+
+pub returns-clause-given : goal.returns-clause-given
+returns-clause-given g c =
+    let s = core_of c.args.self.now in
+    let w = writing c.args.more c.args.body.now in
+    let bodies = all_bytes s w in
+    let items : c.make_blocks.new.self.row.items ≡ c.prepare.new.self.row.items =
+    ap (λ v. v.items) c.in_ok-make_blocks.ensures.row in
+    let waiting = subst (λ (l : List ℕ). AreWaiting l bodies) (sym items) c.in_ok-prepare.ensures.rows in
+    adds_counted g.S.Store (core_of c.make_blocks.new.self) (core_of c.commit_rows.new.self) bodies (c.args.more + 1)
+    (whole_len s w) c.commit_rows.result (g.G.Brings.fault_count c.args.given.now)
+    (g.G.Brings.fault_count c.make_blocks.new.given)
+    (c.commit_rows.ensures.records (whole_len s w) bodies waiting
+    (rows_count s.version (current_tracks s.history) c.args.body.now c.args.more)) c.in_ok-make_blocks.ensures.given
+
+pub returns-clause-still : goal.returns-clause-still
+returns-clause-still g c = c.in_ok-make_blocks.ensures.still

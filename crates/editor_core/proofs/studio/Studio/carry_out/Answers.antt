@@ -1,14 +1,17 @@
 -- An edit that makes blocks is a step.
-use Rattle.std.proofs.Common.{◌∙◌, sym, ap, subst, ℕ, IfErr, List, Err, Ok}
+use Rattle.std.proofs.Common.{◌⊎◌, ◌∙◌, inr, sym, ap, subst, ℕ, pos, IfErr, List, Err, Ok}
 use Rattle.std.proofs.lemmas.Result.{err_from_is_err_and}
 use Rattle.pcm_base.specs.declared.answer.Reply.TheVariants.{Done}
 use Rattle.envelope_view.specs.Answers.{IsUndamaged}
 use Rattle.project_state.specs.declared.track.Track.{Track}
 use Rattle.project_state.specs.Kept.{point_blocks}
+use Rattle.edit_ops.specs.Plans.{AreNew}
 use Rattle.editor_core.specs.Applied.{Lasts}
 use Rattle.editor_core.specs.Core.{core_of}
-use Rattle.editor_core.specs.Edits.{IsStill, tagged}
-use Rattle.editor_core.specs.Imports.{IsInside}
+use Rattle.editor_core.specs.Edits.{IsStill, tagged_by}
+use Rattle.editor_core.specs.Imports.{IfCutShort, IsInsideOr}
+use Rattle.editor_core.specs.Made.{PiecesReadable}
+use Rattle.editor_core.specs.Makes.{RefusedBrought}
 use Rattle.editor_core.specs.Occurrences.{HasIds}
 use Rattle.editor_core.specs.Took.{Took, told_by, with_sound}
 use Rattle.editor_core.proofs.CarriedOut.{carried_at, commit_of, told_point}
@@ -16,72 +19,94 @@ use Rattle.editor_core.proofs.EditLaws.{pieces_there}
 use Rattle.editor_core.proofs.EditSteps.{edit_err}
 use Rattle.editor_core.proofs.Lasting.{lasts_err}
 use Rattle.editor_core.proofs.Still.{carried_still}
-use Rattle.editor_core.proofs.AsksNoVault.{carried_asks}
+use Rattle.editor_core.proofs.Serving.{cut_or, serves_so}
 use Rattle.editor_core.proofs.NoDamage.{no_damage}
 use Rattle.editor_core.proofs.TakenEdits.{IsPointed, lasts_so, out_fits, out_named, out_room, out_there}
 use Rattle.editor_core.proofs.TakenEdits.{recorded_few, recorded_named, recorded_there, took_so}
 use Rattle.editor_core.proofs.Times.{Few}
 use Rattle.editor_core.proofs.studio.Studio.carry_out.Goals as goal
 
+pub carry-requires-clause-new : goal.carry-requires-clause-new
+carry-requires-clause-new g c =
+    let s = core_of c.args.self.now in
+    subst (AreNew s.block_size s.next_block) (sym c.as_slice.ensures) (c.requires.planned (λ _. pos 0)).new
+
+pub carry-requires-clause-pieces : goal.carry-requires-clause-pieces
+carry-requires-clause-pieces g c =
+    subst (PiecesReadable (g.G.Brings.brings c.args.given.now).count) (sym c.as_slice.ensures)
+    (c.requires.planned (λ _. pos 0)).readable
+
 pub returns-in_err-carry-clause-took : goal.returns-in_err-carry-clause-took
-returns-in_err-carry-clause-took g c = λ call sound edit.
+returns-in_err-carry-clause-took g c =
     let s = core_of c.args.self.now in
     let new = core_of c.carry.new.self in
-    let e = tagged c.args.edit c.args.tag c.args.more c.args.given.now in
+    let brings = g.G.Brings.brings c.args.given.now in
+    let by = c.in_err-carry.ensures.carried in
+    let e = tagged_by c.args.edit c.args.tag c.args.more brings by.0 in
     let r = err_from_is_err_and c.from_residual.result c.from_residual.ensures.1 in
     let why = c.in_err-carry.field-0.0 in
-    let all = carried_at g.S.Store s new e c.as_slice.result.now (Err why) c.as_slice.ensures c.requires.next
-    c.in_err-carry.ensures.carried in
-    subst (λ x. Took g.S.Store s (with_sound call sound (told_by (λ (n : ℕ). Done) x)) new) (sym (r.1 ∙ ap Err r.2))
-    (edit_err g.S.Store s c.requires.studio c.requires.going e c.requires.planned call sound edit
-    g.met.S.Store.may_fewer why new all)
+    let all = carried_at g.S.Store s new e c.as_slice.result.now (Err why) c.as_slice.ensures c.requires.next by.2 in (
+      by.0,
+      by.1,
+      λ call sound serves edit.
+          subst (λ x. IfCutShort x ⊎ Took g.S.Store s (with_sound call sound (told_by (λ (n : ℕ). Done) x)) new)
+          (sym (r.1 ∙ ap Err r.2))
+          (cut_or brings why c.in_err-carry.ensures.device
+          (edit_err g.S.Store s c.requires.studio c.requires.going e (c.requires.planned by.0) call sound edit
+          g.met.S.Store.may_fewer why new (serves_so brings call why c.in_err-carry.ensures.device serves) all)),
+    )
 
 pub returns-in_err-carry-clause-sound : goal.returns-in_err-carry-clause-sound
 returns-in_err-carry-clause-sound g c = λ held.
     let s = core_of c.args.self.now in
     let new = core_of c.carry.new.self in
-    let e = tagged c.args.edit c.args.tag c.args.more c.args.given.now in
+    let by = c.in_err-carry.ensures.carried in
+    let e = tagged_by c.args.edit c.args.tag c.args.more (g.G.Brings.brings c.args.given.now) by.0 in
     let r = err_from_is_err_and c.from_residual.result c.from_residual.ensures.1 in
     let why = c.in_err-carry.field-0.0 in
     let all = carried_at g.S.Store s new e c.as_slice.result.now (Err why) c.as_slice.ensures c.requires.next
-    c.in_err-carry.ensures.carried in
+    by.2 in
     subst (λ x. IfErr x IsUndamaged) (sym (r.1 ∙ ap Err r.2))
     (no_damage g.S.Store s c.requires.studio c.requires.going (commit_of s e) why new held
-    (pieces_there g.S.Store s c.requires.studio c.requires.going e c.requires.planned held) all)
+    (pieces_there g.S.Store s c.requires.studio c.requires.going e (c.requires.planned by.0) held) all)
 
 pub returns-in_err-carry-clause-lasts : goal.returns-in_err-carry-clause-lasts
-returns-in_err-carry-clause-lasts g c = λ call sound one.
+returns-in_err-carry-clause-lasts g c = λ call sound serves one.
     let s = core_of c.args.self.now in
     let new = core_of c.carry.new.self in
-    let e = tagged c.args.edit c.args.tag c.args.more c.args.given.now in
+    let by = c.in_err-carry.ensures.carried in
+    let e = tagged_by c.args.edit c.args.tag c.args.more (g.G.Brings.brings c.args.given.now) by.0 in
     let r = err_from_is_err_and c.from_residual.result c.from_residual.ensures.1 in
     let why = c.in_err-carry.field-0.0 in
     let all = carried_at g.S.Store s new e c.as_slice.result.now (Err why) c.as_slice.ensures c.requires.next
-    c.in_err-carry.ensures.carried in
+    by.2 in
     subst (λ x. Lasts g.S.Store s (with_sound call sound (told_by (λ (n : ℕ). Done) x)) new) (sym (r.1 ∙ ap Err r.2))
-    (lasts_err g.S.Store s c.requires.studio c.requires.going e c.requires.planned call sound one
-    (g.met.S.Store.may_fewer s.store) why new all)
+    (lasts_err g.S.Store s c.requires.studio c.requires.going e (c.requires.planned by.0) call sound one
+    (g.met.S.Store.may_fewer s.store) why new
+    (serves_so (g.G.Brings.brings c.args.given.now) call why c.in_err-carry.ensures.device serves) all)
 
 pub returns-in_err-carry-clause-device : goal.returns-in_err-carry-clause-device
 returns-in_err-carry-clause-device g c =
-    let s = core_of c.args.self.now in
-    let new = core_of c.carry.new.self in
-    let e = tagged c.args.edit c.args.tag c.args.more c.args.given.now in
     let r = err_from_is_err_and c.from_residual.result c.from_residual.ensures.1 in
-    let why = c.in_err-carry.field-0.0 in
-    let all = carried_at g.S.Store s new e c.as_slice.result.now (Err why) c.as_slice.ensures c.requires.next
-    c.in_err-carry.ensures.carried in
-    subst (λ x. IfErr x IsInside) (sym (r.1 ∙ ap Err r.2)) (carried_asks g.S.Store s new (commit_of s e) why all)
+    subst (λ x. IfErr x (IsInsideOr (g.G.Brings.brings c.args.given.now))) (sym (r.1 ∙ ap Err r.2))
+    c.in_err-carry.ensures.device
+
+pub returns-in_err-carry-clause-given : goal.returns-in_err-carry-clause-given
+returns-in_err-carry-clause-given g c =
+    let r = err_from_is_err_and c.from_residual.result c.from_residual.ensures.1 in
+    subst (λ x. RefusedBrought x (g.G.Brings.fault_count c.args.given.now) (g.G.Brings.fault_count c.carry.new.given))
+    (sym (r.1 ∙ ap Err r.2)) c.in_err-carry.ensures.given
 
 pub returns-in_err-carry-clause-still : goal.returns-in_err-carry-clause-still
 returns-in_err-carry-clause-still g c =
     let s = core_of c.args.self.now in
     let new = core_of c.carry.new.self in
-    let e = tagged c.args.edit c.args.tag c.args.more c.args.given.now in
+    let by = c.in_err-carry.ensures.carried in
+    let e = tagged_by c.args.edit c.args.tag c.args.more (g.G.Brings.brings c.args.given.now) by.0 in
     let r = err_from_is_err_and c.from_residual.result c.from_residual.ensures.1 in
     let why = c.in_err-carry.field-0.0 in
     let all = carried_at g.S.Store s new e c.as_slice.result.now (Err why) c.as_slice.ensures c.requires.next
-    c.in_err-carry.ensures.carried in
+    by.2 in
     subst (λ x. IfErr x (IsStill s new)) (sym (r.1 ∙ ap Err r.2))
     (carried_still g.S.Store s new (commit_of s e) why all)
 
@@ -89,39 +114,43 @@ pub take_recorded-requires-clause-there : goal.take_recorded-requires-clause-the
 take_recorded-requires-clause-there g c =
     let s = core_of c.args.self.now in
     let new = core_of c.carry.new.self in
-    let e = tagged c.args.edit c.args.tag c.args.more c.args.given.now in
+    let by = c.in_ok-carry.ensures.carried in
+    let e = tagged_by c.args.edit c.args.tag c.args.more (g.G.Brings.brings c.args.given.now) by.0 in
     let k = carried_at g.S.Store s new e c.as_slice.result.now (Ok (tt {0})) c.as_slice.ensures c.requires.next
-    c.in_ok-carry.ensures.carried in
+    by.2 in
     subst (λ (q : List Track). HasIds new.counts (point_blocks q)) (ap told_point c.in-Edit.is)
-    (recorded_there g.S.Store s c.requires.studio c.requires.going e c.requires.planned new k)
+    (recorded_there g.S.Store s c.requires.studio c.requires.going e (c.requires.planned by.0) new k)
 
 pub take_recorded-requires-clause-few : goal.take_recorded-requires-clause-few
 take_recorded-requires-clause-few g c =
     let s = core_of c.args.self.now in
     let new = core_of c.carry.new.self in
-    let e = tagged c.args.edit c.args.tag c.args.more c.args.given.now in
+    let by = c.in_ok-carry.ensures.carried in
+    let e = tagged_by c.args.edit c.args.tag c.args.more (g.G.Brings.brings c.args.given.now) by.0 in
     let k = carried_at g.S.Store s new e c.as_slice.result.now (Ok (tt {0})) c.as_slice.ensures c.requires.next
-    c.in_ok-carry.ensures.carried in
+    by.2 in
     subst (λ (q : List Track). Few new.counts (point_blocks q)) (ap told_point c.in-Edit.is)
-    (recorded_few g.S.Store s c.requires.studio c.requires.going e c.requires.planned new k)
+    (recorded_few g.S.Store s c.requires.studio c.requires.going e (c.requires.planned by.0) new k)
 
 pub take_recorded-requires-clause-named : goal.take_recorded-requires-clause-named
 take_recorded-requires-clause-named g c =
     let s = core_of c.args.self.now in
     let new = core_of c.carry.new.self in
-    let e = tagged c.args.edit c.args.tag c.args.more c.args.given.now in
+    let by = c.in_ok-carry.ensures.carried in
+    let e = tagged_by c.args.edit c.args.tag c.args.more (g.G.Brings.brings c.args.given.now) by.0 in
     let k = carried_at g.S.Store s new e c.as_slice.result.now (Ok (tt {0})) c.as_slice.ensures c.requires.next
-    c.in_ok-carry.ensures.carried in
-    recorded_named g.S.Store s c.requires.studio c.requires.going e c.requires.planned new k
+    by.2 in
+    recorded_named g.S.Store s c.requires.studio c.requires.going e (c.requires.planned by.0) new k
     c.in_ok-carry.ensures.history
 
 pub take_out-requires-clause-there : goal.take_out-requires-clause-there
 take_out-requires-clause-there g c =
     let s = core_of c.args.self.now in
     let new = core_of c.carry.new.self in
-    let e = tagged c.args.edit c.args.tag c.args.more c.args.given.now in
+    let by = c.in_ok-carry.ensures.carried in
+    let e = tagged_by c.args.edit c.args.tag c.args.more (g.G.Brings.brings c.args.given.now) by.0 in
     let k = carried_at g.S.Store s new e c.as_slice.result.now (Ok (tt {0})) c.as_slice.ensures c.requires.next
-    c.in_ok-carry.ensures.carried in
+    by.2 in
     let at : IsPointed g.S.Store s e (core_of c.take_recorded.new.self) = record {
       new = new;
       committed = k;
@@ -131,15 +160,17 @@ take_out-requires-clause-there g c =
       fields = c.take_recorded.ensures.fields;
       counted = c.take_recorded.ensures.counts;
     } in
-    out_there g.S.Store s c.requires.studio c.requires.going e c.requires.planned (core_of c.take_recorded.new.self) at
+    out_there g.S.Store s c.requires.studio c.requires.going e (c.requires.planned by.0)
+    (core_of c.take_recorded.new.self) at
 
 pub take_out-requires-clause-room : goal.take_out-requires-clause-room
 take_out-requires-clause-room g c =
     let s = core_of c.args.self.now in
     let new = core_of c.carry.new.self in
-    let e = tagged c.args.edit c.args.tag c.args.more c.args.given.now in
+    let by = c.in_ok-carry.ensures.carried in
+    let e = tagged_by c.args.edit c.args.tag c.args.more (g.G.Brings.brings c.args.given.now) by.0 in
     let k = carried_at g.S.Store s new e c.as_slice.result.now (Ok (tt {0})) c.as_slice.ensures c.requires.next
-    c.in_ok-carry.ensures.carried in
+    by.2 in
     let at : IsPointed g.S.Store s e (core_of c.take_recorded.new.self) = record {
       new = new;
       committed = k;
@@ -149,15 +180,17 @@ take_out-requires-clause-room g c =
       fields = c.take_recorded.ensures.fields;
       counted = c.take_recorded.ensures.counts;
     } in
-    out_room g.S.Store s c.requires.studio c.requires.going e c.requires.planned (core_of c.take_recorded.new.self) at
+    out_room g.S.Store s c.requires.studio c.requires.going e (c.requires.planned by.0)
+    (core_of c.take_recorded.new.self) at
 
 pub take_out-requires-clause-fits : goal.take_out-requires-clause-fits
 take_out-requires-clause-fits g c =
     let s = core_of c.args.self.now in
     let new = core_of c.carry.new.self in
-    let e = tagged c.args.edit c.args.tag c.args.more c.args.given.now in
+    let by = c.in_ok-carry.ensures.carried in
+    let e = tagged_by c.args.edit c.args.tag c.args.more (g.G.Brings.brings c.args.given.now) by.0 in
     let k = carried_at g.S.Store s new e c.as_slice.result.now (Ok (tt {0})) c.as_slice.ensures c.requires.next
-    c.in_ok-carry.ensures.carried in
+    by.2 in
     let at : IsPointed g.S.Store s e (core_of c.take_recorded.new.self) = record {
       new = new;
       committed = k;
@@ -167,15 +200,17 @@ take_out-requires-clause-fits g c =
       fields = c.take_recorded.ensures.fields;
       counted = c.take_recorded.ensures.counts;
     } in
-    out_fits g.S.Store s c.requires.studio c.requires.going e c.requires.planned (core_of c.take_recorded.new.self) at
+    out_fits g.S.Store s c.requires.studio c.requires.going e (c.requires.planned by.0)
+    (core_of c.take_recorded.new.self) at
 
 pub take_out-requires-clause-named : goal.take_out-requires-clause-named
 take_out-requires-clause-named g c =
     let s = core_of c.args.self.now in
     let new = core_of c.carry.new.self in
-    let e = tagged c.args.edit c.args.tag c.args.more c.args.given.now in
+    let by = c.in_ok-carry.ensures.carried in
+    let e = tagged_by c.args.edit c.args.tag c.args.more (g.G.Brings.brings c.args.given.now) by.0 in
     let k = carried_at g.S.Store s new e c.as_slice.result.now (Ok (tt {0})) c.as_slice.ensures c.requires.next
-    c.in_ok-carry.ensures.carried in
+    by.2 in
     let at : IsPointed g.S.Store s e (core_of c.take_recorded.new.self) = record {
       new = new;
       committed = k;
@@ -185,15 +220,17 @@ take_out-requires-clause-named g c =
       fields = c.take_recorded.ensures.fields;
       counted = c.take_recorded.ensures.counts;
     } in
-    out_named g.S.Store s c.requires.studio c.requires.going e c.requires.planned (core_of c.take_recorded.new.self) at
+    out_named g.S.Store s c.requires.studio c.requires.going e (c.requires.planned by.0)
+    (core_of c.take_recorded.new.self) at
 
 pub returns-clause-took : goal.returns-clause-took
-returns-clause-took g c = λ call sound edit.
+returns-clause-took g c =
     let s = core_of c.args.self.now in
     let new = core_of c.carry.new.self in
-    let e = tagged c.args.edit c.args.tag c.args.more c.args.given.now in
+    let by = c.in_ok-carry.ensures.carried in
+    let e = tagged_by c.args.edit c.args.tag c.args.more (g.G.Brings.brings c.args.given.now) by.0 in
     let k = carried_at g.S.Store s new e c.as_slice.result.now (Ok (tt {0})) c.as_slice.ensures c.requires.next
-    c.in_ok-carry.ensures.carried in
+    by.2 in
     let at : IsPointed g.S.Store s e (core_of c.take_recorded.new.self) = record {
       new = new;
       committed = k;
@@ -202,18 +239,23 @@ returns-clause-took g c = λ call sound edit.
       point_is = ap told_point c.in-Edit.is;
       fields = c.take_recorded.ensures.fields;
       counted = c.take_recorded.ensures.counts;
-    } in
-    took_so g.S.Store s c.requires.studio c.requires.going e c.requires.planned (core_of c.take_recorded.new.self) at
-    (core_of c.take_out.new.self) c.take_out.ensures.fields c.take_out.ensures.moves g.met.S.Store.may_fewer
-    call sound edit
+    } in (
+      by.0,
+      by.1,
+      λ call sound serves edit. inr (took_so g.S.Store s c.requires.studio c.requires.going e (c.requires.planned by.0)
+          (core_of c.take_recorded.new.self) at
+          (core_of c.take_out.new.self) c.take_out.ensures.fields c.take_out.ensures.moves g.met.S.Store.may_fewer
+          call sound edit),
+    )
 
 pub returns-clause-lasts : goal.returns-clause-lasts
-returns-clause-lasts g c = λ call sound one.
+returns-clause-lasts g c = λ call sound serves one.
     let s = core_of c.args.self.now in
     let new = core_of c.carry.new.self in
-    let e = tagged c.args.edit c.args.tag c.args.more c.args.given.now in
+    let by = c.in_ok-carry.ensures.carried in
+    let e = tagged_by c.args.edit c.args.tag c.args.more (g.G.Brings.brings c.args.given.now) by.0 in
     let k = carried_at g.S.Store s new e c.as_slice.result.now (Ok (tt {0})) c.as_slice.ensures c.requires.next
-    c.in_ok-carry.ensures.carried in
+    by.2 in
     let at : IsPointed g.S.Store s e (core_of c.take_recorded.new.self) = record {
       new = new;
       committed = k;
@@ -223,5 +265,6 @@ returns-clause-lasts g c = λ call sound one.
       fields = c.take_recorded.ensures.fields;
       counted = c.take_recorded.ensures.counts;
     } in
-    lasts_so g.S.Store s c.requires.studio c.requires.going e c.requires.planned (core_of c.take_recorded.new.self) at
+    lasts_so g.S.Store s c.requires.studio c.requires.going e (c.requires.planned by.0)
+    (core_of c.take_recorded.new.self) at
     (core_of c.take_out.new.self) c.take_out.ensures.fields c.take_out.ensures.moves call sound one

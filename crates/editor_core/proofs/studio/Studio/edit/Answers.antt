@@ -1,5 +1,5 @@
 -- An edit that makes no blocks is a step.
-use Rattle.std.proofs.Common.{◌≡◌, ◌∙◌, refl, sym, ap, subst, ℕ, ◌+◌, ◌≤◌, ◌<◌, ◌^◌, List, Err, Ok, IfOk, None}
+use Rattle.std.proofs.Common.{arith, ◌≡◌, ◌∙◌, refl, sym, ap, subst, ℕ, ◌+◌, ◌≤◌, ◌<◌, ◌^◌, List, Err, Ok, IfOk, None}
 use Rattle.std.specs.Prelude.{IfErr}
 use Rattle.std.proofs.lemmas.Result.{err_from_is_err_and}
 use Rattle.pcm_base.specs.declared.answer.Reply.TheVariants.{Done}
@@ -40,7 +40,7 @@ returns-in_err-may_commit-clause-took g c =
     let why = c.in_err-may_commit.field-0.0 in
     subst (λ r. Took g.S.Store s (quietly (Line (line_of e)) (told_by (λ (n : ℕ). Done) r)) s) (sym (p.1 ∙ ap Err p.2))
     (tested_out g.S.Store s (Line (line_of e)) (tracks_by e) 0 c.edit_refusal.result why is
-    (g.met.S.Store.may_fewer s.store) (call_by e) (λ held. needs_none g.S.Store s is e)
+    (g.met.S.Store.may_fewer s.store) (call_by e) (omega arith) (λ held. needs_none g.S.Store s is e)
     (c.edit_refusal.ensures ∙ own_is g.S.Store s is e)
     (subst (λ (n : ℕ). Tested s c.edit_refusal.result n (Err why))
     c.tracks_for-tracks.ensures c.in_err-may_commit.ensures))

@@ -7,13 +7,15 @@ use Rattle.pcm_base.specs.Shape.{range_line}
 use Rattle.piece_store.specs.declared.given.Given.TheVariants.{Nothing}
 use Rattle.envelope_view.specs.Answers.{IsUndamaged}
 use Rattle.project_state.specs.Kept.{current_tracks}
+use Rattle.piece_store.specs.Bringing.{brought, brought_by}
 use Rattle.editor_core.specs.Core.{core_of}
 use Rattle.editor_core.specs.Ranges.{range_edit}
-use Rattle.editor_core.specs.Took.{Took, quietly, silent, told_by}
+use Rattle.editor_core.specs.Took.{Took, quietly, silent, told_by, with_sound}
 use Rattle.editor_core.proofs.NoDamage.{no_plan_tells, range_tells}
 use Rattle.editor_core.proofs.RangeLaws.{range_call}
 use Rattle.editor_core.proofs.TrackLaws.{track_edit, track_refused, track_stopped}
 use Rattle.editor_core.proofs.TrackPlans.{track_next, track_planned}
+use Rattle.editor_core.proofs.Knowing.{known_took, planned_any}
 use Rattle.editor_core.proofs.studio.Studio.edit_range.Goals as goal
 
 pub returns-in-Some-clause-took : goal.returns-in-Some-clause-took
@@ -22,7 +24,7 @@ returns-in-Some-clause-took g c =
     let e = range_edit c.args.edit c.args.from c.args.to in
     let line = range_call c.args.edit c.args.track c.args.from c.args.to in
     track_stopped g.S.Store s c.requires (Line (range_line c.args.edit c.args.track c.args.from c.args.to)) silent e
-    Nothing c.args.track 0 0 line c.in-Some.faults (g.met.S.Store.may_fewer s.store) c.in-Some.is
+    Nothing c.args.track 0 0 line c.in-Some.faults (g.met.S.Store.may_fewer s.store) (omega arith) c.in-Some.is
 
 pub returns-in_err-planned-clause-took : goal.returns-in_err-planned-clause-took
 returns-in_err-planned-clause-took g c =
@@ -34,7 +36,7 @@ returns-in_err-planned-clause-took g c =
     let why = c.in_err-planned.field-0.0 in
     subst (λ x. Took g.S.Store s (quietly call (told_by (λ (n : ℕ). Done) x)) s) (sym (r.1 ∙ ap Err r.2))
     (track_refused g.S.Store s c.requires call silent e Nothing c.args.track 0 0 line why
-    (g.met.S.Store.may_fewer s.store) c.in_default.is c.in_err-planned.ensures.err)
+    (g.met.S.Store.may_fewer s.store) (omega arith) c.in_default.is c.in_err-planned.ensures.err)
 
 pub returns-in_err-planned-clause-sound : goal.returns-in_err-planned-clause-sound
 returns-in_err-planned-clause-sound g c = λ held.
@@ -46,12 +48,13 @@ returns-in_err-planned-clause-sound g c = λ held.
     (λ len. range_tells c.args.from c.args.to len) c.in_err-planned.ensures.err)
 
 pub carry_out-requires-clause-planned : goal.carry_out-requires-clause-planned
-carry_out-requires-clause-planned g c =
+carry_out-requires-clause-planned g c = λ samples.
     let s = core_of c.args.self.now in
     let e = range_edit c.args.edit c.args.from c.args.to in
     let planned = c.in_ok-planned.ensures in
-    track_planned g.S.Store s c.requires e Nothing c.args.track c.in_ok-planned.planned planned.plan planned.tracks
-    planned.clip 0 0 (omega arith) (λ some. absurd (omega (arith, some)))
+    planned_any s c.in_ok-planned.planned 0 0 (brought_by Nothing) (brought Nothing) samples
+    (track_planned g.S.Store s c.requires e Nothing c.args.track c.in_ok-planned.planned planned.plan planned.tracks
+    planned.clip 0 0 (omega arith) (λ some. absurd (omega (arith, some))))
 
 pub carry_out-requires-clause-next : goal.carry_out-requires-clause-next
 carry_out-requires-clause-next g c =
@@ -66,6 +69,8 @@ returns-clause-took g c =
     let call = Line (range_line c.args.edit c.args.track c.args.from c.args.to) in
     let line = range_call c.args.edit c.args.track c.args.from c.args.to in
     let planned = c.in_ok-planned.ensures in
-    c.carry_out.ensures.took call silent
+    known_took g.S.Store s c.in_ok-planned.planned 0 0 Nothing c.carry_out.result
+    (λ call sound. Took g.S.Store s (with_sound call sound (told_by (λ (n : ℕ). Done) c.carry_out.result))
+    (core_of c.carry_out.new.self)) c.carry_out.ensures.took c.carry_out.ensures.device call silent
     (track_edit g.S.Store s c.requires call silent e Nothing c.args.track 0 0 line c.in_ok-planned.planned planned.plan
     planned.tracks planned.clip)

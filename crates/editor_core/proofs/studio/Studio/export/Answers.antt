@@ -1,5 +1,5 @@
 -- An export is a step, of which the vault's move is a part.
-use Rattle.std.proofs.Common.{◌≡◌, ◌∙◌, refl, sym, ap, subst, ◌+◌, List, Some, Ok, Err, arith}
+use Rattle.std.proofs.Common.{◌≡◌, ◌∙◌, refl, sym, ap, subst, ℕ, ◌+◌, List, Some, Ok, Err, arith}
 use Rattle.std.specs.Prelude.{IfErr}
 use Rattle.std.proofs.lemmas.Result.{err_from_is_err_and}
 use Rattle.pcm_base.specs.declared.answer.Reply.TheVariants as reply
@@ -14,7 +14,7 @@ use Rattle.project_state.specs.declared.track.Track.{Track}
 use Rattle.project_state.specs.Kept.{current_tracks, meant, point_blocks}
 use Rattle.mix_view.specs.Tracks.{mix_length_of}
 use Rattle.wav_pcm.specs.Written.{MayBegin}
-use Rattle.sound_export.specs.Written.{IsBlockFault}
+use Rattle.sound_export.specs.Written.{IsBlockFault, refusal_of}
 use Rattle.envelope_view.specs.Answers.{IsUndamaged}
 use Rattle.block_cache.specs.Caches.{KeepsCache}
 use Rattle.editor_core.specs.Applied.{Lasts}
@@ -40,27 +40,27 @@ returns-in-Some-clause-took g c = λ told.
 pub returns-in-Some-clause-kept : goal.returns-in-Some-clause-kept
 returns-in-Some-clause-kept g c = kept_none c.args.self.now.store (g.met.S.Store.may_fewer c.args.self.now.store)
 
-pub write_stretches-requires-clause-named : goal.write_stretches-requires-clause-named
-write_stretches-requires-clause-named g c =
+pub write_sound-requires-clause-named : goal.write_sound-requires-clause-named
+write_sound-requires-clause-named g c =
     let s = core_of c.args.self.now in
     subst (λ (z : List Track). AllNamed (point_blocks z)) (sym c.current_of-point.ensures)
     (current_may_read g.S.Store s c.requires)
 
-pub write_stretches-requires-clause-cached : goal.write_stretches-requires-clause-cached
-write_stretches-requires-clause-cached g c = (c.requires.cache c.in_default.is).right
+pub write_sound-requires-clause-cached : goal.write_sound-requires-clause-cached
+write_sound-requires-clause-cached g c = (c.requires.cache c.in_default.is).right
 
 pub returns-in_err-bytes-clause-took : goal.returns-in_err-bytes-clause-took
 returns-in_err-bytes-clause-took g c = λ told.
     let s = core_of c.args.self.now in
-    let cache = c.write_stretches.new.cache in
+    let cache = c.write_sound.new.cache in
     let keeps = reads_among g.S.Store s (point_blocks (current_tracks s.history)) cache
     (current_named g.S.Store s c.requires)
     (subst (λ (z : List Track). KeepsCache (g.S.Store.tells s.store) (g.S.Store.reads s.store) (point_blocks z) s.cache
-    cache) c.current_of-point.ensures c.write_stretches.ensures.cache) in
+    cache) c.current_of-point.ensures c.write_sound.ensures.cache) in
     let files = g.S.Store.reads s.store in
     let name = c.args.name.now in
     let was = g.V.Vault.holds c.args.vault.now name in
-    let now = g.V.Vault.holds c.write_stretches.new.vault name in
+    let now = g.V.Vault.holds c.write_sound.new.vault name in
     let sound = moved_from was now in
     let point = c.current_of-point.result.now in
     let same = c.current_of-point.ensures in
@@ -76,17 +76,21 @@ returns-in_err-bytes-clause-took g c = λ told.
     λ held. subst (λ (z : List Track). MayBegin (wav_text (mix_of (meant (sources_of files) z)) s.rate) was now) same
     (c.in_err-bytes.ensures.written told held.tells (whole held)) in
     let long = ap mix_length_of same ∙ export_len g.S.Store s c.requires name sound in
+    let reason = refusal_of why in
     subst (λ r. Took g.S.Store s (with_sound call sound (told_by reply.Wrote r))
-    (record s { store = c.write_stretches.new.store; cache = cache })) (sym (p.1 ∙ ap Err p.2))
-    (export_failed g.S.Store s c.requires name sound c.in_default.is c.write_stretches.new.store kept cache keeps why
+    (record s { store = c.write_sound.new.store; cache = cache; block_size = c.write_sound.new.self }))
+    (sym (p.1 ∙ ap Err p.2))
+    (subst (λ (m : ℕ). Took g.S.Store s (with_sound call sound (Err reason))
+    (record s { store = c.write_sound.new.store; cache = cache; block_size = m })) (sym c.write_sound.ensures.same)
+    (export_failed g.S.Store s c.requires name sound c.in_default.is c.write_sound.new.store kept cache keeps why
     (mix_length_of point)
-    (g.V.Vault.fault_count c.args.vault.now) (g.V.Vault.fault_count c.write_stretches.new.vault) long
+    (g.V.Vault.fault_count c.args.vault.now) (g.V.Vault.fault_count c.write_sound.new.vault) long
     c.in_err-bytes.ensures.fits c.in_err-bytes.ensures.faults
     (c.in_err-bytes.ensures.untouched told) begun
     (λ told.
     export_among files (named_blocks s) (point_blocks (current_tracks s.history)) why
     (current_named g.S.Store s c.requires)
-    (subst (λ (z : List Track). IsBlockFault files (point_blocks z) why) same (c.in_err-bytes.ensures.damaged told))))
+    (subst (λ (z : List Track). IsBlockFault files (point_blocks z) why) same (c.in_err-bytes.ensures.damaged told)))))
 
 pub returns-in_err-bytes-clause-sound : goal.returns-in_err-bytes-clause-sound
 returns-in_err-bytes-clause-sound g c = λ held.
@@ -101,15 +105,15 @@ returns-in_err-bytes-clause-sound g c = λ held.
 pub returns-clause-took : goal.returns-clause-took
 returns-clause-took g c = λ told.
     let s = core_of c.args.self.now in
-    let cache = c.write_stretches.new.cache in
+    let cache = c.write_sound.new.cache in
     let keeps = reads_among g.S.Store s (point_blocks (current_tracks s.history)) cache
     (current_named g.S.Store s c.requires)
     (subst (λ (z : List Track). KeepsCache (g.S.Store.tells s.store) (g.S.Store.reads s.store) (point_blocks z) s.cache
-    cache) c.current_of-point.ensures c.write_stretches.ensures.cache) in
+    cache) c.current_of-point.ensures c.write_sound.ensures.cache) in
     let files = g.S.Store.reads s.store in
     let name = c.args.name.now in
     let was = g.V.Vault.holds c.args.vault.now name in
-    let now = g.V.Vault.holds c.write_stretches.new.vault name in
+    let now = g.V.Vault.holds c.write_sound.new.vault name in
     let sound = moved_from was now in
     let point = c.current_of-point.result.now in
     let same = c.current_of-point.ensures in
@@ -118,11 +122,14 @@ returns-clause-took g c = λ told.
     λ held. subst (λ (z : List Track). AllWhole files (point_blocks z)) (sym same)
     (current_whole g.S.Store s c.requires held) in
     let long = ap mix_length_of same ∙ export_len g.S.Store s c.requires name sound in
-    exported g.S.Store s c.requires name sound c.in_default.is c.write_stretches.new.store fine.kept cache keeps
+    subst (λ (m : ℕ). Took g.S.Store s
+    (with_sound (Line (command.Export name)) sound (Ok (reply.Wrote c.in_ok-bytes.bytes)))
+    (record s { store = c.write_sound.new.store; cache = cache; block_size = m })) (sym c.write_sound.ensures.same)
+    (exported g.S.Store s c.requires name sound c.in_default.is c.write_sound.new.store fine.kept cache keeps
     c.in_ok-bytes.bytes
     (mix_length_of point) long fine.fits fine.len fine.faults.0
     (λ held. fine.written told held.tells (whole held)
-    ∙ ap (λ (z : List Track). Some (wav_text (mix_of (meant (sources_of files) z)) s.rate)) same)
+    ∙ ap (λ (z : List Track). Some (wav_text (mix_of (meant (sources_of files) z)) s.rate)) same))
 
 pub returns-in-Some-clause-lasts : goal.returns-in-Some-clause-lasts
 returns-in-Some-clause-lasts g c = λ sound.
@@ -132,39 +139,45 @@ returns-in-Some-clause-lasts g c = λ sound.
 pub returns-in_err-bytes-clause-lasts : goal.returns-in_err-bytes-clause-lasts
 returns-in_err-bytes-clause-lasts g c = λ sound.
     let s = core_of c.args.self.now in
-    let cache = c.write_stretches.new.cache in
+    let cache = c.write_sound.new.cache in
     let keeps = reads_among g.S.Store s (point_blocks (current_tracks s.history)) cache
     (current_named g.S.Store s c.requires)
     (subst (λ (z : List Track). KeepsCache (g.S.Store.tells s.store) (g.S.Store.reads s.store) (point_blocks z) s.cache
-    cache) c.current_of-point.ensures c.write_stretches.ensures.cache) in
+    cache) c.current_of-point.ensures c.write_sound.ensures.cache) in
     let files = g.S.Store.reads s.store in
     let call = Line (command.Export c.args.name.now) in
     let why = c.in_err-bytes.field-0.0 in
     let p = err_from_is_err_and c.from_residual.result c.from_residual.ensures.1 in
+    let reason = refusal_of why in
     subst (λ r. Lasts g.S.Store s (with_sound call sound (told_by reply.Wrote r))
-    (record s { store = c.write_stretches.new.store; cache = cache }))
+    (record s { store = c.write_sound.new.store; cache = cache; block_size = c.write_sound.new.self }))
     (sym (p.1 ∙ ap Err p.2))
-    (lasts_looked g.S.Store s c.requires call tt tt sound c.in_default.is c.write_stretches.new.store
-    c.in_err-bytes.ensures.kept cache keeps (Err _) refl
-    (export_left g.S.Store s c.requires c.args.name.now silent c.in_default.is c.write_stretches.new.store
+    (subst (λ (m : ℕ). Lasts g.S.Store s (with_sound call sound (Err reason))
+    (record s { store = c.write_sound.new.store; cache = cache; block_size = m })) (sym c.write_sound.ensures.same)
+    (lasts_looked g.S.Store s c.requires call tt tt sound c.in_default.is c.write_sound.new.store
+    c.in_err-bytes.ensures.kept cache keeps (Err reason) refl
+    (export_left g.S.Store s c.requires c.args.name.now silent c.in_default.is c.write_sound.new.store
     c.in_err-bytes.ensures.kept cache keeps why
     (g.V.Vault.fault_count c.args.vault.now)
-    (g.V.Vault.fault_count c.write_stretches.new.vault) c.in_err-bytes.ensures.faults
+    (g.V.Vault.fault_count c.write_sound.new.vault) c.in_err-bytes.ensures.faults
     (λ told.
     export_among files (named_blocks s) (point_blocks (current_tracks s.history)) why
     (current_named g.S.Store s c.requires)
     (subst (λ (z : List Track). IsBlockFault files (point_blocks z) why) c.current_of-point.ensures
-    (c.in_err-bytes.ensures.damaged told)))))
+    (c.in_err-bytes.ensures.damaged told))))))
 
 pub returns-clause-lasts : goal.returns-clause-lasts
 returns-clause-lasts g c = λ sound.
     let s = core_of c.args.self.now in
-    let cache = c.write_stretches.new.cache in
+    let cache = c.write_sound.new.cache in
     let keeps = reads_among g.S.Store s (point_blocks (current_tracks s.history)) cache
     (current_named g.S.Store s c.requires)
     (subst (λ (z : List Track). KeepsCache (g.S.Store.tells s.store) (g.S.Store.reads s.store) (point_blocks z) s.cache
-    cache) c.current_of-point.ensures c.write_stretches.ensures.cache) in
+    cache) c.current_of-point.ensures c.write_sound.ensures.cache) in
     let same : s.commit_number ≡ s.commit_number + 0 = omega arith in
-    lasts_looked g.S.Store s c.requires
-    (Line (command.Export c.args.name.now)) tt tt sound c.in_default.is c.write_stretches.new.store
-    c.in_ok-bytes.ensures.kept cache keeps (Ok (reply.Wrote c.in_ok-bytes.bytes)) same tt
+    let call = Line (command.Export c.args.name.now) in
+    let told = Ok (reply.Wrote c.in_ok-bytes.bytes) in
+    subst (λ (m : ℕ). Lasts g.S.Store s (with_sound call sound told)
+    (record s { store = c.write_sound.new.store; cache = cache; block_size = m })) (sym c.write_sound.ensures.same)
+    (lasts_looked g.S.Store s c.requires call tt tt sound c.in_default.is c.write_sound.new.store
+    c.in_ok-bytes.ensures.kept cache keeps told same tt)

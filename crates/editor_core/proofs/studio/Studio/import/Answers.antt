@@ -1,5 +1,6 @@
--- A sound is read, and its channels are added.
+-- A sound is found, and its channels are added.
 use Rattle.std.proofs.Common.{◌≡◌, ◌⊎◌, ◌<◌, ◌∙◌, sym, ap, subst, inl, inr, ℕ, List, Option, Some, None, Err}
+use Rattle.std.proofs.Common.{IsTrue, arith}
 use Rattle.std.specs.Prelude.{IfErr, IfOk}
 use Rattle.std.proofs.lemmas.Result.{err_from_is_err_and}
 use Rattle.pcm_base.specs.declared.answer.Reply.TheVariants as reply
@@ -7,15 +8,22 @@ use Rattle.pcm_base.specs.declared.command.Call.TheVariants.{Line}
 use Rattle.pcm_base.specs.declared.command.Command.TheVariants as command
 use Rattle.pcm_base.specs.declared.refusal.Refusal.TheVariants as refusal
 use Rattle.pcm_base.specs.declared.wav.WavFault.TheVariants.{Truncated}
+use Rattle.piece_store.specs.Brought.{Brought, MayBring}
 use Rattle.sound_import.specs.Imported.{import_refusal}
+use Rattle.sound_import.specs.Reading.{brought_from}
 use Rattle.editor_core.specs.Applied.{Lasts}
 use Rattle.editor_core.specs.Core.{core_of}
 use Rattle.editor_core.specs.Imports.{IsCutShort, left_as}
+use Rattle.editor_core.specs.Studios.{IsHeld, IsStudio}
 use Rattle.editor_core.specs.Took.{Took, told_by, with_sound}
 use Rattle.editor_core.proofs.Applying.{lasts_idle}
-use Rattle.editor_core.proofs.ImportRefused.{counted_so, import_plain, import_refused, import_stopped, taken_has}
-use Rattle.editor_core.proofs.ImportRefused.{inside_short, told_cut, told_short, where_err, where_ok}
+use Rattle.editor_core.proofs.CutShort.{did_err, did_ok, known_did}
+use Rattle.editor_core.proofs.HeadChannels.{all_told, bytes_have, told_has}
+use Rattle.editor_core.proofs.ImportRefused.{import_plain, import_refused, import_stopped}
+use Rattle.editor_core.proofs.ImportRefused.{inside_short, told_cut, told_short}
 use Rattle.editor_core.proofs.studio.Studio.import.Goals as goal
+
+-- ---- the studio had stopped
 
 pub returns-in-Some-clause-took : goal.returns-in-Some-clause-took
 returns-in-Some-clause-took g c = λ told.
@@ -37,93 +45,164 @@ returns-in-Some-clause-reason g c =
           c.in-Some.faults c.in-Some.is,
     )
 
-pub returns-in-Some-clause-short : goal.returns-in-Some-clause-short
-returns-in-Some-clause-short g c = λ want have.
-    inside_short {T = ℕ} (Err (refusal.Stopped c.in-Some.faults)) want have tt
+-- ---- the sound is not taken
 
-pub returns-in_err-wav-clause-took : goal.returns-in_err-wav-clause-took
-returns-in_err-wav-clause-took g c = λ told.
+pub returns-in_err-head-clause-took : goal.returns-in_err-head-clause-took
+returns-in_err-head-clause-took g c = λ told.
     let s = core_of c.args.self.now in
     let name = c.args.name.now in
     let sound = g.V.Vault.holds c.args.vault.now name in
     let call = Line (command.Import name) in
     let p = err_from_is_err_and c.from_residual.result c.from_residual.ensures.1 in
-    subst (λ r. Took g.S.Store s (with_sound call (left_as sound) (told_by (λ _. reply.Done) r))
-    s) (sym (p.1 ∙ ap Err p.2))
+    subst (λ r. Took g.S.Store s (with_sound call (left_as sound) (told_by (λ (n : ℕ). reply.Done) r))
+    (record s { block_size = c.find.new.self })) (sym (p.1 ∙ ap Err p.2))
+    (subst (λ (m : ℕ). Took g.S.Store s
+    (with_sound call (left_as sound) (Err (import_refusal c.in_err-head.field-0.0))) (record s { block_size = m }))
+    (sym c.find.ensures.same)
     (import_refused g.S.Store s c.requires (g.met.S.Store.may_fewer s.store) name sound c.in_default.is
-    c.in_err-wav.field-0.0 (c.in_err-wav.ensures.refused told))
+    c.in_err-head.field-0.0 (c.in_err-head.ensures.refused told)))
 
-pub returns-in_err-wav-clause-lasts : goal.returns-in_err-wav-clause-lasts
-returns-in_err-wav-clause-lasts g c = λ sound.
+pub returns-in_err-head-clause-lasts : goal.returns-in_err-head-clause-lasts
+returns-in_err-head-clause-lasts g c = λ sound.
     let s = core_of c.args.self.now in
     let call = Line (command.Import c.args.name.now) in
     let p = err_from_is_err_and c.from_residual.result c.from_residual.ensures.1 in
-    subst (λ r. Lasts g.S.Store s (with_sound call sound (told_by (λ _. reply.Done) r)) s) (sym (p.1 ∙ ap Err p.2))
-    (lasts_idle g.S.Store s c.requires (g.met.S.Store.may_fewer s.store) call tt sound
-    (import_refusal c.in_err-wav.field-0.0) (import_plain c.in_err-wav.field-0.0))
+    let why = import_refusal c.in_err-head.field-0.0 in
+    subst (λ r. Lasts g.S.Store s (with_sound call sound (told_by (λ (n : ℕ). reply.Done) r))
+    (record s { block_size = c.find.new.self })) (sym (p.1 ∙ ap Err p.2))
+    (subst (λ (m : ℕ). Lasts g.S.Store s (with_sound call sound (Err why)) (record s { block_size = m }))
+    (sym c.find.ensures.same)
+    (lasts_idle g.S.Store s c.requires (g.met.S.Store.may_fewer s.store) call tt sound why
+    (import_plain c.in_err-head.field-0.0)))
 
-pub returns-in_err-wav-clause-some : goal.returns-in_err-wav-clause-some
-returns-in_err-wav-clause-some g c =
+pub returns-in_err-head-clause-some : goal.returns-in_err-head-clause-some
+returns-in_err-head-clause-some g c =
     let p = err_from_is_err_and c.from_residual.result c.from_residual.ensures.1 in
     subst (λ r. IfOk r (λ n. (bytes : List ℕ) × Took g.S.Store (core_of c.args.self.now)
-    (with_sound (Line (command.Import c.args.name.now)) (left_as (Some bytes)) (told_by (λ _. reply.Done) r))
-    (core_of c.args.self.now))) (sym (p.1 ∙ ap Err p.2)) tt
+    (with_sound (Line (command.Import c.args.name.now)) (left_as (Some bytes)) (told_by (λ (n : ℕ). reply.Done) r))
+    (record (core_of c.args.self.now) { block_size = c.find.new.self }))) (sym (p.1 ∙ ap Err p.2)) tt
 
-pub returns-in_err-wav-clause-reason : goal.returns-in_err-wav-clause-reason
-returns-in_err-wav-clause-reason g c =
+pub returns-in_err-head-clause-reason : goal.returns-in_err-head-clause-reason
+returns-in_err-head-clause-reason g c =
     let s = core_of c.args.self.now in
     let name = c.args.name.now in
     let call = Line (command.Import name) in
     let p = err_from_is_err_and c.from_residual.result c.from_residual.ensures.1 in
-    let why = c.in_err-wav.field-0.0 in
+    let why = c.in_err-head.field-0.0 in
     subst (λ r. IfErr r (λ e. IsCutShort e ⊎ ((sound : Option (List ℕ)) × Took g.S.Store s
-    (with_sound call (left_as sound) (told_by (λ _. reply.Done) r)) s))) (sym (p.1 ∙ ap Err p.2))
-    (elim c.in_err-wav.ensures.reason [
+    (with_sound call (left_as sound) (told_by (λ (n : ℕ). reply.Done) r))
+    (record s { block_size = c.find.new.self })))) (sym (p.1 ∙ ap Err p.2))
+    (elim c.in_err-head.ensures.reason [
       | inl cut ↦ inl (told_cut why cut)
       | inr some ↦ inr (
         some.0,
-        import_refused g.S.Store s c.requires (g.met.S.Store.may_fewer s.store) name some.0
-            c.in_default.is why some.1,
+        subst (λ (m : ℕ). Took g.S.Store s (with_sound call (left_as some.0) (Err (import_refusal why)))
+            (record s { block_size = m })) (sym c.find.ensures.same)
+            (import_refused g.S.Store s c.requires (g.met.S.Store.may_fewer s.store) name some.0
+            c.in_default.is why some.1),
       )
     ])
 
-pub returns-in_err-wav-clause-short : goal.returns-in_err-wav-clause-short
-returns-in_err-wav-clause-short g c = λ want have.
+pub returns-in_err-head-clause-short : goal.returns-in_err-head-clause-short
+returns-in_err-head-clause-short g c = λ want have.
     let p = err_from_is_err_and c.from_residual.result c.from_residual.ensures.1 in
     subst (λ r. IfErr r (λ e. e ≡ refusal.BadWav (Truncated want have) → have < want)) (sym (p.1 ∙ ap Err p.2))
-    (told_short c.in_err-wav.field-0.0 c.in_err-wav.ensures.short want have)
+    (told_short c.in_err-head.field-0.0 c.in_err-head.ensures.short want have)
 
-pub returns-clause-some : goal.returns-clause-some
-returns-clause-some g c =
-    let some = c.in_ok-wav.ensures.some in
-    where_ok c.add_channels.result (
-      some.0,
-      c.add_channels.ensures.took c.args.name.now (Some some.0)
-          (taken_has (Some some.0) c.args.self.now.rate c.in_ok-wav.wav some.1),
-    )
+-- ---- its channels are added
 
-pub returns-clause-reason : goal.returns-clause-reason
-returns-clause-reason g c =
-    let some = c.in_ok-wav.ensures.some in
-    where_err IsCutShort c.add_channels.result (
-      Some some.0,
-      c.add_channels.ensures.took c.args.name.now (Some some.0)
-          (taken_has (Some some.0) c.args.self.now.rate c.in_ok-wav.wav some.1),
-    )
-
-pub returns-clause-short : goal.returns-clause-short
-returns-clause-short g c = λ want have. inside_short c.add_channels.result want have c.add_channels.ensures.device
+pub add_channels-requires-clause-studio : goal.add_channels-requires-clause-studio
+add_channels-requires-clause-studio g c =
+    let s = core_of c.args.self.now in
+    subst (λ (m : ℕ). IsStudio g.S.Store (record s { block_size = m })) (sym c.find.ensures.same) c.requires
 
 pub returns-clause-took : goal.returns-clause-took
 returns-clause-took g c = λ told.
-    let sound = g.V.Vault.holds c.args.vault.now c.args.name.now in
-    c.add_channels.ensures.took c.args.name.now sound
-    (taken_has sound c.args.self.now.rate c.in_ok-wav.wav (c.in_ok-wav.ensures.taken told))
+    let s = core_of c.args.self.now in
+    let name = c.args.name.now in
+    let old = c.args.vault.now in
+    let head = c.in_ok-head.head in
+    let sound = g.V.Vault.holds old name in
+    let found = c.in_ok-head.ensures.found in
+    let rate = c.in_ok-head.ensures.rate in
+    let by = c.add_channels.ensures.took in
+    let b = brought_from (g.V.Vault.tells c.find.new.vault) (g.V.Vault.holds c.find.new.vault) name head in
+    let same : b ≡ brought_from (g.V.Vault.tells old) (g.V.Vault.holds old) name head = λ i.
+    brought_from (c.find.ensures.tells i) (c.find.ensures.held i) name head in
+    let may = subst (λ (d : Brought). MayBring d by.0) same by.1 in
+    subst (λ (m : ℕ). Took g.S.Store (record s { block_size = m })
+    (with_sound (Line (command.Import name)) (left_as sound)
+    (told_by (λ (n : ℕ). reply.Done) c.add_channels.result)) (core_of c.add_channels.new.self)) c.find.ensures.same
+    (known_did b c.add_channels.result
+    (subst (λ (d : Brought). IsTrue d.tells) (sym same)
+    (all_told (g.V.Vault.tells old) (g.V.Vault.holds old) name head s.rate found rate told))
+    c.add_channels.ensures.device
+    (by.2 sound (told_has (g.V.Vault.tells old) (g.V.Vault.holds old) name head s.rate found rate told by.0 may)))
 
 pub returns-clause-lasts : goal.returns-clause-lasts
-returns-clause-lasts g c = c.add_channels.ensures.lasts c.args.name.now
+returns-clause-lasts g c = λ sound.
+    let s = core_of c.args.self.now in
+    subst (λ (m : ℕ). Lasts g.S.Store (record s { block_size = m })
+    (with_sound (Line (command.Import c.args.name.now)) sound
+    (told_by (λ (n : ℕ). reply.Done) c.add_channels.result)) (core_of c.add_channels.new.self)) c.find.ensures.same
+    (c.add_channels.ensures.lasts sound)
 
-pub returns-clause-faults : goal.returns-clause-faults
-returns-clause-faults g c =
-    counted_so c.add_channels.result (g.V.Vault.fault_count c.args.vault.now)
-    (g.V.Vault.fault_count c.read_sound.new.vault) c.add_channels.ensures.device c.in_ok-wav.ensures.faults
+pub returns-clause-some : goal.returns-clause-some
+returns-clause-some g c =
+    let s = core_of c.args.self.now in
+    let name = c.args.name.now in
+    let old = c.args.vault.now in
+    let head = c.in_ok-head.head in
+    let by = c.add_channels.ensures.took in
+    let same : brought_from (g.V.Vault.tells c.find.new.vault) (g.V.Vault.holds c.find.new.vault) name head
+    ≡ brought_from (g.V.Vault.tells old) (g.V.Vault.holds old) name head = λ i.
+    brought_from (c.find.ensures.tells i) (c.find.ensures.held i) name head in
+    let bytes = bytes_have (g.V.Vault.tells old) (g.V.Vault.holds old) name head s.rate
+    c.in_ok-head.ensures.found c.in_ok-head.ensures.rate c.in_ok-head.ensures.shape c.in_ok-head.ensures.some
+    (omega arith) by.0 (subst (λ (d : Brought). MayBring d by.0) same by.1) in
+    did_ok c.add_channels.result (elim (by.2 (Some bytes.0) bytes.1) [
+      | inl cut ↦ inl cut
+      | inr took ↦ inr (
+        bytes.0,
+        subst (λ (m : ℕ). Took g.S.Store (record s { block_size = m })
+            (with_sound (Line (command.Import name)) (left_as (Some bytes.0))
+            (told_by (λ (n : ℕ). reply.Done) c.add_channels.result)) (core_of c.add_channels.new.self))
+            c.find.ensures.same took,
+      )
+    ])
+
+pub returns-clause-reason : goal.returns-clause-reason
+returns-clause-reason g c =
+    let s = core_of c.args.self.now in
+    let name = c.args.name.now in
+    let old = c.args.vault.now in
+    let head = c.in_ok-head.head in
+    let by = c.add_channels.ensures.took in
+    let same : brought_from (g.V.Vault.tells c.find.new.vault) (g.V.Vault.holds c.find.new.vault) name head
+    ≡ brought_from (g.V.Vault.tells old) (g.V.Vault.holds old) name head = λ i.
+    brought_from (c.find.ensures.tells i) (c.find.ensures.held i) name head in
+    let bytes = bytes_have (g.V.Vault.tells old) (g.V.Vault.holds old) name head s.rate
+    c.in_ok-head.ensures.found c.in_ok-head.ensures.rate c.in_ok-head.ensures.shape c.in_ok-head.ensures.some
+    (omega arith) by.0 (subst (λ (d : Brought). MayBring d by.0) same by.1) in
+    did_err c.add_channels.result (elim (by.2 (Some bytes.0) bytes.1) [
+      | inl cut ↦ inl cut
+      | inr took ↦ inr (
+        Some bytes.0,
+        subst (λ (m : ℕ). Took g.S.Store (record s { block_size = m })
+            (with_sound (Line (command.Import name)) (left_as (Some bytes.0))
+            (told_by (λ (n : ℕ). reply.Done) c.add_channels.result)) (core_of c.add_channels.new.self))
+            c.find.ensures.same took,
+      )
+    ])
+
+pub returns-clause-short : goal.returns-clause-short
+returns-clause-short g c = λ want have.
+    let vault = c.find.new.vault in
+    inside_short (brought_from (g.V.Vault.tells vault) (g.V.Vault.holds vault) c.args.name.now c.in_ok-head.head)
+    c.add_channels.result want have c.add_channels.ensures.device
+
+pub returns-clause-sound : goal.returns-clause-sound
+returns-clause-sound g c = λ held.
+    let s = core_of c.args.self.now in
+    c.add_channels.ensures.sound
+    (subst (λ (m : ℕ). IsHeld g.S.Store (record s { block_size = m })) (sym c.find.ensures.same) held)

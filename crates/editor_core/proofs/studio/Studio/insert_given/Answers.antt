@@ -2,7 +2,7 @@
 use Rattle.std.proofs.Common.{◌∙◌, refl, sym, ap, subst, ℕ, IfErr, Err}
 use Rattle.std.proofs.lemmas.Result.{err_from_is_err_and}
 use Rattle.pcm_base.specs.declared.answer.Reply.TheVariants.{Done}
-use Rattle.piece_store.specs.Bringing.{brought_count}
+use Rattle.piece_store.specs.Bringing.{brought, brought_by, brought_count}
 use Rattle.envelope_view.specs.Answers.{IsUndamaged}
 use Rattle.project_state.specs.Kept.{current_tracks}
 use Rattle.editor_core.specs.Core.{core_of}
@@ -14,6 +14,7 @@ use Rattle.editor_core.proofs.InsertLaws.{place_tells}
 use Rattle.editor_core.proofs.NoDamage.{no_plan_tells}
 use Rattle.editor_core.proofs.TrackLaws.{track_edit, track_refused, track_stopped}
 use Rattle.editor_core.proofs.TrackPlans.{track_next, track_planned}
+use Rattle.editor_core.proofs.Knowing.{known_took, planned_any}
 use Rattle.editor_core.proofs.studio.Studio.insert_given.Goals as goal
 
 pub returns-in-Some-clause-took : goal.returns-in-Some-clause-took
@@ -22,8 +23,7 @@ returns-in-Some-clause-took g c = λ call sound line.
     let given = c.args.given.now in
     let e = place_edit c.args.place (brought_count given) in
     track_stopped g.S.Store s c.requires.studio call sound e given c.args.track c.args.tag c.args.more line
-    c.in-Some.faults
-    (g.met.S.Store.may_fewer s.store) c.in-Some.is
+    c.in-Some.faults (g.met.S.Store.may_fewer s.store) c.requires.more c.in-Some.is
 
 pub returns-in_err-planned-clause-still : goal.returns-in_err-planned-clause-still
 returns-in_err-planned-clause-still g c =
@@ -42,7 +42,7 @@ returns-in_err-planned-clause-took g c = λ call sound line.
     c.count_of.ensures.value c.in_err-planned.ensures.err in
     subst (λ x. Took g.S.Store s (with_sound call sound (told_by (λ (n : ℕ). Done) x)) s) (sym (r.1 ∙ ap Err r.2))
     (track_refused g.S.Store s c.requires.studio call sound e given c.args.track c.args.tag c.args.more line why
-    (g.met.S.Store.may_fewer s.store) c.in_default.is not)
+    (g.met.S.Store.may_fewer s.store) c.requires.more c.in_default.is not)
 
 pub returns-in_err-planned-clause-sound : goal.returns-in_err-planned-clause-sound
 returns-in_err-planned-clause-sound g c = λ held.
@@ -54,15 +54,16 @@ returns-in_err-planned-clause-sound g c = λ held.
     (λ len. place_tells c.args.place count len) c.in_err-planned.ensures.err)
 
 pub carry_out-requires-clause-planned : goal.carry_out-requires-clause-planned
-carry_out-requires-clause-planned g c =
+carry_out-requires-clause-planned g c = λ samples.
     let s = core_of c.args.self.now in
     let given = c.args.given.now in
     let p = c.in_ok-planned.planned in
     let plan = subst (λ (k : ℕ). IsTrackPlan (place_edit c.args.place k) k c.args.track s p) c.count_of.ensures.value
     c.in_ok-planned.ensures.plan in
-    track_planned g.S.Store s c.requires.studio (place_edit c.args.place (brought_count given)) given c.args.track p
-    plan c.in_ok-planned.ensures.tracks c.in_ok-planned.ensures.clip c.args.tag c.args.more c.requires.tag
-    c.requires.counts
+    planned_any s p c.args.tag c.args.more (brought_by given) (brought given) samples
+    (track_planned g.S.Store s c.requires.studio (place_edit c.args.place (brought_count given)) given c.args.track p
+    plan c.in_ok-planned.ensures.tracks c.in_ok-planned.ensures.clip c.args.tag c.args.more
+    c.requires.tag c.requires.counts)
 
 pub carry_out-requires-clause-next : goal.carry_out-requires-clause-next
 carry_out-requires-clause-next g c =
@@ -82,6 +83,8 @@ returns-clause-took g c = λ call sound line.
     let p = c.in_ok-planned.planned in
     let plan = subst (λ (k : ℕ). IsTrackPlan (place_edit c.args.place k) k c.args.track s p) c.count_of.ensures.value
     c.in_ok-planned.ensures.plan in
-    c.carry_out.ensures.took call sound
+    known_took g.S.Store s p c.args.tag c.args.more given c.carry_out.result
+    (λ call sound. Took g.S.Store s (with_sound call sound (told_by (λ (n : ℕ). Done) c.carry_out.result))
+    (core_of c.carry_out.new.self)) c.carry_out.ensures.took c.carry_out.ensures.device call sound
     (track_edit g.S.Store s c.requires.studio call sound e given c.args.track c.args.tag c.args.more line p plan
     c.in_ok-planned.ensures.tracks c.in_ok-planned.ensures.clip)

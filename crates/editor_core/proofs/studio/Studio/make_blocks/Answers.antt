@@ -10,12 +10,18 @@ use Rattle.editor_core.proofs.studio.Studio.make_blocks.Goals as goal
 pub returns-in_err-write_blocks-clause-made : goal.returns-in_err-write_blocks-clause-made
 returns-in_err-write_blocks-clause-made g c =
     let e = err_from_is_err_and c.from_residual.result c.from_residual.ensures.1 in
-    subst (λ r. Makes g.S.Store (core_of c.args.self.now) (batch_of c.args.given.now c.args.makes.now) r
-    (core_of c.write_blocks.new.self)) (sym (e.1 ∙ ap Err e.2))
-    c.in_err-write_blocks.ensures.written
+    let by = c.in_err-write_blocks.ensures.written in (
+      by.0,
+      by.1,
+      subst (λ r. Makes g.S.Store (core_of c.args.self.now) (batch_of by.0 c.args.makes.now) r
+          (core_of c.write_blocks.new.self)) (sym (e.1 ∙ ap Err e.2)) by.2,
+    )
 
 pub returns-clause-made : goal.returns-clause-made
 returns-clause-made g c =
-    makes_both g.S.Store (core_of c.args.self.now) c.args.given.now c.args.makes.now c.sync_blocks.result
-    (core_of c.write_blocks.new.self) (core_of c.sync_blocks.new.self)
-    c.in_ok-write_blocks.ensures.written c.sync_blocks.ensures.synced
+    let by = c.in_ok-write_blocks.ensures.written in (
+      by.0,
+      by.1,
+      makes_both g.S.Store (core_of c.args.self.now) by.0 c.args.makes.now c.sync_blocks.result
+          (core_of c.write_blocks.new.self) (core_of c.sync_blocks.new.self) by.2 c.sync_blocks.ensures.synced,
+    )

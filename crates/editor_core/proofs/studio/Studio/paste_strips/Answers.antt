@@ -5,11 +5,14 @@ use Rattle.pcm_base.specs.declared.answer.Reply.TheVariants.{Done}
 use Rattle.pcm_base.specs.declared.command.Call.TheVariants.{Line}
 use Rattle.pcm_base.specs.Shape.{paste_line}
 use Rattle.envelope_view.specs.Answers.{IsUndamaged}
+use Rattle.piece_store.specs.declared.given.Given.TheVariants.{Nothing}
+use Rattle.piece_store.specs.Bringing.{brought, brought_by}
 use Rattle.editor_core.specs.Core.{core_of}
-use Rattle.editor_core.specs.Took.{Took, quietly, silent, told_by}
+use Rattle.editor_core.specs.Took.{Took, quietly, silent, told_by, with_sound}
 use Rattle.editor_core.proofs.PasteLaws.{no_paste_tells}
 use Rattle.editor_core.proofs.PasteRefused.{paste_refused, paste_stopped}
 use Rattle.editor_core.proofs.PasteSteps.{paste_edit, paste_planned}
+use Rattle.editor_core.proofs.Knowing.{known_took, planned_any}
 use Rattle.editor_core.proofs.studio.Studio.paste_strips.Goals as goal
 
 pub returns-in-Some-clause-took : goal.returns-in-Some-clause-took
@@ -36,11 +39,12 @@ returns-in_err-planned-clause-sound g c = λ held.
     (no_paste_tells c.args.placing c.args.track c.args.at s c.in_err-planned.field-0.0 c.in_err-planned.ensures.err)
 
 pub carry_out-requires-clause-planned : goal.carry_out-requires-clause-planned
-carry_out-requires-clause-planned g c =
+carry_out-requires-clause-planned g c = λ samples.
     let s = core_of c.args.self.now in
     let planned = c.in_ok-planned.ensures in
-    paste_planned g.S.Store s c.requires.studio c.args.placing c.args.track c.args.at c.in_ok-planned.planned planned.plan
-    planned.tracks planned.clip
+    planned_any s c.in_ok-planned.planned 0 0 (brought_by Nothing) (brought Nothing) samples
+    (paste_planned g.S.Store s c.requires.studio c.args.placing c.args.track c.args.at c.in_ok-planned.planned
+    planned.plan planned.tracks planned.clip)
 
 pub carry_out-requires-clause-next : goal.carry_out-requires-clause-next
 carry_out-requires-clause-next g c = c.in_ok-planned.ensures.plan.laid.after_is
@@ -50,6 +54,8 @@ returns-clause-took g c =
     let s = core_of c.args.self.now in
     let call = Line (paste_line c.args.placing c.args.track c.args.at) in
     let planned = c.in_ok-planned.ensures in
-    c.carry_out.ensures.took call silent
+    known_took g.S.Store s c.in_ok-planned.planned 0 0 Nothing c.carry_out.result
+    (λ call sound. Took g.S.Store s (with_sound call sound (told_by (λ (n : ℕ). Done) c.carry_out.result))
+    (core_of c.carry_out.new.self)) c.carry_out.ensures.took c.carry_out.ensures.device call silent
     (paste_edit g.S.Store s c.requires.studio c.args.placing c.args.track c.args.at c.in_ok-planned.planned planned.plan
     planned.tracks planned.clip)

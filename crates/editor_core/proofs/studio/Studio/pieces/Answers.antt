@@ -8,14 +8,14 @@ use Rattle.pcm_base.specs.declared.command.Call.TheVariants.{Piece}
 use Rattle.pcm_base.specs.declared.refusal.Refusal.{Refusal}
 use Rattle.editor_core.specs.Core.{Core, core_of}
 use Rattle.editor_core.specs.Edits.{IsStill}
-use Rattle.editor_core.specs.Exchanges.{is_broken_off}
+use Rattle.editor_core.specs.Exchanges.{may_begin}
 use Rattle.editor_core.specs.Studios.{IsHeld}
 use Rattle.editor_core.specs.Took.{Took, quietly, told_by}
 use Rattle.editor_core.proofs.studio.Studio.pieces.Goals as goal
 
 -- what a test refused has left the studio as it was
 idle_same : {D : Type 0} (old new : Core D) (r : Result ℕ Refusal)
-    → IfErr r (λ why. is_broken_off why ≡ false) × IsErr r → IfErr r (IsStill old new) → new ≡ old
+    → IfErr r (λ why. may_begin why ≡ false) × IsErr r → IfErr r (IsStill old new) → new ≡ old
 idle_same old new (Ok n) idle still = absurd (true≢false (sym idle.1))
 idle_same old new (Err why) idle still = still idle.0
 

@@ -1,9 +1,12 @@
 -- A track more for each channel.
-use Rattle.std.proofs.Common.{◌≡◌, ◌∙◌, refl, sym, subst, ℕ, ◌+◌, List, length, take, slice_index_or, arith}
+use Rattle.std.proofs.Common.{◌≡◌, ◌∙◌, refl, sym, ap, subst, ℕ, ◌+◌, List, length, take, slice_index_or, arith}
 use Rattle.std.proofs.lemmas.List.{length-take, take_all}
 use Rattle.project_state.specs.Kept.{current_tracks}
 use Rattle.editor_core.specs.Core.{core_of}
-use Rattle.editor_core.specs.Imports.{AddsChannel, AreGrown}
+use Rattle.edit_ops.specs.declared.types.NewBlock.{NewBlock}
+use Rattle.editor_core.specs.Imports.{AddsChannel, AreGrown, total_of}
+use Rattle.editor_core.specs.Made.{AllInOrder}
+use Rattle.editor_core.proofs.OrderLaws.{order_more}
 use Rattle.editor_core.proofs.Editing.{current_below}
 use Rattle.editor_core.proofs.Importing.{grown_more, grown_none}
 use Rattle.editor_core.proofs.ImportTests.{all_grown, brought_few, channels_pass, grown_below, ids_count, short_at}
@@ -16,6 +19,7 @@ channels-init g c =
       grown = grown_none s
           (record { point = c.in_ok-copy.field-0; makes = c.new.result; next = s.next_block; brought = 0 })
           (c.in_ok-copy.ensures ∙ c.current.ensures) c.new.ensures.items refl refl;
+      order = subst (λ (bs : List NewBlock). AllInOrder 0 0 bs) (sym c.new.ensures.items) (omega arith);
       next_id = omega arith;
     }
 
@@ -70,6 +74,8 @@ channels-preserved g c =
           (c.requires.studio.counters.block_least) (c.requires.studio.counters.track_least)
           (take i counts) count (omega (arith, len, pass.0, c.channels-test.true)) c.channels.growing
           c.add_channel.new.growing c.channels.invariant.grown adds);
+      order = order_more _ c.channels.id count c.channels.growing c.add_channel.new.growing
+          c.in_ok-add_channel.ensures.added c.channels.invariant.order;
       next_id = omega (arith, c.channels.invariant.next_id);
     }
 
@@ -84,3 +90,12 @@ returns-clause-plan g c =
 
 pub returns-clause-clip : goal.returns-clause-clip
 returns-clause-clip g c = c.planned_of.ensures.4
+
+pub returns-clause-order : goal.returns-clause-order
+returns-clause-order g c =
+    let i = c.channels.count-index in
+    let all = take_all i c.args.counts.now (omega (arith, c.channels-test.false)) in
+    let sum : c.channels.growing.brought ≡ total_of c.args.counts.now =
+    c.channels.invariant.grown.brought ∙ ap total_of all in
+    subst (λ (bs : List NewBlock). AllInOrder 0 (total_of c.args.counts.now) bs) (sym c.planned_of.ensures.1)
+    (subst (λ (k : ℕ). AllInOrder 0 k c.channels.growing.makes.items) sum c.channels.invariant.order)

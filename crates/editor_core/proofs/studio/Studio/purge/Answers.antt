@@ -36,7 +36,7 @@ returns-in_err-may_commit-clause-took g c =
     (sym (p.1 ∙ ap Err p.2))
     (tested_out g.S.Store s (Line (command.Purge c.args.count)) 0 9 c.purge_refusal.result c.in_err-may_commit.field-0.0
     c.requires (g.met.S.Store.may_fewer s.store) (purge_call c.args.count)
-    (λ held. (refl, refl)) c.purge_refusal.ensures.value c.in_err-may_commit.ensures)
+    (omega arith) (λ held. (refl, refl)) c.purge_refusal.ensures.value c.in_err-may_commit.ensures)
 
 pub returns-in_err-may_commit-clause-number : goal.returns-in_err-may_commit-clause-number
 returns-in_err-may_commit-clause-number g c =

@@ -28,7 +28,7 @@ returns-in_err-may_commit-clause-took g c =
     let s = core_of c.args.self.now in
     subst (λ r. Took g.S.Store s (quietly (Line command.Redo) (told_by (λ (n : ℕ). Done) r)) s) (sym (p.1 ∙ ap Err p.2))
     (tested_out g.S.Store s (Line command.Redo) 0 1 c.redo_refusal.result c.in_err-may_commit.field-0.0 c.requires
-    (g.met.S.Store.may_fewer s.store) redo_call (λ held. (refl, refl))
+    (g.met.S.Store.may_fewer s.store) redo_call (omega arith) (λ held. (refl, refl))
     (own_is g.S.Store s c.redo_refusal.result c.redo_refusal.ensures.value) c.in_err-may_commit.ensures)
 
 pub returns-in_err-may_commit-clause-number : goal.returns-in_err-may_commit-clause-number

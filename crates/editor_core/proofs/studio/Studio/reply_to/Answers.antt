@@ -1,7 +1,7 @@
 -- A line is a step, of which the vault's move is a part.
 use Rattle.std.proofs.lemmas.Bool.{true≢false}
 use Rattle.std.proofs.lemmas.Option.{none-some}
-use Rattle.std.proofs.Common.{◌≡◌, ◌∙◌, refl, sym, ap, subst, is_some, Result}
+use Rattle.std.proofs.Common.{◌≡◌, ◌∙◌, refl, sym, ap, subst, is_some, ℕ, List, Result}
 use Rattle.pcm_base.specs.declared.answer.Reply.{Reply}
 use Rattle.pcm_base.specs.declared.answer.Reply.TheVariants as reply
 use Rattle.pcm_base.specs.declared.command.Command.{Command}
@@ -10,12 +10,13 @@ use Rattle.pcm_base.specs.declared.command.Command.TheVariants as command
 use Rattle.pcm_base.specs.declared.refusal.Refusal.{Refusal}
 use Rattle.pcm_base.specs.Outside.{Sounds}
 use Rattle.pcm_base.specs.Run.{name_in_line}
-use Rattle.editor_core.specs.Applied.{TookOver}
+use Rattle.editor_core.specs.Applied.{Imported, TookOver}
 use Rattle.editor_core.specs.Core.{core_of}
 use Rattle.editor_core.specs.Exports.{moved_from}
 use Rattle.editor_core.specs.Imports.{VaultCounted}
 use Rattle.editor_core.specs.Took.{Took, told_by, with_sound}
-use Rattle.editor_core.proofs.Applying.{counted_told, names_none, over_silent, over_sound, spanned}
+use Rattle.editor_core.proofs.Applying.{counted_told, export_none, import_name, imported_done, names_none}
+use Rattle.editor_core.proofs.Applying.{over_silent, over_sound, spanned}
 use Rattle.editor_core.proofs.studio.Studio.reply_to.Goals as goal
 
 pub returns-in-Import-clause-took : goal.returns-in-Import-clause-took
@@ -33,7 +34,10 @@ returns-in-Import-clause-took g c =
     (λ is. subst (λ (z : Sounds). Took g.S.Store s (with_sound line (moved_from (before name) (z name)) told)
     new) (sym same)
     (c.import.ensures.took is))
-    (λ is other ne. ap (λ (z : Sounds). z other) same) c.import.ensures.lasts in
+    (λ is other ne. ap (λ (z : Sounds). z other) same) c.import.ensures.lasts
+    (λ n is. subst (λ (k : List ℕ). Imported g.S.Store s k told new) (import_name name n is)
+    (imported_done g.S.Store s name c.import.result new c.import.ensures.some c.import.ensures.reason
+    c.import.ensures.short)) in
     let command_is : command.Import name ≡ c.args.command.now =
     ap command.Import c.as_str.ensures ∙ sym c.in-Import.is in
     subst (λ (k : Command). TookOver g.S.Store span (Line k) c.done.result) command_is
@@ -59,7 +63,7 @@ returns-in-Export-clause-took g c =
     let line = Line (command.Export name) in
     let over : TookOver g.S.Store span line told =
     over_sound g.S.Store span line name told refl c.export.ensures.took c.export.ensures.others
-    c.export.ensures.lasts in
+    c.export.ensures.lasts (λ n is. absurd (export_none name n is)) in
     let command_is : command.Export name ≡ c.args.command.now =
     ap command.Export c.as_str-in-Export.ensures ∙ sym c.in-Export.is in
     subst (λ (k : Command). TookOver g.S.Store span (Line k) c.wrote.result) command_is

@@ -27,7 +27,7 @@ returns-in_err-may_commit-clause-took g c =
     let s = core_of c.args.self.now in
     subst (λ r. Took g.S.Store s (quietly (Line command.Undo) (told_by (λ (n : ℕ). Done) r)) s) (sym (p.1 ∙ ap Err p.2))
     (tested_out g.S.Store s (Line command.Undo) 0 1 c.undo_refusal.result c.in_err-may_commit.field-0.0 c.requires
-    (g.met.S.Store.may_fewer s.store) undo_call (λ held. (refl, refl))
+    (g.met.S.Store.may_fewer s.store) undo_call (omega arith) (λ held. (refl, refl))
     c.undo_refusal.ensures c.in_err-may_commit.ensures)
 
 pub returns-in_err-may_commit-clause-number : goal.returns-in_err-may_commit-clause-number

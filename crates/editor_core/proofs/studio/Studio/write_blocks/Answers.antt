@@ -1,21 +1,25 @@
 -- One block after another.
-use Rattle.std.proofs.Common.{◌∙◌, refl, sym, ap, subst, arith, Err}
+use Rattle.std.proofs.Common.{◌≡◌, ◌∙◌, ℕ, false, length, refl, sym, ap, subst, arith, Err}
 use Rattle.std.proofs.lemmas.Option.{slice_get_read}
 use Rattle.std.proofs.lemmas.Result.{err_from_is_err_and}
 use Rattle.edit_ops.specs.declared.types.NewBlock.{NewBlock}
+use Rattle.piece_store.specs.Brought.{AreInOrder, Brought, MayBring}
 use Rattle.block_ledger.specs.Entries.{count_of}
 use Rattle.editor_core.specs.Core.{core_of}
 use Rattle.editor_core.specs.Made.{batch_of}
-use Rattle.editor_core.specs.Makes.{MadeOne, Writes}
-use Rattle.editor_core.proofs.Makings.{written_none, written_more, making_next, making_size}
+use Rattle.editor_core.specs.Makes.{MadeOne, Writes, Written}
+use Rattle.editor_core.proofs.Bringing.{brought_more, brought_none, next_order}
+use Rattle.editor_core.proofs.Makings.{making_next, making_size}
 use Rattle.editor_core.proofs.NextMade.{item, ready_item}
 use Rattle.editor_core.proofs.NextMade.{fresh_next, stuck_here}
 use Rattle.editor_core.proofs.studio.Studio.write_blocks.Goals as goal
 
 pub rows-init : goal.rows-init
 rows-init g c = record {
-  written = written_none g.S.Store (core_of c.args.self.now) c.args.given.now c.args.makes.now
-      (g.met.S.Store.may_fewer c.args.self.now.store);
+  brought = brought_none g.S.Store (core_of c.args.self.now) (g.G.Brings.brings c.args.given.now) c.args.makes.now
+      (g.met.S.Store.may_fewer c.args.self.now.store) c.requires.order;
+  still = record { same = refl; goes = λ first h. h };
+  faults = refl;
   spare = omega arith;
   history = refl;
   body = refl;
@@ -30,7 +34,8 @@ write_one-requires-clause-id g c =
     let here = slice_get_read bs _ n c.block-item.result refl c.rows-test.true c.block-item.is in
     let ready = ready_item s.block_size s.next_block n bs c.block-item.result c.rows-test.true here c.requires.new
     c.requires.least c.requires.most c.requires.size in
-    ready.id ∙ sym (making_next g.S.Store s c.args.given.now bs n (core_of c.rows.self) c.rows.invariant.written.making)
+    ready.id ∙ sym (making_next g.S.Store s c.rows.invariant.brought.samples bs n (core_of c.rows.self)
+    c.rows.invariant.brought.written.making)
 
 pub write_one-requires-clause-block : goal.write_one-requires-clause-block
 write_one-requires-clause-block g c =
@@ -61,7 +66,8 @@ write_one-requires-clause-size g c =
     omega (
       arith,
       ready.few,
-      making_size g.S.Store s c.args.given.now bs n (core_of c.rows.self) c.rows.invariant.written.making,
+      making_size g.S.Store s c.rows.invariant.brought.samples bs n (core_of c.rows.self)
+          c.rows.invariant.brought.written.making,
     )
 
 pub write_one-requires-clause-fresh : goal.write_one-requires-clause-fresh
@@ -73,7 +79,7 @@ write_one-requires-clause-fresh g c =
     let ready = ready_item s.block_size s.next_block n bs c.block-item.result c.rows-test.true here c.requires.new
     c.requires.least c.requires.most c.requires.size in
     fresh_next s.next_block n s.counts (count_of c.rows.self.ledger) c.block-item.result.id
-    c.rows.invariant.written.making.ledger c.requires.below ready.id
+    c.rows.invariant.brought.written.making.ledger c.requires.below ready.id
 
 pub returns-in_err-write_one-clause-written : goal.returns-in_err-write_one-clause-written
 returns-in_err-write_one-clause-written g c =
@@ -85,10 +91,28 @@ returns-in_err-write_one-clause-written g c =
     let e = err_from_is_err_and c.from_residual.result c.from_residual.ensures.1 in
     let new = core_of c.write_one.new.self in
     let failed = c.in_err-write_one.ensures in
-    subst (λ r. Writes g.S.Store s (batch_of c.args.given.now bs) r new) (sym (e.1 ∙ ap Err e.2))
-    (stuck_here g.S.Store s c.args.given.now bs n
-    (core_of c.rows.self) c.rows.invariant.written.making c.rows-test.true c.requires.new b here
-    c.in_err-write_one.field-0.0 new c.rows.invariant.written.read_faults failed.made failed.sound failed.damaged)
+    let was = c.rows.invariant.brought in (
+      was.samples,
+      was.may,
+      subst (λ r. Writes g.S.Store s (batch_of was.samples bs) r new) (sym (e.1 ∙ ap Err e.2))
+          (stuck_here g.S.Store s was.samples bs n
+          (core_of c.rows.self) was.written.making c.rows-test.true c.requires.new b here
+          c.in_err-write_one.field-0.0 new was.written.read_faults failed.made failed.sound failed.damaged),
+    )
+
+pub write_one-requires-clause-order : goal.write_one-requires-clause-order
+write_one-requires-clause-order g c =
+    let s = core_of c.args.self.now in
+    let bs = c.args.makes.now in
+    let n = c.rows.block-index in
+    let b : NewBlock = c.block-item.result in
+    let here = slice_get_read bs _ n b refl c.rows-test.true c.block-item.is in
+    let is = item bs n b b c.rows-test.true here in
+    let B : Brought → Type 0 = λ x. x.tells ≡ false → AreInOrder 0 x.count b.pieces in
+    subst B (sym c.rows.invariant.still.same) (λ quiet.
+    subst (λ (x : NewBlock). AreInOrder 0 (g.G.Brings.brings c.args.given.now).count x.pieces) is
+    (next_order g.S.Store s (g.G.Brings.brings c.args.given.now) bs n b (core_of c.rows.self) c.rows-test.true
+    c.rows.invariant.brought quiet))
 
 pub rows-preserved : goal.rows-preserved
 rows-preserved g c =
@@ -101,11 +125,29 @@ rows-preserved g c =
     let mid = core_of c.rows.self in
     let new = core_of c.write_one.new.self in
     let done = c.in_ok-write_one.ensures in
-    let one = subst (λ (x : NewBlock). MadeOne g.S.Store mid c.args.given.now x new) (sym is) done.made in record {
-      written = written_more g.S.Store s c.args.given.now bs n b mid new c.rows-test.true c.requires.new
-          c.rows.invariant.written one;
-      spare = omega (arith, done.spare, c.rows.invariant.spare);
-      history = done.history ∙ c.rows.invariant.history;
-      body = done.body ∙ c.rows.invariant.body;
-      row = done.row ∙ c.rows.invariant.row;
+    let inv = c.rows.invariant in
+    let brings = g.G.Brings.brings c.args.given.now in
+    let may = subst (λ (x : Brought). MayBring x done.made.0) inv.still.same done.made.1 in
+    let one = subst (λ (x : NewBlock). MadeOne g.S.Store mid done.made.0 x new) (sym is) done.made.2 in record {
+      brought = brought_more g.S.Store s brings bs n b mid new c.rows-test.true c.requires.new inv.brought done.made.0
+          may one;
+      still = record {
+        same = done.still.same ∙ inv.still.same;
+        goes = λ first h. done.still.goes first (inv.still.goes first h);
+      };
+      faults = done.given ∙ inv.faults;
+      spare = omega (arith, done.spare, inv.spare);
+      history = done.history ∙ inv.history;
+      body = done.body ∙ inv.body;
+      row = done.row ∙ inv.row;
     }
+
+pub returns-clause-written : goal.returns-clause-written
+returns-clause-written g c =
+    let was = c.rows.invariant.brought in
+    let all : c.rows.block-index ≡ length c.args.makes.now = omega arith in (
+      was.samples,
+      was.may,
+      subst (λ (k : ℕ). Written g.S.Store (core_of c.args.self.now) (batch_of was.samples c.args.makes.now) k
+          (core_of c.rows.self)) all was.written,
+    )

@@ -14,7 +14,7 @@ with-requires-clause-fits g c = fits g.S.Store g.V.Vault _ _ _ _ (call.Line comm
     (λ s f'. told_by reply.Packed s.what) (λ f'. silent)
     (λ more x others stood y is. is_studio g.S.Store g.V.Vault (start_of c.args.self.now.turn) x y.now _ stood is)
     (λ s f' x x' called.
-    does_silent g.S.Store _ _ (call.Line command.Compact) _ _ _ called.called.met.1.0.took)
+    does_silent g.S.Store _ _ (call.Line command.Compact) _ _ _ refl called.called.met.1.0.took)
 
 pub returns-clause-says : goal.returns-clause-says
 returns-clause-says g c =
@@ -22,7 +22,7 @@ returns-clause-says g c =
     (λ f'. silent) _ (λ s. told_by reply.Packed s.what) silent _ _ _ c.with.ensures.turned c.said_by.ensures
     (λ s x x' called. record {
       does = does_silent g.S.Store _ _ (call.Line command.Compact) _ _ _
-          called.called.met.1.0.took;
+          refl called.called.met.1.0.took;
       number = called.called.met.1.1;
       what_is = refl;
       sound_is = refl;

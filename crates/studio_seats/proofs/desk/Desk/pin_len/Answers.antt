@@ -12,14 +12,14 @@ pub with-requires-clause-fits : goal.with-requires-clause-fits
 with-requires-clause-fits g c =
     fits g.S.Store g.V.Vault _ _ _ _ (call.PinLen c.args.pin) (λ s f'. told_by reply.Length s.what) (λ f'. silent)
     (λ more x others stood y is. is_studio g.S.Store g.V.Vault (start_of c.args.self.now.turn) x y.now _ stood is)
-    (λ s f' x x' called. does_silent g.S.Store _ _ (call.PinLen c.args.pin) _ [] _ called.called.met.1.0)
+    (λ s f' x x' called. does_silent g.S.Store _ _ (call.PinLen c.args.pin) _ [] _ refl called.called.met.1.0)
 
 pub returns-clause-says : goal.returns-clause-says
 returns-clause-says g c =
     says g.S.Store g.V.Vault _ _ _ _ (call.PinLen c.args.pin) (λ s f'. told_by reply.Length s.what) (λ f'. silent) _
     (λ s. told_by reply.Length s.what) silent _ _ _ c.with.ensures.turned c.said_by.ensures
     (λ s x x' called. record {
-      does = does_silent g.S.Store _ _ (call.PinLen c.args.pin) _ [] _ called.called.met.1.0;
+      does = does_silent g.S.Store _ _ (call.PinLen c.args.pin) _ [] _ refl called.called.met.1.0;
       number = called.called.met.1.1;
       what_is = refl;
       sound_is = refl;

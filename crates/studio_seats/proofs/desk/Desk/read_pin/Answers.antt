@@ -15,7 +15,7 @@ with-requires-clause-fits g c =
     (λ s f'. told_by (λ n. reply.Frames (take n f'.2.now)) s.what) (λ f'. silent)
     (λ more x others stood y is. is_studio g.S.Store g.V.Vault (start_of c.args.self.now.turn) x y.now _ stood is)
     (λ s f' x x' called. does_silent g.S.Store _ _
-    (call.ReadPin c.args.pin c.args.from (length c.args.out.now)) _ [] _ called.called.met.1.0)
+    (call.ReadPin c.args.pin c.args.from (length c.args.out.now)) _ [] _ refl called.called.met.1.0)
 
 pub returns-clause-says : goal.returns-clause-says
 returns-clause-says g c = says g.S.Store g.V.Vault _ _ _ _ (call.ReadPin c.args.pin c.args.from (length c.args.out.now))
@@ -23,7 +23,7 @@ returns-clause-says g c = says g.S.Store g.V.Vault _ _ _ _ (call.ReadPin c.args.
     told_by (λ n. reply.Frames (take n c.out-1.given.0)) s.what) silent _ _ _ c.with.ensures.turned c.said_by.ensures
     (λ s x x' called. record {
       does = does_silent g.S.Store _ _ (call.ReadPin c.args.pin c.args.from
-          (length c.args.out.now)) _ [] _ called.called.met.1.0;
+          (length c.args.out.now)) _ [] _ refl called.called.met.1.0;
       number = called.called.met.1.1.0;
       what_is = ap (λ (z : List Frame). told_by (λ n. reply.Frames (take n z)) s.what)
           (sym (c.out-1.given.1.1 (sym called.called.met.0.2)));

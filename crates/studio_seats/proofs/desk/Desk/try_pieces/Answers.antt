@@ -24,7 +24,7 @@ with-requires-clause-fits g c = fits_by g.S.Store g.V.Vault _ _ _ _
       ),
     ))
     (λ s f' x x' called. does_silent g.S.Store _ _
-    (call.Piece c.args.track c.args.tag (take f'.4.now c.args.samples.now)) _ [] _ called.called.met.1.0)
+    (call.Piece c.args.track c.args.tag (take f'.4.now c.args.samples.now)) _ [] _ refl called.called.met.1.0)
 
 pub returns-clause-says : goal.returns-clause-says
 returns-clause-says g c = says_by g.S.Store g.V.Vault _ _ _ _
@@ -34,7 +34,7 @@ returns-clause-says g c = says_by g.S.Store g.V.Vault _ _ _ _
     (λ s. told_by (λ _. reply.Done) s.what) silent _ _ _ c.with.ensures.turned c.said_by.ensures
     (λ s x x' called. record {
       does = does_silent g.S.Store _ _ (call.Piece c.args.track c.args.tag (take _ c.args.samples.now))
-          _ [] _ called.called.met.1.0;
+          _ [] _ refl called.called.met.1.0;
       number = called.called.met.1.1.0;
       call_is = ap (λ (n : ℕ). call.Piece c.args.track c.args.tag (take n c.args.samples.now))
           (sym (c.count-1.given.1 (sym called.called.met.0.4)));

@@ -13,14 +13,14 @@ pub with-requires-clause-fits : goal.with-requires-clause-fits
 with-requires-clause-fits g c =
     fits g.S.Store g.V.Vault _ _ _ _ (call.Line command.Undo) (λ s f'. told_by (λ _. reply.Done) s.what) (λ f'. silent)
     (λ more x others stood y is. is_studio g.S.Store g.V.Vault (start_of c.args.self.now.turn) x y.now _ stood is)
-    (λ s f' x x' called. does_silent g.S.Store _ _ (call.Line command.Undo) _ [] _ called.called.met.0)
+    (λ s f' x x' called. does_silent g.S.Store _ _ (call.Line command.Undo) _ [] _ refl called.called.met.0)
 
 pub returns-clause-says : goal.returns-clause-says
 returns-clause-says g c =
     says g.S.Store g.V.Vault _ _ _ _ (call.Line command.Undo) (λ s f'. told_by (λ _. reply.Done) s.what)
     (λ f'. silent) _ (λ s. told_by (λ _. reply.Done) s.what) silent _ _ _ c.with.ensures.turned c.said_by.ensures
     (λ s x x' called. record {
-      does = does_silent g.S.Store _ _ (call.Line command.Undo) _ [] _ called.called.met.0;
+      does = does_silent g.S.Store _ _ (call.Line command.Undo) _ [] _ refl called.called.met.0;
       number = called.called.met.1.0;
       what_is = refl;
       sound_is = refl;

@@ -1,13 +1,12 @@
 -- The pieces of some chunks are one turn of the seat, and a reclaim after it another.
 use Rattle.std.proofs.Common.{◌≡◌, ◌+◌, ◌-◌, ◌≤◌, List, ℤ, ℕ, Bool, length, take, sym, ◌∙◌, subst, false, arith}
-use Rattle.std.specs.Prelude.{IfErr, IfOk, OnOk, is_err}
+use Rattle.std.specs.Prelude.{IfErr, IfOk, is_err}
 use Rattle.std.proofs.lemmas.List.{length-take-le}
 use Rattle.pcm_base.specs.declared.answer.Reply.TheVariants.{Done}
 use Rattle.pcm_base.specs.declared.command.Call.TheVariants.{Piece}
 use Rattle.pin_turn.specs.Calls.{known}
 use Rattle.editor_core.specs.Took.{silent, told_by}
 use Rattle.edit_ports.specs.Answers.{AreTaken, samples_of}
-use Rattle.edit_ports.specs.declared.pieces.Taken.{Taken}
 use Rattle.studio_seats.specs.Desks.{Says, asked, start_at, views}
 use Rattle.studio_seats.specs.Pieces.{pieces_by}
 use Rattle.studio_seats.specs.Recording.{RecordsOn, recorder}

@@ -1,0 +1,32 @@
+-- A block that was written has the samples that were brought for it.
+use Rattle.std.proofs.Common.{◌+◌, rules}
+use Rattle.sample_block.specs.Blocks.{blocks}
+use Rattle.block_ledger.specs.Entries.{count_of}
+use Rattle.editor_core.specs.Core.{core_of}
+use Rattle.editor_core.proofs.Bringing.{filled_by}
+use Rattle.editor_core.proofs.studio.Studio.write_one.Goals as goal
+
+pub returns-in-Ok-clause-made : goal.returns-in-Ok-clause-made
+returns-in-Ok-clause-made g c =
+    let s = core_of c.args.self.now in
+    let b = c.args.block.now in
+    let done = c.in-Ok.ensures in
+    let old = g.S.Store.reads c.args.self.now.store in
+    let by = filled_by (g.G.Brings.brings c.args.given.now) (g.S.Store.tells c.args.self.now.store) old b.pieces
+    (old b.id) (blocks (g.S.Store.reads c.write_new.new.store) b.id) done.stored in (
+      by.0,
+      by.1,
+      record {
+        is = λ i. record s {
+          store = c.write_new.new.store;
+          counts = count_of c.count_free.new.ledger;
+          next_block = s.next_block + 1;
+          block_size = done.same i;
+        };
+        ledger = search rules;
+        stored = by.2;
+        changed = done.changed;
+        read_faults = done.faults.0;
+        change_faults = done.faults.1;
+      },
+    )

@@ -1,0 +1,114 @@
+-- Deeds over vaults that do not report their bytes, as deeds over vaults that do.
+use Rattle.std.proofs.Common.{◌≡◌, inl, inr, ⊎_elim, ◌∙◌, refl, sym, ap, ℕ, true, is_some, IsSome, Option, Some, None, List}
+use Rattle.std.proofs.Common.{[], ◌∷◌, Result, Ok, Err, IfErr, IfOk, ◌⊎◌, subst}
+use Rattle.std.proofs.lemmas.Bool.{true≢false}
+use Rattle.pcm_base.specs.declared.answer.Reply.{Reply}
+use Rattle.pcm_base.specs.declared.command.Call.{Call}
+use Rattle.pcm_base.specs.declared.command.Call.TheVariants.{Line}
+use Rattle.pcm_base.specs.declared.command.Command.TheVariants.{Import}
+use Rattle.pcm_base.specs.declared.refusal.Refusal.{Refusal}
+use Rattle.pcm_base.specs.Run.{name_in}
+use Rattle.disk_model.specs.declared.store.Store.{Ghosts}
+use Rattle.edit_ports.specs.declared.vault.Vault as vault
+use Rattle.pin_turn.specs.Counts.{Each}
+use Rattle.editor_core.specs.Core.{Core}
+use Rattle.editor_core.specs.Exchanges.{reads_sound}
+use Rattle.editor_core.specs.Imports.{IfCutShort, IsCutShort, left_as}
+use Rattle.editor_core.specs.Took.{Took, with_sound}
+use Rattle.editor_core.proofs.Applying.{lasts_took}
+use Rattle.studio_seats.specs.declared.deed.Deed.{Deed}
+use Rattle.studio_seats.specs.Imports.{AreReadAs, ImportsLead, IsReadAs, IsReadable, telling}
+use Rattle.studio_seats.specs.Stands.{AllTell, Chain, Does, origin}
+use Rattle.studio_seats.proofs.Grown.{all_told, leads}
+
+-- a call that reads a sound is an import
+import_of : (c : Call) → reads_sound c ≡ true → (name : List ℕ) × (c ≡ Line (Import name))
+import_of (Line (Import name)) reads = (name, refl)
+import_of c reads = absurd (true≢false (sym reads))
+
+module _ {D V : Type 0} (disk : Ghosts D) (vaults : vault.Ghosts V) where
+  -- ---- one deed
+
+  -- as it was read
+  record ReadOne (old : Core D) (d : Deed) (new : Core D) : Type 0 where
+    read : Deed
+    is : IsReadAs d read
+    does : Does disk (AllTell telling) old read new
+
+  module _ (old new : Core D) (d : Deed) (does : Does disk (AllTell vaults) old d new) where
+    -- it names no sound, or vaults report their bytes
+    as_told : (IsSome (name_in d.call) → AllTell vaults) → ReadOne old d new
+    as_told told = record {
+      read = d;
+      is = record { same = refl; sound = λ silent. refl };
+      does = record {
+        removed = does.removed;
+        took = λ may. does.took told;
+        imported = does.imported;
+        lasts = does.lasts;
+      };
+    }
+
+    -- an import is a step by this sound
+    by_sound : (name : List ℕ) → d.call ≡ Line (Import name) → (sound : Option (List ℕ))
+        → Took disk old (with_sound (Line (Import name)) (left_as sound) d.what) new → ReadOne old d new
+    by_sound name is sound step =
+        let took : Took disk old (with_sound d.call (left_as sound) d.what) new =
+        subst (λ (c : Call). Took disk old (with_sound c (left_as sound) d.what) new) (sym is) step in record {
+          read = record d { sound = left_as sound };
+          is = record { same = refl; sound = λ silent. absurd (true≢false (sym (ap reads_sound is) ∙ silent)) };
+          does = record {
+            removed = [];
+            took = λ may. took;
+            imported = does.imported;
+            lasts = lasts_took disk old (with_sound d.call (left_as sound) d.what) new took;
+          };
+        }
+
+    by_answer : (name : List ℕ) → d.call ≡ Line (Import name) → (what : Result Reply Refusal) → (IfCutShort what → ⊥)
+        → IfOk what (λ r. (bytes : List ℕ)
+        × Took disk old (with_sound (Line (Import name)) (left_as (Some bytes)) d.what) new)
+        → IfErr what (λ why. IsCutShort why ⊎ ((sound : Option (List ℕ))
+        × Took disk old (with_sound (Line (Import name)) (left_as sound) d.what) new))
+        → ReadOne old d new
+    by_answer name is (Ok r) whole (bytes, took) reason = by_sound name is (Some bytes) took
+    by_answer name is (Err why) whole some (inl cut) = absurd (whole cut)
+    by_answer name is (Err why) whole some (inr (sound, took)) = by_sound name is sound took
+
+    by_name : (name : Option (List ℕ)) → name_in d.call ≡ name → IsReadable vaults d → ReadOne old d new
+    by_name None none readable = as_told (λ some. absurd (true≢false (sym some ∙ ap is_some none)))
+    by_name (Some name) named readable = ⊎_elim
+        (λ told. as_told (λ some. told))
+        (λ whole.
+        let named_by = import_of d.call whole.0 in
+        let imported = does.imported named_by.0 named_by.1 in
+        by_answer named_by.0 named_by.1 d.what whole.1 imported.some imported.reason)
+        (readable (ap is_some named))
+
+  -- ---- all of them
+
+  record ReadAll (old : Core D) (ds : List Deed) (new : Core D) : Type 0 where
+    read : List Deed
+    are : AreReadAs ds read
+    chain : Chain disk telling old read new
+
+  read_all : (old : Core D) (ds : List Deed) (new : Core D) → Chain disk vaults old ds new → Each (IsReadable vaults) ds
+      → ReadAll old ds new
+  read_all old [] new is readable = record { read = []; are = tt; chain = is }
+  read_all old (d ∷ ds) new (mid, does, chain) readable =
+      let one = by_name old mid d does (name_in d.call) refl readable.0 in
+      let rest = read_all mid ds new chain readable.1 in record {
+        read = one.read ∷ rest.read;
+        are = (one.is, rest.are);
+        chain = (mid, one.does, rest.chain);
+      }
+
+  pub imports_lead : ImportsLead disk vaults
+  imports_lead start now deeds stands readable =
+      let all = read_all start deeds now stands.chain readable in record {
+        read = all.read;
+        are = all.are;
+        told = all_told telling all.read (λ v. refl);
+        stands = record { began = stands.began; chain = all.chain };
+        leads = leads (origin disk telling start) now all.read (record { began = stands.began; chain = all.chain });
+      }
