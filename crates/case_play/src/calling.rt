@@ -1,5 +1,6 @@
 // Calls of the program on a world.
 use super::devices::devices_of;
+use super::gates::HoldingGate;
 use super::program::{Left, Program};
 use super::world::{Asked, Manner, World};
 use case_text::{Fault, Line, goes_on, is_like, last_told};
@@ -18,7 +19,7 @@ fn words_of(alloc: Global, text: &str) -> Result<Vec<String>, Fault> {
     Ok(words)
 }
 
-// Notes what a call left, whose disk had had so many calls before.
+// Notes what a call left, whose disk had had this many calls before.
 fn note(world: &mut World<'_>, store: RamStore, left: Left, before: u64) {
     world.calls = Some(store.call_count().saturating_sub(before));
     world.store = store;
@@ -35,8 +36,10 @@ fn make_words<R: Threads + Wait + Sync, P: Program>(
     let devices = devices_of(world.alloc, &world.asked, world.sounds.as_slice())?;
     let store = world.take_store()?;
     let before = store.call_count();
-    let (store, left) = program.call(rt, world.alloc, words, store, devices);
+    let gate = HoldingGate::new(world.asked.take_holds(world.alloc));
+    let (store, left) = program.call(rt, world.alloc, words, store, devices, &gate);
     note(world, store, left, before);
+    world.held = gate.has_held(rt);
     Ok(())
 }
 

@@ -18,6 +18,7 @@ pub(crate) fn holds(world: &mut World<'_>, line: Line<'_>, text: &str) -> Result
         }
         "named" => has_named(world, line),
         "calls" => has_calls(world, line, rest),
+        "held" => has_held(world, line),
         _ => match &mut world.left {
             Some(left) => has_left(world.alloc, left, line, word, rest),
             None => Err(line.unread()),
@@ -25,13 +26,22 @@ pub(crate) fn holds(world: &mut World<'_>, line: Line<'_>, text: &str) -> Result
     }
 }
 
-// The last call made so many calls of the disk.
+// The last call made this many calls of the disk.
 fn has_calls(world: &World<'_>, line: Line<'_>, rest: &str) -> Result<(), Fault> {
     let Some(calls) = world.calls else {
         return Err(line.unread());
     };
     let wanted = numbers_of(world.alloc, line, rest)?;
     are_numbers(world.alloc, line, &[calls], wanted.as_slice())
+}
+
+// In the last call each thread was held that was to be, and none in vain.
+fn has_held(world: &World<'_>, line: Line<'_>) -> Result<(), Fault> {
+    if world.held {
+        Ok(())
+    } else {
+        Err(line.wrong(String::from_str(world.alloc, " not held")?))
+    }
 }
 
 // What the last call left is so.

@@ -11,7 +11,9 @@ mod devices;
 mod disk;
 mod disk_facts;
 mod files;
+mod gates;
 mod holding;
+mod holds;
 mod images;
 mod pending;
 mod playing;
@@ -26,5 +28,6 @@ mod sweep;
 mod world;
 
 pub use case::play_case;
+pub use gates::HoldingGate;
 pub use program::{Devices, Left, Program};
 pub use said::SaidVault;

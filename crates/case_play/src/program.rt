@@ -1,6 +1,7 @@
 // The program whose calls a case makes.
 ghost use Rattle.std.specs.Thread.{IsSync};
 
+use super::gates::HoldingGate;
 use super::said::SaidVault;
 use disk_model::RamStore;
 use edit_ports::{MemSink, MemSource};
@@ -40,7 +41,7 @@ pub struct Left {
 /// A program that makes calls.
 pub trait Program {
     /// Makes the call of these words, over this disk and these devices, and returns the disk. The first word is the
-    /// program's name.
+    /// program's name. Its threads pass the gate.
     fn call<R: Threads + Wait + Sync>(
         &self,
         rt: &R,
@@ -48,6 +49,7 @@ pub trait Program {
         words: &[String],
         store: RamStore,
         devices: Devices,
+        gate: &HoldingGate,
     ) -> (RamStore, Left)
         requires { IsSync R.row };
 }

@@ -1,6 +1,7 @@
 // What is set up before a call: the lines that begin with `- `.
 use super::disk::FAR;
 use super::files::{add_file, cut_file, remove, write_file};
+use super::holds::add_holds;
 use super::pending::set_pending;
 use super::sounds::{add_sound, cut_sound, write_sound};
 use super::world::{Asked, Failing, World};
@@ -15,6 +16,7 @@ pub(crate) fn set_up(world: &mut World<'_>, line: Line<'_>, text: &str) -> Resul
         "script" | "mic" | "room" | "piece" | "says" => {
             set_asked(world.alloc, &mut world.asked, line, word, rest)
         }
+        "hold" => add_holds(&mut world.asked.holds, line, rest),
         "sound" => add_sound(world.alloc, &mut world.sounds, line, rest),
         "write" => write(world, line, rest),
         "cut" => cut(world, line, rest),
@@ -50,7 +52,7 @@ fn write(world: &mut World<'_>, line: Line<'_>, text: &str) -> Result<(), Fault>
     }
 }
 
-// Leaves so many bytes of a file, if it is named by a number, or of a sound.
+// Leaves this many bytes of a file, if it is named by a number, or of a sound.
 fn cut(world: &mut World<'_>, line: Line<'_>, text: &str) -> Result<(), Fault> {
     let (name, rest) = first_word(text);
     match name.parse::<u64>() {

@@ -1,4 +1,5 @@
 // What a case is played on: a disk and sounds in memory, what is set up for the next call, and what the last one left.
+use super::gates::Hold;
 use super::program::Left;
 use super::sounds::Sound;
 use case_text::{Fault, Line};
@@ -45,6 +46,8 @@ pub(crate) struct Asked<'a> {
     pub(crate) room: usize,
     /// How many bytes each sound is said to have, if it is not what it has.
     pub(crate) said: Option<u64>,
+    /// Where its threads are held.
+    pub(crate) holds: Vec<Hold>,
 }
 
 impl<'a> Asked<'a> {
@@ -59,7 +62,13 @@ impl<'a> Asked<'a> {
             mic: None,
             room: 65_536,
             said: None,
+            holds: Vec::new(alloc),
         }
+    }
+
+    /// Takes the places where threads are held.
+    pub(crate) fn take_holds(&mut self, alloc: Global) -> Vec<Hold> {
+        mem::replace(&mut self.holds, Vec::new(alloc))
     }
 }
 
@@ -88,6 +97,8 @@ pub(crate) struct World<'a> {
     pub(crate) left: Option<Left>,
     /// How many calls of the disk the last call made, if there was one.
     pub(crate) calls: Option<u64>,
+    /// Whether each thread that was to be held in the last call was held, and none in vain.
+    pub(crate) held: bool,
     /// The commit number of the last line `ok C` or `end C` that was printed.
     pub(crate) told: Option<u64>,
     pub(crate) manner: Manner,
@@ -114,6 +125,7 @@ impl<'a> World<'a> {
             asked: Asked::new(alloc),
             left: None,
             calls: None,
+            held: false,
             told: None,
             manner: Manner::Strict,
             differs: false,
@@ -140,6 +152,7 @@ impl<'a> World<'a> {
     fn forget(&mut self) {
         self.left = None;
         self.calls = None;
+        self.held = false;
         self.told = None;
         self.manner = Manner::Strict;
         self.differs = false;

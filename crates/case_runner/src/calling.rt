@@ -1,7 +1,7 @@
 // The studio as the program of a case.
-use case_play::{Devices, Left, Program, SaidVault};
+use case_play::{Devices, HoldingGate, Left, Program, SaidVault};
 use disk_model::{RamStore, Store};
-use edit_ports::{Gate, MemSink, MemSource, OpenGate, Sink, Source, Vault};
+use edit_ports::{Gate, MemSink, MemSource, Sink, Source, Vault};
 use session_run::{Ending, studio_call};
 use std::alloc::Global;
 use std::sync::Wait;
@@ -68,6 +68,7 @@ impl Program for Studio {
         words: &[String],
         store: RamStore,
         devices: Devices,
+        gate: &HoldingGate,
     ) -> (RamStore, Left) {
         let Devices {
             mut script,
@@ -86,7 +87,7 @@ impl Program for Studio {
             &mut vault,
             mic,
             speaker,
-            &OpenGate,
+            gate,
         );
         left_of(ending, out, vault)
     }

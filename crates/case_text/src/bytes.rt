@@ -64,6 +64,21 @@ fn push_sample(out: &mut Vec<u8>, digits: &str) -> Result<(), BadBytes> {
     }
 }
 
+// The frames from one sample to another, each one more than the one before, and the same on both sides.
+fn push_frames(out: &mut Vec<u8>, text: &str) -> Result<(), BadBytes> {
+    let Some((first, last)) = text.split_once("..") else {
+        return Err(BadBytes::Unread);
+    };
+    let (Ok(first), Ok(last)) = (first.parse::<i16>(), last.parse::<i16>()) else {
+        return Err(BadBytes::Unread);
+    };
+    for sample in first..=last {
+        push_all(out, &sample.to_le_bytes())?;
+        push_all(out, &sample.to_le_bytes())?;
+    }
+    Ok(())
+}
+
 // The four bytes of a number.
 fn push_four(out: &mut Vec<u8>, digits: &str) -> Result<(), BadBytes> {
     match digits.parse::<u32>() {
@@ -89,6 +104,8 @@ fn push_word(out: &mut Vec<u8>, word: &str) -> Result<(), BadBytes> {
         }
     } else if let Some(digits) = word.strip_prefix('s') {
         push_sample(out, digits)
+    } else if let Some(text) = word.strip_prefix('f') {
+        push_frames(out, text)
     } else if let Some(digits) = word.strip_prefix('d') {
         push_four(out, digits)
     } else if let Some(digits) = word.strip_prefix('q') {

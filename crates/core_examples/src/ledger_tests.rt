@@ -7,12 +7,12 @@ use std::test::*;
 fn room_follows_the_ids_that_are_there(rt: HostRuntime) -> Result<(), Fail> {
     let mut ledger = Ledger::new(rt.alloc());
     for id in 16..19 {
-        ledger.reserve(2).ok().ok_or("no memory")?;
+        ledger.reserve(2)?;
         ledger.hold(id);
     }
-    ledger.reserve(2).ok().ok_or("no memory")?;
+    ledger.reserve(2)?;
     for id in 19..100_000 {
-        ledger.reserve(1).ok().ok_or("no memory")?;
+        ledger.reserve(1)?;
         assert!(rt; ledger.spare() <= 3);
         ledger.hold(id);
         ledger.drop_one(id);

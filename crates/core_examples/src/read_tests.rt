@@ -7,7 +7,7 @@ use super::scripts::{Row, tells};
 use super::tests::{disk, new_studio};
 use super::vaults::vault;
 use disk_model::Store;
-use edit_ports::MemVault;
+use edit_ports::Vault;
 use editor_core::Studio;
 use pcm_base::Frame;
 use std::alloc::Global;
@@ -85,11 +85,11 @@ fn count_blocks<S: Store>(studio: &Studio<S>) -> u64
     studio.facts().blocks
 }
 
-fn reads_on<S: Store>(
+fn reads_on<S: Store, V: Vault>(
     rt: &impl Abort,
     alloc: Global,
     studio: &mut Studio<S>,
-    vault: &mut MemVault,
+    vault: &mut V,
 ) -> Result<(), Fail>
     requires { IsStudio S.Store (core_of studio.old) }
 {

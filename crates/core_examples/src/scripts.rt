@@ -4,7 +4,7 @@ ghost use Rattle.editor_core.specs.Core.{core_of};
 ghost use Rattle.editor_core.specs.Studios.{IsStudio};
 
 use disk_model::Store;
-use edit_ports::{MemSink, MemVault};
+use edit_ports::{MemSink, Vault};
 use editor_core::Studio;
 use pcm_base::{Answer, Command, Numbers, Refusal, Reply};
 use script_text::{parse, write_answer};
@@ -38,10 +38,10 @@ fn reply_of(told: Result<Reply, Refusal>) -> Reply {
 }
 
 // The answer to a command.
-fn apply<S: Store>(
+fn apply<S: Store, V: Vault>(
     alloc: Global,
     studio: &mut Studio<S>,
-    vault: &mut MemVault,
+    vault: &mut V,
     command: &Command,
 ) -> Answer
     requires studio { IsStudio S.Store (core_of studio.old) }
@@ -57,10 +57,10 @@ fn apply<S: Store>(
 }
 
 // The answer to a line.
-fn carry<S: Store>(
+fn carry<S: Store, V: Vault>(
     alloc: Global,
     studio: &mut Studio<S>,
-    vault: &mut MemVault,
+    vault: &mut V,
     line: &str,
 ) -> Answer
     requires { IsStudio S.Store (core_of studio.old) }
@@ -118,10 +118,10 @@ fn unpin<S: Store>(studio: &mut Studio<S>, pin: u64) -> Result<Reply, Refusal>
 }
 
 // The answer to what is asked.
-pub(crate) fn answer<S: Store>(
+pub(crate) fn answer<S: Store, V: Vault>(
     alloc: Global,
     studio: &mut Studio<S>,
-    vault: &mut MemVault,
+    vault: &mut V,
     ask: Ask,
 ) -> Answer
     requires { IsStudio S.Store (core_of studio.old) }
@@ -154,7 +154,7 @@ pub(crate) fn has_text(alloc: Global, answer: &Answer, text: &str) -> Result<boo
     }
 }
 
-// How far a script came: how many of its first rows were answered as it stands beside them, the commit number behind
+// How far a script came: how many of its first rows were answered as it stands beside them, the commit number after
 // them, and the first other answer, if there was one.
 #[derive(Drop)]
 pub(crate) struct Played {
@@ -164,10 +164,10 @@ pub(crate) struct Played {
 }
 
 // Asks for the rows, up to the first that is not answered as it stands beside it.
-pub(crate) fn play<S: Store>(
+pub(crate) fn play<S: Store, V: Vault>(
     alloc: Global,
     studio: &mut Studio<S>,
-    vault: &mut MemVault,
+    vault: &mut V,
     rows: &[Row],
 ) -> Result<Played, Fail>
     requires { IsStudio S.Store (core_of studio.old) }
@@ -191,11 +191,11 @@ pub(crate) fn play<S: Store>(
 }
 
 // Asks for the rows, each of which is answered as it stands beside it.
-pub(crate) fn tells<S: Store>(
+pub(crate) fn tells<S: Store, V: Vault>(
     rt: &impl Abort,
     alloc: Global,
     studio: &mut Studio<S>,
-    vault: &mut MemVault,
+    vault: &mut V,
     rows: &[Row],
 ) -> Result<(), Fail>
     requires { IsStudio S.Store (core_of studio.old) }

@@ -20,13 +20,11 @@ use studio_seats::Desk;
 /// A new project: 8,000 frames a second, blocks of at most 4 samples, 6 points.
 pub(crate) fn fresh(alloc: Global) -> Result<RamStore, Fail> {
     let fails = Numbers::new(Vec::new(alloc));
-    let mut store = RamStore::new(alloc, 1024, 1_048_576, 65_536, fails)
-        .ok()
-        .ok_or("no memory")?;
-    create(alloc, &mut store, 8000, 4, 6)
-        .ok()
-        .ok_or("no project")?;
-    Ok(store)
+    let mut store = RamStore::new(alloc, 1024, 1_048_576, 65_536, fails)?;
+    match create(alloc, &mut store, 8000, 4, 6) {
+        Ok(_) => Ok(store),
+        Err(_) => Err("no project".into()),
+    }
 }
 
 pub(crate) fn opened(alloc: Global, store: RamStore) -> Result<Studio<RamStore>, Fail>
@@ -80,7 +78,7 @@ pub(crate) fn has_named_files(
     }
     let mut files = Vec::new(alloc);
     let mut store = studio.into_store();
-    store.files(&mut files).ok().ok_or("not listed")?;
+    assert!(rt; store.files(&mut files).is_ok());
     assert!(rt; files.as_slice() == named.as_slice());
     Ok(())
 }
@@ -141,7 +139,7 @@ fn shown<'a>(
     }
 }
 
-/// What commits there are behind those of the beginning: how many ramps in track 1, and how many pieces in track 2.
+/// What commits there are after those of the beginning: how many ramps in track 1, and how many pieces in track 2.
 pub(crate) fn commits_in(studio: &mut Studio<RamStore>) -> Result<[u64; 2], Fail>
     requires { IsStudio (⟦<RamStore as Store>⟧) (core_of studio.old) }
     ensures studio { IsStudio (⟦<RamStore as Store>⟧) (core_of studio.new) }

@@ -35,7 +35,7 @@ fn is_stopped(end: End) -> bool {
     matches!(end, End::Refused(Refusal::Stopped { .. }))
 }
 
-/// Four threads work at a desk whose disk stops after so many calls, and then four more.
+/// Four threads work at a desk whose disk stops after this many calls, and then four more.
 fn stops_after(
     rt: &(impl Abort + Threads + Wait + Sync),
     alloc: Global,
@@ -57,7 +57,7 @@ fn stops_after(
     assert!(rt; unpinned.is_ok());
     let store = studio.into_store();
     for choice in 0..8 {
-        let image = store.image(alloc, choice).ok().ok_or("no memory")?;
+        let image = store.image(alloc, choice)?;
         keeps_commits(rt, alloc, image, acknowledged)?;
     }
     Ok(())

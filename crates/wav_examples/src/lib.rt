@@ -1,4 +1,4 @@
-//! WAV files of a vault, in parts: the tests of what the program does not call yet.
+//! WAV files of a vault, in parts: tests with calls that the program does not make, and with buffers of any length.
 #![tactic(auto)]
 
 #[cfg(test)]
