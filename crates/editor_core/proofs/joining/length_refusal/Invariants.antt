@@ -1,7 +1,0 @@
--- None of the numbers so far refuses.
-use Rattle.std.proofs.Common.{◌≡◌, drop}
-use Rattle.pcm_base.specs.Refusals.{length_limit}
-use Rattle.editor_core.proofs.joining.length_refusal.Given as goal
-
-abbrev pub invariant-loop-count : goal.invariant-loop-count
-invariant-loop-count l = length_limit (drop l.count-index l.counts) ≡ length_limit l.counts
