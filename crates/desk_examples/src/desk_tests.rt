@@ -44,7 +44,7 @@ fn two_threads_at_one_desk(rt: HostRuntime) -> Result<(), Fail> {
     assert!(rt; matches!(desk.purge(&rt, &mut seat, 2).what, Ok(30)));
     assert!(rt; matches!(desk.pin_len(&rt, &mut seat, session.pin).what, Ok(5)));
     let mut studio = desk.close(seat);
-    assert!(rt; matches!(commits_in(&mut studio)?, [12, 12]));
+    assert!(rt; commits_in(&mut studio)? == [12, 12]);
     Ok(())
 }
 
@@ -58,7 +58,7 @@ fn four_threads_at_one_desk(rt: HostRuntime) -> Result<(), Fail> {
     assert!(rt; matches!(ends, [End::Done, End::Done, End::Done, End::Done]));
     assert!(rt; unpinned.is_ok());
     assert!(rt; studio.commit_number() == 27);
-    assert!(rt; matches!(commits_in(&mut studio)?, [12, 12]));
+    assert!(rt; commits_in(&mut studio)? == [12, 12]);
     assert!(rt; studio.stopped().is_none());
     has_named_files(&rt, alloc, studio)
 }
