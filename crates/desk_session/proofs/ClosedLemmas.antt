@@ -310,11 +310,12 @@ module _ {D V M P : Type 0} (k : Kinds D V M P) (start final : Core D) (mid : V)
         ∙ list.recorder_numbers n pieces reads x s.seats (quiet opened.pin) own counts (number_after n v.seen);
     played = where_both opened.pin s.played
         (λ pin h. some_as out.heard h (λ heard is. record {
+          place = is.place;
           is = is.is;
           reads = is.reads;
           release = is.release;
           own_is = sym (list.player_deeds n pieces reads x s.seats (quiet opened.pin) own counts) ∙ is.own_is;
-          in_order = reads_later s.player.used_up w.used_up pin heard.refused (reads_to heard.refused) is.reads
+          in_order = reads_later s.player.used_up w.used_up pin heard.refused (reads_to heard.refused is.place) is.reads
               s.seats.player_spent is.in_order;
           what = is.what;
           released = own_later s.player.used_up w.used_up s.player.number (Unpin pin) is.what is.release

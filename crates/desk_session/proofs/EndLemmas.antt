@@ -5,7 +5,7 @@ use Rattle.pcm_base.specs.declared.command.Call.{Call}
 use Rattle.pcm_base.specs.declared.command.Call.TheVariants.{Unpin}
 use Rattle.pcm_base.specs.declared.refusal.Refusal.{Refusal}
 use Rattle.pcm_base.specs.declared.sound.Frame.{Frame}
-use Rattle.edit_ports.specs.Answers.{AtEnd, NextAt, Reading, WasRefused}
+use Rattle.edit_ports.specs.Answers.{AtEnd, NextAt, Reading, RefusedAt}
 use Rattle.edit_ports.specs.declared.sink.Sink as sink
 use Rattle.player_work.specs.Filled.{reads_to}
 use Rattle.pin_turn.specs.declared.view.View.{View}
@@ -48,8 +48,8 @@ reads_later a b pin refused reading ds later h = record {
         → EndReads b pin h.place refused reading h.last
     by (NextAt next) e = e
     by AtEnd e = e
-    by WasRefused (why, is, inl e) = (why, is, inl e)
-    by WasRefused (why, is, inr e) = (why, is, inr (e.0, e.1, later e.2))
+    by (RefusedAt at) (there, why, is, inl e) = (there, why, is, inl e)
+    by (RefusedAt at) (there, why, is, inr e) = (there, why, is, inr (e.0, e.1, later e.2))
 
 module _ {D V : Type 0} where
   -- what a part adds is all that its seat has seen more
@@ -77,36 +77,38 @@ module _ {D V : Type 0} where
       (record { ends = works.ends refl; freed = works.freed; freed_last = works.since })
 
   -- a player's seat, which then releases the pin
-  module _ {P : Type 0} (speakers : sink.Ghosts P) (speaker : Change P) (shows : List Frame → Type 0) (pin first : ℕ)
-      (v o u w : View (Held D V) Deed) (heard : Heard) (same : o.seen ≡ v.seen)
-      (reads : ReadsOn pin (reads_to heard.refused) (worker o None) (worker u heard.refused))
+  module _ {P : Type 0} (speakers : sink.Ghosts P) (speaker : Change P) (shows : List Frame → Type 0)
+      (pin first place : ℕ) (v o u w : View (Held D V) Deed) (heard : Heard) (same : o.seen ≡ v.seen)
+      (reads : ReadsOn pin (reads_to heard.refused place) (worker o None) (worker u heard.refused))
       (lets : LetsGo first pin u w)
-      (other : Call → Type 0) (p : Part other v w) (played : IsPlayed speakers speaker shows heard) where
-    abbrev before : List Deed
-    before = reads.onward.added
+      (other : Call → Type 0) (p : Part other v w) (played : IsPlayed speakers speaker shows place heard)
+    where
+      abbrev before : List Deed
+      before = reads.onward.added
 
-    abbrev later : List Deed
-    later = lets.calls.onward.added
+      abbrev later : List Deed
+      later = lets.calls.onward.added
 
-    number : w.number ≡ u.number
-    number = lets.calls.onward.number
+      number : w.number ≡ u.number
+      number = lets.calls.onward.number
 
-    added : p.added ≡ before ++ later
-    added = part_added other v w p (before ++ later) (lets.calls.onward.seen
-        ∙ (ap (λ (l : List Deed). l ++ later) (went (IsReadOf pin) v o u same reads.onward)
-        ∙ append_assoc v.seen before later))
+      added : p.added ≡ before ++ later
+      added = part_added other v w p (before ++ later) (lets.calls.onward.seen
+          ∙ (ap (λ (l : List Deed). l ++ later) (went (IsReadOf pin) v o u same reads.onward)
+          ∙ append_assoc v.seen before later))
 
-    pub played_all : Played speakers speaker shows pin w.used_up w.number (deeds_of (by_seat w.number) p.added) heard
-    played_all = record {
-      is = played;
-      reads = deeds_of (by_seat u.number) before;
-      release = deeds_of (by_seat u.number) later;
-      own_is = (λ i. deeds_of (by_seat (number i)) (added i)) ∙ deeds_append (by_seat u.number) before later;
-      in_order = reads_later u.used_up w.used_up pin heard.refused (reads_to heard.refused)
-          (deeds_of (by_seat u.number) before) lets.calls.onward.used_up
-          (subst (λ (n : ℕ). ReadsTo u.used_up pin heard.refused (reads_to heard.refused)
-          (deeds_of (by_seat n) before)) (sym reads.onward.number) (reads.reads refl));
-      what = lets.what;
-      released = subst (λ (n : ℕ). OwnDeed w.used_up n (Unpin pin) lets.what (deeds_of (by_seat u.number) later))
-          (sym number) lets.calls.own;
-    }
+      pub played_all : Played speakers speaker shows pin w.used_up w.number (deeds_of (by_seat w.number) p.added) heard
+      played_all = record {
+        place = place;
+        is = played;
+        reads = deeds_of (by_seat u.number) before;
+        release = deeds_of (by_seat u.number) later;
+        own_is = (λ i. deeds_of (by_seat (number i)) (added i)) ∙ deeds_append (by_seat u.number) before later;
+        in_order = reads_later u.used_up w.used_up pin heard.refused (reads_to heard.refused place)
+            (deeds_of (by_seat u.number) before) lets.calls.onward.used_up
+            (subst (λ (n : ℕ). ReadsTo u.used_up pin heard.refused (reads_to heard.refused place)
+            (deeds_of (by_seat n) before)) (sym reads.onward.number) (reads.reads refl));
+        what = lets.what;
+        released = subst (λ (n : ℕ). OwnDeed w.used_up n (Unpin pin) lets.what (deeds_of (by_seat u.number) later))
+            (sym number) lets.calls.own;
+      }

@@ -6,9 +6,9 @@ use Rattle.edit_ports.specs.declared.frames.FrameGiver as giver
 use Rattle.edit_ports.specs.declared.pieces.PieceTaker as taker
 use Rattle.edit_ports.specs.declared.sink.Sink as sink
 use Rattle.edit_ports.specs.declared.source.Source as source
-use Rattle.edit_ports.specs.Told.{grown, preceded}
+use Rattle.edit_ports.specs.Told.{Course, Open, grown, preceded}
 use Rattle.recorder_work.specs.Blocks.{MicState}
-use Rattle.recorder_work.specs.Captured.{IsStoppedBy, mic_failed}
+use Rattle.recorder_work.specs.Captured.{IsStoppedBy, mic_course}
 use Rattle.recorder_work.specs.declared.microphone.MicEnd.{MicEnd}
 use Rattle.recorder_work.specs.Drained.{Taken, Takes, taker_state}
 use Rattle.sound_run.specs.declared.play.Played.{Played}
@@ -25,10 +25,10 @@ use Rattle.desk_session.specs.Sounds.{IsPlayed, IsRecorded}
 pub recorded_of : {L M T : Type 0} (mics : source.Ghosts M) (lent : source.Ghosts L) (takers : taker.Ghosts T)
     (inner : L → M) (left : (l : L) → lent.left l ≡ mics.left (inner l))
     (count : (l : L) → lent.fault_count l ≡ mics.fault_count (inner l))
-    (goes : (l n : L) (failed : Bool) → lent.follows l failed n → (first : M) → mics.follows first false (inner l)
-    → mics.follows first failed (inner n))
+    (goes : (l n : L) (course : Course) → lent.follows l course n → (first : M) → mics.follows first Open (inner l)
+    → mics.follows first course (inner n))
     (m : L) (t : T) (d : Recorded L T) (k : Kept)
-    → lent.follows m false m → Records lent takers m t d → k.end ≡ d.end → k.numbers ≡ d.numbers → k.samples ≡ d.samples
+    → lent.follows m Open m → Records lent takers m t d → k.end ≡ d.end → k.numbers ≡ d.numbers → k.samples ≡ d.samples
     → k.refused ≡ d.refused
     → IsRecorded mics (change (inner m) (inner d.mic)) (change (takers.pieces t) (takers.pieces d.taker))
     (takers.refused d.taker) k
@@ -40,8 +40,8 @@ recorded_of mics lent takers inner left count goes m t d k self h end numbers sa
     record { left = left m i; fault_count = count m i },
     record { left = left d.mic i; fault_count = count d.mic i },
   )) h.stopped;
-  goes = λ first is. subst (λ (e : MicEnd). mics.follows first (mic_failed e) (inner d.mic)) (sym end)
-      (goes m d.mic (mic_failed d.end) (h.mic_goes m self) first is);
+  goes = λ first is. subst (λ (e : MicEnd). mics.follows first (mic_course e) (inner d.mic)) (sym end)
+      (goes m d.mic (mic_course d.end) (h.mic_goes m self) first is);
   takes = subst (λ (told : Taken). Takes (takers.pieces t) (taker_state takers d.taker) told (chunks_of h.bytes))
       (λ i. record { numbers = sym numbers i; samples = sym samples i; refused = sym refused i }) h.takes;
 }
@@ -54,12 +54,13 @@ pub played_of : {G L P : Type 0} (speakers : sink.Ghosts P) (lent : sink.Ghosts 
     (goes : (l n : L) (failed : Bool) → lent.follows l failed n → (first : P) → speakers.follows first false (inner l)
     → speakers.follows first failed (inner n))
     (v : G) (s : L) (d : Played G L) (k : Heard)
-    → lent.follows s false s → Plays givers lent v s d → k.refused ≡ d.refused → k.frames ≡ d.frames → k.fault ≡ d.fault
-    → IsPlayed speakers (change (inner s) (inner d.speaker)) (givers.shows v) k
+    → lent.follows s false s → (h : Plays givers lent v s d) → k.refused ≡ d.refused → k.frames ≡ d.frames
+    → k.fault ≡ d.fault → IsPlayed speakers (change (inner s) (inner d.speaker)) (givers.shows v) h.place k
 played_of speakers lent givers inner written count goes v s d k self h refused frames fault = record {
   frames = h.frames;
   first = h.first;
   whole = λ none. h.whole (sym refused ∙ none);
+  given = λ why some. h.given why (sym refused ∙ some);
   writes = record {
     bytes = h.writes.bytes;
     within = h.writes.within;

@@ -6,7 +6,7 @@ use Rattle.edit_ports.specs.declared.source.Source as source
 use Rattle.edit_ports.specs.declared.vault.Vault as vault
 use Rattle.script_session.specs.declared.stop.Stop.{Stop}
 use Rattle.script_session.specs.Change.{Change, change}
-use Rattle.script_session.specs.Progress.{IsCauseOf}
+use Rattle.script_session.specs.Progress.{IsCauseOf, IsReadTo}
 use Rattle.desk_session.specs.declared.devices.Devices.{Devices}
 use Rattle.desk_session.specs.declared.opening.Opened.{Opened}
 use Rattle.desk_session.specs.declared.told.Heard.{Heard}
@@ -48,6 +48,10 @@ abbrev pub IsCausedIn : {V A O M P : Type 0} → source.Ghosts A → sink.Ghosts
 IsCausedIn sources sinks d stop =
     IsCauseOf stop (change (sources.fault_count d.before.script.now) (sources.fault_count d.now.script.now))
     (change (sinks.fault_count d.before.out.now) (sinks.fault_count d.now.out.now))
+
+-- the script was read up to what stopped it, and no further
+abbrev pub ReadsScript : {V A O M P : Type 0} → source.Ghosts A → Change (Devices V A O M P) → Stop → Type 0
+ReadsScript sources d stop = IsReadTo sources stop (change d.before.script.now d.now.script.now)
 
 -- these are the devices that were lent
 abbrev pub AreSame : {V A O M P : Type 0} → Devices V A O M P → Devices V A O M P → Type 0

@@ -6,11 +6,11 @@ use Rattle.pcm_base.specs.declared.command.Call.TheVariants.{Unpin}
 use Rattle.pcm_base.specs.declared.refusal.Refusal.{Refusal}
 use Rattle.pcm_base.specs.declared.sound.Frame.{Frame}
 use Rattle.pcm_base.specs.Recordings.{chunks_of}
-use Rattle.edit_ports.specs.Told.{preceded}
+use Rattle.edit_ports.specs.Told.{Open, preceded}
 use Rattle.edit_ports.specs.declared.sink.Sink as sink
 use Rattle.edit_ports.specs.declared.source.Source as source
 use Rattle.recorder_work.specs.Blocks.{mic_state}
-use Rattle.recorder_work.specs.Captured.{IsStoppedBy, mic_failed}
+use Rattle.recorder_work.specs.Captured.{IsStoppedBy, mic_course}
 use Rattle.recorder_work.specs.Drained.{Takes}
 use Rattle.player_work.specs.Filled.{reads_to}
 use Rattle.player_work.specs.Spoken.{Writes, speaker_state}
@@ -26,25 +26,27 @@ use Rattle.desk_session.specs.declared.told.Heard.{Heard}
 use Rattle.desk_session.specs.declared.told.Kept.{Kept}
 use Rattle.desk_session.specs.Opening.{OwnDeed}
 
--- These bytes were read of the microphone, up to what stopped it, with no read after one that failed; the pieces of the
--- recording are their chunks, in order and each once, with these numbers, up to the first that was refused, where the
--- taker of the pieces had `told`.
+-- These bytes were read of the microphone, up to what stopped it, with no read after its end or after one that failed;
+-- the pieces of the recording are their chunks, in order and each once, with these numbers, up to the first that was
+-- refused, where the taker of the pieces had `told`.
 pub record IsRecorded {M : Type 0} (mics : source.Ghosts M) (mic : Change M) (pieces : Change (List (List ℤ × ℕ)))
     (told : Option Refusal) (kept : Kept) : Type 0 where
   pub bytes : List ℕ
   pub read : mics.left mic.before ≡ preceded bytes (mics.left mic.now)
   pub stopped : IsStoppedBy kept.end bytes (mic_state mics mic.before) (mic_state mics mic.now)
-  pub goes : (first : M) → mics.follows first false mic.before → mics.follows first (mic_failed kept.end) mic.now
+  pub goes : (first : M) → mics.follows first Open mic.before → mics.follows first (mic_course kept.end) mic.now
   pub takes : Takes pieces.before record { pieces = pieces.now; refused = told }
       record { numbers = kept.numbers; samples = kept.samples; refused = kept.refused } (chunks_of bytes)
 
 -- The bytes of these frames were written to the speaker, or where it failed the first, with no write after one that
--- failed; the frames are the first of those that are shown, all of them where no read was refused.
+-- failed; the frames are the first of those that are shown, all of them where no read was refused, and else all before
+-- the place of the read that was.
 pub record IsPlayed {P : Type 0} (speakers : sink.Ghosts P) (speaker : Change P) (shows : List Frame → Type 0)
-    (heard : Heard) : Type 0 where
+    (place : ℕ) (heard : Heard) : Type 0 where
   pub frames : List Frame
   pub first : (all : List Frame) → shows all → frames ≡ take (length frames) all
   pub whole : heard.refused ≡ None → (all : List Frame) → shows all → frames ≡ all
+  pub given : (why : Refusal) → heard.refused ≡ Some why → length frames ≡ place
   pub writes : Writes (speaker_state speakers speaker.before) (speaker_state speakers speaker.now)
       record { frames = heard.frames; fault = heard.fault } frames
   pub exact : heard.frames ≡ writes.bytes / 4
@@ -66,14 +68,15 @@ pub record Recorded {M : Type 0} (mics : source.Ghosts M) (mic : Change M) (piec
 
 -- The deeds of the player's seat are the reads, and then one that releases the pin, or none where no turn was left. The
 -- reads go through the frames in order, up to one that gave fewer than it asked for, or to the refusal that is
--- returned.
+-- returned. The last of them began at the place, so all that was read before a refusal was played.
 pub record Played {P : Type 0} (speakers : sink.Ghosts P) (speaker : Change P) (shows : List Frame → Type 0) (pin : ℕ)
     (spent : Bool) (player : ℕ) (own : List Deed) (heard : Heard) : Type 0 where
-  pub is : IsPlayed speakers speaker shows heard
+  pub place : ℕ
+  pub is : IsPlayed speakers speaker shows place heard
   pub reads : List Deed
   pub release : List Deed
   pub own_is : own ≡ reads ++ release
-  pub in_order : ReadsTo spent pin heard.refused (reads_to heard.refused) reads
+  pub in_order : ReadsTo spent pin heard.refused (reads_to heard.refused place) reads
   pub what : Result Reply Refusal
   pub released : OwnDeed spent player (Unpin pin) what release
 

@@ -67,7 +67,8 @@ pub record Works {D V M P : Type 0} (k : Kinds D V M P) (s : Working D V) (lent 
       (change (pieces_seen s tag s.recorder.before) (pieces_seen s tag s.recorder.now)) told))
       ((s.recorder.now ≡ s.recorder.before) × (out.kept ≡ None) × (lent.mic.now ≡ lent.mic.before))
   pub plays : WhereMade out.opened.pin
-      (λ pin. IsSomeAnd out.heard (λ heard.
-      ReadsOn pin (reads_to heard.refused) (worker s.player.before None) (worker s.player.now heard.refused)
-      × IsPlayed k.speakers lent.speaker (IsMixOf (origin k.disk k.vaults s.start) s.player.before.seen pin) heard))
+      (λ pin. IsSomeAnd out.heard (λ heard. (place : ℕ)
+      × ReadsOn pin (reads_to heard.refused place) (worker s.player.before None) (worker s.player.now heard.refused)
+      × IsPlayed k.speakers lent.speaker (IsMixOf (origin k.disk k.vaults s.start) s.player.before.seen pin) place
+      heard))
       ((s.player.now ≡ s.player.before) × (out.heard ≡ None) × (lent.speaker.now ≡ lent.speaker.before))

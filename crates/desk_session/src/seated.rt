@@ -5,7 +5,7 @@ ghost use Rattle.editor_core.specs.Core.{core_of};
 ghost use Rattle.editor_core.specs.Studios.{IsStudio};
 ghost use Rattle.studio_seats.specs.Desks.{IsAt, IsFirst, start_at};
 ghost use Rattle.script_session.specs.Change.{change};
-ghost use Rattle.script_session.specs.Progress.{IsCauseOf};
+ghost use Rattle.script_session.specs.Progress.{IsCauseOf, IsReadTo};
 ghost use Rattle.desk_session.specs.Lent.{kinds};
 ghost use Rattle.desk_session.specs.Sessions.{IsSession};
 ghost use Rattle.desk_session.specs.Sides.{is_asked};
@@ -117,6 +117,7 @@ impl<S: Store, V: Vault> Seated<S, V> {
             (record { told = result.told; opened = result.opened; kept = result.kept; heard = result.heard }) }
         ensures cause { IsCauseOf result.told.stop (change (A.fault_count script.old) (A.fault_count script.new))
             (change (O.fault_count out.old) (O.fault_count out.new)) }
+        ensures reads { IsReadTo A.Source result.told.stop (change script.old script.new) }
         ensures asked { (is_asked result.opened.recording ≡ self.beside.records)
             × (is_asked result.opened.pin ≡ self.beside.plays) }
         ensures track { result.track ≡ (start_at self.desk).next_track }

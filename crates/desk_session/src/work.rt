@@ -4,7 +4,7 @@ ghost use Rattle.pin_turn.specs.Calls.{known};
 ghost use Rattle.studio_seats.specs.Desks.{IsAt, start_at};
 ghost use Rattle.script_session.specs.Change.{change};
 ghost use Rattle.script_session.specs.Kept.{Holds};
-ghost use Rattle.desk_session.specs.Lent.{AreSame, IsCausedIn, kinds, lent_by};
+ghost use Rattle.desk_session.specs.Lent.{AreSame, IsCausedIn, ReadsScript, kinds, lent_by};
 ghost use Rattle.desk_session.specs.Opening.{IsPinIn, IsTagTo, number_seen};
 ghost use Rattle.desk_session.specs.Works.{Works};
 
@@ -82,6 +82,7 @@ pub fn run_work<
         (lent_by A.Source O.Sink (change devices.entry result.1))
         (record { told = result.0.told; opened = setting.opened; kept = result.0.kept; heard = result.0.heard }) }
     ensures cause { IsCausedIn A.Source O.Sink (change devices.entry result.1) result.0.told.stop }
+    ensures reads { ReadsScript A.Source (change devices.entry result.1) result.0.told.stop }
     ensures same { AreSame devices.entry result.1 }
 {
     let Devices {

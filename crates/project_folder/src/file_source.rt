@@ -1,6 +1,7 @@
 // A file as a source.
 ghost use Rattle.std.specs.Prelude.{◌≡◌, ◌≤◌, length, None, IfOk, if◌then◌else◌};
 ghost use Rattle.edit_ports.specs.Mem.{counted};
+ghost use Rattle.edit_ports.specs.Told.{has_faulted};
 
 use crate::paths::with_slash;
 use crate::plain::has_stream;
@@ -73,7 +74,8 @@ impl<R: Files + Drop> Source for FileSource<R> {
 
     ghost fault_count = { λ s. s.faults };
 
-    ghost follows = { λ first failed now. now.faults ≡ (if failed then counted first.faults else first.faults) };
+    ghost follows = { λ first course now. now.faults
+        ≡ (if has_faulted course then counted first.faults else first.faults) };
 
     fn read(&mut self, buf: &mut [u8]) -> Result<usize, Failed> {
         match self.read_some(buf) {

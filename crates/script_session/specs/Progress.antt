@@ -1,5 +1,5 @@
 -- How far a session has come.
-use Rattle.std.specs.Prelude.{◌≡◌, ℕ, ◌<◌, ◌≤◌, List, [], ◌∷◌, ◌++◌, length, Bool, Option, Result, Ok, Err}
+use Rattle.std.specs.Prelude.{◌≡◌, ◌⊎◌, ℕ, ◌<◌, ◌≤◌, List, [], ◌∷◌, ◌++◌, length, Bool, Option, Result, Ok, Err}
 use Rattle.std.specs.Prelude.{MatchResult, take, flat_map}
 use Rattle.std.specs.List.{list_any}
 use Rattle.std.specs.Io.KnownBytes.{IsAtEnd}
@@ -7,7 +7,8 @@ use Rattle.pcm_base.specs.declared.answer.Answer.{Answer}
 use Rattle.script_session.specs.Place.{Place}
 use Rattle.pcm_base.specs.declared.failed.Failed.{Failed}
 use Rattle.pcm_base.specs.Causes.{Rose}
-use Rattle.edit_ports.specs.Told.{grown, preceded}
+use Rattle.edit_ports.specs.declared.source.Source as source
+use Rattle.edit_ports.specs.Told.{Course, Faulted, Open, Over, grown, preceded}
 use Rattle.script_text.specs.Lines.{lines_of, ended_lines}
 use Rattle.script_text.specs.Text.{text_of}
 use Rattle.script_session.specs.declared.read.TheConstants.{MAX_SCRIPT}
@@ -111,6 +112,19 @@ IsCauseOf stop.SourceFault source sink =
     (source.before ≤ source.now) × Rose source.before source.now × (sink.now ≡ sink.before)
 IsCauseOf stop.OutFault source sink =
     (source.now ≡ source.before) × (sink.before ≤ sink.now) × Rose sink.before sink.now
+
+-- How the reads of a source went, by what stopped the session. Where the output failed the end may have been found.
+abbrev pub IsCourse : Stop → Course → Type 0
+IsCourse stop.End course = course ≡ Over
+IsCourse stop.Limit course = course ≡ Open
+IsCourse stop.SourceFault course = course ≡ Faulted
+IsCourse stop.OutFault course = (course ≡ Open) ⊎ (course ≡ Over)
+
+-- A source was read up to what stopped the session, with no read after its end or after one that failed.
+pub record IsReadTo {A : Type 0} (sources : source.Ghosts A) (stop : Stop) (script : Change A) : Type 0 where
+  pub course : Course
+  pub is : IsCourse stop course
+  pub goes : (first : A) → sources.follows first Open script.before → sources.follows first course script.now
 
 -- the bytes so far of what a source had left, and how far they brought a session
 pub record Reading (r : Reached) (left : Change (Option (List ℕ))) (kept : Kept) (total : ℕ) : Type 0 where

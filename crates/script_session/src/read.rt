@@ -3,8 +3,8 @@ ghost use Rattle.std.specs.Prelude.{◌≡◌, ◌∷◌, [], ◌++◌, Ok, Err,
 ghost use Rattle.pcm_base.specs.Causes.{HasCause};
 ghost use Rattle.script_session.specs.Change.{change};
 ghost use Rattle.script_session.specs.Kept.{Holds};
-ghost use Rattle.script_session.specs.Progress.{HasNoLf, Going, Halted, Ran, Ended, IsCauseOf, IsSinkCauseOf, Start};
-ghost use Rattle.script_session.specs.Progress.{reached};
+ghost use Rattle.script_session.specs.Progress.{HasNoLf, Going, Halted, Ran, Ended, IsCauseOf, IsReadTo, Start};
+ghost use Rattle.script_session.specs.Progress.{IsSinkCauseOf, reached};
 
 use super::answer::{self, Session};
 use super::editor::Editor;
@@ -111,6 +111,7 @@ pub fn read_script<R: Wait, E: Editor, A: Source, O: Sink, G: Gate>(
         (change (A.left script.old) (A.left script.new)) }
     ensures cause { IsCauseOf result (change (A.fault_count script.old) (A.fault_count script.new))
         (change (O.fault_count out.old) (O.fault_count out.new)) }
+    ensures reads { IsReadTo A.Source result (change script.old script.new) }
     ensures follows { (first : E) → E.follows first session.old.editor → E.follows first session.new.editor }
 {
     let mut buffer = [0u8; 16384];

@@ -1,5 +1,5 @@
 -- A playback, by the entries of its actor.
-use Rattle.std.proofs.Common.{◌≡◌, inl, inr, ◌∙◌, refl, sym, ap, ℕ, ◌+◌, ◌≤◌, Bool, true, false, List, []}
+use Rattle.std.proofs.Common.{◌≡◌, ◌⊎◌, inl, inr, ◌∙◌, refl, sym, ap, ℕ, ◌+◌, ◌*◌, ◌≤◌, Bool, true, false, List, []}
 use Rattle.std.proofs.Common.{◌∷◌, ◌++◌, length, take, drop, Option, Some, None, Result, arith}
 use Rattle.std.proofs.lemmas.List.{length-append, take-append-drop, take-append-le}
 use Rattle.std.proofs.lemmas.List.Concat.{flat_map-append}
@@ -9,11 +9,13 @@ use Rattle.pcm_base.specs.declared.command.Call.TheVariants.{Unpin}
 use Rattle.pcm_base.specs.declared.entry.Entry.{Entry}
 use Rattle.pcm_base.specs.declared.refusal.Refusal.{Refusal}
 use Rattle.pcm_base.specs.declared.sound.Frame.{Frame}
+use Rattle.pcm_base.specs.Causes.{Rose}
 use Rattle.pcm_base.specs.Recordings.{bytes_of_frame, frame_bytes}
 use Rattle.edit_ports.specs.declared.sink.Sink as sink
 use Rattle.edit_ports.specs.Told.{grown}
 use Rattle.editor_core.specs.Applied.{reply_of}
 use Rattle.player_work.specs.Filled.{reads_to}
+use Rattle.player_work.proofs.FrameLaws.{length-bytes}
 use Rattle.script_session.specs.Change.{Change}
 use Rattle.script_text.specs.declared.last.PlayEnd.TheVariants as play
 use Rattle.studio_seats.specs.declared.deed.Deed.{Deed}
@@ -45,14 +47,14 @@ short_read pin place last d is r = record {
 }
 
 -- what ended them
-reads_end : (pin place : ℕ) (used fault : Bool) (refused : Option Refusal) (last : List Deed)
-    → EndReads used pin place refused (reads_to refused) last
+reads_end : (pin place at : ℕ) (used fault : Bool) (refused : Option Refusal) (last : List Deed)
+    → EndReads used pin place refused (reads_to refused at) last
     → ReadsEnd pin place (play_end refused fault) (entries_of last)
-reads_end pin place used true None last (none, d, is, r) =
+reads_end pin place at used true None last (none, d, is, r) =
     (r.count, r.frames, r.short, short_read pin place last d is r)
-reads_end pin place used false None last (none, d, is, r) =
+reads_end pin place at used false None last (none, d, is, r) =
     (r.count, r.frames, r.short, short_read pin place last d is r)
-reads_end pin place used fault (Some why) last (other, some, inl (d, is, r)) =
+reads_end pin place at used fault (Some why) last (there, other, some, inl (d, is, r)) =
     let same : other ≡ why = cc in inl (
       r.count,
       record {
@@ -63,8 +65,14 @@ reads_end pin place used fault (Some why) last (other, some, inl (d, is, r)) =
         reply_is = ap reply_of r.what_is ∙ ap (λ (w : Refusal). reply.Refused w) same;
       },
     )
-reads_end pin place used fault (Some why) last (other, some, inr h) =
+reads_end pin place at used fault (Some why) last (there, other, some, inr h) =
     let same : why ≡ other = cc in inr (ap entries_of h.0, same ∙ h.1)
+
+-- a read that was refused began where the others had come
+refused_at : (pin place at : ℕ) (used : Bool) (refused : Option Refusal) (why : Refusal) (last : List Deed)
+    → refused ≡ Some why → EndReads used pin place refused (reads_to refused at) last → at ≡ place
+refused_at pin place at used None why last is h = cc
+refused_at pin place at used (Some other) why last is h = h.0
 
 -- the pin is released by one call, or by none where no turn was left
 release : (NoTurn : Type 0) (used : Bool) (none : used ≡ true → NoTurn) (seat pin : ℕ) (what : Result Reply Refusal)
@@ -99,6 +107,17 @@ failed None true is = refl
 failed None false is = cc
 failed (Some why) fault is = cc
 
+pub play_refusal : (refused : Option Refusal) (fault : Bool) (why : Refusal)
+    → play_end refused fault ≡ play.Refused why → refused ≡ Some why
+play_refusal (Some other) fault why is = cc
+play_refusal None true why is = cc
+play_refusal None false why is = cc
+
+-- all frames were written, or the speaker failed
+all_written : (fault : Bool) (A B : Type 0) → (fault ≡ false → A) → (fault ≡ true → B) → A ⊎ B
+all_written false A B all rose = inl (all refl)
+all_written true A B all rose = inr (rose refl)
+
 -- the line of a playback, and the entries of its actor
 pub plays : {P : Type 0} (speakers : sink.Ghosts P) (speaker : Change P) (shows : List Frame → Type 0)
     (pin seat : ℕ) (NoTurn : Type 0) (used : Bool) (none : used ≡ true → NoTurn) (own : List Deed) (heard : Heard)
@@ -120,6 +139,15 @@ plays speakers speaker shows pin seat NoTurn used none own heard mix h shown =
           let all = w.all no.1 in
           (all.0 ∙ ap (λ (l : List Frame). length (frame_bytes l)) (h.is.whole no.0 mix shown), all.1);
       fault = λ is. w.cause (failed heard.refused heard.fault is);
+      refused = λ why is.
+          let some = play_refusal heard.refused heard.fault why is in
+          let read : length h.is.frames ≡ p.place =
+          h.is.given why some ∙ refused_at pin p.place h.place used heard.refused why p.last some p.ends in
+          all_written heard.fault
+          ((w.bytes ≡ 4 * p.place) × (speakers.fault_count speaker.now ≡ speakers.fault_count speaker.before))
+          (Rose (speakers.fault_count speaker.before) (speakers.fault_count speaker.now))
+          (λ no. (omega (arith, (w.all no).0, length-bytes h.is.frames, read), (w.all no).1))
+          (λ yes. w.cause yes);
       reads = entries_of p.full;
       place = p.place;
       last = entries_of p.last;
@@ -128,6 +156,6 @@ plays speakers speaker shows pin seat NoTurn used none own heard mix h shown =
           ∙ (entries_append (p.full ++ p.last) h.release
           ∙ ap (λ (l : List Entry). l ++ entries_of h.release) (entries_append p.full p.last));
       are = are_reads pin 0 p.place p.full p.reads;
-      ended = reads_end pin p.place used heard.fault heard.refused p.last p.ends;
+      ended = reads_end pin p.place h.place used heard.fault heard.refused p.last p.ends;
       released = release NoTurn used none seat pin h.what h.release h.released;
     }

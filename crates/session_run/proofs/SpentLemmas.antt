@@ -6,7 +6,7 @@ use Rattle.pcm_base.specs.declared.answer.Reply.TheVariants as reply
 use Rattle.pcm_base.specs.declared.refusal.Refusal.{Refusal}
 use Rattle.pcm_base.specs.declared.refusal.Refusal.TheVariants.{NoMemory}
 use Rattle.pcm_base.specs.declared.sound.Frame.{Frame}
-use Rattle.edit_ports.specs.Answers.{WasRefused}
+use Rattle.edit_ports.specs.Answers.{RefusedAt}
 use Rattle.edit_ports.specs.declared.sink.Sink as sink
 use Rattle.edit_ports.specs.declared.source.Source as source
 use Rattle.editor_core.specs.Applied.{reply_of}
@@ -34,6 +34,7 @@ use Rattle.desk_session.specs.Sides.{WhereMade}
 use Rattle.desk_session.specs.Sounds.{Played, Recorded}
 use Rattle.session_run.specs.Last.{play_end, play_line, record_end, record_line}
 use Rattle.session_run.proofs.EntryLemmas.{each_of}
+use Rattle.session_run.proofs.PlayLemmas.{play_refusal}
 use Rattle.session_run.proofs.SideEntries.{pin_spent, track_spent}
 
 record_refusal : (refused : Option Refusal) (end : MicEnd) (why : Refusal) → record_end refused end ≡ rec.Refused why
@@ -43,12 +44,6 @@ record_refusal None mic_end.End why is = cc
 record_refusal None mic_end.Fault why is = cc
 record_refusal None mic_end.Limit why is = cc
 
-play_refusal : (refused : Option Refusal) (fault : Bool) (why : Refusal) → play_end refused fault ≡ play.Refused why
-    → refused ≡ Some why
-play_refusal (Some other) fault why is = cc
-play_refusal None true why is = cc
-play_refusal None false why is = cc
-
 -- no deed tells that no turn was left, so the seat knows it
 ends_spent : (used : Bool) (own : List Deed) → EndsBy used (Some spent) own → Each HadTurn own → used ≡ true
 ends_spent used own (inl h) had =
@@ -57,17 +52,17 @@ ends_spent used own (inl h) had =
 ends_spent used own (inr h) had = h.found
 
 -- nor does a read
-reads_spent : (used : Bool) (pin : ℕ) (ds : List Deed) → ReadsTo used pin (Some spent) WasRefused ds
+reads_spent : (used : Bool) (pin at : ℕ) (ds : List Deed) → ReadsTo used pin (Some spent) (RefusedAt at) ds
     → Each HadTurn ds → used ≡ true
-reads_spent used pin ds h had = by h.ends
+reads_spent used pin at ds h had = by h.ends
   where
-    by : EndReads used pin h.place (Some spent) WasRefused h.last → used ≡ true
-    by (why, is, inl (d, one, r)) =
+    by : EndReads used pin h.place (Some spent) (RefusedAt at) h.last → used ≡ true
+    by (there, why, is, inl (d, one, r)) =
         let same : why ≡ spent = cc in
         absurd ((Each-right HadTurn h.full (d ∷ []) (subst (λ (l : List Deed). Each HadTurn l)
         (h.are ∙ ap (λ (l : List Deed). h.full ++ l) one) had)).0
         (ap reply_of r.what_is ∙ ap (λ (w : Refusal). reply.Refused w) same))
-    by (why, is, inr e) = e.2
+    by (there, why, is, inr e) = e.2
 
 spent_memory : spent ≡ NoMemory → ⊥
 spent_memory is = cc
@@ -110,7 +105,7 @@ playback_spent speakers speaker shows used player (side.Made pin) None opening o
     absurd h
 playback_spent speakers speaker shows used player (side.Made pin) (Some heard) opening own else_ h opened had_opening
     had is =
-    reads_spent used pin h.reads
-    (subst (λ (r : Option Refusal). ReadsTo used pin r (reads_to r) h.reads)
+    reads_spent used pin h.place h.reads
+    (subst (λ (r : Option Refusal). ReadsTo used pin r (reads_to r h.place) h.reads)
     (play_refusal heard.refused heard.fault spent is) h.in_order)
     (Each-left HadTurn h.reads h.release (subst (λ (l : List Deed). Each HadTurn l) h.own_is had))

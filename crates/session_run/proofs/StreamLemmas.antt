@@ -1,11 +1,12 @@
--- What was written to a sink, by its count of faults.
+-- What was written to a sink, by its count of faults, and a source that was not read.
 use Rattle.std.proofs.Common.{ℕ, List, length, Option, Result, Ok, Err, sym, ap, ◌∙◌, arith}
 use Rattle.std.proofs.lemmas.List.{take_all}
 use Rattle.pcm_base.specs.declared.failed.Failed.{Failed}
 use Rattle.pcm_base.specs.Causes.{HasCause}
-use Rattle.edit_ports.specs.Told.{grown, Writes}
+use Rattle.edit_ports.specs.declared.source.Source as source
+use Rattle.edit_ports.specs.Told.{grown, Open, Writes}
 use Rattle.script_session.specs.Change.{change}
-use Rattle.session_run.specs.Streams.{PrintsFrom}
+use Rattle.session_run.specs.Streams.{IsReadOn, PrintsFrom}
 
 pub prints : (r : Result (Unit {0}) Failed) (count count_now : ℕ) (old new : Option (List ℕ)) (text : List ℕ)
     → HasCause count count_now r → Writes r old new text
@@ -14,3 +15,6 @@ prints (Ok u) count count_now old new text c w =
     ((length text, omega arith, w ∙ ap (grown old) (sym (take_all (length text) text (omega arith)))), λ quiet. w)
 prints (Err failed) count count_now old new text c (n, within, is) =
     ((n, omega (arith, within), is), λ quiet. absurd (quiet c.failed))
+
+pub unread : {A : Type 0} (sources : source.Ghosts A) (script : A) → IsReadOn sources (change script script)
+unread sources script = record { course = Open; goes = λ first h. h }

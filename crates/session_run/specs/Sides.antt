@@ -1,5 +1,5 @@
 -- What was made for a recording or a playback before the script, and how each ends.
-use Rattle.std.specs.Prelude.{◌≡◌, ◌⊎◌, ℕ, ◌+◌, ◌<◌, ◌≤◌, ◌^◌, ◌/◌, ℤ, false, List, [], ◌∷◌, ◌++◌, length}
+use Rattle.std.specs.Prelude.{◌≡◌, ◌⊎◌, ℕ, ◌+◌, ◌*◌, ◌<◌, ◌≤◌, ◌^◌, ◌/◌, ℤ, false, List, [], ◌∷◌, ◌++◌, length}
 use Rattle.std.specs.Prelude.{take, Option, Some, None, sum_by, true}
 use Rattle.std.specs.Io.KnownBytes.{IsAtEnd}
 use Rattle.pcm_base.specs.declared.answer.Reply.{Reply}
@@ -145,7 +145,8 @@ abbrev pub IsRelease : Type 0 → ℕ → List Entry → Type 0
 IsRelease NoTurn pin es = ((e : Entry) × (es ≡ e ∷ []) × (e.call ≡ Unpin pin)) ⊎ ((es ≡ []) × NoTurn)
 
 -- A prefix of the bytes of the frames that the pin shows was written to the speaker. It is all of them where the line
--- has no refusal and no fault. The actor of the playback read them from the first on, each once, in order, up to the
+-- has no refusal and no fault. Where a read was refused, it is all that was read before, four bytes a frame, unless the
+-- speaker failed. The actor of the playback read them from the first on, each once, in order, up to the
 -- end or to a refusal, and then released the pin.
 pub record Plays (NoTurn : Type 0) (pin : ℕ) (mix : List Frame) (speaker : Output) (line : PlayLine) (own : List Entry)
     : Type 0 where
@@ -157,6 +158,9 @@ pub record Plays (NoTurn : Type 0) (pin : ℕ) (mix : List Frame) (speaker : Out
   pub fault : line.end ≡ play.Fault → Rose speaker.faults.before speaker.faults.now
   pub reads : List Entry
   pub place : ℕ
+  pub refused : (why : Refusal) → line.end ≡ play.Refused why
+      → ((bytes ≡ 4 * place) × (speaker.faults.now ≡ speaker.faults.before))
+      ⊎ Rose speaker.faults.before speaker.faults.now
   pub last : List Entry
   pub release : List Entry
   pub own_is : own ≡ (reads ++ last) ++ release

@@ -1,7 +1,7 @@
 -- What a call does to its source and its sink.
 use Rattle.std.specs.Prelude.{◌≡◌, ℕ, ◌≤◌, List, ◌++◌, length, take, Option}
 use Rattle.pcm_base.specs.Causes.{Rose}
-use Rattle.edit_ports.specs.Told.{grown}
+use Rattle.edit_ports.specs.Told.{Course, Open, grown}
 use Rattle.edit_ports.specs.declared.sink.Sink as sink
 use Rattle.edit_ports.specs.declared.source.Source as source
 use Rattle.script_session.specs.Change.{Change, change}
@@ -39,6 +39,11 @@ streams sources sinks script out = record { source = input sources script; sink 
 -- the same of a sink alone, beside what is said of a source
 abbrev pub from_sink : {O : Type 0} → sink.Ghosts O → Streams → Change O → Streams
 from_sink sinks s out = record s { sink = output sinks out }
+
+-- A source was read with no read after its end or after one that failed, by how its reads went, or it was not read.
+pub record IsReadOn {A : Type 0} (sources : source.Ghosts A) (script : Change A) : Type 0 where
+  pub course : Course
+  pub goes : (first : A) → sources.follows first Open script.before → sources.follows first course script.now
 
 -- a device that was not used
 abbrev pub IsIdleInput : Input → Type 0

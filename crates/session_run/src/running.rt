@@ -19,7 +19,7 @@ ghost use Rattle.session_run.specs.Last.{
 };
 ghost use Rattle.session_run.specs.Ports.{job};
 ghost use Rattle.session_run.specs.Runs.{Runs, RunsOpened};
-ghost use Rattle.session_run.specs.Streams.{output, streams};
+ghost use Rattle.session_run.specs.Streams.{IsReadOn, output, streams};
 
 use super::ending::Done;
 use super::last::{
@@ -116,13 +116,14 @@ where
     P: Sink + Send,
     G: Gate + Sync,
     requires { IsStudio S.Store (core_of studio) }
-    ensures { RunsOpened (kinds S.Store V.Vault M.Source P.Sink) (core_of studio)
+    ensures runs { RunsOpened (kinds S.Store V.Vault M.Source P.Sink) (core_of studio)
         (job (record {
           vault = change vault.old vault.new;
           mic = change mic.old mic.new;
           speaker = change speaker.old speaker.new;
           streams = streams A.Source O.Sink (change script.old script.new) (change out.old out.new);
         }) beside) result }
+    ensures reads { IsReadOn A.Source (change script.old script.new) }
 {
     let first = studio.commit_number();
     match Seated::new(alloc, studio, beside) {
@@ -156,13 +157,14 @@ where
     M: Source + Send,
     P: Sink + Send,
     G: Gate + Sync,
-    ensures { Runs (kinds S.Store V.Vault M.Source P.Sink) store
+    ensures runs { Runs (kinds S.Store V.Vault M.Source P.Sink) store
         (job (record {
           vault = change vault.old vault.new;
           mic = change mic.old mic.new;
           speaker = change speaker.old speaker.new;
           streams = streams A.Source O.Sink (change script.old script.new) (change out.old out.new);
         }) beside) result }
+    ensures reads { IsReadOn A.Source (change script.old script.new) }
 {
     match open_store(alloc, store) {
         Ok(studio) => run_opened(

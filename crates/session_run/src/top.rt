@@ -6,6 +6,7 @@ ghost use Rattle.call_words.specs.Words.{words_of};
 ghost use Rattle.session_run.specs.Call.{Does, EndsAs, HasCause, Promises, any_rose, counts};
 ghost use Rattle.session_run.specs.declared.ending.Done.{Done};
 ghost use Rattle.session_run.specs.Ports.{handed};
+ghost use Rattle.session_run.specs.Streams.{IsReadOn};
 
 use super::counts::count_faults;
 use super::ending::{Done, Ending};
@@ -46,10 +47,11 @@ where
     M: Source + Send,
     P: Sink + Send,
     G: Gate + Sync,
-    ensures { Does (record { ram = ⟦<RamStore as Store>⟧; kinds = kinds S.Store V.Vault M.Source P.Sink })
+    ensures does { Does (record { ram = ⟦<RamStore as Store>⟧; kinds = kinds S.Store V.Vault M.Source P.Sink })
         (map string_bytes words.now)
         (handed A.Source O.Sink (change script.old script.new) (change out.old out.new) store
         (change vault.old vault.new) (change mic.old mic.new) (change speaker.old speaker.new)) result }
+    ensures reads { IsReadOn A.Source (change script.old script.new) }
 {
     match read_words(alloc, words) {
         Ok(Words::New(project)) => make_project(alloc, out, store, project),
@@ -116,6 +118,7 @@ where
         (counts A.Source O.Sink k script.old out.old store vault.old mic speaker)
         (counts A.Source O.Sink k script.new out.new result.store vault.new result.mic result.speaker)
         result.status }
+    ensures reads { IsReadOn A.Source (change script.old script.new) }
 {
     let before = count_faults(script, out, &store, vault, &mic, &speaker);
     let done = carry_out(

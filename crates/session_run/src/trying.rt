@@ -2,7 +2,7 @@
 ghost use Rattle.std.specs.Prelude.{◌≡◌, nat_lt, if◌then◌else◌};
 ghost use Rattle.script_session.specs.Change.{change};
 ghost use Rattle.desk_session.specs.Lent.{kinds};
-ghost use Rattle.session_run.specs.Streams.{streams};
+ghost use Rattle.session_run.specs.Streams.{IsReadOn, streams};
 ghost use Rattle.session_run.specs.Tries.{Tries, tried_project};
 
 use super::ending::Done;
@@ -60,13 +60,14 @@ where
     M: Source + Send,
     P: Sink + Send,
     G: Gate + Sync,
-    ensures { Tries (kinds ⟦<RamStore as Store>⟧ V.Vault M.Source P.Sink) store
+    ensures tries { Tries (kinds ⟦<RamStore as Store>⟧ V.Vault M.Source P.Sink) store
         (record {
           vault = change vault.old vault.new;
           mic = change mic.old mic.new;
           speaker = change speaker.old speaker.new;
           streams = streams A.Source O.Sink (change script.old script.new) (change out.old out.new);
         }) result }
+    ensures reads { IsReadOn A.Source (change script.old script.new) }
 {
     let Ok(studio) = fresh_studio(alloc, &tried_project()) else {
         return refuse(alloc, out, store, CallFault::NoMemory);

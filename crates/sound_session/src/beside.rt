@@ -4,7 +4,7 @@ ghost use Rattle.sound_run.specs.Recorded.{Records};
 ghost use Rattle.sound_run.specs.Played.{Plays};
 ghost use Rattle.script_session.specs.Change.{change};
 ghost use Rattle.script_session.specs.Kept.{Holds};
-ghost use Rattle.script_session.specs.Progress.{Ran, IsCauseOf, reached};
+ghost use Rattle.script_session.specs.Progress.{IsCauseOf, IsReadTo, Ran, reached};
 ghost use Rattle.sound_session.specs.IfGiven.{IfGiven};
 
 use super::lent::take_back;
@@ -34,6 +34,7 @@ fn run_script<R: Wait, E: Editor, A: Source, O: Sink, G: Gate>(
         (change (A.left script.old) (A.left script.new)) }
     ensures cause { IsCauseOf result (change (A.fault_count script.old) (A.fault_count script.new))
         (change (O.fault_count out.old) (O.fault_count out.new)) }
+    ensures reads { IsReadTo A.Source result (change script.old script.new) }
     ensures follows { (first : E) → E.follows first session.old.editor → E.follows first session.new.editor }
 {
     read_script(rt, alloc, session, script, out, gate)
@@ -60,6 +61,7 @@ impl<'a, 'b, 'c, E: Editor, A: Source, O: Sink> Task for Lines<'a, 'b, 'c, E, A,
         (change (A.left t.script.now) (A.left r.2.now))
         × IsCauseOf r.0 (change (A.fault_count t.script.now) (A.fault_count r.2.now))
         (change (O.fault_count t.out.now) (O.fault_count r.3.now))
+        × IsReadTo A.Source r.0 (change t.script.now r.2.now)
         × ((first : _) → E.follows first t.session.now.editor → E.follows first r.1.now.editor) };
 
     fn run<R: Wait, G: Gate>(
@@ -108,6 +110,7 @@ fn run_threads<
         (change (A.left script.old) (A.left script.new)) }
     ensures cause { IsCauseOf result.0 (change (A.fault_count script.old) (A.fault_count script.new))
         (change (O.fault_count out.old) (O.fault_count out.new)) }
+    ensures reads { IsReadTo A.Source result.0 (change script.old script.new) }
     ensures follows { (first : E) → E.follows first session.old.editor → E.follows first session.new.editor }
     ensures records { IfGiven (λ r done. Records M.Source T.PieceTaker r.mic r.taker done) recording result.1 }
     ensures plays { IfGiven (λ p done. Plays V.FrameGiver P.Sink p.giver p.speaker done) playback result.2 }
@@ -158,6 +161,7 @@ pub fn run_beside<
         (change (A.left script.old) (A.left script.new)) }
     ensures cause { IsCauseOf result.0 (change (A.fault_count script.old) (A.fault_count script.new))
         (change (O.fault_count out.old) (O.fault_count out.new)) }
+    ensures reads { IsReadTo A.Source result.0 (change script.old script.new) }
     ensures follows { (first : E) → E.follows first session.old.editor → E.follows first session.new.editor }
     ensures records { IfGiven (λ r done. Records M.Source T.PieceTaker r.mic r.taker done) recording result.1 }
     ensures plays { IfGiven (λ p done. Plays V.FrameGiver P.Sink p.giver p.speaker done) playback result.2 }

@@ -11,15 +11,15 @@ pub struct LentSource<'a, M> {
 }
 
 impl<'a, M: Source> Source for LentSource<'a, M> {
-    ghost use Rattle.std.specs.Prelude.{false};
+    ghost use Rattle.edit_ports.specs.Told.{Open};
 
     ghost left = { λ s. M.left s.source.now };
 
     ghost fault_count = { λ s. M.fault_count s.source.now };
 
     // It is the same that was lent, and what that follows at first it follows still.
-    ghost follows = { λ first failed s. (s.source.ghost_name ≡ first.source.ghost_name)
-        × ((before : _) → M.follows before false first.source.now → M.follows before failed s.source.now) };
+    ghost follows = { λ first course s. (s.source.ghost_name ≡ first.source.ghost_name)
+        × ((before : _) → M.follows before Open first.source.now → M.follows before course s.source.now) };
 
     fn read(&mut self, buf: &mut [u8]) -> Result<usize, Failed> {
         self.source.read(buf)

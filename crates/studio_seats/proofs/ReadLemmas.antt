@@ -13,7 +13,7 @@ use Rattle.pcm_base.specs.declared.refusal.Refusal.{Refusal}
 use Rattle.pcm_base.specs.declared.said.Said.{Said}
 use Rattle.pcm_base.specs.declared.sound.Frame.{Frame}
 use Rattle.disk_model.specs.declared.store.Store.{Ghosts}
-use Rattle.edit_ports.specs.Answers.{AtEnd, NextAt, WasRefused, after_read, first_refusal}
+use Rattle.edit_ports.specs.Answers.{AtEnd, NextAt, RefusedAt, after_read, first_refusal}
 use Rattle.edit_ports.specs.declared.vault.Vault as vault
 use Rattle.pin_turn.specs.declared.view.View.{View}
 use Rattle.editor_core.specs.Core.{Core}
@@ -122,7 +122,7 @@ module _ {D V : Type 0} (pin from : ℕ) (disk : Ghosts D) (vaults : vault.Ghost
 
   -- the read was refused, by a turn or because none was left
   refused : (why : Refusal) → new ≡ first_refusal old why → Before
-      → ReadsTo w.used_up pin new WasRefused (own ++ done_of (Err why) ∷ [])
+      → ReadsTo w.used_up pin new (RefusedAt from) (own ++ done_of (Err why) ∷ [])
   refused why first b = record {
     place = b.place;
     full = b.full;
@@ -131,6 +131,7 @@ module _ {D V : Type 0} (pin from : ℕ) (disk : Ghosts D) (vaults : vault.Ghost
         (b.are ∙ ap (λ (l : List Deed). b.full ++ l) b.ends.1 ∙ append-nil b.full);
     reads = b.reads;
     ends = (
+      b.ends.2,
       why,
       first ∙ ap (λ (o : Option Refusal). first_refusal o why) b.ends.0,
       inl (
@@ -157,7 +158,7 @@ module _ {D V : Type 0} (pin from : ℕ) (disk : Ghosts D) (vaults : vault.Ghost
   }
   taken (Err why) at t bound same first = record {
     onward = goes (Err why) at t;
-    reads = λ none. subst (λ (l : List Deed). ReadsTo w.used_up pin new WasRefused l)
+    reads = λ none. subst (λ (l : List Deed). ReadsTo w.used_up pin new (RefusedAt from) l)
         (sym (own_turn (IsReadOf pin) a.view v h.onward t.between (done_of (Err why)) refl t.by_others))
         (refused why first (h.reads none));
   }
@@ -176,6 +177,7 @@ module _ {D V : Type 0} (pin from : ℕ) (disk : Ghosts D) (vaults : vault.Ghost
           ∙ (b.are ∙ ap (λ (l : List Deed). b.full ++ l) b.ends.1);
       reads = b.reads;
       ends = (
+        b.ends.2,
         why,
         first ∙ ap (λ (o : Option Refusal). first_refusal o why) b.ends.0,
         inr (refl, cc, ap (λ (z : View (Held D V) Deed). z.used_up) view),

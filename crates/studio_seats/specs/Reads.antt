@@ -5,7 +5,7 @@ use Rattle.pcm_base.specs.declared.answer.Reply.TheVariants.{Frames}
 use Rattle.pcm_base.specs.declared.command.Call.TheVariants.{ReadPin}
 use Rattle.pcm_base.specs.declared.refusal.Refusal.{Refusal}
 use Rattle.pcm_base.specs.declared.sound.Frame.{Frame}
-use Rattle.edit_ports.specs.Answers.{AtEnd, NextAt, Reading, WasRefused, most_frames}
+use Rattle.edit_ports.specs.Answers.{AtEnd, NextAt, Reading, RefusedAt, most_frames}
 use Rattle.studio_seats.specs.declared.deed.Deed.{Deed}
 use Rattle.studio_seats.specs.Desks.{spent}
 use Rattle.studio_seats.specs.Merge.{by_seat, deeds_of}
@@ -39,13 +39,13 @@ pub record IsRefusedRead (pin from : ℕ) (why : Refusal) (d : Deed) : Type 0 wh
   pub call_is : d.call ≡ ReadPin pin from count
   pub what_is : d.what ≡ Err why
 
--- What came after full reads up to this place: nothing yet; a read that gave fewer frames; or one that was refused, or
--- for which no turn was left, as the seat knows.
+-- What came after full reads up to this place: nothing yet; a read that gave fewer frames; or one there that was
+-- refused, or for which no turn was left, as the seat knows.
 abbrev pub EndReads : Bool → ℕ → ℕ → Option Refusal → Reading → List Deed → Type 0
 EndReads used_up pin place refused (NextAt next) ds = (refused ≡ None) × (ds ≡ []) × (next ≡ place)
 EndReads used_up pin place refused AtEnd ds =
     (refused ≡ None) × (d : Deed) × (ds ≡ d ∷ []) × IsShortRead pin place d
-EndReads used_up pin place refused WasRefused ds = (why : Refusal) × (refused ≡ Some why)
+EndReads used_up pin place refused (RefusedAt at) ds = (at ≡ place) × (why : Refusal) × (refused ≡ Some why)
     × (((d : Deed) × (ds ≡ d ∷ []) × IsRefusedRead pin place why d)
     ⊎ ((ds ≡ []) × (why ≡ spent) × (used_up ≡ true)))
 

@@ -34,7 +34,7 @@ join-requires-clause-away g c =
     (recorder_goes o.recording c.args.setting.track _ _
     (where_both o.recording works.records (λ tag h. h.1.onward) (λ h. h.0)))
     (player_goes o.pin _ _ _
-    (where_both o.pin works.plays (λ pin h. some_any w.heard h (λ k r. r.0.onward)) (λ h. h.0))
+    (where_both o.pin works.plays (λ pin h. some_any w.heard h (λ k r. r.1.onward)) (λ h. h.0))
     (where_both o.pin c.let_go.ensures.goes (λ pin h. h.calls.onward) (λ h. h))) in
     (h.0, h.1)
 
@@ -52,7 +52,7 @@ join-requires-2-clause-away g c =
     (recorder_goes o.recording c.args.setting.track _ _
     (where_both o.recording works.records (λ tag h. h.1.onward) (λ h. h.0)))
     (player_goes o.pin _ _ _
-    (where_both o.pin works.plays (λ pin h. some_any w.heard h (λ k r. r.0.onward)) (λ h. h.0))
+    (where_both o.pin works.plays (λ pin h. some_any w.heard h (λ k r. r.1.onward)) (λ h. h.0))
     (where_both o.pin c.let_go.ensures.goes (λ pin h. h.calls.onward) (λ h. h)))
     (known c.join.new.seat) c.join.ensures.kept.1 in
     (h.0, h.1)
@@ -80,7 +80,7 @@ returns-clause-sat g c =
     works.goes (recorder_goes o.recording c.args.setting.track _ _
     (where_both o.recording works.records (λ tag h. h.1.onward) (λ h. h.0)))
     (player_goes o.pin _ _ _
-    (where_both o.pin works.plays (λ pin h. some_any w.heard h (λ k r. r.0.onward)) (λ h. h.0))
+    (where_both o.pin works.plays (λ pin h. some_any w.heard h (λ k r. r.1.onward)) (λ h. h.0))
     (where_both o.pin c.let_go.ensures.goes (λ pin h. h.calls.onward) (λ h. h)))
     (known c.join.new.seat) (known c.join-2.new.seat) c.join.ensures.kept.1 c.join-2.ensures.kept.1
     c.join.ensures.alike c.join-2.ensures.alike in
@@ -105,9 +105,9 @@ returns-clause-sat g c =
           (λ h. (h.1, h.2));
       played = where_two o.pin works.plays c.let_go.ensures.goes
           (λ pin h lets. some_as w.heard h (λ k is. played_all g.P.Sink lent.speaker
-          (IsMixOf (origin g.S.Store g.V.Vault start) v.seen pin) pin n v p (known w.seats.player)
-          (known c.let_go.new.seat) k seen is.0 lets (play_calls o.pin) seats.by_player.part
+          (IsMixOf (origin g.S.Store g.V.Vault start) v.seen pin) pin n is.0 v p (known w.seats.player)
+          (known c.let_go.new.seat) k seen is.1 lets (play_calls o.pin) seats.by_player.part
           (subst (λ (l : List Deed). IsPlayed g.P.Sink lent.speaker
-          (IsMixOf (origin g.S.Store g.V.Vault start) l pin) k) seen is.1)))
+          (IsMixOf (origin g.S.Store g.V.Vault start) l pin) is.0 k) seen is.2)))
           (λ h lets. (h.1, h.2));
     }

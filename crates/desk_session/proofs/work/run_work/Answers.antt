@@ -102,11 +102,12 @@ returns-clause-works g c =
           (refl, refl, reads_self w.giver.pin (worker (known w.giver.seat) w.giver.refused)) in
           let pin_is = h.2.4 in
           some_as heard.2 h.4.4 (λ k f. (
-            subst (λ (X : Type 0). X) (λ i. ReadsOn (pin_is i) (reads_to (sym f.0 i))
+            h.3.place,
+            subst (λ (X : Type 0). X) (λ i. ReadsOn (pin_is i) (reads_to (sym f.0 i) h.3.place)
                 (worker (h.2.3 i) (h.2.5 i)) (worker (sym h.4.1 i) ((h.3.cause ∙ sym f.0) i))) goes.2,
             subst (λ (X : Type 0). X)
                 (λ i. IsPlayed g.P.Sink (change (h.2.1 i) (sym h.4.3 i))
-                (IsMixOf (origin g.S.Store g.V.Vault (start_at (h.2.2 i))) (h.2.3 i).seen (pin_is i)) k)
+                (IsMixOf (origin g.S.Store g.V.Vault (start_at (h.2.2 i))) (h.2.3 i).seen (pin_is i)) h.3.place k)
                 (played_of g.P.Sink _ _ (λ l. l.sink.now) (λ l. refl) (λ l. refl) (λ l n failed is. is.1) w.giver
                 w.speaker a k (refl, λ first is. is) h.3 f.0 f.1 f.2),
           )))
@@ -151,6 +152,9 @@ returns-clause-at g c =
 
 pub returns-clause-cause : goal.returns-clause-cause
 returns-clause-cause g c = rw c.take_script-seat.ensures.told.0 c.run_beside-stop.ensures.cause
+
+pub returns-clause-reads : goal.returns-clause-reads
+returns-clause-reads g c = rw c.take_script-seat.ensures.told.0 c.run_beside-stop.ensures.reads
 
 pub returns-clause-same : goal.returns-clause-same
 returns-clause-same g c =

@@ -43,8 +43,9 @@ returns-then-count-lt-BATCH_FRAMES g c =
     let back = c.finish.ensures.back in
     let fewer : c.in-Ok.count < length c.loop.frames = omega (arith, i.wide, c.if-count-lt-BATCH_FRAMES.true) in
     record {
-      sends = Sends-end _ _ _ _ c.loop.from c.in-Ok.count (length c.loop.frames) c.give_frames-what.new.out _ back.1
-          i.small limit i.gave c.send.ensures.sent bound
+      place = c.loop.from;
+      sends = Sends-end _ _ _ _ c.loop.from c.in-Ok.count (length c.loop.frames) c.loop.from
+          c.give_frames-what.new.out _ back.1 i.small limit i.gave c.send.ensures.sent bound
           (λ xs h. given xs ((i.same xs).0 h)) fewer c.finish.ensures.sent;
       same = λ all. rw back.0 (λ h. (same all).0 ((i.same all).0 h), λ h. (i.same all).1 ((same all).1 h));
       cause = rw (back.0, back.1) (unrefused ∙ i.unrefused);
@@ -91,6 +92,7 @@ returns-in-Err g c =
     let same = c.give_frames-what.ensures.same in
     let refusal = rw (i.unrefused, c.in-Err.is) at c.give_frames-what.ensures.refusal in
     record {
+      place = c.loop.from;
       sends = Sends-refused _ _ _ c.loop.from _ c.in-Err.reason back.1 i.small i.gave c.finish-in-Err.ensures.sent;
       same = λ all. rw back.0 (λ h. (same all).0 ((i.same all).0 h), λ h. (i.same all).1 ((same all).1 h));
       cause = rw (back.0, back.1) refusal;

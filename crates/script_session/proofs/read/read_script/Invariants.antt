@@ -1,5 +1,6 @@
 -- The bytes so far brought the session here, and nothing failed.
 use Rattle.std.proofs.Common.{◌≡◌, ◌-◌, ◌≤◌, []}
+use Rattle.edit_ports.specs.Told.{Open}
 use Rattle.script_session.specs.Change.{change}
 use Rattle.script_session.specs.Progress.{Going, Reading, Start, reached}
 use Rattle.script_session.proofs.read.read_script.Given as goal
@@ -13,6 +14,8 @@ invariant-loop-total g l = record {
       (change (g.A.Source.left l.fn.script) (g.A.Source.left l.script)) l.session.line l.total;
   follows : (first : g.row.E.Denot) → g.E.Editor.follows first l.fn.session.editor
       → g.E.Editor.follows first l.session.editor;
+  reads : (first : g.row.A.Denot) → g.A.Source.follows first Open l.fn.script
+      → g.A.Source.follows first Open l.script;
   bound : l.total ≤ 4294967296;
   source : g.A.Source.fault_count l.script ≡ g.A.Source.fault_count l.fn.script;
   sink : g.O.Sink.fault_count l.out ≡ g.O.Sink.fault_count l.fn.out;

@@ -8,10 +8,11 @@ use Rattle.desk_session.specs.Sessions.{IsSession}
 use Rattle.session_run.specs.Last.{WritesEnd, mic_failed, play_line, play_refused, record_line, record_refused}
 use Rattle.session_run.specs.Last.{speaker_failed, status_of}
 use Rattle.session_run.specs.Streams.{output}
+use Rattle.session_run.proofs.StreamLemmas.{unread}
 use Rattle.session_run.proofs.running.run_opened.Goals as goal
 
-pub returns-in-Ok : goal.returns-in-Ok
-returns-in-Ok g c =
+pub returns-in-Ok-clause-runs : goal.returns-in-Ok-clause-runs
+returns-in-Ok-clause-runs g c =
     let ran = c.run-ended in
     let e = ran.result in
     let end = c.finish in
@@ -59,8 +60,8 @@ returns-in-Ok g c =
       }),
     )
 
-pub returns-in-Err : goal.returns-in-Err
-returns-in-Err g c = (
+pub returns-in-Err-clause-runs : goal.returns-in-Err-clause-runs
+returns-in-Err-clause-runs g c = (
   core_of c.args.studio,
   c.refuse.ensures.store ∙ (c.into_store.ensures ∙ ap (λ s. (core_of s).store) c.in-Err.ensures.err),
   inr (record {
@@ -70,3 +71,10 @@ returns-in-Err g c = (
     same = (refl, refl);
   }),
 )
+
+pub returns-in-Ok-clause-reads : goal.returns-in-Ok-clause-reads
+returns-in-Ok-clause-reads g c =
+    record { course = c.run-ended.ensures.reads.course; goes = c.run-ended.ensures.reads.goes }
+
+pub returns-in-Err-clause-reads : goal.returns-in-Err-clause-reads
+returns-in-Err-clause-reads g c = unread g.A.Source c.args.script.now

@@ -3,10 +3,11 @@ use Rattle.std.proofs.Common.{inl, inr, refl, subst, sym, Err}
 use Rattle.editor_core.specs.Core.{core_of}
 use Rattle.session_run.specs.Opening.{Looks}
 use Rattle.session_run.proofs.ProjectLemmas.{refused_as}
+use Rattle.session_run.proofs.StreamLemmas.{unread}
 use Rattle.session_run.proofs.running.run_project.Goals as goal
 
-pub returns-in-Ok : goal.returns-in-Ok
-returns-in-Ok g c = let e = c.in-Ok.ensures in inl (
+pub returns-in-Ok-clause-runs : goal.returns-in-Ok-clause-runs
+returns-in-Ok-clause-runs g c = let e = c.in-Ok.ensures in inl (
   core_of c.in-Ok.studio,
   record {
     looks = record {
@@ -22,11 +23,11 @@ returns-in-Ok g c = let e = c.in-Ok.ensures in inl (
     held = e.held;
     keeps = e.keeps;
   },
-  c.run_opened.ensures,
+  c.run_opened.ensures.runs,
 )
 
-pub returns-in-Err : goal.returns-in-Err
-returns-in-Err g c = let e = c.in-Err.ensures in inr (
+pub returns-in-Err-clause-runs : goal.returns-in-Err-clause-runs
+returns-in-Err-clause-runs g c = let e = c.in-Err.ensures in inr (
   c.in-Err.fault,
   subst (λ z. Looks g.S.Store c.args.store z (Err c.in-Err.fault)) (sym c.refuse.ensures.store) (record {
     opens = e.opens;
@@ -41,3 +42,6 @@ returns-in-Err g c = let e = c.in-Err.ensures in inr (
   (refl, refl),
   refl,
 )
+
+pub returns-in-Err-clause-reads : goal.returns-in-Err-clause-reads
+returns-in-Err-clause-reads g c = unread g.A.Source c.args.script.now

@@ -34,12 +34,13 @@ returns g c =
     let new = counts g.A.Source g.O.Sink k now.script now.out done.store now.vault now.mic now.speaker in
     let only = four_only g.A.Source g.O.Sink k (change c.args.script.now now.script) (change c.args.out.now now.out)
     (change c.args.store done.store) (change c.args.vault.now now.vault) (change c.args.mic now.mic)
-    (change c.args.speaker now.speaker) ram.ghosts texts done c.carry_out-done.ensures refl _ status in record {
-      does = (done, c.carry_out-done.ensures, ends);
-      promise = promises w c.deeds_ask.ensures texts h _ done _ c.carry_out-done.ensures ends
+    (change c.args.speaker now.speaker) ram.ghosts texts done c.carry_out-done.ensures.does refl _ status in record {
+      does = (done, c.carry_out-done.ensures.does, ends);
+      promise = promises w c.deeds_ask.ensures texts h _ done _ c.carry_out-done.ensures.does ends
           (λ records plays is. record {
             failed = four_failed old new c.status_of.result done.status status;
             status = failed_four old new (words_of texts) c.status_of.result only records plays is;
           });
       only = only;
+      reads = c.carry_out-done.ensures.reads;
     }

@@ -9,8 +9,8 @@ use Rattle.session_run.specs.Streams.{streams}
 use Rattle.session_run.proofs.TryLemmas.{tried, tried_at}
 use Rattle.session_run.proofs.trying.try_script.Goals as goal
 
-pub returns : goal.returns
-returns g c =
+pub returns-clause-tries : goal.returns-clause-tries
+returns-clause-tries g c =
     let done = c.run_opened-done in (
       refl,
       tried (kinds _ g.V.Vault g.M.Source g.P.Sink) (core_of c.in-Ok.studio) (record {
@@ -24,8 +24,9 @@ returns g c =
           c.status_with.result
           (tried_at _ c.tried_project.result (core_of c.in-Ok.studio) c.tried_project.ensures c.in-Ok.ensures)
           c.deeds_ask.ensures
-          done.ensures
+          done.ensures.runs
           (subst (λ (n : ℕ). c.status_with.result ≡ (if nat_lt 0 n then 4 else done.result.status))
-          (c.faults.ensures ∙ ap (λ (z : RamStore). fault_sum z.tally.read_faults z.tally.change_faults) done.ensures.1)
+          (c.faults.ensures
+          ∙ ap (λ (z : RamStore). fault_sum z.tally.read_faults z.tally.change_faults) done.ensures.runs.1)
           c.status_with.ensures),
     )
