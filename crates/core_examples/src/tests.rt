@@ -3,9 +3,9 @@ ghost use Rattle.std.specs.Prelude.{◌≤◌, IfOk};
 ghost use Rattle.editor_core.specs.Core.{core_of};
 ghost use Rattle.editor_core.specs.Studios.{IsStudio};
 
-use block_ledger::Ledger;
 use disk_model::{RamStore, Store};
 use editor_core::*;
+use layout_uses::Tally;
 use pcm_base::Numbers;
 use project_journal::create;
 use project_state::Point;
@@ -41,9 +41,10 @@ pub(crate) fn new_studio<S: Store + Drop>(
         pages: 1,
         block_size: 4,
         history,
-        ledger: Ledger::new(alloc),
+        tally: Tally::new(alloc),
         next_block: 16,
         next_track: 1,
+        next_layout: 1,
         commit_number: 0,
         file: 0,
         version: 2,

@@ -6,7 +6,6 @@ use Rattle.pcm_base.specs.declared.block.BlockRef.{BlockRef}
 use Rattle.pcm_base.specs.History.{History, IsHistory}
 use Rattle.disk_model.specs.declared.store.Store.{Ghosts}
 use Rattle.sample_block.specs.Sources.{IsWhole}
-use Rattle.block_ledger.specs.Counts.{IsFreshCount}
 use Rattle.block_ledger.specs.Entries.{count_of}
 use Rattle.clip_track.specs.declared.clips.Clip.{Clip}
 use Rattle.clip_track.specs.Clips.{layout_blocks}
@@ -17,7 +16,9 @@ use Rattle.project_state.specs.Sound.{AllClipsGiven, AllGiven, AllSoundTracks}
 use Rattle.project_state.proofs.KeptBounds.{all_append}
 use Rattle.editor_core.specs.Parts.{AreParts, HasParts, assembled}
 use Rattle.block_cache.proofs.CarriedLaws.{carried_none}
-use Rattle.editor_core.specs.Studios.{IsGiven, IsHeld, IsStudio, ids_of, is_given}
+use Rattle.layout_uses.specs.Layouts.{AreDrawn, AreNumbered, history_tracks}
+use Rattle.layout_uses.specs.Tallies.{AreCounts}
+use Rattle.editor_core.specs.Studios.{IsGiven, IsHeld, IsStudio, is_given}
 use Rattle.editor_core.specs.declared.assembly.Parts.{Parts}
 use Rattle.editor_core.proofs.Lists.{all_joined, all_so}
 
@@ -55,7 +56,7 @@ pub assembles : {D : Type 0} (disk : Ghosts D) (store : D) (p : Parts) → ArePa
 assembles disk store p are is =
     let h : History (List Track) = p.history.history in
     let blocks : List BlockRef = history_blocks h in
-    let same : blocks ++ [] ≡ blocks = append-nil blocks in record {
+    let same : history_tracks h ++ [] ≡ history_tracks h = append-nil (history_tracks h) in record {
       format = are.format;
       counters = are.counters;
       journal = are.journal;
@@ -67,7 +68,12 @@ assembles disk store p are is =
       clipboard = tt;
       ids = all_append (λ (b : BlockRef). IsGiven p.next_block b.id) blocks []
           (points_given p.block_size p.next_block p.next_track p.commit_number h are.points) tt;
-      counted = subst (λ (bs : List BlockRef). IsFreshCount (ids_of bs) (count_of p.ledger)) (sym same) are.counted;
+      layouts = are.layouts;
+      numbered = subst AreNumbered (sym same) are.numbered;
+      drawn = subst (AreDrawn p.next_layout) (sym same) are.drawn;
+      counted = subst (λ (ts : List Track). AreCounts ts [] (count_of p.tally.uses) (count_of p.tally.ledger))
+          (sym same)
+          are.counted;
       given = are.given;
       cache = λ going. carried_none disk (is_given p.next_block) store p.pages;
     }

@@ -1,8 +1,8 @@
 -- The bytes of a record's body, by the journal's version: how many they are, and that the record may come next.
 use Rattle.std.proofs.Common.{◌≡◌, inl, inr, ⊎_elim, refl, sym, ap, ◌∙◌, subst, ℕ, zero, suc, ◌+◌, ◌*◌, ◌^◌, ◌≤◌, ◌<◌, ◌==◌}
-use Rattle.std.proofs.Common.{true, false, List, ◌∷◌, length, add-mul, arith}
+use Rattle.std.proofs.Common.{true, false, List, ◌∷◌, length, map, Option, Some, None, add-mul, arith}
+use Rattle.std.specs.Option.{option_map}
 use Rattle.std.proofs.lemmas.Bool.{cases_Bool}
-use Rattle.pcm_base.specs.History.{History}
 use Rattle.pcm_base.specs.Pieces.{Sources}
 use Rattle.pcm_base.specs.Sizes.{project_body_most}
 use Rattle.project_journal.specs.Header.{form_of}
@@ -13,10 +13,13 @@ use Rattle.project_state.specs.declared.track.Track.{Track}
 use Rattle.project_state.specs.Batches.{with_point}
 use Rattle.project_state.specs.Changes.{delta_spelling, spelling_in}
 use Rattle.project_state.specs.Kept.{IsNextIn, Kept, MayFollow, before_of, current_tracks, meant, version_of}
-use Rattle.project_state.specs.Laws.{HasShortEnds}
+use Rattle.project_state.specs.Laws.{EndsShort, HasShortEnds}
+use Rattle.project_state.specs.Numbers.{unnumbered, unnumbered_body, unnumbered_history}
 use Rattle.project_state.specs.Sound.{IsSound, IsSoundPoint}
 use Rattle.project_state.specs.Spelling.{spelling}
+use Rattle.project_state.specs.Tracks.{track_of}
 use Rattle.project_state.proofs.Batched.{next_in}
+use Rattle.project_state.proofs.Unnumbered.{current_alike, delta_spelled_alike, found_alike, spelled_alike}
 use Rattle.editor_core.specs.Bodies.{IsLength, bodies_by, body_bytes, bytes_by, single, whole_by}
 use Rattle.editor_core.specs.Core.{Core, form_at}
 use Rattle.editor_core.specs.Studios.{AreJournalNumbers}
@@ -69,6 +72,22 @@ wholes_most current body low high one last (suc more) =
     more_most more (whole_by current more body) low (length (spelling (with_point current body))) high
     (whole_by current (suc more) body) one refl (wholes_most current body low high one last more)
 
+-- ---- the numbers of layouts bear on no byte
+
+pub spelled_in : (version : ℕ) (current : List Track) (body : Body)
+    → spelling_in version (map unnumbered current) (unnumbered_body body) ≡ spelling_in version current body
+spelled_in version current body = elim (cases_Bool (version == 1)) [
+  | inl is ↦ rw is (spelled_alike body)
+  | inr not ↦ rw not (delta_spelled_alike current body)
+]
+
+pub ends_alike : (current : List Track) → HasShortEnds current → HasShortEnds (map unnumbered current)
+ends_alike current short = λ id. subst EndsShort (sym (found_alike id current)) (one (track_of id current) (short id))
+  where
+    one : (old : Option Track) → EndsShort old → EndsShort (option_map unnumbered old)
+    one None is = tt
+    one (Some t) is = is
+
 module _ {D : Type 0} (s : Core D) where
   pub version_is : AreJournalNumbers s.file s.version s.generation → version_of (form_at s) ≡ s.version
   version_is journal = version_at s.version s.file journal.version_least journal.version_most
@@ -94,18 +113,23 @@ module _ {D : Type 0} (s : Core D) where
 
   -- what the studio writes for a sound body may come next
   pub next_so : (m : ℕ) (k : Kept) (body : Body) → AreJournalNumbers s.file s.version s.generation
-      → k.history ≡ s.history → 4 ≤ m → m < 2 ^ 32 → k.commit < 2 ^ 62 → HasShortEnds (current_tracks s.history)
-      → IsSound m (before_of k) body → MayFollow k.history body
-      → IsNextIn (version_of (form_at s)) m k (body_bytes s body) body
+      → k.history ≡ unnumbered_history s.history → 4 ≤ m → m < 2 ^ 32 → k.commit < 2 ^ 62
+      → HasShortEnds (current_tracks s.history) → IsSound m (before_of k) (unnumbered_body body)
+      → MayFollow k.history (unnumbered_body body)
+      → IsNextIn (version_of (form_at s)) m k (body_bytes s body) (unnumbered_body body)
   next_so m k body journal same large small room short sound follows =
-      let short_there = subst (λ (h : History (List Track)). HasShortEnds (current_tracks h)) (sym same) short in
-      let next : IsNextIn s.version m k (spelling_in s.version (current_tracks k.history) body) body =
-      next_in s.version m k body journal.version_least journal.version_most large small room short_there sound
+      let plain = unnumbered_body body in
+      let now = current_tracks s.history in
+      let current : current_tracks k.history ≡ map unnumbered now = ap current_tracks same ∙ current_alike s.history in
+      let short_there = subst HasShortEnds (sym current) (ends_alike now short) in
+      let next : IsNextIn s.version m k (spelling_in s.version (current_tracks k.history) plain) plain =
+      next_in s.version m k plain journal.version_least journal.version_most large small room short_there sound
       follows in
-      let bytes : spelling_in s.version (current_tracks k.history) body ≡ body_bytes s body =
-      ap (λ (h : History (List Track)). spelling_in s.version (current_tracks h) body) same ∙ sym (bytes_in body) in
-      subst (λ (v : ℕ). IsNextIn v m k (body_bytes s body) body) (sym (version_is journal))
-      (subst (λ (b : List ℕ). IsNextIn s.version m k b body) bytes next)
+      let bytes : spelling_in s.version (current_tracks k.history) plain ≡ body_bytes s body =
+      ap (λ (ts : List Track). spelling_in s.version ts plain) current ∙ spelled_in s.version now body
+      ∙ sym (bytes_in body) in
+      subst (λ (v : ℕ). IsNextIn v m k (body_bytes s body) plain) (sym (version_is journal))
+      (subst (λ (b : List ℕ). IsNextIn s.version m k b plain) bytes next)
 
   -- they are as few as the project asks
   bytes_most : (next_block next_track : ℕ) (src : Sources) (m tag block track : ℕ) (ts : List Track) → 0 < m

@@ -17,7 +17,8 @@ use Rattle.project_state.specs.KeptSound.{IsSoundPoint, IsSoundTagged}
 use Rattle.editor_core.specs.Core.{Core}
 use Rattle.editor_core.specs.declared.studio.Pin.{Pin}
 use Rattle.editor_core.specs.Occurrences.{times_named}
-use Rattle.editor_core.specs.Studios.{IsStudio, PinsRise, named_blocks, pin_blocks, clip_blocks}
+use Rattle.editor_core.specs.Studios.{IsStudio, named_blocks, pin_blocks, clip_blocks}
+use Rattle.editor_core.proofs.Layouts.{counted_most, named_counted, numbers_few}
 use Rattle.editor_core.proofs.Lists.{all_so}
 
 pub named_most : (id : ℕ) (bs : List BlockRef) → times_named id bs ≤ length bs
@@ -66,12 +67,6 @@ parts_few : {X : Type 0} (f : X → List BlockRef) (xs : List X) → AllByRecurs
 parts_few f [] h = omega arith
 parts_few f (x ∷ xs) h = omega (arith, h.0, parts_few f xs h.1, length-append (f x) (flat_map f xs))
 
--- there are fewer pins than numbers
-numbers_few : (least next : ℕ) (pins : List Pin) → PinsRise least next pins → least ≤ next → length pins + least ≤ next
-numbers_few least next [] rise le = omega (arith, le)
-numbers_few least next (p ∷ ps) rise le =
-    omega (arith, numbers_few (p.number + 1) next ps rise.2 (omega (arith, rise.1)), rise.0)
-
 module _ {D : Type 0} (disk : Ghosts D) (s : Core D) (is : IsStudio disk s) where
   history_few : length (history_blocks s.history) ≤ 2 ^ 50
   history_few =
@@ -110,7 +105,7 @@ module _ {D : Type 0} (disk : Ghosts D) (s : Core D) (is : IsStudio disk s) wher
   few_more ts next_track h id =
       omega (
         arith,
-        is.counted id,
+        counted_most disk s is id,
         named_most id (named_blocks s),
         named_few,
         named_most id (point_blocks ts),
@@ -145,4 +140,4 @@ named_there disk s is bs covers id some = go (times_named id (named_blocks s)) r
     go : (n : ℕ) → times_named id (named_blocks s) ≡ n → IsSome (s.counts id)
     go zero none = absurd
         (omega (arith, some, none_of id bs (covers (λ b. eqb b.id id ≡ false) (absent id (named_blocks s) none))))
-    go (suc n) more = some_count (s.counts id) (omega (arith, is.counted id, more))
+    go (suc n) more = some_count (s.counts id) (named_counted disk s is id (omega (arith, more)))

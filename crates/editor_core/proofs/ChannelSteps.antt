@@ -29,6 +29,7 @@ use Rattle.project_state.specs.Kept.{current_tracks, history_blocks, meant, mean
 use Rattle.project_state.specs.KeptSound.{IsSoundPoint}
 use Rattle.project_state.proofs.KeptBounds.{all_append}
 use Rattle.project_state.proofs.MeantHistories.{meant_recorded}
+use Rattle.layout_uses.specs.Drawing.{HasNumbers}
 use Rattle.editor_core.specs.declared.carrying.Planned.{Planned}
 use Rattle.editor_core.specs.declared.growth.Growing.{Growing}
 use Rattle.editor_core.specs.Commits.{IsCommitCall}
@@ -117,7 +118,14 @@ module _ {D : Type 0} (disk : Ghosts D) (s : Core D) (is : IsStudio disk s) (cha
 
       -- the plan of the tracks that have grown
       abbrev plan_then : Planned
-      plan_then = record { point = point; makes = makes; next = g.next; tracks = length counts; clip = None }
+      plan_then = record {
+        point = point;
+        makes = makes;
+        next = g.next;
+        tracks = length counts;
+        layouts = length counts;
+        clip = None;
+      }
 
       point_sound : IsSoundPoint m (s.next_block + n) (s.next_track + length counts) point
       point_sound =
@@ -130,6 +138,10 @@ module _ {D : Type 0} (disk : Ghosts D) (s : Core D) (is : IsStudio disk s) (cha
                 (current_below disk s is) are.ids;
             sound = sound_append m (s.next_block + n) (s.next_track + length counts) old are.news later.sound are.sound;
           }
+
+      numbers : HasNumbers old s.next_layout point (s.next_layout + length counts)
+      numbers = subst (λ (k : ℕ). HasNumbers old s.next_layout point k) are.number_is
+          (subst (λ (q : List Track). HasNumbers old s.next_layout q g.number) are.point are.layouts)
 
       was_named : AreAmong every (named_blocks s)
       was_named = all_left (Contains every) (named_blocks s) (refs makes) (among_itself every)
@@ -167,6 +179,7 @@ module _ {D : Type 0} (disk : Ghosts D) (s : Core D) (is : IsStudio disk s) (cha
             origin = new_from_more [] (named_blocks s) count makes tt origin;
             tag_given = omega arith;
             tag_counts = λ some. absurd (omega (arith, some));
+            layouts = numbers;
             sound = point_sound;
             names = point_names;
             used = point_used;
@@ -248,6 +261,7 @@ module _ {D : Type 0} (disk : Ghosts D) (s : Core D) (is : IsStudio disk s) (cha
         makes = sym plan.makes_is i;
         next = sym plan.next_is i;
         tracks = sym plan.tracks_is i;
+        layouts = sym plan.layouts_is i;
         clip = sym keeps i;
       }
 

@@ -152,7 +152,7 @@ channel_means from count p means src written =
     let block = src.block in
     let given = src.given in
     let first = given_from from given in
-    let t = track_with 1 p.layout in
+    let t = track_with 1 0 p.layout in
     let same : layout_cells src p.layout ≡ layout_cells (beside block first) p.layout =
     sym (layout_given block given t) ∙ layout_given block first t in
     let at : 0 + from ≡ from = omega arith in

@@ -1,5 +1,5 @@
 -- A copy is a step: other strips come into the clipboard.
-use Rattle.std.proofs.Common.{◌≡◌, ◌⊎◌, inl, inr, ⊎_elim, refl, sym, ap, ◌∙◌, subst, ℕ, ◌+◌, ◌^◌, ◌≤◌, ◌<◌, Bool, true}
+use Rattle.std.proofs.Common.{◌≡◌, ◌⊎◌, inl, inr, ⊎_elim, refl, sym, ap, ◌∙◌, subst, ℕ, ◌^◌, ◌≤◌, ◌<◌, Bool, true}
 use Rattle.std.proofs.Common.{false, not, nat_lt, nat_le, ◌&&◌, List, ◌++◌, length, map, take, Option, Some, None, Ok}
 use Rattle.std.proofs.Common.{Err, arith}
 use Rattle.std.specs.List.{AllByRecursion}
@@ -38,10 +38,11 @@ use Rattle.project_state.proofs.KeptBounds.{all_append}
 use Rattle.editor_core.specs.declared.copies.RunRange.{RunRange}
 use Rattle.editor_core.specs.Copies.{run_of, Copies, strips_blocks}
 use Rattle.editor_core.specs.Core.{Core}
-use Rattle.editor_core.specs.Occurrences.{HasAll, Moves, times_named}
+use Rattle.editor_core.specs.Occurrences.{HasAll, Moves}
 use Rattle.editor_core.specs.Points.{lacks}
 use Rattle.editor_core.specs.Reads.{HasLayout}
 use Rattle.editor_core.specs.Studios.{IsClipboard, IsStudio, clip_blocks, pin_blocks, named_blocks, studio_of}
+use Rattle.editor_core.specs.Studios.{studio_tracks}
 use Rattle.editor_core.specs.Took.{Took, quietly, silent}
 use Rattle.editor_core.proofs.Bounds.{named_few, named_most}
 use Rattle.editor_core.proofs.Copying.{from_track, layout_of, run_meant, run_is, from_sound, from_few, from_blocks}
@@ -49,21 +50,13 @@ use Rattle.editor_core.proofs.Copying.{longest_is, longest_most, copies_mean, co
 use Rattle.editor_core.proofs.Copying.{copies_all}
 use Rattle.editor_core.proofs.Currents.{track_there}
 use Rattle.editor_core.proofs.Editing.{current_sound, current_meant, track_is, old_names}
+use Rattle.editor_core.proofs.Layouts.{counted_most, others_counted, others_moved}
 use Rattle.editor_core.proofs.Lists.{all_left, all_right}
 use Rattle.editor_core.proofs.Naming.{renamed, Renames, renamed_took}
-use Rattle.editor_core.proofs.Pinning.{named_parts}
 use Rattle.editor_core.proofs.Quiet.{IsQuiet, quiet_passes, carried, room_of, refused_own, refused_stopped}
 use Rattle.editor_core.proofs.Quiet.{refused_wanting}
 use Rattle.editor_core.proofs.Spaces.{fits}
 use Rattle.editor_core.proofs.Staying.{stopped_not}
-
--- (over plain numbers)
-clip_sum : (new was old later history pins named : ℕ) → new + old ≡ was + later → was ≡ named
-    → named ≡ history + (pins + old) → new ≡ history + (pins + later)
-clip_sum new was old later history pins named a b c = omega (arith, a, b, c)
-
-clip_part : (was old history pins named : ℕ) → was ≡ named → named ≡ history + (pins + old) → old ≤ was
-clip_part was old history pins named a b = omega (arith, a, b)
 
 -- a range that is not refused ends by the end
 ends_by : (a : Bool) (to len : ℕ) → refused_if (not (a && nat_le to len)) refusal.BadRange ≡ None → to ≤ len
@@ -81,14 +74,11 @@ second (Some r) b e = absurd (none-some r (sym e))
 module _ {D : Type 0} (disk : Ghosts D) (s : Core D) (is : IsStudio disk s) where
   -- the clipboard's blocks are counted
   pub clip_counted : HasAll s.counts (clip_blocks s.clipboard)
-  clip_counted b =
-      clip_part (occurrences (s.counts b)) (times_named b (clip_blocks s.clipboard)) (times_named b
-      (history_blocks s.history)) (times_named b (pin_blocks s.pins)) (times_named b (named_blocks s))
-      (is.counted b) (named_parts s b)
+  clip_counted = others_counted (studio_tracks s) (clip_blocks s.clipboard) s.uses s.counts is.counted
 
   -- the counts have room
   pub clip_room : (b : ℕ) → occurrences (s.counts b) < 2 ^ 102
-  clip_room b = omega (arith, is.counted b, named_most b (named_blocks s), named_few disk s is)
+  clip_room b = omega (arith, counted_most disk s is b, named_most b (named_blocks s), named_few disk s is)
 
 module _ {D : Type 0} (disk : Ghosts D) (s : Core D) (is : IsStudio disk s) (range : RunRange)
     (fewer : Fewer disk s.store) where
@@ -203,9 +193,9 @@ module _ {D : Type 0} (disk : Ghosts D) (s : Core D) (is : IsStudio disk s) (ran
       module _ (counts : Counts) (moves : Moves s.counts counts (clip_blocks s.clipboard) (strips_blocks v))
           (most : length (strips_blocks v) ≤ 2 ^ 71) where
         abbrev new : Core D
-        new = renamed s (Some v) s.pins s.next_pin counts
+        new = renamed s (Some v) s.pins s.next_pin s.uses counts
 
-        copy_renames : Renames s (Some v) s.pins s.next_pin counts
+        copy_renames : Renames s (Some v) s.pins s.next_pin s.uses counts
         copy_renames = record {
           covers = λ P all.
               let rest = all_right P (history_blocks s.history) (pin_blocks s.pins ++ clip_blocks s.clipboard) all in
@@ -219,11 +209,10 @@ module _ {D : Type 0} (disk : Ghosts D) (s : Core D) (is : IsStudio disk s) (ran
           sound = is.pins;
           few_clips = most;
           clip_fits = may_paste;
-          counted = λ b.
-              clip_sum (occurrences (counts b)) (occurrences (s.counts b)) (times_named b (clip_blocks s.clipboard))
-              (times_named b (strips_blocks v)) (times_named b (history_blocks s.history))
-              (times_named b (pin_blocks s.pins)) (times_named b (named_blocks s)) (moves.counts b) (is.counted b)
-              (named_parts s b) ∙ sym (named_parts new b);
+          numbered = is.numbered;
+          drawn = is.drawn;
+          counted = others_moved (studio_tracks s) (clip_blocks s.clipboard) (strips_blocks v) s.uses s.counts counts
+              is.counted moves;
           ids = moves.ids;
         }
 
@@ -235,6 +224,7 @@ module _ {D : Type 0} (disk : Ghosts D) (s : Core D) (is : IsStudio disk s) (ran
             let room = room_of disk s line is in
             let passed = quiet_passes t line copy_quiet room refl (ap stop_of going) (tests_are ∙ copies.0)
             (fits s.next_pin 0 (omega (arith, is.counters.pin_most))) in
-            renamed_took disk s is (Some v) s.pins s.next_pin counts copy_renames line copy_quiet tt tt Copied fewer
+            renamed_took disk s is
+            (Some v) s.pins s.next_pin s.uses counts copy_renames line copy_quiet tt tt Copied fewer
             (λ some. absurd (stopped_not s.stopped some going))
             (λ _. carried t line copy_quiet room refl Copied (studio_of disk new) passed refl copy_state)

@@ -5,6 +5,7 @@ use Rattle.block_ledger.specs.Counts.{IsNamed, AreNamed, occurrences}
 use Rattle.editor_core.specs.Core.{Core}
 use Rattle.editor_core.specs.Facts.{AreBlocksOf}
 use Rattle.editor_core.specs.Studios.{IsStudio}
+use Rattle.editor_core.proofs.Layouts.{counted_named, named_counted}
 
 named_is : (o : Option ℕ) → IsNamed o ↔ (0 < occurrences o)
 named_is None = ((λ h. absurd h), (λ h. absurd (omega (arith, h))))
@@ -15,11 +16,10 @@ module _ {D : Type 0} (disk : Ghosts D) (s : Core D) (is : IsStudio disk s) (ids
   blocks_are named = record {
     rising = named.rising;
     each = λ id.
-        let counted = is.counted id in
         let there = named_is (s.counts id) in
         let each = named.each id in (
-          (λ one. omega (arith, there.0 (each.0 one), counted)),
-          (λ some. each.1 (there.1 (omega (arith, some, counted)))),
+          (λ one. counted_named disk s is id (there.0 (each.0 one))),
+          (λ some. each.1 (there.1 (named_counted disk s is id some))),
         );
   }
 
@@ -27,10 +27,9 @@ module _ {D : Type 0} (disk : Ghosts D) (s : Core D) (is : IsStudio disk s) (ids
   are_named blocks = record {
     rising = blocks.rising;
     each = λ id.
-        let counted = is.counted id in
         let there = named_is (s.counts id) in
         let each = blocks.each id in (
-          (λ one. there.1 (omega (arith, each.0 one, counted))),
-          (λ some. each.1 (omega (arith, there.0 some, counted))),
+          (λ one. there.1 (named_counted disk s is id (each.0 one))),
+          (λ some. each.1 (counted_named disk s is id (there.0 some))),
         );
   }

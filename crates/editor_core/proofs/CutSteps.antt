@@ -32,6 +32,7 @@ use Rattle.project_state.specs.Kept.{current_tracks, meant, meant_history, point
 use Rattle.project_state.specs.KeptSound.{IsSoundPoint}
 use Rattle.project_state.specs.Tracks.{track_of}
 use Rattle.project_state.proofs.MeantHistories.{meant_recorded}
+use Rattle.layout_uses.specs.Drawing.{HasNumbers}
 use Rattle.editor_core.specs.declared.carrying.Planned.{Planned}
 use Rattle.pcm_base.specs.declared.edits.Removing.{Removing}
 use Rattle.editor_core.specs.declared.copies.RunRange.{RunRange}
@@ -83,7 +84,9 @@ module _ {D : Type 0} (disk : Ghosts D) (s : Core D) (is : IsStudio disk s) (e :
   old_sound = current_sound disk s is
 
   module _ (going : s.stopped ≡ None) (planned : Planned) (p : IsCutPlan e range s planned)
-      (none : planned.tracks ≡ 0) where
+      (none : planned.tracks ≡ 0)
+      (numbers : HasNumbers (current_tracks s.history) s.next_layout planned.point
+      (s.next_layout + planned.layouts)) where
     abbrev new : List Track
     new = planned.point
 
@@ -144,7 +147,7 @@ module _ {D : Type 0} (disk : Ghosts D) (s : Core D) (is : IsStudio disk s) (e :
     pub cut_planned : IsPlanned s (tagged_by planned 0 0 (brought_by Nothing) (brought Nothing))
     cut_planned =
         run_planned disk s is id found.0 found.1 xs old_named (current_may_read disk s is)
-        (each_so n f) p.plans laid planned p.laid none (Some v) behind v_named v_few clipboard
+        (each_so n f) p.plans laid planned p.laid none (Some v) behind numbers v_named v_few clipboard
 
     -- ---- what the line means
 

@@ -1,7 +1,6 @@
 -- An edit that makes blocks: what its plan says of the studio with the blocks made, and its commit.
 use Rattle.std.proofs.Common.{◌≡◌, inr, refl, sym, ap, ◌∙◌, subst, ℕ, suc, ◌+◌, ◌*◌, ◌^◌, ◌≤◌, ◌<◌, ℤ, Option, None}
-use Rattle.std.proofs.Common.{List, ◌++◌}
-use Rattle.std.proofs.Common.{length, arith}
+use Rattle.std.proofs.Common.{List, ◌++◌, length, map, arith}
 use Rattle.std.specs.List.{AllByRecursion}
 use Rattle.std.proofs.lemmas.List.{take_all}
 use Rattle.pcm_base.specs.declared.block.BlockRef.{BlockRef}
@@ -27,22 +26,25 @@ use Rattle.project_state.specs.declared.body.Body.TheVariants.{Edit}
 use Rattle.project_state.specs.declared.track.Track.{Track}
 use Rattle.project_state.specs.Kept.{current_tracks, Kept, before_of, meant, point_blocks, history_blocks}
 use Rattle.project_state.specs.KeptSound.{IsSoundPoint, IsSoundTagged}
+use Rattle.project_state.specs.Numbers.{unnumbered}
 use Rattle.project_state.specs.Sound.{AllSoundTracks, IsSound}
 use Rattle.project_state.proofs.KeptBounds.{all_append, tagged_more}
+use Rattle.project_state.proofs.Unnumbered.{are_unnumbered, recorded_alike, sound_alike}
 use Rattle.editor_core.specs.Bodies.{IsLength, Writing}
 use Rattle.editor_core.specs.Core.{Core}
 use Rattle.editor_core.specs.Edits.{IsEdit, IsPlanned, alone, beside, blocks_with, TaggedEdit, clip_behind}
 use Rattle.editor_core.specs.Edits.{history_behind}
 use Rattle.editor_core.specs.Made.{PiecesThere, batch_of, ids_from}
 use Rattle.editor_core.specs.Makes.{AreSynced, Making}
-use Rattle.editor_core.specs.Occurrences.{HasAll, HasIds}
+use Rattle.editor_core.specs.Occurrences.{HasIds}
 use Rattle.editor_core.specs.Studios.{IsGiven, IsHeld, IsStudio, clip_blocks, named_blocks, pin_blocks, studio_by}
 use Rattle.editor_core.specs.Studios.{studio_of}
 use Rattle.editor_core.proofs.Bounds.{few_more}
 use Rattle.editor_core.proofs.Contained.{among_all}
 use Rattle.editor_core.proofs.BodyBytes.{lengths_all}
-use Rattle.editor_core.proofs.Editing.{counts_named, current_sound, may_all}
+use Rattle.editor_core.proofs.Editing.{current_sound, may_all}
 use Rattle.editor_core.proofs.Flights.{IsCommit, Matches}
+use Rattle.editor_core.proofs.Layouts.{named_counted}
 use Rattle.editor_core.proofs.Lists.{all_left, all_so}
 use Rattle.editor_core.proofs.MadeCommits.{has_made}
 use Rattle.editor_core.proofs.MadeStudios.{IsNewId, are_made, made_held, made_studio, refs, refs_ids}
@@ -51,7 +53,7 @@ use Rattle.editor_core.proofs.Recorded.{all_recorded, blocks_recorded, recorded_
 use Rattle.editor_core.proofs.Recorded.{tag_here}
 use Rattle.editor_core.proofs.Staying.{HasMade}
 use Rattle.editor_core.proofs.Supposed.{old_same, supposed, supposed_written}
-use Rattle.editor_core.proofs.Times.{Few}
+use Rattle.layout_uses.proofs.Times.{Few}
 use Rattle.editor_core.proofs.Tracks.{current_is}
 use Rattle.editor_core.proofs.NamedThere.{makes_all, IsCounted, counted_there, there_of}
 
@@ -105,14 +107,11 @@ module _ {D : Type 0} (disk : Ghosts D) (s : Core D) (is : IsStudio disk s) (goi
     every_counted : AllByRecursion (IsCounted mid.counts) (blocks_with s makes)
     every_counted =
         let old =
-        counted_there mid.counts (named_blocks s) (λ id. omega (arith, making.ledger.counts id, is.counted id)) in
+        counted_there mid.counts (named_blocks s) (λ id some. subst (λ (k : ℕ). 0 < k) (sym
+        (making.ledger.counts id)) (named_counted disk s is id some)) in
         let new = all_so (λ (b : BlockRef). IsNewId s.next_block n b.id) (IsCounted mid.counts)
         (λ b k. (making.ledger.ids b.id).1 (inr k)) made (refs_ids s.block_size s.next_block makes plan.new) in
         all_append (IsCounted mid.counts) (named_blocks s) made old new
-
-    pub point_named : HasAll mid.counts (history_blocks s.history)
-    point_named =
-        subst (λ (z : Core D). HasAll mid.counts (history_blocks z.history)) making.is (counts_named disk mid mid_is)
 
     pub point_there : HasIds mid.counts (point_blocks point)
     point_there = there_of mid.counts (point_blocks point)
@@ -244,20 +243,23 @@ module _ {D : Type 0} (disk : Ghosts D) (s : Core D) (is : IsStudio disk s) (goi
 
         sound_then : (m : ℕ) (k : Kept) → Matches grown m k → (ts : List Track)
             → IsSoundPoint s.block_size (s.next_block + n) track_then ts
-            → IsSound m (before_of k) (Edit tag (s.next_block + n) track_then ts)
-        sound_then m k e ts sound = record {
-          tag_number = omega (arith, plan.tag_given, is.counters.commit_most);
-          tag_given = omega (arith, plan.tag_given, e.commit);
-          block_least = omega (arith, is.counters.block_least);
-          block_most = most;
-          block_later = e.next_block;
-          track_least = omega (arith, is.counters.track_least);
-          track_most = ids;
-          track_later = omega (arith, e.next_track);
-          few = sound.few;
-          rising = sound.rising;
-          sound = subst (λ (b : ℕ). AllSoundTracks b (s.next_block + n) track_then ts) (sym e.block_size) sound.sound;
-        }
+            → IsSound m (before_of k) (Edit tag (s.next_block + n) track_then (map unnumbered ts))
+        sound_then m k e ts sound =
+            let plain = sound_alike s.block_size (s.next_block + n) track_then ts sound in record {
+              tag_number = omega (arith, plan.tag_given, is.counters.commit_most);
+              tag_given = omega (arith, plan.tag_given, e.commit);
+              block_least = omega (arith, is.counters.block_least);
+              block_most = most;
+              block_later = e.next_block;
+              track_least = omega (arith, is.counters.track_least);
+              track_most = ids;
+              track_later = omega (arith, e.next_track);
+              few = plain.few;
+              rising = plain.rising;
+              sound = subst (λ (b : ℕ). AllSoundTracks b (s.next_block + n) track_then (map unnumbered ts))
+                  (sym e.block_size) plain.sound;
+              unnumbered = are_unnumbered ts;
+            }
 
         pub move : IsCommit (IsHeld disk s) disk grown made c sound tracks writes edit_history clip track_then
         move = record {
@@ -269,7 +271,8 @@ module _ {D : Type 0} (disk : Ghosts D) (s : Core D) (is : IsStudio disk s) (goi
               plan.tag_counts (sound_then m k at (current_tracks s.history) now_sound)
               (sound_then m k at point plan.sound);
           leads = λ m k at. λ i. record {
-            history = recorded (at.history i) point tag;
+            history = (ap (λ (h : History (List Track)). recorded h (map unnumbered point) tag) at.history
+                ∙ sym (recorded_alike s.history point tag)) i;
             next_block = s.next_block + n;
             next_track = track_then;
             commit = k.commit + suc e.more;

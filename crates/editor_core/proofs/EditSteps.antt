@@ -1,7 +1,7 @@
 -- An edit that makes blocks, as one step: its record was added, or was not, or nothing was prepared.
-use Rattle.std.proofs.Common.{ℤ, ◌≡◌, ◌↔◌, inl, inr, ⊎_elim, refl, sym, ap, ◌∙◌, subst, ℕ, suc, ◌+◌, IsSome}
+use Rattle.std.proofs.Common.{ℤ, ◌≡◌, inl, inr, ⊎_elim, refl, sym, ap, ◌∙◌, subst, ℕ, suc, ◌+◌}
 use Rattle.std.proofs.Common.{Option, None}
-use Rattle.std.proofs.Common.{List, ◌++◌, length, Ok, Err, arith}
+use Rattle.std.proofs.Common.{List, length, Ok, Err, arith}
 use Rattle.pcm_base.specs.declared.answer.Reply.TheVariants.{Done}
 use Rattle.pcm_base.specs.declared.command.Call.{Call}
 use Rattle.pcm_base.specs.declared.entry.SoundMove.{SoundMove}
@@ -13,12 +13,12 @@ use Rattle.pcm_base.specs.Run.{followed, outside}
 use Rattle.pcm_base.specs.Studio as model
 use Rattle.disk_model.specs.declared.store.Store.{Ghosts}
 use Rattle.disk_model.proofs.Frames.{Fewer}
-use Rattle.block_ledger.specs.Counts.{Counts, IsFreshCount}
+use Rattle.block_ledger.specs.Counts.{Counts}
 use Rattle.clip_track.specs.declared.items.Item.{Item}
 use Rattle.edit_ops.specs.declared.types.NewBlock.{NewBlock}
 use Rattle.project_state.specs.declared.body.Body.TheVariants.{Edit}
 use Rattle.project_state.specs.declared.track.Track.{Track}
-use Rattle.project_state.specs.Kept.{current_tracks, history_blocks}
+use Rattle.project_state.specs.Kept.{current_tracks}
 use Rattle.editor_core.specs.Adding.{Adds, AddsBody, stopped_by}
 use Rattle.editor_core.specs.Bodies.{Writing, all_bytes, all_len, whole_len}
 use Rattle.editor_core.specs.Core.{Core}
@@ -26,12 +26,13 @@ use Rattle.editor_core.specs.Edits.{Carried, Committed, IsEdit, IsPlanned, IsPre
 use Rattle.editor_core.specs.Edits.{history_behind}
 use Rattle.editor_core.specs.Made.{batch_of, ids_from}
 use Rattle.editor_core.specs.Makes.{AreSynced, Making, OrCut}
-use Rattle.editor_core.specs.Studios.{IsHeld, IsStudio, clip_blocks, ids_of, pin_blocks, studio_of}
+use Rattle.editor_core.specs.Studios.{IsHeld, IsStudio, studio_of}
 use Rattle.editor_core.specs.Took.{Took, with_sound}
 use Rattle.editor_core.proofs.CarriedOut.{commit_of}
 use Rattle.editor_core.proofs.Committing.{failed, failed_state}
 use Rattle.editor_core.proofs.EditLaws.{pieces_there}
 use Rattle.editor_core.proofs.Flights.{IsTested}
+use Rattle.editor_core.proofs.Grown.{CountsAfter}
 use Rattle.editor_core.proofs.Growing.{grown_state, grows}
 use Rattle.editor_core.proofs.MadeFailures.{not_made}
 use Rattle.editor_core.proofs.MadeLeft.{all_failed, all_ids, all_left}
@@ -148,10 +149,9 @@ module _ {D : Type 0} (disk : Ghosts D) (s : Core D) (is : IsStudio disk s) (goi
 
     -- they were
     module _ {Q : Type 0} (q : Q) (new : Core D) (adds : AddsBody disk mid writes (Ok q) new)
-        (h' : History (List Track)) (counts' : Counts) (next_track : ℕ)
+        (h' : History (List Track)) (uses' counts' : Counts) (next_track next_layout : ℕ)
         (moved : h' ≡ h) (tracked : next_track ≡ track_then)
-        (counted : IsFreshCount (ids_of (history_blocks h ++ (pin_blocks s.pins ++ clip_blocks clip))) counts')
-        (files : (id : ℕ) → IsSome (counts' id) ↔ IsSome (counts id)) where
+        (after : CountsAfter s.pins h clip next_layout counts uses' counts') where
       abbrev done : Core D
       done = record mid {
         store = new.store;
@@ -159,28 +159,44 @@ module _ {D : Type 0} (disk : Ghosts D) (s : Core D) (is : IsStudio disk s) (goi
         commit_number = s.commit_number + suc e.more;
         history = h';
         clipboard = clip;
+        uses = uses';
         counts = counts';
         next_track = next_track;
+        next_layout = next_layout;
       }
 
       done_took : TookWhere (IsHeld disk s) disk mid c sound (Ok Done) done
-      done_took = grows tested q new adds h' counts' next_track moved tracked counted files
+      done_took = grows tested q new adds h' uses' counts' next_track next_layout moved tracked after
 
       done_state : IsHeld disk s → studio_of disk done ≡ followed (outside t sound) t c n len
       done_state held =
           let len = len in
           let one : studio_of disk done ≡ followed (outside (studio_of disk mid) sound) (studio_of disk mid) c 0 len =
-          grown_state tested q new adds h' counts' next_track moved tracked counted files held in
+          grown_state tested q new adds h' uses' counts' next_track next_layout moved tracked after held in
           let none : s.next_block + n + 0 ≡ s.next_block + n = omega arith in
           one
           ∙ (λ i. followed (outside (state held i) sound) (state held i) c 0 len)
           ∙ (λ i. record (followed (outside t sound) t c n len) { next_block = none i; read_faults = reads i })
 
       edit_done : Took disk s (with_sound c sound (Ok Done))
-          (record new { history = h'; clipboard = clip; counts = counts'; next_track = next_track })
+          (record new {
+            history = h';
+            clipboard = clip;
+            uses = uses';
+            counts = counts';
+            next_track = next_track;
+            next_layout = next_layout;
+          })
       edit_done =
           subst (λ (z : Core D). Took disk s (with_sound c sound (Ok Done))
-          (record z { history = h'; clipboard = clip; counts = counts'; next_track = next_track })) (sym adds.fields.0)
+          (record z {
+            history = h';
+            clipboard = clip;
+            uses = uses';
+            counts = counts';
+            next_track = next_track;
+            next_layout = next_layout;
+          })) (sym adds.fields.0)
           (from_start disk s is going e plan c sound edit fewer prepared store counts making reads synced
           (Ok Done) done done_took refl (λ held. record {
             blocks = n;
@@ -190,7 +206,7 @@ module _ {D : Type 0} (disk : Ghosts D) (s : Core D) (is : IsStudio disk s) (goi
             answers = edit.call.commit.done t.rate t.state;
             is = done_state held;
             heard = edit.call.commit.heard t.rate t.state;
-          }) (ids_made s done counts n making.ledger files refl)
+          }) (ids_made s done counts n making.ledger after.files refl)
           (names_given disk s e plan done done_took.studio
           (ap current_tracks moved ∙ recorded_current s.history point tag is.format.depth_least) refl) tt tt
           (inl (refl, adds.fields.2 ∙ making.change_faults)) tt)
@@ -229,13 +245,19 @@ module _ {D : Type 0} (disk : Ghosts D) (s : Core D) (is : IsStudio disk s) (goi
       carried
 
   pub edit_ok : (done : Unit {0}) (new : Core D) (it : Committed disk s (commit_of s e) (Ok done) new)
-      (h' : History (List Track)) (counts' : Counts) (next_track : ℕ)
+      (h' : History (List Track)) (uses' counts' : Counts) (next_track next_layout : ℕ)
       → h' ≡ h → next_track ≡ track_then
-      → IsFreshCount (ids_of (history_blocks h ++ (pin_blocks s.pins ++ clip_blocks clip))) counts'
-      → ((id : ℕ) → IsSome (counts' id) ↔ IsSome (it.mid.counts id))
+      → CountsAfter s.pins h clip next_layout it.mid.counts uses' counts'
       → Took disk s (with_sound c sound (Ok Done))
-      (record new { history = h'; clipboard = clip; counts = counts'; next_track = next_track })
-  edit_ok done new it h' counts' next_track moved tracked counted files =
+      (record new {
+        history = h';
+        clipboard = clip;
+        uses = uses';
+        counts = counts';
+        next_track = next_track;
+        next_layout = next_layout;
+      })
+  edit_ok done new it h' uses' counts' next_track next_layout moved tracked after =
       edit_done it.prepared it.mid.store it.mid.counts (made_so it.mid it.making) it.reads it.synced done new
       (subst (λ (z : Core D). Adds disk z bodies (suc e.more) (whole_len s writes) (Ok done) new) it.making.is it.adds)
-      h' counts' next_track moved tracked counted files
+      h' uses' counts' next_track next_layout moved tracked after

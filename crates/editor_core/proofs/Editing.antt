@@ -1,5 +1,6 @@
 -- What any edit stands on: the current project, and a new point after it.
-use Rattle.std.proofs.Common.{◌≡◌, refl, sym, ap, ◌∙◌, ℕ, zero, suc, ◌+◌, ◌^◌, ◌≤◌, ◌<◌, List, ◌∷◌, ◌++◌, length}
+use Rattle.std.proofs.Common.{◌≡◌, refl, sym, ap, ap₂, ◌∙◌, ℕ, zero, suc, ◌+◌, ◌^◌, ◌≤◌, ◌<◌, List, [], ◌∷◌, ◌++◌}
+use Rattle.std.proofs.Common.{length, map}
 use Rattle.std.proofs.Common.{Option, subst, arith}
 use Rattle.std.specs.List.{AllByRecursion}
 use Rattle.pcm_base.specs.declared.block.BlockRef.{BlockRef}
@@ -16,7 +17,7 @@ use Rattle.pcm_base.specs.State.{State, current}
 use Rattle.pcm_base.specs.Step.{after}
 use Rattle.disk_model.specs.declared.store.Store.{Ghosts}
 use Rattle.sample_block.specs.Sources.{sources_of}
-use Rattle.block_ledger.specs.Counts.{Counts, IsFreshCount}
+use Rattle.block_ledger.specs.Entries.{count_of}
 use Rattle.clip_track.specs.declared.items.Item.{Item}
 use Rattle.project_state.specs.declared.body.Body.{Body}
 use Rattle.project_state.specs.declared.body.Body.TheVariants.{Edit}
@@ -32,29 +33,27 @@ use Rattle.project_state.proofs.Batched.{leads}
 use Rattle.project_state.proofs.KeptBounds.{tagged_more}
 use Rattle.project_state.proofs.MeantHistories.{meant_edited}
 use Rattle.project_state.proofs.ShortEnds.{sound_ends}
+use Rattle.project_state.specs.Numbers.{unnumbered, unnumbered_body}
+use Rattle.project_state.proofs.Unnumbered.{are_unnumbered, current_alike, edited_alike, sound_alike}
+use Rattle.layout_uses.specs.declared.tally.Tally.{Tally}
+use Rattle.layout_uses.specs.Drawing.{HasNumbers}
+use Rattle.layout_uses.specs.Layouts.{AreDrawn, AreNumbered, history_tracks}
+use Rattle.layout_uses.specs.Tallies.{AreCounts, Becomes, MayBecome}
 use Rattle.editor_core.specs.Bodies.{IsLength, all_bytes, bodies_by, body_bytes, bytes_by, single}
 use Rattle.editor_core.specs.Core.{Core, form_at}
-use Rattle.editor_core.specs.Occurrences.{HasAll, Moves}
 use Rattle.editor_core.specs.Points.{lacks}
-use Rattle.editor_core.specs.Studios.{IsHeld, IsStudio, MayPaste, clip_blocks, clip_cells, ids_of, named_blocks}
-use Rattle.editor_core.specs.Studios.{pin_blocks, studio_of}
-use Rattle.editor_core.proofs.BodyBytes.{next_so, version_is}
+use Rattle.editor_core.specs.Studios.{IsHeld, IsStudio, MayPaste, clip_blocks, clip_cells, named_blocks}
+use Rattle.editor_core.specs.Studios.{pin_blocks, pin_tracks, studio_of, studio_tracks}
+use Rattle.editor_core.proofs.BodyBytes.{ends_alike, next_so, spelled_in, version_is}
 use Rattle.editor_core.proofs.Flights.{IsCommit, Matches}
+use Rattle.editor_core.proofs.Grown.{CountsAfter}
+use Rattle.editor_core.proofs.Layouts.{current_among, tracks_few}
 use Rattle.editor_core.proofs.Histories.{all_edited, blocks_edited, current_all, current_blocks, ending_current}
 use Rattle.editor_core.proofs.Histories.{ending_few}
 use Rattle.editor_core.proofs.Lists.{all_left, all_so}
 use Rattle.editor_core.proofs.Spaces.{IsCommitCall}
-use Rattle.editor_core.proofs.Times.{named_append}
 use Rattle.editor_core.proofs.Tracks.{current_is, lacks_is}
 use Rattle.editor_core.proofs.Without.{given_below}
-
--- (over plain numbers, since the terms are long)
-pub sums : (new was before after rest named later : ℕ) → new + before ≡ was + after → was ≡ named
-    → named ≡ before + rest → later ≡ after + rest → new ≡ later
-sums new was before after rest named later a b c d = omega (arith, a, b, c, d)
-
-least : (was before rest named : ℕ) → was ≡ named → named ≡ before + rest → before ≤ was
-least was before rest named a b = omega (arith, a, b)
 
 -- a sound project is one still where later tracks have ids
 pub sound_later : (m next_block next_track later : ℕ) (ts : List Track) → next_track ≤ later
@@ -70,6 +69,17 @@ same_bodies version current tag next_block next_track point zero = refl
 same_bodies version current tag next_block next_track point (suc more) =
     ap (λ (bs : List (List ℕ)). bytes_by version current (Edit tag next_block next_track current) ∷ bs)
     (same_bodies version current tag next_block next_track point more)
+
+-- whatever numbers their layouts have
+plain_bodies : (version : ℕ) (current : List Track) (tag next_block next_track : ℕ) (point : List Track) (more : ℕ)
+    → bodies_in version (map unnumbered current) more (Edit tag next_block next_track (map unnumbered point))
+    ≡ bodies_in version current more (Edit tag next_block next_track point)
+plain_bodies version current tag next_block next_track point zero =
+    ap (λ (bytes : List ℕ). bytes ∷ []) (spelled_in version current (Edit tag next_block next_track point))
+plain_bodies version current tag next_block next_track point (suc more) =
+    ap₂ (λ (bytes : List ℕ) (rest : List (List ℕ)). bytes ∷ rest)
+    (spelled_in version current (Edit tag next_block next_track current))
+    (plain_bodies version current tag next_block next_track point more)
 
 module _ {D : Type 0} (disk : Ghosts D) (s : Core D) (is : IsStudio disk s) where
   abbrev pub old : List Track
@@ -153,8 +163,8 @@ module _ {D : Type 0} (disk : Ghosts D) (s : Core D) (is : IsStudio disk s) wher
 
   -- the record of a sound body may come next
   pub may_come : (m : ℕ) (k : Kept) (body : Body) → Matches s m k → s.commit_number < 2 ^ 62
-      → IsSound m (before_of k) body → MayFollow k.history body
-      → IsNextIn (version_of (form_at s)) m k (body_bytes s body) body
+      → IsSound m (before_of k) (unnumbered_body body) → MayFollow k.history (unnumbered_body body)
+      → IsNextIn (version_of (form_at s)) m k (body_bytes s body) (unnumbered_body body)
   may_come m k body e room sound follows =
       next_so s m k body is.journal e.history (omega (arith, e.block_size, is.format.block_least))
       (omega (arith, e.block_size, is.format.block_most)) (omega (arith, e.commit, room))
@@ -163,43 +173,74 @@ module _ {D : Type 0} (disk : Ghosts D) (s : Core D) (is : IsStudio disk s) wher
   -- and the records of a batch may: those that say the current point, and then the last
   pub may_all : (m : ℕ) (k : Kept) (tag next_block next_track : ℕ) (point : List Track) (more : ℕ) → Matches s m k
       → s.commit_number + more < 2 ^ 62 → (0 < more → 1 ≤ tag)
-      → IsSound m (before_of k) (Edit tag next_block next_track old)
-      → IsSound m (before_of k) (Edit tag next_block next_track point)
+      → IsSound m (before_of k) (Edit tag next_block next_track (map unnumbered old))
+      → IsSound m (before_of k) (Edit tag next_block next_track (map unnumbered point))
       → LeadIn (version_of (form_at s)) m k (all_bytes s (record {
         more = more;
         body = Edit tag next_block next_track point;
-      })) (after_bodies k more (Edit tag next_block next_track point))
+      })) (after_bodies k more (Edit tag next_block next_track (map unnumbered point)))
   may_all m k tag next_block next_track point zero e room numbered one end =
       let last = Edit tag next_block next_track point in
-      (last, may_come m k last e (omega (arith, room)) end tt, refl)
+      (unnumbered_body last, may_come m k last e (omega (arith, room)) end tt, refl)
   may_all m k tag next_block next_track point (suc more) e room numbered one end =
       let last = Edit tag next_block next_track point in
-      let here : current_tracks k.history ≡ old = ap current_tracks e.history in
-      let led : LeadIn s.version m k (bodies_in s.version old (suc more) last) (after_bodies k (suc more) last) =
-      leads s.version m tag next_block next_track old point is.journal.version_least is.journal.version_most
+      let plain = unnumbered_body last in
+      let now = map unnumbered old in
+      let here : current_tracks k.history ≡ now = ap current_tracks e.history ∙ current_alike s.history in
+      let led : LeadIn s.version m k (bodies_in s.version now (suc more) plain) (after_bodies k (suc more) plain) =
+      leads s.version m tag next_block next_track now
+      (map unnumbered point) is.journal.version_least is.journal.version_most
       (omega (arith, e.block_size, is.format.block_least)) (omega (arith, e.block_size, is.format.block_most))
       (numbered (omega arith))
-      (sound_ends s.block_size s.next_block s.next_track old is.format.block_least current_sound) (suc more) k here
+      (ends_alike old (sound_ends s.block_size s.next_block s.next_track old is.format.block_least current_sound))
+      (suc more) k here
       (subst (λ (h : History (List Track)). 1 ≤ h.depth) (sym e.history) is.format.depth_least)
       (omega (arith, e.commit, room)) one end in
-      subst (λ (v : ℕ). LeadIn v m k (bodies_by s.version old (suc more) last) (after_bodies k (suc more) last))
+      subst (λ (v : ℕ). LeadIn v m k (bodies_by s.version old (suc more) last) (after_bodies k (suc more) plain))
       (sym (version_is s is.journal))
-      (subst (λ (bs : List (List ℕ)). LeadIn s.version m k bs (after_bodies k (suc more) last))
-      (same_bodies s.version old tag next_block next_track point (suc more)) led)
+      (subst (λ (bs : List (List ℕ)). LeadIn s.version m k bs (after_bodies k (suc more) plain))
+      (plain_bodies s.version old tag next_block next_track point (suc more)
+      ∙ same_bodies s.version old tag next_block next_track point (suc more)) led)
 
-  -- the studio counts what its points name
-  pub counts_named : HasAll s.counts (history_blocks s.history)
-  counts_named = λ n. least _ _ _ _ (is.counted n)
-      (named_append n (history_blocks s.history) (pin_blocks s.pins ++ clip_blocks s.clipboard))
+  -- the tracks of a new point in front of all that are there
+  pub came_numbered : (p : List Track) (after : ℕ) → HasNumbers old s.next_layout p after
+      → AreNumbered (p ++ (history_tracks s.history ++ pin_tracks s.pins))
+  came_numbered p after has = has.numbered (studio_tracks s) is.numbered is.drawn (current_among s)
 
-  -- the counts after a new point, where pins and clipboard stay
-  pub counts_then : (h : History (List Track)) (counts : Counts)
-      → Moves s.counts counts (history_blocks s.history) (history_blocks h)
-      → IsFreshCount (ids_of (history_blocks h ++ (pin_blocks s.pins ++ clip_blocks s.clipboard))) counts
-  counts_then h counts moves =
-      let rest : List BlockRef = pin_blocks s.pins ++ clip_blocks s.clipboard in
-      λ n. sums _ _ _ _ _ _ _ (moves.counts n) (is.counted n) (named_append n (history_blocks s.history) rest)
-      (named_append n (history_blocks h) rest)
+  pub came_drawn : (p : List Track) (after : ℕ) → HasNumbers old s.next_layout p after
+      → AreDrawn after (p ++ (history_tracks s.history ++ pin_tracks s.pins))
+  came_drawn p after has = has.drawn (studio_tracks s) is.drawn (current_among s)
+
+  pub came_few : (p : List Track) → length p ≤ 64
+      → length p + length (history_tracks s.history ++ pin_tracks s.pins) < 2 ^ 128
+  came_few p few = omega (arith, few, tracks_few disk s is)
+
+  -- a point may be counted, by the counts of the studio
+  pub may_become : (p : List Track) (after : ℕ) → HasNumbers old s.next_layout p after → length p ≤ 64
+      → (tally : Tally) → AreCounts (studio_tracks s) (clip_blocks s.clipboard) (count_of tally.uses)
+      (count_of tally.ledger) → MayBecome p (history_tracks s.history) tally
+  may_become p after has few tally counted = record {
+    others = pin_tracks s.pins;
+    blocks = clip_blocks s.clipboard;
+    numbered = came_numbered p after has;
+    few = came_few p few;
+    counted = counted;
+  }
+
+  -- the counts after a new history, where pins and clipboard stay
+  pub counts_then : (p : List Track) (after : ℕ) (h : History (List Track)) (tally tally' : Tally)
+      → HasNumbers old s.next_layout p after → length p ≤ 64 → after ≤ 2 ^ 62
+      → AreCounts (studio_tracks s) (clip_blocks s.clipboard) (count_of tally.uses) (count_of tally.ledger)
+      → Becomes p (history_tracks s.history) (history_tracks h) tally tally'
+      → CountsAfter s.pins h s.clipboard after (count_of tally.ledger) (count_of tally'.uses) (count_of tally'.ledger)
+  counts_then p after h tally tally' has few most counted becomes = record {
+    layouts = most;
+    numbered = becomes.numbered (pin_tracks s.pins) (came_numbered p after has);
+    drawn = becomes.drawn after (pin_tracks s.pins) (came_drawn p after has);
+    counted = becomes.counted (pin_tracks s.pins) (clip_blocks s.clipboard) (came_numbered p after has) (came_few p few)
+        counted;
+    files = becomes.ids;
+  }
 
   module _ (track_then : ℕ) (later : s.next_track ≤ track_then) (most : track_then ≤ 2 ^ 62) (p : List Track)
       (sound : IsSoundPoint s.block_size s.next_block track_then p) where
@@ -214,7 +255,8 @@ module _ {D : Type 0} (disk : Ghosts D) (s : Core D) (is : IsStudio disk s) wher
         (s.commit_number + 1) q (omega arith) later (omega arith) h) s.history.points is.points)
         (sound, omega arith)
 
-    sound_then : (m : ℕ) (k : Kept) → Matches s m k → IsSound m (before_of k) (Edit 0 s.next_block track_then p)
+    sound_then : (m : ℕ) (k : Kept) → Matches s m k → IsSound m (before_of k) (Edit 0 s.next_block track_then
+        (map unnumbered p))
     sound_then m k k_is = record {
       tag_number = omega arith;
       tag_given = omega arith;
@@ -224,10 +266,15 @@ module _ {D : Type 0} (disk : Ghosts D) (s : Core D) (is : IsStudio disk s) wher
       track_least = omega (arith, is.counters.track_least, later);
       track_most = most;
       track_later = omega (arith, k_is.next_track, later);
-      few = sound.few;
-      rising = sound.rising;
-      sound = subst (λ (n : ℕ). AllSoundTracks n s.next_block track_then p) (sym k_is.block_size) sound.sound;
+      few = plain.few;
+      rising = plain.rising;
+      sound = subst (λ (n : ℕ). AllSoundTracks n s.next_block track_then (map unnumbered p)) (sym k_is.block_size)
+          plain.sound;
+      unnumbered = are_unnumbered p;
     }
+      where
+        plain : IsSoundPoint s.block_size s.next_block track_then (map unnumbered p)
+        plain = sound_alike s.block_size s.next_block track_then p sound
 
     -- A call whose record tells a new point is a commit.
     pub point_commit : (made : List BlockRef) (c : Call) (call_sound : SoundMove) (tracks : ℕ)
@@ -254,9 +301,10 @@ module _ {D : Type 0} (disk : Ghosts D) (s : Core D) (is : IsStudio disk s) wher
       block_most = λ n h. omega arith;
       tells = λ m k k_is room.
           let body = Edit 0 s.next_block track_then p in
-          (body, may_come m k body k_is (omega (arith, room)) (sound_then m k k_is) tt, refl);
+          (unnumbered_body body, may_come m k body k_is (omega (arith, room)) (sound_then m k k_is) tt, refl);
       leads = λ m k k_is. λ i. record {
-        history = edited (k_is.history i) p 0;
+        history = (ap (λ (h : History (List Track)). edited h (map unnumbered p) 0) k_is.history
+            ∙ sym (edited_alike s.history p 0)) i;
         next_block = s.next_block;
         next_track = track_then;
         commit = k.commit + 1;

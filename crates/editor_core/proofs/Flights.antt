@@ -24,6 +24,8 @@ use Rattle.project_state.specs.declared.track.Track.{Track}
 use Rattle.project_state.specs.Batches.{after_bodies}
 use Rattle.project_state.specs.Kept.{Kept, LeadIn, meant_history, history_blocks, Keeps, version_of}
 use Rattle.project_state.specs.KeptSound.{IsSoundTagged}
+use Rattle.project_state.specs.Numbers.{unnumbered_body, unnumbered_history}
+use Rattle.project_state.proofs.Unnumbered.{history_blocks_alike, history_meant_alike}
 use Rattle.project_state.proofs.KeptBounds.{all_append}
 use Rattle.editor_core.specs.Adding.{AddsBody}
 use Rattle.editor_core.specs.Bodies.{IsLength, Writing, all_bytes, all_len}
@@ -41,7 +43,7 @@ use Rattle.editor_core.proofs.Staying.{HasMade}
 -- the studio's numbers and history are those of the records
 pub record Matches {D : Type 0} (s : Core D) (m : ℕ) (k : Kept) : Type 0 where
   pub block_size : m ≡ s.block_size
-  pub history : k.history ≡ s.history
+  pub history : k.history ≡ unnumbered_history s.history
   pub next_block : k.next_block ≤ s.next_block
   pub next_track : k.next_track ≡ s.next_track
   pub commit : k.commit ≡ s.commit_number
@@ -57,9 +59,9 @@ pub record IsCommit {D : Type 0} (Has : Type 0) (disk : Ghosts D) (s : Core D) (
   pub block_then : ℕ → ℕ
   pub block_most : (n : ℕ) → n ≤ s.next_block → block_then n ≤ s.next_block
   pub tells : (m : ℕ) (k : Kept) → Matches s m k → s.commit_number + w.more < 2 ^ 62
-      → LeadIn (version_of (form_at s)) m k (all_bytes s w) (after_bodies k w.more w.body)
-  pub leads : (m : ℕ) (k : Kept) → Matches s m k → after_bodies k w.more w.body ≡ record k {
-    history = h;
+      → LeadIn (version_of (form_at s)) m k (all_bytes s w) (after_bodies k w.more (unnumbered_body w.body))
+  pub leads : (m : ℕ) (k : Kept) → Matches s m k → after_bodies k w.more (unnumbered_body w.body) ≡ record k {
+    history = unnumbered_history h;
     next_block = block_then k.next_block;
     next_track = track_then;
     commit = k.commit + suc w.more;
@@ -143,18 +145,20 @@ module _ {D : Type 0} {Has : Type 0} {disk : Ghosts D} {s : Core D} {made : List
   covers_before : (d : IsDurable disk s) → Covers every d.kept.history
   covers_before d P all = covers_kept disk s d P (all_left P (named_blocks s) made all)
 
-  covers_after : (d : IsDurable disk s) → Covers every (after_bodies d.kept w.more w.body).history
+  covers_after : (d : IsDurable disk s) → Covers every (after_bodies d.kept w.more (unnumbered_body w.body)).history
   covers_after d P all =
       subst (λ (z : Kept). AllByRecursion P (history_blocks z.history))
-      (sym (t.move.leads d.log.block_size d.kept (matches d))) (t.move.covers P all)
+      (sym (t.move.leads d.log.block_size d.kept (matches d)))
+      (subst (AllByRecursion P) (sym (history_blocks_alike h)) (t.move.covers P all))
 
   -- what opening finds after it
   shown_then : (d : IsDurable disk s) → Has
-      → opened_by (sources_of (disk.reads s.store)) d.log (after_bodies d.kept w.more w.body) ≡ shown (followed out before c 0 len)
+      → opened_by (sources_of (disk.reads s.store)) d.log (after_bodies d.kept w.more (unnumbered_body w.body))
+      ≡ shown (followed out before c 0 len)
   shown_then d has =
       let src = sources_of (disk.reads s.store) in
       let k : Kept = record d.kept {
-        history = h;
+        history = unnumbered_history h;
         next_block = t.move.block_then d.kept.next_block;
         next_track = track_then;
         commit = d.kept.commit + suc w.more;
@@ -164,13 +168,14 @@ module _ {D : Type 0} {Has : Type 0} {disk : Ghosts D} {s : Core D} {made : List
         next_track = track_then;
         commit = s.commit_number + suc w.more;
       } in
-      let then_is : after_bodies d.kept w.more w.body ≡ k = t.move.leads d.log.block_size d.kept (matches d) in
-      let one : opened_by src d.log (after_bodies d.kept w.more w.body) ≡ opened_by src d.log k =
+      let then_is : after_bodies d.kept w.more (unnumbered_body w.body) ≡ k = t.move.leads d.log.block_size d.kept
+      (matches d) in
+      let one : opened_by src d.log (after_bodies d.kept w.more (unnumbered_body w.body)) ≡ opened_by src d.log k =
       λ i. opened_by src d.log (then_is i) in
       let two : opened_by src d.log k ≡ found = λ i. record {
         rate = d.rate i;
         block_size = d.block_size i;
-        history = meant_history src h;
+        history = history_meant_alike src h i;
         next_track = track_then;
         commit = d.commit i + suc w.more;
       } in
@@ -219,7 +224,8 @@ module _ {D : Type 0} {Has : Type 0} {disk : Ghosts D} {s : Core D} {made : List
         (one_of disk s.store mid.store (form_at s) d.log d.base d.kept every s.next_block
         (form_few s t.is.journal.among) d.begins d.told every_ids (every_whole has)
         (every_same has) adds.changed.images (all_bytes s w)
-        (after_bodies d.kept w.more w.body) (t.move.tells d.log.block_size d.kept (matches d) t.number)
+        (after_bodies d.kept w.more (unnumbered_body w.body)) (t.move.tells d.log.block_size d.kept
+        (matches d) t.number)
         (covers_before d) (covers_after d) (adds.any_moment d.log (t.holds has).tells d.there) x since)
 
     -- the blocks read as they did

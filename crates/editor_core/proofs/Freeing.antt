@@ -26,6 +26,7 @@ use Rattle.editor_core.specs.Removals.{Forgets, Removes}
 use Rattle.editor_core.specs.Studios.{IsGiven, is_given, SameBlocks, IsDurable, IsHeld, IsStudio, ids_of, shown, studio_by}
 use Rattle.editor_core.specs.Studios.{studio_of, named_blocks}
 use Rattle.editor_core.proofs.Images.{form_few, keeps_by, shown_is, covers_kept}
+use Rattle.editor_core.proofs.Layouts.{free_named}
 use Rattle.editor_core.proofs.Lists.{all_both}
 use Rattle.editor_core.proofs.Meanings.{same_studio}
 use Rattle.editor_core.proofs.NextIds.{is_among}
@@ -60,7 +61,7 @@ module _ {D : Type 0} (disk : Ghosts D) (s : Core D) (is : IsStudio disk s) (muc
   named_same : (d c : Files) → FreesFiles s.counts d c → SameBlocks (named_blocks s) d c
   named_same d c step = same_named (named_blocks s) d c (λ id some. ⊎_elim
       (λ same. same)
-      (λ gone. absurd (omega (arith, some, is.counted id, ap occurrences gone.0)))
+      (λ gone. absurd (omega (arith, some, free_named disk s is id gone.0)))
       (step id))
 
   -- neither file of a journal is a block's
@@ -108,11 +109,11 @@ module _ {D : Type 0} (disk : Ghosts D) (s : Core D) (is : IsStudio disk s) (muc
   -- ---- the blocks of some of them are forgotten
   module _ (cache : Entries) (counts : Counts) (ids : List ℕ) (gone : Forgets s.counts counts ids) where
     less_counted : (x : ℕ) → Contains ids x ⊎ (Contains ids x → ⊥) → occurrences (counts x)
-        ≡ times_named x (named_blocks s)
+        ≡ occurrences (s.counts x)
     less_counted x among = ⊎_elim
         (λ has. ap occurrences (gone.gone x has) ∙ sym (ap occurrences (gone.free x has)))
         (λ not. ap occurrences (gone.others x not))
-        among ∙ is.counted x
+        among
 
     less_given : (x : ℕ) → IsSome (counts x) → Contains ids x ⊎ (Contains ids x → ⊥) → IsGiven s.next_block x
     less_given x some among = ⊎_elim
@@ -136,7 +137,14 @@ module _ {D : Type 0} (disk : Ghosts D) (s : Core D) (is : IsStudio disk s) (muc
       numbers = is.numbers;
       clipboard = is.clipboard;
       ids = is.ids;
-      counted = λ x. less_counted x (is_among ids x);
+      layouts = is.layouts;
+      numbered = is.numbered;
+      drawn = is.drawn;
+      counted = record {
+        fresh_uses = is.counted.fresh_uses;
+        none_free = is.counted.none_free;
+        fresh_counts = λ x. less_counted x (is_among ids x) ∙ is.counted.fresh_counts x;
+      };
       given = λ x some. less_given x some (is_among ids x);
       cache = right;
     }
@@ -205,7 +213,14 @@ module _ {D : Type 0} (disk : Ghosts D) (s : Core D) (is : IsStudio disk s) (muc
       numbers = is.numbers;
       clipboard = is.clipboard;
       ids = is.ids;
-      counted = λ x. less_counted x (is_among ids x);
+      layouts = is.layouts;
+      numbered = is.numbered;
+      drawn = is.drawn;
+      counted = record {
+        fresh_uses = is.counted.fresh_uses;
+        none_free = is.counted.none_free;
+        fresh_counts = λ x. less_counted x (is_among ids x) ∙ is.counted.fresh_counts x;
+      };
       given = λ x some. less_given x some (is_among ids x);
       cache = λ going. absurd (cc going);
     }

@@ -1,5 +1,5 @@
 -- A commit whose records were added: then the studio has another history.
-use Rattle.std.proofs.Common.{◌≡◌, ◌↔◌, inl, inr, refl, sym, ap, ◌∙◌, subst, ℕ, suc, ◌+◌, ◌-◌, ◌^◌, ◌≤◌, ◌<◌, IsTrue, List}
+use Rattle.std.proofs.Common.{◌≡◌, inl, inr, refl, sym, ap, ◌∙◌, subst, ℕ, suc, ◌+◌, ◌-◌, ◌^◌, ◌≤◌, ◌<◌, IsTrue, List}
 use Rattle.std.proofs.Common.{◌++◌, Option, None, IsSome, Ok, arith}
 use Rattle.std.specs.List.{AllByRecursion}
 use Rattle.pcm_base.specs.declared.answer.Reply.TheVariants.{Done}
@@ -16,23 +16,24 @@ use Rattle.pcm_base.specs.Studio as model
 use Rattle.disk_model.specs.declared.store.Store.{Ghosts}
 use Rattle.disk_model.proofs.Frames.{changed_wider}
 use Rattle.sample_block.specs.Sources.{IsWhole}
-use Rattle.block_ledger.specs.Counts.{Counts, IsFreshCount}
+use Rattle.block_ledger.specs.Counts.{Counts}
 use Rattle.clip_track.specs.declared.items.Item.{Item}
 use Rattle.project_journal.specs.Journal.{IsAt, with_bodies}
 use Rattle.project_state.specs.Batches.{after_bodies}
 use Rattle.project_state.specs.declared.track.Track.{Track}
-use Rattle.project_state.specs.Kept.{Kept, LeadIn, meant_history, history_blocks, version_of}
+use Rattle.project_state.specs.Kept.{Kept, LeadIn, meant_history, version_of}
 use Rattle.editor_core.specs.Adding.{AddsBody}
 use Rattle.editor_core.specs.Bodies.{Writing, all_bytes, all_len}
 use Rattle.editor_core.specs.Core.{Core, form_at}
 use Rattle.editor_core.specs.Records.{Says}
 use Rattle.editor_core.specs.Packing.{packed_by}
-use Rattle.editor_core.specs.Studios.{IsDurable, IsHeld, IsStudio, clip_blocks, clip_cells, ids_of, named_blocks}
+use Rattle.editor_core.specs.Studios.{IsDurable, IsHeld, IsStudio, clip_blocks, clip_cells, named_blocks}
 use Rattle.editor_core.specs.Studios.{pin_blocks, studio_by, studio_of}
 use Rattle.editor_core.specs.Took.{Took, with_sound}
 use Rattle.editor_core.proofs.Flights.{IsCommit, IsTested, flight, images_still, matches, passes, whole_still}
 use Rattle.editor_core.proofs.StudioCache.{cache_by_record}
-use Rattle.editor_core.proofs.Grown.{LeadsOn, led_studio, named_led}
+use Rattle.project_state.specs.Numbers.{unnumbered_body, unnumbered_history}
+use Rattle.editor_core.proofs.Grown.{CountsAfter, LeadsOn, led_studio, named_led}
 use Rattle.editor_core.proofs.Images.{keeps_now}
 use Rattle.editor_core.proofs.Leading.{begins_more, lead_all}
 use Rattle.editor_core.proofs.Others.{NoneGoes, others_record}
@@ -74,10 +75,9 @@ module _ {D : Type 0} {Has : Type 0} {disk : Ghosts D} {s : Core D} {made : List
   }
 
   module _ {Q : Type 0} (q : Q) (mid : Core D) (adds : AddsBody disk s w (Ok q) mid)
-      (h' : History (List Track)) (counts : Counts) (next_track : ℕ) (moved : h' ≡ h)
+      (h' : History (List Track)) (uses counts : Counts) (next_track next_layout : ℕ) (moved : h' ≡ h)
       (tracked : next_track ≡ track_then)
-      (counted : IsFreshCount (ids_of (history_blocks h ++ rest_then)) counts)
-      (files : (id : ℕ) → IsSome (counts id) ↔ IsSome (s.counts id)) where
+      (counted : CountsAfter s.pins h clip next_layout s.counts uses counts) where
     abbrev pub grown : Core D
     grown = record s {
       store = mid.store;
@@ -85,8 +85,10 @@ module _ {D : Type 0} {Has : Type 0} {disk : Ghosts D} {s : Core D} {made : List
       commit_number = s.commit_number + suc w.more;
       history = h';
       clipboard = clip;
+      uses = uses;
       counts = counts;
       next_track = next_track;
+      next_layout = next_layout;
     }
 
     end_then : s.journal_end + 5 + len ≤ 2 ^ 62
@@ -96,8 +98,8 @@ module _ {D : Type 0} {Has : Type 0} {disk : Ghosts D} {s : Core D} {made : List
         → AllByRecursion P (named_blocks grown)
     grown_named =
         named_led disk s t.is made h clip track_then on mid.store
-        (s.journal_end + 5 + len) end_then (omega arith) h' counts next_track moved
-        tracked counted files (cache_by_record disk s t.is _ mid.store adds.changed)
+        (s.journal_end + 5 + len) end_then (omega arith) h' uses counts next_track next_layout moved
+        tracked counted (cache_by_record disk s t.is _ mid.store adds.changed)
 
     grown_end : mid.journal_end ≡ s.journal_end + 5 + len
     grown_end = ap (λ (z : Core D). z.journal_end) adds.fields.0
@@ -107,7 +109,7 @@ module _ {D : Type 0} {Has : Type 0} {disk : Ghosts D} {s : Core D} {made : List
         let d = (t.holds has).durable t.going in
         let m = d.log.block_size in
         let k : Kept = record d.kept {
-          history = h;
+          history = unnumbered_history h;
           next_block = t.move.block_then d.kept.next_block;
           next_track = track_then;
           commit = d.kept.commit + suc w.more;
@@ -115,7 +117,8 @@ module _ {D : Type 0} {Has : Type 0} {disk : Ghosts D} {s : Core D} {made : List
         let log = with_bodies d.log (all_bytes s w) in
         let version = version_of (form_at s) in
         let led =
-        lead_all version m d.base d.kept (after_bodies d.kept w.more w.body) d.log.bodies (all_bytes s w) d.told
+        lead_all version m d.base d.kept (after_bodies d.kept w.more (unnumbered_body w.body)) d.log.bodies
+        (all_bytes s w) d.told
         (t.move.tells m d.kept (matches t d) t.number) in
         let reads = disk.reads s.store in record {
           log = log;
@@ -130,7 +133,7 @@ module _ {D : Type 0} {Has : Type 0} {disk : Ghosts D} {s : Core D} {made : List
               (t.move.leads m d.kept (matches t d)) led;
           rate = d.rate;
           block_size = d.block_size;
-          history = sym moved;
+          history = ap unnumbered_history (sym moved);
           next_block = t.move.block_most d.kept.next_block d.next_block;
           next_track = sym tracked;
           commit = ap (λ (n : ℕ). n + suc w.more) d.commit;
@@ -141,8 +144,8 @@ module _ {D : Type 0} {Has : Type 0} {disk : Ghosts D} {s : Core D} {made : List
               let was = d.files id least most in
               let same : disk.reads mid.store id ≡ reads id =
               adds.changed.reads (t.holds has).tells id (λ e. absurd (omega (arith, e, least, t.is.journal.among))) in (
-                λ have. subst IsSome (sym same) (was.0 ((files id).0 have)),
-                λ there. (files id).1 (was.1 (subst IsSome same there)),
+                λ have. subst IsSome (sym same) (was.0 ((counted.files id).0 have)),
+                λ there. (counted.files id).1 (was.1 (subst IsSome same there)),
               );
         }
 
@@ -156,8 +159,8 @@ module _ {D : Type 0} {Has : Type 0} {disk : Ghosts D} {s : Core D} {made : List
     grown_studio : IsStudio disk grown
     grown_studio =
         led_studio disk s t.is made h clip track_then on mid.store
-        (s.journal_end + 5 + len) end_then (omega arith) h' counts next_track moved
-        tracked counted files (cache_by_record disk s t.is _ mid.store adds.changed)
+        (s.journal_end + 5 + len) end_then (omega arith) h' uses counts next_track next_layout moved
+        tracked counted (cache_by_record disk s t.is _ mid.store adds.changed)
 
     pub grown_state : Has → studio_of disk grown ≡ followed out before c 0 len
     grown_state has =
@@ -234,22 +237,31 @@ module _ {D : Type 0} (disk : Ghosts D) (s : Core D) (made : List BlockRef) (c :
   }
 
   module _ {Q : Type 0} (q : Q) (mid : Core D) (adds : AddsBody disk s w (Ok q) mid)
-      (h' : History (List Track)) (counts : Counts) (next_track : ℕ) (moved : h' ≡ h)
+      (h' : History (List Track)) (uses counts : Counts) (next_track next_layout : ℕ) (moved : h' ≡ h)
       (tracked : next_track ≡ track_then)
-      (counted : IsFreshCount (ids_of (history_blocks h ++ (pin_blocks s.pins ++ clip_blocks clip))) counts)
-      (files : (id : ℕ) → IsSome (counts id) ↔ IsSome (s.counts id)) where
+      (counted : CountsAfter s.pins h clip next_layout s.counts uses counts) where
     abbrev Leaves : Core D → Type 0
     Leaves z =
         Took disk s (with_sound c sound (Ok Done))
-        (record z { history = h'; clipboard = clip; counts = counts; next_track = next_track })
+        (record z {
+          history = h';
+          clipboard = clip;
+          uses = uses;
+          counts = counts;
+          next_track = next_track;
+          next_layout = next_layout;
+        })
 
     -- the studio that the code leaves
     pub grows_so : Leaves mid
     grows_so =
         subst Leaves (sym adds.fields.0)
-        (took_so disk s c sound (Ok Done) (grown tested q mid adds h' counts next_track moved tracked counted files)
-        (grows tested q mid adds h' counts next_track moved tracked counted files)
+        (took_so disk s c sound (Ok Done)
+        (grown tested q mid adds h' uses counts next_track next_layout moved tracked counted)
+        (grows tested q mid adds h' uses counts next_track next_layout moved tracked counted)
         (commit_removes_none c move.call.many) (commit_leaves_journal c move.call.many)
-        (ids_still s (grown tested q mid adds h' counts next_track moved tracked counted files) files refl)
-        (none_given (Ok Done) s (grown tested q mid adds h' counts next_track moved tracked counted files) refl) tt tt
+        (ids_still s
+        (grown tested q mid adds h' uses counts next_track next_layout moved tracked counted) counted.files refl)
+        (none_given (Ok Done) s
+        (grown tested q mid adds h' uses counts next_track next_layout moved tracked counted) refl) tt tt
         (inl (refl, adds.fields.2)) tt)

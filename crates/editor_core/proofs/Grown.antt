@@ -6,7 +6,7 @@ use Rattle.std.specs.List.{AllByRecursion}
 use Rattle.pcm_base.specs.declared.block.BlockRef.{BlockRef}
 use Rattle.pcm_base.specs.History.{History}
 use Rattle.disk_model.specs.declared.store.Store.{Ghosts}
-use Rattle.block_ledger.specs.Counts.{Counts, IsFreshCount, times}
+use Rattle.block_ledger.specs.Counts.{Counts}
 use Rattle.clip_track.specs.declared.items.Item.{Item}
 use Rattle.project_journal.specs.Header.{IsFormat}
 use Rattle.project_state.specs.declared.track.Track.{Track}
@@ -16,11 +16,23 @@ use Rattle.project_state.proofs.KeptBounds.{all_append, tagged_more}
 use Rattle.editor_core.specs.Adding.{stopped_by}
 use Rattle.block_cache.specs.Carried.{HasCache}
 use Rattle.editor_core.specs.Core.{Core}
-use Rattle.editor_core.specs.Studios.{IsGiven, IsStudio, is_given, MayPaste, clip_blocks, ids_of, named_blocks}
-use Rattle.editor_core.specs.Studios.{pin_blocks}
+use Rattle.layout_uses.specs.Layouts.{AreDrawn, AreNumbered, history_tracks}
+use Rattle.layout_uses.specs.Tallies.{AreCounts}
+use Rattle.editor_core.specs.Studios.{IsGiven, IsStudio, is_given, MayPaste, clip_blocks, named_blocks}
+use Rattle.editor_core.specs.Studios.{pin_blocks, pin_tracks}
 use Rattle.editor_core.specs.declared.studio.Pin.{Pin}
 use Rattle.editor_core.proofs.Images.{Covers}
 use Rattle.editor_core.proofs.Lists.{all_left, all_right, all_so}
+
+-- The uses of layouts and the counts of blocks for this history and clipboard beside these pins, and the number of the
+-- next layout, where the ids are those of these counts.
+pub record CountsAfter (pins : List Pin) (h : History (List Track)) (clip : Option (List (List Item))) (next_layout : ℕ)
+    (ids uses counts : Counts) : Type 0 where
+  pub layouts : next_layout ≤ 2 ^ 62
+  pub numbered : AreNumbered (history_tracks h ++ pin_tracks pins)
+  pub drawn : AreDrawn next_layout (history_tracks h ++ pin_tracks pins)
+  pub counted : AreCounts (history_tracks h ++ pin_tracks pins) (clip_blocks clip) uses counts
+  pub files : (id : ℕ) → IsSome (counts id) ↔ IsSome (ids id)
 
 -- A history, a clipboard and a next track to which this many commits of the studio may lead, where these blocks were made
 -- for them.
@@ -54,6 +66,9 @@ module _ {D : Type 0} (disk : Ghosts D) (s : Core D) (is : IsStudio disk s) wher
     numbers = is.numbers;
     clipboard = is.clipboard;
     ids = is.ids;
+    layouts = is.layouts;
+    numbered = is.numbered;
+    drawn = is.drawn;
     counted = is.counted;
     given = is.given;
     cache = λ going. absurd (cc going);
@@ -75,11 +90,11 @@ module _ {D : Type 0} (disk : Ghosts D) (s : Core D) (is : IsStudio disk s) wher
         all_append P (history_blocks h) rest_then (on.covers P all)
         (all_append P pins (clip_blocks clip) (all_left P pins (clip_blocks s.clipboard) rest) (on.clip_covers P all))
 
-    module _ (store : D) (end : ℕ) (end_most : end ≤ 2 ^ 62) (end_later : s.journal_end ≤ end) (h' : History (List Track)) (counts : Counts)
-        (next_track : ℕ)
+    module _ (store : D) (end : ℕ) (end_most : end ≤ 2 ^ 62) (end_later : s.journal_end ≤ end) (h' : History
+        (List Track))
+        (uses counts : Counts) (next_track next_layout : ℕ)
         (moved : h' ≡ h) (tracked : next_track ≡ track_then)
-        (counted : IsFreshCount (ids_of (history_blocks h ++ rest_then)) counts)
-        (files : (id : ℕ) → IsSome (counts id) ↔ IsSome (s.counts id))
+        (after : CountsAfter s.pins h clip next_layout s.counts uses counts)
         (cached : s.stopped ≡ None → HasCache disk (is_given s.next_block) store s.cache) where
       abbrev pub led : Core D
       led = record s {
@@ -88,8 +103,10 @@ module _ {D : Type 0} (disk : Ghosts D) (s : Core D) (is : IsStudio disk s) wher
         commit_number = s.commit_number + count;
         history = h';
         clipboard = clip;
+        uses = uses;
         counts = counts;
         next_track = next_track;
+        next_layout = next_layout;
       }
 
       pub named_led : (P : BlockRef → Type 0) → AllByRecursion P (named_blocks s ++ made)
@@ -139,9 +156,13 @@ module _ {D : Type 0} (disk : Ghosts D) (s : Core D) (is : IsStudio disk s) wher
         clipboard = on.clip_fits;
         ids = named_led (λ (b : BlockRef). IsGiven s.next_block b.id)
             (all_append (λ (b : BlockRef). IsGiven s.next_block b.id) (named_blocks s) made is.ids on.given);
-        counted = λ id.
-            counted id ∙ ap (λ (z : History (List Track)). times id (ids_of (history_blocks z ++ rest_then)))
-            (sym moved);
-        given = λ id some. is.given id ((files id).0 some);
+        layouts = after.layouts;
+        numbered = subst (λ (z : History (List Track)). AreNumbered (history_tracks z ++ pin_tracks s.pins)) (sym moved)
+            after.numbered;
+        drawn = subst (λ (z : History (List Track)). AreDrawn next_layout (history_tracks z ++ pin_tracks s.pins))
+            (sym moved) after.drawn;
+        counted = subst (λ (z : History (List Track)).
+            AreCounts (history_tracks z ++ pin_tracks s.pins) (clip_blocks clip) uses counts) (sym moved) after.counted;
+        given = λ id some. is.given id ((after.files id).0 some);
         cache = cached;
       }

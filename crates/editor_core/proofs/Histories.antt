@@ -9,7 +9,10 @@ use Rattle.project_state.specs.declared.track.Track.{Track}
 use Rattle.project_state.specs.Kept.{first_tracks, current_tracks, point_blocks, history_blocks}
 use Rattle.project_state.proofs.KeptBounds.{all_append}
 use Rattle.editor_core.proofs.Lists.{all_take, all_drop, all_each, all_joined}
-use Rattle.editor_core.proofs.Pushes.{Tagged}
+
+-- a point with its tag
+abbrev pub Tagged : Type 0
+Tagged = List Track × ℕ
 
 -- ---- a point after others
 

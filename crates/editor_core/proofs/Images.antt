@@ -1,5 +1,5 @@
 -- The project that each image keeps.
-use Rattle.std.proofs.Common.{◌≡◌, ◌⊎◌, inl, inr, ⊎_elim, sym, subst, ℕ, ◌≤◌, List, ◌++◌, None}
+use Rattle.std.proofs.Common.{◌≡◌, ◌⊎◌, inl, inr, ⊎_elim, ap, ◌∙◌, sym, subst, ℕ, ◌≤◌, List, ◌++◌, None}
 use Rattle.std.specs.List.{AllByRecursion}
 use Rattle.pcm_base.specs.declared.block.BlockRef.{BlockRef}
 use Rattle.pcm_base.specs.History.{History}
@@ -15,6 +15,7 @@ use Rattle.project_journal.proofs.Parses.{form_known}
 use Rattle.project_state.specs.declared.track.Track.{Track}
 use Rattle.project_state.specs.Kept.{Begins, Kept, LeadIn, meant_history, history_blocks}
 use Rattle.project_state.specs.Kept.{Opened, Keeps, version_of}
+use Rattle.project_state.proofs.Unnumbered.{history_blocks_alike, history_meant_alike}
 use Rattle.editor_core.specs.Core.{Core, form_at}
 use Rattle.editor_core.specs.Studios.{IsGiven, SameBlocks, IsDurable, IsHeld, shown, studio_of, named_blocks}
 use Rattle.editor_core.specs.Studios.{pin_blocks, clip_blocks}
@@ -113,14 +114,15 @@ module _ {D : Type 0} (disk : Ghosts D) (s : Core D) where
   shown_is d = λ i. record {
     rate = d.rate i;
     block_size = d.block_size i;
-    history = meant_history (sources_of (disk.reads s.store)) (d.history i);
+    history = (ap (meant_history (sources_of (disk.reads s.store))) d.history
+        ∙ history_meant_alike (sources_of (disk.reads s.store)) s.history) i;
     next_track = d.next_track i;
     commit = d.commit i;
   }
 
   pub covers_kept : (d : IsDurable disk s) → Covers (named_blocks s) d.kept.history
   covers_kept d P all =
-      subst (λ (h : History (List Track)). AllByRecursion P (history_blocks h)) (sym d.history)
+      subst (AllByRecursion P) (sym (ap history_blocks d.history ∙ history_blocks_alike s.history))
       (all_left P (history_blocks s.history) (pin_blocks s.pins ++ clip_blocks s.clipboard) all)
 
   pub keeps_now : s.file ≤ 1 → s.stopped ≡ None → IsHeld disk s

@@ -1,7 +1,7 @@
 -- What is known of the numbers of samples of channels that no test refuses.
 use Rattle.std.proofs.Common.{◌≡◌, ⊎_elim, refl, sym, ap, ◌∙◌, subst, ℕ, zero, suc, ◌+◌, ◌*◌, ◌^◌, ◌≤◌, ◌<◌}
 use Rattle.std.proofs.Common.{nat_lt, Option, Some, None, List, [], ◌∷◌, ◌++◌, length, take}
-use Rattle.std.proofs.Common.{slice_index_or, arith}
+use Rattle.std.proofs.Common.{length-append, slice_index_or, arith}
 use Rattle.std.proofs.lemmas.Bool.{cases_lt, lt-ltb}
 use Rattle.std.proofs.lemmas.Option.{none-some}
 use Rattle.std.proofs.lemmas.List.{length-take}
@@ -110,6 +110,22 @@ module _ {D : Type 0} (s : Core D) (counts : List ℕ) (i : ℕ) (g : Growing) (
       subst (AllBelow n) (sym was.point)
       (below_append n old was.news (below_later id n old (omega (arith, same)) below) news)
 
+  -- the next number is no greater than it may be
+  pub number_few : s.next_layout ≤ 2 ^ 62 → i ≤ length counts → length counts ≤ 64 → g.number < 2 ^ 63
+  number_few most less few = omega (arith, most, less, few, was.number_is, length-take i counts)
+
+  -- there is a place for a track more
+  pub place_left : i < length counts → length old + length counts ≤ 64 → length g.point < 64
+  place_left less few = omega (
+    arith,
+    less,
+    few,
+    was.many,
+    length-take i counts,
+    ap (λ (q : List Track). length q) was.point,
+    length-append old was.news,
+  )
+
   -- the next id is no greater than it may be, and a plan of all channels needs
   pub ids_count : next ≤ 2 ^ 62 → length counts ≤ 64 → g.next < 2 ^ 63
   ids_count most few = omega (
@@ -127,12 +143,13 @@ module _ {D : Type 0} (s : Core D) (counts : List ℕ) (i : ℕ) (g : Growing) (
 pub all_grown : {D : Type 0} (s : Core D) (counts : List ℕ) (i : ℕ) (g : Growing) (p : Planned)
     → AreGrown s (take i counts) g → take i counts ≡ counts
     → p.point ≡ g.point → p.makes ≡ g.makes.items → p.next ≡ g.next → p.tracks ≡ length counts
-    → IsChannelsPlan s counts p
-all_grown s counts i g p grown all point makes at tracks = record {
+    → p.layouts ≡ length counts → IsChannelsPlan s counts p
+all_grown s counts i g p grown all point makes at tracks layouts = record {
   grown = g;
   are = subst (λ (ns : List ℕ). AreGrown s ns g) all grown;
   point_is = point;
   makes_is = makes;
   next_is = at;
   tracks_is = tracks;
+  layouts_is = layouts;
 }

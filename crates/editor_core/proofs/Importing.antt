@@ -1,5 +1,5 @@
 -- A project that grows by a track for each channel.
-use Rattle.std.proofs.Common.{◌≡◌, refl, sym, ap, ◌∙◌, subst, ℕ, suc, ◌+◌, ◌/◌, ◌≤◌, ◌<◌, ℤ, List, []}
+use Rattle.std.proofs.Common.{◌≡◌, inr, refl, sym, ap, ◌∙◌, subst, ℕ, suc, ◌+◌, ◌/◌, ◌≤◌, ◌<◌, ℤ, List, []}
 use Rattle.std.proofs.Common.{◌∷◌, ◌++◌, append_assoc, length, Contains, length-append, arith}
 use Rattle.std.specs.List.{AllByRecursion}
 use Rattle.std.proofs.lemmas.List.{append-nil}
@@ -22,6 +22,9 @@ use Rattle.project_state.specs.declared.track.Track.{Track}
 use Rattle.project_state.specs.Kept.{current_tracks, meant, meant_track, point_blocks}
 use Rattle.project_state.specs.Sound.{AllSoundTracks, IsSoundTrack}
 use Rattle.project_state.proofs.KeptBounds.{all_append, tagged_more}
+use Rattle.layout_uses.specs.Drawing.{HasNumbers}
+use Rattle.layout_uses.proofs.Draws.{numbers_more}
+use Rattle.layout_uses.proofs.Putting.{same_numbers}
 use Rattle.editor_core.specs.Core.{Core}
 use Rattle.editor_core.specs.declared.growth.Growing.{Growing}
 use Rattle.editor_core.specs.Edits.{AreAmong, alone, beside}
@@ -111,8 +114,8 @@ refs_append (x ∷ xs) ys = ap (λ (z : List BlockRef). ref_of x ∷ z) (refs_ap
 -- ---- none
 
 pub grown_none : {D : Type 0} (s : Core D) (g : Growing) → g.point ≡ current_tracks s.history → g.makes.items ≡ []
-    → g.next ≡ s.next_block → g.brought ≡ 0 → AreGrown s [] g
-grown_none s g point makes first brought = record {
+    → g.next ≡ s.next_block → g.brought ≡ 0 → g.number ≡ s.next_layout → AreGrown s [] g
+grown_none s g point makes first brought number = record {
   news = [];
   point = point ∙ sym (append-nil (current_tracks s.history));
   ids = tt;
@@ -125,6 +128,12 @@ grown_none s g point makes first brought = record {
   few = omega (arith, ap length makes);
   next_is = omega (arith, ap length makes, first);
   brought = brought;
+  number_is = omega (arith, number);
+  layouts =
+      let old = current_tracks s.history in
+      subst (λ (k : ℕ). HasNumbers old s.next_layout g.point k) (sym number)
+      (subst (λ (q : List Track). HasNumbers old s.next_layout q s.next_layout) (sym point)
+      (same_numbers old s.next_layout));
   means = λ block given written. refl;
 }
 
@@ -150,7 +159,7 @@ module _ {D : Type 0} (s : Core D) (some : 0 < s.block_size) (least : 16 ≤ s.n
   old = current_tracks s.history
 
   abbrev t : Track
-  t = track_with (id + length counts) a.plan.layout
+  t = track_with (id + length counts) g.number a.plan.layout
 
   abbrev xs : List NewBlock
   xs = g.makes.items
@@ -273,5 +282,10 @@ module _ {D : Type 0} (s : Core D) (some : 0 < s.block_size) (least : 16 ≤ s.n
         omega (arith, long, more, was.few, a.is.few, div_more g.brought count m some, ap (λ (k : ℕ). k / m) a.brought);
     next_is = omega (arith, a.next, a.is.plan.next_id, was.next_is, long);
     brought = a.brought ∙ ap (λ (k : ℕ). k + count) was.brought ∙ sym (total_more counts count);
+    number_is = omega (arith, a.number, was.number_is, more);
+    layouts = subst (λ (k : ℕ). HasNumbers old s.next_layout h.point k) (sym a.number)
+        (subst (λ (q : List Track). HasNumbers old s.next_layout q (g.number + 1)) (sym a.point)
+        (numbers_more old s.next_layout g.point g.number was.layouts t (inr refl) (g.number + 1) (omega arith)
+        (λ e. omega arith)));
     means = λ block brings written. all_mean block brings (subst (AreWritten (beside block brings)) a.makes written);
   }

@@ -24,6 +24,7 @@ planned_any s p tag more b f g is = record {
   origin = is.origin;
   tag_given = is.tag_given;
   tag_counts = is.tag_counts;
+  layouts = is.layouts;
   sound = is.sound;
   names = is.names;
   used = is.used;

@@ -1,7 +1,7 @@
 -- What holds of an edit that makes blocks, whatever its call means and whatever is told; and that no vault refuses it.
-use Rattle.std.proofs.Common.{ℤ, ◌≡◌, ◌↔◌, ◌⊎◌, ◌<◌, inl, inr, ⊎_elim, refl, sym, ap, ◌∙◌, subst, ℕ, suc, ◌+◌}
+use Rattle.std.proofs.Common.{ℤ, ◌≡◌, ◌⊎◌, ◌<◌, inl, inr, ⊎_elim, refl, sym, ap, ◌∙◌, subst, ℕ, suc, ◌+◌}
 use Rattle.std.proofs.Common.{◌-◌, ◌^◌, ◌≤◌}
-use Rattle.std.proofs.Common.{IfErr, IsSome, Option, None, List, [], true, ◌++◌, length, Result, Ok, Err, arith}
+use Rattle.std.proofs.Common.{IfErr, Option, None, List, [], true, length, Result, Ok, Err, arith}
 use Rattle.std.specs.Prelude.{IfOk}
 use Rattle.pcm_base.specs.declared.answer.Reply.{Reply}
 use Rattle.pcm_base.specs.declared.answer.Reply.TheVariants.{Done}
@@ -17,12 +17,12 @@ use Rattle.disk_model.specs.Disk.{StaysStep}
 use Rattle.disk_model.specs.Frames.{Changed}
 use Rattle.disk_model.specs.declared.store.Store.{Ghosts}
 use Rattle.disk_model.proofs.Frames.{Fewer, changed_wider}
-use Rattle.block_ledger.specs.Counts.{Counts, IsFreshCount}
+use Rattle.block_ledger.specs.Counts.{Counts}
 use Rattle.clip_track.specs.declared.items.Item.{Item}
 use Rattle.edit_ops.specs.declared.types.NewBlock.{NewBlock}
 use Rattle.project_state.specs.declared.body.Body.TheVariants.{Edit}
 use Rattle.project_state.specs.declared.track.Track.{Track}
-use Rattle.project_state.specs.Kept.{current_tracks, history_blocks}
+use Rattle.project_state.specs.Kept.{current_tracks}
 use Rattle.editor_core.specs.Adding.{Adds, AddsBody, stopped_by}
 use Rattle.editor_core.specs.Bodies.{Writing, all_bytes, all_len, whole_len}
 use Rattle.editor_core.specs.Applied.{Lasts}
@@ -35,13 +35,13 @@ use Rattle.editor_core.specs.Left.{CountsIds, IsSoOf, Left, LeavesOthers, MayRem
 use Rattle.editor_core.specs.Made.{PiecesThere, batch_of}
 use Rattle.editor_core.specs.Makes.{Making, Stuck, Unput, Unread, one_call}
 use Rattle.editor_core.specs.Packing.{packed_by}
-use Rattle.editor_core.specs.Studios.{IsGiven, IsHeld, IsStudio, clip_blocks, ids_of, pin_blocks}
+use Rattle.editor_core.specs.Studios.{IsGiven, IsHeld, IsStudio}
 use Rattle.editor_core.specs.Took.{asks, number_behind, with_sound}
 use Rattle.editor_core.proofs.CarriedOut.{commit_of}
 use Rattle.editor_core.proofs.Applying.{lasts_idle}
 use Rattle.editor_core.proofs.EditLaws.{clip_covers_then, covers_then, edit_history, pieces_there, points_then}
 use Rattle.editor_core.proofs.StudioCache.{cache_by_record}
-use Rattle.editor_core.proofs.Grown.{LeadsOn, led_studio, stopped_studio}
+use Rattle.editor_core.proofs.Grown.{CountsAfter, LeadsOn, led_studio, stopped_studio}
 use Rattle.editor_core.proofs.Lists.{all_so}
 use Rattle.editor_core.proofs.MadeLeft.{all_changed, all_failed, all_ids, all_left, damaged_so, missed_so}
 use Rattle.editor_core.proofs.MadeLeft.{some_changed, some_ids, some_left, some_stop, unput_changed, unput_failed}
@@ -227,10 +227,9 @@ module _ {D : Type 0} (disk : Ghosts D) (s : Core D) (is : IsStudio disk s) (goi
 
     -- they were
     module _ {Q : Type 0} (q : Q) (new : Core D) (adds : AddsBody disk mid writes (Ok q) new)
-        (h' : History (List Track)) (counts' : Counts) (next_track : ℕ)
+        (h' : History (List Track)) (uses' counts' : Counts) (next_track next_layout : ℕ)
         (moved : h' ≡ h) (tracked : next_track ≡ track_then)
-        (counted : IsFreshCount (ids_of (history_blocks h ++ (pin_blocks s.pins ++ clip_blocks clip))) counts')
-        (files : (id : ℕ) → IsSome (counts' id) ↔ IsSome (counts id)) where
+        (after : CountsAfter s.pins h clip next_layout counts uses' counts') where
       abbrev done : Core D
       done = record mid {
         store = new.store;
@@ -238,25 +237,41 @@ module _ {D : Type 0} (disk : Ghosts D) (s : Core D) (is : IsStudio disk s) (goi
         commit_number = s.commit_number + suc e.more;
         history = h';
         clipboard = clip;
+        uses = uses';
         counts = counts';
         next_track = next_track;
+        next_layout = next_layout;
       }
 
       done_studio : IsStudio disk done
       done_studio =
           led_studio disk mid mid_is (refs makes) h clip track_then leads new.store (s.journal_end + 5 + len)
-          (omega (arith, adds.fields.1)) (omega arith) h' counts' next_track
-          moved tracked counted files (cache_by_record disk mid mid_is _ new.store adds.changed)
+          (omega (arith, adds.fields.1)) (omega arith) h' uses' counts' next_track
+          next_layout moved tracked after (cache_by_record disk mid mid_is _ new.store adds.changed)
 
       done_lasts : Lasts disk s (with_sound c sound (Ok Done))
-          (record new { history = h'; clipboard = clip; counts = counts'; next_track = next_track })
+          (record new {
+            history = h';
+            clipboard = clip;
+            uses = uses';
+            counts = counts';
+            next_track = next_track;
+            next_layout = next_layout;
+          })
       done_lasts =
           let number : s.commit_number + suc e.more ≡ s.commit_number + commits_of c =
           ap (λ (k : ℕ). s.commit_number + k) (sym one) in
           let current : current_tracks h' ≡ point =
           ap current_tracks moved ∙ recorded_current s.history point e.tag is.format.depth_least in
           subst (λ (z : Core D). Lasts disk s (with_sound c sound (Ok Done))
-          (record z { history = h'; clipboard = clip; counts = counts'; next_track = next_track })) (sym adds.fields.0)
+          (record z {
+            history = h';
+            clipboard = clip;
+            uses = uses';
+            counts = counts';
+            next_track = next_track;
+            next_layout = next_layout;
+          })) (sym adds.fields.0)
           (lasts_going (Ok Done) done done_studio number len
           (inr (
             writes,
@@ -268,7 +283,7 @@ module _ {D : Type 0} (disk : Ghosts D) (s : Core D) (is : IsStudio disk s) (goi
           (changed_wider (others_record mid.file mid.next_block mid.next_block NoneGoes is.journal.among)
           (record_within (with_sound c sound (Ok Done)) (disk.reads store s.file) mid.block_size
           (mid.next_block - mid.next_block) len (packed_by mid c) one) adds.changed))
-          (ids_made s done counts n making.ledger files refl) tt
+          (ids_made s done counts n making.ledger after.files refl) tt
           (inl (refl, adds.fields.2 ∙ making.change_faults)) tt)
 
   -- ---- all of it
@@ -301,13 +316,19 @@ module _ {D : Type 0} (disk : Ghosts D) (s : Core D) (is : IsStudio disk s) (goi
       carried
 
   pub lasts_ok : (done : Unit {0}) (new : Core D) (it : Committed disk s (commit_of s e) (Ok done) new)
-      (h' : History (List Track)) (counts' : Counts) (next_track : ℕ)
+      (h' : History (List Track)) (uses' counts' : Counts) (next_track next_layout : ℕ)
       → h' ≡ h → next_track ≡ track_then
-      → IsFreshCount (ids_of (history_blocks h ++ (pin_blocks s.pins ++ clip_blocks clip))) counts'
-      → ((id : ℕ) → IsSome (counts' id) ↔ IsSome (it.mid.counts id))
+      → CountsAfter s.pins h clip next_layout it.mid.counts uses' counts'
       → Lasts disk s (with_sound c sound (Ok Done))
-      (record new { history = h'; clipboard = clip; counts = counts'; next_track = next_track })
-  lasts_ok done new it h' counts' next_track moved tracked counted files =
+      (record new {
+        history = h';
+        clipboard = clip;
+        uses = uses';
+        counts = counts';
+        next_track = next_track;
+        next_layout = next_layout;
+      })
+  lasts_ok done new it h' uses' counts' next_track next_layout moved tracked after =
       done_lasts it.prepared it.mid.store it.mid.counts (made_so it.mid it.making) done new
       (subst (λ (z : Core D). Adds disk z bodies (suc e.more) (whole_len s writes) (Ok done) new) it.making.is it.adds)
-      h' counts' next_track moved tracked counted files
+      h' uses' counts' next_track next_layout moved tracked after

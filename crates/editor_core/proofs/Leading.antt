@@ -20,6 +20,7 @@ begins_by (p ∷ ps) log bodies base is = record {
   next_track = is.next_track;
   commit = is.commit;
   sound = is.sound;
+  unnumbered = is.unnumbered;
 }
 
 pub begins_more : (log : Log) (bodies : List (List ℕ)) (base : Kept) → Begins log base

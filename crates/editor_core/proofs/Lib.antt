@@ -77,13 +77,11 @@ mod PasteRefused
 mod PasteSteps
 mod RangeLaws
 mod InsertLaws
-mod Amending
 mod RowRoom
+mod Laid
+mod Layouts
 mod Lists
-mod Times
-mod Bounds
-mod Turns
-mod Pushes
+pub mod Bounds
 mod Leading
 mod Sounds
 pub mod Images
@@ -111,7 +109,6 @@ mod Assembling
 pub mod Fresh
 mod Scanning
 mod Rising
-mod Replaced
 pub mod Rests
 mod ExportLengths
 mod Exporting

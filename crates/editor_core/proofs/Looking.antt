@@ -86,6 +86,9 @@ module _ {D : Type 0} (disk : Ghosts D) (s : Core D) (is : IsStudio disk s) (sto
     numbers = is.numbers;
     clipboard = is.clipboard;
     ids = is.ids;
+    layouts = is.layouts;
+    numbered = is.numbered;
+    drawn = is.drawn;
     counted = is.counted;
     given = is.given;
     cache = cache_by_reads disk s is store cache kept keeps;

@@ -166,7 +166,14 @@ module _ {D : Type 0} (disk : Ghosts D) (s : Core D) (is : IsStudio disk s) wher
           clipboard = is.clipboard;
           ids = all_so (λ (b : BlockRef). IsGiven s.next_block b.id) (λ (b : BlockRef). IsGiven next b.id)
               (λ b h. (h.0, omega (arith, h.1))) bs is.ids;
-          counted = λ id. free.counts id ∙ is.counted id;
+          layouts = is.layouts;
+          numbered = is.numbered;
+          drawn = is.drawn;
+          counted = record {
+            fresh_uses = is.counted.fresh_uses;
+            none_free = is.counted.none_free;
+            fresh_counts = λ id. free.counts id ∙ is.counted.fresh_counts id;
+          };
           given = λ id have. ⊎_elim
               (λ o. let was = is.given id o in (was.0, omega (arith, was.1)))
               (λ r. (omega (arith, r.0, is.counters.block_least), r.1))

@@ -1,9 +1,9 @@
 -- Undo, redo and purge: their records, and what they leave.
 use Rattle.std.proofs.Common.{◌≡◌, ◌↔◌, ⊎_elim, refl, sym, ap, ◌∙◌, subst, ℕ, ◌+◌, ◌-◌, ◌^◌, ◌≤◌, ◌<◌, nat_lt, Bool}
 use Rattle.std.proofs.Common.{true}
-use Rattle.std.proofs.Common.{false, List, [], ◌++◌, drop, take, flat_map, length, IsSome, Option, Some, None, Ok, Err}
+use Rattle.std.proofs.Common.{false, List, [], ◌++◌, drop, map, length, IsSome, Option, Some, None, Ok, Err}
 use Rattle.std.proofs.Common.{arith}
-use Rattle.std.proofs.lemmas.List.{length-drop}
+use Rattle.std.proofs.lemmas.List.{length-drop, length-map}
 use Rattle.std.proofs.lemmas.Option.{none-some, same_Some}
 use Rattle.std.specs.List.{AllByRecursion}
 use Rattle.pcm_base.specs.declared.answer.Reply.TheVariants.{Done}
@@ -15,35 +15,42 @@ use Rattle.pcm_base.specs.declared.refusal.Refusal.{Refusal}
 use Rattle.pcm_base.specs.declared.refusal.Refusal.TheVariants as refusal
 use Rattle.pcm_base.specs.declared.limits.TheConstants.{LONGEST_BODY}
 use Rattle.pcm_base.specs.Counters.{Needs, no_room}
-use Rattle.pcm_base.specs.History.{History, at_cursor, points_of, purged}
+use Rattle.pcm_base.specs.History.{History, at_cursor, purged}
 use Rattle.pcm_base.specs.Refusals.{◌otherwise◌, call_tests, refused_if}
 use Rattle.pcm_base.specs.Run.{outside, stop_of}
 use Rattle.disk_model.specs.declared.store.Store.{Ghosts}
 use Rattle.disk_model.proofs.Frames.{Fewer}
 use Rattle.sample_block.specs.Sources.{sources_of}
-use Rattle.block_ledger.specs.Counts.{Counts, IsFreshCount, occurrences}
+use Rattle.block_ledger.specs.Counts.{Counts}
+use Rattle.block_ledger.specs.Entries.{count_of}
+use Rattle.clip_track.specs.declared.items.Item.{Item}
 use Rattle.project_state.specs.declared.body.Body.{Body}
 use Rattle.project_state.specs.declared.body.Body.TheVariants.{Undo, Redo, Purge}
 use Rattle.project_state.specs.declared.track.Track.{Track}
 use Rattle.project_state.specs.Kept.{history_blocks, point_blocks}
 use Rattle.project_state.specs.KeptSound.{IsSoundTagged}
 use Rattle.project_state.proofs.MeantHistories.{meant_purged}
+use Rattle.project_state.specs.Numbers.{unnumbered}
+use Rattle.project_state.proofs.Unnumbered.{purged_alike}
+use Rattle.layout_uses.specs.declared.tally.Tally.{Tally}
+use Rattle.layout_uses.specs.Layouts.{AreDrawn, AreNumbered, history_tracks, points_tracks}
+use Rattle.layout_uses.specs.Tallies.{AreCounts, Becomes, MayBecome}
 use Rattle.editor_core.specs.Adding.{AddsBody, IsNoWant}
 use Rattle.editor_core.specs.Bodies.{single}
 use Rattle.editor_core.specs.Core.{Core}
-use Rattle.editor_core.specs.Occurrences.{HasAll, Dropped, times_named}
-use Rattle.editor_core.specs.Studios.{IsHeld, IsStudio, clip_blocks, ids_of, named_blocks, pin_blocks, studio_of}
+use Rattle.editor_core.specs.Studios.{IsHeld, IsStudio, clip_blocks, named_blocks, pin_blocks, pin_tracks, studio_of}
+use Rattle.editor_core.specs.Studios.{studio_tracks}
 use Rattle.editor_core.specs.Took.{Took, quietly, silent}
 use Rattle.editor_core.proofs.Flights.{IsCommit, clip_stays}
 use Rattle.editor_core.proofs.Editing.{may_come}
+use Rattle.editor_core.proofs.Grown.{CountsAfter}
 use Rattle.editor_core.proofs.Growing.{grows_so}
 use Rattle.editor_core.proofs.Images.{Covers}
+use Rattle.editor_core.proofs.Layouts.{tracks_few}
 use Rattle.editor_core.proofs.Lists.{all_left, all_drop, all_each, all_joined, all_so}
-use Rattle.editor_core.proofs.Pushes.{untagged, times_split}
 use Rattle.editor_core.proofs.Spaces.{IsCommitCall, tested}
 use Rattle.editor_core.proofs.Removing.{commit_frees}
 use Rattle.editor_core.proofs.Staying.{none_made, refuses}
-use Rattle.editor_core.proofs.Times.{named_append}
 use Rattle.editor_core.proofs.Spending.{tested_needed}
 
 pub undo_call : IsCommitCall (Line command.Undo) silent 0 0
@@ -142,7 +149,11 @@ module _ {D : Type 0} (disk : Ghosts D) (s : Core D) (is : IsStudio disk s) wher
     tells = λ m k e room. (
       Redo,
       may_come disk s is m k Redo e (omega (arith, room)) tt
-          (subst (λ (h : History (List Track)). h.cursor + 1 < length h.points) (sym e.history) some),
+          (subst (λ (h : History (List Track)). h.cursor + 1 < length h.points) (sym e.history) (omega (
+            arith,
+            some,
+            length-map {B = List Track × ℕ} s.history.points (λ p. (map unnumbered p.0, p.1)),
+          ))),
       refl,
     );
     leads = λ m k e. λ i. record k {
@@ -185,7 +196,11 @@ module _ {D : Type 0} (disk : Ghosts D) (s : Core D) (is : IsStudio disk s) wher
       refl,
     );
     leads =
-        λ m k e. λ i. record k { history = purged (e.history i) n; next_track = e.next_track i; commit = k.commit + 1 };
+        λ m k e. λ i. record k {
+          history = (ap (λ (h : History (List Track)). purged h n) e.history ∙ sym (purged_alike s.history n)) i;
+          next_track = e.next_track i;
+          commit = k.commit + 1;
+        };
     covers = purge_covers n;
     clip_covers = clip_stays s [];
     clip_few = is.few_clips;
@@ -203,20 +218,25 @@ module _ {D : Type 0} (disk : Ghosts D) (s : Core D) (is : IsStudio disk s) wher
 
   -- what a move leaves, where its record was added
   pub moves : (c : Call) (body : Body) (h : History (List Track)) (mid : Core D) (h' : History (List Track))
-      (counts : Counts) → Move c body h
+      (uses counts : Counts) → Move c body h
       → s.stopped ≡ None → call_tests (outside (studio_of disk s) silent) (studio_of disk s).state c ≡ None
       → s.commit_number < 2 ^ 62
       → AddsBody disk s (single body) (Ok (tt {0})) mid → h' ≡ h
-      → IsFreshCount (ids_of (history_blocks h ++ (pin_blocks s.pins ++ clip_blocks s.clipboard))) counts
-      → ((id : ℕ) → IsSome (counts id) ↔ IsSome (s.counts id))
-      → Took disk s (quietly c (Ok Done)) (record mid { history = h'; counts = counts })
-  moves c body h mid h' counts move going own number adds is-h counted files =
+      → CountsAfter s.pins h s.clipboard s.next_layout s.counts uses counts
+      → Took disk s (quietly c (Ok Done)) (record mid { history = h'; uses = uses; counts = counts })
+  moves c body h mid h' uses counts move going own number adds is-h after =
       let clip = ap (λ (z : Core D). z.clipboard) adds.fields.0 in
       let took = grows_so disk s [] c silent 0 (single body) h s.clipboard s.next_track is (none_made disk s) move going own
       (omega (arith, is.counters.track_most)) (omega (arith, number)) (tt {0}) mid adds
-      h' counts mid.next_track is-h (ap (λ (z : Core D). z.next_track) adds.fields.0) counted files in
-      subst (λ z. Took disk s (quietly c (Ok Done)) (record mid { history = h'; clipboard = z; counts = counts }))
-      (sym clip) took
+      h' uses counts mid.next_track s.next_layout is-h (ap (λ (z : Core D). z.next_track) adds.fields.0) after in
+      let layout = ap (λ (z : Core D). z.next_layout) adds.fields.0 in
+      subst (λ (z : Option (List (List Item)) × ℕ). Took disk s (quietly c (Ok Done)) (record mid {
+        history = h';
+        clipboard = z.0;
+        uses = uses;
+        counts = counts;
+        next_layout = z.1;
+      })) (λ i. (sym clip i, sym layout i)) took
 
   -- where the points stay
   pub moved : (c : Call) (body : Body) (h : History (List Track)) (mid : Core D) (h' : History (List Track))
@@ -226,46 +246,55 @@ module _ {D : Type 0} (disk : Ghosts D) (s : Core D) (is : IsStudio disk s) wher
       → AddsBody disk s (single body) (Ok (tt {0})) mid → h' ≡ h
       → Took disk s (quietly c (Ok Done)) (record mid { history = h' })
   moved c body h mid h' move points going own number adds is-h =
-      let counts : mid.counts ≡ s.counts = ap (λ (z : Core D). z.counts) adds.fields.0 in
-      let rest : List BlockRef = pin_blocks s.pins ++ clip_blocks s.clipboard in
-      moves c body h mid h' mid.counts move going own number adds is-h
-      (λ id. ap (λ (z : Counts). occurrences (z id)) counts ∙ is.counted id
-      ∙ ap (λ z. times_named id (history_blocks (record h { points = z }) ++ rest)) (sym points))
-      (λ id. (
-        λ t. subst (λ (z : Counts). IsSome (z id)) counts t,
-        λ t. subst (λ (z : Counts). IsSome (z id)) (sym counts) t,
-      ))
+      let fields = adds.fields.0 in
+      let uses : mid.uses ≡ s.uses = ap (λ (z : Core D). z.uses) fields in
+      let counts : mid.counts ≡ s.counts = ap (λ (z : Core D). z.counts) fields in
+      let tracks : history_tracks s.history ≡ history_tracks h =
+      ap (λ (ps : List (List Track × ℕ)). points_tracks (map (λ (p : List Track × ℕ). p.0) ps)) (sym points) in
+      moves c body h mid h' mid.uses mid.counts move going own number adds is-h (record {
+        layouts = is.layouts;
+        numbered = subst (λ (ts : List Track). AreNumbered (ts ++ pin_tracks s.pins)) tracks is.numbered;
+        drawn = subst (λ (ts : List Track). AreDrawn s.next_layout (ts ++ pin_tracks s.pins)) tracks is.drawn;
+        counted = subst (λ (ts : List Track).
+            AreCounts (ts ++ pin_tracks s.pins) (clip_blocks s.clipboard) mid.uses mid.counts) tracks
+            (subst (λ (u : Counts). AreCounts (studio_tracks s) (clip_blocks s.clipboard) u mid.counts) (sym uses)
+            (subst (λ (z : Counts). AreCounts (studio_tracks s) (clip_blocks s.clipboard) s.uses z) (sym counts)
+            is.counted));
+        files = λ id. (
+          λ t. subst (λ (z : Counts). IsSome (z id)) counts t,
+          λ t. subst (λ (z : Counts). IsSome (z id)) (sym counts) t,
+        );
+      })
 
-  -- the oldest points, of which each is counted
-  abbrev oldest : ℕ → List BlockRef
-  oldest n = flat_map point_blocks (drop 0 (take n (points_of s.history)))
-
-  split_times : (n id : ℕ) → times_named id (oldest n) + times_named id (history_blocks (purged s.history n))
-      ≡ times_named id (history_blocks s.history)
-  split_times n id =
-      ap (λ k. k + times_named id (history_blocks (purged s.history n))) (ap (times_named id) (untagged 0 n s.history))
-      ∙ times_split id n s.history.points
-
-  pub has_oldest : (n : ℕ) → HasAll s.counts (oldest n)
-  has_oldest n = λ id. omega (
-    arith,
-    split_times n id,
-    is.counted id,
-    named_append id (history_blocks s.history) (pin_blocks s.pins ++ clip_blocks s.clipboard),
-  )
+  -- what is counted may be counted without the oldest points
+  pub may_purge : (tally : Tally) → count_of tally.uses ≡ s.uses → count_of tally.ledger ≡ s.counts
+      → MayBecome [] (history_tracks s.history) tally
+  may_purge tally uses_are counts_are = record {
+    others = pin_tracks s.pins;
+    blocks = clip_blocks s.clipboard;
+    numbered = is.numbered;
+    few = omega (arith, tracks_few disk s is);
+    counted = subst (λ (u : Counts). AreCounts (studio_tracks s) (clip_blocks s.clipboard) u (count_of tally.ledger))
+        (sym uses_are)
+        (subst (λ (z : Counts). AreCounts (studio_tracks s) (clip_blocks s.clipboard) s.uses z) (sym counts_are)
+        is.counted);
+  }
 
   -- the counts after a purge
-  pub purged_counts : (n : ℕ) (counts : Counts) → Dropped s.counts counts (oldest n)
-      → IsFreshCount
-      (ids_of (history_blocks (purged s.history n) ++ (pin_blocks s.pins ++ clip_blocks s.clipboard))) counts
-  purged_counts n counts went id =
-      let rest : List BlockRef = pin_blocks s.pins ++ clip_blocks s.clipboard in
-      left _ _ _ _ _ _ (went.counts id) (split_times n id) (is.counted id ∙ named_append id
-      (history_blocks s.history) rest) ∙ sym (named_append id (history_blocks (purged s.history n)) rest)
-    where
-      left : (new gone was after rest history : ℕ) → new + gone ≡ was → gone + after ≡ history → was ≡ history + rest
-          → new ≡ after + rest
-      left new gone was after rest history a b c = omega (arith, a, b, c)
+  pub purged_counts : (n : ℕ) (tally tally' : Tally) → count_of tally.uses ≡ s.uses → count_of tally.ledger ≡ s.counts
+      → Becomes [] (history_tracks s.history) (history_tracks (purged s.history n)) tally tally'
+      → CountsAfter s.pins (purged s.history n) s.clipboard s.next_layout s.counts (count_of tally'.uses)
+      (count_of tally'.ledger)
+  unfolding may_purge
+  purged_counts n tally tally' uses_are counts_are becomes =
+      let may = may_purge tally uses_are counts_are in record {
+        layouts = is.layouts;
+        numbered = becomes.numbered (pin_tracks s.pins) is.numbered;
+        drawn = becomes.drawn s.next_layout (pin_tracks s.pins) is.drawn;
+        counted = becomes.counted (pin_tracks s.pins) (clip_blocks s.clipboard) is.numbered may.few may.counted;
+        files = λ id. subst (λ (z : Counts). IsSome (count_of tally'.ledger id) ↔ IsSome (z id)) counts_are
+            (becomes.ids id);
+      }
 
 -- a commit without new blocks that a test refuses
 pub tested_out : {D : Type 0} (disk : Ghosts D) (s : Core D) (c : Call) (tracks len : ℕ) (own : Option Refusal)

@@ -1,5 +1,5 @@
 -- Pieces of blocks that are there, and ids that are counted.
-use Rattle.std.proofs.Common.{⊎_elim, refl, ap, subst, ℕ, ◌≤◌, ◌<◌, if◌then◌else◌, IsSome, Option, Some, None, List, []}
+use Rattle.std.proofs.Common.{⊎_elim, refl, ap, subst, ℕ, ◌<◌, if◌then◌else◌, IsSome, Option, Some, None, List, []}
 use Rattle.std.proofs.Common.{◌∷◌, arith}
 use Rattle.std.specs.List.{AllByRecursion}
 use Rattle.std.proofs.lemmas.Bool.Decides.{eqb_tells}
@@ -40,13 +40,15 @@ some_count (Some n) h = refl
 abbrev pub IsCounted : Counts → BlockRef → Type 0
 IsCounted counts b = IsSome (counts b.id)
 
-pub counted_there : (counts : Counts) (bs : List BlockRef) → ((id : ℕ) → times_named id bs ≤ occurrences (counts id))
+pub counted_there : (counts : Counts) (bs : List BlockRef) → ((id : ℕ) → 0 < times_named id bs → 0 < occurrences
+    (counts id))
     → AllByRecursion (IsCounted counts) bs
 counted_there counts [] h = tt
 counted_there counts (b ∷ bs) h = (
-  ⊎_elim (λ (same : _). some_count (counts b.id) (omega (arith, h b.id, ap {B = ℕ} (λ t. if t then 1 else 0) same.0)))
+  ⊎_elim
+      (λ (same : _). some_count (counts b.id) (h b.id (omega (arith, ap {B = ℕ} (λ t. if t then 1 else 0) same.0))))
       (λ other. absurd (other.1 refl)) (eqb_tells b.id b.id),
-  counted_there counts bs (λ id. omega (arith, h id)),
+  counted_there counts bs (λ id some. h id (omega (arith, some))),
 )
 
 pub there_of : (counts : Counts) (bs : List BlockRef) → AllByRecursion (IsCounted counts) bs → HasIds counts bs

@@ -1,5 +1,5 @@
 -- The studio names other blocks, and nothing is asked of the disk.
-use Rattle.std.proofs.Common.{◌≡◌, ◌↔◌, inl, refl, ℕ, ◌^◌, ◌≤◌, IsSome, List, length, Option, Ok, arith}
+use Rattle.std.proofs.Common.{◌≡◌, ◌↔◌, inl, refl, ℕ, ◌^◌, ◌≤◌, IsSome, List, ◌++◌, length, Option, Ok, arith}
 use Rattle.std.specs.List.{AllByRecursion}
 use Rattle.pcm_base.specs.declared.answer.Reply.{Reply}
 use Rattle.pcm_base.specs.declared.block.BlockRef.{BlockRef}
@@ -8,44 +8,48 @@ use Rattle.pcm_base.specs.Run.{CarriesOut}
 use Rattle.disk_model.specs.declared.store.Store.{Ghosts}
 use Rattle.disk_model.proofs.Frames.{Fewer, changed_none}
 use Rattle.sample_block.specs.Sources.{IsWhole}
-use Rattle.block_ledger.specs.Counts.{Counts, occurrences}
+use Rattle.block_ledger.specs.Counts.{Counts}
 use Rattle.clip_track.specs.declared.items.Item.{Item}
 use Rattle.project_state.specs.KeptSound.{IsSoundPoint}
 use Rattle.editor_core.specs.Core.{Core}
 use Rattle.editor_core.specs.declared.studio.Pin.{Pin}
 use Rattle.editor_core.specs.Left.{MayRemove}
-use Rattle.editor_core.specs.Occurrences.{times_named}
+use Rattle.layout_uses.specs.Layouts.{AreDrawn, AreNumbered, history_tracks}
+use Rattle.layout_uses.specs.Tallies.{AreCounts}
 use Rattle.editor_core.specs.Studios.{IsGiven, PinsRise, MayPaste, IsHeld, IsStudio, studio_of, named_blocks}
-use Rattle.editor_core.specs.Studios.{clip_blocks}
+use Rattle.editor_core.specs.Studios.{clip_blocks, pin_tracks}
 use Rattle.editor_core.specs.Took.{Took, quietly, silent}
 use Rattle.editor_core.proofs.Images.{keeps_now}
 use Rattle.editor_core.proofs.Others.{others_none}
 use Rattle.editor_core.proofs.Quiet.{IsQuiet}
 use Rattle.editor_core.proofs.Removing.{PacksNone, RemovesNone, frees_none, ids_still, no_record, none_given}
 
--- another clipboard, other pins and counts
-abbrev pub renamed : {D : Type 0} → Core D → Option (List (List Item)) → List Pin → ℕ → Counts → Core D
-renamed s clip pins next_pin counts = record s { clipboard = clip; pins = pins; next_pin = next_pin; counts = counts }
+-- another clipboard, other pins, uses and counts
+abbrev pub renamed : {D : Type 0} → Core D → Option (List (List Item)) → List Pin → ℕ → Counts → Counts → Core D
+renamed s clip pins next_pin uses counts =
+    record s { clipboard = clip; pins = pins; next_pin = next_pin; uses = uses; counts = counts }
 
 -- these name no blocks but those that the studio names
 pub record Renames {D : Type 0} (s : Core D) (clip : Option (List (List Item))) (pins : List Pin) (next_pin : ℕ)
-    (counts : Counts) : Type 1 where
+    (uses counts : Counts) : Type 1 where
   pub covers : (P : BlockRef → Type 0) → AllByRecursion P (named_blocks s)
-      → AllByRecursion P (named_blocks (renamed s clip pins next_pin counts))
+      → AllByRecursion P (named_blocks (renamed s clip pins next_pin uses counts))
   pub numbers : PinsRise 1 next_pin pins
   pub pin_least : 1 ≤ next_pin
   pub pin_most : next_pin ≤ 2 ^ 62
   pub sound : AllByRecursion (λ (p : Pin). IsSoundPoint s.block_size s.next_block s.next_track p.point) pins
   pub few_clips : length (clip_blocks clip) ≤ 2 ^ 71
   pub clip_fits : MayPaste s.block_size clip
-  pub counted : (id : ℕ) → occurrences (counts id) ≡ times_named id (named_blocks (renamed s clip pins next_pin counts))
+  pub numbered : AreNumbered (history_tracks s.history ++ pin_tracks pins)
+  pub drawn : AreDrawn s.next_layout (history_tracks s.history ++ pin_tracks pins)
+  pub counted : AreCounts (history_tracks s.history ++ pin_tracks pins) (clip_blocks clip) uses counts
   pub ids : (id : ℕ) → IsSome (counts id) ↔ IsSome (s.counts id)
 
 module _ {D : Type 0} (disk : Ghosts D) (s : Core D) (is : IsStudio disk s) (clip : Option (List (List Item)))
-    (pins : List Pin) (next_pin : ℕ) (counts : Counts)
-    (names : Renames s clip pins next_pin counts) where
+    (pins : List Pin) (next_pin : ℕ) (uses counts : Counts)
+    (names : Renames s clip pins next_pin uses counts) where
   abbrev new : Core D
-  new = renamed s clip pins next_pin counts
+  new = renamed s clip pins next_pin uses counts
 
   pub renamed_studio : IsStudio disk new
   renamed_studio = record {
@@ -69,6 +73,9 @@ module _ {D : Type 0} (disk : Ghosts D) (s : Core D) (is : IsStudio disk s) (cli
     numbers = names.numbers;
     clipboard = names.clip_fits;
     ids = names.covers (λ (b : BlockRef). IsGiven s.next_block b.id) is.ids;
+    layouts = is.layouts;
+    numbered = names.numbered;
+    drawn = names.drawn;
     counted = names.counted;
     given = λ id some. is.given id ((names.ids id).0 some);
     cache = is.cache;
@@ -102,7 +109,7 @@ module _ {D : Type 0} (disk : Ghosts D) (s : Core D) (is : IsStudio disk s) (cli
 
   -- `rests` where the studio had stopped
   pub renamed_took : (c : Call) → IsQuiet c → RemovesNone c → PacksNone c → (r : Reply) → Fewer disk s.store
-      → (IsSome s.stopped → new ≡ record s { pins = pins; counts = counts })
+      → (IsSome s.stopped → new ≡ record s { pins = pins; uses = uses; counts = counts })
       → (IsHeld disk s → CarriesOut (studio_of disk s) c silent r (studio_of disk new))
       → Took disk s (quietly c (Ok r)) new
   renamed_took c quiet none plain r fewer rests step = record {

@@ -1,5 +1,5 @@
 -- The journal of a studio is put into one header: each image has the project still, and then the studio stands on it.
-use Rattle.std.proofs.Common.{◌≡◌, inr, ⊎_elim, refl, sym, ◌∙◌, subst, ℕ, ◌+◌, ◌-◌, ◌^◌, ◌≤◌, ◌<◌}
+use Rattle.std.proofs.Common.{◌≡◌, inr, ⊎_elim, ap₂, refl, sym, ◌∙◌, subst, ℕ, ◌+◌, ◌-◌, ◌^◌, ◌≤◌, ◌<◌}
 use Rattle.std.proofs.Common.{Bool, IsTrue, IsSome, List, [], ◌∷◌, ◌++◌, length, map, Some, None, arith, length-append}
 use Rattle.std.proofs.lemmas.List.{length-map}
 use Rattle.std.specs.List.{AllByRecursion}
@@ -23,6 +23,10 @@ use Rattle.project_journal.proofs.Parses.{form_known}
 use Rattle.project_journal.proofs.Texts.{text_is}
 use Rattle.project_state.specs.declared.track.Track.{Track}
 use Rattle.project_state.specs.Kept.{Begins, BeginsBy, IsTold, Keeps, Kept, history_blocks, point_bytes}
+use Rattle.project_state.specs.KeptSound.{IsSoundTagged}
+use Rattle.project_state.specs.Numbers.{AreUnnumbered, unnumbered}
+use Rattle.project_state.proofs.Unnumbered.{are_unnumbered, history_blocks_alike, history_meant_alike, point_alike}
+use Rattle.project_state.proofs.Unnumbered.{sound_alike}
 use Rattle.editor_core.specs.Core.{Core, form_at}
 use Rattle.editor_core.specs.Packing.{packed_base, packed_core, packed_log, packed_size, packed_text, points_in}
 use Rattle.editor_core.specs.Spent.{kept_of}
@@ -42,6 +46,26 @@ begins_by : (points : List (List ℕ)) (log : Log) (base : Kept) → 0 < length 
     → BeginsBy points log base
 begins_by [] log base some told = absurd (omega (arith, some))
 begins_by (p ∷ ps) log base some told = told
+
+abbrev plain_point : List Track × ℕ → List Track × ℕ
+plain_point p = (map unnumbered p.0, p.1)
+
+points_alike : (ps : List (List Track × ℕ)) → map point_bytes ps ≡ map point_bytes (map plain_point ps)
+points_alike [] = refl
+points_alike (p ∷ ps) =
+    ap₂ (λ (bytes : List ℕ) (rest : List (List ℕ)). bytes ∷ rest) (sym (point_alike p.0 p.1)) (points_alike ps)
+
+points_sound : (m block track commit : ℕ) (ps : List (List Track × ℕ))
+    → AllByRecursion (IsSoundTagged m block track commit) ps
+    → AllByRecursion (IsSoundTagged m block track commit) (map plain_point ps)
+points_sound m block track commit [] all = tt
+points_sound m block track commit (p ∷ ps) all =
+    ((sound_alike m block track p.0 all.0.0, all.0.1), points_sound m block track commit ps all.1)
+
+points_plain : (ps : List (List Track × ℕ))
+    → AllByRecursion (λ (p : List Track × ℕ). AreUnnumbered p.0) (map plain_point ps)
+points_plain [] = tt
+points_plain (p ∷ ps) = (are_unnumbered p.0, points_plain ps)
 
 -- each point has a tag and a count of tracks
 points_least : (ps : List (List Track × ℕ)) → 0 < length ps → 16 ≤ points_size (map point_bytes ps)
@@ -79,13 +103,14 @@ module _ {D : Type 0} (disk : Ghosts D) (s : Core D) (is : IsStudio disk s) (lat
   text_begins =
       let many : length (points_in s.history) ≡ length s.history.points = length-map s.history.points point_bytes in
       begins_by (points_in s.history) (packed_log s) (kept_of s) (omega (arith, many, some)) (record {
-        points = refl;
+        points = points_alike s.history.points;
         cursor = refl;
         depth = refl;
         next_block = refl;
         next_track = refl;
         commit = refl;
-        sound = is.points;
+        sound = points_sound s.block_size s.next_block s.next_track s.commit_number s.history.points is.points;
+        unnumbered = points_plain s.history.points;
       })
 
 pub text_size : {D : Type 0} (s : Core D) → 1 + length (packed_text s) ≡ packed_size s
@@ -145,6 +170,9 @@ module _ {D : Type 0} (disk : Ghosts D) (s : Core D) (is : IsStudio disk s) (goi
     numbers = is.numbers;
     clipboard = is.clipboard;
     ids = is.ids;
+    layouts = is.layouts;
+    numbered = is.numbered;
+    drawn = is.drawn;
     counted = is.counted;
     given = is.given;
     cache = λ on. absurd (cc on);
@@ -193,10 +221,20 @@ module _ {D : Type 0} (disk : Ghosts D) (s : Core D) (is : IsStudio disk s) (goi
         (covers_kept disk s d (λ b. c b.id ≡ files b.id) same) (covers_kept disk s d (IsWhole files) held.whole)))
         (λ (has : HasLog (form_2 (other_file s.file)) (packed_log s) c).
         let rest = pin_blocks s.pins ++ clip_blocks s.clipboard in
-        keeps_by (form_2 (other_file s.file)) (packed_log s) (kept_of s) (kept_of s) files c
+        let alike = sym (history_blocks_alike s.history) in
+        subst (Keeps c) (λ i. record {
+          rate = s.rate;
+          block_size = s.block_size;
+          history = history_meant_alike (sources_of files) s.history i;
+          next_track = s.next_track;
+          commit = s.commit_number;
+        })
+        (keeps_by (form_2 (other_file s.file)) (packed_log s) (kept_of s) (kept_of s) files c
         (record { known = inr refl; few = omega arith }) has (text_begins disk s is later history) refl
-        (all_left (λ b. c b.id ≡ files b.id) (history_blocks s.history) rest same)
-        (all_left (IsWhole files) (history_blocks s.history) rest held.whole))
+        (subst (AllByRecursion (λ (b : BlockRef). c b.id ≡ files b.id)) alike
+        (all_left (λ b. c b.id ≡ files b.id) (history_blocks s.history) rest same))
+        (subst (AllByRecursion (IsWhole files)) alike
+        (all_left (IsWhole files) (history_blocks s.history) rest held.whole))))
         (either c since)
 
     -- ---- after it
@@ -232,6 +270,9 @@ module _ {D : Type 0} (disk : Ghosts D) (s : Core D) (is : IsStudio disk s) (goi
       numbers = is.numbers;
       clipboard = is.clipboard;
       ids = is.ids;
+      layouts = is.layouts;
+      numbered = is.numbered;
+      drawn = is.drawn;
       counted = is.counted;
       given = is.given;
       cache = still_cache;

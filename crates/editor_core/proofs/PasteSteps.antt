@@ -33,6 +33,7 @@ use Rattle.project_state.specs.KeptSound.{IsSoundPoint}
 use Rattle.project_state.specs.Tracks.{track_of}
 use Rattle.project_state.proofs.KeptBounds.{all_append}
 use Rattle.project_state.proofs.MeantHistories.{meant_recorded}
+use Rattle.layout_uses.specs.Drawing.{HasNumbers}
 use Rattle.editor_core.specs.declared.carrying.Planned.{Planned}
 use Rattle.pcm_base.specs.declared.edits.Placing.{Placing}
 use Rattle.pcm_base.specs.Edits.{placed}
@@ -72,7 +73,9 @@ module _ {D : Type 0} (disk : Ghosts D) (s : Core D) (is : IsStudio disk s) (e :
   old_sound = current_sound disk s is
 
   module _ (planned : Planned) (p : IsPastePlan e id at s planned) (none : planned.tracks ≡ 0)
-      (keeps : planned.clip ≡ None) where
+      (keeps : planned.clip ≡ None)
+      (numbers : HasNumbers (current_tracks s.history) s.next_layout planned.point
+      (s.next_layout + planned.layouts)) where
     abbrev new : List Track
     new = planned.point
 
@@ -144,7 +147,7 @@ module _ {D : Type 0} (disk : Ghosts D) (s : Core D) (is : IsStudio disk s) (e :
     paste_planned =
         let C : BlockRef → Type 0 = Contains every in
         run_planned disk s is id found.0 found.1 xs xs_named xs_readable fs p.plans laid planned p.laid none
-        s.clipboard behind
+        s.clipboard behind numbers
         (clip_all C (all_left C (named_blocks s) (refs makes) (among_itself every))) is.few_clips is.clipboard
 
     -- ---- what the line means

@@ -1,7 +1,8 @@
 -- A pin is a step: the current project is named once more.
 use Rattle.std.proofs.Common.{◌≡◌, inl, inr, refl, sym, ap, ◌∙◌, subst, ℕ, ◌+◌, ◌^◌, ◌<◌, List, [], ◌∷◌, ◌++◌, Some, None}
-use Rattle.std.proofs.Common.{Ok, Err, arith}
+use Rattle.std.proofs.Common.{Ok, Err, arith, append_assoc, length, IsSome, ◌↔◌}
 use Rattle.std.specs.List.{AllByRecursion}
+use Rattle.std.proofs.lemmas.List.{append-nil}
 use Rattle.pcm_base.specs.declared.answer.Reply.TheVariants.{Pinned}
 use Rattle.pcm_base.specs.declared.block.BlockRef.{BlockRef}
 use Rattle.pcm_base.specs.declared.command.Call.TheVariants.{Pin as Keep}
@@ -14,17 +15,25 @@ use Rattle.pcm_base.specs.Studio as model
 use Rattle.disk_model.specs.declared.store.Store.{Ghosts}
 use Rattle.disk_model.proofs.Frames.{Fewer}
 use Rattle.sample_block.specs.Sources.{sources_of}
-use Rattle.block_ledger.specs.Counts.{Counts, occurrences}
+use Rattle.block_ledger.specs.Counts.{Counts}
+use Rattle.block_ledger.specs.Entries.{count_of}
 use Rattle.project_state.specs.declared.track.Track.{Track}
 use Rattle.project_state.specs.Kept.{current_tracks, point_blocks, history_blocks}
 use Rattle.project_state.specs.KeptSound.{IsSoundPoint}
 use Rattle.project_state.proofs.KeptBounds.{all_append}
 use Rattle.editor_core.specs.Core.{Core}
 use Rattle.editor_core.specs.declared.studio.Pin.{Pin}
-use Rattle.editor_core.specs.Occurrences.{Held, times_named}
-use Rattle.editor_core.specs.Studios.{IsStudio, pin_at, pin_blocks, clip_blocks, named_blocks, studio_of}
+use Rattle.layout_uses.specs.declared.tally.Tally.{Tally}
+use Rattle.layout_uses.specs.Layouts.{AreDrawn, AreNumbered, history_tracks}
+use Rattle.layout_uses.specs.Tallies.{AreCounts, Comes, IsTally}
+use Rattle.layout_uses.proofs.Moves.{counts_swapped, drawn_swapped, numbered_swapped}
+use Rattle.layout_uses.proofs.Numbers.{shared_agree}
+use Rattle.layout_uses.proofs.Putting.{same_numbers}
+use Rattle.editor_core.specs.Studios.{IsStudio, pin_at, pin_blocks, pin_tracks, clip_blocks, named_blocks, studio_of}
+use Rattle.editor_core.specs.Studios.{studio_tracks}
 use Rattle.editor_core.specs.Took.{Took, quietly, silent}
 use Rattle.editor_core.proofs.Editing.{current_sound, current_meant, old_names}
+use Rattle.editor_core.proofs.Layouts.{current_among, tracks_few, tracks_more}
 use Rattle.editor_core.proofs.Lists.{all_left, all_right}
 use Rattle.editor_core.proofs.Naming.{renamed, Renames, renamed_took}
 use Rattle.editor_core.proofs.PinNumbers.{rise_more, with_one, blocks_more}
@@ -32,23 +41,9 @@ use Rattle.editor_core.proofs.Quiet.{IsQuiet, quiet_passes, pins_spent, carried,
 use Rattle.editor_core.proofs.Quiet.{refused_wanting}
 use Rattle.editor_core.proofs.Spaces.{fits, spends}
 use Rattle.editor_core.proofs.Staying.{stopped_not}
-use Rattle.editor_core.proofs.Times.{named_append}
 
 pub pin_quiet : IsQuiet Keep
 pin_quiet = record { needs = λ t. (refl, refl); no_commit = refl; no_track = λ t. refl; quiet = λ t. refl }
-
--- how often an id is named: by points, by pins and by the clipboard
-pub named_parts : {D : Type 0} (s : Core D) (id : ℕ) → times_named id (named_blocks s) ≡ times_named id
-    (history_blocks s.history) + (times_named id (pin_blocks s.pins) + times_named id (clip_blocks s.clipboard))
-named_parts s id =
-    named_append id (history_blocks s.history) (pin_blocks s.pins ++ clip_blocks s.clipboard)
-    ∙ ap (λ (n : ℕ). times_named id (history_blocks s.history) + n)
-    (named_append id (pin_blocks s.pins) (clip_blocks s.clipboard))
-
--- (over plain numbers)
-sum_more : (new was point history pins clip named later : ℕ) → new ≡ was + point → was ≡ named
-    → named ≡ history + (pins + clip) → later ≡ pins + point → new ≡ history + (later + clip)
-sum_more new was point history pins clip named later a b c d = omega (arith, a, b, c, d)
 
 module _ {D : Type 0} (disk : Ghosts D) (s : Core D) (is : IsStudio disk s) (fewer : Fewer disk s.store) where
   abbrev src : Sources
@@ -73,12 +68,51 @@ module _ {D : Type 0} (disk : Ghosts D) (s : Core D) (is : IsStudio disk s) (few
       (all_append P (pin_blocks s.pins) (point_blocks current)
       (all_left P (pin_blocks s.pins) (clip_blocks s.clipboard) rest) (old_names disk s is P all))
 
-  module _ (counts : Counts) (held : Held s.counts counts (point_blocks current)) (room : s.next_pin < 2 ^ 62)
-      (going : s.stopped ≡ None) where
-    abbrev new : Core D
-    new = renamed s s.clipboard pins (s.next_pin + 1) counts
+  -- the tracks of the points, the pins and the new one
+  more_tracks : history_tracks s.history ++ pin_tracks pins ≡ studio_tracks s ++ current
+  more_tracks = ap (λ (ts : List Track). history_tracks s.history ++ ts) (tracks_more s.pins one)
+      ∙ sym (append_assoc (history_tracks s.history) (pin_tracks s.pins) current)
 
-    pin_renames : Renames s s.clipboard pins (s.next_pin + 1) counts
+  -- a stretch in front, and after
+  swapped : studio_tracks s ++ (current ++ []) ≡ studio_tracks s ++ current
+  swapped = ap (λ (ts : List Track). studio_tracks s ++ ts) (append-nil current)
+
+  front_numbered : AreNumbered (current ++ (studio_tracks s ++ []))
+  front_numbered = subst (λ (ts : List Track). AreNumbered (current ++ ts)) (sym (append-nil (studio_tracks s)))
+      (shared_agree current (studio_tracks s) is.numbered (current_among s))
+
+  front_drawn : AreDrawn s.next_layout (current ++ (studio_tracks s ++ []))
+  front_drawn = subst (λ (ts : List Track). AreDrawn s.next_layout (current ++ ts)) (sym (append-nil (studio_tracks s)))
+      ((same_numbers current s.next_layout).drawn (studio_tracks s) is.drawn (current_among s))
+
+  module _ (tally tally' : Tally) (uses_are : count_of tally.uses ≡ s.uses) (counts_are : count_of tally.ledger
+      ≡ s.counts)
+      (came : Comes current tally tally') (room : s.next_pin < 2 ^ 62)
+      (going : s.stopped ≡ None) where
+    abbrev uses : Counts
+    uses = count_of tally'.uses
+
+    abbrev counts : Counts
+    counts = count_of tally'.ledger
+
+    abbrev new : Core D
+    new = renamed s s.clipboard pins (s.next_pin + 1) uses counts
+
+    was : IsTally (studio_tracks s) (clip_blocks s.clipboard) tally
+    was = subst (λ (u : Counts). AreCounts (studio_tracks s) (clip_blocks s.clipboard) u (count_of tally.ledger))
+        (sym uses_are)
+        (subst (λ (c : Counts). AreCounts (studio_tracks s) (clip_blocks s.clipboard) s.uses c) (sym counts_are)
+        is.counted)
+
+    few : length current + length (studio_tracks s) < 2 ^ 128
+    few = omega (arith, tracks_few disk s is, (current_sound disk s is).few)
+
+    counted_front : IsTally (current ++ (studio_tracks s ++ [])) (clip_blocks s.clipboard) tally'
+    counted_front = subst (λ (ts : List Track). IsTally (current ++ ts) (clip_blocks s.clipboard) tally')
+        (sym (append-nil (studio_tracks s)))
+        (came.counted (studio_tracks s) (clip_blocks s.clipboard) few was)
+
+    pin_renames : Renames s s.clipboard pins (s.next_pin + 1) uses counts
     pin_renames = record {
       covers = λ P all.
           let rest = all_right P (history_blocks s.history) (pin_blocks s.pins ++ clip_blocks s.clipboard) all in
@@ -93,16 +127,15 @@ module _ {D : Type 0} (disk : Ghosts D) (s : Core D) (is : IsStudio disk s) (few
           (one ∷ []) is.pins (current_sound disk s is, tt);
       few_clips = is.few_clips;
       clip_fits = is.clipboard;
-      counted = λ id.
-          let more : times_named id (pin_blocks pins)
-          ≡ times_named id (pin_blocks s.pins) + times_named id (point_blocks current) =
-          ap (times_named id) (blocks_more s.pins one) ∙ named_append id (pin_blocks s.pins) (point_blocks current) in
-          sum_more (occurrences (counts id)) (occurrences (s.counts id)) (times_named id (point_blocks current))
-          (times_named id (history_blocks s.history)) (times_named id (pin_blocks s.pins))
-          (times_named id (clip_blocks s.clipboard)) (times_named id (named_blocks s))
-          (times_named id (pin_blocks pins)) (held.counts id) (is.counted id) (named_parts s id) more
-          ∙ sym (named_parts new id);
-      ids = held.ids;
+      numbered = subst AreNumbered (swapped ∙ sym more_tracks)
+          (numbered_swapped current (studio_tracks s) [] front_numbered);
+      drawn = subst (AreDrawn s.next_layout) (swapped ∙ sym more_tracks)
+          (drawn_swapped s.next_layout current (studio_tracks s) [] front_drawn);
+      counted = subst (λ (ts : List Track). AreCounts ts (clip_blocks s.clipboard) uses counts) (swapped
+          ∙ sym more_tracks)
+          (counts_swapped current (studio_tracks s) []
+          (clip_blocks s.clipboard) uses counts front_numbered counted_front);
+      ids = λ id. subst (λ (c : Counts). IsSome (counts id) ↔ IsSome (c id)) counts_are (came.ids id);
     }
 
     pin_state : studio_of disk new ≡ record t { state = after (outside t silent) t.state Keep }
@@ -115,7 +148,7 @@ module _ {D : Type 0} (disk : Ghosts D) (s : Core D) (is : IsStudio disk s) (few
     pinned =
         let passed = quiet_passes t Keep pin_quiet (room_of disk s Keep is) refl (ap stop_of going) refl
         (fits s.next_pin 1 (omega (arith, room))) in
-        renamed_took disk s is s.clipboard pins (s.next_pin + 1) counts pin_renames Keep pin_quiet tt tt
+        renamed_took disk s is s.clipboard pins (s.next_pin + 1) uses counts pin_renames Keep pin_quiet tt tt
         (Pinned s.next_pin) fewer (λ some. absurd (stopped_not s.stopped some going))
         (λ _. carried t Keep pin_quiet (room_of disk s Keep is) refl (Pinned s.next_pin)
         (studio_of disk new) passed refl pin_state)

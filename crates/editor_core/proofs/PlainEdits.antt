@@ -1,6 +1,6 @@
 -- An edit that makes no blocks: the project that it makes, and its commit.
 use Rattle.std.proofs.Common.{◌≡◌, nat_lt, refl, sym, ap, ◌∙◌, subst, ℕ, ◌+◌, ◌^◌, ◌≤◌, ◌<◌, List, [], ◌∷◌, ◌++◌}
-use Rattle.std.proofs.Common.{length, length-append, arith, ⊎_elim, None, Ok, Err}
+use Rattle.std.proofs.Common.{length, length-append, arith, ⊎_elim, inr, None, Ok, Err}
 use Rattle.std.proofs.lemmas.Bool.Decides.{leb_tells}
 use Rattle.std.proofs.lemmas.List.{length-map, map-append}
 use Rattle.std.proofs.lemmas.Option.{none-some}
@@ -22,30 +22,38 @@ use Rattle.pcm_base.specs.Step.{after_line, new_track}
 use Rattle.disk_model.specs.declared.store.Store.{Ghosts}
 use Rattle.disk_model.proofs.Frames.{Fewer}
 use Rattle.block_ledger.specs.Counts.{Counts}
+use Rattle.block_ledger.specs.Entries.{count_of}
 use Rattle.clip_track.specs.declared.clips.Clip.{Clip}
 use Rattle.clip_track.specs.Clips.{IsLayout, AllHalfFull, layout_blocks}
 use Rattle.project_state.specs.declared.body.Body.TheVariants.{Edit}
 use Rattle.project_state.specs.declared.track.Track.{Track}
-use Rattle.project_state.specs.Kept.{meant, meant_track, meant_history, point_blocks, history_blocks}
+use Rattle.project_state.specs.Kept.{meant, meant_track, meant_history, point_blocks}
 use Rattle.project_state.specs.KeptSound.{IsSoundPoint}
 use Rattle.project_state.specs.Sound.{IsSoundTrack, AllClipsGiven}
 use Rattle.pcm_base.specs.Pieces.{Sources}
+use Rattle.layout_uses.specs.declared.tally.Tally.{Tally}
+use Rattle.layout_uses.specs.Drawing.{HasNumbers}
+use Rattle.layout_uses.specs.Layouts.{history_tracks}
+use Rattle.layout_uses.specs.Tallies.{AreCounts, Becomes, MayBecome}
+use Rattle.layout_uses.proofs.Draws.{found_among, numbers_more}
+use Rattle.layout_uses.proofs.Putting.{IsLike, same_numbers, set_numbers, without_numbers}
 use Rattle.editor_core.specs.Adding.{AddsBody}
 use Rattle.editor_core.specs.Bodies.{IsLength, Writing, single}
 use Rattle.editor_core.specs.Core.{Core}
-use Rattle.editor_core.specs.Occurrences.{Moves}
-use Rattle.editor_core.specs.Plain.{line_of, IsGood, tracks_by, refusal_by, set_by, IsSet, IsEdited, without}
-use Rattle.editor_core.specs.Plain.{empty_track}
+use Rattle.editor_core.specs.Plain.{line_of, IsGood, layouts_by, tracks_by, refusal_by, set_by, IsSet, IsEdited}
+use Rattle.editor_core.specs.Plain.{empty_track, without}
 use Rattle.editor_core.specs.Points.{put_in, put_one}
-use Rattle.editor_core.specs.Studios.{IsHeld, IsStudio, named_blocks, studio_of}
+use Rattle.editor_core.specs.Studios.{IsHeld, IsStudio, clip_blocks, named_blocks, studio_of, studio_tracks}
 use Rattle.editor_core.specs.Took.{Took, quietly, silent}
 use Rattle.editor_core.specs.declared.plain.PlainEdit.{PlainEdit}
 use Rattle.editor_core.specs.declared.plain.PlainEdit.TheVariants as edit
 use Rattle.editor_core.proofs.Flights.{IsCommit, clip_stays}
 use Rattle.editor_core.proofs.Committing.{fails}
 use Rattle.editor_core.proofs.Editing.{old, now, src, current_sound, current_below, current_meant, track_is, old_names}
-use Rattle.editor_core.proofs.Editing.{pointed, pointed_so, then_current, counts_then, point_commit, sound_later}
+use Rattle.editor_core.proofs.Editing.{counts_then, may_become, pointed, pointed_so, then_current, point_commit}
+use Rattle.editor_core.proofs.Editing.{sound_later}
 use Rattle.editor_core.proofs.Growing.{grows_so}
+use Rattle.editor_core.proofs.Grown.{CountsAfter}
 use Rattle.editor_core.proofs.BodyBytes.{lengths_most}
 use Rattle.editor_core.proofs.Lists.{all_left}
 use Rattle.editor_core.proofs.Staying.{none_made}
@@ -71,6 +79,15 @@ module _ {D : Type 0} (disk : Ghosts D) (s : Core D) (is : IsStudio disk s) wher
   own_is (edit.Level id gain) = track_is disk s is id
   own_is (edit.Side id side) = track_is disk s is id
   own_is (edit.Mute id mute) = track_is disk s is id
+
+  -- the studio's counts, by the tally that has them
+  same_counts : (tally : Tally) → count_of tally.uses ≡ s.uses → count_of tally.ledger ≡ s.counts
+      → AreCounts (studio_tracks s) (clip_blocks s.clipboard) (count_of tally.uses) (count_of tally.ledger)
+  same_counts tally uses_are counts_are =
+      subst (λ (u : Counts). AreCounts (studio_tracks s) (clip_blocks s.clipboard) u (count_of tally.ledger))
+      (sym uses_are)
+      (subst (λ (z : Counts). AreCounts (studio_tracks s) (clip_blocks s.clipboard) s.uses z) (sym counts_are)
+      is.counted)
 
   -- ---- one track set
   module _ (id : ℕ) (g : Track → Track) (f : cells.Track → cells.Track) (sets : Sets g f) (p : List Track)
@@ -114,6 +131,21 @@ module _ {D : Type 0} (disk : Ghosts D) (s : Core D) (is : IsStudio disk s) wher
         (layout_of P id was set.track set.found mine) in
         subst (λ (z : List Track). AllByRecursion P (point_blocks z)) (sym set.is) (put_all P new was one mine)
 
+    set_like : IsLike was new
+    set_like = record {
+      old = set.track;
+      among = found_among id was set.track set.found;
+      number = sym (sets.number set.track);
+      layout = sym (sets.layout set.track);
+    }
+
+    set_has : HasNumbers was s.next_layout p (s.next_layout + 0)
+    set_has =
+        let none : s.next_layout ≡ s.next_layout + 0 = omega arith in
+        subst (λ (n : ℕ). HasNumbers was s.next_layout p n) none
+        (subst (λ (z : List Track). HasNumbers was s.next_layout z s.next_layout) (sym set.is)
+        (set_numbers was s.next_layout new set_like))
+
     set_means : changed_at id f (current (now disk s is)) ≡ meant samples p
     set_means =
         ap (changed_at id f) (current_meant disk s is)
@@ -129,10 +161,11 @@ module _ {D : Type 0} (disk : Ghosts D) (s : Core D) (is : IsStudio disk s) wher
       → IsSoundPoint s.block_size s.next_block (s.next_track + 0) p
   none_given p = sound_later s.block_size s.next_block s.next_track (s.next_track + 0) p (omega arith)
 
-  sound_by : (e : PlainEdit) → IsGood e → refusal_by e was ≡ None → (p : List Track) → IsEdited e s.next_track was p
+  sound_by : (e : PlainEdit) → IsGood e → refusal_by e was ≡ None → (p : List Track)
+      → IsEdited e s.next_track s.next_layout was p
       → IsSoundPoint s.block_size s.next_block (s.next_track + tracks_by e) p
   sound_by edit.Track good none p ed =
-      let t : Track = empty_track s.next_track in
+      let t : Track = empty_track s.next_track s.next_layout in
       let m : ℕ = s.block_size in
       let sound = current_sound disk s is in
       let later : IsSoundPoint m s.next_block (s.next_track + 1) was =
@@ -166,10 +199,11 @@ module _ {D : Type 0} (disk : Ghosts D) (s : Core D) (is : IsStudio disk s) wher
   sound_by (edit.Mute id mute) good none p ed =
       none_given p (set_sound id (set_by (edit.Mute id mute)) _ (sets_mute id mute) p ed)
 
-  names_by : (e : PlainEdit) → IsGood e → (p : List Track) → IsEdited e s.next_track was p → (P : BlockRef → Type 0)
+  names_by : (e : PlainEdit) → IsGood e → (p : List Track) → IsEdited e s.next_track s.next_layout was p →
+      (P : BlockRef → Type 0)
       → AllByRecursion P (named_blocks s) → AllByRecursion P (point_blocks p)
   names_by edit.Track good p ed P all = subst (λ (z : List Track). AllByRecursion P (point_blocks z)) (sym ed)
-      (more_blocks P was s.next_track (old_names disk s is P all))
+      (more_blocks P was s.next_track s.next_layout (old_names disk s is P all))
   names_by (edit.Drop id) good p ed P all = subst (λ (z : List Track). AllByRecursion P (point_blocks z)) (sym ed)
       (without_blocks P id was (old_names disk s is P all))
   names_by (edit.Level id gain) good p ed P all =
@@ -179,7 +213,25 @@ module _ {D : Type 0} (disk : Ghosts D) (s : Core D) (is : IsStudio disk s) wher
   names_by (edit.Mute id mute) good p ed P all =
       set_names id (set_by (edit.Mute id mute)) _ (sets_mute id mute) p ed P all
 
-  model_by : (e : PlainEdit) → IsGood e → (p : List Track) → IsEdited e s.next_track was p
+  -- the numbers of its layouts
+  numbers_by : (e : PlainEdit) → IsGood e → (p : List Track) → IsEdited e s.next_track s.next_layout was p
+      → HasNumbers was s.next_layout p (s.next_layout + layouts_by e)
+  numbers_by edit.Track good p ed =
+      let next : ℕ = s.next_layout in
+      subst (λ (z : List Track). HasNumbers was next z (next + 1)) (sym ed)
+      (numbers_more was next was next (same_numbers was next) (empty_track s.next_track next) (inr refl) (next + 1)
+      (omega arith) (λ e. omega arith))
+  numbers_by (edit.Drop id) good p ed =
+      let none : s.next_layout ≡ s.next_layout + 0 = omega arith in
+      subst (λ (n : ℕ). HasNumbers was s.next_layout p n) none
+      (subst (λ (z : List Track). HasNumbers was s.next_layout z s.next_layout) (sym ed)
+      (without_numbers was s.next_layout id))
+  numbers_by (edit.Level id gain) good p ed =
+      set_has id (set_by (edit.Level id gain)) _ (sets_gain id gain good) p ed
+  numbers_by (edit.Side id side) good p ed = set_has id (set_by (edit.Side id side)) _ (sets_side id side) p ed
+  numbers_by (edit.Mute id mute) good p ed = set_has id (set_by (edit.Mute id mute)) _ (sets_mute id mute) p ed
+
+  model_by : (e : PlainEdit) → IsGood e → (p : List Track) → IsEdited e s.next_track s.next_layout was p
       → after_line (outside (studio_of disk s) silent) (now disk s is) (line_of e)
       ≡ record (now disk s is) {
         history = meant_history samples (edited s.history p 0);
@@ -187,8 +239,9 @@ module _ {D : Type 0} (disk : Ghosts D) (s : Core D) (is : IsStudio disk s) wher
         commit = s.commit_number + 1;
       }
   model_by edit.Track good p ed =
-      let more : meant samples (was ++ empty_track s.next_track ∷ []) ≡ meant samples was ++ new_track s.next_track []
-      ∷ [] = map-append (meant_track samples) was (empty_track s.next_track ∷ []) in
+      let more : meant samples (was ++ empty_track s.next_track s.next_layout ∷ [])
+      ≡ meant samples was ++ new_track s.next_track [] ∷ [] =
+      map-append (meant_track samples) was (empty_track s.next_track s.next_layout ∷ []) in
       pointed disk s is p (current (now disk s is) ++ new_track s.next_track [] ∷ []) (s.next_track + 1)
       (ap (λ (q : Project). q ++ new_track s.next_track [] ∷ []) (current_meant disk s is) ∙ sym more
       ∙ sym (ap (meant samples) ed))
@@ -217,7 +270,7 @@ module _ {D : Type 0} (disk : Ghosts D) (s : Core D) (is : IsStudio disk s) wher
   needs_none e = needs_so e 0 (omega arith)
 
   module _ (e : PlainEdit) (good : IsGood e) (none : refusal_by e was ≡ None) (p : List Track)
-      (ed : IsEdited e s.next_track was p) where
+      (ed : IsEdited e s.next_track s.next_layout was p) where
     abbrev track_then : ℕ
     track_then = s.next_track + tracks_by e
 
@@ -230,6 +283,31 @@ module _ {D : Type 0} (disk : Ghosts D) (s : Core D) (is : IsStudio disk s) wher
     -- it names no other blocks
     pub names : (P : BlockRef → Type 0) → AllByRecursion P (named_blocks s) → AllByRecursion P (point_blocks p)
     names = names_by e good p ed
+
+    -- the numbers of its layouts
+    numbers : HasNumbers was s.next_layout p (s.next_layout + layouts_by e)
+    numbers = numbers_by e good p ed
+
+    -- its layouts may be counted, by the counts of the studio
+    pub edit_may : (tally : Tally) → count_of tally.uses ≡ s.uses → count_of tally.ledger ≡ s.counts
+        → MayBecome p (history_tracks s.history) tally
+    edit_may tally uses_are counts_are =
+        may_become disk s is p (s.next_layout + layouts_by e) numbers sound.few tally
+        (same_counts tally uses_are counts_are)
+
+    -- and the counts after it
+    pub edit_counts : (tally tally' : Tally) → count_of tally.uses ≡ s.uses → count_of tally.ledger ≡ s.counts
+        → s.next_layout + layouts_by e ≤ 2 ^ 62
+        → Becomes p (history_tracks s.history) (history_tracks (edited s.history p 0)) tally tally'
+        → CountsAfter s.pins (edited s.history p 0) s.clipboard (s.next_layout + layouts_by e) s.counts
+        (count_of tally'.uses) (count_of tally'.ledger)
+    edit_counts tally tally' uses_are counts_are most becomes =
+        subst (λ (ids : Counts). CountsAfter s.pins (edited s.history p 0) s.clipboard
+        (s.next_layout + layouts_by e) ids
+        (count_of tally'.uses) (count_of tally'.ledger)) counts_are
+        (counts_then disk s is p (s.next_layout + layouts_by e)
+        (edited s.history p 0) tally tally' numbers sound.few most
+        (same_counts tally uses_are counts_are) becomes)
 
     short : (n : ℕ) → IsLength s record_of n → n ≤ project_body_most s.block_size
         (current (after_line (outside (studio_of disk s) silent) (now disk s is) (line_of e)))
@@ -259,16 +337,27 @@ module _ {D : Type 0} (disk : Ghosts D) (s : Core D) (is : IsStudio disk s) wher
             fails disk s [] (Line (line_of e)) silent (tracks_by e) record_of (edited s.history p 0) s.clipboard
             track_then is (none_made disk s) edits going own ids (omega (arith, number)) why mid fewer adds
 
-        pub edit_done : {Q : Type 0} (q : Q) (mid : Core D) (h' : History (List Track)) (counts : Counts)
-            (next_track : ℕ)
+        pub edit_done : {Q : Type 0} (q : Q) (mid : Core D) (h' : History (List Track)) (uses counts : Counts)
+            (next_track next_layout : ℕ)
             → AddsBody disk s record_of (Ok q) mid → h' ≡ edited s.history p 0
-            → Moves s.counts counts (history_blocks s.history) (history_blocks (edited s.history p 0))
-            → next_track ≡ track_then → Took disk s (quietly (Line (line_of e)) (Ok Done))
-            (record mid { history = h'; counts = counts; next_track = next_track })
-        edit_done q mid h' counts next_track adds moved moves tracked =
+            → CountsAfter s.pins (edited s.history p 0) s.clipboard next_layout s.counts uses counts
+            → next_track ≡ track_then → Took disk s (quietly (Line (line_of e)) (Ok Done)) (record mid {
+              history = h';
+              uses = uses;
+              counts = counts;
+              next_track = next_track;
+              next_layout = next_layout;
+            })
+        edit_done q mid h' uses counts next_track next_layout adds moved after tracked =
             let clip = ap (λ (z : Core D). z.clipboard) adds.fields.0 in
             let took = grows_so disk s [] (Line (line_of e)) silent (tracks_by e) record_of (edited s.history p 0)
             s.clipboard track_then is (none_made disk s) edits going own ids (omega (arith, number)) q mid adds
-            h' counts next_track moved tracked (counts_then disk s is (edited s.history p 0) counts moves) moves.ids in
-            subst (λ z. Took disk s (quietly (Line (line_of e)) (Ok Done))
-            (record mid { history = h'; clipboard = z; counts = counts; next_track = next_track })) (sym clip) took
+            h' uses counts next_track next_layout moved tracked after in
+            subst (λ z. Took disk s (quietly (Line (line_of e)) (Ok Done)) (record mid {
+              history = h';
+              clipboard = z;
+              uses = uses;
+              counts = counts;
+              next_track = next_track;
+              next_layout = next_layout;
+            })) (sym clip) took

@@ -73,18 +73,37 @@ call_by (edit.Mute id mute) = record {
 -- what sets something of a track, and what that means
 pub record Sets (g : Track → Track) (f : cells.Track → cells.Track) : Type 0 where
   pub id : (t : Track) → (g t).id ≡ t.id
+  pub number : (t : Track) → (g t).number ≡ t.number
   pub layout : (t : Track) → (g t).layout ≡ t.layout
   pub gain : (t : Track) → t.gain ≤ 1048576 → (g t).gain ≤ 1048576
   pub changes : (src : Sources) (t : Track) → meant_track src (g t) ≡ f (meant_track src t)
 
 pub sets_gain : (id gain : ℕ) → gain ≤ 1048576
     → Sets (set_by (edit.Level id gain)) (λ (t : cells.Track). record t { gain = gain })
-sets_gain id gain good = record { id = λ t. refl; layout = λ t. refl; gain = λ t h. good; changes = λ src t. refl }
+sets_gain id gain good = record {
+  id = λ t. refl;
+  number = λ t. refl;
+  layout = λ t. refl;
+  gain = λ t h. good;
+  changes = λ src t. refl;
+}
 
 pub sets_side : (id : ℕ) (side : Side)
     → Sets (set_by (edit.Side id side)) (λ (t : cells.Track). record t { side = side })
-sets_side id side = record { id = λ t. refl; layout = λ t. refl; gain = λ t h. h; changes = λ src t. refl }
+sets_side id side = record {
+  id = λ t. refl;
+  number = λ t. refl;
+  layout = λ t. refl;
+  gain = λ t h. h;
+  changes = λ src t. refl;
+}
 
 pub sets_mute : (id : ℕ) (mute : Bool)
     → Sets (set_by (edit.Mute id mute)) (λ (t : cells.Track). record t { mute = mute })
-sets_mute id mute = record { id = λ t. refl; layout = λ t. refl; gain = λ t h. h; changes = λ src t. refl }
+sets_mute id mute = record {
+  id = λ t. refl;
+  number = λ t. refl;
+  layout = λ t. refl;
+  gain = λ t h. h;
+  changes = λ src t. refl;
+}

@@ -36,7 +36,7 @@ pub record TookWhere {D : Type 0} (Has : Type 0) (disk : Ghosts D) (old : Core D
       → OnErr told (EachSince disk old.store new.store (λ c. Keeps c (shown (studio_of disk old))))
   pub now : new.stopped ≡ None → Has → EachNow disk new.store (λ c. Keeps c (shown (studio_of disk new)))
   pub number : new.commit_number ≡ number_behind told call old.commit_number
-  pub rests : IsSome old.stopped → new ≡ record old { pins = new.pins; counts = new.counts }
+  pub rests : IsSome old.stopped → new ≡ record old { pins = new.pins; uses = new.uses; counts = new.counts }
   pub len : ℕ
   pub needs : Has → (blocks : ℕ) × Needs (outside (studio_of disk old) sound) (studio_of disk old) call blocks len
   pub records : Records old told new len

@@ -1,15 +1,17 @@
 -- A history in which a point was recorded under a tag: what holds of its points, and which is its current one.
-use Rattle.std.proofs.Common.{◌≡◌, refl, ℕ, zero, suc, ◌+◌, ◌≤◌, Bool, true, false, if◌then◌else◌, List, [], ◌∷◌, map}
-use Rattle.std.proofs.Common.{take, length, arith}
+use Rattle.std.proofs.Common.{◌≡◌, refl, sym, subst, ℕ, zero, suc, ◌+◌, ◌≤◌, Bool, true, false, if◌then◌else◌, List, []}
+use Rattle.std.proofs.Common.{◌∷◌, map, take, length, arith}
 use Rattle.std.specs.Prelude.{slice_index}
 use Rattle.std.specs.List.{AllByRecursion}
 use Rattle.pcm_base.specs.declared.block.BlockRef.{BlockRef}
 use Rattle.pcm_base.specs.History.{History, kept, edited, amended, is_of_recording, recorded, tag_of, tags_of}
 use Rattle.project_state.specs.declared.track.Track.{Track}
 use Rattle.project_state.specs.Kept.{current_tracks, point_blocks, history_blocks}
-use Rattle.editor_core.proofs.Histories.{ending_all, ending_current, ending_few}
+use Rattle.layout_uses.specs.declared.tally.Tally.{Tally}
+use Rattle.layout_uses.specs.Layouts.{history_tracks}
+use Rattle.layout_uses.specs.Tallies.{Becomes}
+use Rattle.editor_core.proofs.Histories.{Tagged, ending_all, ending_current, ending_few}
 use Rattle.editor_core.proofs.Lists.{all_take, all_each, all_joined}
-use Rattle.editor_core.proofs.Pushes.{Tagged}
 
 either : (P : History (List Track) → Type 0) (b : Bool) (x y : History (List Track)) → P x → P y
     → P (if b then x else y)
@@ -61,3 +63,18 @@ tag_low commit (p ∷ ps) (suc i) all = tag_low commit ps i all.1
 pub tag_here : (commit : ℕ) (h : History (List Track)) → AllByRecursion (λ p. p.1 ≤ commit) h.points
     → slice_index (tags_of h) h.cursor ≤ commit
 tag_here commit h all = tag_low commit h.points h.cursor all
+
+-- ---- what is counted then
+
+module _ (h : History (List Track)) (p : List Track) (tag : ℕ) (old new : Tally) where
+  abbrev BecomesBy : History (List Track) → Type 0
+  BecomesBy z = Becomes p (history_tracks h) (history_tracks z) old new
+
+  abbrev by_test : Bool → History (List Track)
+  by_test b = if b then amended h p else edited h p tag
+
+  pub becomes_in_place : is_of_recording h tag ≡ true → BecomesBy (amended h p) → BecomesBy (recorded h p tag)
+  becomes_in_place is becomes = subst (λ (b : Bool). BecomesBy (by_test b)) (sym is) becomes
+
+  pub becomes_behind : is_of_recording h tag ≡ false → BecomesBy (edited h p tag) → BecomesBy (recorded h p tag)
+  becomes_behind is becomes = subst (λ (b : Bool). BecomesBy (by_test b)) (sym is) becomes

@@ -16,6 +16,7 @@ use Rattle.project_state.specs.declared.track.Track.{Track}
 use Rattle.project_state.specs.Kept.{current_tracks, meant, point_blocks}
 use Rattle.project_state.specs.KeptSound.{IsSoundPoint}
 use Rattle.project_state.specs.Tracks.{track_of}
+use Rattle.layout_uses.specs.Drawing.{HasNumbers}
 use Rattle.editor_core.specs.declared.carrying.Planned.{Planned}
 use Rattle.editor_core.specs.Core.{Core}
 use Rattle.editor_core.specs.Edits.{AreAmong, IsPlanned, alone, beside, blocks_with, clip_behind, tagged_by}
@@ -38,7 +39,7 @@ module _ {D : Type 0} (disk : Ghosts D) (s : Core D) (is : IsStudio disk s) (id 
     (xs : List BlockRef) (named : AreAmong (named_blocks s) xs) (readable : AllNamed xs)
     (fs : List CellEdit) (plans : List Plan)
     (laid : AreLaid fs s.block_size s.next_block xs (from_track id (current_tracks s.history)) plans)
-    (p : Planned) (run : IsRunPlan id s.next_block (current_tracks s.history) plans p) where
+    (p : Planned) (run : IsRunPlan id s.next_block s.next_layout (current_tracks s.history) plans p) where
   abbrev old : List Track
   old = current_tracks s.history
 
@@ -83,40 +84,42 @@ module _ {D : Type 0} (disk : Ghosts D) (s : Core D) (is : IsStudio disk s) (id 
       sound_plans m (s.next_block + n) plans run.layouts (laid_half_full fs m s.next_block xs ran plans laid)
       (all_laid Q was made)
 
-  laid_is_sound : IsSoundPoint m (s.next_block + n) (s.next_track + 0) (laid_from id plans old)
+  laid_is_sound : IsSoundPoint m (s.next_block + n) (s.next_track + 0) (laid_from id plans s.next_layout old)
   laid_is_sound =
       let later = point_more m s.next_block s.next_track (s.next_block + n) (s.next_track + 0) old (omega arith)
       (omega arith) old_sound in
       record {
-        few = omega (arith, laid_length id plans old, old_sound.few);
-        rising = laid_rising id 1 plans old old_sound.rising;
-        sound = laid_sound m (s.next_block + n) (s.next_track + 0) id plans old given_then later.sound;
+        few = omega (arith, laid_length id plans s.next_layout old, old_sound.few);
+        rising = laid_rising id 1 plans s.next_layout old old_sound.rising;
+        sound = laid_sound m (s.next_block + n) (s.next_track + 0) id plans s.next_layout old given_then later.sound;
       }
 
-  laid_are_named : AreAmong every (point_blocks (laid_from id plans old))
+  laid_are_named : AreAmong every (point_blocks (laid_from id plans s.next_layout old))
   laid_are_named =
       let C : BlockRef → Type 0 = Contains every in
       let was = all_left C (named_blocks s) (refs makes) (among_itself every) in
       let made = all_right C (named_blocks s) (refs makes) (among_itself every) in
-      laid_names C id plans old (all_laid C was made) (old_names disk s is C was)
+      laid_names C id plans s.next_layout old (all_laid C was made) (old_names disk s is C was)
 
   -- each new block stands in a track of the run
-  laid_used : AreAmong (point_blocks (laid_from id plans old)) (refs makes)
+  laid_used : AreAmong (point_blocks (laid_from id plans s.next_layout old)) (refs makes)
   laid_used =
-      let point = point_blocks (laid_from id plans old) in
+      let point = point_blocks (laid_from id plans s.next_layout old) in
       subst (λ (bs : List NewBlock). AreAmong point (refs bs)) (sym run.makes_is)
-      (laid_in (Contains point) fs m s.next_block xs id 1 old track plans old_sound.rising found laid
+      (laid_in (Contains point) fs m s.next_block xs id 1 old track plans s.next_layout old_sound.rising found laid
       (among_itself point))
 
   pub run_planned : p.tracks ≡ 0 → (clip : Option (List (List Item))) → clip_behind s p ≡ clip
+      → HasNumbers old s.next_layout p.point (s.next_layout + p.layouts)
       → AreAmong every (clip_blocks clip) → length (clip_blocks clip) ≤ 2 ^ 71 → MayPaste m clip
       → IsPlanned s (tagged_by p 0 0 (brought_by Nothing) (brought Nothing))
-  run_planned none clip behind clip_names clip_few clip_fits = record {
+  run_planned none clip behind numbers clip_names clip_few clip_fits = record {
     new = fresh;
     readable = all_readable m s.next_block 0 xs makes readable origin fresh;
     origin = new_from_more xs (named_blocks s) 0 makes named origin;
     tag_given = omega arith;
     tag_counts = λ some. absurd (omega (arith, some));
+    layouts = numbers;
     sound = subst (λ (k : ℕ). IsSoundPoint m (s.next_block + n) (s.next_track + k) p.point) (sym none)
         (subst (IsSoundPoint m (s.next_block + n) (s.next_track + 0)) (sym run.is) laid_is_sound);
     names = subst (λ (q : List Track). AreAmong every (point_blocks q)) (sym run.is) laid_are_named;
@@ -135,5 +138,5 @@ module _ {D : Type 0} (disk : Ghosts D) (s : Core D) (is : IsStudio disk s) (id 
       → meant (alone block) p.point ≡ run_edited id (edits_at (alone block) fs) (meant (alone block) old)
   run_point block written =
       ap (meant (alone block)) run.is
-      ∙ laid_means (alone block) fs m s.next_block xs id 1 old track plans old_sound.rising found laid
-      (subst (AreWritten (alone block)) run.makes_is written)
+      ∙ laid_means (alone block) fs m s.next_block xs id 1 old track plans s.next_layout
+      old_sound.rising found laid (subst (AreWritten (alone block)) run.makes_is written)

@@ -155,51 +155,54 @@ laid_half_full (f ∷ fs) m next xs (t ∷ ts) (p ∷ ps) laid =
 
 -- ---- the tracks
 
-id_by : (ps : List Plan) (t : Track) → (laid_by ps t).id ≡ t.id
-id_by [] t = refl
-id_by (p ∷ ps) t = refl
+id_by : (ps : List Plan) (number : ℕ) (t : Track) → (laid_by ps number t).id ≡ t.id
+id_by [] number t = refl
+id_by (p ∷ ps) number t = refl
 
-pub laid_length : (id : ℕ) (ps : List Plan) (ts : List Track) → length (laid_from id ps ts) ≡ length ts
-laid_length id ps [] = refl
-laid_length id ps (t ∷ ts) = ⊎_elim
-    (λ in_run. rw (in_run.0) (omega (arith, laid_length id (drop 1 ps) ts)))
-    (λ before. rw (before.0) (omega (arith, laid_length id ps ts)))
+pub laid_length : (id : ℕ) (ps : List Plan) (number : ℕ) (ts : List Track)
+    → length (laid_from id ps number ts) ≡ length ts
+laid_length id ps number [] = refl
+laid_length id ps number (t ∷ ts) = ⊎_elim
+    (λ in_run. rw (in_run.0) (omega (arith, laid_length id (drop 1 ps) (number + 1) ts)))
+    (λ before. rw (before.0) (omega (arith, laid_length id ps number ts)))
     (leb_tells id t.id)
 
-pub laid_rising : (id n : ℕ) (ps : List Plan) (ts : List Track) → AreAbove n ts → AreAbove n (laid_from id ps ts)
-laid_rising id n ps [] above = tt
-laid_rising id n ps (t ∷ ts) above = ⊎_elim
+pub laid_rising : (id n : ℕ) (ps : List Plan) (number : ℕ) (ts : List Track) → AreAbove n ts
+    → AreAbove n (laid_from id ps number ts)
+laid_rising id n ps number [] above = tt
+laid_rising id n ps number (t ∷ ts) above = ⊎_elim
     (λ in_run.
-    let same = id_by ps t in
+    let same = id_by ps number t in
     rw (in_run.0) (
       omega (arith, same, above.0),
-      subst (λ (k : ℕ). AreAbove (k + 1) (laid_from id (drop 1 ps) ts))
-          (sym same) (laid_rising id (t.id + 1) (drop 1 ps) ts above.1),
+      subst (λ (k : ℕ). AreAbove (k + 1) (laid_from id (drop 1 ps) (number + 1) ts))
+          (sym same) (laid_rising id (t.id + 1) (drop 1 ps) (number + 1) ts above.1),
     ))
-    (λ before. rw (before.0) (above.0, laid_rising id (t.id + 1) ps ts above.1))
+    (λ before. rw (before.0) (above.0, laid_rising id (t.id + 1) ps number ts above.1))
     (leb_tells id t.id)
 
 module _ (P : BlockRef → Type 0) where
-  all_by : (ps : List Plan) (t : Track) → LayoutsAll P ps → AllByRecursion P (layout_blocks t.layout)
-      → AllByRecursion P (layout_blocks (laid_by ps t).layout)
-  all_by [] t laid all = all
-  all_by (p ∷ ps) t laid all = laid.0
+  all_by : (ps : List Plan) (number : ℕ) (t : Track) → LayoutsAll P ps → AllByRecursion P (layout_blocks t.layout)
+      → AllByRecursion P (layout_blocks (laid_by ps number t).layout)
+  all_by [] number t laid all = all
+  all_by (p ∷ ps) number t laid all = laid.0
 
   rest_all : (ps : List Plan) → LayoutsAll P ps → LayoutsAll P (drop 1 ps)
   rest_all [] laid = tt
   rest_all (p ∷ ps) laid = laid.1
 
-  pub laid_names : (id : ℕ) (ps : List Plan) (ts : List Track) → LayoutsAll P ps → AllByRecursion P (point_blocks ts)
-      → AllByRecursion P (point_blocks (laid_from id ps ts))
-  laid_names id ps [] laid all = tt
-  laid_names id ps (t ∷ ts) laid all =
+  pub laid_names : (id : ℕ) (ps : List Plan) (number : ℕ) (ts : List Track) → LayoutsAll P ps
+      → AllByRecursion P (point_blocks ts) → AllByRecursion P (point_blocks (laid_from id ps number ts))
+  laid_names id ps number [] laid all = tt
+  laid_names id ps number (t ∷ ts) laid all =
       let here = all_left P (layout_blocks t.layout) (point_blocks ts) all in
       let later = all_right P (layout_blocks t.layout) (point_blocks ts) all in
       ⊎_elim
-      (λ in_run. rw (in_run.0) (all_append P (layout_blocks (laid_by ps t).layout) (point_blocks (laid_from id
-      (drop 1 ps) ts)) (all_by ps t laid here) (laid_names id (drop 1 ps) ts (rest_all ps laid) later)))
-      (λ before. rw (before.0) (all_append P (layout_blocks t.layout) (point_blocks (laid_from id ps ts)) here
-      (laid_names id ps ts laid later)))
+      (λ in_run. rw (in_run.0) (all_append P (layout_blocks (laid_by ps number t).layout)
+      (point_blocks (laid_from id (drop 1 ps) (number + 1) ts)) (all_by ps number t laid here)
+      (laid_names id (drop 1 ps) (number + 1) ts (rest_all ps laid) later)))
+      (λ before. rw (before.0) (all_append P (layout_blocks t.layout) (point_blocks (laid_from id ps number ts)) here
+      (laid_names id ps number ts laid later)))
       (leb_tells id t.id)
 
 -- a plan whose layout a track of the project may have
@@ -220,10 +223,10 @@ sound_plans m next (p ∷ ps) layouts half all = (
 )
 
 module _ (m next track : ℕ) where
-  sound_by : (ps : List Plan) (t : Track) → AreSoundPlans m next ps → IsSoundTrack m next track t
-      → IsSoundTrack m next track (laid_by ps t)
-  sound_by [] t plans sound = sound
-  sound_by (p ∷ ps) t plans sound =
+  sound_by : (ps : List Plan) (number : ℕ) (t : Track) → AreSoundPlans m next ps → IsSoundTrack m next track t
+      → IsSoundTrack m next track (laid_by ps number t)
+  sound_by [] number t plans sound = sound
+  sound_by (p ∷ ps) number t plans sound =
       record {
         given = sound.given;
         gain = sound.gain;
@@ -236,10 +239,13 @@ module _ (m next track : ℕ) where
   rest_sound [] plans = tt
   rest_sound (p ∷ ps) plans = plans.1
 
-  pub laid_sound : (id : ℕ) (ps : List Plan) (ts : List Track) → AreSoundPlans m next ps
-      → AllSoundTracks m next track ts → AllSoundTracks m next track (laid_from id ps ts)
-  laid_sound id ps [] plans all = tt
-  laid_sound id ps (t ∷ ts) plans all = ⊎_elim
-      (λ in_run. rw (in_run.0) (sound_by ps t plans all.0, laid_sound id (drop 1 ps) ts (rest_sound ps plans) all.1))
-      (λ before. rw (before.0) (all.0, laid_sound id ps ts plans all.1))
+  pub laid_sound : (id : ℕ) (ps : List Plan) (number : ℕ) (ts : List Track) → AreSoundPlans m next ps
+      → AllSoundTracks m next track ts → AllSoundTracks m next track (laid_from id ps number ts)
+  laid_sound id ps number [] plans all = tt
+  laid_sound id ps number (t ∷ ts) plans all = ⊎_elim
+      (λ in_run. rw (in_run.0) (
+        sound_by ps number t plans all.0,
+        laid_sound id (drop 1 ps) (number + 1) ts (rest_sound ps plans) all.1,
+      ))
+      (λ before. rw (before.0) (all.0, laid_sound id ps number ts plans all.1))
       (leb_tells id t.id)

@@ -1,38 +1,35 @@
 -- What an edit takes out comes into the clipboard, after the point that it records.
-use Rattle.std.proofs.Common.{ℤ, ◌≡◌, ◌↔◌, sym, ap, ◌∙◌, ℕ, ◌+◌, ◌*◌, ◌^◌, ◌≤◌, ◌<◌, IsSome, Option, None, List}
-use Rattle.std.proofs.Common.{[], ◌∷◌}
+use Rattle.std.proofs.Common.{ℤ, ◌≡◌, ◌↔◌, sym, ap, ◌∙◌, subst, ℕ, ◌+◌, ◌*◌, ◌^◌, ◌≤◌, ◌<◌, IsSome, Option, Some}
+use Rattle.std.proofs.Common.{None, List, [], ◌∷◌}
 use Rattle.std.proofs.Common.{◌++◌, length, length-append, flat_map, arith}
 use Rattle.std.specs.List.{AllByRecursion}
 use Rattle.pcm_base.specs.History.{History}
 use Rattle.disk_model.specs.declared.store.Store.{Ghosts}
 use Rattle.block_ledger.specs.Counts.{Counts, IsFreshCount, occurrences}
+use Rattle.block_ledger.specs.Entries.{count_of}
 use Rattle.clip_track.specs.declared.items.Item.{Item}
 use Rattle.edit_ops.specs.declared.types.NewBlock.{NewBlock}
 use Rattle.project_state.specs.declared.track.Track.{Track}
 use Rattle.project_state.specs.Kept.{history_blocks, point_blocks}
 use Rattle.project_state.specs.KeptSound.{IsSoundTagged}
+use Rattle.pcm_base.specs.declared.block.BlockRef.{BlockRef}
+use Rattle.layout_uses.specs.declared.tally.Tally.{Tally}
+use Rattle.layout_uses.specs.Layouts.{history_tracks, numbers_of, track_blocks, used_blocks}
+use Rattle.layout_uses.specs.Tallies.{AreCounts, Becomes}
+use Rattle.layout_uses.proofs.Naming.{counts_most}
 use Rattle.editor_core.specs.Core.{Core}
 use Rattle.editor_core.specs.Edits.{IsPlanned, TaggedEdit, clip_behind, history_behind}
 use Rattle.editor_core.specs.Made.{batch_of}
 use Rattle.editor_core.specs.Makes.{Making}
-use Rattle.editor_core.specs.Occurrences.{HasAll, HasIds, Moves, times_named}
-use Rattle.editor_core.specs.Studios.{IsStudio, clip_blocks, ids_of, named_blocks, pin_blocks}
+use Rattle.editor_core.specs.Occurrences.{HasAll, HasIds, Moves}
+use Rattle.editor_core.specs.Studios.{IsStudio, clip_blocks, ids_of, pin_blocks, pin_tracks, studio_tracks}
 use Rattle.editor_core.proofs.Bounds.{named_few, named_most, point_few}
 use Rattle.editor_core.proofs.EditLaws.{clip_there}
+use Rattle.editor_core.proofs.Editing.{counts_then}
+use Rattle.editor_core.proofs.Grown.{CountsAfter}
+use Rattle.editor_core.proofs.Layouts.{others_counted, others_moved, tracks_named}
 use Rattle.editor_core.proofs.Lists.{all_so}
-use Rattle.editor_core.proofs.Pinning.{named_parts}
 use Rattle.editor_core.proofs.Recorded.{all_recorded, recorded_depth, recorded_few}
-use Rattle.editor_core.proofs.Times.{named_append}
-
--- (over plain numbers)
-sum_then : (last then mid history later pins clip new named : ℕ) → last + clip ≡ then + new
-    → then + history ≡ mid + later → mid ≡ named → named ≡ history + (pins + clip)
-    → last ≡ later + (pins + new)
-sum_then last then mid history later pins clip new named a b c d = omega (arith, a, b, c, d)
-
-clip_then_part : (then mid history later pins clip named : ℕ) → then + history ≡ mid + later → mid ≡ named
-    → named ≡ history + (pins + clip) → clip ≤ then
-clip_then_part then mid history later pins clip named a b c = omega (arith, a, b, c)
 
 points_few : (ps : List (List Track × ℕ))
     → AllByRecursion (λ (p : List Track × ℕ). length (point_blocks p.0) ≤ 2 ^ 38) ps
@@ -79,49 +76,66 @@ module _ {D : Type 0} (disk : Ghosts D) (s : Core D) (is : IsStudio disk s) (goi
         is.format.depth_most,
       )
 
-  module _ (mid : Core D) (making : Making disk s (batch_of given makes) (length makes) mid) (then : Counts)
-      (moves : Moves mid.counts then (history_blocks s.history) (history_blocks h)) where
-    counted_mid : (id : ℕ) → occurrences (mid.counts id) ≡ times_named id (named_blocks s)
-    counted_mid id = making.ledger.counts id ∙ is.counted id
+  abbrev after : ℕ
+  after = s.next_layout + e.plan.layouts
 
-    pub taken_there : s.next_block + length makes ≤ 2 ^ 62 → HasIds then (clip_blocks clip)
-    taken_there fits = λ id some.
-        (moves.ids id).1 (clip_there disk s is going e plan mid making fits id some)
+  -- the pins' blocks, and the clipboard's
+  abbrev rest : List BlockRef
+  rest = pin_blocks s.pins ++ clip_blocks s.clipboard
 
-    pub taken_room : (id : ℕ) → occurrences (then id) < 2 ^ 102
+  -- what the studio with its new blocks counts: a file that was made is counted, and named by nothing
+  pub counted_mid : (mid : Core D) → Making disk s (batch_of given makes) (length makes) mid → (tally : Tally)
+      → count_of tally.uses ≡ s.uses → count_of tally.ledger ≡ mid.counts
+      → AreCounts (studio_tracks s) (clip_blocks s.clipboard) (count_of tally.uses) (count_of tally.ledger)
+  counted_mid mid making tally uses_are counts_are = record {
+    fresh_uses = subst (IsFreshCount (numbers_of (studio_tracks s))) (sym uses_are) is.counted.fresh_uses;
+    none_free = subst (λ (u : Counts). (n : ℕ) → u n ≡ Some 0 → ⊥) (sym uses_are) is.counted.none_free;
+    fresh_counts = subst (IsFreshCount (ids_of (used_blocks (studio_tracks s) ++ clip_blocks s.clipboard)))
+        (sym counts_are) (λ id. making.ledger.counts id ∙ is.counted.fresh_counts id);
+  }
+
+  module _ (mid : Core D) (making : Making disk s (batch_of given makes) (length makes) mid)
+      (most : s.next_layout + e.plan.layouts ≤ 2 ^ 62) (tally tally' : Tally)
+      (uses_are : count_of tally.uses ≡ s.uses) (counts_are : count_of tally.ledger ≡ mid.counts)
+      (becomes : Becomes point (history_tracks s.history) (history_tracks h) tally tally') where
+    taken_so : CountsAfter s.pins h s.clipboard after (count_of tally.ledger) (count_of tally'.uses)
+        (count_of tally'.ledger)
+    taken_so = counts_then disk s is point after h tally tally' plan.layouts plan.sound.few most
+        (counted_mid mid making tally uses_are counts_are) becomes
+
+    pub taken_there : s.next_block + length makes ≤ 2 ^ 62 → HasIds (count_of tally'.ledger) (clip_blocks clip)
+    taken_there fits = λ id some. (taken_so.files id).1 (subst (λ (c : Counts). IsSome (c id)) (sym counts_are)
+        (clip_there disk s is going e plan mid making fits id some))
+
+    pub taken_room : (id : ℕ) → occurrences (count_of tally'.ledger id) < 2 ^ 102
     taken_room id =
         omega (
           arith,
-          moves.counts id,
-          counted_mid id,
-          named_most id (named_blocks s),
-          named_few disk s is,
-          named_most id (history_blocks h),
+          counts_most (history_tracks h ++ pin_tracks s.pins) (clip_blocks s.clipboard) (count_of tally'.uses)
+              (count_of tally'.ledger) taken_so.counted id,
+          named_most id (track_blocks (history_tracks h ++ pin_tracks s.pins) ++ clip_blocks s.clipboard),
+          ap length (tracks_named h s.pins (clip_blocks s.clipboard)),
+          length-append (history_blocks h) rest,
           history_few,
+          length-append (history_blocks s.history) rest,
+          named_few disk s is,
         )
 
-    pub taken_named : HasAll then (clip_blocks s.clipboard)
-    taken_named id =
-        clip_then_part (occurrences (then id)) (occurrences (mid.counts id)) (times_named id (history_blocks s.history))
-        (times_named id (history_blocks h))
-        (times_named id (pin_blocks s.pins)) (times_named id (clip_blocks s.clipboard))
-        (times_named id (named_blocks s)) (moves.counts id) (counted_mid id) (named_parts s id)
+    pub taken_named : HasAll (count_of tally'.ledger) (clip_blocks s.clipboard)
+    taken_named = others_counted (history_tracks h ++ pin_tracks s.pins) (clip_blocks s.clipboard)
+        (count_of tally'.uses) (count_of tally'.ledger) taken_so.counted
 
-    module _ (last : Counts) (takes : Moves then last (clip_blocks s.clipboard) (clip_blocks clip)) where
-      parts_then : (id : ℕ) → times_named id (history_blocks h ++ (pin_blocks s.pins ++ clip_blocks clip))
-          ≡ times_named id (history_blocks h) + (times_named id (pin_blocks s.pins) + times_named id (clip_blocks clip))
-      parts_then id =
-          named_append id (history_blocks h) (pin_blocks s.pins ++ clip_blocks clip)
-          ∙ ap (λ (n : ℕ). times_named id (history_blocks h) + n)
-          (named_append id (pin_blocks s.pins) (clip_blocks clip))
-
-      pub taken_counted : IsFreshCount (ids_of (history_blocks h ++ (pin_blocks s.pins ++ clip_blocks clip))) last
-      taken_counted = λ id.
-          sum_then (occurrences (last id)) (occurrences (then id)) (occurrences (mid.counts id))
-          (times_named id (history_blocks s.history)) (times_named id (history_blocks h))
-          (times_named id (pin_blocks s.pins)) (times_named id (clip_blocks s.clipboard))
-          (times_named id (clip_blocks clip)) (times_named id (named_blocks s))
-          (takes.counts id) (moves.counts id) (counted_mid id) (named_parts s id) ∙ sym (parts_then id)
-
-      pub taken_ids : (id : ℕ) → IsSome (last id) ↔ IsSome (mid.counts id)
-      taken_ids id = (λ k. (moves.ids id).0 ((takes.ids id).0 k), λ k. (takes.ids id).1 ((moves.ids id).1 k))
+    module _ (last : Counts) (takes : Moves (count_of tally'.ledger) last (clip_blocks s.clipboard) (clip_blocks clip))
+      where
+        pub taken_counted : CountsAfter s.pins h clip after mid.counts (count_of tally'.uses) last
+        taken_counted = record {
+          layouts = taken_so.layouts;
+          numbered = taken_so.numbered;
+          drawn = taken_so.drawn;
+          counted = others_moved (history_tracks h ++ pin_tracks s.pins) (clip_blocks s.clipboard) (clip_blocks clip)
+              (count_of tally'.uses) (count_of tally'.ledger) last taken_so.counted takes;
+          files = λ id. subst (λ (c : Counts). IsSome (last id) ↔ IsSome (c id)) counts_are (
+            λ k. (taken_so.files id).0 ((takes.ids id).0 k),
+            λ k. (takes.ids id).1 ((taken_so.files id).1 k),
+          );
+        }

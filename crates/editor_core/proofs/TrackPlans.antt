@@ -22,6 +22,8 @@ use Rattle.project_state.specs.Kept.{current_tracks, history_blocks, meant, mean
 use Rattle.project_state.specs.KeptSound.{IsSoundPoint}
 use Rattle.project_state.specs.Sound.{IsSoundTrack}
 use Rattle.project_state.specs.Tracks.{track_of}
+use Rattle.layout_uses.specs.Drawing.{HasNumbers}
+use Rattle.layout_uses.proofs.Putting.{put_numbers}
 use Rattle.editor_core.specs.declared.carrying.Planned.{Planned}
 use Rattle.editor_core.specs.Core.{Core}
 use Rattle.editor_core.specs.Edits.{AreAmong, IsPlanned, alone, beside, blocks_with, clip_then, tagged_by}
@@ -86,7 +88,7 @@ module _ {D : Type 0} (disk : Ghosts D) (s : Core D) (is : IsStudio disk s) (e :
   was = p.track
 
   abbrev now : Track
-  now = with_layout was p.plan.layout
+  now = with_layout s.next_layout was p.plan.layout
 
   abbrev n : ℕ
   n = length makes
@@ -173,6 +175,10 @@ module _ {D : Type 0} (disk : Ghosts D) (s : Core D) (is : IsStudio disk s) (e :
       (all_right (Contains every) (history_blocks s.history) (pin_blocks s.pins ++ clip_blocks s.clipboard)
       (all_left (Contains every) (named_blocks s) (refs makes) (among_itself every)))
 
+  numbers : HasNumbers old s.next_layout planned.point (s.next_layout + planned.layouts)
+  numbers = subst (λ (k : ℕ). HasNumbers old s.next_layout planned.point (s.next_layout + k)) (sym p.layouts_is)
+      (subst (λ (q : List Track). HasNumbers old s.next_layout q (s.next_layout + 1)) (sym p.is) (put_numbers old now))
+
   pub track_planned : planned.tracks ≡ 0 → planned.clip ≡ None → (tag more : ℕ) → tag ≤ s.commit_number
       → (0 < more → 1 ≤ tag) → IsPlanned s (tagged_by planned tag more (brought_by given) (brought given))
   track_planned none keeps tag more tag_given counts = record {
@@ -182,6 +188,7 @@ module _ {D : Type 0} (disk : Ghosts D) (s : Core D) (is : IsStudio disk s) (e :
     origin = new_from_more (layout_blocks was.layout) (named_blocks s) (brought_count given) makes was_named origin;
     tag_given = tag_given;
     tag_counts = counts;
+    layouts = numbers;
     sound = subst (λ (k : ℕ). IsSoundPoint s.block_size (s.next_block + n) (s.next_track + k) planned.point) (sym none)
         (subst (IsSoundPoint s.block_size (s.next_block + n) (s.next_track + 0)) (sym p.is) put_is_sound);
     names = subst (λ (q : List Track). AreAmong every (point_blocks q)) (sym p.is) put_names;

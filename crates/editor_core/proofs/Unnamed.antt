@@ -8,11 +8,12 @@ use Rattle.editor_core.specs.Occurrences.{times_named}
 use Rattle.editor_core.specs.Passes.{FreesFiles}
 use Rattle.editor_core.specs.Removals.{HasOnlyNamed, IsUnnamed}
 use Rattle.editor_core.specs.Studios.{IsDurable, IsStudio, named_blocks}
+use Rattle.editor_core.proofs.Layouts.{counted_most, free_named, named_counted}
 
 -- whatever the disk tells
 pub spared : {D : Type 0} (disk : Ghosts D) (s : Core D) → IsStudio disk s → (id : ℕ) → s.counts id ≡ Some 0
     → times_named id (named_blocks s) ≡ 0
-spared disk s is id free = sym (is.counted id) ∙ ap occurrences free
+spared disk s is id free = free_named disk s is id free
 
 module _ {D : Type 0} (disk : Ghosts D) (s : Core D) (is : IsStudio disk s) (d : IsDurable disk s) where
   is_some : (o : Option ℕ) (n : ℕ) → o ≡ Some n → IsSome o
@@ -28,7 +29,9 @@ module _ {D : Type 0} (disk : Ghosts D) (s : Core D) (is : IsStudio disk s) (d :
       }
 
   pub unnamed_free : (id : ℕ) → IsUnnamed disk s id → s.counts id ≡ Some 0
-  unnamed_free id un = zero_of (s.counts id) ((d.files id un.least un.most).1 un.file) (is.counted id ∙ un.unnamed)
+  unnamed_free id un =
+      zero_of (s.counts id) ((d.files id un.least un.most).1 un.file)
+      (omega (arith, counted_most disk s is id, un.unnamed))
     where
       zero_of : (o : Option ℕ) → IsSome o → occurrences o ≡ 0 → o ≡ Some 0
       zero_of None some none = absurd (cc some)
@@ -38,7 +41,7 @@ module _ {D : Type 0} (disk : Ghosts D) (s : Core D) (is : IsStudio disk s) (d :
   pub only_named : ((id : ℕ) → s.counts id ≡ Some 0 → ⊥) → HasOnlyNamed disk s
   only_named none id least most = (
     (λ file. positive file (times_named id (named_blocks s)) refl),
-    (λ named. (d.files id least most).0 (counted_some (s.counts id) (omega (arith, is.counted id, named)))),
+    (λ named. (d.files id least most).0 (counted_some (s.counts id) (named_counted disk s is id named))),
   )
     where
       counted_some : (o : Option ℕ) → 0 < occurrences o → IsSome o

@@ -1,6 +1,6 @@
 -- Letting a pin go is a step; and what holds of a pin that is found.
-use Rattle.std.proofs.Common.{◌≡◌, refl, sym, ap, ◌∙◌, subst, ℕ, ◌+◌, ◌≤◌, List, ◌∷◌, ◌++◌, Option, Some, None}
-use Rattle.std.proofs.Common.{Contains, Ok, Err, arith}
+use Rattle.std.proofs.Common.{◌≡◌, refl, sym, ap, ◌∙◌, subst, ℕ, List, ◌∷◌, ◌++◌, Option, Some, None}
+use Rattle.std.proofs.Common.{Contains, Ok, Err, append_assoc, IsSome, ◌↔◌, arith}
 use Rattle.std.specs.Prelude.{is_none}
 use Rattle.std.specs.List.{AllByRecursion}
 use Rattle.pcm_base.specs.declared.answer.Reply.TheVariants.{Done}
@@ -16,7 +16,8 @@ use Rattle.pcm_base.specs.Studio as model
 use Rattle.disk_model.specs.declared.store.Store.{Ghosts}
 use Rattle.disk_model.proofs.Frames.{Fewer}
 use Rattle.sample_block.specs.Sources.{sources_of, IsWhole, AllNamed, AllWhole}
-use Rattle.block_ledger.specs.Counts.{Counts, occurrences}
+use Rattle.block_ledger.specs.Counts.{Counts}
+use Rattle.block_ledger.specs.Entries.{count_of}
 use Rattle.project_state.specs.declared.track.Track.{Track}
 use Rattle.project_state.specs.Kept.{meant, point_blocks, history_blocks}
 use Rattle.project_state.specs.KeptSound.{IsSoundPoint}
@@ -24,31 +25,24 @@ use Rattle.project_state.proofs.KeptBounds.{all_append}
 use Rattle.editor_core.specs.Core.{Core}
 use Rattle.editor_core.specs.declared.studio.Pin.{Pin}
 use Rattle.editor_core.specs.Edits.{AreAmong}
-use Rattle.editor_core.specs.Occurrences.{HasAll, Dropped, times_named}
+use Rattle.layout_uses.specs.declared.tally.Tally.{Tally}
+use Rattle.layout_uses.specs.Layouts.{AreDrawn, AreNumbered, history_tracks}
+use Rattle.layout_uses.specs.Tallies.{AreCounts, Goes, Has, IsTally}
+use Rattle.layout_uses.proofs.Moves.{counts_swapped, drawn_without, numbered_without}
 use Rattle.editor_core.specs.Pins.{TakesPin, LacksPin, MayFind}
-use Rattle.editor_core.specs.Studios.{PinsRise, IsHeld, IsStudio, pin_at, pin_blocks, clip_blocks, named_blocks}
-use Rattle.editor_core.specs.Studios.{studio_of}
+use Rattle.editor_core.specs.Studios.{PinsRise, IsHeld, IsStudio, pin_at, pin_blocks, pin_tracks, clip_blocks}
+use Rattle.editor_core.specs.Studios.{named_blocks}
+use Rattle.editor_core.specs.Studios.{studio_of, studio_tracks}
 use Rattle.editor_core.specs.Took.{Took, quietly, silent}
 use Rattle.editor_core.proofs.Contained.{among_itself}
 use Rattle.editor_core.proofs.Currents.{may_read}
+use Rattle.editor_core.proofs.Layouts.{tracks_around}
 use Rattle.editor_core.proofs.Lists.{all_left, all_right}
 use Rattle.editor_core.proofs.Naming.{renamed, Renames, renamed_took}
-use Rattle.editor_core.proofs.PinNumbers.{rise_less, lacks_none, without_one, found_at, blocks_around, all_but}
+use Rattle.editor_core.proofs.PinNumbers.{rise_less, lacks_none, without_one, found_at, all_but}
 use Rattle.editor_core.proofs.PinNumbers.{that_one, blocks_but, blocks_of_one}
-use Rattle.editor_core.proofs.Pinning.{named_parts}
 use Rattle.editor_core.proofs.Quiet.{IsQuiet, quiet_passes, carried, room_of, refused_own}
 use Rattle.editor_core.proofs.Spaces.{fits}
-use Rattle.editor_core.proofs.Times.{named_append}
-
--- (over plain numbers)
-sum_less : (new was point history front back clip named pins later : ℕ) → new + point ≡ was → was ≡ named
-    → named ≡ history + (pins + clip) → pins ≡ front + (point + back) → later ≡ front + back
-    → new ≡ history + (later + clip)
-sum_less new was point history front back clip named pins later a b c d e = omega (arith, a, b, c, d, e)
-
-part_most : (point was history front back clip named pins : ℕ) → was ≡ named → named ≡ history + (pins + clip)
-    → pins ≡ front + (point + back) → point ≤ was
-part_most point was history front back clip named pins a b c = omega (arith, a, b, c)
 
 module _ {D : Type 0} (disk : Ghosts D) (s : Core D) (is : IsStudio disk s) (number : ℕ) where
   abbrev src : Sources
@@ -110,38 +104,66 @@ module _ {D : Type 0} (disk : Ghosts D) (s : Core D) (is : IsStudio disk s) (num
     rise : PinsRise 1 s.next_pin (front ++ pin ∷ back)
     rise = subst (PinsRise 1 s.next_pin) takes.before is.numbers
 
-    times_before : (id : ℕ) → times_named id (pin_blocks s.pins) ≡ times_named id
-        (pin_blocks front) + (times_named id (point_blocks pin.point) + times_named id (pin_blocks back))
-    times_before id =
-        ap (λ (z : List Pin). times_named id (pin_blocks z)) takes.before
-        ∙ ap (times_named id) (blocks_around front (pin ∷ back))
-        ∙ named_append id (pin_blocks front) (point_blocks pin.point ++ pin_blocks back)
-        ∙ ap (λ (n : ℕ). times_named id (pin_blocks front) + n)
-        (named_append id (point_blocks pin.point) (pin_blocks back))
+    -- the tracks that stay: those in front of it, and those after
+    abbrev front_tracks : List Track
+    front_tracks = history_tracks s.history ++ pin_tracks front
 
-    times_after : (id : ℕ)
-        → times_named id (pin_blocks pins) ≡ times_named id (pin_blocks front) + times_named id (pin_blocks back)
-    times_after id = ap (λ (z : List Pin). times_named id (pin_blocks z)) takes.after
-        ∙ ap (times_named id) (blocks_around front back) ∙ named_append id (pin_blocks front) (pin_blocks back)
+    abbrev stay : List Track
+    stay = front_tracks ++ pin_tracks back
 
-    -- its blocks are counted
-    pub pin_counted : HasAll s.counts (point_blocks pin.point)
-    pin_counted id =
-        part_most (times_named id (point_blocks pin.point)) (occurrences (s.counts id)) (times_named id
-        (history_blocks s.history)) (times_named id (pin_blocks front)) (times_named id (pin_blocks back))
-        (times_named id (clip_blocks s.clipboard)) (times_named id (named_blocks s))
-        (times_named id (pin_blocks s.pins)) (is.counted id) (named_parts s id) (times_before id)
+    tracks_before : studio_tracks s ≡ front_tracks ++ (pin.point ++ pin_tracks back)
+    tracks_before = ap (λ (z : List Pin). history_tracks s.history ++ pin_tracks z) takes.before
+        ∙ ap (λ (ts : List Track). history_tracks s.history ++ ts) (tracks_around front (pin ∷ back))
+        ∙ sym (append_assoc (history_tracks s.history) (pin_tracks front) (pin.point ++ pin_tracks back))
+
+    tracks_after : history_tracks s.history ++ pin_tracks pins ≡ stay
+    tracks_after = ap (λ (z : List Pin). history_tracks s.history ++ pin_tracks z) takes.after
+        ∙ ap (λ (ts : List Track). history_tracks s.history ++ ts) (tracks_around front back)
+        ∙ sym (append_assoc (history_tracks s.history) (pin_tracks front) (pin_tracks back))
+
+    numbered_before : AreNumbered (front_tracks ++ (pin.point ++ pin_tracks back))
+    numbered_before = subst AreNumbered tracks_before is.numbered
+
+    -- its tracks in front
+    counted_front : AreCounts (pin.point ++ stay) (clip_blocks s.clipboard) s.uses s.counts
+    counted_front = counts_swapped front_tracks pin.point (pin_tracks back) (clip_blocks s.clipboard) s.uses s.counts
+        numbered_before
+        (subst (λ (ts : List Track). AreCounts ts (clip_blocks s.clipboard) s.uses s.counts) tracks_before is.counted)
+
+    pin_counted : (tally : Tally) → count_of tally.uses ≡ s.uses → count_of tally.ledger ≡ s.counts
+        → IsTally (pin.point ++ stay) (clip_blocks s.clipboard) tally
+    pin_counted tally uses_are counts_are =
+        subst (λ (u : Counts). AreCounts (pin.point ++ stay) (clip_blocks s.clipboard) u (count_of tally.ledger))
+        (sym uses_are)
+        (subst (λ (c : Counts). AreCounts (pin.point ++ stay) (clip_blocks s.clipboard) s.uses c) (sym counts_are)
+        counted_front)
+
+    -- its layouts are used
+    pub pin_uses : (tally : Tally) → count_of tally.uses ≡ s.uses → count_of tally.ledger ≡ s.counts
+        → Has pin.point tally
+    pin_uses tally uses_are counts_are = record {
+      others = stay;
+      blocks = clip_blocks s.clipboard;
+      counted = pin_counted tally uses_are counts_are;
+    }
 
     less_all : (P : BlockRef → Type 0) → AllByRecursion P (pin_blocks s.pins) → AllByRecursion P (pin_blocks pins)
     less_all P all =
         subst (λ (z : List Pin). AllByRecursion P (pin_blocks z)) (sym takes.after)
         (blocks_but P front back pin (subst (λ (z : List Pin). AllByRecursion P (pin_blocks z)) takes.before all))
 
-    module _ (counts : Counts) (dropped : Dropped s.counts counts (point_blocks pin.point)) where
-      abbrev new : Core D
-      new = renamed s s.clipboard pins s.next_pin counts
+    module _ (tally tally' : Tally) (uses_are : count_of tally.uses ≡ s.uses)
+        (counts_are : count_of tally.ledger ≡ s.counts) (goes : Goes pin.point tally tally') where
+      abbrev uses : Counts
+      uses = count_of tally'.uses
 
-      unpin_renames : Renames s s.clipboard pins s.next_pin counts
+      abbrev counts : Counts
+      counts = count_of tally'.ledger
+
+      abbrev new : Core D
+      new = renamed s s.clipboard pins s.next_pin uses counts
+
+      unpin_renames : Renames s s.clipboard pins s.next_pin uses counts
       unpin_renames = record {
         covers = λ P all.
             let rest = all_right P (history_blocks s.history) (pin_blocks s.pins ++ clip_blocks s.clipboard) all in
@@ -156,14 +178,14 @@ module _ {D : Type 0} (disk : Ghosts D) (s : Core D) (is : IsStudio disk s) (num
             (all_but Sound front back pin (subst (AllByRecursion Sound) takes.before is.pins));
         few_clips = is.few_clips;
         clip_fits = is.clipboard;
-        counted = λ id.
-            sum_less (occurrences (counts id)) (occurrences (s.counts id)) (times_named id (point_blocks pin.point))
-            (times_named id (history_blocks s.history)) (times_named id (pin_blocks front))
-            (times_named id (pin_blocks back)) (times_named id (clip_blocks s.clipboard)) (times_named id
-            (named_blocks s)) (times_named id (pin_blocks s.pins)) (times_named id (pin_blocks pins))
-            (dropped.counts id) (is.counted id) (named_parts s id) (times_before id) (times_after id)
-            ∙ sym (named_parts new id);
-        ids = dropped.ids;
+        numbered = subst AreNumbered (sym tracks_after)
+            (numbered_without front_tracks pin.point (pin_tracks back) numbered_before);
+        drawn = subst (AreDrawn s.next_layout) (sym tracks_after)
+            (drawn_without s.next_layout front_tracks pin.point (pin_tracks back)
+            (subst (AreDrawn s.next_layout) tracks_before is.drawn));
+        counted = subst (λ (ts : List Track). AreCounts ts (clip_blocks s.clipboard) uses counts) (sym tracks_after)
+            (goes.counted stay (clip_blocks s.clipboard) (pin_counted tally uses_are counts_are));
+        ids = λ id. subst (λ (c : Counts). IsSome (counts id) ↔ IsSome (c id)) counts_are (goes.ids id);
       }
 
       held_there : MayFind s.pins number (Some pin.point)
@@ -181,7 +203,8 @@ module _ {D : Type 0} (disk : Ghosts D) (s : Core D) (is : IsStudio disk s) (num
           let pin_room = fits s.next_pin 0 (omega (arith, is.counters.pin_most)) in
           let passed = quiet_passes t (Unpin number) unpin_quiet (room_of disk s (Unpin number) is) refl refl
           (has_own pin.point held_there) pin_room in
-          renamed_took disk s is s.clipboard pins s.next_pin counts unpin_renames (Unpin number) unpin_quiet tt tt Done
+          renamed_took disk s is s.clipboard pins s.next_pin uses counts unpin_renames
+          (Unpin number) unpin_quiet tt tt Done
           fewer (λ some. refl)
           (λ _. carried t (Unpin number) unpin_quiet (room_of disk s (Unpin number) is) refl Done
           (studio_of disk new) passed refl unpin_state)

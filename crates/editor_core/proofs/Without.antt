@@ -107,10 +107,10 @@ pub more_sound : (m next_block next_track : ℕ) (ts : List Track) (t : Track) �
 more_sound m next_block next_track [] t all one = (one, tt)
 more_sound m next_block next_track (x ∷ xs) t all one = (all.0, more_sound m next_block next_track xs t all.1 one)
 
-pub more_blocks : (P : BlockRef → Type 0) (ts : List Track) (id : ℕ) → AllByRecursion P (point_blocks ts)
-    → AllByRecursion P (point_blocks (ts ++ empty_track id ∷ []))
-more_blocks P [] id all = tt
-more_blocks P (t ∷ ts) id all =
-    all_append P (layout_blocks t.layout) (point_blocks (ts ++ empty_track id ∷ []))
+pub more_blocks : (P : BlockRef → Type 0) (ts : List Track) (id number : ℕ) → AllByRecursion P (point_blocks ts)
+    → AllByRecursion P (point_blocks (ts ++ empty_track id number ∷ []))
+more_blocks P [] id number all = tt
+more_blocks P (t ∷ ts) id number all =
+    all_append P (layout_blocks t.layout) (point_blocks (ts ++ empty_track id number ∷ []))
     (all_left P (layout_blocks t.layout) (point_blocks ts) all)
-    (more_blocks P ts id (all_right P (layout_blocks t.layout) (point_blocks ts) all))
+    (more_blocks P ts id number (all_right P (layout_blocks t.layout) (point_blocks ts) all))

@@ -41,7 +41,7 @@ IsTold call tells = IsSome (name_in call) → IsTrue tells
 pub record Lasts {D : Type 0} (disk : Ghosts D) (old : Core D) (exchange : Exchange) (new : Core D) : Type 0 where
   pub studio : IsStudio disk new
   pub number : new.commit_number ≡ number_behind exchange.told exchange.call old.commit_number
-  pub rests : IsSome old.stopped → new ≡ record old { pins = new.pins; counts = new.counts }
+  pub rests : IsSome old.stopped → new ≡ record old { pins = new.pins; uses = new.uses; counts = new.counts }
   pub len : ℕ
   pub records : Records old exchange.told new len
   pub given : IfOk exchange.told (λ r. NamesGiven old new)

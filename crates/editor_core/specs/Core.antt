@@ -17,11 +17,13 @@ pub record Core (D : Type 0) : Type 0 where
   pub history : History (List Track)
   pub clipboard : Option (List (List Item))
   pub pins : List Pin
-  -- how often each block is named
+  -- how often each layout is used, and each block is named
+  pub uses : Counts
   pub counts : Counts
   pub next_block : ℕ
   pub next_track : ℕ
   pub next_pin : ℕ
+  pub next_layout : ℕ
   pub commit_number : ℕ
   -- where the journal stands, and what its header says of it
   pub file : ℕ
@@ -40,10 +42,12 @@ core_of s = record {
   history = s.history.history;
   clipboard = s.clipboard;
   pins = s.pins.items;
-  counts = count_of s.ledger;
+  uses = count_of s.tally.uses;
+  counts = count_of s.tally.ledger;
   next_block = s.next_block;
   next_track = s.next_track;
   next_pin = s.next_pin;
+  next_layout = s.next_layout;
   commit_number = s.commit_number;
   file = s.file;
   version = s.version;

@@ -44,7 +44,7 @@ pub record IsCutPlan {D : Type 0} (e : Removing) (range : RunRange) (s : Core D)
   pub strips : List (List Item)
   pub copies : AreCopies range.from range.to (take range.count (run_of range.track (current_tracks s.history))) strips
   pub items : AllByRecursion AreItems strips
-  pub laid : IsRunPlan range.track s.next_block (current_tracks s.history) plans p
+  pub laid : IsRunPlan range.track s.next_block s.next_layout (current_tracks s.history) plans p
   pub clip_is : p.clip ≡ Some strips
 
 -- there are none: an own test refuses it, or there is no memory

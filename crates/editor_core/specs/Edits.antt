@@ -26,8 +26,9 @@ use Rattle.edit_ops.specs.Plans.{AreNew, AreWritten, AllNewFrom, ref_of}
 use Rattle.piece_store.specs.Brought.{Brought}
 use Rattle.project_journal.specs.Journal.{rows_length}
 use Rattle.project_state.specs.declared.track.Track.{Track}
-use Rattle.project_state.specs.Kept.{meant_history, point_blocks}
+use Rattle.project_state.specs.Kept.{current_tracks, meant_history, point_blocks}
 use Rattle.project_state.specs.KeptSound.{IsSoundPoint}
+use Rattle.layout_uses.specs.Drawing.{HasNumbers}
 use Rattle.editor_core.specs.declared.carrying.Planned.{Planned}
 use Rattle.editor_core.specs.Adding.{Adds, ExceedsBy}
 use Rattle.editor_core.specs.Commits.{IsCommitCall}
@@ -82,6 +83,7 @@ pub record IsPlanned {D : Type 0} (s : Core D) (e : TaggedEdit) : Type 0 where
   pub origin : AllNewFrom (named_blocks s) e.count e.plan.makes
   pub tag_given : e.tag ≤ s.commit_number
   pub tag_counts : 0 < e.more → 1 ≤ e.tag
+  pub layouts : HasNumbers (current_tracks s.history) s.next_layout e.plan.point (s.next_layout + e.plan.layouts)
   pub sound : IsSoundPoint s.block_size (s.next_block + length e.plan.makes) (s.next_track + e.plan.tracks) e.plan.point
   pub names : AreAmong (blocks_with s e.plan.makes) (point_blocks e.plan.point)
   pub used : AreAmong (point_blocks e.plan.point) (map ref_of e.plan.makes)

@@ -28,6 +28,7 @@ use Rattle.project_state.specs.declared.track.Track.{Track}
 use Rattle.project_state.specs.Kept.{current_tracks, meant, point_blocks}
 use Rattle.project_state.specs.Sound.{AllSoundTracks}
 use Rattle.project_state.specs.Tracks.{AreAbove}
+use Rattle.layout_uses.specs.Drawing.{HasNumbers}
 use Rattle.editor_core.specs.Core.{Core}
 use Rattle.editor_core.specs.declared.carrying.Planned.{Planned}
 use Rattle.editor_core.specs.declared.growth.Growing.{Growing}
@@ -66,8 +67,9 @@ pub record IsChannelPlan (from count m next : ℕ) (p : Plan) : Type 0 where
   pub layout : IsLayout p.layout
 
 -- a track that is new, with these clips
-abbrev pub track_with : ℕ → List Clip → Track
-track_with id layout = record { id = id; gain = UNITY_GAIN; side = Both; mute = false; layout = layout }
+abbrev pub track_with : (id number : ℕ) → List Clip → Track
+track_with id number layout =
+    record { id = id; gain = UNITY_GAIN; side = Both; mute = false; number = number; layout = layout }
 
 -- ---- all channels
 
@@ -95,6 +97,8 @@ pub record AreGrown {D : Type 0} (s : Core D) (counts : List ℕ) (g : Growing) 
   pub few : length g.makes.items ≤ blocks_of_tracks (length counts) + g.brought / s.block_size
   pub next_is : g.next ≡ s.next_block + length g.makes.items
   pub brought : g.brought ≡ total_of counts
+  pub number_is : g.number ≡ s.next_layout + length counts
+  pub layouts : HasNumbers (current_tracks s.history) s.next_layout g.point g.number
   pub means : (block : ℕ → ℕ → ℤ) (given : ℕ → ℤ) → AreWritten (beside block given) g.makes.items
       → meant (alone block) news ≡ channel_tracks s.next_track (parts_from given 0 counts)
 
@@ -102,10 +106,11 @@ pub record AreGrown {D : Type 0} (s : Core D) (counts : List ℕ) (g : Growing) 
 pub record AddsChannel (m id count : ℕ) (old new : Growing) : Type 0 where
   pub plan : Plan
   pub is : IsChannelPlan old.brought count m old.next plan
-  pub point : new.point ≡ old.point ++ track_with id plan.layout ∷ []
+  pub point : new.point ≡ old.point ++ track_with id old.number plan.layout ∷ []
   pub makes : new.makes.items ≡ old.makes.items ++ plan.makes
   pub next : new.next ≡ plan.next
   pub brought : new.brought ≡ old.brought + count
+  pub number : new.number ≡ old.number + 1
 
 -- the plan of a studio's project that has grown by a track for each channel
 pub record IsChannelsPlan {D : Type 0} (s : Core D) (counts : List ℕ) (p : Planned) : Type 0 where
@@ -115,6 +120,7 @@ pub record IsChannelsPlan {D : Type 0} (s : Core D) (counts : List ℕ) (p : Pla
   pub makes_is : p.makes ≡ grown.makes.items
   pub next_is : p.next ≡ grown.next
   pub tracks_is : p.tracks ≡ length counts
+  pub layouts_is : p.layouts ≡ length counts
 
 -- what refuses new tracks of this many samples each in a project of this many tracks
 abbrev pub channels_refusal : ℕ → List ℕ → Option Refusal

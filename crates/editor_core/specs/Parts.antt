@@ -4,13 +4,15 @@ use Rattle.std.specs.List.{AllByRecursion}
 use Rattle.disk_model.specs.declared.store.Store.{Ghosts}
 use Rattle.sample_block.specs.Sources.{AllWhole}
 use Rattle.block_cache.specs.Caches.{no_entries}
-use Rattle.block_ledger.specs.Counts.{IsFreshCount}
+use Rattle.pcm_base.specs.declared.limits.TheConstants.{COUNTER_LIMIT}
 use Rattle.block_ledger.specs.Entries.{count_of}
 use Rattle.project_journal.specs.Header.{IsFormat}
 use Rattle.project_state.specs.Kept.{history_blocks}
 use Rattle.project_state.specs.KeptSound.{IsSoundTagged}
+use Rattle.layout_uses.specs.Layouts.{AreDrawn, AreNumbered, history_tracks}
+use Rattle.layout_uses.specs.Tallies.{IsTally}
 use Rattle.editor_core.specs.Core.{Core}
-use Rattle.editor_core.specs.Studios.{AreCounters, AreJournalNumbers, IsDurable, IsGiven, ids_of}
+use Rattle.editor_core.specs.Studios.{AreCounters, AreJournalNumbers, IsDurable, IsGiven}
 use Rattle.editor_core.specs.declared.assembly.Parts.{Parts}
 
 -- the studio of these parts: it is not stopped, nothing was copied, there are no pins, and the next pin is 1
@@ -21,10 +23,12 @@ assembled store p = record {
   history = p.history.history;
   clipboard = None;
   pins = [];
-  counts = count_of p.ledger;
+  uses = count_of p.tally.uses;
+  counts = count_of p.tally.ledger;
   next_block = p.next_block;
   next_track = p.next_track;
   next_pin = 1;
+  next_layout = p.next_layout;
   commit_number = p.commit_number;
   file = p.file;
   version = p.version;
@@ -35,8 +39,9 @@ assembled store p = record {
   block_size = p.block_size;
 }
 
--- What is asked of the parts, on every store: the numbers are within their bounds, layouts, ids and tags are sound, and
--- the ledger counts the blocks of the history, and has ids alone that were given.
+-- What is asked of the parts, on every store: the numbers are within their bounds, layouts, ids and tags are sound,
+-- layouts of one number are the same and were drawn, their uses by the history are counted, and the ledger counts the
+-- blocks of the layouts so used, and has ids alone that were given.
 pub record AreParts (p : Parts) : Type 0 where
   pub pages_least : 1 ≤ p.pages
   pub pages_most : p.pages ≤ 1024
@@ -45,8 +50,11 @@ pub record AreParts (p : Parts) : Type 0 where
   pub journal : AreJournalNumbers p.file p.version p.generation
   pub points : AllByRecursion (IsSoundTagged p.block_size p.next_block p.next_track p.commit_number)
       p.history.history.points
-  pub counted : IsFreshCount (ids_of (history_blocks p.history.history)) (count_of p.ledger)
-  pub given : (id : ℕ) → IsSome (count_of p.ledger id) → IsGiven p.next_block id
+  pub layouts : p.next_layout ≤ COUNTER_LIMIT
+  pub numbered : AreNumbered (history_tracks p.history.history)
+  pub drawn : AreDrawn p.next_layout (history_tracks p.history.history)
+  pub counted : IsTally (history_tracks p.history.history) [] p.tally
+  pub given : (id : ℕ) → IsSome (count_of p.tally.ledger id) → IsGiven p.next_block id
 
 -- The disk has what the parts stand for: it tells its bytes, each block that the history names is whole as it reads,
 -- the journal of this file, version and generation leads to the history, next track and commit number, each image has

@@ -34,7 +34,7 @@ pub record IsPastePlan {D : Type 0} (e : Placing) (id at : ℕ) (s : Core D) (p 
   pub plans : List Plan
   pub pastes : ArePastes (placed e at) (plan_start s) strips
       (take (length strips) (run_of id (current_tracks s.history))) plans
-  pub laid : IsRunPlan id s.next_block (current_tracks s.history) plans p
+  pub laid : IsRunPlan id s.next_block s.next_layout (current_tracks s.history) plans p
 
 -- there are none: an own test refuses it, or there is no memory
 abbrev pub NoPastePlan : {D : Type 0} → Placing → (id at : ℕ) → Core D → Refusal → Type 0

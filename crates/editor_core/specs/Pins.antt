@@ -39,6 +39,7 @@ AnswersPin old result new = MatchResult result
     (λ n. (n ≡ old.next_pin) × (new ≡ record old {
       pins = old.pins ++ record { number = old.next_pin; point = current_tracks old.history } ∷ [];
       next_pin = old.next_pin + 1;
+      uses = new.uses;
       counts = new.counts;
     }))
     (λ why. new ≡ old)
@@ -47,5 +48,5 @@ AnswersPin old result new = MatchResult result
 abbrev pub AnswersUnpin : {D : Type 0} → Core D → ℕ → Result (Unit {0}) Refusal → Core D → Type 0
 AnswersUnpin old number result new = MatchResult result
     (λ _. ((pin : Pin) × TakesPin old.pins new.pins number pin)
-    × (new ≡ record old { pins = new.pins; counts = new.counts }))
+    × (new ≡ record old { pins = new.pins; uses = new.uses; counts = new.counts }))
     (λ why. (why ≡ NoPin number) × LacksPin number old.pins × (new ≡ old))

@@ -1,7 +1,6 @@
 -- Edits that make no blocks: what each refuses, and the project that it makes.
-use Rattle.std.specs.Prelude.{◌≡◌, ℕ, ◌+◌, ◌≤◌, nat_lt, ◌==◌, if◌then◌else◌, false, List, [], ◌∷◌, ◌++◌, length, Option}
+use Rattle.std.specs.Prelude.{◌≡◌, ℕ, ◌+◌, ◌≤◌, nat_lt, false, List, [], ◌∷◌, ◌++◌, length, Option}
 use Rattle.std.specs.Prelude.{Some}
-use Rattle.std.specs.List.{flat_map}
 use Rattle.pcm_base.specs.declared.limits.TheConstants.{MAX_GAIN, MAX_TRACKS, UNITY_GAIN}
 use Rattle.pcm_base.specs.declared.sound.Side.TheVariants.{Both}
 use Rattle.pcm_base.specs.declared.command.Command.{Command}
@@ -10,6 +9,7 @@ use Rattle.pcm_base.specs.declared.refusal.Refusal.{Refusal}
 use Rattle.pcm_base.specs.declared.refusal.Refusal.TheVariants.{TrackLimit}
 use Rattle.pcm_base.specs.Refusals.{refused_if}
 use Rattle.project_state.specs.Tracks.{track_of}
+pub use Rattle.project_state.specs.Tracks.{other_one, without}
 use Rattle.project_state.specs.declared.track.Track.{Track}
 use Rattle.editor_core.specs.declared.plain.PlainEdit.{PlainEdit}
 use Rattle.editor_core.specs.declared.plain.PlainEdit.TheVariants as edit
@@ -59,21 +59,23 @@ pub record IsSet (id : ℕ) (f : Track → Track) (old new : List Track) : Type 
   pub found : track_of id old ≡ Some track
   pub is : new ≡ put_in (f track) old
 
--- the tracks without the one of an id
-abbrev pub other_one : ℕ → Track → List Track
-other_one id t = if t.id == id then [] else t ∷ []
-
-abbrev pub without : ℕ → List Track → List Track
-without id ts = flat_map (other_one id) ts
-
 -- a track without clips
-abbrev pub empty_track : ℕ → Track
-empty_track id = record { id = id; gain = UNITY_GAIN; side = Both; mute = false; layout = [] }
+abbrev pub empty_track : (id number : ℕ) → Track
+empty_track id number =
+    record { id = id; gain = UNITY_GAIN; side = Both; mute = false; number = number; layout = [] }
 
--- the project that it makes, where the next track has this id
-abbrev pub IsEdited : PlainEdit → ℕ → List Track → List Track → Type 0
-IsEdited edit.Track next old new = new ≡ old ++ empty_track next ∷ []
-IsEdited (edit.Drop id) next old new = new ≡ without id old
-IsEdited (edit.Level id gain) next old new = IsSet id (set_by (edit.Level id gain)) old new
-IsEdited (edit.Side id side) next old new = IsSet id (set_by (edit.Side id side)) old new
-IsEdited (edit.Mute id mute) next old new = IsSet id (set_by (edit.Mute id mute)) old new
+-- how many layouts it makes
+abbrev pub layouts_by : PlainEdit → ℕ
+layouts_by edit.Track = 1
+layouts_by (edit.Drop id) = 0
+layouts_by (edit.Level id gain) = 0
+layouts_by (edit.Side id side) = 0
+layouts_by (edit.Mute id mute) = 0
+
+-- the project that it makes, where the next track has this id, and the next layout this number
+abbrev pub IsEdited : PlainEdit → (id number : ℕ) → List Track → List Track → Type 0
+IsEdited edit.Track next number old new = new ≡ old ++ empty_track next number ∷ []
+IsEdited (edit.Drop id) next number old new = new ≡ without id old
+IsEdited (edit.Level id gain) next number old new = IsSet id (set_by (edit.Level id gain)) old new
+IsEdited (edit.Side id side) next number old new = IsSet id (set_by (edit.Side id side)) old new
+IsEdited (edit.Mute id mute) next number old new = IsSet id (set_by (edit.Mute id mute)) old new

@@ -15,6 +15,7 @@ use Rattle.project_state.specs.declared.body.Body.TheVariants.{Edit}
 use Rattle.project_state.specs.declared.track.Track.{Track}
 use Rattle.project_state.specs.Batches.{after_bodies}
 use Rattle.project_state.specs.Kept.{Kept, meant_history}
+use Rattle.project_state.specs.Numbers.{unnumbered_body, unnumbered_history}
 use Rattle.editor_core.specs.Bodies.{IsLength, Writing}
 use Rattle.editor_core.specs.Core.{Core}
 use Rattle.editor_core.specs.Edits.{IsEdit, IsPlanned, TaggedEdit}
@@ -45,7 +46,7 @@ pub record Plans {D : Type 0} (disk : Ghosts D) (s : Core D) (call : Call) (soun
 -- what the records so far say
 abbrev pub kept_of : {D : Type 0} → Core D → Kept
 kept_of s = record {
-  history = s.history;
+  history = unnumbered_history s.history;
   next_block = s.next_block;
   next_track = s.next_track;
   commit = s.commit_number;
@@ -57,7 +58,7 @@ pub record Leads {D : Type 0} (disk : Ghosts D) (s : Core D) (call : Call) (soun
   pub history : History (List Track)
   pub next_track : ℕ
   pub says : Says s.next_block next_track history w.body
-  pub leads : (after_bodies (kept_of s) w.more w.body).history ≡ history
+  pub leads : (after_bodies (kept_of s) w.more (unnumbered_body w.body)).history ≡ unnumbered_history history
   pub means : IsHeld disk s → (after (outside (studio_of disk s) sound) (studio_of disk s).state call).history
       ≡ meant_history (sources_of (disk.reads s.store)) history
 

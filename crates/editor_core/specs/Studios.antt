@@ -14,7 +14,6 @@ use Rattle.disk_model.specs.Disk.{Files}
 use Rattle.disk_model.specs.declared.store.Store.{Ghosts}
 use Rattle.sample_block.specs.Sources.{sources_of, AllWhole}
 use Rattle.block_cache.specs.Carried.{HasCache}
-use Rattle.block_ledger.specs.Counts.{IsFreshCount}
 use Rattle.clip_track.specs.declared.items.Item.{Item}
 use Rattle.clip_track.specs.Items.{strip_len, strip_cells, strip_blocks}
 use Rattle.edit_ops.specs.Runs.{AreClips}
@@ -24,6 +23,11 @@ use Rattle.project_journal.specs.Journal.{Log, IsAt}
 use Rattle.project_state.specs.Kept.{Begins, Kept, Opened, LeadIn, meant, meant_history, point_blocks}
 use Rattle.project_state.specs.Kept.{history_blocks, version_of}
 use Rattle.project_state.specs.KeptSound.{IsSoundPoint, IsSoundTagged}
+use Rattle.project_state.specs.Numbers.{unnumbered_history}
+use Rattle.project_state.specs.declared.track.Track.{Track}
+use Rattle.layout_uses.specs.Layouts.{AreDrawn, AreNumbered, history_tracks}
+pub use Rattle.layout_uses.specs.Occurrences.{ids_of}
+use Rattle.layout_uses.specs.Tallies.{AreCounts}
 use Rattle.editor_core.specs.Core.{Core, form_at}
 use Rattle.editor_core.specs.declared.studio.Pin.{Pin}
 
@@ -89,8 +93,12 @@ pin_blocks pins = flat_map (λ (p : Pin). point_blocks p.point) pins
 abbrev pub named_blocks : {D : Type 0} → Core D → List BlockRef
 named_blocks s = history_blocks s.history ++ (pin_blocks s.pins ++ clip_blocks s.clipboard)
 
-abbrev pub ids_of : List BlockRef → List ℕ
-ids_of bs = map (λ (b : BlockRef). b.id) bs
+-- the tracks of its points and its pins, which use layouts
+abbrev pub pin_tracks : List Pin → List Track
+pin_tracks pins = flat_map (λ (p : Pin). p.point) pins
+
+abbrev pub studio_tracks : {D : Type 0} → Core D → List Track
+studio_tracks s = history_tracks s.history ++ pin_tracks s.pins
 
 -- ---- what holds of it
 
@@ -155,7 +163,7 @@ pub record IsDurable {D : Type 0} (disk : Ghosts D) (s : Core D) : Type 0 where
   pub told : LeadIn (version_of (form_at s)) log.block_size base log.bodies kept
   pub rate : log.rate ≡ s.rate
   pub block_size : log.block_size ≡ s.block_size
-  pub history : kept.history ≡ s.history
+  pub history : kept.history ≡ unnumbered_history s.history
   pub next_block : kept.next_block ≤ s.next_block
   pub next_track : kept.next_track ≡ s.next_track
   pub commit : kept.commit ≡ s.commit_number
@@ -174,8 +182,13 @@ pub record IsStudio {D : Type 0} (disk : Ghosts D) (s : Core D) : Type 0 where
   pub numbers : PinsRise 1 s.next_pin s.pins
   pub clipboard : MayPaste s.block_size s.clipboard
   pub ids : AllByRecursion (λ (b : BlockRef). IsGiven s.next_block b.id) (named_blocks s)
-  -- each block is counted as often as a point, a pin or the clipboard names it
-  pub counted : IsFreshCount (ids_of (named_blocks s)) s.counts
+  pub layouts : s.next_layout ≤ COUNTER_LIMIT
+  -- layouts of one number are the same, and each number was drawn
+  pub numbered : AreNumbered (studio_tracks s)
+  pub drawn : AreDrawn s.next_layout (studio_tracks s)
+  -- A layout is counted as often as a track of a point or a pin uses it. A block is counted as often as a layout that
+  -- is used names it, and the clipboard.
+  pub counted : AreCounts (studio_tracks s) (clip_blocks s.clipboard) s.uses s.counts
   pub given : (id : ℕ) → IsSome (s.counts id) → IsGiven s.next_block id
   -- as long as it goes on, what its cache has is right of the files of blocks that were given
   pub cache : s.stopped ≡ None → HasCache disk (is_given s.next_block) s.store s.cache

@@ -70,7 +70,7 @@ pub record Took {D : Type 0} (disk : Ghosts D) (old : Core D) (exchange : Exchan
   -- the commit number, whatever the disk tells
   pub number : new.commit_number ≡ number_behind exchange.told exchange.call old.commit_number
   -- a studio that had stopped does nothing but give a pin back
-  pub rests : IsSome old.stopped → new ≡ record old { pins = new.pins; counts = new.counts }
+  pub rests : IsSome old.stopped → new ≡ record old { pins = new.pins; uses = new.uses; counts = new.counts }
   -- the length of a record that the call may need, and what of the disk was asked at most
   pub len : ℕ
   pub needs : IsHeld disk old → (blocks : ℕ)

@@ -26,8 +26,9 @@ use Rattle.editor_core.specs.Core.{Core}
 use Rattle.editor_core.specs.Edits.{IsEditCall}
 use Rattle.editor_core.specs.Points.{put_in, lacks}
 
-abbrev pub with_layout : Track → List Clip → Track
-with_layout t layout = record t { layout = layout }
+-- a track with another layout, which has this number
+abbrev pub with_layout : ℕ → Track → List Clip → Track
+with_layout number t layout = record t { number = number; layout = layout }
 
 abbrev pub end_of_track : Option Track → ℕ
 end_of_track None = 0
@@ -59,9 +60,10 @@ pub record IsTrackPlan {D : Type 0} (e : TrackEdit) (count id : ℕ) (s : Core D
   pub means : Means (λ src. e.cells src.given) track.layout plan
   pub layout : IsLayout plan.layout
   pub few : (src : Sources) → length plan.makes ≤ e.most s.block_size (layout_cells src track.layout)
-  pub is : p.point ≡ put_in (with_layout track plan.layout) (current_tracks s.history)
+  pub is : p.point ≡ put_in (with_layout s.next_layout track plan.layout) (current_tracks s.history)
   pub makes_is : p.makes ≡ plan.makes
   pub after_is : p.next ≡ plan.next
+  pub layouts_is : p.layouts ≡ 1
 
 -- there is none: an own test refuses it, or there is no memory
 abbrev pub NoTrackPlan : TrackEdit → ℕ → List Track → Refusal → Type 0

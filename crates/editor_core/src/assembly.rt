@@ -7,14 +7,14 @@ ghost use Rattle.editor_core.specs.Studios.{IsHeld, IsStudio};
 use super::buffers::BlockBuffers;
 use super::studio::Studio;
 use block_cache::Cache;
-use block_ledger::Ledger;
 use disk_model::Store;
+use layout_uses::Tally;
 use project_state::Point;
 use std::alloc::Global;
 use undo_history::History;
 
-/// What a studio is made of: the format of its project, its history, how often each block is named, its counters, and
-/// its journal.
+/// What a studio is made of: the format of its project, its history, how often each layout is used and each block is
+/// named, its counters, and its journal.
 #[derive(Drop)]
 pub struct Parts {
     /// How many frames there are in a second.
@@ -24,9 +24,10 @@ pub struct Parts {
     /// The most samples of a block.
     pub block_size: u32,
     pub history: History<Point>,
-    pub ledger: Ledger,
+    pub tally: Tally,
     pub next_block: u64,
     pub next_track: u64,
+    pub next_layout: u64,
     pub commit_number: u64,
     /// The file of the journal, 0 or 1, and the version and generation that its header has.
     pub file: u64,
@@ -58,10 +59,11 @@ impl<S: Store> Studio<S> {
             history: parts.history,
             clipboard: None,
             pins: Vec::new(alloc),
-            ledger: parts.ledger,
+            tally: parts.tally,
             next_block: parts.next_block,
             next_track: parts.next_track,
             next_pin: 1,
+            next_layout: parts.next_layout,
             commit_number: parts.commit_number,
             file: parts.file,
             version: parts.version,

@@ -98,7 +98,7 @@ impl<S: Store> Studio<S> {
         ensures body { OnOk result (self.new.body.items ≡ body_bytes (core_of self.old) body.now) }
         ensures row { self.new.row ≡ self.old.row }
         ensures history { self.new.history ≡ self.old.history }
-        ensures ledger { self.new.ledger ≡ self.old.ledger }
+        ensures ledger { self.new.tally ≡ self.old.tally }
     {
         if self.version == WHOLE_VERSION {
             return write_body(body, &mut self.body);
@@ -115,7 +115,7 @@ impl<S: Store> Studio<S> {
             (all_bytes (core_of self.old) (writing more body.now))) }
         ensures room { OnOk result (1 + length self.new.row.items ≤ vec_capacity self.new.row) }
         ensures history { self.new.history ≡ self.old.history }
-        ensures ledger { self.new.ledger ≡ self.old.ledger }
+        ensures ledger { self.new.tally ≡ self.old.tally }
     {
         self.write_again(body, more)?;
         self.write_record(body)?;
@@ -132,7 +132,7 @@ impl<S: Store> Studio<S> {
         ensures rows { OnOk result (AreWaiting self.new.row.items (replicate more (body_bytes (core_of self.old)
             (with_point (current_tracks self.old.history.history) body.now)))) }
         ensures history { self.new.history ≡ self.old.history }
-        ensures ledger { self.new.ledger ≡ self.old.ledger }
+        ensures ledger { self.new.tally ≡ self.old.tally }
     {
         self.row.clear();
         if more == 0 {

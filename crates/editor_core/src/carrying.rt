@@ -1,6 +1,7 @@
 // An edit that makes blocks, from its plan to its commit.
 ghost use Rattle.std.specs.Prelude.{◌≡◌, ◌⊎◌, ℕ, ℤ, suc, ◌+◌, ◌≤◌, ◌<◌, ◌^◌, length, vec_capacity, IfErr, IfOk};
 ghost use Rattle.std.specs.Prelude.{MatchResult, OnOk, None, Some, false};
+ghost use Rattle.pcm_base.specs.declared.limits.TheConstants.{MAX_TRACKS};
 ghost use Rattle.pcm_base.specs.declared.answer.Reply.TheVariants as reply;
 ghost use Rattle.pcm_base.specs.declared.command.Call.{Call};
 ghost use Rattle.pcm_base.specs.declared.entry.SoundMove.{SoundMove};
@@ -31,13 +32,14 @@ use pcm_base::{COUNTER_LIMIT, NoMemory, Refusal};
 use piece_store::Brings;
 use project_state::{Body, Point};
 
-/// A new point, the blocks that are to be made for it, the id of the next block after them, how many track ids it
-/// gives, and what it puts into the clipboard, if anything.
+/// A new point, the blocks that are to be made for it, the id of the next block after them, how many track ids and
+/// layout numbers it gives, and what it puts into the clipboard, if anything.
 pub(crate) struct Planned {
     pub(crate) point: Point,
     pub(crate) makes: NewBlocks,
     pub(crate) next: u64,
     pub(crate) tracks: u64,
+    pub(crate) layouts: u64,
     pub(crate) clip: Option<Strips>,
 }
 
@@ -68,19 +70,30 @@ impl<S: Store> Studio<S> {
         has_room(self.commit_number, count)
     }
 
-    // Makes room for this many blocks in the ledger, and for a point in the history.
-    fn ready_counts(&mut self, count: u64) -> Result<(), NoMemory>
+    // Makes room for this many blocks in the ledger, and for a point in the history with this many new layouts.
+    fn ready_counts(&mut self, count: u64, layouts: u64) -> Result<(), NoMemory>
+        requires { self.old.next_layout ≤ COUNTER_LIMIT }
         ensures same { core_of self.new ≡ core_of self.old }
-        ensures spare { OnOk result (count ≤ self.new.ledger.spare) }
+        ensures spare { OnOk result (count ≤ self.new.tally.ledger.spare) }
         ensures point { OnOk result (length self.new.history.history.points < self.new.history.capacity) }
+        ensures uses { OnOk result (MAX_TRACKS ≤ self.new.tally.uses.spare) }
+        ensures layouts { OnOk result (self.old.next_layout + layouts ≤ COUNTER_LIMIT) }
     {
-        self.ledger.reserve(count)?;
-        self.make_room()
+        self.tally.ledger.reserve(count)?;
+        self.make_room(layouts)
     }
 
     // Tests the counters and the journal's places, takes all memory that is needed, and writes the records into the
     // row. Nothing is asked of the disk.
-    fn prepare(&mut self, body: &Body, more: u64, blocks: u64, tracks: u64) -> Result<(), Refusal>
+    fn prepare(
+        &mut self,
+        body: &Body,
+        more: u64,
+        blocks: u64,
+        tracks: u64,
+        layouts: u64,
+    ) -> Result<(), Refusal>
+        requires layouts { self.old.next_layout ≤ COUNTER_LIMIT }
         requires next { self.old.next_block ≤ COUNTER_LIMIT }
         requires ids { self.old.next_track ≤ COUNTER_LIMIT }
         requires number { self.old.commit_number ≤ COUNTER_LIMIT }
@@ -92,15 +105,17 @@ impl<S: Store> Studio<S> {
         ensures rows { OnOk result (AreWaiting self.new.row.items
             (all_bytes (core_of self.old) (writing more body.now))) }
         ensures room { OnOk result (1 + length self.new.row.items ≤ vec_capacity self.new.row) }
-        ensures spare { OnOk result (blocks ≤ self.new.ledger.spare) }
+        ensures spare { OnOk result (blocks ≤ self.new.tally.ledger.spare) }
         ensures point { OnOk result (length self.new.history.history.points < self.new.history.capacity) }
+        ensures uses { OnOk result (MAX_TRACKS ≤ self.new.tally.uses.spare) }
+        ensures layouts { OnOk result (self.old.next_layout + layouts ≤ COUNTER_LIMIT) }
         ensures err { IfErr result (NotPrepared (core_of self.old) blocks tracks (more + 1)
             (whole_len (core_of self.old) (writing more body.now))
             (all_len (core_of self.old) (writing more body.now))) }
     {
         self.may_make(blocks, tracks, more + 1)?;
         self.may_write(body, more)?;
-        self.ready_counts(blocks)?;
+        self.ready_counts(blocks, layouts)?;
         self.write_records(body, more)?;
         Ok(())
     }
@@ -112,6 +127,7 @@ impl<S: Store> Studio<S> {
         more: u64,
         makes: &[NewBlock],
         tracks: u64,
+        layouts: u64,
         given: &mut G,
     ) -> Result<(), Refusal>
         requires studio { IsStudio S.Store (core_of self.old) }
@@ -136,23 +152,25 @@ impl<S: Store> Studio<S> {
         ensures point { OnOk result (length self.new.history.history.points < self.new.history.capacity) }
         ensures still { StillBrings G.Brings given.old given.new }
         ensures given { RefusedBrought result (G.fault_count given.old) (G.fault_count given.new) }
+        ensures uses { OnOk result (MAX_TRACKS ≤ self.new.tally.uses.spare) }
+        ensures layouts { OnOk result (self.old.next_layout + layouts ≤ COUNTER_LIMIT) }
     {
-        self.prepare(body, more, makes.len() as u64, tracks)?;
+        self.prepare(body, more, makes.len() as u64, tracks, layouts)?;
         self.make_blocks(makes, given)?;
         self.commit_rows(more + 1)
     }
 
     // Puts what an edit takes out, if anything, into the clipboard. It takes no memory.
     fn take_out(&mut self, clip: Option<Strips>)
-        requires there { HasIds (count_of self.old.ledger) (clip_blocks (clip_then clip self.old.clipboard)) }
-        requires room { (id : ℕ) → occurrences (count_of self.old.ledger id) < 2 ^ 102 }
+        requires there { HasIds (count_of self.old.tally.ledger) (clip_blocks (clip_then clip self.old.clipboard)) }
+        requires room { (id : ℕ) → occurrences (count_of self.old.tally.ledger id) < 2 ^ 102 }
         requires fits { MayPaste self.old.buffers (clip_then clip self.old.clipboard) }
-        requires named { HasAll (count_of self.old.ledger) (clip_blocks self.old.clipboard) }
+        requires named { HasAll (count_of self.old.tally.ledger) (clip_blocks self.old.clipboard) }
         ensures fields { core_of self.new ≡ record (core_of self.old) {
           clipboard = clip_then clip self.old.clipboard;
-          counts = count_of self.new.ledger;
+          counts = count_of self.new.tally.ledger;
         } }
-        ensures moves { Moves (count_of self.old.ledger) (count_of self.new.ledger)
+        ensures moves { Moves (count_of self.old.tally.ledger) (count_of self.new.tally.ledger)
             (clip_blocks self.old.clipboard) (clip_blocks (clip_then clip self.old.clipboard)) }
     {
         match clip {
@@ -201,6 +219,7 @@ impl<S: Store> Studio<S> {
             makes,
             next,
             tracks,
+            layouts,
             clip,
         } = edit;
         let body = Body::Edit {
@@ -209,11 +228,11 @@ impl<S: Store> Studio<S> {
             next_track: self.next_track + tracks,
             point,
         };
-        self.carry(&body, more, makes.as_slice(), tracks, given)?;
+        self.carry(&body, more, makes.as_slice(), tracks, layouts, given)?;
         let Body::Edit { point, .. } = body else {
             unreachable!();
         };
-        self.take_recorded(point, tag, tracks);
+        self.take_recorded(point, tag, tracks, layouts);
         self.take_out(clip);
         Ok(self.commit_number)
     }

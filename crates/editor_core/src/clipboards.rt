@@ -9,12 +9,12 @@ ghost use Rattle.editor_core.specs.Core.{core_of};
 ghost use Rattle.editor_core.specs.Occurrences.{HasAll, HasIds, Dropped, Held, Moves, times_named};
 ghost use Rattle.editor_core.specs.Studios.{clip_blocks};
 
-use super::counting::{drop_blocks, hold_blocks};
 use super::studio::Studio;
 use block_ledger::Ledger;
 use clip_track::{Item, Strip};
 use disk_model::Store;
 use edit_ops::Strips;
+use layout_uses::{drop_blocks, hold_blocks};
 use pcm_base::{BlockRef, Piece};
 
 // The block that an item names, if any.
@@ -114,19 +114,20 @@ fn count_clip(ledger: &mut Ledger, old: &Option<Strips>, new: &Strips)
 impl<S: Store> Studio<S> {
     // Puts strips into the clipboard.
     pub(crate) fn take_clip(&mut self, strips: Strips)
-        requires there { HasIds (count_of self.old.ledger) (strips_blocks strips) }
-        requires room { (id : ℕ) → occurrences (count_of self.old.ledger id) < 2 ^ 102 }
+        requires there { HasIds (count_of self.old.tally.ledger) (strips_blocks strips) }
+        requires room { (id : ℕ) → occurrences (count_of self.old.tally.ledger id) < 2 ^ 102 }
         requires few { length strips ≤ MAX_TRACKS }
-        requires named { HasAll (count_of self.old.ledger) (clip_blocks self.old.clipboard) }
+        requires named { HasAll (count_of self.old.tally.ledger) (clip_blocks self.old.clipboard) }
         ensures fields { core_of self.new ≡ record (core_of self.old) {
           clipboard = Some strips;
-          counts = count_of self.new.ledger;
+          counts = count_of self.new.tally.ledger;
         } }
-        ensures moves { Moves (count_of self.old.ledger) (count_of self.new.ledger)
+        ensures moves { Moves (count_of self.old.tally.ledger) (count_of self.new.tally.ledger)
             (clip_blocks self.old.clipboard) (strips_blocks strips) }
         ensures most { length (strips_blocks strips) ≤ 2 ^ 71 }
+        ensures uses { self.new.tally.uses ≡ self.old.tally.uses }
     {
-        count_clip(&mut self.ledger, &self.clipboard, &strips);
+        count_clip(&mut self.tally.ledger, &self.clipboard, &strips);
         self.clipboard = Some(strips);
     }
 }

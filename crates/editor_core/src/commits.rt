@@ -76,7 +76,7 @@ impl<S: Store> Studio<S> {
         ensures memory { 5 + length self.old.body.items ≤ vec_capacity self.old.row → IfErr result IsNoWant }
         ensures undamaged { IfErr result IsUndamaged }
         ensures history { self.new.history ≡ self.old.history }
-        ensures ledger { self.new.ledger ≡ self.old.ledger }
+        ensures ledger { self.new.tally ≡ self.old.tally }
     {
         let added = append(
             &mut self.store,
@@ -99,7 +99,7 @@ impl<S: Store> Studio<S> {
         ensures memory { 1 + length self.old.row.items ≤ vec_capacity self.old.row → IfErr result IsNoWant }
         ensures undamaged { IfErr result IsUndamaged }
         ensures history { self.new.history ≡ self.old.history }
-        ensures ledger { self.new.ledger ≡ self.old.ledger }
+        ensures ledger { self.new.tally ≡ self.old.tally }
     {
         let added = append_records(&mut self.store, self.file, self.journal_end, &mut self.row);
         self.settle(added, count)
@@ -110,7 +110,7 @@ impl<S: Store> Studio<S> {
         requires { self.old.commit_number + count ≤ COUNTER_LIMIT }
         ensures fields { Settles S.Store (core_of self.old) count added result (core_of self.new) }
         ensures history { self.new.history ≡ self.old.history }
-        ensures ledger { self.new.ledger ≡ self.old.ledger }
+        ensures ledger { self.new.tally ≡ self.old.tally }
     {
         match added {
             Ok(next) => {

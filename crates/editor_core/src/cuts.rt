@@ -1,9 +1,11 @@
 // Ranges of a run of tracks, which are taken out and put into the clipboard.
-ghost use Rattle.std.specs.Prelude.{◌≡◌, IfErr, IfOk};
+ghost use Rattle.std.specs.Prelude.{◌≡◌, ◌+◌, IfErr, IfOk};
 ghost use Rattle.std.specs.List.{AllByRecursion};
 ghost use Rattle.pcm_base.specs.declared.answer.Reply.TheVariants as reply;
 ghost use Rattle.pcm_base.specs.declared.command.Call.TheVariants.{Line};
 ghost use Rattle.clip_track.specs.Items.{AreItems};
+ghost use Rattle.layout_uses.specs.Drawing.{HasNumbers};
+ghost use Rattle.project_state.specs.Kept.{current_tracks};
 ghost use Rattle.envelope_view.specs.Answers.{IsUndamaged};
 ghost use Rattle.editor_core.specs.Core.{core_of};
 ghost use Rattle.editor_core.specs.Cuts.{IsCutPlan, NoCutPlan, cut_line};
@@ -71,6 +73,8 @@ impl<S: Store> Studio<S> {
         requires { IsStudio S.Store (core_of self.now) }
         ensures plan { IfOk result (λ p. IsCutPlan removing range (core_of self.now) p) }
         ensures tracks { IfOk result (λ p. p.tracks ≡ 0) }
+        ensures layouts { IfOk result (λ p. HasNumbers (current_tracks self.now.history.history) self.now.next_layout
+            p.point (self.now.next_layout + p.layouts)) }
         ensures err { IfErr result (NoCutPlan range (core_of self.now)) }
     {
         let project = self.current();
@@ -95,6 +99,7 @@ impl<S: Store> Studio<S> {
             range.track,
             plans,
             self.next_block,
+            self.next_layout,
             Some(strips),
         )?;
         Ok(planned)

@@ -7,7 +7,7 @@ ghost use Rattle.pcm_base.specs.declared.command.Command.TheVariants as command;
 ghost use Rattle.pcm_base.specs.declared.refusal.Refusal.TheVariants as refusal;
 ghost use Rattle.pcm_base.specs.Refusals.{refused_if};
 ghost use Rattle.envelope_view.specs.Answers.{IsUndamaged};
-ghost use Rattle.project_state.specs.Tracks.{AreAbove, AllBelow, track_of};
+ghost use Rattle.project_state.specs.Tracks.{AllBelow, track_of};
 ghost use Rattle.project_state.specs.Kept.{current_tracks};
 ghost use Rattle.editor_core.specs.Core.{core_of};
 ghost use Rattle.editor_core.specs.Plain.{line_of, IsGood, refusal_by, set_by, IsSet, IsEdited};
@@ -15,8 +15,8 @@ ghost use Rattle.editor_core.specs.Points.{lacks};
 ghost use Rattle.editor_core.specs.Studios.{IsStudio};
 ghost use Rattle.editor_core.specs.Took.{Took, quietly, told_by};
 
-use super::plain::{PlainEdit, set_track, tracks_for};
-use super::points::{with_new_track, with_track, without_track};
+use super::plain::{PlainEdit, layouts_for, set_track, tracks_for};
+use super::points::with_new_track;
 use super::studio::Studio;
 use disk_model::Store;
 use pcm_base::{MAX_TRACKS, NoMemory, Refusal, Side};
@@ -24,9 +24,8 @@ use project_state::Point;
 use std::alloc::Global;
 
 // The project with one track changed.
-fn set_in(alloc: Global, point: &Point, id: u64, edit: &PlainEdit) -> Result<Point, NoMemory>
-    requires there { lacks id (track_of id point.now) ≡ None }
-    requires rising { AreAbove 1 point.now }
+fn set_in(point: &Point, id: u64, edit: &PlainEdit) -> Result<Point, NoMemory>
+    requires { lacks id (track_of id point.now) ≡ None }
     ensures { IfOk result (λ p. IsSet id (set_by edit.now) point.now p) }
 {
     let Ok(old) = point.track(id) else {
@@ -34,7 +33,7 @@ fn set_in(alloc: Global, point: &Point, id: u64, edit: &PlainEdit) -> Result<Poi
     };
     let mut new = old.copy()?;
     set_track(edit, &mut new);
-    with_track(alloc, point, &new)
+    point.with(new)
 }
 
 impl<S: Store> Studio<S> {
@@ -131,10 +130,11 @@ impl<S: Store> Studio<S> {
     {
         let tracks = tracks_for(&edit);
         self.may_commit(self.edit_refusal(&edit), tracks)?;
-        self.make_room()?;
+        let layouts = layouts_for(&edit);
+        self.make_room(layouts)?;
         let point = self.edited(alloc, &edit)?;
         let point = self.commit_point(point, tracks)?;
-        self.take_point(point, tracks);
+        self.take_point(point, tracks, layouts);
         Ok(self.commit_number)
     }
 
@@ -176,17 +176,17 @@ impl<S: Store> Studio<S> {
     // The project that an edit makes of the current one.
     fn edited(&self, alloc: Global, edit: &PlainEdit) -> Result<Point, NoMemory>
         requires there { refusal_by edit.now (current_tracks self.now.history.history) ≡ None }
-        requires rising { AreAbove 1 (current_tracks self.now.history.history) }
         requires below { AllBelow self.now.next_track (current_tracks self.now.history.history) }
-        ensures { IfOk result (IsEdited edit.now self.now.next_track (current_tracks self.now.history.history)) }
+        ensures { IfOk result (IsEdited edit.now self.now.next_track self.now.next_layout
+            (current_tracks self.now.history.history)) }
     {
         let old = self.current();
         match edit {
-            PlainEdit::Track => with_new_track(alloc, old, self.next_track),
-            PlainEdit::Drop { track } => without_track(alloc, old, *track),
+            PlainEdit::Track => with_new_track(alloc, old, self.next_track, self.next_layout),
+            PlainEdit::Drop { track } => old.without(*track),
             PlainEdit::Level { track, .. }
             | PlainEdit::Side { track, .. }
-            | PlainEdit::Mute { track, .. } => set_in(alloc, old, *track, edit),
+            | PlainEdit::Mute { track, .. } => set_in(old, *track, edit),
         }
     }
 }

@@ -36,7 +36,7 @@ impl<S: Store> Studio<S> {
             depth: self.history.depth(),
             points: self.history.len() as u64,
             cursor: self.history.cursor() as u64,
-            blocks: self.ledger.named_len(),
+            blocks: self.tally.ledger.named_len(),
         }
     }
 }

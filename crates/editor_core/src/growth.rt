@@ -19,13 +19,16 @@ use project_state::{Point, Track};
 use std::alloc::Global;
 
 /// The project that grows track by track, the blocks that are to be made for it, the id of the next block after them,
-/// and how many samples the tracks so far have: this many of those that are brought are spoken for.
+/// and how many samples the tracks so far have: this many of those that are brought are spoken for. And the number that
+/// the next layout gets.
 #[derive(Drop)]
 pub(crate) struct Growing {
     pub(crate) point: Point,
     pub(crate) makes: Vec<NewBlock>,
     pub(crate) next: u64,
     pub(crate) brought: u64,
+    /// The number of the next layout.
+    pub(crate) number: u64,
 }
 
 // A piece of a channel's samples, as a piece of all samples, where this many stand before the channel's.
@@ -91,16 +94,17 @@ fn plan_channel(planner: Planner, from: u64, count: u64) -> Result<Plan, Refusal
     })
 }
 
-// Adds a new track with these clips after the others.
-fn add_track(point: &mut Point, id: u64, layout: Layout) -> Result<(), Refusal>
+// Adds a new track with these clips, which have this number, after the others.
+fn add_track(point: &mut Point, id: u64, number: u64, layout: Layout) -> Result<(), Refusal>
     requires { AllBelow id point.old }
-    ensures { Adds point.old point.new (track_with id layout) result }
+    ensures { Adds point.old point.new (track_with id number layout) result }
 {
     point.add(Track {
         id,
         gain: UNITY_GAIN,
         side: Side::Both,
         mute: false,
+        number,
         layout,
     })
 }
@@ -125,6 +129,7 @@ pub(crate) fn add_channel(
 ) -> Result<(), Refusal>
     requires some { 0 < block_size }
     requires room { growing.old.next < 2 ^ 63 }
+    requires number { growing.old.number < 2 ^ 63 }
     requires few { growing.old.brought + count ≤ COUNTER_LIMIT }
     requires below { AllBelow id growing.old.point }
     requires place { length growing.old.point < MAX_TRACKS }
@@ -143,17 +148,18 @@ pub(crate) fn add_channel(
         makes,
         next,
     } = plan;
-    add_track(&mut growing.point, id, layout)?;
+    add_track(&mut growing.point, id, growing.number, layout)?;
     add_blocks(&mut growing.makes, makes)?;
     growing.next = next;
     growing.brought += count;
+    growing.number += 1;
     Ok(())
 }
 
-// The plan of the project that has grown by this many tracks.
+// The plan of the project that has grown by this many tracks, each with a layout of its own.
 pub(crate) fn planned_of(growing: Growing, tracks: u64) -> Planned
     ensures { (result.point ≡ growing.point) × (result.makes ≡ growing.makes.items) × (result.next ≡ growing.next)
-        × (result.tracks ≡ tracks) × (result.clip ≡ None) }
+        × (result.tracks ≡ tracks) × (result.layouts ≡ tracks) × (result.clip ≡ None) }
 {
     let Growing {
         point,
@@ -166,6 +172,7 @@ pub(crate) fn planned_of(growing: Growing, tracks: u64) -> Planned
         makes: NewBlocks::new(makes),
         next,
         tracks,
+        layouts: tracks,
         clip: None,
     }
 }

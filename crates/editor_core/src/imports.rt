@@ -150,6 +150,7 @@ impl<S: Store> Studio<S> {
             makes: Vec::new(alloc),
             next: self.next_block,
             brought: 0,
+            number: self.next_layout,
         };
         let mut id = self.next_track;
         'channels: for count in counts {

@@ -288,7 +288,7 @@ impl<S: Store> Studio<S> {
             next: self.next_block,
         };
         let plan = plan_insert(planner, &old.layout, place, count)?;
-        let planned = planned(alloc, project, old, plan)?;
+        let planned = planned(project, old, plan, self.next_layout)?;
         Ok(planned)
     }
 }

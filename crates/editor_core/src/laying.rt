@@ -1,11 +1,14 @@
 // The new project of an edit of a run of tracks, by the plans of their layouts.
-ghost use Rattle.std.specs.Prelude.{◌≡◌, ◌+◌, ◌≤◌, ◌^◌, ◌++◌, IfOk, OnOk, length};
+ghost use Rattle.std.specs.Prelude.{◌≡◌, ◌+◌, ◌≤◌, ◌<◌, ◌^◌, ◌++◌, ◌∷◌, [], IfOk, IfSome, OnOk, Some, length};
+ghost use Rattle.std.specs.Prelude.{slice_get};
 ghost use Rattle.std.specs.Vec.Iter.{into_iter_items, into_iter_len};
-ghost use Rattle.pcm_base.specs.declared.limits.TheConstants.{COUNTER_LIMIT};
+ghost use Rattle.pcm_base.specs.declared.limits.TheConstants.{COUNTER_LIMIT, MAX_TRACKS};
 ghost use Rattle.clip_track.specs.Clips.{IsLayout};
-ghost use Rattle.project_state.specs.Tracks.{AreAbove};
+ghost use Rattle.project_state.specs.Tracks.{AllBelow, AreAbove};
+ghost use Rattle.project_state.specs.declared.track.Track.{Track};
+ghost use Rattle.layout_uses.specs.Drawing.{HasNumbers};
 ghost use Rattle.editor_core.specs.Copies.{run_of};
-ghost use Rattle.editor_core.specs.RunEdits.{IsRunPlan, Lays};
+ghost use Rattle.editor_core.specs.RunEdits.{IsRunPlan, Lays, laid_or, next_number};
 ghost use Rattle.editor_core.specs.TrackEdits.{with_layout};
 
 use super::carrying::Planned;
@@ -15,9 +18,14 @@ use project_state::{Point, Track};
 use std::alloc::Global;
 use std::vec::IntoIter;
 
-// A track with the layout of a plan, whose new blocks come to others.
-fn laid_out(track: &Track, plan: Plan, makes: &mut Vec<NewBlock>) -> Result<Track, NoMemory>
-    ensures track { IfOk result (λ t. t ≡ with_layout track.now plan.layout) }
+// A track with the layout of a plan, which gets this number. The plan's new blocks come to others.
+fn laid_out(
+    track: &Track,
+    plan: Plan,
+    number: u64,
+    makes: &mut Vec<NewBlock>,
+) -> Result<Track, NoMemory>
+    ensures track { IfOk result (λ t. t ≡ with_layout number track.now plan.layout) }
     ensures makes { OnOk result (makes.new.items ≡ makes.old.items ++ plan.makes) }
     ensures layout { OnOk result (IsLayout plan.layout) }
 {
@@ -33,58 +41,101 @@ fn laid_out(track: &Track, plan: Plan, makes: &mut Vec<NewBlock>) -> Result<Trac
         gain: track.gain,
         side: track.side,
         mute: track.mute,
+        number,
         layout,
     })
 }
 
-// A track, by the next plan where its id is this one or greater, as long as there is a plan.
-fn next_track(
-    track: &Track,
-    id: u64,
-    plans: &mut IntoIter<Plan>,
-    makes: &mut Vec<NewBlock>,
-) -> Result<Track, NoMemory>
-    requires { into_iter_len plans.old ≡ length (into_iter_items plans.old) }
-    ensures len { OnOk result (into_iter_len plans.new ≡ length (into_iter_items plans.new)) }
-    ensures lays { IfOk result (λ t. Lays id
-        (record { plans = into_iter_items plans.old; makes = makes.old.items })
-        (record { plans = into_iter_items plans.new; makes = makes.new.items }) track.now t) }
+// The number after one, where a layout got it.
+fn number_after(number: u64, laid: &Option<Track>) -> u64
+    requires { number ≤ 2 ^ 63 }
+    ensures { result ≡ next_number number laid.now }
 {
-    if track.id < id {
-        return track.copy();
-    }
-    match plans.next() {
-        None => track.copy(),
-        Some(plan) => laid_out(track, plan, makes),
+    match laid {
+        Some(_) => number + 1,
+        None => number,
     }
 }
 
-// The project whose tracks from an id on have the layouts of plans, one after another, with their new blocks. The plans
-// give no track id.
+// A track by the next plan where its id is this one or greater, as long as there is a plan; none where it stays.
+fn next_track(
+    track: &Track,
+    id: u64,
+    number: u64,
+    plans: &mut IntoIter<Plan>,
+    makes: &mut Vec<NewBlock>,
+) -> Result<Option<Track>, NoMemory>
+    requires { into_iter_len plans.old ≡ length (into_iter_items plans.old) }
+    ensures len { OnOk result (into_iter_len plans.new ≡ length (into_iter_items plans.new)) }
+    ensures lays { IfOk result (λ t. Lays id
+        (record { plans = into_iter_items plans.old; makes = makes.old.items; number = number })
+        (record { plans = into_iter_items plans.new; makes = makes.new.items; number = next_number number t })
+        track.now (laid_or track.now t)) }
+    ensures number { IfOk result (λ laid. IfSome laid (λ t. t.number ≡ number)) }
+{
+    if track.id < id {
+        return Ok(None);
+    }
+    match plans.next() {
+        None => Ok(None),
+        Some(plan) => {
+            let track = laid_out(track, plan, number, makes)?;
+            Ok(Some(track))
+        }
+    }
+}
+
+// Puts the track at a place of a project after the others, or the one that stands for it.
+fn add_laid(
+    point: &mut Point,
+    project: &Point,
+    index: usize,
+    laid: Option<Track>,
+) -> Result<(), NoMemory>
+    requires within { index < length project.now }
+    requires above { (t : Track) → slice_get project.now index ≡ Some t → AllBelow t.id point.old }
+    requires same { (t : Track) → slice_get project.now index ≡ Some t → (laid_or t laid).id ≡ t.id }
+    requires few { length point.old < MAX_TRACKS }
+    ensures { (t : Track) → slice_get project.now index ≡ Some t
+        → OnOk result (point.new ≡ point.old ++ laid_or t laid ∷ []) }
+{
+    match laid {
+        None => point.share(project, index),
+        Some(track) => match point.add(track) {
+            Ok(()) => Ok(()),
+            Err(_) => Err(NoMemory),
+        },
+    }
+}
+
+// The project whose tracks from an id on have the layouts of plans, one after another, with their new blocks. The
+// layouts have the numbers from `first` on, and the plans give no track id. All other tracks are those of the project.
 pub(crate) fn planned_run(
     alloc: Global,
     project: &Point,
     id: u64,
     plans: Plans,
     next: u64,
+    first: u64,
     clip: Option<Strips>,
 ) -> Result<Planned, NoMemory>
     requires rising { AreAbove 1 project.now }
     requires fits { length plans ≤ length (run_of id project.now) }
     requires room { next ≤ COUNTER_LIMIT }
-    ensures plan { IfOk result (λ p. IsRunPlan id next project.now plans p) }
+    requires numbers { first ≤ COUNTER_LIMIT }
+    ensures plan { IfOk result (λ p. IsRunPlan id next first project.now plans p) }
+    ensures layouts { IfOk result (λ p. HasNumbers project.now first p.point (first + p.layouts)) }
     ensures tracks { IfOk result (λ p. p.tracks ≡ 0) }
     ensures clip { IfOk result (λ p. p.clip ≡ clip) }
 {
     let mut left = plans.into_vec().into_iter();
     let mut point = Point::new(alloc);
     let mut makes = Vec::new(alloc);
+    let mut number = first;
     for i in 0..project.len() {
-        let track = next_track(project.track_at(i), id, &mut left, &mut makes)?;
-        match point.add(track) {
-            Ok(()) => {}
-            Err(_) => return Err(NoMemory),
-        }
+        let laid = next_track(project.track_at(i), id, number, &mut left, &mut makes)?;
+        number = number_after(number, &laid);
+        add_laid(&mut point, project, i, laid)?;
     }
     let next = next + makes.len() as u64;
     Ok(Planned {
@@ -92,6 +143,7 @@ pub(crate) fn planned_run(
         makes: NewBlocks::new(makes),
         next,
         tracks: 0,
+        layouts: number - first,
         clip,
     })
 }

@@ -42,8 +42,8 @@ impl<S: Store> Studio<S> {
             → AreInOrder 0 (G.brings given.old).count block.now.pieces }
         requires total { total block.now.pieces ≡ block.now.len }
         requires size { block.now.len ≤ self.old.buffers }
-        requires spare { 0 < self.old.ledger.spare }
-        requires fresh { count_of self.old.ledger block.now.id ≡ None }
+        requires spare { 0 < self.old.tally.ledger.spare }
+        requires fresh { count_of self.old.tally.ledger block.now.id ≡ None }
         requires few { self.old.next_block < COUNTER_LIMIT }
         ensures made { MatchResult result
             (λ _. (samples : ℕ → ℤ) × MayBring (G.brings given.old) samples
@@ -56,14 +56,15 @@ impl<S: Store> Studio<S> {
             → IfErr result (IsDamageAmong (S.reads self.old.store) block.now.pieces) }
         ensures still { StillBrings G.Brings given.old given.new }
         ensures given { RefusedBrought result (G.fault_count given.old) (G.fault_count given.new) }
-        ensures spare { self.old.ledger.spare ≤ self.new.ledger.spare + 1 }
+        ensures spare { self.old.tally.ledger.spare ≤ self.new.tally.ledger.spare + 1 }
         ensures history { self.new.history ≡ self.old.history }
         ensures body { self.new.body ≡ self.old.body }
         ensures row { self.new.row ≡ self.old.row }
+        ensures uses { self.new.tally.uses ≡ self.old.tally.uses }
     {
         match self.buffers.write_new(&mut self.store, block, given) {
             Ok(()) => {
-                count_free(&mut self.ledger, block.id);
+                count_free(&mut self.tally.ledger, block.id);
                 self.next_block += 1;
                 Ok(())
             }
@@ -86,8 +87,8 @@ impl<S: Store> Studio<S> {
         requires least { FIRST_BLOCK ≤ self.old.next_block }
         requires most { self.old.next_block + length makes.now ≤ COUNTER_LIMIT }
         requires size { self.old.buffers ≤ MAX_BLOCK_SAMPLES }
-        requires spare { length makes.now ≤ self.old.ledger.spare }
-        requires below { (id : ℕ) → IsSome (count_of self.old.ledger id) → id < self.old.next_block }
+        requires spare { length makes.now ≤ self.old.tally.ledger.spare }
+        requires below { (id : ℕ) → IsSome (count_of self.old.tally.ledger id) → id < self.old.next_block }
         ensures written { (samples : ℕ → ℤ) × MayBring (G.brings given.old) samples
             × Writes S.Store (core_of self.old) (batch_of samples makes.now) result (core_of self.new) }
         ensures refused { IfErr result (IsBroughtRefusal (G.brings given.old)) }
@@ -96,6 +97,7 @@ impl<S: Store> Studio<S> {
         ensures history { self.new.history ≡ self.old.history }
         ensures body { self.new.body ≡ self.old.body }
         ensures row { self.new.row ≡ self.old.row }
+        ensures uses { self.new.tally.uses ≡ self.old.tally.uses }
     {
         'rows: for block in makes {
             self.write_one(block, given)?;
@@ -110,6 +112,7 @@ impl<S: Store> Studio<S> {
         ensures history { self.new.history ≡ self.old.history }
         ensures body { self.new.body ≡ self.old.body }
         ensures row { self.new.row ≡ self.old.row }
+        ensures uses { self.new.tally.uses ≡ self.old.tally.uses }
     {
         'rows: for i in 0..count {
             if let Err(_) = sync_block(&mut self.store, first + i) {
@@ -136,8 +139,8 @@ impl<S: Store> Studio<S> {
         requires least { FIRST_BLOCK ≤ self.old.next_block }
         requires most { self.old.next_block + length makes.now ≤ COUNTER_LIMIT }
         requires size { self.old.buffers ≤ MAX_BLOCK_SAMPLES }
-        requires spare { length makes.now ≤ self.old.ledger.spare }
-        requires below { (id : ℕ) → IsSome (count_of self.old.ledger id) → id < self.old.next_block }
+        requires spare { length makes.now ≤ self.old.tally.ledger.spare }
+        requires below { (id : ℕ) → IsSome (count_of self.old.tally.ledger id) → id < self.old.next_block }
         ensures made { (samples : ℕ → ℤ) × MayBring (G.brings given.old) samples
             × Makes S.Store (core_of self.old) (batch_of samples makes.now) result (core_of self.new) }
         ensures refused { IfErr result (IsBroughtRefusal (G.brings given.old)) }
@@ -146,6 +149,7 @@ impl<S: Store> Studio<S> {
         ensures history { self.new.history ≡ self.old.history }
         ensures body { self.new.body ≡ self.old.body }
         ensures row { self.new.row ≡ self.old.row }
+        ensures uses { self.new.tally.uses ≡ self.old.tally.uses }
     {
         let first = self.next_block;
         self.write_blocks(makes, given)?;

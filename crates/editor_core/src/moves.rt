@@ -14,10 +14,10 @@ ghost use Rattle.editor_core.specs.Core.{core_of};
 ghost use Rattle.editor_core.specs.Studios.{IsStudio};
 ghost use Rattle.editor_core.specs.Took.{Took, quietly, told_by};
 
-use super::counting::drop_points;
 use super::studio::Studio;
 use byteorder::{ByteOrder, LittleEndian};
 use disk_model::Store;
+use layout_uses::count_purge;
 use pcm_base::Refusal;
 use project_state::{PURGE_KIND, REDO_KIND, UNDO_KIND};
 
@@ -116,7 +116,7 @@ impl<S: Store> Studio<S> {
     {
         self.may_commit(self.purge_refusal(count), 0)?;
         self.commit_small(&purge_body(count))?;
-        drop_points(&mut self.ledger, &self.history, 0, count as usize);
+        count_purge(&mut self.tally, &self.history, count as usize);
         let _ = self.history.purge(count);
         Ok(self.commit_number)
     }

@@ -1,9 +1,11 @@
 // The strips of the clipboard, put into a run of tracks.
-ghost use Rattle.std.specs.Prelude.{◌≡◌, IfErr, IfOk, None};
+ghost use Rattle.std.specs.Prelude.{◌≡◌, ◌+◌, IfErr, IfOk, None};
 ghost use Rattle.pcm_base.specs.declared.answer.Reply.TheVariants as reply;
 ghost use Rattle.pcm_base.specs.declared.command.Call.TheVariants.{Line};
 ghost use Rattle.pcm_base.specs.Form.{IsNumber};
 ghost use Rattle.pcm_base.specs.Shape.{paste_line};
+ghost use Rattle.layout_uses.specs.Drawing.{HasNumbers};
+ghost use Rattle.project_state.specs.Kept.{current_tracks};
 ghost use Rattle.envelope_view.specs.Answers.{IsUndamaged};
 ghost use Rattle.editor_core.specs.Core.{core_of};
 ghost use Rattle.editor_core.specs.Pastes.{IsPastePlan, NoPastePlan};
@@ -68,6 +70,8 @@ impl<S: Store> Studio<S> {
         requires in_form { IsNumber at }
         ensures plan { IfOk result (λ p. IsPastePlan placing track at (core_of self.now) p) }
         ensures tracks { IfOk result (λ p. p.tracks ≡ 0) }
+        ensures layouts { IfOk result (λ p. HasNumbers (current_tracks self.now.history.history) self.now.next_layout
+            p.point (self.now.next_layout + p.layouts)) }
         ensures clip { IfOk result (λ p. p.clip ≡ None) }
         ensures err { IfErr result (NoPastePlan placing track at (core_of self.now)) }
     {
@@ -84,7 +88,15 @@ impl<S: Store> Studio<S> {
             next: self.next_block,
         };
         let plans = paste(planner, &run, Some(clip), placing, at)?;
-        let planned = planned_run(alloc, project, track, plans, self.next_block, None)?;
+        let planned = planned_run(
+            alloc,
+            project,
+            track,
+            plans,
+            self.next_block,
+            self.next_layout,
+            None,
+        )?;
         Ok(planned)
     }
 }

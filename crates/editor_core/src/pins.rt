@@ -1,25 +1,27 @@
 // Projects that are kept as they were.
-ghost use Rattle.std.specs.Prelude.{◌≡◌, ◌+◌, ◌≤◌, ◌<◌, ◌^◌, ℕ, [], ◌∷◌, ◌++◌, IfErr, OnOk, OnErr};
+ghost use Rattle.std.specs.Prelude.{◌≡◌, ◌+◌, ◌≤◌, ◌<◌, ◌^◌, ℕ, [], ◌∷◌, ◌++◌, IfErr, OnOk, OnErr, length};
 ghost use Rattle.pcm_base.specs.declared.answer.Reply.TheVariants as reply;
 ghost use Rattle.pcm_base.specs.declared.command.Call.TheVariants as call;
 ghost use Rattle.pcm_base.specs.declared.refusal.Refusal.TheVariants as refusal;
 ghost use Rattle.block_ledger.specs.Counts.{occurrences};
 ghost use Rattle.block_ledger.specs.Entries.{count_of};
 ghost use Rattle.envelope_view.specs.Answers.{IsUndamaged};
-ghost use Rattle.project_state.specs.Kept.{current_tracks, point_blocks};
+ghost use Rattle.project_state.specs.Kept.{current_tracks};
+ghost use Rattle.layout_uses.specs.Layouts.{track_blocks};
+ghost use Rattle.layout_uses.specs.Occurrences.{HasIds, times_named};
+ghost use Rattle.layout_uses.specs.Tallies.{Comes};
+ghost use Rattle.pcm_base.specs.declared.limits.TheConstants.{MAX_TRACKS};
 ghost use Rattle.editor_core.specs.declared.studio.Pin.{Pin};
 ghost use Rattle.editor_core.specs.Core.{core_of};
-ghost use Rattle.editor_core.specs.Occurrences.{HasIds, Held, times_named};
 ghost use Rattle.editor_core.specs.Pins.{MayTake, AnswersPin, AnswersUnpin};
 ghost use Rattle.editor_core.specs.Studios.{IsStudio};
 ghost use Rattle.editor_core.specs.Took.{Took, quietly, told_by};
 
-use super::counting::{drop_point, hold_point};
 use super::current::current_of;
 use super::studio::{Pin, Studio};
-use block_ledger::Ledger;
 use disk_model::Store;
-use pcm_base::{COUNTER_LIMIT, Refusal};
+use layout_uses::Tally;
+use pcm_base::{COUNTER_LIMIT, MAX_TRACKS, Refusal};
 use project_state::Point;
 use undo_history::History;
 
@@ -35,19 +37,20 @@ fn take_pin(pins: &mut Vec<Pin>, number: u64) -> Option<Pin>
     None
 }
 
-// The current project is named once more.
-fn hold_current(ledger: &mut Ledger, history: &History<Point>)
-    requires there { HasIds (count_of ledger.old) (point_blocks (current_tracks history.now.history)) }
-    requires few { (id : ℕ) → occurrences (count_of ledger.old id)
-        + times_named id (point_blocks (current_tracks history.now.history)) < 2 ^ 128 }
-    ensures { Held (count_of ledger.old) (count_of ledger.new) (point_blocks (current_tracks history.now.history)) }
+// The current project uses its layouts once more.
+fn use_current(tally: &mut Tally, history: &History<Point>)
+    requires room { length (current_tracks history.now.history) ≤ tally.old.uses.spare }
+    requires there { HasIds (count_of tally.old.ledger) (track_blocks (current_tracks history.now.history)) }
+    requires few { (id : ℕ) → occurrences (count_of tally.old.ledger id)
+        + times_named id (track_blocks (current_tracks history.now.history)) < 2 ^ 128 }
+    ensures { Comes (current_tracks history.now.history) tally.old tally.new }
 {
-    hold_point(ledger, current_of(history));
+    tally.use_point(current_of(history));
 }
 
 impl<S: Store> Studio<S> {
-    /// Keeps the current project by a number of its own, whatever is undone, purged or edited. It takes memory for a
-    /// copy of the tracks and the references to blocks. No sample is copied, and nothing is asked of the disk.
+    /// Keeps the current project by a number of its own, whatever is undone, purged or edited. It takes memory for the
+    /// tracks, which it shares. No clip and no sample is copied, and nothing is asked of the disk.
     ///
     /// # Errors
     ///
@@ -70,12 +73,12 @@ impl<S: Store> Studio<S> {
             });
         }
         self.add_pin()?;
-        hold_current(&mut self.ledger, &self.history);
+        use_current(&mut self.tally, &self.history);
         self.next_pin += 1;
         Ok(self.next_pin - 1)
     }
 
-    // Puts a copy of the current project after the pins.
+    // Puts the current project after the pins, and makes room for the uses of its layouts.
     fn add_pin(&mut self) -> Result<(), Refusal>
         ensures ok { OnOk result (core_of self.new ≡ record (core_of self.old) {
           pins = self.old.pins.items
@@ -84,8 +87,10 @@ impl<S: Store> Studio<S> {
         ensures err { OnErr result (core_of self.new ≡ core_of self.old) }
         ensures memory { IfErr result (λ e. e ≡ refusal.NoMemory) }
         ensures history { self.new.history ≡ self.old.history }
-        ensures ledger { self.new.ledger ≡ self.old.ledger }
+        ensures ledger { self.new.tally.ledger ≡ self.old.tally.ledger }
+        ensures uses { OnOk result (MAX_TRACKS ≤ self.new.tally.uses.spare) }
     {
+        self.tally.reserve(MAX_TRACKS as u64)?;
         let number = self.next_pin;
         let point = current_of(&self.history).copy()?;
         self.pins.push(Pin { number, point })?;
@@ -106,7 +111,7 @@ impl<S: Store> Studio<S> {
         let Some(gone) = take_pin(&mut self.pins, pin) else {
             return Err(Refusal::NoPin { pin });
         };
-        drop_point(&mut self.ledger, &gone.point);
+        self.tally.leave_point(&gone.point);
         Ok(())
     }
 }

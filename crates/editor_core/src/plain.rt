@@ -1,6 +1,6 @@
 // Edits that make no blocks.
 ghost use Rattle.std.specs.Prelude.{◌≡◌};
-ghost use Rattle.editor_core.specs.Plain.{tracks_by, set_by};
+ghost use Rattle.editor_core.specs.Plain.{layouts_by, tracks_by, set_by};
 
 use pcm_base::Side;
 use project_state::Track;
@@ -18,6 +18,19 @@ pub(crate) enum PlainEdit {
 // How many track ids it needs.
 pub(crate) fn tracks_for(edit: &PlainEdit) -> u64
     ensures { result ≡ tracks_by edit.now }
+{
+    match edit {
+        PlainEdit::Track => 1,
+        PlainEdit::Drop { .. }
+        | PlainEdit::Level { .. }
+        | PlainEdit::Side { .. }
+        | PlainEdit::Mute { .. } => 0,
+    }
+}
+
+// How many layouts it makes.
+pub(crate) fn layouts_for(edit: &PlainEdit) -> u64
+    ensures { result ≡ layouts_by edit.now }
 {
     match edit {
         PlainEdit::Track => 1,

@@ -1,29 +1,26 @@
 // The new project of an edit of one track, by the plan of its layout.
 ghost use Rattle.std.specs.Prelude.{◌≡◌, IfOk, None, OnOk};
 ghost use Rattle.clip_track.specs.Clips.{IsLayout};
-ghost use Rattle.project_state.specs.Tracks.{AreAbove};
 ghost use Rattle.editor_core.specs.Points.{put_in};
 ghost use Rattle.editor_core.specs.TrackEdits.{with_layout};
 
 use super::carrying::Planned;
-use super::points::with_track;
 use edit_ops::Plan;
 use pcm_base::NoMemory;
 use project_state::{Point, Track};
-use std::alloc::Global;
 
-// The project with the layout of a track as a plan has it. The plan gives no track id.
+// The project with the layout of a track as a plan has it, which gets this number. The plan gives no track id.
 pub(crate) fn planned(
-    alloc: Global,
     project: &Point,
     old: &Track,
     plan: Plan,
+    number: u64,
 ) -> Result<Planned, NoMemory>
-    requires { AreAbove 1 project.now }
-    ensures point { IfOk result (λ p. p.point ≡ put_in (with_layout old.now plan.layout) project.now) }
+    ensures point { IfOk result (λ p. p.point ≡ put_in (with_layout number old.now plan.layout) project.now) }
     ensures makes { IfOk result (λ p. p.makes ≡ plan.makes) }
     ensures next { IfOk result (λ p. p.next ≡ plan.next) }
     ensures tracks { IfOk result (λ p. p.tracks ≡ 0) }
+    ensures layouts { IfOk result (λ p. p.layouts ≡ 1) }
     ensures clip { IfOk result (λ p. p.clip ≡ None) }
     ensures layout { OnOk result (IsLayout plan.layout) }
 {
@@ -38,14 +35,16 @@ pub(crate) fn planned(
         gain: old.gain,
         side: old.side,
         mute: old.mute,
+        number,
         layout,
     };
-    let point = with_track(alloc, project, &new)?;
+    let point = project.with(new)?;
     Ok(Planned {
         point,
         makes,
         next,
         tracks: 0,
+        layouts: 1,
         clip: None,
     })
 }

@@ -78,7 +78,7 @@ impl<S: Store> Studio<S> {
             next: self.next_block,
         };
         let plan = edit_range(planner, &old.layout, from, to, edit)?;
-        let planned = planned(alloc, project, old, plan)?;
+        let planned = planned(project, old, plan, self.next_layout)?;
         Ok(planned)
     }
 }

@@ -44,8 +44,8 @@ impl<S: Store> Studio<S> {
     // Removes the files of the first blocks that nothing names, this many at most, and waits until they are gone. It
     // answers how many were removed, also where the disk failed.
     fn drop_first(&mut self, most: u64) -> (u64, Result<(), BlockFault>)
-        requires low { (id : ℕ) → IsSome (count_of self.old.ledger id) → FIRST_BLOCK ≤ id }
-        requires high { (id : ℕ) → IsSome (count_of self.old.ledger id) → id < COUNTER_LIMIT }
+        requires low { (id : ℕ) → IsSome (count_of self.old.tally.ledger id) → FIRST_BLOCK ≤ id }
+        requires high { (id : ℕ) → IsSome (count_of self.old.tally.ledger id) → id < COUNTER_LIMIT }
         ensures { DropsFirst S.Store (core_of self.old) most result.0 result.1 (core_of self.new) }
     {
         let (count, removed) = self.remove_first(most);
@@ -58,13 +58,13 @@ impl<S: Store> Studio<S> {
     // Removes the files of the first blocks that nothing names, this many at most, without a sync. It answers how many
     // were removed, also where the disk failed.
     fn remove_first(&mut self, most: u64) -> (u64, Result<(), BlockFault>)
-        requires low { (id : ℕ) → IsSome (count_of self.old.ledger id) → FIRST_BLOCK ≤ id }
-        requires high { (id : ℕ) → IsSome (count_of self.old.ledger id) → id < COUNTER_LIMIT }
+        requires low { (id : ℕ) → IsSome (count_of self.old.tally.ledger id) → FIRST_BLOCK ≤ id }
+        requires high { (id : ℕ) → IsSome (count_of self.old.tally.ledger id) → id < COUNTER_LIMIT }
         ensures { RemovesFirst S.Store (core_of self.old) 1 most result.0 result.1 (core_of self.new) }
     {
         let mut from = 0;
         for count in 0..most {
-            let Some(id) = self.ledger.next_free(from) else {
+            let Some(id) = self.tally.ledger.next_free(from) else {
                 return (count, Ok(()));
             };
             if let Err(fault) = self.remove_unnamed(id) {
@@ -86,12 +86,12 @@ impl<S: Store> Studio<S> {
 
     // Syncs the files of the first blocks that nothing names, this many at most.
     fn sync_first(&mut self, count: u64) -> Result<(), BlockFault>
-        requires { (id : ℕ) → IsSome (count_of self.old.ledger id) → id < COUNTER_LIMIT }
+        requires { (id : ℕ) → IsSome (count_of self.old.tally.ledger id) → id < COUNTER_LIMIT }
         ensures { SyncsFirst S.Store (core_of self.old) count result (core_of self.new) }
     {
         let mut from = 0;
         for i in 0..count {
-            let Some(id) = self.ledger.next_free(from) else {
+            let Some(id) = self.tally.ledger.next_free(from) else {
                 return Ok(());
             };
             sync_block(&mut self.store, id)?;
@@ -105,10 +105,10 @@ impl<S: Store> Studio<S> {
         ensures { ForgetsFirst (core_of self.old) count (core_of self.new) }
     {
         for i in 0..count {
-            let Some(id) = self.ledger.first_free() else {
+            let Some(id) = self.tally.ledger.first_free() else {
                 return;
             };
-            self.ledger.forget(id);
+            self.tally.ledger.forget(id);
         }
     }
 }

@@ -1,8 +1,8 @@
 // The studio.
 use super::buffers::BlockBuffers;
 use block_cache::Cache;
-use block_ledger::Ledger;
 use edit_ops::Strips;
+use layout_uses::Tally;
 use project_state::Point;
 use undo_history::History;
 
@@ -22,10 +22,13 @@ pub struct Studio<S> {
     pub(crate) history: History<Point>,
     pub(crate) clipboard: Option<Strips>,
     pub(crate) pins: Vec<Pin>,
-    pub(crate) ledger: Ledger,
+    /// How often each layout is used, and how often each block is named.
+    pub(crate) tally: Tally,
     pub(crate) next_block: u64,
     pub(crate) next_track: u64,
     pub(crate) next_pin: u64,
+    /// The number that the next new layout gets.
+    pub(crate) next_layout: u64,
     pub(crate) commit_number: u64,
     /// The journal's file, and the version and generation that its header has.
     pub(crate) file: u64,

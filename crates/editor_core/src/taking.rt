@@ -1,30 +1,39 @@
 // What an edit without new blocks does once its point is made: the record that says it, and the point after the
 // current one.
 ghost use Rattle.std.specs.Prelude.{◌≡◌, ℕ, ◌+◌, ◌≤◌, ◌<◌, ◌^◌, IfOk, OnOk, length};
-ghost use Rattle.pcm_base.specs.declared.limits.TheConstants.{COUNTER_LIMIT};
+ghost use Rattle.pcm_base.specs.declared.limits.TheConstants.{COUNTER_LIMIT, MAX_TRACKS};
 ghost use Rattle.block_ledger.specs.Counts.{occurrences};
 ghost use Rattle.block_ledger.specs.Entries.{count_of};
 ghost use Rattle.pcm_base.specs.History.{edited};
 ghost use Rattle.project_state.specs.declared.body.Body.TheVariants.{Edit};
-ghost use Rattle.project_state.specs.Kept.{point_blocks, history_blocks};
+ghost use Rattle.layout_uses.specs.Layouts.{history_tracks, track_blocks};
+ghost use Rattle.layout_uses.specs.Occurrences.{HasIds, times_named};
+ghost use Rattle.layout_uses.specs.Tallies.{Becomes, MayBecome};
 ghost use Rattle.editor_core.specs.Adding.{AddsBody};
 ghost use Rattle.editor_core.specs.Bodies.{single};
 ghost use Rattle.editor_core.specs.Core.{core_of};
-ghost use Rattle.editor_core.specs.Occurrences.{HasAll, HasIds, Moves, times_named};
 
-use super::counting::count_edit;
 use super::studio::Studio;
 use disk_model::Store;
-use pcm_base::{NoMemory, Refusal};
+use layout_uses::count_edit;
+use pcm_base::{COUNTER_LIMIT, MAX_TRACKS, NoMemory, Refusal};
 use project_state::{Body, Point};
 
 impl<S: Store> Studio<S> {
-    // Makes room in memory for one point more.
-    pub(crate) fn make_room(&mut self) -> Result<(), NoMemory>
+    // Makes room in memory for one point more and for the uses of its layouts, of which this many are new. It is
+    // refused too where their numbers are spent.
+    pub(crate) fn make_room(&mut self, layouts: u64) -> Result<(), NoMemory>
+        requires { self.old.next_layout ≤ COUNTER_LIMIT }
         ensures same { core_of self.new ≡ core_of self.old }
-        ensures ledger { self.new.ledger ≡ self.old.ledger }
+        ensures ledger { self.new.tally.ledger ≡ self.old.tally.ledger }
         ensures ok { OnOk result (length self.new.history.history.points < self.new.history.capacity) }
+        ensures uses { OnOk result (MAX_TRACKS ≤ self.new.tally.uses.spare) }
+        ensures layouts { OnOk result (self.old.next_layout + layouts ≤ COUNTER_LIMIT) }
     {
+        if layouts > COUNTER_LIMIT - self.next_layout {
+            return Err(NoMemory);
+        }
+        self.tally.reserve(MAX_TRACKS as u64)?;
         self.history.reserve()
     }
 
@@ -34,7 +43,7 @@ impl<S: Store> Studio<S> {
         requires end { self.old.journal_end ≤ COUNTER_LIMIT }
         ensures record { AddsBody S.Store (core_of self.old) (single body.now) result (core_of self.new) }
         ensures history { self.new.history ≡ self.old.history }
-        ensures ledger { self.new.ledger ≡ self.old.ledger }
+        ensures ledger { self.new.tally ≡ self.old.tally }
     {
         self.may_record(body)?;
         self.write_record(body)?;
@@ -50,7 +59,7 @@ impl<S: Store> Studio<S> {
             (single (Edit 0 self.old.next_block (self.old.next_track + tracks) point)) result (core_of self.new) }
         ensures same { IfOk result (λ p. p ≡ point) }
         ensures history { self.new.history ≡ self.old.history }
-        ensures ledger { self.new.ledger ≡ self.old.ledger }
+        ensures ledger { self.new.tally ≡ self.old.tally }
     {
         let body = Body::Edit {
             tag: 0,
@@ -65,25 +74,30 @@ impl<S: Store> Studio<S> {
         Ok(point)
     }
 
-    // Puts a point after the current one, with this many track ids given. Its blocks are named by it, and those of
-    // points that go are named no more by them.
-    pub(crate) fn take_point(&mut self, point: Point, tracks: u64)
+    // Puts a point after the current one, with this many track ids and layout numbers given. It uses its layouts, and
+    // the points that go use theirs no more.
+    pub(crate) fn take_point(&mut self, point: Point, tracks: u64, layouts: u64)
         requires ids { self.old.next_track + tracks ≤ COUNTER_LIMIT }
-        requires there { HasIds (count_of self.old.ledger) (point_blocks point) }
+        requires layouts { self.old.next_layout + layouts ≤ COUNTER_LIMIT }
+        requires uses { length point ≤ self.old.tally.uses.spare }
+        requires there { HasIds (count_of self.old.tally.ledger) (track_blocks point) }
         requires few { (id : ℕ) →
-            occurrences (count_of self.old.ledger id) + times_named id (point_blocks point) < 2 ^ 128 }
-        requires named { HasAll (count_of self.old.ledger) (history_blocks self.old.history.history) }
+            occurrences (count_of self.old.tally.ledger id) + times_named id (track_blocks point) < 2 ^ 128 }
+        requires counted { MayBecome point (history_tracks self.old.history.history) self.old.tally }
         requires room { length self.old.history.history.points < self.old.history.capacity }
         ensures fields { core_of self.new ≡ record (core_of self.old) {
           history = edited self.old.history.history point 0;
-          counts = count_of self.new.ledger;
+          uses = count_of self.new.tally.uses;
+          counts = count_of self.new.tally.ledger;
           next_track = self.old.next_track + tracks;
+          next_layout = self.old.next_layout + layouts;
         } }
-        ensures counts { Moves (count_of self.old.ledger) (count_of self.new.ledger)
-            (history_blocks self.old.history.history) (history_blocks (edited self.old.history.history point 0)) }
+        ensures counts { Becomes point (history_tracks self.old.history.history)
+            (history_tracks (edited self.old.history.history point 0)) self.old.tally self.new.tally }
     {
-        count_edit(&mut self.ledger, &self.history, &point);
+        count_edit(&mut self.tally, &self.history, &point);
         let _ = self.history.push(point, 0);
         self.next_track += tracks;
+        self.next_layout += layouts;
     }
 }

@@ -1,11 +1,12 @@
 -- What opening answers with the studio of the parts that were found, or with the store where there was no memory.
-use Rattle.std.proofs.Common.{◌≡◌, Result, Ok, Err, refl, sym, ap, subst}
+use Rattle.std.proofs.Common.{◌≡◌, Result, Ok, Err, refl, sym, ap, ◌∙◌, subst}
 use Rattle.std.specs.Prelude.{IfErr, IfOk}
 use Rattle.disk_model.specs.Disk.{Files}
 use Rattle.disk_model.specs.declared.store.Store.{Ghosts}
 use Rattle.project_journal.specs.Header.{Form}
 use Rattle.project_journal.specs.Journal.{Log}
 use Rattle.project_state.specs.Kept.{Kept, meant_history, opened}
+use Rattle.project_state.proofs.Unnumbered.{history_meant_alike}
 use Rattle.sample_block.specs.Sources.{sources_of}
 use Rattle.editor_core.specs.Core.{Core, core_of}
 use Rattle.editor_core.specs.Parts.{assembled}
@@ -39,13 +40,17 @@ module _ {D : Type 0} (store : D) (p : Parts) where
   new_studio = record { clipboard = refl; pins = refl; next_pin = refl; stopped = refl }
 
 -- what each image keeps is what the studio shows
-pub shows_found : {D : Type 0} (disk : Ghosts D) (store : D) (p : Parts) (files : Files) (form : Form) (log : Log)
-    (kept : Kept) → IsFound files form log kept (found_in p) → disk.reads store ≡ files
-    → opened log kept files ≡ shown (studio_of disk (assembled store p))
-shows_found disk store p files form log kept found same = λ i. record {
+pub shows_found : {D : Type 0} (disk : Ghosts D) (s : Core D) (files : Files) (form : Form) (log : Log) (kept : Kept)
+    → IsFound files form log kept (found_by s) → disk.reads s.store ≡ files
+    → opened log kept files ≡ shown (studio_of disk s)
+shows_found disk s files form log kept found same = λ i. record {
   rate = sym found.rate i;
   block_size = sym found.block_size i;
-  history = meant_history (sources_of (sym same i)) (sym found.history i);
+  history = means i;
   next_track = sym found.next_track i;
   commit = sym found.commit i;
 }
+  where
+    means : meant_history (sources_of files) kept.history ≡ meant_history (sources_of (disk.reads s.store)) s.history
+    means = (λ i. meant_history (sources_of (sym same i)) (sym found.history i))
+        ∙ history_meant_alike (sources_of (disk.reads s.store)) s.history

@@ -27,12 +27,13 @@ use Rattle.project_journal.proofs.Kept.{each_has}
 use Rattle.project_journal.proofs.Picked.{picked_once}
 use Rattle.project_journal.proofs.ReadOnce.{read_form}
 use Rattle.project_state.specs.Kept as keeping
-use Rattle.project_state.specs.Kept.{Begins, Kept, LeadIn, Keeps, history_blocks, meant_history, opened, version_of}
+use Rattle.project_state.specs.Kept.{Begins, Kept, LeadIn, Keeps, history_blocks, opened, version_of}
 use Rattle.sample_block.specs.Sources.{sources_of, IsWhole}
 use Rattle.project_state.proofs.KeptBounds.{all_append}
 use Rattle.project_state.proofs.KeptOnce.{begins_once}
 use Rattle.project_state.proofs.Leading.{lead_once_in}
 use Rattle.project_state.proofs.Meanings.{same_meaning, IsSame}
+use Rattle.project_state.proofs.Unnumbered.{history_blocks_alike}
 use Rattle.record_fold.specs.Bases.{base_of}
 use Rattle.record_fold.specs.Faults.{first_fault_in, journal_fault}
 use Rattle.record_fold.proofs.HeaderSound.{points_sound}
@@ -44,7 +45,7 @@ use Rattle.editor_recovery.specs.declared.fault.OpenFault.{OpenFault}
 use Rattle.editor_recovery.specs.declared.fault.OpenFault.TheVariants as fault
 use Rattle.editor_recovery.specs.Found.{Found, found_in}
 use Rattle.editor_recovery.specs.Sizes.{HasSize, AllHaveSize}
-use Rattle.editor_recovery.specs.Opening.{HeaderFault, RecordFault, SizeFault, FirstFault, Finds, Opens}
+use Rattle.editor_recovery.specs.Opening.{HeaderFault, RecordFault, SizeFault, FirstFault, Finds, IsFound, Opens}
 use Rattle.editor_recovery.specs.Honest.{Names, IsHonest, OpensHonest}
 use Rattle.editor_recovery.specs.Standing.{Stands}
 use Rattle.editor_recovery.proofs.Alone.{none_log, none_some}
@@ -332,6 +333,11 @@ module _ {D : Type 0} (disk : Ghosts D) (old new : D) (honest : IsHonest disk ol
   -- what a studio of the parts asks of the disk
   module _ (p : Parts) (opens : Finds (disk.reads old) (found_in p)) (same : disk.reads new ≡ disk.reads old)
       (tells : IsTrue (disk.tells new)) (rest : IsAt opens.form disk new p.journal_end opens.log) where
+    -- the blocks that its points name
+    blocks_are : IsFound (disk.reads old) opens.form opens.log opens.kept (found_in p)
+        → history_blocks p.history.history ≡ history_blocks opens.kept.history
+    blocks_are found = sym (history_blocks_alike p.history.history) ∙ ap history_blocks found.history
+
     blocks_now : (c : Files) → disk.may_leave new (disk.clock new) c
         → SameBlocks (named_blocks (assembled new p)) (disk.reads new) c
     blocks_now c now =
@@ -341,7 +347,7 @@ module _ {D : Type 0} (disk : Ghosts D) (old new : D) (honest : IsHonest disk ol
         let read : AllByRecursion Same (history_blocks opens.kept.history) =
         subst (λ (f : Files). SameBlocks (history_blocks opens.kept.history) f c) (sym same) there in
         all_append Same (history_blocks p.history.history) []
-        (subst (λ h. AllByRecursion Same (history_blocks h)) (sym opens.found.history) read) tt
+        (subst (AllByRecursion Same) (sym (blocks_are opens.found)) read) tt
 
     pub has_parts : HasParts disk new p
     has_parts =
@@ -354,7 +360,7 @@ module _ {D : Type 0} (disk : Ghosts D) (old new : D) (honest : IsHonest disk ol
         subst (λ (f : Files). AllByRecursion (IsWhole f) (history_blocks opens.kept.history)) (sym same) is.whole in
         record {
           tells = tells;
-          whole = subst (λ h. AllByRecursion (IsWhole (disk.reads new)) (history_blocks h)) (sym found.history) whole;
+          whole = subst (AllByRecursion (IsWhole (disk.reads new))) (sym (blocks_are found)) whole;
           durable = record {
             log = opens.log;
             base = is.stands.base;
@@ -373,9 +379,7 @@ module _ {D : Type 0} (disk : Ghosts D) (old new : D) (honest : IsHonest disk ol
             blocks = blocks_now;
             files = λ id least most. (
               λ has. subst (λ (f : Files). IsSome (f id)) (sym same) (found.ledger.only id has).0,
-              λ has. subst (λ (o : Option ℕ). IsSome o)
-                  (sym (found.ledger.there id (subst (λ (f : Files). IsSome (f id)) same has)
-                  (omega (arith, least)))) refl,
+              λ has. found.ledger.there id (subst (λ (f : Files). IsSome (f id)) same has) (omega (arith, least)),
             );
           };
         }

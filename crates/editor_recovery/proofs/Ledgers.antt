@@ -1,170 +1,183 @@
--- Counts after further occurrences.
-use Rattle.std.proofs.Common.{◌≡◌, ◌==◌, ℕ, zero, suc, ◌+◌, ◌-◌, ◌≤◌, ◌^◌, min, Bool, true, false}
-use Rattle.std.proofs.Common.{inl, inr, ⊎_elim, List, [], ◌∷◌, ◌++◌, length, Option, Some, None, refl}
-use Rattle.std.proofs.Common.{sym, ap, subst, ◌∙◌, arith}
+-- The counts of files, and of the layouts of a history.
+use Rattle.std.proofs.Common.{◌≡◌, ◌⊎◌, ℕ, ◌+◌, ◌≤◌, ◌<◌, ◌^◌, ◌*◌, ⊎_elim, List, [], ◌∷◌, ◌++◌, length}
+use Rattle.std.proofs.Common.{length-append, map, if◌then◌else◌, Option, Some, None, refl, sym, ap, subst, ◌∙◌, arith}
+use Rattle.std.proofs.Common.{◌-◌}
 use Rattle.std.specs.Prelude.{Contains, IsSome, find, if◌then◌else◌}
-use Rattle.std.specs.List.{AllByRecursion}
-use Rattle.std.proofs.lemmas.Bool.{cases_Bool, eqb-true, eqb-false}
+use Rattle.std.specs.List.{AllByRecursion, flat_map}
+use Rattle.std.proofs.lemmas.Bool.Decides.{eqb_tells}
+use Rattle.std.proofs.lemmas.List.{append-nil}
+use Rattle.std.proofs.lemmas.Grind.{flat_map-append}
 use Rattle.pcm_base.specs.declared.block.BlockRef.{BlockRef}
+use Rattle.pcm_base.specs.History.{History}
 use Rattle.disk_model.specs.Disk.{Files}
-use Rattle.block_ledger.specs.Counts as ledger
-use Rattle.block_ledger.specs.Counts.{Counts, IsFreshCount, SetsCount, one_more, one_less, times}
-use Rattle.editor_core.specs.Studios.{IsGiven, ids_of}
+use Rattle.block_ledger.specs.Counts.{Counts, occurrences}
+use Rattle.block_ledger.specs.Entries.{count_of}
+use Rattle.clip_track.specs.Clips.{layout_blocks}
+use Rattle.project_state.specs.declared.track.Track.{Track}
+use Rattle.project_state.specs.Kept.{history_blocks, point_blocks}
+use Rattle.project_state.specs.KeptSound.{IsSoundTagged}
+use Rattle.layout_uses.specs.declared.tally.Tally.{Tally}
+use Rattle.layout_uses.specs.Layouts.{history_tracks, points_tracks, track_blocks}
+use Rattle.layout_uses.specs.Occurrences.{HasIds, times_named}
+use Rattle.layout_uses.specs.Tallies.{AreCounts, Comes, IsTally}
+use Rattle.editor_core.specs.Studios.{IsGiven}
+use Rattle.editor_core.proofs.Bounds.{named_most, point_few}
 use Rattle.editor_recovery.specs.Files.{is_foreign, IsAbove}
 use Rattle.editor_recovery.specs.Listing.{AreFiles}
+use Rattle.editor_recovery.specs.Ledgers.{AreCounted, AreNoted, IsLedgerOf}
 use Rattle.editor_recovery.proofs.Highest.{listed_high}
-use Rattle.editor_recovery.specs.Ledgers.{occurrences, held, AreNoted, IsCounted, IsLedgerOf}
 
--- from a count of 0 on
-held_some : (n k : ℕ) → n ≤ 2 ^ 128 - 1 → held (Some n) k ≡ Some (min (n + k) (2 ^ 128 - 1))
-held_some n zero h = ap (λ (m : ℕ). Some m) (omega (arith, h))
-held_some n (suc k) h =
-    held_some (min (n + 1) (2 ^ 128 - 1)) k (omega arith) ∙ ap (λ (m : ℕ). Some m) (omega (arith, h))
+-- ---- files that are noted
 
-pub held_zero : (k : ℕ) → held (Some 0) k ≡ Some (min k (2 ^ 128 - 1))
-held_zero k = held_some 0 k (omega arith) ∙ ap (λ (m : ℕ). Some (min m (2 ^ 128 - 1))) (omega arith)
+noted_zero : (files : List ℕ) (counts : Counts) → AreNoted files counts → (id : ℕ) → occurrences (counts id) ≡ 0
+noted_zero files counts noted id =
+    ⊎_elim (λ none. ap occurrences none) (λ some. ap occurrences some.0) (noted.only id)
 
-pub held_more : (count : Option ℕ) (a b : ℕ) → held count (a + b) ≡ held (held count a) b
-held_more count zero b = let e : 0 + b ≡ b = omega arith in ap (held count) e
-held_more count (suc a) b = ap (held count) (more a b) ∙ held_more (Some (one_more count)) a b
-  where
-    more : (a b : ℕ) → suc a + b ≡ suc (a + b)
-    more a b = omega arith
+noted_some : (files : List ℕ) (counts : Counts) → AreNoted files counts → (id : ℕ) → Contains files id → 2 ≤ id
+    → IsSome (counts id)
+noted_some files counts noted id there low = subst (λ (o : Option ℕ). IsSome o) (sym (noted.there id there low)) refl
 
-pub occurrences_append : (xs ys : List BlockRef) (id : ℕ)
-    → occurrences (xs ++ ys) id ≡ occurrences xs id + occurrences ys id
-occurrences_append [] ys id = omega arith
-occurrences_append (b ∷ xs) ys id = omega (arith, occurrences_append xs ys id)
-
--- no id occurs more often than there are blocks
-occurs_most : (bs : List BlockRef) (id : ℕ) → occurrences bs id ≤ length bs
-occurs_most [] id = omega arith
-occurs_most (b ∷ bs) id = step (b.id == id) (occurs_most bs id)
-  where
-    step : (t : Bool) → occurrences bs id ≤ length bs → (if t then 1 else 0) + occurrences bs id ≤ suc (length bs)
-    step true le = omega (arith, le)
-    step false le = omega (arith, le)
-
--- one block more is held
-pub held_one : (old new : Counts) (b : BlockRef) (rest : List BlockRef) (id : ℕ) → SetsCount old new b.id
-    (Some (one_more (old b.id))) → held (new id) (occurrences rest id) ≡ held (old id) (occurrences (b ∷ rest) id)
-held_one old new b rest id sets = step (b.id == id) (eqb-true b.id id) (eqb-false b.id id)
-  where
-    step : (t : Bool) → (t ≡ true → b.id ≡ id) → (t ≡ false → b.id ≡ id → ⊥)
-        → held (new id) (occurrences rest id) ≡ held (old id) ((if t then 1 else 0) + occurrences rest id)
-    step true same other =
-        let here : new id ≡ Some (one_more (old id)) =
-        subst (λ (n : ℕ). new n ≡ Some (one_more (old n))) (same refl) sets.here in
-        let n : 1 + occurrences rest id ≡ suc (occurrences rest id) = omega arith in
-        ap (λ (c : Option ℕ). held c (occurrences rest id)) here ∙ sym (ap (held (old id)) n)
-    step false same other =
-        let here : new id ≡ old id = sets.others id (λ e. other refl (sym e)) in
-        let n : 0 + occurrences rest id ≡ occurrences rest id = omega arith in
-        ap (λ (c : Option ℕ). held c (occurrences rest id)) here ∙ sym (ap (held (old id)) n)
-
-is_some_more : (old new : Counts) (at : ℕ) (count : ℕ) (id : ℕ) → SetsCount old new at (Some count) → IsSome (old id)
-    → IsSome (new id)
-is_some_more old new at count id sets has = elim (cases_Bool (at == id)) [
-  | inl t ↦ subst (λ (n : ℕ). IsSome (new n)) (eqb-true at id t)
-      (subst (λ (o : Option ℕ). IsSome o) (sym sets.here) refl)
-  | inr f ↦ subst (λ (o : Option ℕ). IsSome o) (sym (sets.others id (λ e. eqb-false at id f (sym e)))) has
-]
-
--- How far holding has come: those that are left bring the rest.
-pub record Holding (old now : Counts) (all left : List BlockRef) : Type 0 where
-  pub counts : (id : ℕ) → held (now id) (occurrences left id) ≡ held (old id) (occurrences all id)
-  pub there : (id : ℕ) → IsSome (old id) → IsSome (now id)
-
-pub holding_none : (old now : Counts) (all : List BlockRef) → ((id : ℕ) → now id ≡ old id) → Holding old now all all
-holding_none old now all same = record {
-  counts = λ id. ap (λ (c : Option ℕ). held c (occurrences all id)) (same id);
-  there = λ id has. subst (λ (o : Option ℕ). IsSome o) (sym (same id)) has;
+-- nothing is used, and nothing named
+pub noted_tally : (files : List ℕ) (uses counts : Counts) → ((n : ℕ) → uses n ≡ None) → AreNoted files counts
+    → AreCounts [] [] uses counts
+noted_tally files uses counts none noted = record {
+  fresh_uses = λ n. ap occurrences (none n);
+  none_free = λ n free. absurd (some_not (uses n) (none n) free);
+  fresh_counts = λ id. noted_zero files counts noted id;
 }
-
-pub holding_one : (old now next : Counts) (all left rest : List BlockRef) (b : BlockRef) → left ≡ b ∷ rest
-    → SetsCount now next b.id (Some (one_more (now b.id))) → Holding old now all left → Holding old next all rest
-holding_one old now next all left rest b is sets h = record {
-  counts = λ id. held_one now next b rest id sets ∙ ap (λ (l : List BlockRef). held (now id) (occurrences l id))
-      (sym is) ∙ h.counts id;
-  there = λ id has. is_some_more now next b.id (one_more (now b.id)) id sets (h.there id has);
-}
-
--- some blocks more are held
-pub holding_some : (old now next : Counts) (all left rest some : List BlockRef) → left ≡ some ++ rest
-    → ((id : ℕ) → next id ≡ held (now id) (occurrences some id)) → ((id : ℕ) → IsSome (now id) → IsSome (next id))
-    → Holding old now all left → Holding old next all rest
-holding_some old now next all left rest some is held_is more h = record {
-  counts = λ id. ap (λ (c : Option ℕ). held c (occurrences rest id)) (held_is id)
-      ∙ sym (held_more (now id) (occurrences some id) (occurrences rest id))
-      ∙ ap (held (now id)) (sym (occurrences_append some rest id))
-      ∙ ap (λ (l : List BlockRef). held (now id) (occurrences l id)) (sym is) ∙ h.counts id;
-  there = λ id has. more id (h.there id has);
-}
-
-pub holding_all : (old now : Counts) (all : List BlockRef) → Holding old now all [] → (id : ℕ)
-    → now id ≡ held (old id) (occurrences all id)
-holding_all old now all h id = h.counts id
-
-none_occurs : (counts : Counts) (id : ℕ) (bs : List BlockRef) → counts id ≡ None
-    → AllByRecursion (λ b. IsSome (counts b.id)) bs → occurrences bs id ≡ 0
-none_occurs counts id [] none all = refl
-none_occurs counts id (b ∷ bs) none all = step (b.id == id) (eqb-true b.id id) (none_occurs counts id bs none all.1)
   where
-    step : (t : Bool) → (t ≡ true → b.id ≡ id) → occurrences bs id ≡ 0 → (if t then 1 else 0) + occurrences bs id ≡ 0
-    step true same rest =
-        let e : IsSome {T = ℕ} None = subst (λ (o : Option ℕ). IsSome o) (ap counts (same refl) ∙ none) all.0 in
-        absurd cc
-    step false same rest = omega (arith, rest)
+    some_not : (o : Option ℕ) → o ≡ None → o ≡ Some 0 → ⊥
+    some_not o none some = cc
 
--- the counts of files and of the blocks that are held
-pub counted : (files : List ℕ) (bs : List BlockRef) (old now : Counts) → length bs ≤ 2 ^ 128 - 1 → AreNoted files old
-    → AllByRecursion (λ b. IsSome (old b.id)) bs → ((id : ℕ) → now id ≡ held (old id) (occurrences bs id))
-    → IsCounted files bs now
-counted files bs old now few noted all is = record {
-  there = λ id has ne. is id ∙ ap (λ (c : Option ℕ). held c (occurrences bs id)) (noted.there id has ne)
-      ∙ held_zero (occurrences bs id)
-      ∙ ap (λ (n : ℕ). Some n) (omega (arith, few, occurs_most bs id));
-  only = λ id. ⊎_elim (λ none. inl (is id ∙ ap (λ (c : Option ℕ). held c (occurrences bs id)) none
-      ∙ ap (held None) (none_occurs old id bs none all))) (λ some. inr (some.1, some.2)) (noted.only id);
+-- ---- the blocks of a history
+
+-- the blocks that points name are those of their tracks
+pub tracks_named : (h : History (List Track)) → track_blocks (history_tracks h) ≡ history_blocks h
+tracks_named h = points_named h.points
+  where
+    points_named : (ps : List (List Track × ℕ))
+        → track_blocks (points_tracks (map (λ (p : List Track × ℕ). p.0) ps))
+        ≡ flat_map (λ (p : List Track × ℕ). point_blocks p.0) ps
+    points_named [] = refl
+    points_named (p ∷ ps) =
+        flat_map-append (λ (t : Track). layout_blocks t.layout) p.0
+        (points_tracks (map (λ (q : List Track × ℕ). q.0) ps))
+        ∙ ap (λ (bs : List BlockRef). point_blocks p.0 ++ bs) (points_named ps)
+
+-- each block that is named is there
+named_there : (P : ℕ → Type 0) (bs : List BlockRef) (id : ℕ) → AllByRecursion (λ (b : BlockRef). P b.id) bs
+    → 0 < times_named id bs → P id
+named_there P [] id all some = absurd (omega (arith, some))
+named_there P (b ∷ bs) id all some = ⊎_elim
+    (λ same. subst P same.1 all.0)
+    (λ other. named_there P bs id all.1 (omega (arith, some, ap {B = ℕ} (λ t. if t then 1 else 0) other.0)))
+    (eqb_tells b.id id)
+
+module _ (files : List ℕ) (h : History (List Track))
+    (named : AllByRecursion (λ (b : BlockRef). (2 ≤ b.id) × Contains files b.id) (history_blocks h))
+    (counts : Counts) (noted : AreNoted files counts) where
+  pub points_there : HasIds counts (track_blocks (history_tracks h))
+  points_there id some =
+      let here = named_there (λ (n : ℕ). (2 ≤ n) × Contains files n) (history_blocks h) id named
+      (subst (λ (bs : List BlockRef). 0 < times_named id bs) (tracks_named h) some) in
+      noted_some files counts noted id here.1 here.0
+
+  pub points_few : ((id : ℕ) → times_named id (history_blocks h) < 2 ^ 128) → (id : ℕ)
+      → occurrences (counts id) + times_named id (track_blocks (history_tracks h)) < 2 ^ 128
+  points_few few id = omega (
+    arith,
+    few id,
+    noted_zero files counts noted id,
+    ap (times_named id) (tracks_named h),
+  )
+
+-- ---- the counts then
+
+pub tally_then : (h : History (List Track)) (old new : Tally) → length (history_tracks h) < 2 ^ 128 → IsTally [] [] old
+    → Comes (history_tracks h) old new → IsTally (history_tracks h) [] new
+tally_then h old new few was comes =
+    subst (λ (ts : List Track). IsTally ts [] new) (append-nil (history_tracks h))
+    (comes.counted [] [] (omega (arith, few)) was)
+
+pub counted_then : (files : List ℕ) (tracks : List Track) (old new : Tally) → AreNoted files (count_of old.ledger)
+    → Comes tracks old new → AreCounted files (count_of new.ledger)
+counted_then files tracks old new noted comes = record {
+  there = λ id there low. (comes.ids id).1 (noted_some files (count_of old.ledger) noted id there low);
+  only = λ id some. ⊎_elim
+      (λ none. absurd (none_some (count_of old.ledger id) none ((comes.ids id).0 some)))
+      (λ is. (is.1, is.2))
+      (noted.only id);
 }
+  where
+    none_some : (o : Option ℕ) → o ≡ None → IsSome o → ⊥
+    none_some None none some = absurd cc
+    none_some (Some x) none some = absurd cc
 
 -- by the files of a disk
-pub ledger_of : (files : Files) (listed : List ℕ) (bs : List BlockRef) (counts : Counts) → AreFiles files listed
-    → IsCounted listed bs counts → IsLedgerOf files bs counts
-ledger_of files listed bs counts are is = record {
-  there = λ id has ne. is.there id ((are id).1 has) ne;
-  only = λ id has. ⊎_elim (λ none. let e : IsSome {T = ℕ} None = subst (λ (o : Option ℕ). IsSome o) none has in
-      absurd cc) (λ some. ((are id).0 some.1, some.0)) (is.only id);
+pub ledger_of : (files : Files) (listed : List ℕ) (counts : Counts) → AreFiles files listed
+    → AreCounted listed counts → IsLedgerOf files counts
+ledger_of files listed counts are is = record {
+  there = λ id has low. is.there id ((are id).1 has) low;
+  only = λ id has. let here = is.only id has in ((are id).0 here.1, here.0);
 }
 
--- ---- as often as blocks name it
+-- each id that is counted is one of a block, below the next
+pub given : (files : List ℕ) (counts : Counts) (last next : ℕ) → AreCounted files counts
+    → find is_foreign files ≡ None → IsAbove files last next → (id : ℕ) → IsSome (counts id) → IsGiven next id
+given files counts last next is known above id has =
+    let here = is.only id has in
+    (listed_high files id known here.1 here.0, above.above id here.1)
 
-times_same : (bs : List BlockRef) (id : ℕ) → times id (ids_of bs) ≡ occurrences bs id
-times_same [] id = refl
-times_same (b ∷ bs) id = ap (λ (n : ℕ). (if b.id == id then 1 else 0) + n) (times_same bs id)
+-- ---- how many there are
 
-each_there : (files : List ℕ) (bs : List BlockRef) (counts : Counts) → IsCounted files bs counts
-    → (some : List BlockRef)
-    → AllByRecursion (λ b. (2 ≤ b.id) × Contains files b.id) some → AllByRecursion (λ b. IsSome (counts b.id)) some
-each_there files bs counts is [] all = tt
-each_there files bs counts is (b ∷ some) all = (
-  subst (λ (o : Option ℕ). IsSome o) (sym (is.there b.id all.0.1 all.0.0)) refl,
-  each_there files bs counts is some all.1,
+parts_few : (ps : List (List Track × ℕ))
+    → AllByRecursion (λ (p : List Track × ℕ). length (point_blocks p.0) ≤ 2 ^ 38) ps
+    → length (flat_map (λ (p : List Track × ℕ). point_blocks p.0) ps) ≤ length ps * 2 ^ 38
+parts_few [] h = omega arith
+parts_few (p ∷ ps) h = omega (
+  arith,
+  h.0,
+  parts_few ps h.1,
+  length-append (point_blocks p.0) (flat_map (λ (q : List Track × ℕ). point_blocks q.0) ps),
 )
 
--- each id is counted as often as the blocks name it, where each of these is a file but file 0
-pub fresh : (files : List ℕ) (bs : List BlockRef) (counts : Counts) → IsCounted files bs counts
-    → AllByRecursion (λ b. (2 ≤ b.id) × Contains files b.id) bs → IsFreshCount (ids_of bs) counts
-fresh files bs counts is all = λ id. ⊎_elim
-    (λ none. ap (λ (o : Option ℕ). ledger.occurrences o) none
-    ∙ sym (times_same bs id ∙ none_occurs counts id bs none (each_there files bs counts is bs all)))
-    (λ some. ap (λ (o : Option ℕ). ledger.occurrences o) (is.there id some.1 some.0) ∙ sym (times_same bs id))
-    (is.only id)
+each_few : (m block track commit : ℕ) (ps : List (List Track × ℕ))
+    → AllByRecursion (IsSoundTagged m block track commit) ps
+    → AllByRecursion (λ (p : List Track × ℕ). length (point_blocks p.0) ≤ 2 ^ 38) ps
+each_few m block track commit [] all = tt
+each_few m block track commit (p ∷ ps) all =
+    (point_few m block track p.0 all.0.0, each_few m block track commit ps all.1)
 
--- and each id that is counted is one of a block, below the next
-pub given : (files : List ℕ) (bs : List BlockRef) (counts : Counts) (last next : ℕ) → IsCounted files bs counts
-    → find is_foreign files ≡ None → IsAbove files last next → (id : ℕ) → IsSome (counts id) → IsGiven next id
-given files bs counts last next is known above id has = ⊎_elim
-    (λ none. let e : IsSome {T = ℕ} None = subst (λ (o : Option ℕ). IsSome o) none has in absurd cc)
-    (λ some. (listed_high files id known some.1 some.0, above.above id some.1))
-    (is.only id)
+-- no id is named more often than a count can say
+pub times_few : (m block track commit : ℕ) (h : History (List Track))
+    → AllByRecursion (IsSoundTagged m block track commit) h.points → length h.points ≤ 4096 → (id : ℕ)
+    → times_named id (history_blocks h) < 2 ^ 128
+times_few m block track commit h all few id = omega (
+  arith,
+  few,
+  named_most id (history_blocks h),
+  parts_few h.points (each_few m block track commit h.points all),
+)
+
+points_short : (ps : List (List Track × ℕ)) → AllByRecursion (λ (p : List Track × ℕ). length p.0 ≤ 64) ps
+    → length (points_tracks (map (λ (p : List Track × ℕ). p.0) ps)) ≤ length ps * 64
+points_short [] h = omega arith
+points_short (p ∷ ps) h = omega (
+  arith,
+  h.0,
+  points_short ps h.1,
+  length-append p.0 (points_tracks (map (λ (q : List Track × ℕ). q.0) ps)),
+)
+
+each_short : (m block track commit : ℕ) (ps : List (List Track × ℕ))
+    → AllByRecursion (IsSoundTagged m block track commit) ps
+    → AllByRecursion (λ (p : List Track × ℕ). length p.0 ≤ 64) ps
+each_short m block track commit [] all = tt
+each_short m block track commit (p ∷ ps) all = (all.0.0.few, each_short m block track commit ps all.1)
+
+-- and no more tracks are there
+pub tracks_few : (m block track commit : ℕ) (h : History (List Track))
+    → AllByRecursion (IsSoundTagged m block track commit) h.points → length h.points ≤ 4096
+    → length (history_tracks h) < 2 ^ 128
+tracks_few m block track commit h all few =
+    omega (arith, few, points_short h.points (each_short m block track commit h.points all))

@@ -3,6 +3,7 @@ pub mod Counted
 pub mod Wrong
 pub mod Points
 pub mod Ledgers
+pub mod Plain
 pub mod SoundParts
 pub mod Opens
 pub mod Alone

@@ -1,5 +1,5 @@
 -- From what the steps of opening answer to what opening answers.
-use Rattle.std.proofs.Common.{◌≡◌, ℕ, inl, inr, List, None, Result, Ok, Err, sym, subst, ◌∙◌}
+use Rattle.std.proofs.Common.{◌≡◌, ℕ, inl, inr, List, map, None, Result, Ok, Err, sym, subst, ◌∙◌}
 use Rattle.std.specs.Prelude.{IfErr, IfOk, IsTrue}
 use Rattle.pcm_base.specs.declared.block.BlockRef.{BlockRef}
 use Rattle.disk_model.specs.Disk.{Files, bytes_of}
@@ -7,13 +7,13 @@ use Rattle.disk_model.specs.declared.store.Store.{Ghosts}
 use Rattle.project_journal.specs.Choice.{IsNewest, IsPicked}
 use Rattle.project_journal.specs.Header.{Form}
 use Rattle.project_journal.specs.Journal as journal
-use Rattle.project_journal.specs.Journal.{Contents, HasLog, log_of}
+use Rattle.project_journal.specs.Journal.{Contents, HasLog, body_at, log_of}
 use Rattle.project_journal.specs.Opening.{IsOpened}
 use Rattle.project_journal.specs.Reader.{IsStored}
 use Rattle.project_journal.specs.declared.fault.Damaged.{Damaged}
 use Rattle.project_journal.specs.declared.reader.Reader.{Reader}
 use Rattle.project_journal.proofs.Found.{journal_generation, log_there, read_whole, stored_here}
-use Rattle.project_state.specs.Kept.{history_blocks}
+use Rattle.project_state.specs.Kept.{history_blocks, version_of}
 use Rattle.record_fold.specs.Bases.{base_of}
 use Rattle.record_fold.specs.Folds.{kept_of}
 use Rattle.editor_recovery.specs.declared.disk.Disk.{Disk}
@@ -32,6 +32,7 @@ use Rattle.editor_recovery.specs.Standing.{Stands}
 use Rattle.editor_recovery.proofs.Alone.{some_picked, some_refused}
 use Rattle.editor_recovery.proofs.Ledgers.{ledger_of}
 use Rattle.editor_recovery.proofs.Listed.{next_block}
+use Rattle.editor_recovery.proofs.Plain.{history_same, plain_begun, plain_lead}
 use Rattle.editor_recovery.proofs.Wrong.{all_right, one_wrong}
 
 abbrev pub damaged : ℕ → ℕ → ℕ → Damaged
@@ -151,8 +152,14 @@ parts_open files form j listed f p is fold sizes parts = record {
   found = record {
     rate = parts.rate ∙ fold.rate;
     block_size = parts.block_size ∙ fold.block_size;
-    history = parts.history;
-    ledger = ledger_of files listed (history_blocks f.project.history.history) _ is.listed parts.ledger;
+    history = parts.history ∙ history_same f.project.history.history
+        (plain_lead (version_of form) j.block_size (base_of j) (kept_of f.project) (map body_at j.records) fold.leads
+        (plain_begun (log_of j) (base_of j) fold.begins));
+    layouts = parts.layouts;
+    numbered = parts.numbered;
+    drawn = parts.drawn;
+    counted = parts.counted;
+    ledger = ledger_of files listed _ is.listed parts.ledger;
     next_block = next_block files listed f.project.next_block p.next_block is.listed parts.next_block;
     next_track = parts.next_track;
     commit = parts.commit;

@@ -1,7 +1,7 @@
 -- The points of a history, one by one.
 use Rattle.std.proofs.Common.{◌≡◌, ℕ, zero, suc, ◌+◌, ◌<◌, ◌≤◌, List, [], ◌∷◌, ◌++◌, length, map, drop, get_or}
-use Rattle.std.proofs.Common.{Option, Some, None, refl, sym, ap, subst, ◌∙◌, arith}
-use Rattle.std.specs.Prelude.{slice_get, Contains, IsSome}
+use Rattle.std.proofs.Common.{Some, None, refl, sym, ap, subst, ◌∙◌, arith}
+use Rattle.std.specs.Prelude.{slice_get, Contains}
 use Rattle.std.specs.Option.{option_map}
 use Rattle.std.specs.List.{All, AllByRecursion, flat_map}
 use Rattle.std.proofs.lemmas.List.{length-map}
@@ -15,8 +15,6 @@ use Rattle.sample_block.specs.Spelling.{IsBlock}
 use Rattle.project_state.specs.declared.track.Track.{Track}
 use Rattle.project_state.specs.Kept.{point_blocks}
 use Rattle.project_state.proofs.KeptBounds.{all_append, IsBlockRef}
-use Rattle.block_ledger.specs.Counts.{Counts, one_more}
-use Rattle.editor_recovery.specs.Ledgers.{held, AreNoted}
 use Rattle.editor_recovery.specs.Sizes.{first_wrong}
 use Rattle.editor_recovery.proofs.Wrong.{found_wrong, FoundOne, Found}
 use Rattle.std.proofs.Common.{⊎_elim}
@@ -89,15 +87,6 @@ pub both_all : {X : Type 0} (P Q R : X → Type 0) (xs : List X) → ((x : X) �
     → AllByRecursion Q xs → AllByRecursion R xs
 both_all P Q R [] f p q = tt
 both_all P Q R (x ∷ xs) f p q = (f x p.0 q.0, both_all P Q R xs f p.1 q.1)
-
--- a count stays there
-pub is_held : (count : Option ℕ) (k : ℕ) → IsSome count → IsSome (held count k)
-is_held count zero has = has
-is_held count (suc k) has = is_held (Some (one_more count)) k refl
-
-pub noted_there : (files : List ℕ) (counts : Counts) (id : ℕ) → AreNoted files counts → (2 ≤ id) × Contains files id
-    → IsSome (counts id)
-noted_there files counts id noted named = subst (λ (o : Option ℕ). IsSome o) (sym (noted.there id named.1 named.0)) refl
 
 -- the block that was found is one of them
 pub wrong_named : (sizes : ℕ → ℕ) (bs : List BlockRef) (b : BlockRef) → first_wrong sizes None bs ≡ Some b

@@ -1,19 +1,16 @@
 -- The parts of a sound project are sound.
-use Rattle.std.proofs.Common.{◌≡◌, ℕ, ◌≤◌, List, Result, Ok, Err, sym, ap, subst, ◌∙◌, arith}
-use Rattle.std.specs.Prelude.{None, IfOk, Contains, find}
+use Rattle.std.proofs.Common.{◌≡◌, ℕ, ◌≤◌, List, Result, Ok, Err, sym, subst, ◌∙◌, arith}
+use Rattle.std.specs.Prelude.{None, IfOk, find}
 use Rattle.block_ledger.specs.Entries.{count_of}
-use Rattle.project_state.specs.Kept.{point_blocks, history_blocks}
-use Rattle.block_ledger.specs.Counts.{IsFreshCount}
+use Rattle.project_state.specs.Kept.{history_blocks}
 use Rattle.editor_core.specs.Scans.{HaveOneLength}
-use Rattle.editor_core.specs.Studios.{ids_of}
 use Rattle.editor_recovery.specs.Files.{is_foreign}
-use Rattle.editor_recovery.proofs.Ledgers.{fresh, given}
-use Rattle.editor_recovery.proofs.Points.{all_flat}
+use Rattle.editor_recovery.proofs.Ledgers.{given}
+use Rattle.editor_recovery.proofs.Plain.{same_blocks, same_depth, same_sound}
 use Rattle.std.specs.List.{All}
 use Rattle.std.proofs.lemmas.List.Elements.{All-weaker, recursion_from_All}
 use Rattle.project_journal.specs.Header.{IsFormat}
 use Rattle.project_state.specs.declared.track.Track.{Track}
-use Rattle.pcm_base.specs.History.{History}
 use Rattle.project_state.specs.KeptSound.{IsSoundTagged}
 use Rattle.project_state.proofs.KeptBounds.{tagged_more}
 use Rattle.editor_recovery.specs.declared.disk.Folded.{Folded}
@@ -41,13 +38,13 @@ tagged_at m m' block block' track track' commit commit' p size le same_track sam
 
 sound_parts : (files : List ℕ) (f : Folded) (p : Parts) → IsSoundFolded f → find is_foreign files ≡ None
     → HaveOneLength (history_blocks f.project.history.history)
-    → All (λ p. All (λ b. (2 ≤ b.id) × Contains files b.id) (point_blocks p.0)) f.project.history.history.points
     → ArePartsOf files f p → IsSoundParts p
-sound_parts files f p is known one named are =
+sound_parts files f p is known one are =
     let project = f.project in
     let sound = is.kept in
+    let same = are.history in
     let depth : p.history.history.depth ≡ project.history.history.depth =
-    ap (λ (h : History (List Track)). h.depth) are.history in
+    same_depth p.history.history project.history.history same in
     let old = project.history.history.points in
     let all : All (IsSoundTagged p.block_size p.next_block p.next_track p.commit_number) old =
     All-weaker (IsSoundTagged f.block_size project.next_block project.next_track project.commit)
@@ -55,9 +52,6 @@ sound_parts files f p is known one named are =
     (λ x s. tagged_at f.block_size p.block_size project.next_block p.next_block project.next_track p.next_track
     project.commit p.commit_number x are.block_size are.next_block.no_lower are.next_track are.commit s) old
     sound.points in
-    let points : All (IsSoundTagged p.block_size p.next_block p.next_track p.commit_number) p.history.history.points =
-    subst (λ (h : History (List Track)).
-    All (IsSoundTagged p.block_size p.next_block p.next_track p.commit_number) h.points) (sym are.history) all in
     record {
       parts = record {
         pages_least = omega (arith, are.pages);
@@ -82,22 +76,21 @@ sound_parts files f p is known one named are =
           generation_most = omega (arith, are.generation, is.journal.generation_most);
           first_version = λ first. are.generation ∙ is.journal.first_version (sym are.version ∙ first);
         };
-        points = recursion_from_All
-            (IsSoundTagged p.block_size p.next_block p.next_track p.commit_number) p.history.history.points points;
-        counted = subst (λ (h : History (List Track)). IsFreshCount (ids_of (history_blocks h)) (count_of p.ledger))
-            (sym are.history)
-            (fresh files (history_blocks project.history.history) (count_of p.ledger) are.ledger
-            (all_flat (λ b. (2 ≤ b.id) × Contains files b.id) old named));
-        given = given files (history_blocks project.history.history)
-            (count_of p.ledger) project.next_block p.next_block are.ledger known are.next_block;
+        points = same_sound p.history.history project.history.history same p.block_size p.next_block p.next_track
+            p.commit_number (recursion_from_All
+            (IsSoundTagged p.block_size p.next_block p.next_track p.commit_number) old all);
+        layouts = are.layouts;
+        numbered = are.numbered;
+        drawn = are.drawn;
+        counted = are.counted;
+        given = given files (count_of p.tally.ledger) project.next_block p.next_block are.ledger known are.next_block;
       };
-      one_length = subst (λ (h : History (List Track)). HaveOneLength (history_blocks h)) (sym are.history) one;
+      one_length = subst HaveOneLength (sym (same_blocks p.history.history project.history.history same)) one;
     }
 
 pub sound_result : (files : List ℕ) (f : Folded) (r : Result Parts OpenFault) → IsSoundFolded f
     → find is_foreign files ≡ None
     → HaveOneLength (history_blocks f.project.history.history)
-    → All (λ p. All (λ b. (2 ≤ b.id) × Contains files b.id) (point_blocks p.0)) f.project.history.history.points
     → IfOk r (ArePartsOf files f) → IfOk r IsSoundParts
-sound_result files f (Ok p) is known one named are = sound_parts files f p is known one named are
-sound_result files f (Err e) is known one named are = tt
+sound_result files f (Ok p) is known one are = sound_parts files f p is known one are
+sound_result files f (Err e) is known one are = tt

@@ -17,6 +17,7 @@ use Rattle.project_journal.proofs.Kept.{each_has}
 use Rattle.project_journal.proofs.Parses.{form_known}
 use Rattle.project_state.specs.Kept as keeping
 use Rattle.project_state.specs.Kept.{history_blocks}
+use Rattle.project_state.proofs.Unnumbered.{history_blocks_alike}
 use Rattle.editor_core.specs.Core.{Core, form_at}
 use Rattle.editor_core.specs.Left.{LeavesOthers, MayRemove}
 use Rattle.editor_core.specs.Studios.{IsDurable, IsHeld, IsStudio, clip_blocks, pin_blocks, shown}
@@ -83,8 +84,9 @@ module _ {D : Type 0} (disk : Ghosts D) (s : Core D) (few : s.file ≤ 1) (durab
       } in
       let kept : names.kept ≡ durable.kept =
       same_kept c names.form (form_at s) names.log durable.log names.kept durable.kept names.stands stands in
+      let blocks_are = ap history_blocks durable.history ∙ history_blocks_alike s.history in
       let there : Contains (history_blocks s.history) names.block =
-      subst (λ h. Contains (history_blocks h) names.block) durable.history
+      subst (λ (bs : List BlockRef). Contains bs names.block) blocks_are
       (subst (λ (k : keeping.Kept). Contains (history_blocks k.history) names.block) kept names.named) in
       let Same : BlockRef → Type 0 = λ b. c b.id ≡ disk.reads s.store b.id in
       let all = front_of Same (history_blocks s.history) (pin_blocks s.pins ++ clip_blocks s.clipboard)

@@ -1,5 +1,5 @@
 -- What the steps of opening answer.
-use Rattle.std.specs.Prelude.{◌≡◌, ℕ, ◌≤◌, None, Some, List, map, Result, Ok, Err}
+use Rattle.std.specs.Prelude.{◌≡◌, ℕ, ◌≤◌, None, Some, List, [], map, Result, Ok, Err}
 use Rattle.pcm_base.specs.declared.limits.TheConstants.{COUNTER_LIMIT, LEAST_END}
 use Rattle.pcm_base.specs.declared.block.BlockRef.{BlockRef}
 use Rattle.disk_model.specs.Disk.{Files}
@@ -11,7 +11,10 @@ use Rattle.project_journal.specs.Header.{Form, IsFormat}
 use Rattle.project_journal.specs.Journal.{Contents, body_at, log_of}
 use Rattle.project_journal.specs.Reader.{IsStored}
 use Rattle.block_ledger.specs.Entries.{count_of}
-use Rattle.project_state.specs.Kept.{Begins, LeadIn, history_blocks, version_of}
+use Rattle.project_state.specs.Kept.{Begins, LeadIn, version_of}
+use Rattle.project_state.specs.Numbers.{unnumbered_history}
+use Rattle.layout_uses.specs.Layouts.{AreDrawn, AreNumbered, history_tracks}
+use Rattle.layout_uses.specs.Tallies.{IsTally}
 use Rattle.record_fold.specs.Bases.{base_of}
 use Rattle.record_fold.specs.Faults.{journal_fault}
 use Rattle.record_fold.specs.Folds.{kept_of, IsValid}
@@ -23,7 +26,7 @@ use Rattle.editor_core.specs.declared.assembly.Parts.{Parts}
 use Rattle.editor_recovery.specs.declared.fault.OpenFault.{OpenFault}
 use Rattle.editor_recovery.specs.declared.fault.OpenFault.TheVariants as fault
 use Rattle.editor_recovery.specs.Files.{IsAbove}
-use Rattle.editor_recovery.specs.Ledgers.{IsCounted}
+use Rattle.editor_recovery.specs.Ledgers.{AreCounted}
 use Rattle.editor_recovery.specs.Sizes.{AllHaveSize, IsFirstWrong, file_size, first_wrong}
 
 -- what a journal of this form says whose points and records have no fault
@@ -88,8 +91,13 @@ pub record ArePartsOf (files : List ℕ) (f : Folded) (p : Parts) : Type 0 where
   pub rate : p.rate ≡ f.rate
   pub pages : p.pages ≡ PAGES
   pub block_size : p.block_size ≡ f.block_size
-  pub history : p.history.history ≡ f.project.history.history
-  pub ledger : IsCounted files (history_blocks f.project.history.history) (count_of p.ledger)
+  -- the layouts have numbers, and nothing else is new
+  pub history : unnumbered_history p.history.history ≡ unnumbered_history f.project.history.history
+  pub layouts : p.next_layout ≤ COUNTER_LIMIT
+  pub numbered : AreNumbered (history_tracks p.history.history)
+  pub drawn : AreDrawn p.next_layout (history_tracks p.history.history)
+  pub counted : IsTally (history_tracks p.history.history) [] p.tally
+  pub ledger : AreCounted files (count_of p.tally.ledger)
   pub next_block : IsAbove files f.project.next_block p.next_block
   pub bound : p.next_block ≤ COUNTER_LIMIT
   pub next_track : p.next_track ≡ f.project.next_track

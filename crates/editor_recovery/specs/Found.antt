@@ -13,10 +13,12 @@ pub record Found : Type 0 where
   -- how many samples a block has at most
   pub block_size : ℕ
   pub history : History (List Track)
-  -- how often points name each block
+  -- how often points use each layout, and how often the layouts that are used name each block
+  pub uses : Counts
   pub counts : Counts
   pub next_block : ℕ
   pub next_track : ℕ
+  pub next_layout : ℕ
   pub commit_number : ℕ
   -- where the journal stands, its version, its generation, and the place of its first gate that is 0
   pub file : ℕ
@@ -29,9 +31,11 @@ found_in p = record {
   rate = p.rate;
   block_size = p.block_size;
   history = p.history.history;
-  counts = count_of p.ledger;
+  uses = count_of p.tally.uses;
+  counts = count_of p.tally.ledger;
   next_block = p.next_block;
   next_track = p.next_track;
+  next_layout = p.next_layout;
   commit_number = p.commit_number;
   file = p.file;
   version = p.version;
@@ -44,9 +48,11 @@ found_by s = record {
   rate = s.rate;
   block_size = s.block_size;
   history = s.history;
+  uses = s.uses;
   counts = s.counts;
   next_block = s.next_block;
   next_track = s.next_track;
+  next_layout = s.next_layout;
   commit_number = s.commit_number;
   file = s.file;
   version = s.version;

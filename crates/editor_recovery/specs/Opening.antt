@@ -1,5 +1,6 @@
 -- What opening a disk answers.
-use Rattle.std.specs.Prelude.{◌≡◌, ◌⊎◌, ℕ, Some, Result, Ok, Err}
+use Rattle.std.specs.Prelude.{◌≡◌, ◌⊎◌, ℕ, ◌≤◌, [], Some, Result, Ok, Err}
+use Rattle.pcm_base.specs.declared.limits.TheConstants.{COUNTER_LIMIT}
 use Rattle.pcm_base.specs.declared.block.BlockRef.{BlockRef}
 use Rattle.disk_model.specs.Disk.{Files, bytes_of}
 use Rattle.sample_block.specs.Spelling.{size_of}
@@ -9,6 +10,9 @@ use Rattle.project_journal.specs.Header.{Form, IsForm}
 use Rattle.project_journal.specs.Journal.{Log, Contents, IsRead}
 use Rattle.project_journal.specs.Opening.{HasHeaderFault}
 use Rattle.project_state.specs.Kept.{Kept, history_blocks, version_of}
+use Rattle.project_state.specs.Numbers.{unnumbered_history}
+use Rattle.layout_uses.specs.Layouts.{AreDrawn, AreNumbered, history_tracks}
+use Rattle.layout_uses.specs.Tallies.{AreCounts}
 use Rattle.record_fold.specs.Faults.{journal_fault}
 use Rattle.editor_recovery.specs.declared.fault.OpenFault.{OpenFault}
 use Rattle.editor_recovery.specs.declared.fault.OpenFault.TheVariants as fault
@@ -54,8 +58,14 @@ FirstFault files file d = HeaderFault files file d ⊎ (RecordFault files file d
 pub record IsFound (files : Files) (form : Form) (log : Log) (kept : Kept) (f : Found) : Type 0 where
   pub rate : f.rate ≡ log.rate
   pub block_size : f.block_size ≡ log.block_size
-  pub history : f.history ≡ kept.history
-  pub ledger : IsLedgerOf files (history_blocks kept.history) f.counts
+  pub history : unnumbered_history f.history ≡ kept.history
+  -- layouts of one number are the same, and each number was drawn
+  pub layouts : f.next_layout ≤ COUNTER_LIMIT
+  pub numbered : AreNumbered (history_tracks f.history)
+  pub drawn : AreDrawn f.next_layout (history_tracks f.history)
+  -- the layouts that points use are counted, and the blocks that these name, of each layout once
+  pub counted : AreCounts (history_tracks f.history) [] f.uses f.counts
+  pub ledger : IsLedgerOf files f.counts
   pub next_block : IsNextBlock files kept.next_block f.next_block
   pub next_track : f.next_track ≡ kept.next_track
   pub commit : f.commit_number ≡ kept.commit

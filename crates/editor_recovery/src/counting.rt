@@ -1,14 +1,17 @@
-// How often points name each block.
-ghost use Rattle.std.specs.Prelude.{◌≡◌, ◌⊎◌, ◌+◌, ◌^◌, ◌≤◌, ◌<◌, ℕ, None, Some, IsSome, IfOk, Contains, length};
-ghost use Rattle.std.specs.List.{All};
-ghost use Rattle.block_ledger.specs.Counts.{SetsCount, one_more};
+// The counts of a disk's files, by the layouts of a history.
+ghost use Rattle.std.specs.Prelude.{◌≡◌, ◌⊎◌, ◌+◌, ◌^◌, ◌≤◌, ◌<◌, ℕ, [], None, Some, IfOk, Contains, length};
+ghost use Rattle.std.specs.List.{AllByRecursion};
+ghost use Rattle.block_ledger.specs.Counts.{SetsCount};
 ghost use Rattle.block_ledger.specs.Entries.{count_of};
-ghost use Rattle.project_state.specs.Kept.{point_blocks, history_blocks};
-ghost use Rattle.editor_recovery.specs.Ledgers.{AreNoted, IsCounted, held, occurrences};
+ghost use Rattle.project_state.specs.Kept.{history_blocks};
+ghost use Rattle.layout_uses.specs.Layouts.{history_tracks};
+ghost use Rattle.layout_uses.specs.Occurrences.{times_named};
+ghost use Rattle.layout_uses.specs.Tallies.{IsTally};
+ghost use Rattle.editor_recovery.specs.Ledgers.{AreCounted, AreNoted};
 
-use super::walk::list_blocks;
 use block_ledger::Ledger;
-use pcm_base::{BlockRef, NoMemory};
+use layout_uses::{Tally, count_points};
+use pcm_base::NoMemory;
 use project_state::Point;
 use std::alloc::Global;
 use undo_history::History;
@@ -38,39 +41,31 @@ fn note_files(alloc: Global, files: &[u64]) -> Result<Ledger, NoMemory>
     Ok(ledger)
 }
 
-fn hold_block(ledger: &mut Ledger, block: &BlockRef)
-    requires { IsSome (count_of ledger.old block.now.id) }
-    ensures { SetsCount (count_of ledger.old) (count_of ledger.new) block.now.id
-        (Some (one_more (count_of ledger.old block.now.id))) }
+// Nothing is used yet, and each of these files but 0 and 1 is named by nothing.
+fn no_uses(alloc: Global, files: &[u64]) -> Result<Tally, NoMemory>
+    ensures counted { IfOk result (IsTally [] []) }
+    ensures noted { IfOk result (λ t. AreNoted files.now (count_of t.ledger)) }
 {
-    ledger.hold(block.id);
+    let ledger = note_files(alloc, files)?;
+    Ok(Tally {
+        uses: Ledger::new(alloc),
+        ledger,
+    })
 }
 
-fn hold_blocks(ledger: &mut Ledger, blocks: &[BlockRef])
-    requires { All (λ b. IsSome (count_of ledger.old b.id)) blocks.now }
-    ensures counts { (id : ℕ) → count_of ledger.new id ≡ held (count_of ledger.old id) (occurrences blocks.now id) }
-    ensures few { length blocks.now < 2 ^ 64 }
-{
-    for i in 0..blocks.len() {
-        hold_block(ledger, &blocks[i]);
-    }
-}
-
-/// The ledger of these files, of which 0 and 1 are none of a block, and of the blocks that points name.
-pub(crate) fn count_blocks(
+/// The uses of a history's layouts, and the counts of these files, of which 0 and 1 are none of a block.
+pub(crate) fn count_layouts(
     alloc: Global,
     files: &[u64],
     history: &History<Point>,
-) -> Result<Ledger, NoMemory>
-    requires { All
-        (λ p. All (λ b. (2 ≤ b.id) × Contains files.now b.id) (point_blocks p.0)) history.now.history.points }
-    ensures { IfOk result (λ l. IsCounted files.now (history_blocks history.now.history) (count_of l)) }
+) -> Result<Tally, NoMemory>
+    requires named { AllByRecursion (λ b. (2 ≤ b.id) × Contains files.now b.id) (history_blocks history.now.history) }
+    requires few { (id : ℕ) → times_named id (history_blocks history.now.history) < 2 ^ 128 }
+    requires fits { length (history_tracks history.now.history) < 2 ^ 128 }
+    ensures counted { IfOk result (IsTally (history_tracks history.now.history) []) }
+    ensures ids { IfOk result (λ t. AreCounted files.now (count_of t.ledger)) }
 {
-    let mut ledger = note_files(alloc, files)?;
-    let mut blocks = Vec::new(alloc);
-    for i in 0..history.len() {
-        list_blocks(history.point(i), &mut blocks)?;
-        hold_blocks(&mut ledger, &blocks);
-    }
-    Ok(ledger)
+    let mut tally = no_uses(alloc, files)?;
+    count_points(&mut tally, history)?;
+    Ok(tally)
 }

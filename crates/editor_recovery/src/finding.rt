@@ -23,7 +23,7 @@ ghost use Rattle.editor_core.specs.Scans.{HaveOneLength};
 ghost use Rattle.editor_recovery.specs.Opening.{Opens};
 ghost use Rattle.editor_recovery.specs.Reading.{IsRead};
 
-use super::counting::count_blocks;
+use super::counting::count_layouts;
 use super::disk::{Disk, Folded};
 use super::fault::OpenFault;
 use super::listing::block_above;
@@ -31,6 +31,7 @@ use super::measuring::measure;
 use super::sizes::{Sizes, wrong_block};
 use disk_model::Store;
 use editor_core::Parts;
+use layout_uses::{Numbered, number_points};
 use pcm_base::BlockRef;
 use project_journal::{JournalFault, Reader};
 use project_state::Point;
@@ -144,13 +145,13 @@ fn test_files<S: Store>(
 fn parts_of(alloc: Global, files: &[u64], folded: Folded) -> Result<Parts, OpenFault>
     requires known { find is_foreign files.now ≡ None }
     requires rising { IsStrictlyIncreasing files.now }
+    requires sound { IsSoundFolded folded }
     requires block { folded.project.next_block ≤ COUNTER_LIMIT }
     requires named { All (λ p. All (λ b. (2 ≤ b.id) × Contains files.now b.id) (point_blocks p.0))
         folded.project.history.history.points }
     ensures parts { IfOk result (ArePartsOf files.now folded) }
     ensures memory { IfErr result (λ e. e ≡ OpenFault.NoMemory) }
 {
-    let ledger = count_blocks(alloc, files, &folded.project.history)?;
     let next_block = block_above(files, folded.project.next_block);
     let Folded {
         rate,
@@ -161,14 +162,21 @@ fn parts_of(alloc: Global, files: &[u64], folded: Folded) -> Result<Parts, OpenF
         end,
         project,
     } = folded;
+    let _points = project.history.len();
+    let Numbered {
+        history,
+        next: next_layout,
+    } = number_points(alloc, &project.history)?;
+    let tally = count_layouts(alloc, files, &history)?;
     Ok(Parts {
         rate,
         pages: PAGES,
         block_size,
-        history: project.history,
-        ledger,
+        history,
+        tally,
         next_block,
         next_track: project.next_track,
+        next_layout,
         commit_number: project.commit,
         file,
         version,

@@ -68,6 +68,7 @@ module _ (version m tag next_block next_track : ℕ) (current point : List Track
     few = is.few;
     rising = is.rising;
     sound = is.sound;
+    unnumbered = is.unnumbered;
   }
 
   pub leads : (more : ℕ) (k : Kept) → current_tracks k.history ≡ current → 1 ≤ k.history.depth

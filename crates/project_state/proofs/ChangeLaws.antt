@@ -8,6 +8,7 @@ use Rattle.pcm_base.specs.declared.sound.Side.{Side}
 use Rattle.pcm_base.specs.declared.sound.Side.TheVariants as side
 use Rattle.clip_track.specs.declared.clips.Clip.{Clip}
 use Rattle.project_state.specs.declared.track.Track.{Track}
+use Rattle.project_state.specs.Numbers.{unnumbered}
 use Rattle.project_state.specs.Spelling.{side_byte, mute_byte}
 use Rattle.project_state.specs.Changes.{Same, is_block, common, same_blocks, same_clip, same_clips}
 use Rattle.project_state.specs.Changes.{front_clips, last_blocks, last_start, same_but_last, same_settings}
@@ -98,12 +99,13 @@ settings_same a b e =
       mute = mute_same a.mute b.mute (eqb-true (mute_byte a.mute) (mute_byte b.mute) two.second);
     }
 
-track_same : (a b : Track) → a.id ≡ b.id → Alike a b → a.layout ≡ b.layout → a ≡ b
+track_same : (a b : Track) → a.id ≡ b.id → Alike a b → a.layout ≡ b.layout → unnumbered a ≡ unnumbered b
 track_same a b id alike layout = λ i. record {
   id = id i;
   gain = alike.gain i;
   side = alike.side_is i;
   mute = alike.mute i;
+  number = 0;
   layout = layout i;
 }
 
@@ -155,7 +157,8 @@ abbrev pub HasId : ℕ → Option Track → Type 0
 HasId id None = Unit {0}
 HasId id (Some old) = old.id ≡ id
 
-pub choice_says : (old : Option Track) (t : Track) → HasId t.id old → changed old (change_of old t) ≡ Some t
+pub choice_says : (old : Option Track) (t : Track) → HasId t.id old → changed old (change_of old t) ≡ Some
+    (unnumbered t)
 choice_says None t same = refl
 choice_says (Some old) t same = elim (cases_Bool (same_settings old t && same_clips old.layout t.layout)) [
   | inl whole ↦
@@ -168,7 +171,9 @@ choice_says (Some old) t same = elim (cases_Bool (same_settings old t && same_cl
         let alike = settings_same old t is.first in
         let layout = ap (λ bs. with_last bs old.layout) (tail_blocks (last_blocks old.layout) (last_blocks t.layout))
         ∙ last_alike old.layout t.layout is.second in
-        rw (differ, ends) (ap (λ (k : Track). Some k) (track_same _ t same
+        let gone = length (last_blocks old.layout) - common (last_blocks old.layout) (last_blocks t.layout) in
+        let fresh = drop (common (last_blocks old.layout) (last_blocks t.layout)) (last_blocks t.layout) in
+        rw (differ, ends) (ap (λ (k : Track). Some k) (track_same (tailed gone fresh old) t same
         (record { gain = alike.gain; side_is = alike.side_is; mute = alike.mute }) layout))
     | inr other ↦ rw (differ, other) refl
   ]

@@ -114,6 +114,7 @@ back_whole l from old t at bytes rest narrow good id e =
       gain = has.gain i;
       side = (ap side_of has.side ∙ side_back t.side) i;
       mute = (ap (nat_lt 0) has.mute ∙ mute_back t.mute) i;
+      number = sym good.number i;
       layout = layout i;
     } in
     record {

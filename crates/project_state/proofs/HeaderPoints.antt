@@ -1,5 +1,5 @@
 -- A header's point whose tests pass is sound, and its bytes are its spelling. A sound one passes them.
-use Rattle.std.proofs.Common.{◌≡◌, ℕ, ◌+◌, ◌^◌, ◌≤◌, ◌<◌, None, Result, Ok, Err, List, [], ◌∷◌, ◌++◌, length, drop, refl}
+use Rattle.std.proofs.Common.{◌≡◌, ℕ, ◌+◌, ◌^◌, ◌≤◌, ◌<◌, None, Result, Ok, Err, List, [], ◌++◌, length, drop, refl}
 use Rattle.std.proofs.Common.{sym, ap, subst, ◌∙◌, arith}
 use Rattle.std.proofs.lemmas.List.{append-nil}
 use Rattle.std.specs.List.{flat_map}
@@ -9,16 +9,16 @@ use Rattle.project_journal.specs.Header.{first_failed}
 use Rattle.project_state.specs.declared.limits.BadBody.{BadBody}
 use Rattle.project_state.specs.declared.limits.BadBody.TheVariants as bad
 use Rattle.project_state.specs.declared.limits.Before.{Before}
-use Rattle.project_state.specs.declared.limits.Limits.{Limits}
 use Rattle.project_state.specs.declared.track.Track.{Track}
 use Rattle.project_state.specs.FirstFault.{Finds, tracks_tests}
 use Rattle.project_state.specs.Kept.{point_bytes}
 use Rattle.project_state.specs.Places.{tracks_at, tracks_size}
 use Rattle.project_state.specs.PointTests.{asked_point, point_at, point_count, point_field_tests, point_head_tests}
 use Rattle.project_state.specs.PointTests.{point_length_test, point_limits, point_tests, point_widths}
+use Rattle.project_state.specs.Numbers.{AreUnnumbered}
 use Rattle.project_state.specs.Sound.{IsSoundTagged}
 use Rattle.project_state.specs.Spelling.{track_bytes}
-use Rattle.project_state.specs.Widths.{reach, total_width}
+use Rattle.project_state.specs.Widths.{total_width}
 use Rattle.project_state.proofs.ClipsBack.{AreNarrow}
 use Rattle.project_state.proofs.FieldsBack.{NoneFails, both_pass, most_passes, no_test, number_there, passes, past}
 use Rattle.project_state.proofs.Numbers.{AreBytes}
@@ -109,13 +109,13 @@ has_point m block track commit p bytes most sound e =
 -- The bytes of a sound point pass their tests.
 pub point_back : (m : ℕ) (b : Before) (p : List Track × ℕ) → 4 ≤ m → m < 2 ^ 32 → b.next_block ≤ 2 ^ 62
     → b.next_track ≤ 2 ^ 62 → b.commits ≤ 2 ^ 62 → IsSoundTagged m b.next_block b.next_track b.commits p
-    → first_failed (point_tests m b (point_bytes p)) ≡ None
-point_back m b p large small blocks_fit tracks_fit commits_fit sound =
+    → AreUnnumbered p.0 → first_failed (point_tests m b (point_bytes p)) ≡ None
+point_back m b p large small blocks_fit tracks_fit commits_fit sound none =
     let ts = p.0 in
     let bytes = point_bytes p in
     let l = point_limits m b in
     let narrow : AreNarrow l = record { ids = blocks_fit; tracks = tracks_fit; lens = small } in
-    let good = tracks_good l 0 1 ts large (omega arith) (omega arith) sound.0.rising sound.0.sound in
+    let good = tracks_good l 0 1 ts large (omega arith) (omega arith) sound.0.rising sound.0.sound none in
     let has = has_point m b.next_block b.next_track b.commits p bytes commits_fit sound refl in
     let tracks = has_tracks l 0 ts 12 bytes [] narrow good has.tracks in
     let all = tracks_pass l 0 ts 12 bytes [] narrow good has.tracks in
@@ -132,13 +132,13 @@ point_back m b p large small blocks_fit tracks_fit commits_fit sound =
 -- They say that point.
 pub point_is : (m : ℕ) (b : Before) (p : List Track × ℕ) → 4 ≤ m → m < 2 ^ 32 → b.next_block ≤ 2 ^ 62
     → b.next_track ≤ 2 ^ 62 → b.commits ≤ 2 ^ 62 → IsSoundTagged m b.next_block b.next_track b.commits p
-    → point_at (point_bytes p) ≡ p
-point_is m b p large small blocks_fit tracks_fit commits_fit sound =
+    → AreUnnumbered p.0 → point_at (point_bytes p) ≡ p
+point_is m b p large small blocks_fit tracks_fit commits_fit sound none =
     let ts = p.0 in
     let bytes = point_bytes p in
     let l = point_limits m b in
     let narrow : AreNarrow l = record { ids = blocks_fit; tracks = tracks_fit; lens = small } in
-    let good = tracks_good l 0 1 ts large (omega arith) (omega arith) sound.0.rising sound.0.sound in
+    let good = tracks_good l 0 1 ts large (omega arith) (omega arith) sound.0.rising sound.0.sound none in
     let has = has_point m b.next_block b.next_track b.commits p bytes commits_fit sound refl in
     let tracks = has_tracks l 0 ts 12 bytes [] narrow good has.tracks in
     let all : tracks_at (point_count bytes) 12 bytes ≡ ts =

@@ -1,6 +1,6 @@
 -- A disk keeps one project at most, and the same one after its journal was put into one header.
 use Rattle.std.proofs.Common.{◌≡◌, ℕ, ◌<◌, ◌^◌, ◌≤◌, List, [], ◌∷◌, ◌++◌, map, drop, take, sym, ap, subst, ◌∙◌, refl, arith}
-use Rattle.std.proofs.Common.{⊎_elim, inl, inr}
+use Rattle.std.proofs.Common.{⊎_elim, inr}
 use Rattle.std.specs.List.{AllByRecursion}
 use Rattle.std.proofs.lemmas.List.{take_at, drop_at}
 use Rattle.byteorder.specs.Endian.{little_bytes}
@@ -19,6 +19,7 @@ use Rattle.project_state.specs.declared.track.Track.{Track}
 use Rattle.project_state.specs.Kept.{Kept, Opened, opened, LeadIn, Keeps, Begins, BeginsBy, IsTold, IsPacked}
 use Rattle.project_state.specs.Kept.{point_bytes, history_blocks, version_of}
 use Rattle.project_state.specs.Places.{body_at}
+use Rattle.project_state.specs.Numbers.{AreUnnumbered}
 use Rattle.project_state.specs.Sound.{IsSoundTagged, IsSound}
 use Rattle.project_state.specs.Spelling.{spelling, project_bytes}
 use Rattle.project_state.proofs.Leading.{lead_once_in}
@@ -34,10 +35,10 @@ edit_of : ℕ → ℕ → List Track × ℕ → Body
 edit_of block track p = Edit p.1 block track p.0
 
 edit_sound : (m block track commit : ℕ) (p : List Track × ℕ) → 16 ≤ block → block ≤ 2 ^ 62 → 1 ≤ track → track ≤ 2 ^ 62
-    → p.1 < 2 ^ 64 → IsSoundTagged m block track commit p
+    → p.1 < 2 ^ 64 → IsSoundTagged m block track commit p → AreUnnumbered p.0
     → IsSound m (record { at = 0; next_block = block; next_track = track; commits = commit }) (edit_of block track p)
 unfolding edit_of
-edit_sound m block track commit p bl bm tl tm small is = record {
+edit_sound m block track commit p bl bm tl tm small is none = record {
   tag_number = small;
   tag_given = is.1;
   block_least = bl;
@@ -49,6 +50,7 @@ edit_sound m block track commit p bl bm tl tm small is = record {
   few = is.0.few;
   rising = is.0.rising;
   sound = is.0.sound;
+  unnumbered = none;
 }
 
 tracks_of : Body → List Track
@@ -75,16 +77,16 @@ spelled_alike block track p q e =
 module _ (m block track commit : ℕ) (least : 4 ≤ m) (most : m < 2 ^ 32) (bl : 16 ≤ block) (bm : block ≤ 2 ^ 62)
     (tl : 1 ≤ track) (tm : track ≤ 2 ^ 62) (cm : commit ≤ 2 ^ 62) where
   abbrev Sound : List Track × ℕ → Type 0
-  Sound = IsSoundTagged m block track commit
+  Sound p = IsSoundTagged m block track commit p × AreUnnumbered p.0
 
   one_point : (p q : List Track × ℕ) → Sound p → Sound q → point_bytes p ≡ point_bytes q → p ≡ q
   unfolding edit_of tracks_of tag_of
   one_point p q a b e =
       let before : Before = record { at = 0; next_block = block; next_track = track; commits = commit } in
       let say_p = (read_back m before (edit_of block track p) least most
-      (edit_sound m block track commit p bl bm tl tm (omega (arith, a.1)) a)).1 in
+      (edit_sound m block track commit p bl bm tl tm (omega (arith, a.0.1)) a.0 a.1)).1 in
       let say_q = (read_back m before (edit_of block track q) least most
-      (edit_sound m block track commit q bl bm tl tm (omega (arith, b.1)) b)).1 in
+      (edit_sound m block track commit q bl bm tl tm (omega (arith, b.0.1)) b.0 b.1)).1 in
       let same : edit_of block track p ≡ edit_of block track q =
       sym say_p ∙ ap body_at (spelled_alike block track p q e) ∙ say_q in
       λ i. (tracks_of (same i), tag_of (same i))
@@ -133,10 +135,18 @@ module _ (log : Log) (format : IsFormat log.rate log.block_size log.depth) (boun
       kept_same a b
       (one_points log.block_size block track commit format.block_least (omega (arith, format.block_most))
       bounds.block_least bounds.block_most bounds.track_least bounds.track_most bounds.commit
-      a.history.points b.history.points all_a all_b (sym p.points ∙ q.points))
+      a.history.points b.history.points (with_none a.history.points all_a p.unnumbered)
+      (with_none b.history.points all_b q.unnumbered) (sym p.points ∙ q.points))
       (p.cursor ∙ sym q.cursor) (p.depth ∙ sym q.depth) (p.next_block ∙ sym q.next_block)
       (p.next_track ∙ sym q.next_track) (p.commit ∙ sym q.commit)
     where
+      with_none : (ps : List (List Track × ℕ)) → AllByRecursion (IsSoundTagged log.block_size log.base.next_block
+          log.base.next_track log.base.commit) ps → AllByRecursion (λ (p : List Track × ℕ). AreUnnumbered p.0) ps
+          → AllByRecursion (λ (p : List Track × ℕ). IsSoundTagged log.block_size log.base.next_block
+          log.base.next_track log.base.commit p × AreUnnumbered p.0) ps
+      with_none [] a b = tt
+      with_none (p ∷ ps) a b = ((a.0, b.0), with_none ps a.1 b.1)
+
       rewritten : (k : Kept) → IsTold log k → AllByRecursion (IsSoundTagged log.block_size log.base.next_block
           log.base.next_track log.base.commit) k.history.points
       rewritten k is =

@@ -37,3 +37,4 @@ pub mod ToldSound
 pub mod SaysOnce
 pub mod DeltaLengths
 pub mod Moved
+pub mod Unnumbered

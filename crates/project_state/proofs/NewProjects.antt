@@ -12,4 +12,5 @@ fresh_begins rate m depth = record {
   next_track = refl;
   commit = refl;
   sound = ((record { few = omega arith; rising = tt; sound = tt }, omega arith), tt);
+  unnumbered = (tt, tt);
 }

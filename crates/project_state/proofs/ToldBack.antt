@@ -15,6 +15,7 @@ use Rattle.project_state.specs.ChangePlaces.{all_told_at}
 use Rattle.project_state.specs.ChangeTests.{id_tests}
 use Rattle.project_state.specs.ChangeTests.{change_tests, told_tests, all_told_tests}
 use Rattle.project_state.specs.Laws.{EndsShort, HasShortEnds}
+use Rattle.project_state.specs.Numbers.{unnumbered}
 use Rattle.project_state.specs.Tracks.{track_of}
 use Rattle.project_state.proofs.ClipsBack.{AreNarrow}
 use Rattle.project_state.proofs.FieldsBack.{NoneFails, both_pass, least_passes, most_passes, no_test}
@@ -88,13 +89,17 @@ is_told l current from t at bytes rest narrow short good e =
     record {
       id = id;
       told = ap₂ (λ (n : ℕ) (c : Change). changed (track_of n current) c) id back.change
-          ∙ choice_says old t (has_id old (λ o is. found_id t.id current o is));
+          ∙ choice_says old t (has_id old (λ o is. found_id t.id current o is))
+          ∙ ap (λ (k : Track). Some k) (unnumbered_is t good.number);
       size = size;
       left = past at (at + told_size at bytes) bytes (told_bytes current t) rest e (omega (arith, size));
       tests = both_pass (id_tests l from at bytes) _ ids
           (subst (λ (n : ℕ). NoneFails (change_tests l (track_of n current) at bytes)) (sym id) back.tests);
     }
   where
+    unnumbered_is : (k : Track) → k.number ≡ 0 → unnumbered k ≡ k
+    unnumbered_is k e = λ i. record k { number = sym e i }
+
     has_id : (old : Option Track) → ((o : Track) → old ≡ Some o → o.id ≡ t.id) → HasId t.id old
     has_id None is = tt
     has_id (Some o) is = is o refl

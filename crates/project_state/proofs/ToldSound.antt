@@ -22,13 +22,14 @@ use Rattle.project_state.specs.DeltaBodies.{SaysBody}
 use Rattle.project_state.specs.FirstFault.{place, clips_tests, head_tests, limits_at}
 use Rattle.project_state.specs.Places.{blocks_at, clip_count, track_at, track_count}
 use Rattle.project_state.specs.Sound.{AllGiven, AllClipsGiven, IsSoundTrack, AllSoundTracks, IsSoundPoint, IsSound}
+use Rattle.project_state.specs.Numbers.{AreUnnumbered, unnumbered}
 use Rattle.project_state.specs.Tracks.{AreAbove, track_of}
 use Rattle.project_state.proofs.KeptBounds.{tracks_more}
 use Rattle.project_state.proofs.Numbers.{AreBytes, field_small}
 use Rattle.project_state.proofs.Passing.{Pass, all_pass, pass_parts}
 use Rattle.project_state.proofs.SoundBodies.{few_tracks, sound_clips}
 use Rattle.project_state.proofs.Tails.{end_last, last_end, sound_tail, layout_with, half_with}
-use Rattle.project_state.proofs.ToldTracks.{some_is, told_id, id_bounds}
+use Rattle.project_state.proofs.ToldTracks.{some_is, told_id, told_unnumbered, id_bounds}
 
 -- ---- blocks that were given
 
@@ -63,7 +64,7 @@ record IsOld (l : Limits) (id : ℕ) (old : Track) : Type 0 where
   sound : IsSoundTrack l.block_size l.next_block next old
   same : old.id ≡ id
 
-sound_same : (l : Limits) (id : ℕ) (old : Track) → id < l.next_track → IsOld l id old → SoundIn l old
+sound_same : (l : Limits) (id : ℕ) (old : Track) → id < l.next_track → IsOld l id old → SoundIn l (unnumbered old)
 sound_same l id old below is = record {
   given = omega (arith, below, is.same);
   gain = is.sound.gain;
@@ -134,7 +135,8 @@ sound_known l old at bytes t below is pass e =
     let p = pass_parts (mark_tests (place l.base (at + 8)) (mark_want (Some old) mark) mark)
     (marked_tests l (Some old) at bytes) pass in
     elim (cases_Bool (mark == 0)) [
-      | inl none ↦ subst (SoundIn l) (some_is old t (rw none at e)) (sound_same l (field at 8 bytes) old below is)
+      | inl none ↦ subst (SoundIn l) (some_is (unnumbered old) t (rw none at e)) (sound_same l
+          (field at 8 bytes) old below is)
       | inr some ↦ elim (cases_Bool (mark == 1)) [
         | inl one ↦ subst (SoundIn l) (some_is (whole_at at bytes) t (rw (some, one) at e))
             (sound_whole l (field at 8 bytes) (at + 1) bytes below (rw (some, one) at p.1))
@@ -197,7 +199,8 @@ sound_all : (l : Limits) (next : ℕ) (current : List Track) (count from at : �
     → AllSoundTracks l.block_size l.next_block next current → Pass (all_told_tests l current count from at bytes)
     → map Some ts ≡ all_told_at current count at bytes
     → AreAbove from ts × AllSoundTracks l.block_size l.next_block l.next_track ts × (length ts ≡ count)
-sound_all l next current zero from at bytes [] sound pass e = (tt, tt, refl)
+    × AreUnnumbered ts
+sound_all l next current zero from at bytes [] sound pass e = (tt, tt, refl, tt)
 sound_all l next current zero from at bytes (t ∷ ts) sound pass e =
     absurd (none_first (Some t) (map Some ts) (sym e))
 sound_all l next current (suc count) from at bytes [] sound pass e =
@@ -216,6 +219,7 @@ sound_all l next current (suc count) from at bytes (t ∷ ts) sound pass e =
       (omega (arith, id, bounds.1), subst (λ (n : ℕ). AreAbove (n + 1) ts) (sym id) rest.0),
       (sound_told l next current from at bytes t sound p.0 here, rest.1),
       omega (arith, rest.2),
+      (told_unnumbered current at bytes t here, rest.3),
     )
 
 -- no id is 0
@@ -259,6 +263,7 @@ delta_sound m b next current bytes (Edit tag next_block next_track ts) fit is no
       rising = above_none l current count 29 bytes ts p.1 s.3 all.0;
       sound = subst (λ (n : ℕ). AllSoundTracks m n next_track ts) (sym s.1)
           (subst (λ (n : ℕ). AllSoundTracks m (field 9 8 bytes) n ts) (sym s.2) all.1);
+      unnumbered = all.3;
     }
 delta_sound m b next current bytes Undo fit is none says = tt
 delta_sound m b next current bytes Redo fit is none says = tt

@@ -16,6 +16,7 @@ use Rattle.project_state.specs.ChangePlaces.{mark_at, change_at, told_at, told_s
 use Rattle.project_state.specs.ChangeTests.{id_tests, change_tests, mark_tests, marked_tests, mark_want, told_tests}
 use Rattle.project_state.specs.FirstFault.{Finds, place}
 use Rattle.project_state.specs.Lengths.{AreHalfFull}
+use Rattle.project_state.specs.Numbers.{unnumbered}
 use Rattle.project_state.specs.Tracks.{track_of}
 use Rattle.project_state.proofs.Passing.{Pass, pass_parts, passed}
 
@@ -51,8 +52,10 @@ found_id id (x ∷ ts) t e = elim (cases_Bool (id == x.id)) [
 
 changed_id : (id : ℕ) (old : Option Track) (change : Change) (t : Track) → ((o : Track) → old ≡ Some o → o.id ≡ id)
     → ((w : Track) → change ≡ Whole w → w.id ≡ id) → changed old change ≡ Some t → t.id ≡ id
-changed_id id old Same t known whole e = known t e
-changed_id id old (Whole w) t known whole e = sym (ap (λ (k : Track). k.id) (some_is w t e)) ∙ whole w refl
+changed_id id None Same t known whole e = absurd (none_some t e)
+changed_id id (Some o) Same t known whole e =
+    sym (ap (λ (k : Track). k.id) (some_is (unnumbered o) t e)) ∙ known o refl
+changed_id id old (Whole w) t known whole e = sym (ap (λ (k : Track). k.id) (some_is (unnumbered w) t e)) ∙ whole w refl
 changed_id id None (Tail gone bs) t known whole e = absurd (none_some t e)
 changed_id id (Some o) (Tail gone bs) t known whole e =
     sym (ap (λ (k : Track). k.id) (some_is (tailed gone bs o) t e)) ∙ known o refl
@@ -79,6 +82,19 @@ told_id current at bytes t =
     changed_id (field at 8 bytes) (track_of (field at 8 bytes) current) (change_at at bytes) t
     (λ o e. found_id (field at 8 bytes) current o e)
     (λ w e. ap (λ (k : Track). k.id) (change_whole at bytes w e))
+
+-- its layout has no number
+changed_unnumbered : (old : Option Track) (change : Change) (t : Track) → changed old change ≡ Some t → t.number ≡ 0
+changed_unnumbered None Same t e = absurd (none_some t e)
+changed_unnumbered (Some o) Same t e = sym (ap (λ (k : Track). k.number) (some_is (unnumbered o) t e))
+changed_unnumbered old (Whole w) t e = sym (ap (λ (k : Track). k.number) (some_is (unnumbered w) t e))
+changed_unnumbered None (Tail gone bs) t e = absurd (none_some t e)
+changed_unnumbered (Some o) (Tail gone bs) t e = sym (ap (λ (k : Track). k.number) (some_is (tailed gone bs o) t e))
+
+pub told_unnumbered : (current : List Track) (at : ℕ) (bytes : List ℕ) (t : Track) → told_at current at bytes ≡ Some t
+    → t.number ≡ 0
+told_unnumbered current at bytes t =
+    changed_unnumbered (track_of (field at 8 bytes) current) (change_at at bytes) t
 
 -- and where it is written out it is that
 pub told_whole : (current : List Track) (at : ℕ) (bytes : List ℕ) (t : Track) → told_at current at bytes ≡ Some t

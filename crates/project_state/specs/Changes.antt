@@ -11,6 +11,7 @@ use Rattle.project_state.specs.declared.track.Track.{Track}
 use Rattle.project_state.specs.declared.body.Body.{Body}
 use Rattle.project_state.specs.declared.body.Body.TheVariants.{Edit, Undo, Redo, Purge}
 use Rattle.project_state.specs.declared.kinds.TheConstants.{DELTA_KIND}
+use Rattle.project_state.specs.Numbers.{unnumbered}
 use Rattle.project_state.specs.Spelling.{block_bytes, clip_bytes, side_byte, mute_byte, spelling}
 use Rattle.project_state.specs.Tracks.{track_of}
 
@@ -89,13 +90,14 @@ with_last ys (c ∷ d ∷ cs) = c ∷ with_last ys (d ∷ cs)
 
 abbrev pub tailed : ℕ → List BlockRef → Track → Track
 tailed gone ys t = record t {
+  number = 0;
   layout = with_last (take (length (last_blocks t.layout) - gone) (last_blocks t.layout) ++ ys) t.layout;
 }
 
--- the track that is meant, where it can be known
+-- the track that is meant, where it can be known; its layout has no number
 abbrev pub changed : Option Track → Change → Option Track
-changed old Same = old
-changed old (Whole t) = Some t
+changed old Same = option_map unnumbered old
+changed old (Whole t) = Some (unnumbered t)
 changed old (Tail gone ys) = option_map (tailed gone ys) old
 
 -- ---- its bytes

@@ -21,6 +21,7 @@ use Rattle.project_state.specs.declared.body.Body.TheVariants.{Edit, Undo, Redo,
 use Rattle.project_state.specs.declared.limits.Before.{Before}
 use Rattle.project_state.specs.ChangeTests.{delta_tests}
 use Rattle.project_state.specs.DeltaBodies.{SaysBody}
+use Rattle.project_state.specs.Numbers.{AreUnnumbered}
 use Rattle.project_state.specs.Sound.{IsSound, IsSoundTagged}
 use Rattle.project_state.specs.Spelling.{project_bytes, spelling}
 
@@ -145,6 +146,7 @@ pub record IsTold (log : Log) (base : Kept) : Type 0 where
   pub commit : base.commit ≡ log.base.commit
   pub sound : AllByRecursion (IsSoundTagged log.block_size base.next_block base.next_track base.commit)
       base.history.points
+  pub unnumbered : AllByRecursion (λ (p : List Track × ℕ). AreUnnumbered p.0) base.history.points
 
 -- the project before a journal's first record: one without commits where its header has no points
 abbrev pub BeginsBy : List (List ℕ) → Log → Kept → Type 0

@@ -10,6 +10,7 @@ use Rattle.project_state.specs.Batches.{after_bodies, bodies_in}
 use Rattle.project_state.specs.Changes.{Same, change_of, changed, common, delta_spelling, last_blocks, tailed}
 use Rattle.project_state.specs.ChangeTests.{delta_tests}
 use Rattle.project_state.specs.DeltaBodies.{SaysBody}
+use Rattle.project_state.specs.Numbers.{unnumbered}
 use Rattle.project_state.specs.Sound.{IsSound, IsSoundPoint}
 use Rattle.project_state.specs.Tracks.{track_of}
 use Rattle.disk_model.specs.Disk.{Files}
@@ -39,9 +40,10 @@ abbrev pub HasId : ℕ → Option Track → Type 0
 HasId id None = Unit {0}
 HasId id (Some old) = old.id ≡ id
 
--- what the writer takes for a track says that track
+-- what the writer takes for a track says that track, but for its layout's number
 abbrev pub ChoiceTellsTheTrack : Type 0
-ChoiceTellsTheTrack = (old : Option Track) (t : Track) → HasId t.id old → changed old (change_of old t) ≡ Some t
+ChoiceTellsTheTrack = (old : Option Track) (t : Track) → HasId t.id old → changed old (change_of old t) ≡ Some
+    (unnumbered t)
 
 -- a track that stays is written as the same
 abbrev pub SameStays : Type 0

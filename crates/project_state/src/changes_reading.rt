@@ -11,6 +11,7 @@ ghost use Rattle.project_state.specs.ChangeTests as test;
 ghost use Rattle.project_state.specs.FirstFault as fault;
 ghost use Rattle.project_state.specs.FirstFault.{Tells, Finds};
 ghost use Rattle.project_state.specs.Lengths.{AreHalfFull};
+ghost use Rattle.project_state.specs.Numbers.{unnumbered};
 ghost use Rattle.project_state.specs.Places as place;
 ghost use Rattle.project_journal.specs.Fields.{field};
 
@@ -90,6 +91,7 @@ fn read_whole(
         gain: u32_at(bytes, at + 8),
         side: side_of(u8_at(bytes, at + 12)),
         mute: u8_at(bytes, at + 13) > 0,
+        number: 0,
         layout,
     })
 }
@@ -116,17 +118,24 @@ fn read_known(
     };
     test_mark(place(limits.base, at + 8), want, mark)?;
     match mark {
-        0 => copy_track(old),
+        0 => copy_unnumbered(old),
         1 => read_whole(alloc, bytes, at + 1, limits, old.id),
         _ => read_tail(alloc, bytes, at, limits, old),
     }
 }
 
-fn copy_track(track: &Track) -> Result<Track, BadBody>
-    ensures { MatchResult result (λ t. t ≡ track.now) (λ e. e ≡ bad.NoMemory) }
+fn copy_unnumbered(track: &Track) -> Result<Track, BadBody>
+    ensures { MatchResult result (λ t. t ≡ unnumbered track.now) (λ e. e ≡ bad.NoMemory) }
 {
-    let copy = track.copy()?;
-    Ok(copy)
+    let layout = track.layout.copy()?;
+    Ok(Track {
+        id: track.id,
+        gain: track.gain,
+        side: track.side,
+        mute: track.mute,
+        number: 0,
+        layout,
+    })
 }
 
 /// The track at a place, whose id the current point lacks.

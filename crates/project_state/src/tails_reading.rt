@@ -146,6 +146,7 @@ pub(crate) fn read_tail(
         gain: old.gain,
         side: old.side,
         mute: old.mute,
+        number: 0,
         layout,
     })
 }

@@ -1,5 +1,5 @@
 -- The project that a header brings is valid.
-use Rattle.std.proofs.Common.{◌≡◌, ◌≤◌, ◌^◌, ℕ, List, [], ◌∷◌, None, length, map, refl, sym, ap, subst, ◌∙◌, arith}
+use Rattle.std.proofs.Common.{◌≡◌, ◌≤◌, ◌^◌, ℕ, List, [], ◌∷◌, None, length, map, refl, sym, ap, subst, arith}
 use Rattle.std.proofs.Common.{Result, Ok, Err}
 use Rattle.std.specs.Prelude.{IfOk, MatchResult}
 use Rattle.std.specs.List.{AllByRecursion}
@@ -15,10 +15,12 @@ use Rattle.project_journal.specs.Reader.{IsHeading, contents, reader_form}
 use Rattle.project_journal.proofs.AnyFormats.{HasBase, base_sound}
 use Rattle.project_journal.proofs.Parses.{form_known}
 use Rattle.project_journal.proofs.Readings.{heading_read}
-use Rattle.project_state.specs.Kept.{BeginsBy, IsTold, Kept, new_project, point_bytes}
-use Rattle.project_state.specs.PointTests.{point_at}
+use Rattle.project_state.specs.Kept.{BeginsBy, IsTold, Kept, new_project}
+use Rattle.project_state.specs.PointTests.{point_at, point_count}
 use Rattle.project_state.specs.declared.track.Track.{Track}
+use Rattle.project_state.specs.Numbers.{AreUnnumbered}
 use Rattle.project_state.specs.Sound.{IsSoundTagged}
+use Rattle.project_state.proofs.SoundBodies.{tracks_unnumbered}
 use Rattle.project_state.proofs.KeptBounds.{new_sound}
 use Rattle.record_fold.specs.Bases.{base_by}
 use Rattle.record_fold.specs.Folds.{kept_of, Brings, FoldsStored, IsBrought, IsValid}
@@ -68,6 +70,12 @@ brought_none disk store m r now heading none is = record {
   begins = is;
 }
 
+-- what the bytes of points say has no numbers
+points_unnumbered : (ps : List (List ℕ))
+    → AllByRecursion (λ (p : List Track × ℕ). AreUnnumbered p.0) (map point_at ps)
+points_unnumbered [] = tt
+points_unnumbered (p ∷ ps) = (tracks_unnumbered (point_count p) 12 p, points_unnumbered ps)
+
 module _ {D : Type 0} (disk : Ghosts D) (store : D) (m : ℕ) (r : Reader) (h : History (List Track))
     (has : HasPoints disk store m r h) where
   -- the points, with the other numbers of the header
@@ -98,6 +106,8 @@ module _ {D : Type 0} (disk : Ghosts D) (store : D) (m : ℕ) (r : Reader) (h : 
     commit = refl;
     sound = subst (λ (n : ℕ). AllByRecursion (IsSoundTagged n r.base.next_block r.base.next_track r.base.commit) h.points)
         size has.sound;
+    unnumbered = subst (AllByRecursion (λ (p : List Track × ℕ). AreUnnumbered p.0)) (sym has.told)
+        (points_unnumbered has.points);
   }
 
   begins_told : (ps : List (List ℕ)) (log : Log) → 1 ≤ length ps → IsTold log told → BeginsBy ps log told

@@ -10,6 +10,7 @@ use Rattle.project_journal.proofs.AnyFormats.{HasBase}
 use Rattle.project_state.specs.declared.track.Track.{Track}
 use Rattle.project_state.specs.Kept.{Begins, BeginsBy, IsTold, Kept, point_bytes}
 use Rattle.project_state.specs.PointTests.{point_at}
+use Rattle.project_state.specs.Numbers.{AreUnnumbered}
 use Rattle.project_state.specs.Sound.{IsSoundTagged}
 use Rattle.project_state.proofs.HeaderPoints.{point_back, point_is}
 use Rattle.record_fold.specs.Bases.{base_by, base_of, point_before, points_fault}
@@ -18,20 +19,25 @@ module _ (m : ℕ) (b : Base) (large : 4 ≤ m) (small : m < 2 ^ 32) (bounds : H
   abbrev AllSound : List (List Track × ℕ) → Type 0
   AllSound ps = AllByRecursion (IsSoundTagged m b.next_block b.next_track b.commit) ps
 
-  none_fails : (at : ℕ) (ps : List (List Track × ℕ)) → AllSound ps → points_fault m b at (map point_bytes ps) ≡ None
-  none_fails at [] all = refl
-  none_fails at (p ∷ ps) all =
+  abbrev AllPlain : List (List Track × ℕ) → Type 0
+  AllPlain ps = AllByRecursion (λ (p : List Track × ℕ). AreUnnumbered p.0) ps
+
+  none_fails : (at : ℕ) (ps : List (List Track × ℕ)) → AllSound ps → AllPlain ps
+      → points_fault m b at (map point_bytes ps) ≡ None
+  none_fails at [] all plain = refl
+  none_fails at (p ∷ ps) all plain =
       let next = at + 4 + length (point_bytes p) in
       ap (λ (o : Option Damaged). option_or o (points_fault m b next (map point_bytes ps)))
-      (point_back m (point_before b (at + 4)) p large small bounds.block_most bounds.track_most bounds.commit all.0)
-      ∙ none_fails next ps all.1
+      (point_back m (point_before b (at + 4)) p large small bounds.block_most bounds.track_most bounds.commit all.0
+      plain.0)
+      ∙ none_fails next ps all.1 plain.1
 
-  points_back : (ps : List (List Track × ℕ)) → AllSound ps → map point_at (map point_bytes ps) ≡ ps
-  points_back [] all = refl
-  points_back (p ∷ ps) all =
+  points_back : (ps : List (List Track × ℕ)) → AllSound ps → AllPlain ps → map point_at (map point_bytes ps) ≡ ps
+  points_back [] all plain = refl
+  points_back (p ∷ ps) all plain =
       ap (λ (q : List Track × ℕ). q ∷ map point_at (map point_bytes ps))
-      (point_is m (point_before b 0) p large small bounds.block_most bounds.track_most bounds.commit all.0)
-      ∙ ap (λ (qs : List (List Track × ℕ)). p ∷ qs) (points_back ps all.1)
+      (point_is m (point_before b 0) p large small bounds.block_most bounds.track_most bounds.commit all.0 plain.0)
+      ∙ ap (λ (qs : List (List Track × ℕ)). p ∷ qs) (points_back ps all.1 plain.1)
 
 pub record HeaderIs (form : Form) (j : Contents) (base : Kept) : Type 0 where
   pub none : points_fault j.block_size j.base form.header_size j.points ≡ None
@@ -60,7 +66,8 @@ points_sound form j base least most bounds begins = by_points j.points refl begi
         let qs = base.history.points in
         let all = all_sound told in
         let points : qs ≡ map point_at (p ∷ ps) =
-        sym (points_back j.block_size j.base least most bounds qs all) ∙ ap (map point_at) (sym told.points ∙ is) in
+        sym (points_back j.block_size j.base least most bounds qs all told.unnumbered) ∙ ap (map point_at)
+        (sym told.points ∙ is) in
         let same : base ≡ base_by (p ∷ ps) j.depth j.base = λ i. record {
           history = record { points = points i; cursor = told.cursor i; depth = told.depth i };
           next_block = told.next_block i;
@@ -69,6 +76,6 @@ points_sound form j base least most bounds begins = by_points j.points refl begi
         } in
         record {
           none = ap (points_fault j.block_size j.base form.header_size) told.points
-              ∙ none_fails j.block_size j.base least most bounds form.header_size qs all;
+              ∙ none_fails j.block_size j.base least most bounds form.header_size qs all told.unnumbered;
           same = same ∙ sym (ap (λ (xs : List (List ℕ)). base_by xs j.depth j.base) is);
         }

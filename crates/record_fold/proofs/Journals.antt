@@ -13,7 +13,7 @@ use Rattle.project_journal.specs.declared.reader.Reader.{Reader}
 use Rattle.project_journal.specs.declared.records.Next.TheVariants.{Shut, Early}
 use Rattle.project_journal.specs.Header.{form_of}
 use Rattle.project_journal.specs.Journal.{Contents, body_at, log_of}
-use Rattle.project_journal.specs.Reader.{IsReading, IsLater, IsStored, Goes, contents, last_record, reader_form}
+use Rattle.project_journal.specs.Reader.{IsReading, IsLater, Goes, contents, last_record, reader_form}
 use Rattle.project_journal.proofs.Begun.{continued}
 use Rattle.project_journal.proofs.Parses.{form_known}
 use Rattle.project_state.specs.Kept.{Begins, BeginsBy, Kept, LeadIn, new_project, version_of}
@@ -43,6 +43,7 @@ begins_other a b k points base depth size is = by_points a.points points is
       commit = begins.commit ∙ ap (λ (x : Base). x.commit) base;
       sound = subst (λ (m : ℕ). AllByRecursion (IsSoundTagged m k.next_block k.next_track k.commit) k.history.points)
           size begins.sound;
+      unnumbered = begins.unnumbered;
     })
 
 -- how many bytes a header of this version has before its points

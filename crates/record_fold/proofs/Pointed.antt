@@ -1,6 +1,6 @@
 -- The points of a header as they are read.
-use Rattle.std.proofs.Common.{◌≡◌, ℕ, ◌+◌, ◌-◌, ◌<◌, ◌≤◌, List, [], ◌∷◌, ◌++◌, length, map, Option, Some, None, Ok, Err, inl, inr}
-use Rattle.std.proofs.Common.{⊎_elim, Result, refl, sym, ap, subst, ◌∙◌, arith, append_assoc, length-append}
+use Rattle.std.proofs.Common.{◌≡◌, ℕ, ◌+◌, ◌<◌, ◌≤◌, List, [], ◌∷◌, ◌++◌, length, map, Option, Some, None, Ok, Err, inl, inr}
+use Rattle.std.proofs.Common.{Result, refl, sym, ap, subst, ◌∙◌, arith, append_assoc, length-append}
 use Rattle.std.specs.List.{AllByRecursion}
 use Rattle.std.specs.Option.{option_or}
 use Rattle.std.proofs.lemmas.List.{append-nil, map-append, length-map}
@@ -11,11 +11,9 @@ use Rattle.project_journal.specs.declared.fault.Damaged.{Damaged}
 use Rattle.project_journal.specs.declared.fault.JournalFault.{JournalFault}
 use Rattle.project_journal.specs.declared.fault.JournalFault.TheVariants as journal
 use Rattle.project_journal.specs.declared.reader.Reader.{Reader}
-use Rattle.project_journal.specs.declared.records.Next.{Next}
-use Rattle.project_journal.specs.declared.records.Next.TheVariants.{Early, Shut, Whole}
 use Rattle.project_journal.specs.Header.{IsFormat, first_failed, form_of}
-use Rattle.project_journal.specs.Journal.{header_end, points_size}
-use Rattle.project_journal.specs.Reader.{GoesOn, IsHeading, IsLater, contents, last_record, reader_form}
+use Rattle.project_journal.specs.Journal.{points_size}
+use Rattle.project_journal.specs.Reader.{IsHeading, IsLater, contents, last_record, reader_form}
 use Rattle.project_journal.proofs.AnyFormats.{HasBase, HasCounts}
 use Rattle.project_journal.proofs.Headed.{headed_base, headed_counts, headed_end, headed_format}
 use Rattle.project_journal.proofs.Parses.{form_known, form_least}
@@ -25,7 +23,7 @@ use Rattle.project_state.specs.Kept.{point_bytes, version_of}
 use Rattle.project_state.specs.PointTests.{point_at, point_tests}
 use Rattle.project_state.specs.Sound.{IsSoundTagged}
 use Rattle.record_fold.specs.Bases.{base_of, point_before, points_fault}
-use Rattle.record_fold.specs.Faults.{first_fault_in, journal_fault}
+use Rattle.record_fold.specs.Faults.{first_fault_in}
 use Rattle.record_fold.specs.Heads.{BringsPoints, FailsPoint, HasFault, HasPoints, MetOne, ReadsOn, ReadsPoint, TakesPoint}
 use Rattle.record_fold.specs.Heads.{TellsPoint, last_tests}
 

@@ -67,6 +67,7 @@ sound_at m k at there (Edit tag next_block next_track ts) s = record {
   few = s.few;
   rising = s.rising;
   sound = s.sound;
+  unnumbered = s.unnumbered;
 }
 sound_at m k at there Undo s = tt
 sound_at m k at there Redo s = tt

@@ -1,9 +1,9 @@
 -- The project that the header of a journal brings, and the first fault of its points.
-use Rattle.std.specs.Prelude.{◌≡◌, ℕ, ◌+◌, Option, None, Some, List, [], ◌∷◌, length, map}
+use Rattle.std.specs.Prelude.{ℕ, ◌+◌, Option, None, List, [], ◌∷◌, length, map}
 use Rattle.std.specs.Option.{option_or}
 use Rattle.project_journal.specs.declared.base.Base.{Base}
 use Rattle.project_journal.specs.declared.fault.Damaged.{Damaged}
-use Rattle.project_journal.specs.Header.{Form, first_failed}
+use Rattle.project_journal.specs.Header.{first_failed}
 use Rattle.project_journal.specs.Journal.{Contents}
 use Rattle.project_state.specs.declared.limits.Before.{Before}
 use Rattle.project_state.specs.Kept.{Kept, new_project}

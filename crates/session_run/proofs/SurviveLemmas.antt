@@ -11,6 +11,7 @@ use Rattle.editor_core.specs.Core.{Core}
 use Rattle.editor_core.specs.Events.{KeepsPrefix}
 use Rattle.editor_core.specs.Studios.{IsHeld, shown, studio_of}
 use Rattle.editor_recovery.specs.Honest.{IsHonest}
+use Rattle.editor_recovery.proofs.Assembled.{shows_found}
 use Rattle.studio_seats.specs.declared.deed.Deed.{Deed}
 use Rattle.studio_seats.specs.Deeds.{entries_of}
 use Rattle.studio_seats.specs.Leads.{DeedsAsk, Leads, StopsInFlight}
@@ -23,18 +24,10 @@ use Rattle.session_run.specs.Opening.{OpensTo}
 pub opened_keeps : {D : Type 0} (disk : Ghosts D) (store : D) (start : Core D) → OpensTo disk store start
     → IsHonest disk store → Keeps (disk.reads store) (shown (studio_of disk start))
 opened_keeps disk store start opens honest =
-    subst (λ (z : kept.Opened). Keeps (disk.reads store) z) (sym shown_is) (opens.looks.honest honest).keeps
-  where
-    shown_is : shown (studio_of disk start)
-        ≡ kept.opened (opens.looks.honest honest).log (opens.looks.honest honest).kept (disk.reads store)
-    shown_is =
-        let log = (opens.looks.honest honest).log in
-        let there = (opens.looks.honest honest).kept in
-        let found = (opens.looks.honest honest).found in
-        λ i. kept.opened
-        (record log { rate = found.rate i; block_size = found.block_size i })
-        (record there { history = found.history i; next_track = found.next_track i; commit = found.commit i })
-        (opens.looks.reads i)
+    let finds = opens.looks.honest honest in
+    subst (λ (z : kept.Opened). Keeps (disk.reads store) z)
+    (shows_found disk start
+    (disk.reads store) finds.form finds.log finds.kept finds.found opens.looks.reads) finds.keeps
 
 -- At any moment each image, but one that the store could leave before, has the project after some of the first deeds,
 -- the one in flight counted last. At the end it has the project after all of them. Where one of them stopped the studio,

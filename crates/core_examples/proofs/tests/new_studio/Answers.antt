@@ -9,7 +9,8 @@ pub assemble-requires : goal.assemble-requires
 assemble-requires g c =
     let depth = c.args.depth in
     let history = c.in-Ok.ensures.ok ∙ ap (λ (ts : List Track). history_of_one ts 0 depth) c.new.ensures in
-    fresh_parts 8000 4 depth c.in-Ok.history c.new-3.result history c.new-3.ensures.counts (record {
+    let tally = c.new-3.ensures in
+    fresh_parts 8000 4 depth c.in-Ok.history c.new-3.result history tally.counted tally.none (record {
       rate_least = omega arith;
       even = refl;
       block_least = omega arith;

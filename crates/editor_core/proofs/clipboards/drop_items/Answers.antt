@@ -7,7 +7,7 @@ use Rattle.clip_track.specs.declared.items.Item.TheVariants.{Gap}
 use Rattle.clip_track.specs.Items.{item_blocks}
 use Rattle.editor_core.specs.Occurrences.{HasAll, Dropped}
 use Rattle.editor_core.proofs.Copying.{strip_flat}
-use Rattle.editor_core.proofs.Turns.{all_here, dropped_on}
+use Rattle.layout_uses.proofs.Turns.{all_here, dropped_on}
 use Rattle.editor_core.proofs.clipboards.drop_items.Goals as goal
 
 pub drop_item-requires : goal.drop_item-requires

@@ -8,8 +8,8 @@ use Rattle.editor_core.specs.Copies.{strips_blocks}
 use Rattle.editor_core.specs.Occurrences.{HasIds, Held}
 use Rattle.editor_core.proofs.Bounds.{named_most}
 use Rattle.editor_core.proofs.Copying.{items_few}
-use Rattle.editor_core.proofs.Times.{Few}
-use Rattle.editor_core.proofs.Turns.{there_here, held_on, next}
+use Rattle.layout_uses.proofs.Times.{Few}
+use Rattle.layout_uses.proofs.Turns.{there_here, held_on, next}
 use Rattle.editor_core.proofs.clipboards.hold_strips.Goals as goal
 
 pub hold_items-requires-clause-there : goal.hold_items-requires-clause-there

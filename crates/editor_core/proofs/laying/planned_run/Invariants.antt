@@ -1,7 +1,8 @@
--- What is left to do gives the rest: of the tracks, of the new blocks, and of the layouts.
-use Rattle.std.proofs.Common.{◌≡◌, ◌≤◌, ◌++◌, length, map, take, drop}
+-- What is left to do gives the rest: of the tracks, of the new blocks, of the layouts and of their numbers.
+use Rattle.std.proofs.Common.{◌≡◌, ◌+◌, ◌≤◌, ◌++◌, length, map, take, drop}
 use Rattle.std.specs.Vec.Iter.{into_iter_items, into_iter_len}
 use Rattle.project_state.specs.declared.track.Track.{Track}
+use Rattle.layout_uses.specs.Drawing.{HasNumbers}
 use Rattle.editor_core.specs.Copies.{run_of}
 use Rattle.editor_core.specs.RunEdits.{AreLayouts, laid_from, made_by}
 use Rattle.editor_core.proofs.laying.planned_run.Given as goal
@@ -10,10 +11,13 @@ abbrev pub invariant-loop-i : goal.invariant-loop-i
 invariant-loop-i l = record {
   len : into_iter_len l.left ≡ length (into_iter_items l.left);
   ids : map (λ (t : Track). t.id) l.point ≡ map (λ (t : Track). t.id) (take l.i l.project);
-  tracks : laid_from l.id l.fn.plans l.project ≡ l.point
-      ++ laid_from l.id (into_iter_items l.left) (drop l.i l.project);
+  tracks : laid_from l.id l.fn.plans l.first l.project ≡ l.point
+      ++ laid_from l.id (into_iter_items l.left) l.number (drop l.i l.project);
   makes : l.makes.items ++ made_by (into_iter_items l.left) ≡ made_by l.fn.plans;
   layouts : AreLayouts (into_iter_items l.left) → AreLayouts l.fn.plans;
   fits : length (into_iter_items l.left) ≤ length (run_of l.id (drop l.i l.project));
   clip : l.clip ≡ l.fn.clip;
+  numbers : HasNumbers l.project l.first l.point l.number;
+  least : l.first ≤ l.number;
+  most : l.number ≤ l.first + l.i;
 }

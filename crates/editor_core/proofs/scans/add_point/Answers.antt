@@ -4,7 +4,7 @@ use Rattle.pcm_base.specs.declared.block.BlockRef.{BlockRef}
 use Rattle.clip_track.specs.Clips.{layout_blocks}
 use Rattle.project_state.specs.Kept.{point_blocks}
 use Rattle.project_state.specs.declared.track.Track.{Track}
-use Rattle.editor_core.proofs.Turns.{next}
+use Rattle.layout_uses.proofs.Turns.{next}
 use Rattle.editor_core.proofs.scans.add_point.Goals as goal
 
 pub loop-i-preserved : goal.loop-i-preserved

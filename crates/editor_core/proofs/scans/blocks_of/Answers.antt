@@ -5,7 +5,7 @@ use Rattle.pcm_base.specs.declared.block.BlockRef.{BlockRef}
 use Rattle.pcm_base.specs.History.{point_of, points_of}
 use Rattle.project_state.specs.Kept.{point_blocks}
 use Rattle.editor_core.proofs.Scanning.{points_blocks}
-use Rattle.editor_core.proofs.Turns.{next}
+use Rattle.layout_uses.proofs.Turns.{next}
 use Rattle.editor_core.proofs.scans.blocks_of.Goals as goal
 
 pub loop-i-preserved : goal.loop-i-preserved

@@ -27,7 +27,7 @@ returns-in-Err-clause-opens g c = λ form j tells is fold.
 pub returns-in-Ok-clause-sound : goal.returns-in-Ok-clause-sound
 returns-in-Ok-clause-sound g c =
     sound_result c.args.files.now c.args.folded c.parts_of.result c.requires.sound c.requires.known
-    c.in-Ok.ensures.one_length c.in-Ok.ensures.named c.parts_of.ensures.parts
+    c.in-Ok.ensures.one_length c.parts_of.ensures.parts
 
 pub returns-in-Ok-clause-cause : goal.returns-in-Ok-clause-cause
 returns-in-Ok-clause-cause g c =

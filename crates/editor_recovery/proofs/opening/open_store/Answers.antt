@@ -7,6 +7,7 @@ use Rattle.project_journal.specs.Header.{Form, IsForm}
 use Rattle.project_journal.specs.Journal.{Log, HasLog, IsAt}
 use Rattle.project_journal.proofs.Kept.{each_has}
 use Rattle.project_state.specs.Kept.{Keeps, history_blocks}
+use Rattle.editor_core.specs.Parts.{assembled}
 use Rattle.editor_core.specs.Scans.{HaveOneLength}
 use Rattle.editor_core.specs.Studios.{shown, studio_of}
 use Rattle.editor_recovery.specs.Causes.{Causes}
@@ -94,7 +95,7 @@ returns-in-Ok-clause-keeps g c = λ honest.
     each store p (λ s. EachNow g.S.Store s.store (λ image. Keeps image (shown (studio_of g.S.Store s))))
     c.make_studio.result c.make_studio.ensures.fields
     (λ image now. subst (Keeps image)
-    (shows_found g.S.Store store p (g.S.Store.reads old) found.form found.log found.kept found.found
+    (shows_found g.S.Store (assembled store p) (g.S.Store.reads old) found.form found.log found.kept found.found
     c.open_parts.ensures.reads) (found.each image now))
 
 pub returns-in-Ok-clause-stays_honest : goal.returns-in-Ok-clause-stays_honest

@@ -1,5 +1,5 @@
 -- One record more at each pass.
-use Rattle.std.proofs.Common.{◌≡◌, ℕ, ◌∙◌, ap, subst, arith}
+use Rattle.std.proofs.Common.{ℕ, ◌∙◌, ap, subst, arith}
 use Rattle.std.proofs.lemmas.Result.{err_from_is_err_and}
 use Rattle.disk_model.proofs.Frames.{kept_none, kept_turn}
 use Rattle.project_journal.specs.declared.fault.JournalFault.TheVariants as journal

@@ -1,5 +1,5 @@
 -- One point more at each pass.
-use Rattle.std.proofs.Common.{◌≡◌, ◌<◌, ◌++◌, ◌∙◌, ⊎_elim, ℕ, List, [], ◌∷◌, length, sym, ap, subst, arith, length-append}
+use Rattle.std.proofs.Common.{◌≡◌, ◌<◌, ◌∙◌, ⊎_elim, ℕ, List, [], ◌∷◌, length, sym, ap, subst, arith, length-append}
 use Rattle.std.proofs.lemmas.Result.{err_from_is_err_and}
 use Rattle.disk_model.proofs.Frames.{kept_turn}
 use Rattle.pcm_base.specs.History.{History, at_cursor}

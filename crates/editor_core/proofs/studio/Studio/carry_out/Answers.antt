@@ -1,5 +1,5 @@
 -- An edit that makes blocks is a step.
-use Rattle.std.proofs.Common.{◌⊎◌, ◌∙◌, inr, sym, ap, subst, ℕ, pos, IfErr, List, Err, Ok}
+use Rattle.std.proofs.Common.{◌⊎◌, ◌∙◌, inr, refl, sym, ap, subst, ℕ, IfErr, List, length, Err, Ok, arith, pos}
 use Rattle.std.proofs.lemmas.Result.{err_from_is_err_and}
 use Rattle.pcm_base.specs.declared.answer.Reply.TheVariants.{Done}
 use Rattle.envelope_view.specs.Answers.{IsUndamaged}
@@ -7,7 +7,10 @@ use Rattle.project_state.specs.declared.track.Track.{Track}
 use Rattle.project_state.specs.Kept.{point_blocks}
 use Rattle.edit_ops.specs.Plans.{AreNew}
 use Rattle.editor_core.specs.Applied.{Lasts}
-use Rattle.editor_core.specs.Core.{core_of}
+use Rattle.pcm_base.specs.History.{History}
+use Rattle.layout_uses.specs.Layouts.{history_tracks}
+use Rattle.layout_uses.specs.Tallies.{MayBecome}
+use Rattle.editor_core.specs.Core.{Core, core_of}
 use Rattle.editor_core.specs.Edits.{IsStill, tagged_by}
 use Rattle.editor_core.specs.Imports.{IfCutShort, IsInsideOr}
 use Rattle.editor_core.specs.Made.{PiecesReadable}
@@ -22,8 +25,8 @@ use Rattle.editor_core.proofs.Still.{carried_still}
 use Rattle.editor_core.proofs.Serving.{cut_or, serves_so}
 use Rattle.editor_core.proofs.NoDamage.{no_damage}
 use Rattle.editor_core.proofs.TakenEdits.{IsPointed, lasts_so, out_fits, out_named, out_room, out_there}
-use Rattle.editor_core.proofs.TakenEdits.{recorded_few, recorded_named, recorded_there, took_so}
-use Rattle.editor_core.proofs.Times.{Few}
+use Rattle.editor_core.proofs.TakenEdits.{recorded_counted, recorded_few, recorded_there, took_so}
+use Rattle.layout_uses.proofs.Times.{Few}
 use Rattle.editor_core.proofs.studio.Studio.carry_out.Goals as goal
 
 pub carry-requires-clause-new : goal.carry-requires-clause-new
@@ -132,16 +135,44 @@ take_recorded-requires-clause-few g c =
     subst (λ (q : List Track). Few new.counts (point_blocks q)) (ap told_point c.in-Edit.is)
     (recorded_few g.S.Store s c.requires.studio c.requires.going e (c.requires.planned by.0) new k)
 
-pub take_recorded-requires-clause-named : goal.take_recorded-requires-clause-named
-take_recorded-requires-clause-named g c =
+pub take_recorded-requires-clause-counted : goal.take_recorded-requires-clause-counted
+take_recorded-requires-clause-counted g c =
     let s = core_of c.args.self.now in
     let new = core_of c.carry.new.self in
     let by = c.in_ok-carry.ensures.carried in
     let e = tagged_by c.args.edit c.args.tag c.args.more (g.G.Brings.brings c.args.given.now) by.0 in
     let k = carried_at g.S.Store s new e c.as_slice.result.now (Ok (tt {0})) c.as_slice.ensures c.requires.next
     by.2 in
-    recorded_named g.S.Store s c.requires.studio c.requires.going e (c.requires.planned by.0) new k
-    c.in_ok-carry.ensures.history
+    let tally = c.carry.new.self.tally in
+    subst (λ (h : History (List Track)). MayBecome c.in-Edit.point (history_tracks h) tally)
+    (sym c.in_ok-carry.ensures.history)
+    (subst (λ (q : List Track). MayBecome q (history_tracks s.history) tally) (ap told_point c.in-Edit.is)
+    (recorded_counted g.S.Store s c.requires.studio c.requires.going e (c.requires.planned by.0) new k tally refl refl))
+
+pub take_recorded-requires-clause-layouts : goal.take_recorded-requires-clause-layouts
+take_recorded-requires-clause-layouts g c =
+    let s = core_of c.args.self.now in
+    let new = core_of c.carry.new.self in
+    let by = c.in_ok-carry.ensures.carried in
+    let e = tagged_by c.args.edit c.args.tag c.args.more (g.G.Brings.brings c.args.given.now) by.0 in
+    let k = carried_at g.S.Store s new e c.as_slice.result.now (Ok (tt {0})) c.as_slice.ensures c.requires.next
+    by.2 in
+    omega (
+      arith,
+      c.in_ok-carry.ensures.layouts,
+      ap (λ (z : Core g.row.S.Denot). z.next_layout) k.adds.fields.0,
+      ap (λ (z : Core g.row.S.Denot). z.next_layout) k.making.is,
+    )
+
+pub take_recorded-requires-clause-uses : goal.take_recorded-requires-clause-uses
+take_recorded-requires-clause-uses g c =
+    let by = c.in_ok-carry.ensures.carried in
+    omega (
+      arith,
+      c.in_ok-carry.ensures.uses,
+      (c.requires.planned by.0).sound.few,
+      ap (λ (q : List Track). length q) (ap told_point c.in-Edit.is),
+    )
 
 pub take_out-requires-clause-there : goal.take_out-requires-clause-there
 take_out-requires-clause-there g c =
@@ -155,8 +186,15 @@ take_out-requires-clause-there g c =
       new = new;
       committed = k;
       history = c.in_ok-carry.ensures.history;
+      layouts = c.in_ok-carry.ensures.layouts;
       point = c.in-Edit.point;
       point_is = ap told_point c.in-Edit.is;
+      before = c.carry.new.self.tally;
+      after = c.take_recorded.new.self.tally;
+      uses_before = refl;
+      counts_before = refl;
+      uses_after = refl;
+      counts_after = refl;
       fields = c.take_recorded.ensures.fields;
       counted = c.take_recorded.ensures.counts;
     } in
@@ -175,8 +213,15 @@ take_out-requires-clause-room g c =
       new = new;
       committed = k;
       history = c.in_ok-carry.ensures.history;
+      layouts = c.in_ok-carry.ensures.layouts;
       point = c.in-Edit.point;
       point_is = ap told_point c.in-Edit.is;
+      before = c.carry.new.self.tally;
+      after = c.take_recorded.new.self.tally;
+      uses_before = refl;
+      counts_before = refl;
+      uses_after = refl;
+      counts_after = refl;
       fields = c.take_recorded.ensures.fields;
       counted = c.take_recorded.ensures.counts;
     } in
@@ -195,8 +240,15 @@ take_out-requires-clause-fits g c =
       new = new;
       committed = k;
       history = c.in_ok-carry.ensures.history;
+      layouts = c.in_ok-carry.ensures.layouts;
       point = c.in-Edit.point;
       point_is = ap told_point c.in-Edit.is;
+      before = c.carry.new.self.tally;
+      after = c.take_recorded.new.self.tally;
+      uses_before = refl;
+      counts_before = refl;
+      uses_after = refl;
+      counts_after = refl;
       fields = c.take_recorded.ensures.fields;
       counted = c.take_recorded.ensures.counts;
     } in
@@ -215,8 +267,15 @@ take_out-requires-clause-named g c =
       new = new;
       committed = k;
       history = c.in_ok-carry.ensures.history;
+      layouts = c.in_ok-carry.ensures.layouts;
       point = c.in-Edit.point;
       point_is = ap told_point c.in-Edit.is;
+      before = c.carry.new.self.tally;
+      after = c.take_recorded.new.self.tally;
+      uses_before = refl;
+      counts_before = refl;
+      uses_after = refl;
+      counts_after = refl;
       fields = c.take_recorded.ensures.fields;
       counted = c.take_recorded.ensures.counts;
     } in
@@ -235,8 +294,15 @@ returns-clause-took g c =
       new = new;
       committed = k;
       history = c.in_ok-carry.ensures.history;
+      layouts = c.in_ok-carry.ensures.layouts;
       point = c.in-Edit.point;
       point_is = ap told_point c.in-Edit.is;
+      before = c.carry.new.self.tally;
+      after = c.take_recorded.new.self.tally;
+      uses_before = refl;
+      counts_before = refl;
+      uses_after = refl;
+      counts_after = refl;
       fields = c.take_recorded.ensures.fields;
       counted = c.take_recorded.ensures.counts;
     } in (
@@ -260,8 +326,15 @@ returns-clause-lasts g c = λ call sound serves one.
       new = new;
       committed = k;
       history = c.in_ok-carry.ensures.history;
+      layouts = c.in_ok-carry.ensures.layouts;
       point = c.in-Edit.point;
       point_is = ap told_point c.in-Edit.is;
+      before = c.carry.new.self.tally;
+      after = c.take_recorded.new.self.tally;
+      uses_before = refl;
+      counts_before = refl;
+      uses_after = refl;
+      counts_after = refl;
       fields = c.take_recorded.ensures.fields;
       counted = c.take_recorded.ensures.counts;
     } in

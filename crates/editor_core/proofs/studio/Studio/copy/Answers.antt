@@ -112,7 +112,7 @@ returns-clause-took g c =
     subst (λ (z : Core g.row.S.Denot). Took g.S.Store s (quietly call (Ok Copied)) z) (sym c.take_clip.ensures.fields)
     (copy_done g.S.Store s c.requires range (g.met.S.Store.may_fewer s.store)
     c.in_ok-layout_of.field-0.now c.in_ok-layout_of.ensures c.in_default.is v copies
-    (count_of c.take_clip.new.self.ledger) c.take_clip.ensures.moves c.take_clip.ensures.most)
+    (count_of c.take_clip.new.self.tally.ledger) c.take_clip.ensures.moves c.take_clip.ensures.most)
 
 pub returns-clause-copied : goal.returns-clause-copied
 returns-clause-copied g c =

@@ -1,33 +1,40 @@
 -- An edit that makes no blocks is a step.
-use Rattle.std.proofs.Common.{arith, ◌≡◌, ◌∙◌, refl, sym, ap, subst, ℕ, ◌+◌, ◌≤◌, ◌<◌, ◌^◌, List, Err, Ok, IfOk, None}
+use Rattle.std.proofs.Common.{◌≡◌, ◌∙◌, refl, sym, ap, subst, ℕ, ◌+◌, ◌≤◌, ◌<◌, ◌^◌, List, length, Err, Ok, IfOk}
+use Rattle.std.proofs.Common.{None, arith}
 use Rattle.std.specs.Prelude.{IfErr}
 use Rattle.std.proofs.lemmas.Result.{err_from_is_err_and}
 use Rattle.pcm_base.specs.declared.answer.Reply.TheVariants.{Done}
 use Rattle.pcm_base.specs.declared.command.Call.TheVariants.{Line}
 use Rattle.pcm_base.specs.declared.refusal.Refusal.TheVariants as refusal
 use Rattle.pcm_base.specs.History.{History, edited}
-use Rattle.block_ledger.specs.Entries.{Kept, count_of}
+use Rattle.block_ledger.specs.Counts.{Counts}
+use Rattle.block_ledger.specs.Entries.{count_of}
 use Rattle.undo_history.specs.Stored.{Stored}
 use Rattle.envelope_view.specs.Answers.{IsUndamaged}
 use Rattle.project_state.specs.declared.body.Body.TheVariants.{Edit}
 use Rattle.project_state.specs.declared.track.Track.{Track}
-use Rattle.project_state.specs.Kept.{current_tracks, point_blocks, history_blocks}
-use Rattle.project_state.specs.Tracks.{AreAbove, AllBelow}
+use Rattle.project_state.specs.Kept.{current_tracks, point_blocks}
+use Rattle.project_state.specs.Tracks.{AllBelow}
+use Rattle.layout_uses.specs.declared.tally.Tally.{Tally}
+use Rattle.layout_uses.specs.Layouts.{history_tracks}
+use Rattle.layout_uses.specs.Tallies.{Becomes, MayBecome}
 use Rattle.editor_core.specs.Adding.{AddsBody, Tested}
 use Rattle.editor_core.specs.Bodies.{all_bytes, single, whole_len}
 use Rattle.editor_core.specs.Core.{Core, core_of}
-use Rattle.editor_core.specs.Occurrences.{HasAll, HasIds, Moves}
-use Rattle.editor_core.specs.Plain.{line_of, tracks_by, refusal_by, IsEdited}
+use Rattle.editor_core.specs.Occurrences.{HasIds}
+use Rattle.editor_core.specs.Plain.{layouts_by, line_of, tracks_by, refusal_by, IsEdited}
 use Rattle.editor_core.specs.Took.{Took, quietly, silent, told_by}
 use Rattle.editor_core.proofs.Bounds.{few_more, named_there}
-use Rattle.editor_core.proofs.Editing.{counts_named, current_below, current_sound}
+use Rattle.editor_core.proofs.Editing.{current_below}
+use Rattle.editor_core.proofs.Grown.{CountsAfter}
 use Rattle.editor_core.proofs.Moving.{tested_out}
 use Rattle.editor_core.proofs.NoDamage.{TellsNone, undamaged_test}
-use Rattle.editor_core.proofs.PlainEdits.{own_is, needs_none, names, sound, edit_fails, edit_done}
+use Rattle.editor_core.proofs.PlainEdits.{own_is, needs_none, names, sound, edit_counts, edit_done, edit_fails}
+use Rattle.editor_core.proofs.PlainEdits.{edit_may}
 use Rattle.editor_core.proofs.PlainLines.{call_by}
 use Rattle.editor_core.proofs.Removing.{commit_removes_none}
 use Rattle.editor_core.proofs.Staying.{wants}
-use Rattle.editor_core.proofs.Times.{Few}
+use Rattle.layout_uses.proofs.Times.{Few}
 use Rattle.editor_core.proofs.Undamaged.{adding_tells, refusal_tells}
 use Rattle.editor_core.proofs.studio.Studio.edit.Goals as goal
 
@@ -58,17 +65,14 @@ returns-in_err-make_room-clause-took g c =
     (subst (λ (z : Core g.row.S.Denot). Took g.S.Store s (quietly (Line line) (Err refusal.NoMemory)) z)
     (sym c.make_room.ensures.same) idle)
 
+pub make_room-requires : goal.make_room-requires
+make_room-requires g c = c.requires.studio.layouts
+
 pub edited-requires-clause-there : goal.edited-requires-clause-there
 edited-requires-clause-there g c =
     let none = sym c.edit_refusal.ensures ∙ c.in_ok-may_commit.ensures.1 in
     subst (λ (z : Core g.row.S.Denot). refusal_by c.args.edit (current_tracks z.history) ≡ None)
     (sym c.make_room.ensures.same) none
-
-pub edited-requires-clause-rising : goal.edited-requires-clause-rising
-edited-requires-clause-rising g c =
-    let s = core_of c.args.self.now in
-    subst (λ (z : Core g.row.S.Denot). AreAbove 1 (current_tracks z.history)) (sym c.make_room.ensures.same)
-    (current_sound g.S.Store s c.requires.studio).rising
 
 pub edited-requires-clause-below : goal.edited-requires-clause-below
 edited-requires-clause-below g c =
@@ -101,8 +105,8 @@ returns-in_err-point-2-clause-took g c =
     × (s.commit_number < 2 ^ 62)) c.tracks_for-tracks.ensures c.in_ok-may_commit.ensures in
     let none : refusal_by e (current_tracks s.history) ≡ None = sym c.edit_refusal.ensures ∙ may.1 in
     let p = c.in_ok-point.point in
-    let ed = subst
-    (λ (z : Core g.row.S.Denot). IsEdited e z.next_track (current_tracks z.history) p) same c.in_ok-point.ensures in
+    let ed = subst (λ (z : Core g.row.S.Denot). IsEdited e z.next_track z.next_layout (current_tracks z.history) p) same
+    c.in_ok-point.ensures in
     let mid = core_of c.commit_point.new.self in
     let why = c.in_err-point-2.field-0.0 in
     let adds' = subst (λ (z : Core g.row.S.Denot). AddsBody {R = List Track} g.S.Store z
@@ -126,14 +130,15 @@ take_point-requires-clause-there g c =
     × (s.commit_number < 2 ^ 62)) c.tracks_for-tracks.ensures c.in_ok-may_commit.ensures in
     let none : refusal_by e (current_tracks s.history) ≡ None = sym c.edit_refusal.ensures ∙ may.1 in
     let p = c.in_ok-point.point in
-    let ed = subst
-    (λ (z : Core g.row.S.Denot). IsEdited e z.next_track (current_tracks z.history) p) same c.in_ok-point.ensures in
+    let ed = subst (λ (z : Core g.row.S.Denot). IsEdited e z.next_track z.next_layout (current_tracks z.history) p) same
+    c.in_ok-point.ensures in
     let p2 : c.in_ok-point-2.point ≡ p = c.in_ok-point-2.ensures.same in
-    let ledger : c.commit_point.new.self.ledger ≡ c.args.self.now.ledger =
-    c.in_ok-point-2.ensures.ledger ∙ c.make_room.ensures.ledger in
+    let counts : count_of c.commit_point.new.self.tally.ledger ≡ s.counts =
+    ap (λ (t : Tally). count_of t.ledger) c.in_ok-point-2.ensures.ledger
+    ∙ ap (λ (z : Core g.row.S.Denot). z.counts) same in
     let base : HasIds s.counts (point_blocks p) =
     named_there g.S.Store s is (point_blocks p) (names g.S.Store s is e c.requires.good none p ed) in
-    subst (λ (l : Kept). HasIds (count_of l) (point_blocks c.in_ok-point-2.point)) (sym ledger)
+    subst (λ (z : Counts). HasIds z (point_blocks c.in_ok-point-2.point)) (sym counts)
     (subst (λ (z : List Track). HasIds s.counts (point_blocks z)) (sym p2) base)
 
 pub take_point-requires-clause-few : goal.take_point-requires-clause-few
@@ -147,45 +152,94 @@ take_point-requires-clause-few g c =
     × (s.commit_number < 2 ^ 62)) c.tracks_for-tracks.ensures c.in_ok-may_commit.ensures in
     let none : refusal_by e (current_tracks s.history) ≡ None = sym c.edit_refusal.ensures ∙ may.1 in
     let p = c.in_ok-point.point in
-    let ed = subst
-    (λ (z : Core g.row.S.Denot). IsEdited e z.next_track (current_tracks z.history) p) same c.in_ok-point.ensures in
+    let ed = subst (λ (z : Core g.row.S.Denot). IsEdited e z.next_track z.next_layout (current_tracks z.history) p) same
+    c.in_ok-point.ensures in
     let p2 : c.in_ok-point-2.point ≡ p = c.in_ok-point-2.ensures.same in
-    let ledger : c.commit_point.new.self.ledger ≡ c.args.self.now.ledger =
-    c.in_ok-point-2.ensures.ledger ∙ c.make_room.ensures.ledger in
+    let counts : count_of c.commit_point.new.self.tally.ledger ≡ s.counts =
+    ap (λ (t : Tally). count_of t.ledger) c.in_ok-point-2.ensures.ledger
+    ∙ ap (λ (z : Core g.row.S.Denot). z.counts) same in
     let base : Few s.counts (point_blocks p) =
     few_more g.S.Store s is p (s.next_track + tracks_by e) (sound g.S.Store s is e c.requires.good none p ed) in
-    subst (λ (l : Kept). Few (count_of l) (point_blocks c.in_ok-point-2.point)) (sym ledger)
+    subst (λ (z : Counts). Few z (point_blocks c.in_ok-point-2.point)) (sym counts)
     (subst (λ (z : List Track). Few s.counts (point_blocks z)) (sym p2) base)
 
-pub take_point-requires-clause-named : goal.take_point-requires-clause-named
-take_point-requires-clause-named g c =
+-- of the tracks of the new point
+pub take_point-requires-clause-uses : goal.take_point-requires-clause-uses
+take_point-requires-clause-uses g c =
     let s = core_of c.args.self.now in
-    let s1 = core_of c.make_room.new.self in
-    let same : s1 ≡ s = c.make_room.ensures.same in
-    let is = c.requires.studio in
-    let ledger : c.commit_point.new.self.ledger ≡ c.args.self.now.ledger =
-    c.in_ok-point-2.ensures.ledger ∙ c.make_room.ensures.ledger in
-    let mid : (core_of c.commit_point.new.self).history ≡ s.history = ap (λ (z : Stored (List Track)). z.history)
-    c.in_ok-point-2.ensures.history ∙ ap (λ (z : Core g.row.S.Denot). z.history) same in
-    subst (λ (l : Kept). HasAll (count_of l) (history_blocks (core_of c.commit_point.new.self).history)) (sym ledger)
-    (subst (λ (h : History (List Track)). HasAll s.counts (history_blocks h)) (sym mid) (counts_named g.S.Store s is))
-
-pub returns-clause-took : goal.returns-clause-took
-returns-clause-took g c =
-    let s = core_of c.args.self.now in
-    let s1 = core_of c.make_room.new.self in
-    let same : s1 ≡ s = c.make_room.ensures.same in
+    let same : core_of c.make_room.new.self ≡ s = c.make_room.ensures.same in
     let is = c.requires.studio in
     let e = c.args.edit in
     let may = subst (λ (n : ℕ). (s.stopped ≡ None) × (c.edit_refusal.result ≡ None) × (s.next_track + n ≤ 2 ^ 62)
     × (s.commit_number < 2 ^ 62)) c.tracks_for-tracks.ensures c.in_ok-may_commit.ensures in
     let none : refusal_by e (current_tracks s.history) ≡ None = sym c.edit_refusal.ensures ∙ may.1 in
     let p = c.in_ok-point.point in
-    let ed = subst
-    (λ (z : Core g.row.S.Denot). IsEdited e z.next_track (current_tracks z.history) p) same c.in_ok-point.ensures in
+    let ed = subst (λ (z : Core g.row.S.Denot). IsEdited e z.next_track z.next_layout (current_tracks z.history) p) same
+    c.in_ok-point.ensures in
     let p2 : c.in_ok-point-2.point ≡ p = c.in_ok-point-2.ensures.same in
-    let ledger : c.commit_point.new.self.ledger ≡ c.args.self.now.ledger =
-    c.in_ok-point-2.ensures.ledger ∙ c.make_room.ensures.ledger in
+    omega (
+      arith,
+      c.in_ok-make_room.ensures.uses,
+      ap (λ (t : Tally). t.uses.spare) c.in_ok-point-2.ensures.ledger,
+      ap (λ (z : List Track). length z) p2,
+      (sound g.S.Store s is e c.requires.good none p ed).few,
+    )
+
+pub take_point-requires-clause-layouts : goal.take_point-requires-clause-layouts
+take_point-requires-clause-layouts g c =
+    let s = core_of c.args.self.now in
+    omega (
+      arith,
+      c.in_ok-make_room.ensures.layouts,
+      ap (λ (z : Core g.row.S.Denot). z.next_layout) c.make_room.ensures.same,
+      ap (λ (z : Core g.row.S.Denot). z.next_layout) c.in_ok-point-2.ensures.record.fields.0,
+    )
+
+pub take_point-requires-clause-counted : goal.take_point-requires-clause-counted
+take_point-requires-clause-counted g c =
+    let s = core_of c.args.self.now in
+    let same : core_of c.make_room.new.self ≡ s = c.make_room.ensures.same in
+    let is = c.requires.studio in
+    let e = c.args.edit in
+    let may = subst (λ (n : ℕ). (s.stopped ≡ None) × (c.edit_refusal.result ≡ None) × (s.next_track + n ≤ 2 ^ 62)
+    × (s.commit_number < 2 ^ 62)) c.tracks_for-tracks.ensures c.in_ok-may_commit.ensures in
+    let none : refusal_by e (current_tracks s.history) ≡ None = sym c.edit_refusal.ensures ∙ may.1 in
+    let p = c.in_ok-point.point in
+    let ed = subst (λ (z : Core g.row.S.Denot). IsEdited e z.next_track z.next_layout (current_tracks z.history) p) same
+    c.in_ok-point.ensures in
+    let p2 : c.in_ok-point-2.point ≡ p = c.in_ok-point-2.ensures.same in
+    let tally = c.make_room.new.self.tally in
+    let uses_are : count_of tally.uses ≡ s.uses = ap (λ (z : Core g.row.S.Denot). z.uses) same in
+    let counts_are : count_of tally.ledger ≡ s.counts = ap (λ (z : Core g.row.S.Denot). z.counts) same in
+    let was : (core_of c.commit_point.new.self).history ≡ s.history =
+    ap (λ (z : Stored (List Track)). z.history) c.in_ok-point-2.ensures.history
+    ∙ ap (λ (z : Core g.row.S.Denot). z.history) same in
+    let base : MayBecome p (history_tracks s.history) tally =
+    edit_may g.S.Store s is e c.requires.good none p ed tally uses_are counts_are in
+    subst (λ (t : Tally). MayBecome c.in_ok-point-2.point (history_tracks (core_of c.commit_point.new.self).history) t)
+    (sym c.in_ok-point-2.ensures.ledger)
+    (subst (λ (h : History (List Track)). MayBecome c.in_ok-point-2.point (history_tracks h) tally) (sym was)
+    (subst (λ (z : List Track). MayBecome z (history_tracks s.history) tally) (sym p2) base))
+
+pub returns-clause-took : goal.returns-clause-took
+returns-clause-took g c =
+    let s = core_of c.args.self.now in
+    let same : core_of c.make_room.new.self ≡ s = c.make_room.ensures.same in
+    let is = c.requires.studio in
+    let e = c.args.edit in
+    let may = subst (λ (n : ℕ). (s.stopped ≡ None) × (c.edit_refusal.result ≡ None) × (s.next_track + n ≤ 2 ^ 62)
+    × (s.commit_number < 2 ^ 62)) c.tracks_for-tracks.ensures c.in_ok-may_commit.ensures in
+    let none : refusal_by e (current_tracks s.history) ≡ None = sym c.edit_refusal.ensures ∙ may.1 in
+    let p = c.in_ok-point.point in
+    let ed = subst (λ (z : Core g.row.S.Denot). IsEdited e z.next_track z.next_layout (current_tracks z.history) p) same
+    c.in_ok-point.ensures in
+    let p2 : c.in_ok-point-2.point ≡ p = c.in_ok-point-2.ensures.same in
+    let tally = c.make_room.new.self.tally in
+    let uses_are : count_of tally.uses ≡ s.uses = ap (λ (z : Core g.row.S.Denot). z.uses) same in
+    let counts_are : count_of tally.ledger ≡ s.counts = ap (λ (z : Core g.row.S.Denot). z.counts) same in
+    let was : (core_of c.commit_point.new.self).history ≡ s.history =
+    ap (λ (z : Stored (List Track)). z.history) c.in_ok-point-2.ensures.history
+    ∙ ap (λ (z : Core g.row.S.Denot). z.history) same in
     let mid = core_of c.commit_point.new.self in
     let tracks : c.tracks_for-tracks.result ≡ tracks_by e = c.tracks_for-tracks.ensures in
     let adds' = subst (λ (z : Core g.row.S.Denot). AddsBody {R = List Track} g.S.Store z
@@ -193,22 +247,34 @@ returns-clause-took g c =
     same c.in_ok-point-2.ensures.record in
     let adds = subst (λ (n : ℕ). AddsBody {R = List Track} g.S.Store s
     (single (Edit 0 s.next_block (s.next_track + n) p)) (Ok c.in_ok-point-2.point) mid) tracks adds' in
-    let was : mid.history ≡ s.history = ap (λ (z : Stored (List Track)). z.history) c.in_ok-point-2.ensures.history
-    ∙ ap (λ (z : Core g.row.S.Denot). z.history) same in
     let moved : edited mid.history c.in_ok-point-2.point 0 ≡ edited s.history p 0 = λ i. edited (was i) (p2 i) 0 in
-    let counts = count_of c.take_point.new.self.ledger in
-    let moves = subst (λ (l : Kept).
-    Moves (count_of l) counts (history_blocks s.history) (history_blocks (edited s.history p 0))) ledger
+    let after = c.take_point.new.self.tally in
+    let becomes : Becomes p (history_tracks s.history) (history_tracks (edited s.history p 0)) tally after =
+    subst (λ (t : Tally). Becomes p (history_tracks s.history) (history_tracks (edited s.history p 0)) t after)
+    c.in_ok-point-2.ensures.ledger
     (subst (λ (z : List Track).
-    Moves mid.counts counts (history_blocks s.history) (history_blocks (edited s.history z 0))) p2
-    (subst (λ (h : History (List Track)). Moves mid.counts counts (history_blocks h)
-    (history_blocks (edited h c.in_ok-point-2.point 0))) was c.take_point.ensures.counts)) in
+    Becomes z (history_tracks s.history) (history_tracks (edited s.history z 0)) c.commit_point.new.self.tally after) p2
+    (subst (λ (h : History (List Track)). Becomes c.in_ok-point-2.point (history_tracks h)
+    (history_tracks (edited h c.in_ok-point-2.point 0)) c.commit_point.new.self.tally after) was
+    c.take_point.ensures.counts)) in
     let next : mid.next_track ≡ s.next_track = ap (λ (z : Core g.row.S.Denot). z.next_track) adds.fields.0 in
+    let layout : mid.next_layout ≡ s.next_layout = ap (λ (z : Core g.row.S.Denot). z.next_layout) adds.fields.0 in
+    let layouts : c.layouts_for-layouts.result ≡ layouts_by e = c.layouts_for-layouts.ensures in
+    let fits : s.next_layout + layouts_by e ≤ 2 ^ 62 = omega (arith, c.in_ok-make_room.ensures.layouts, layouts) in
+    let number : mid.next_layout + c.layouts_for-layouts.result ≡ s.next_layout + layouts_by e =
+    λ i. layout i + layouts i in
+    let counted : CountsAfter s.pins (edited s.history p 0) s.clipboard
+    (mid.next_layout + c.layouts_for-layouts.result) s.counts
+    (count_of after.uses) (count_of after.ledger) =
+    subst (λ (n : ℕ). CountsAfter s.pins (edited s.history p 0) s.clipboard n s.counts (count_of after.uses)
+    (count_of after.ledger)) (sym number)
+    (edit_counts g.S.Store s is e c.requires.good none p ed tally after uses_are counts_are fits becomes) in
     subst (λ (z : Core g.row.S.Denot). Took g.S.Store s (quietly (Line (line_of e)) (Ok Done)) z)
     (sym c.take_point.ensures.fields)
     (edit_done g.S.Store s is e c.requires.good none p ed may.2 may.0 may.3 c.in_ok-point-2.point mid
-    (edited mid.history c.in_ok-point-2.point 0) counts
-    (mid.next_track + c.tracks_for-tracks.result) adds moved moves (λ i. next i + tracks i))
+    (edited mid.history c.in_ok-point-2.point 0) (count_of after.uses) (count_of after.ledger)
+    (mid.next_track + c.tracks_for-tracks.result) (mid.next_layout + c.layouts_for-layouts.result) adds moved counted
+    (λ i. next i + tracks i))
 
 pub returns-in_err-may_commit-clause-number : goal.returns-in_err-may_commit-clause-number
 returns-in_err-may_commit-clause-number g c =

@@ -44,7 +44,7 @@ carry_out-requires-clause-planned g c = λ samples.
     let planned = c.in_ok-planned.ensures in
     planned_any s c.in_ok-planned.planned 0 0 (brought_by Nothing) (brought Nothing) samples
     (paste_planned g.S.Store s c.requires.studio c.args.placing c.args.track c.args.at c.in_ok-planned.planned
-    planned.plan planned.tracks planned.clip)
+    planned.plan planned.tracks planned.clip planned.layouts)
 
 pub carry_out-requires-clause-next : goal.carry_out-requires-clause-next
 carry_out-requires-clause-next g c = c.in_ok-planned.ensures.plan.laid.after_is
@@ -58,4 +58,4 @@ returns-clause-took g c =
     (λ call sound. Took g.S.Store s (with_sound call sound (told_by (λ (n : ℕ). Done) c.carry_out.result))
     (core_of c.carry_out.new.self)) c.carry_out.ensures.took c.carry_out.ensures.device call silent
     (paste_edit g.S.Store s c.requires.studio c.args.placing c.args.track c.args.at c.in_ok-planned.planned planned.plan
-    planned.tracks planned.clip)
+    planned.tracks planned.clip planned.layouts)

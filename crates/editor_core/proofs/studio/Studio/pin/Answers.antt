@@ -1,5 +1,5 @@
 -- A pin is a step.
-use Rattle.std.proofs.Common.{◌≡◌, sym, ap, ◌∙◌, subst, ℕ, ◌+◌, ◌-◌, ◌<◌, ◌^◌, List, Err, Ok, arith}
+use Rattle.std.proofs.Common.{◌≡◌, sym, ap, ◌∙◌, subst, ℕ, ◌+◌, ◌-◌, ◌<◌, ◌^◌, List, length, Err, Ok, arith}
 use Rattle.std.specs.Prelude.{IfErr}
 use Rattle.std.proofs.lemmas.Result.{err_from_is_err_and}
 use Rattle.pcm_base.specs.declared.answer.Reply.TheVariants as reply
@@ -10,13 +10,14 @@ use Rattle.envelope_view.specs.Answers.{IsUndamaged}
 use Rattle.project_state.specs.declared.track.Track.{Track}
 use Rattle.project_state.specs.Kept.{current_tracks, point_blocks}
 use Rattle.editor_core.specs.Core.{Core, core_of}
-use Rattle.editor_core.specs.Occurrences.{HasIds, Held}
+use Rattle.layout_uses.specs.Tallies.{Comes}
+use Rattle.editor_core.specs.Occurrences.{HasIds}
 use Rattle.editor_core.specs.Pins.{AnswersPin}
 use Rattle.editor_core.specs.Took.{Took, quietly, told_by}
 use Rattle.editor_core.proofs.Bounds.{named_there, few_more}
 use Rattle.editor_core.proofs.Editing.{current_sound, old_names}
 use Rattle.editor_core.proofs.Pinning.{pinned, pin_spent, pin_stopped, pin_wanting}
-use Rattle.editor_core.proofs.Times.{Few}
+use Rattle.layout_uses.proofs.Times.{Few}
 use Rattle.editor_core.proofs.studio.Studio.pin.Goals as goal
 
 pub returns-in-Some-clause-took : goal.returns-in-Some-clause-took
@@ -44,55 +45,81 @@ returns-in_err-add_pin-clause-pinned g c =
     subst (λ r. AnswersPin (core_of c.args.self.now) r (core_of c.add_pin.new.self))
     (sym (e.1 ∙ ap Err e.2)) c.in_err-add_pin.ensures.err
 
-pub hold_current-requires-clause-there : goal.hold_current-requires-clause-there
-hold_current-requires-clause-there g c =
+-- the studio after the pin was added, whose uses may have more room
+same_history : (a b : Stored (List Track)) → a ≡ b → current_tracks a.history ≡ current_tracks b.history
+same_history a b e = ap (λ (h : Stored (List Track)). current_tracks h.history) e
+
+pub use_current-requires-clause-room : goal.use_current-requires-clause-room
+use_current-requires-clause-room g c =
     let s = core_of c.args.self.now in
-    let was : c.add_pin.new.self.history ≡ c.args.self.now.history = c.in_ok-add_pin.ensures.history in
-    let ledger : c.add_pin.new.self.ledger ≡ c.args.self.now.ledger = c.in_ok-add_pin.ensures.ledger in
+    let was = same_history c.add_pin.new.self.history c.args.self.now.history c.in_ok-add_pin.ensures.history in
+    omega (
+      arith,
+      c.in_ok-add_pin.ensures.uses,
+      ap (λ (ts : List Track). length ts) was,
+      (current_sound g.S.Store s c.requires).few,
+    )
+
+pub use_current-requires-clause-there : goal.use_current-requires-clause-there
+use_current-requires-clause-there g c =
+    let s = core_of c.args.self.now in
+    let was = same_history c.add_pin.new.self.history c.args.self.now.history c.in_ok-add_pin.ensures.history in
     let base : HasIds s.counts (point_blocks (current_tracks s.history)) = named_there g.S.Store s c.requires
     (point_blocks (current_tracks s.history)) (old_names g.S.Store s c.requires) in
     subst (λ (l : Kept). HasIds (count_of l) (point_blocks (current_tracks c.add_pin.new.self.history.history)))
-    (sym ledger)
-    (subst (λ (h : Stored (List Track)). HasIds s.counts (point_blocks (current_tracks h.history))) (sym was) base)
+    (sym c.in_ok-add_pin.ensures.ledger)
+    (subst (λ (ts : List Track). HasIds s.counts (point_blocks ts)) (sym was) base)
 
-pub hold_current-requires-clause-few : goal.hold_current-requires-clause-few
-hold_current-requires-clause-few g c =
+pub use_current-requires-clause-few : goal.use_current-requires-clause-few
+use_current-requires-clause-few g c =
     let s = core_of c.args.self.now in
-    let was : c.add_pin.new.self.history ≡ c.args.self.now.history = c.in_ok-add_pin.ensures.history in
-    let ledger : c.add_pin.new.self.ledger ≡ c.args.self.now.ledger = c.in_ok-add_pin.ensures.ledger in
+    let was = same_history c.add_pin.new.self.history c.args.self.now.history c.in_ok-add_pin.ensures.history in
     let base : Few s.counts (point_blocks (current_tracks s.history)) = few_more g.S.Store s c.requires
     (current_tracks s.history) s.next_track (current_sound g.S.Store s c.requires) in
     subst (λ (l : Kept). Few (count_of l) (point_blocks (current_tracks c.add_pin.new.self.history.history)))
-    (sym ledger)
-    (subst (λ (h : Stored (List Track)). Few s.counts (point_blocks (current_tracks h.history))) (sym was) base)
+    (sym c.in_ok-add_pin.ensures.ledger)
+    (subst (λ (ts : List Track). Few s.counts (point_blocks ts)) (sym was) base)
 
 pub returns-clause-took : goal.returns-clause-took
 returns-clause-took g c =
     let s = core_of c.args.self.now in
     let is = c.requires in
-    let was : c.add_pin.new.self.history ≡ c.args.self.now.history = c.in_ok-add_pin.ensures.history in
-    let ledger : c.add_pin.new.self.ledger ≡ c.args.self.now.ledger = c.in_ok-add_pin.ensures.ledger in
     let mid = core_of c.add_pin.new.self in
-    let counts = count_of c.hold_current.new.ledger in
-    let held = subst (λ (l : Kept). Held (count_of l) counts (point_blocks (current_tracks s.history))) ledger
-    (subst (λ (h : Stored (List Track)). Held mid.counts counts (point_blocks (current_tracks h.history))) was
-    c.hold_current.ensures) in
+    let was = same_history c.add_pin.new.self.history c.args.self.now.history c.in_ok-add_pin.ensures.history in
+    let tally = c.add_pin.new.self.tally in
+    let tally' = c.use_current.new.tally in
+    let came = subst (λ (ts : List Track). Comes ts tally tally') was c.use_current.ensures in
+    let uses_are : mid.uses ≡ s.uses = ap (λ (z : Core g.row.S.Denot). z.uses) c.in_ok-add_pin.ensures.ok in
+    let counts_are : mid.counts ≡ s.counts = ap (λ (z : Core g.row.S.Denot). z.counts) c.in_ok-add_pin.ensures.ok in
     let room : s.next_pin < 2 ^ 62 = omega (arith, c.if-self-eq-COUNTER_LIMIT.false, is.counters.pin_most) in
     let number : mid.next_pin ≡ s.next_pin = ap (λ (z : Core g.row.S.Denot). z.next_pin) c.in_ok-add_pin.ensures.ok in
     let replied : s.next_pin ≡ mid.next_pin + 1 - 1 = omega (arith, number) in
-    subst (λ (n : ℕ). Took g.S.Store s (quietly call.Pin (Ok (reply.Pinned n)))
-    (record mid { next_pin = mid.next_pin + 1; counts = counts })) replied
-    (subst (λ (z : Core g.row.S.Denot). Took g.S.Store s (quietly call.Pin (Ok (reply.Pinned s.next_pin)))
-    (record z { next_pin = z.next_pin + 1; counts = counts })) (sym c.in_ok-add_pin.ensures.ok)
-    (pinned g.S.Store s is (g.met.S.Store.may_fewer s.store) counts held room c.in_default.is))
+    subst (λ (n : ℕ). Took g.S.Store s (quietly call.Pin (Ok (reply.Pinned n))) (record mid {
+      next_pin = mid.next_pin + 1;
+      uses = count_of tally'.uses;
+      counts = count_of tally'.ledger;
+    })) replied
+    (subst (λ (z : Core g.row.S.Denot). Took g.S.Store s (quietly call.Pin (Ok (reply.Pinned s.next_pin))) (record z {
+      next_pin = z.next_pin + 1;
+      uses = count_of tally'.uses;
+      counts = count_of tally'.ledger;
+    })) (sym c.in_ok-add_pin.ensures.ok)
+    (pinned g.S.Store s is
+    (g.met.S.Store.may_fewer s.store) tally tally' uses_are counts_are came room c.in_default.is))
 
 pub returns-clause-pinned : goal.returns-clause-pinned
 returns-clause-pinned g c =
-    let s = core_of c.args.self.now in
     let mid = core_of c.add_pin.new.self in
-    let counts = count_of c.hold_current.new.ledger in
-    let number : mid.next_pin ≡ s.next_pin = ap (λ (z : Core g.row.S.Denot). z.next_pin) c.in_ok-add_pin.ensures.ok in
-    (omega (arith, number), (λ i. record (c.in_ok-add_pin.ensures.ok i) { next_pin = number i + 1; counts = counts }))
+    let s = core_of c.args.self.now in
+    let tally' = c.use_current.new.tally in
+    let number : mid.next_pin ≡ s.next_pin = ap (λ (z : Core g.row.S.Denot). z.next_pin) c.in_ok-add_pin.ensures.ok in (
+      omega (arith, number),
+      (λ i. record (c.in_ok-add_pin.ensures.ok i) {
+        next_pin = number i + 1;
+        uses = count_of tally'.uses;
+        counts = count_of tally'.ledger;
+      }),
+    )
 
 pub returns-in_err-add_pin-clause-undamaged : goal.returns-in_err-add_pin-clause-undamaged
 returns-in_err-add_pin-clause-undamaged g c =

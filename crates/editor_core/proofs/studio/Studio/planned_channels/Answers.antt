@@ -9,16 +9,22 @@ use Rattle.editor_core.specs.Made.{AllInOrder}
 use Rattle.editor_core.proofs.OrderLaws.{order_more}
 use Rattle.editor_core.proofs.Editing.{current_below}
 use Rattle.editor_core.proofs.Importing.{grown_more, grown_none}
-use Rattle.editor_core.proofs.ImportTests.{all_grown, brought_few, channels_pass, grown_below, ids_count, short_at}
-use Rattle.editor_core.proofs.ImportTests.{take_more}
+use Rattle.editor_core.proofs.ImportTests.{all_grown, brought_few, channels_pass, grown_below, ids_count, number_few}
+use Rattle.editor_core.proofs.ImportTests.{place_left, short_at, take_more}
 use Rattle.editor_core.proofs.studio.Studio.planned_channels.Goals as goal
 
 pub channels-init : goal.channels-init
 channels-init g c =
     let s = core_of c.args.self.now in record {
       grown = grown_none s
-          (record { point = c.in_ok-copy.field-0; makes = c.new.result; next = s.next_block; brought = 0 })
-          (c.in_ok-copy.ensures ∙ c.current.ensures) c.new.ensures.items refl refl;
+          (record {
+            point = c.in_ok-copy.field-0;
+            makes = c.new.result;
+            next = s.next_block;
+            brought = 0;
+            number = s.next_layout;
+          })
+          (c.in_ok-copy.ensures ∙ c.current.ensures) c.new.ensures.items refl refl refl;
       order = subst (λ (bs : List NewBlock). AllInOrder 0 0 bs) (sym c.new.ensures.items) (omega arith);
       next_id = omega arith;
     }
@@ -29,6 +35,20 @@ add_channel-requires-clause-room g c =
     let pass = channels_pass (length (current_tracks s.history)) c.args.counts.now c.requires.tests in
     ids_count s c.args.counts.now c.channels.count-index c.channels.growing c.channels.invariant.grown pass.1
     c.requires.studio.counters.block_most (omega (arith, pass.0))
+
+pub add_channel-requires-clause-number : goal.add_channel-requires-clause-number
+add_channel-requires-clause-number g c =
+    let s = core_of c.args.self.now in
+    let pass = channels_pass (length (current_tracks s.history)) c.args.counts.now c.requires.tests in
+    number_few s c.args.counts.now c.channels.count-index c.channels.growing c.channels.invariant.grown pass.1
+    c.requires.studio.layouts (omega (arith, c.channels-test.true)) (omega (arith, pass.0))
+
+pub add_channel-requires-clause-place : goal.add_channel-requires-clause-place
+add_channel-requires-clause-place g c =
+    let s = core_of c.args.self.now in
+    let pass = channels_pass (length (current_tracks s.history)) c.args.counts.now c.requires.tests in
+    place_left s c.args.counts.now c.channels.count-index c.channels.growing c.channels.invariant.grown pass.1
+    c.channels-test.true pass.0
 
 pub add_channel-requires-clause-few : goal.add_channel-requires-clause-few
 add_channel-requires-clause-few g c =
@@ -86,10 +106,10 @@ returns-clause-plan g c =
     let all = take_all i c.args.counts.now (omega (arith, c.channels-test.false)) in
     let is = c.planned_of.ensures in
     all_grown s c.args.counts.now i c.channels.growing c.planned_of.result c.channels.invariant.grown all
-    is.0 is.1 is.2 is.3
+    is.0 is.1 is.2 is.3 is.4
 
 pub returns-clause-clip : goal.returns-clause-clip
-returns-clause-clip g c = c.planned_of.ensures.4
+returns-clause-clip g c = c.planned_of.ensures.5
 
 pub returns-clause-order : goal.returns-clause-order
 returns-clause-order g c =

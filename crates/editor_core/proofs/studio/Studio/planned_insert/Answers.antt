@@ -4,13 +4,12 @@ use Rattle.std.proofs.lemmas.Result.{err_from_is_err_and}
 use Rattle.pcm_base.specs.Sizes.{blocks_of_samples}
 use Rattle.clip_track.specs.Clips.{AllHalfFull, layout_blocks}
 use Rattle.edit_ops.specs.Plans.{IsPlan}
-use Rattle.project_state.specs.Tracks.{AreAbove, track_of}
+use Rattle.project_state.specs.Tracks.{track_of}
 use Rattle.project_state.specs.Kept.{current_tracks}
 use Rattle.editor_core.specs.Core.{core_of}
 use Rattle.editor_core.specs.Inserts.{place_edit}
 use Rattle.editor_core.specs.Points.{put_in}
 use Rattle.editor_core.specs.TrackEdits.{NoTrackPlan, with_layout}
-use Rattle.editor_core.proofs.Editing.{current_sound}
 use Rattle.editor_core.proofs.TrackPlans.{current_track, no_such_track, test_fails}
 use Rattle.editor_core.proofs.studio.Studio.planned_insert.Goals as goal
 
@@ -31,11 +30,6 @@ plan_insert-requires-clause-apart g c =
     let found : track_of c.args.track (current_tracks s.history) ≡ Some c.in_ok-old.old.now =
     ap (track_of c.args.track) (sym c.current-project.ensures) ∙ c.in_ok-old.ensures in
     (current_track g.S.Store s c.requires.studio c.args.track c.in_ok-old.old.now found).layout
-
-pub planned-requires : goal.planned-requires
-planned-requires g c =
-    subst (AreAbove 1) (sym c.current-project.ensures)
-    (current_sound g.S.Store (core_of c.args.self.now) c.requires.studio).rising
 
 pub returns-in_err-old-clause-err : goal.returns-in_err-old-clause-err
 returns-in_err-old-clause-err g c =
@@ -86,7 +80,9 @@ returns-clause-plan g c =
       layout = c.in_ok-planned.ensures.layout;
       few =
           λ src. subst (λ (m : ℕ). length plan.makes ≤ blocks_of_samples m c.args.count) size c.in_ok-plan.ensures.few;
-      is = c.in_ok-planned.ensures.point ∙ ap (put_in (with_layout t plan.layout)) c.current-project.ensures;
+      is = c.in_ok-planned.ensures.point ∙ ap (put_in (with_layout s.next_layout t plan.layout))
+          c.current-project.ensures;
       makes_is = c.in_ok-planned.ensures.makes;
       after_is = c.in_ok-planned.ensures.next;
+      layouts_is = c.in_ok-planned.ensures.layouts;
     }

@@ -6,13 +6,12 @@ use Rattle.pcm_base.specs.Counters.{blocks_of_edit}
 use Rattle.pcm_base.specs.Edits.{range_of}
 use Rattle.clip_track.specs.Clips.{AllHalfFull, layout_blocks, layout_cells}
 use Rattle.edit_ops.specs.Plans.{IsPlan}
-use Rattle.project_state.specs.Tracks.{AreAbove, track_of}
+use Rattle.project_state.specs.Tracks.{track_of}
 use Rattle.project_state.specs.Kept.{current_tracks}
 use Rattle.editor_core.specs.Core.{core_of}
 use Rattle.editor_core.specs.Points.{put_in}
 use Rattle.editor_core.specs.Ranges.{range_edit}
 use Rattle.editor_core.specs.TrackEdits.{NoTrackPlan, with_layout}
-use Rattle.editor_core.proofs.Editing.{current_sound}
 use Rattle.editor_core.proofs.RangeLaws.{part_range}
 use Rattle.editor_core.proofs.TrackPlans.{current_track, no_such_track, test_fails}
 use Rattle.editor_core.proofs.studio.Studio.planned_range.Goals as goal
@@ -29,11 +28,6 @@ edit_range-requires g c =
       half_full = subst (λ (m : ℕ). AllHalfFull m c.in_ok-old.old.now.layout) (sym c.block_size.ensures.value)
           (current_track g.S.Store s c.requires c.args.track c.in_ok-old.old.now found).half_full;
     }
-
-pub planned-requires : goal.planned-requires
-planned-requires g c =
-    subst (AreAbove 1) (sym c.current-project.ensures)
-    (current_sound g.S.Store (core_of c.args.self.now) c.requires).rising
 
 pub returns-in_err-old-clause-err : goal.returns-in_err-old-clause-err
 returns-in_err-old-clause-err g c =
@@ -89,7 +83,9 @@ returns-clause-plan g c =
           (subst (λ (cells : List Cell). length plan.makes ≤ blocks_of_edit c.args.edit c.block_size.result cells)
           (part_range c.args.from c.args.to t.layout src layout c.in_ok-plan.ensures.tests)
           (c.in_ok-plan.ensures.few_made src));
-      is = c.in_ok-planned.ensures.point ∙ ap (put_in (with_layout t plan.layout)) c.current-project.ensures;
+      is = c.in_ok-planned.ensures.point ∙ ap (put_in (with_layout s.next_layout t plan.layout))
+          c.current-project.ensures;
       makes_is = c.in_ok-planned.ensures.makes;
       after_is = c.in_ok-planned.ensures.next;
+      layouts_is = c.in_ok-planned.ensures.layouts;
     }

@@ -1,28 +1,27 @@
 -- A purge is a step.
 use Rattle.std.proofs.Common.{◌≡◌, ◌∙◌, refl, sym, ap, subst, ℕ, ◌≤◌, [], ◌∷◌, length, Err, arith, Some, IfErr, IfOk}
-use Rattle.std.proofs.Common.{List, nat_lt, nat_le, ◌&&◌, not, take, drop, flat_map}
+use Rattle.std.proofs.Common.{List, nat_lt, nat_le, ◌&&◌, not}
 use Rattle.std.proofs.lemmas.Result.{err_from_is_err_and}
 use Rattle.pcm_base.specs.declared.answer.Reply.TheVariants.{Done}
 use Rattle.pcm_base.specs.declared.command.Call.TheVariants.{Line}
 use Rattle.pcm_base.specs.declared.command.Command.TheVariants as command
 use Rattle.pcm_base.specs.declared.refusal.Refusal.{Refusal}
 use Rattle.pcm_base.specs.declared.refusal.Refusal.TheVariants.{BadRange}
-use Rattle.pcm_base.specs.History.{History, points_of, purged}
-use Rattle.block_ledger.specs.Counts.{Counts}
+use Rattle.pcm_base.specs.History.{History, purged}
 use Rattle.block_ledger.specs.Entries.{count_of}
 use Rattle.envelope_view.specs.Answers.{IsUndamaged}
 use Rattle.project_state.specs.declared.body.Body.TheVariants.{Purge}
 use Rattle.project_state.specs.declared.track.Track.{Track}
-use Rattle.project_state.specs.Kept.{point_blocks}
 use Rattle.project_state.specs.Spelling.{spelling}
 use Rattle.editor_core.specs.Adding.{Adds, IsNoWant}
 use Rattle.editor_core.specs.Bodies.{single}
 use Rattle.editor_core.specs.Core.{Core, core_of}
-use Rattle.editor_core.specs.Occurrences.{HasAll, Dropped}
+use Rattle.layout_uses.specs.Layouts.{history_tracks}
+use Rattle.layout_uses.specs.Tallies.{Becomes, MayBecome}
 use Rattle.editor_core.specs.Took.{Took, quietly, silent, told_by}
 use Rattle.editor_core.proofs.Committing.{fails}
 use Rattle.editor_core.proofs.Moved.{in_range, purged_by}
-use Rattle.editor_core.proofs.Moving.{purge_call, purges, moves, has_oldest, purged_counts, tested_out, no_want}
+use Rattle.editor_core.proofs.Moving.{purge_call, purges, moves, may_purge, purged_counts, tested_out, no_want}
 use Rattle.editor_core.proofs.Moving.{other_reason}
 use Rattle.editor_core.proofs.NoDamage.{TellsNone, range_tells, undamaged_test}
 use Rattle.editor_core.proofs.Staying.{none_made}
@@ -104,8 +103,8 @@ returns-in_err-commit_small-clause-undamaged g c =
     err_from_is_err_and c.from_residual-in_err-commit_small.result c.from_residual-in_err-commit_small.ensures.1 in
     subst (λ r. IfErr r IsUndamaged) (sym (p.1 ∙ ap Err p.2)) c.in_err-commit_small.ensures.undamaged
 
-pub drop_points-requires-clause-within : goal.drop_points-requires-clause-within
-drop_points-requires-clause-within g c =
+pub count_purge-requires-clause-within : goal.count_purge-requires-clause-within
+count_purge-requires-clause-within g c =
     let s = core_of c.args.self.now in
     let n = c.args.count in
     let mid = core_of c.commit_small.new.self in
@@ -116,26 +115,21 @@ drop_points-requires-clause-within g c =
     (λ b. Adds g.S.Store s (b ∷ []) 1 (length b) c.commit_small.result mid) c.purge_body.ensures
     c.commit_small.ensures.record) in
     let same : mid.history ≡ s.history = ap (λ (z : Core g.row.S.Denot). z.history) adds.fields.0 in
-    subst (λ (h : History (List Track)). n ≤ length h.points) (sym same)
-    (omega (arith, some.1, c.purge_refusal.ensures.whole.current))
+    subst (λ (h : History (List Track)). n ≤ h.cursor) (sym same) some.1
 
-pub drop_points-requires-clause-all : goal.drop_points-requires-clause-all
-drop_points-requires-clause-all g c =
+pub count_purge-requires-clause-counted : goal.count_purge-requires-clause-counted
+count_purge-requires-clause-counted g c =
     let s = core_of c.args.self.now in
     let n = c.args.count in
     let mid = core_of c.commit_small.new.self in
-    let may = c.in_ok-may_commit.ensures in
-    let own = sym c.purge_refusal.ensures.value ∙ may.1 in
-    let some = in_range n s.history.cursor own in
     let adds = subst (λ r. Adds g.S.Store s (spelling (Purge n) ∷ []) 1 9 r mid) c.in_ok-commit_small.was (subst
     (λ b. Adds g.S.Store s (b ∷ []) 1 (length b) c.commit_small.result mid) c.purge_body.ensures
     c.commit_small.ensures.record) in
     let same : mid.history ≡ s.history = ap (λ (z : Core g.row.S.Denot). z.history) adds.fields.0 in
-    let counts : mid.counts ≡ s.counts = ap (λ (z : Core g.row.S.Denot). z.counts) adds.fields.0 in
-    subst (λ (h : History (List Track)). HasAll mid.counts (flat_map point_blocks (drop 0 (take n (points_of h)))))
-    (sym same)
-    (subst (λ (z : Counts). HasAll z (flat_map point_blocks (drop 0 (take n (points_of s.history))))) (sym counts)
-    (has_oldest g.S.Store s c.requires n))
+    let tally = c.commit_small.new.self.tally in
+    subst (λ (h : History (List Track)). MayBecome [] (history_tracks h) tally) (sym same)
+    (may_purge g.S.Store s c.requires tally (ap (λ (z : Core g.row.S.Denot). z.uses) adds.fields.0)
+    (ap (λ (z : Core g.row.S.Denot). z.counts) adds.fields.0))
 
 pub returns-clause-took : goal.returns-clause-took
 returns-clause-took g c =
@@ -149,16 +143,16 @@ returns-clause-took g c =
     (λ b. Adds g.S.Store s (b ∷ []) 1 (length b) c.commit_small.result mid) c.purge_body.ensures
     c.commit_small.ensures.record) in
     let same : mid.history ≡ s.history = ap (λ (z : Core g.row.S.Denot). z.history) adds.fields.0 in
-    let was : mid.counts ≡ s.counts = ap (λ (z : Core g.row.S.Denot). z.counts) adds.fields.0 in
-    let counts = count_of c.drop_points.new.ledger in
-    let went =
-    subst (λ (z : Counts). Dropped z counts (flat_map point_blocks (drop 0 (take n (points_of s.history))))) was
-    (subst (λ (h : History (List Track)). Dropped mid.counts counts
-    (flat_map point_blocks (drop 0 (take n (points_of h))))) same c.drop_points.ensures) in
+    let uses_are : mid.uses ≡ s.uses = ap (λ (z : Core g.row.S.Denot). z.uses) adds.fields.0 in
+    let counts_are : mid.counts ≡ s.counts = ap (λ (z : Core g.row.S.Denot). z.counts) adds.fields.0 in
+    let tally = c.commit_small.new.self.tally in
+    let tally' = c.count_purge.new.tally in
+    let becomes = subst (λ (h : History (List Track)).
+    Becomes [] (history_tracks h) (history_tracks (purged h n)) tally tally') same c.count_purge.ensures in
     let few' = subst (λ (h : History (List Track)). n ≤ h.cursor) (sym same) some.1 in
     let gone = purged_by n c.commit_small.new.self.history c.purge.new.self c.purge.result some.0 few'
     c.purge.ensures.ok c.purge.ensures.err in
     moves g.S.Store s c.requires (Line (command.Purge n)) (Purge n) (purged s.history n) mid c.purge.new.self.history
-    counts (purges g.S.Store s c.requires n some.0 some.1 c.ranges.count.fits)
+    (count_of tally'.uses) (count_of tally'.ledger) (purges g.S.Store s c.requires n some.0 some.1 c.ranges.count.fits)
     may.0 own may.3 adds (gone ∙ ap (λ (h : History (List Track)). purged h n) same)
-    (purged_counts g.S.Store s c.requires n counts went) went.ids
+    (purged_counts g.S.Store s c.requires n tally tally' uses_are counts_are becomes)

@@ -29,14 +29,14 @@ remove_unnamed-requires-clause-low g c =
     let is = c.loop-count.invariant in
     let next = next_here g.S.Store (core_of c.args.self.now) is.0 c.loop-count.from c.in-Some.id
     (core_of c.loop-count.self) is.2 c.in-Some.ensures.found in
-    c.requires.low c.in-Some.id (is_some (count_of c.args.self.now.ledger c.in-Some.id) next.free)
+    c.requires.low c.in-Some.id (is_some (count_of c.args.self.now.tally.ledger c.in-Some.id) next.free)
 
 pub remove_unnamed-requires-clause-high : goal.remove_unnamed-requires-clause-high
 remove_unnamed-requires-clause-high g c =
     let is = c.loop-count.invariant in
     let next = next_here g.S.Store (core_of c.args.self.now) is.0 c.loop-count.from c.in-Some.id
     (core_of c.loop-count.self) is.2 c.in-Some.ensures.found in
-    c.requires.high c.in-Some.id (is_some (count_of c.args.self.now.ledger c.in-Some.id) next.free)
+    c.requires.high c.in-Some.id (is_some (count_of c.args.self.now.tally.ledger c.in-Some.id) next.free)
 
 pub returns-in-Err : goal.returns-in-Err
 returns-in-Err g c =
@@ -53,7 +53,7 @@ overflow_add-from g c =
     let is = c.loop-count.invariant in
     let next = next_here g.S.Store (core_of c.args.self.now) is.0 c.loop-count.from c.in-Some.id
     (core_of c.loop-count.self) is.2 c.in-Some.ensures.found in
-    let most = c.requires.high c.in-Some.id (is_some (count_of c.args.self.now.ledger c.in-Some.id) next.free) in
+    let most = c.requires.high c.in-Some.id (is_some (count_of c.args.self.now.tally.ledger c.in-Some.id) next.free) in
     omega (arith, most)
 
 pub loop-count-preserved : goal.loop-count-preserved

@@ -12,6 +12,7 @@ rows-init g c = record {
   history = refl;
   body = refl;
   row = refl;
+  uses = refl;
 }
 
 pub rows-preserved : goal.rows-preserved
@@ -26,6 +27,7 @@ rows-preserved g c =
       history = c.rows.invariant.history;
       body = c.rows.invariant.body;
       row = c.rows.invariant.row;
+      uses = c.rows.invariant.uses;
     }
 
 pub returns-in-Err-clause-synced : goal.returns-in-Err-clause-synced

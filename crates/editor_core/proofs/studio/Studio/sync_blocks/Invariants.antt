@@ -11,4 +11,5 @@ invariant-rows g l = record {
   history : l.self.history ≡ l.fn.self.history;
   body : l.self.body ≡ l.fn.self.body;
   row : l.self.row ≡ l.fn.self.row;
+  uses : l.self.tally.uses ≡ l.fn.self.tally.uses;
 }

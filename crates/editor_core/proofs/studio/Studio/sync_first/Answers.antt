@@ -46,7 +46,7 @@ overflow_add-from g c =
     let is = c.loop-i.invariant in
     let next = next_there g.S.Store (core_of c.args.self.now) is.0 c.loop-i.from (core_of c.loop-i.self) is.2
     c.in-Some.id c.in-Some.ensures.found in
-    let most = c.requires c.in-Some.id (is_some (count_of c.args.self.now.ledger c.in-Some.id) next.free) in
+    let most = c.requires c.in-Some.id (is_some (count_of c.args.self.now.tally.ledger c.in-Some.id) next.free) in
     omega (arith, most)
 
 pub loop-i-preserved : goal.loop-i-preserved

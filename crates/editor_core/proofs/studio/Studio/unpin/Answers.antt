@@ -2,11 +2,10 @@
 use Rattle.std.proofs.Common.{refl, sym, subst, List, Err}
 use Rattle.pcm_base.specs.declared.command.Call.TheVariants.{Unpin}
 use Rattle.pcm_base.specs.declared.refusal.Refusal.TheVariants.{NoPin}
-use Rattle.block_ledger.specs.Entries.{count_of}
 use Rattle.editor_core.specs.Core.{core_of}
 use Rattle.editor_core.specs.declared.studio.Pin.{Pin}
 use Rattle.editor_core.specs.Took.{Took, quietly}
-use Rattle.editor_core.proofs.Unpinning.{pin_counted, unpinned, unpin_lacks}
+use Rattle.editor_core.proofs.Unpinning.{pin_uses, unpinned, unpin_lacks}
 use Rattle.editor_core.proofs.studio.Studio.unpin.Goals as goal
 
 pub returns-in_default-clause-took : goal.returns-in_default-clause-took
@@ -21,16 +20,16 @@ returns-in_default-clause-unpinned g c =
     let s = core_of c.args.self.now in
     (refl, c.in_default.ensures.1, (λ i. record s { pins = c.in_default.ensures.0 i }))
 
-pub drop_point-requires : goal.drop_point-requires
-drop_point-requires g c =
-    pin_counted g.S.Store
-    (core_of c.args.self.now) c.requires c.args.pin c.take_pin.new.pins.items c.in-Some.gone c.in-Some.ensures
+pub leave_point-requires : goal.leave_point-requires
+leave_point-requires g c =
+    pin_uses g.S.Store (core_of c.args.self.now) c.requires c.args.pin c.take_pin.new.pins.items c.in-Some.gone
+    c.in-Some.ensures c.args.self.now.tally refl refl
 
 pub returns-clause-took : goal.returns-clause-took
 returns-clause-took g c =
     let s = core_of c.args.self.now in
     unpinned g.S.Store s c.requires c.args.pin c.take_pin.new.pins.items c.in-Some.gone c.in-Some.ensures
-    (count_of c.drop_point.new.ledger) c.drop_point.ensures (g.met.S.Store.may_fewer s.store)
+    c.args.self.now.tally c.leave_point.new.self refl refl c.leave_point.ensures (g.met.S.Store.may_fewer s.store)
 
 pub returns-clause-unpinned : goal.returns-clause-unpinned
 returns-clause-unpinned g c = ((c.in-Some.gone, c.in-Some.ensures), refl)

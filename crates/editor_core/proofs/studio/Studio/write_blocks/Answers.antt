@@ -24,6 +24,7 @@ rows-init g c = record {
   history = refl;
   body = refl;
   row = refl;
+  uses = refl;
 }
 
 pub write_one-requires-clause-id : goal.write_one-requires-clause-id
@@ -78,7 +79,7 @@ write_one-requires-clause-fresh g c =
     let here = slice_get_read bs _ n c.block-item.result refl c.rows-test.true c.block-item.is in
     let ready = ready_item s.block_size s.next_block n bs c.block-item.result c.rows-test.true here c.requires.new
     c.requires.least c.requires.most c.requires.size in
-    fresh_next s.next_block n s.counts (count_of c.rows.self.ledger) c.block-item.result.id
+    fresh_next s.next_block n s.counts (count_of c.rows.self.tally.ledger) c.block-item.result.id
     c.rows.invariant.brought.written.making.ledger c.requires.below ready.id
 
 pub returns-in_err-write_one-clause-written : goal.returns-in_err-write_one-clause-written
@@ -140,6 +141,7 @@ rows-preserved g c =
       history = done.history ∙ inv.history;
       body = done.body ∙ inv.body;
       row = done.row ∙ inv.row;
+      uses = done.uses ∙ inv.uses;
     }
 
 pub returns-clause-written : goal.returns-clause-written

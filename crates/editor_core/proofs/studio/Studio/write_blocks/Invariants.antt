@@ -11,8 +11,9 @@ invariant-rows g l = record {
       (core_of l.self);
   still : StillBrings g.G.Brings l.fn.given l.given;
   faults : g.G.Brings.fault_count l.given ≡ g.G.Brings.fault_count l.fn.given;
-  spare : l.fn.self.ledger.spare ≤ l.self.ledger.spare + l.block-index;
+  spare : l.fn.self.tally.ledger.spare ≤ l.self.tally.ledger.spare + l.block-index;
   history : l.self.history ≡ l.fn.self.history;
   body : l.self.body ≡ l.fn.self.body;
   row : l.self.row ≡ l.fn.self.row;
+  uses : l.self.tally.uses ≡ l.fn.self.tally.uses;
 }

@@ -1,9 +1,0 @@
--- What the loop of `drop_point` keeps.
-use Rattle.std.proofs.Common.{take}
-use Rattle.block_ledger.specs.Entries.{count_of}
-use Rattle.project_state.specs.Kept.{point_blocks}
-use Rattle.editor_core.specs.Occurrences.{Dropped}
-use Rattle.editor_core.proofs.counting.drop_point.Given as goal
-
-abbrev pub invariant-loop-i : goal.invariant-loop-i
-invariant-loop-i l = Dropped (count_of l.fn.ledger) (count_of l.ledger) (point_blocks (take l.i l.point))

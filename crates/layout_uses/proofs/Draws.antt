@@ -1,0 +1,138 @@
+-- Numbers that layouts get.
+use Rattle.std.proofs.Common.{◌≡◌, ⊎_elim, inl, inr, refl, sym, ap, ◌∙◌, subst, ℕ, ◌≤◌, ◌<◌, List, [], ◌∷◌}
+use Rattle.std.proofs.Common.{◌++◌}
+use Rattle.std.proofs.Common.{arith, map, Some}
+use Rattle.std.proofs.lemmas.Bool.{cases_eq, eq-eqb, ne_eqb}
+use Rattle.project_state.specs.declared.track.Track.{Track}
+use Rattle.project_state.specs.Tracks.{AllBelow, track_of}
+use Rattle.project_state.specs.Numbers.{unnumbered}
+use Rattle.layout_uses.specs.Drawing.{Draws, HasNumbers}
+use Rattle.layout_uses.specs.Laws.{AreAmong, IsAmong}
+use Rattle.layout_uses.specs.Layouts.{Agree, AgreesWith, AreDrawn, AreNumbered}
+use Rattle.layout_uses.proofs.Numbers.{among_agrees}
+
+pub found_among : (id : ℕ) (ts : List Track) (t : Track) → track_of id ts ≡ Some t → IsAmong t ts
+found_among id [] t is = absurd cc
+found_among id (u ∷ us) t is = ⊎_elim
+    (λ same.
+    let here : track_of id (u ∷ us) ≡ Some u = rw (eq-eqb id u.id same) refl in
+    let one : Some u ≡ Some t = sym here ∙ is in
+    inl cc)
+    (λ ne.
+    let rest : track_of id (u ∷ us) ≡ track_of id us = rw (ne_eqb id u.id ne) refl in
+    inr (found_among id us t (sym rest ∙ is)))
+    (cases_eq id u.id)
+
+-- ---- a track more at the end
+
+flipped : (t u : Track) → Agree t u → Agree u t
+flipped t u agree = λ e. sym (agree (sym e))
+
+agrees_at : (t x : Track) (xs ys : List Track) → Agree x t → AgreesWith x (xs ++ ys) → AgreesWith x
+    ((xs ++ t ∷ []) ++ ys)
+agrees_at t x [] ys one agree = (one, agree)
+agrees_at t x (z ∷ zs) ys one agree = (agree.0, agrees_at t x zs ys one agree.1)
+
+numbered_at : (t : Track) (xs ys : List Track) → AgreesWith t (xs ++ ys) → AreNumbered (xs ++ ys)
+    → AreNumbered ((xs ++ t ∷ []) ++ ys)
+numbered_at t [] ys agree numbered = (agree, numbered)
+numbered_at t (x ∷ xs) ys agree numbered = (
+  agrees_at t x xs ys (flipped t x agree.0) numbered.0,
+  numbered_at t xs ys agree.1 numbered.1,
+)
+
+drawn_at : (next : ℕ) (t : Track) (xs ys : List Track) → t.number < next → AreDrawn next (xs ++ ys)
+    → AreDrawn next ((xs ++ t ∷ []) ++ ys)
+drawn_at next t [] ys below drawn = (below, drawn)
+drawn_at next t (x ∷ xs) ys below drawn = (drawn.0, drawn_at next t xs ys below drawn.1)
+
+pub drawn_up : (low high : ℕ) (ts : List Track) → low ≤ high → AreDrawn low ts → AreDrawn high ts
+drawn_up low high [] le drawn = tt
+drawn_up low high (t ∷ ts) le drawn = (omega (arith, le, drawn.0), drawn_up low high ts le drawn.1)
+
+pub drawn_one : (next : ℕ) (t : Track) (ts : List Track) → AreDrawn next ts → IsAmong t ts → t.number < next
+drawn_one next t [] drawn among = absurd among
+drawn_one next t (u ∷ us) drawn among = ⊎_elim
+    (λ same. subst (λ (y : Track). y.number < next) same drawn.0)
+    (λ there. drawn_one next t us drawn.1 there)
+    among
+
+pub above_agrees : (next : ℕ) (t : Track) (ts : List Track) → AreDrawn next ts → t.number ≡ next → AgreesWith t ts
+above_agrees next t [] drawn e = tt
+above_agrees next t (u ∷ us) drawn e =
+    (λ same. absurd (omega (arith, drawn.0, same, e)), above_agrees next t us drawn.1 e)
+
+pub among_all : (t : Track) (xs ts : List Track) → AreAmong xs ts → IsAmong t xs → IsAmong t ts
+among_all t [] ts all among = absurd among
+among_all t (x ∷ xs) ts all among = ⊎_elim
+    (λ same. subst (λ (y : Track). IsAmong y ts) same all.0)
+    (λ there. among_all t xs ts all.1 there)
+    among
+
+pub among_behind : (t : Track) (xs ts : List Track) → IsAmong t ts → IsAmong t (xs ++ ts)
+among_behind t [] ts among = among
+among_behind t (x ∷ xs) ts among = inr (among_behind t xs ts among)
+
+pub like_agrees : (t u : Track) (ts : List Track) → t.layout ≡ u.layout → t.number ≡ u.number → AgreesWith t ts
+    → AgreesWith u ts
+like_agrees t u [] layout number agree = tt
+like_agrees t u (x ∷ xs) layout number agree =
+    (λ e. sym layout ∙ agree.0 (number ∙ e), like_agrees t u xs layout number agree.1)
+
+pub numbers_none : (current : List Track) (next : ℕ) → HasNumbers current next [] next
+numbers_none current next = record {
+  least = omega arith;
+  numbered = λ ts numbered drawn among. numbered;
+  drawn = λ ts drawn among. drawn;
+}
+
+module _ (current : List Track) (next : ℕ) (point : List Track) (last : ℕ) (was : HasNumbers current next point last)
+    (t : Track) (draws : Draws t.layout current last t.number) (after : ℕ) (up : last ≤ after)
+    (below : t.number ≡ last → last < after) where
+  pub numbers_more : HasNumbers current next (point ++ t ∷ []) after
+  numbers_more = record {
+    least = omega (arith, was.least, up);
+    numbered = λ ts numbered drawn among.
+        let all = was.numbered ts numbered drawn among in
+        numbered_at t point ts
+        (⊎_elim
+        (λ old. like_agrees old.0 t (point ++ ts) old.2 old.3
+        (among_agrees old.0 (point ++ ts) all (among_behind old.0 point ts (among_all old.0 current ts among old.1))))
+        (λ new. above_agrees last t (point ++ ts) (was.drawn ts drawn among) new)
+        draws)
+        all;
+    drawn = λ ts drawn among.
+        drawn_at after t point ts
+        (⊎_elim
+        (λ old.
+        let low = drawn_one next old.0 ts drawn (among_all old.0 current ts among old.1) in
+        omega (arith, low, old.3, was.least, up))
+        (λ new. omega (arith, new, below new))
+        draws)
+        (drawn_up last after (point ++ ts) up (was.drawn ts drawn among));
+  }
+
+-- a current track more at the end
+module _ (current : List Track) (next : ℕ) (point : List Track) (last : ℕ) (was : HasNumbers current next point last)
+    (t : Track) (among : IsAmong t current) where
+  pub numbers_kept : HasNumbers current next (point ++ t ∷ []) last
+  numbers_kept = record {
+    least = was.least;
+    numbered = λ ts numbered drawn all.
+        let before = was.numbered ts numbered drawn all in
+        numbered_at t point ts
+        (among_agrees t (point ++ ts) before (among_behind t point ts (among_all t current ts all among))) before;
+    drawn = λ ts drawn all.
+        let low = drawn_one next t ts drawn (among_all t current ts all among) in
+        drawn_at last t point ts (omega (arith, low, was.least)) (was.drawn ts drawn all);
+  }
+
+-- ids of tracks that are the same but for their numbers
+pub below_same : (id : ℕ) (xs ys : List Track) → map unnumbered xs ≡ map unnumbered ys → AllBelow id ys → AllBelow id xs
+below_same id [] ys same below = tt
+below_same id (x ∷ xs) [] same below = absurd cc
+below_same id (x ∷ xs) (y ∷ ys) same below =
+    let head : unnumbered x ≡ unnumbered y = cc in
+    let rest : map unnumbered xs ≡ map unnumbered ys = cc in
+    let ids : x.id ≡ y.id = ap (λ (t : Track). t.id) head in
+    (omega (arith, ids, below.0), below_same id xs ys rest below.1)

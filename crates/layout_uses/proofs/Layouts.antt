@@ -1,0 +1,223 @@
+-- Layouts by their numbers, and how often the blocks of those that are used come.
+use Rattle.std.proofs.Common.{◌≡◌, ◌≢◌, ⊎_elim, refl, sym, ap, ◌∙◌, subst, ℕ, zero, suc, ◌+◌, ◌≤◌, ◌<◌, Bool, true}
+use Rattle.std.proofs.Common.{false, List, []}
+use Rattle.std.proofs.Common.{◌∷◌, ◌++◌, ◌⊎◌, inl, inr, if◌then◌else◌, eqb, arith}
+use Rattle.std.proofs.lemmas.Bool.{cases_eq, eq-eqb, ne_eqb}
+use Rattle.block_ledger.specs.Counts.{times}
+use Rattle.clip_track.specs.Clips.{layout_blocks}
+use Rattle.project_state.specs.declared.track.Track.{Track}
+use Rattle.layout_uses.specs.Layouts.{numbers_of, has_number, track_blocks, used_blocks, AgreesWith}
+use Rattle.layout_uses.specs.Layouts.{AreNumbered}
+use Rattle.layout_uses.specs.Occurrences.{times_named}
+use Rattle.layout_uses.proofs.Times.{named_append}
+
+-- how often an id comes in the layouts that are used
+abbrev pub times_used : ℕ → List Track → ℕ
+times_used id ts = times_named id (used_blocks ts)
+
+abbrev pub times_in : ℕ → Track → ℕ
+times_in id t = times_named id (layout_blocks t.layout)
+
+-- ---- numbers
+
+pub number_here : (n : ℕ) (t : Track) (ts : List Track) → t.number ≡ n → has_number n (t ∷ ts) ≡ true
+number_here n t ts e = rw (eq-eqb t.number n e) refl
+
+pub number_other : (n : ℕ) (t : Track) (ts : List Track) → t.number ≢ n → has_number n (t ∷ ts) ≡ has_number n ts
+number_other n t ts ne = rw (ne_eqb t.number n ne) refl
+
+pub times_number : (n : ℕ) (ts : List Track) → has_number n ts ≡ true → 0 < times n (numbers_of ts)
+times_number n [] is = absurd cc
+times_number n (t ∷ ts) is = ⊎_elim
+    (λ same. let one : eqb t.number n ≡ true = eq-eqb t.number n same in rw one (omega arith))
+    (λ ne.
+    let rest = times_number n ts (sym (number_other n t ts ne) ∙ is) in
+    let none : eqb t.number n ≡ false = ne_eqb t.number n ne in
+    rw none (omega (arith, rest)))
+    (cases_eq t.number n)
+
+pub times_no_number : (n : ℕ) (ts : List Track) → has_number n ts ≡ false → times n (numbers_of ts) ≡ 0
+times_no_number n [] is = refl
+times_no_number n (t ∷ ts) is = ⊎_elim
+    (λ same. absurd (true_false (sym (number_here n t ts same) ∙ is)))
+    (λ ne.
+    let rest = times_no_number n ts (sym (number_other n t ts ne) ∙ is) in
+    let none : eqb t.number n ≡ false = ne_eqb t.number n ne in
+    rw none (omega (arith, rest)))
+    (cases_eq t.number n)
+  where
+    true_false : true ≡ false → ⊥
+    true_false e = cc
+
+pub number_cases : (b : Bool) → (b ≡ true) ⊎ (b ≡ false)
+number_cases true = inl refl
+number_cases false = inr refl
+
+-- ---- one track more in front
+
+pub each_again : (id : ℕ) (t : Track) (ts : List Track) → has_number t.number ts ≡ true
+    → times_used id (t ∷ ts) ≡ times_used id ts
+each_again id t ts is = rw is refl
+
+pub each_first : (id : ℕ) (t : Track) (ts : List Track) → has_number t.number ts ≡ false
+    → times_used id (t ∷ ts) ≡ times_in id t + times_used id ts
+each_first id t ts is = rw is (named_append id (layout_blocks t.layout) (used_blocks ts))
+
+-- ---- a track that stands after others, in front of them
+
+pub number_moved : (n : ℕ) (t : Track) (xs ys : List Track)
+    → has_number n (xs ++ t ∷ ys) ≡ has_number n (t ∷ (xs ++ ys))
+number_moved n t [] ys = refl
+number_moved n t (x ∷ xs) ys = ap (λ (b : Bool). if eqb x.number n then true else b) (number_moved n t xs ys)
+    ∙ swapped (eqb x.number n) (eqb t.number n) (has_number n (xs ++ ys))
+  where
+    swapped : (a b c : Bool) → (if a then true else if b then true else c) ≡ (if b then true else if a then true else c)
+    swapped true true c = refl
+    swapped true false c = refl
+    swapped false true c = refl
+    swapped false false c = refl
+
+pub pos_cases : (n : ℕ) → (n ≡ 0) ⊎ (0 < n)
+pos_cases zero = inl refl
+pos_cases (suc n) = inr (omega arith)
+
+layout_in : (id : ℕ) (t u : Track) → t.layout ≡ u.layout → times_in id t ≡ times_in id u
+layout_in id t u e = ap (λ l. times_named id (layout_blocks l)) e
+
+-- tracks of one layout in front of others
+times_same : (id : ℕ) (t u : Track) (ts : List Track) → t.number ≡ u.number → t.layout ≡ u.layout
+    → times_used id (t ∷ ts) ≡ times_used id (u ∷ ts)
+times_same id t u ts number layout = ⊎_elim
+    (λ is. omega (
+      arith,
+      each_again id t ts is,
+      each_again id u ts (subst (λ (n : ℕ). has_number n ts ≡ true) number is),
+    ))
+    (λ is. omega (
+      arith,
+      each_first id t ts is,
+      layout_in id t u layout,
+      each_first id u ts (subst (λ (n : ℕ). has_number n ts ≡ false) number is),
+    ))
+    (number_cases (has_number t.number ts))
+
+-- two tracks of different layouts in front of others
+times_swapped : (id : ℕ) (t x : Track) (ts m : List Track) → x.number ≢ t.number
+    → has_number x.number m ≡ has_number x.number ts → times_used id m ≡ times_used id (t ∷ ts)
+    → times_used id (x ∷ m) ≡ times_used id (t ∷ x ∷ ts)
+times_swapped id t x ts m ne number used =
+    let other = number_other t.number x ts ne in
+    ⊎_elim
+    (λ xs. ⊎_elim
+    (λ is. omega (
+      arith,
+      used,
+      each_again id x m (number ∙ xs),
+      each_again id x ts xs,
+      each_again id t ts is,
+      each_again id t (x ∷ ts) (other ∙ is),
+    ))
+    (λ is. omega (
+      arith,
+      used,
+      each_again id x m (number ∙ xs),
+      each_again id x ts xs,
+      each_first id t ts is,
+      each_first id t (x ∷ ts) (other ∙ is),
+    ))
+    (number_cases (has_number t.number ts)))
+    (λ xs. ⊎_elim
+    (λ is. omega (
+      arith,
+      used,
+      each_first id x m (number ∙ xs),
+      each_first id x ts xs,
+      each_again id t ts is,
+      each_again id t (x ∷ ts) (other ∙ is),
+    ))
+    (λ is. omega (
+      arith,
+      used,
+      each_first id x m (number ∙ xs),
+      each_first id x ts xs,
+      each_first id t ts is,
+      each_first id t (x ∷ ts) (other ∙ is),
+    ))
+    (number_cases (has_number t.number ts)))
+    (number_cases (has_number x.number ts))
+
+pub times_moved : (id : ℕ) (t : Track) (xs ys : List Track) → AgreesWith t xs
+    → times_used id (xs ++ t ∷ ys) ≡ times_used id (t ∷ (xs ++ ys))
+times_moved id t [] ys agree = refl
+times_moved id t (x ∷ xs) ys agree =
+    let used = times_moved id t xs ys agree.1 in
+    ⊎_elim
+    (λ same.
+    let there = number_moved x.number t xs ys ∙ number_here x.number t (xs ++ ys) (sym same) in
+    each_again id x (xs ++ t ∷ ys) there ∙ used
+    ∙ times_same id t x (xs ++ ys) (sym same) (agree.0 (sym same))
+    ∙ sym (each_again id t (x ∷ (xs ++ ys)) (number_here t.number x (xs ++ ys) same)))
+    (λ ne.
+    times_swapped id t x (xs ++ ys) (xs ++ t ∷ ys) ne
+    (number_moved x.number t xs ys ∙ number_other x.number t (xs ++ ys) (λ e. ne (sym e))) used)
+    (cases_eq x.number t.number)
+
+-- ---- the blocks of layouts that are used are those that the tracks name
+
+pub used_most : (id : ℕ) (ts : List Track) → times_used id ts ≤ times_named id (track_blocks ts)
+used_most id [] = omega arith
+used_most id (t ∷ ts) = ⊎_elim
+    (λ is. omega (
+      arith,
+      each_again id t ts is,
+      used_most id ts,
+      named_append id (layout_blocks t.layout)
+          (track_blocks ts),
+    ))
+    (λ is. omega (
+      arith,
+      each_first id t ts is,
+      used_most id ts,
+      named_append id (layout_blocks t.layout)
+          (track_blocks ts),
+    ))
+    (number_cases (has_number t.number ts))
+
+pub used_more : (id : ℕ) (t : Track) (ts : List Track) → times_used id ts ≤ times_used id (t ∷ ts)
+used_more id t ts = ⊎_elim
+    (λ is. omega (arith, each_again id t ts is))
+    (λ is. omega (arith, each_first id t ts is))
+    (number_cases (has_number t.number ts))
+
+-- a layout that is used again names no more than those after it
+pub again_most : (id : ℕ) (t : Track) (ts : List Track) → AgreesWith t ts → has_number t.number ts ≡ true
+    → times_in id t ≤ times_used id ts
+again_most id t [] agree is = absurd cc
+again_most id t (u ∷ us) agree is = ⊎_elim
+    (λ same. ⊎_elim
+    (λ again.
+    let rest = again_most id t us agree.1 (subst (λ (n : ℕ). has_number n us ≡ true) same again) in
+    omega (arith, rest, each_again id u us again))
+    (λ first. omega (arith, each_first id u us first, layout_in id t u (agree.0 (sym same))))
+    (number_cases (has_number u.number us)))
+    (λ ne.
+    let rest = again_most id t us agree.1 (sym (number_other t.number u us ne) ∙ is) in
+    omega (arith, rest, used_more id u us))
+    (cases_eq u.number t.number)
+
+pub used_all : (id : ℕ) (ts : List Track) → AreNumbered ts → 0 < times_named id (track_blocks ts)
+    → 0 < times_used id ts
+used_all id [] numbered some = absurd (omega (arith, some))
+used_all id (t ∷ ts) numbered some =
+    let parts = named_append id (layout_blocks t.layout) (track_blocks ts) in
+    ⊎_elim
+    (λ none. ⊎_elim
+    (λ is.
+    let most = again_most id t ts numbered.0 is in
+    omega (arith, most, some, parts, none, each_again id t ts is))
+    (λ is. omega (arith, some, parts, none, each_first id t ts is))
+    (number_cases (has_number t.number ts)))
+    (λ more.
+    let rest = used_all id ts numbered.1 more in
+    omega (arith, rest, used_more id t ts))
+    (pos_cases (times_named id (track_blocks ts)))

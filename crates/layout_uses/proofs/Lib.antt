@@ -1,0 +1,12 @@
+pub mod Times
+pub mod Turns
+pub mod Layouts
+pub mod Tracks
+pub mod Onward
+pub mod Moves
+pub mod Histories
+pub mod Naming
+pub mod Numbers
+pub mod Draws
+pub mod Putting
+pub mod InTurn

@@ -1,0 +1,173 @@
+-- A use of a layout that comes or goes.
+use Rattle.std.proofs.Common.{◌≡◌, ⊎_elim, refl, sym, ap, ◌∙◌, subst, ℕ, zero, suc, ◌+◌, ◌<◌}
+use Rattle.std.proofs.Common.{true}
+use Rattle.std.proofs.Common.{length, false, List, [], ◌∷◌, ◌++◌, Option, Some, None, IsSome, is_none, arith}
+use Rattle.std.proofs.lemmas.Bool.{cases_eq}
+use Rattle.pcm_base.specs.declared.block.BlockRef.{BlockRef}
+use Rattle.block_ledger.specs.Counts.{Counts, SetsCount, IsFreshCount, IsNamed, occurrences, one_more, one_less}
+use Rattle.clip_track.specs.Clips.{layout_blocks}
+use Rattle.project_state.specs.declared.track.Track.{Track}
+use Rattle.layout_uses.specs.Layouts.{numbers_of, has_number, used_blocks}
+use Rattle.layout_uses.specs.Occurrences.{HasAll, Dropped, Held, times_named}
+use Rattle.layout_uses.specs.Tallies.{AreCounts}
+use Rattle.layout_uses.proofs.Times.{named_append, named_of}
+use Rattle.layout_uses.proofs.Layouts.{times_used, each_again, each_first, number_cases, number_here}
+use Rattle.layout_uses.proofs.Layouts.{times_number, times_no_number}
+
+-- how often an id comes in what is counted
+pub times_counted : (id : ℕ) (ts : List Track) (blocks : List BlockRef)
+    → times_named id (used_blocks ts ++ blocks) ≡ times_used id ts + times_named id blocks
+times_counted id ts blocks = named_append id (used_blocks ts) blocks
+
+pub not_free : (o : Option ℕ) → IsSome o → (o ≡ Some 0 → ⊥) → 0 < occurrences o
+not_free None some free = absurd cc
+not_free (Some zero) some free = absurd (free refl)
+not_free (Some (suc n)) some free = omega arith
+
+more_than_none : (o : Option ℕ) → Some (one_more o) ≡ Some 0 → ⊥
+more_than_none None e = absurd cc
+more_than_none (Some n) e =
+    let same : one_more (Some n) ≡ 0 = ap occurrences e in
+    absurd (omega (arith, same))
+
+pub none_is : {X : Type 0} (o : Option X) → is_none o ≡ true → o ≡ None
+none_is None is = refl
+none_is (Some x) is = absurd cc
+
+pub some_is : {X : Type 0} (o : Option X) → is_none o ≡ false → IsSome o
+some_is None is = absurd cc
+some_is (Some x) is = refl
+
+module _ (ts : List Track) (blocks : List BlockRef) (u c : Counts) (is : AreCounts ts blocks u c) (t : Track) where
+  unused : u t.number ≡ None → has_number t.number ts ≡ false
+  unused none = ⊎_elim
+      (λ yes. absurd (omega (arith, times_number t.number ts yes, is.fresh_uses t.number, ap occurrences none)))
+      (λ no. no)
+      (number_cases (has_number t.number ts))
+
+  used : IsSome (u t.number) → has_number t.number ts ≡ true
+  used some = ⊎_elim
+      (λ yes. yes)
+      (λ no. absurd (omega (
+        arith,
+        times_no_number t.number ts no,
+        is.fresh_uses t.number,
+        not_free (u t.number) some (is.none_free t.number),
+      )))
+      (number_cases (has_number t.number ts))
+
+  module _ (u' : Counts) (set : SetsCount u u' t.number (Some (one_more (u t.number))))
+      (fresh : IsFreshCount (t.number ∷ numbers_of ts) u') where
+    still_used : (n : ℕ) → u' n ≡ Some 0 → ⊥
+    still_used n free = ⊎_elim
+        (λ same. more_than_none (u t.number) (sym set.here ∙ ap u' (sym same) ∙ free))
+        (λ ne. is.none_free n (sym (set.others n ne) ∙ free))
+        (cases_eq n t.number)
+
+    pub came_first : (c' : Counts) → u t.number ≡ None → Held c c' (layout_blocks t.layout)
+        → AreCounts (t ∷ ts) blocks u' c'
+    came_first c' none held = record {
+      fresh_uses = fresh;
+      none_free = still_used;
+      fresh_counts = λ id. omega (
+        arith,
+        held.counts id,
+        is.fresh_counts id,
+        times_counted id ts blocks,
+        times_counted id (t ∷ ts) blocks,
+        each_first id t ts (unused none),
+      );
+    }
+
+    pub came_again : IsSome (u t.number) → AreCounts (t ∷ ts) blocks u' c
+    came_again some = record {
+      fresh_uses = fresh;
+      none_free = still_used;
+      fresh_counts = λ id. omega (
+        arith,
+        is.fresh_counts id,
+        times_counted id ts blocks,
+        times_counted id (t ∷ ts) blocks,
+        each_again id t ts (used some),
+      );
+    }
+
+module _ (ts : List Track) (blocks : List BlockRef) (u c : Counts) (t : Track) (is : AreCounts
+    (t ∷ ts) blocks u c) where
+  pub is_used : IsNamed (u t.number)
+  is_used = named_of (u t.number) (omega (
+    arith,
+    is.fresh_uses t.number,
+    times_number t.number (t ∷ ts) (number_here t.number t ts refl),
+  ))
+
+  module _ (u1 : Counts) (set : SetsCount u u1 t.number (Some (one_less (u t.number))))
+      (fresh : IsFreshCount (numbers_of ts) u1) where
+    last : u1 t.number ≡ Some 0 → has_number t.number ts ≡ false
+    last free = ⊎_elim
+        (λ yes. absurd (omega (arith, times_number t.number ts yes, fresh t.number, ap occurrences free)))
+        (λ no. no)
+        (number_cases (has_number t.number ts))
+
+    pub has_last : u1 t.number ≡ Some 0 → HasAll c (layout_blocks t.layout)
+    has_last free = λ id. omega (
+      arith,
+      is.fresh_counts id,
+      times_counted id (t ∷ ts) blocks,
+      each_first id t ts (last free),
+    )
+
+    pub left_last : (u2 c' : Counts) → u1 t.number ≡ Some 0 → SetsCount u1 u2 t.number None
+        → IsFreshCount (numbers_of ts) u2 → Dropped c c' (layout_blocks t.layout) → AreCounts ts blocks u2 c'
+    left_last u2 c' free gone fresh2 dropped = record {
+      fresh_uses = fresh2;
+      none_free = λ n zero. ⊎_elim
+          (λ same. absurd (none_some (sym gone.here ∙ ap u2 (sym same) ∙ zero)))
+          (λ ne. is.none_free n (sym (set.others n ne) ∙ sym (gone.others n ne) ∙ zero))
+          (cases_eq n t.number);
+      fresh_counts = λ id. omega (
+        arith,
+        is.fresh_counts id,
+        times_counted id (t ∷ ts) blocks,
+        times_counted id ts blocks,
+        each_first id t ts (last free),
+        dropped.counts id,
+      );
+    }
+      where
+        none_some : {n : ℕ} → None ≡ Some n → ⊥
+        none_some e = absurd cc
+
+    pub left_used : (u1 t.number ≡ Some 0 → ⊥) → AreCounts ts blocks u1 c
+    left_used more =
+        let some : IsSome (u1 t.number) = subst IsSome (sym set.here) refl in
+        let there : has_number t.number ts ≡ true = ⊎_elim
+        (λ yes. yes)
+        (λ no. absurd (omega (
+          arith,
+          times_no_number t.number ts no,
+          fresh t.number,
+          not_free (u1 t.number) some more,
+        )))
+        (number_cases (has_number t.number ts)) in
+        record {
+          fresh_uses = fresh;
+          none_free = λ n zero. ⊎_elim
+              (λ same. more (ap u1 (sym same) ∙ zero))
+              (λ ne. is.none_free n (sym (set.others n ne) ∙ zero))
+              (cases_eq n t.number);
+          fresh_counts = λ id. omega (
+            arith,
+            is.fresh_counts id,
+            times_counted id (t ∷ ts) blocks,
+            times_counted id ts blocks,
+            each_again id t ts there,
+          );
+        }
+
+pub numbers_length : (ts : List Track) → length (numbers_of ts) ≡ length ts
+numbers_length [] = refl
+numbers_length (t ∷ ts) = omega (arith, numbers_length ts)
+
+pub true_false : true ≡ false → ⊥
+true_false e = absurd cc

@@ -1,0 +1,7 @@
+-- The tracks from a place on are used.
+use Rattle.std.proofs.Common.{drop}
+use Rattle.layout_uses.specs.Tallies.{Comes}
+use Rattle.layout_uses.proofs.tally.Tally.use_point.Given as goal
+
+abbrev pub invariant-loop-i : goal.invariant-loop-i
+invariant-loop-i l = Comes (drop l.i l.point) l.fn.self l.self

@@ -1,0 +1,63 @@
+-- What is counted: the uses of layouts, and how often each block is named.
+use Rattle.std.specs.Prelude.{◌≡◌, ◌↔◌, ℕ, ◌+◌, ◌^◌, ◌≤◌, ◌<◌, Some, IsSome, List, ◌++◌, length}
+use Rattle.pcm_base.specs.declared.block.BlockRef.{BlockRef}
+use Rattle.block_ledger.specs.Counts.{Counts, IsFreshCount, occurrences}
+use Rattle.block_ledger.specs.Entries.{count_of}
+use Rattle.project_state.specs.declared.track.Track.{Track}
+use Rattle.layout_uses.specs.declared.tally.Tally.{Tally}
+use Rattle.layout_uses.specs.Layouts.{AreDrawn, AreNumbered, numbers_of, used_blocks, track_blocks}
+use Rattle.layout_uses.specs.Occurrences.{ids_of, times_named}
+
+-- The uses are a fresh count over these tracks, and have no layout that is not used; the counts are a fresh count over
+-- the layouts so used, of each once, and over other blocks, as the clipboard's are.
+pub record AreCounts (tracks : List Track) (others : List BlockRef) (uses counts : Counts) : Type 0 where
+  pub fresh_uses : IsFreshCount (numbers_of tracks) uses
+  pub none_free : (n : ℕ) → uses n ≡ Some 0 → ⊥
+  pub fresh_counts : IsFreshCount (ids_of (used_blocks tracks ++ others)) counts
+
+abbrev pub IsTally : List Track → List BlockRef → Tally → Type 0
+IsTally tracks others t = AreCounts tracks others (count_of t.uses) (count_of t.ledger)
+
+-- the ledger has the same ids
+abbrev pub SameIds : Tally → Tally → Type 0
+SameIds old new = (id : ℕ) → IsSome (count_of new.ledger id) ↔ IsSome (count_of old.ledger id)
+
+-- these tracks are used once more
+pub record Comes (tracks : List Track) (old new : Tally) : Type 0 where
+  pub counted : (others : List Track) (blocks : List BlockRef) → length tracks + length others < 2 ^ 128
+      → IsTally others blocks old → IsTally (tracks ++ others) blocks new
+  pub ids : SameIds old new
+  pub most : (id : ℕ) → occurrences (count_of new.ledger id)
+      ≤ occurrences (count_of old.ledger id) + times_named id (track_blocks tracks)
+  pub room : old.uses.spare ≤ new.uses.spare + length tracks
+
+-- these tracks are counted, and others
+pub record Has (tracks : List Track) (t : Tally) : Type 0 where
+  pub others : List Track
+  pub blocks : List BlockRef
+  pub counted : IsTally (tracks ++ others) blocks t
+
+-- these tracks are used once less
+pub record Goes (tracks : List Track) (old new : Tally) : Type 0 where
+  pub counted : (others : List Track) (blocks : List BlockRef) → IsTally (tracks ++ others) blocks old
+      → IsTally others blocks new
+  pub ids : SameIds old new
+  pub room : new.uses.spare ≡ old.uses.spare
+
+-- these tracks may be used by points that come, where those are so far
+pub record MayBecome (came before : List Track) (t : Tally) : Type 0 where
+  pub others : List Track
+  pub blocks : List BlockRef
+  pub numbered : AreNumbered (came ++ (before ++ others))
+  pub few : length came + length (before ++ others) < 2 ^ 128
+  pub counted : IsTally (before ++ others) blocks t
+
+-- Some tracks are counted in the place of others, whatever else is counted; those that came agree with what was there.
+pub record Becomes (came before after : List Track) (old new : Tally) : Type 0 where
+  pub counted : (others : List Track) (blocks : List BlockRef) → AreNumbered (came ++ (before ++ others))
+      → length came + length (before ++ others) < 2 ^ 128
+      → IsTally (before ++ others) blocks old → IsTally (after ++ others) blocks new
+  pub numbered : (others : List Track) → AreNumbered (came ++ (before ++ others)) → AreNumbered (after ++ others)
+  pub drawn : (next : ℕ) (others : List Track) → AreDrawn next (came ++ (before ++ others))
+      → AreDrawn next (after ++ others)
+  pub ids : SameIds old new
