@@ -7,14 +7,9 @@
 //! is read or written here, and no level of frames is kept: the caller does that.
 #![tactic(auto)]
 
-mod bytes;
-mod chunks;
 mod frames;
-mod least;
-mod seen;
 mod squares;
 mod stretch;
 
-pub use bytes::{of_bytes, write_summed};
 pub use frames::{fill_long, frame, frames256, frames65536};
 pub use stretch::{NOTHING, Summary, all_fit, join, of};

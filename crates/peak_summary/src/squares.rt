@@ -1,9 +1,10 @@
 // The sum of the squares of samples, eight at a time.
-ghost use Rattle.std.specs.Prelude.{◌≡◌, ◌≤◌, ◌<◌, ◌^◌, ◌+◌, ◌*◌, length, map, sum_by, ℕ};
+ghost use Rattle.std.specs.Prelude.{◌≡◌, ◌≤◌, ◌<◌, ◌^◌, ◌+◌, ◌*◌, length, map, take, sum_by, ℕ};
 ghost use Rattle.peak_summary.specs.Peaks.{square as square_of, AreSamples};
 ghost use Rattle.std.specs.Simd.Lanes.{sum_l};
 ghost use Rattle.peak_summary.specs.Lanes.{AreAtMost, HasGrown};
 
+use super::stretch::all_fit;
 use std::simd::prelude::*;
 
 /// The squares of eight samples.
@@ -53,7 +54,7 @@ fn lane_sum(lanes: u32x4) -> u32
 }
 
 /// What the halves of sums stand for, which are small.
-pub(crate) fn both_halves(low: u32x4, high: u32x4) -> u64
+fn both_halves(low: u32x4, high: u32x4) -> u64
     requires low { AreAtMost (2 ^ 22) low }
     requires high { AreAtMost (2 ^ 22) high }
     requires four { (length low ≡ 4) × (length high ≡ 4) }
@@ -65,7 +66,7 @@ pub(crate) fn both_halves(low: u32x4, high: u32x4) -> u64
 /// Adds the squares of eight samples to the sums, of which there are two for each lane: of low halves, and of high
 /// ones.
 /// The sum of more than two squares does not fit 32 bits.
-pub(crate) fn add_eight(low: u32x4, high: u32x4, samples: &[i16]) -> (u32x4, u32x4)
+fn add_eight(low: u32x4, high: u32x4, samples: &[i16]) -> (u32x4, u32x4)
     requires eight { length samples.now ≡ 8 }
     requires fit { AreSamples samples.now }
     requires bound { AreAtMost (2 ^ 30) low × AreAtMost (2 ^ 30) high }
@@ -80,7 +81,7 @@ pub(crate) fn add_eight(low: u32x4, high: u32x4, samples: &[i16]) -> (u32x4, u32
 }
 
 /// As `add_eight`, of 32 samples.
-pub(crate) fn add_more(low: u32x4, high: u32x4, samples: &[i16]) -> (u32x4, u32x4)
+fn add_more(low: u32x4, high: u32x4, samples: &[i16]) -> (u32x4, u32x4)
     requires count { length samples.now ≡ 32 }
     requires fit { AreSamples samples.now }
     requires bound { AreAtMost (2 ^ 29) low × AreAtMost (2 ^ 29) high }
@@ -96,6 +97,20 @@ pub(crate) fn add_more(low: u32x4, high: u32x4, samples: &[i16]) -> (u32x4, u32x
     add_eight(low, high, &samples[24..])
 }
 
+/// The sum of the squares of 256 samples.
+fn chunk_squares(samples: &[i16]) -> u64
+    requires count { length samples.now ≡ 256 }
+    requires fit { AreSamples samples.now }
+    ensures { result ≡ sum_by square_of samples.now }
+{
+    let mut low = u32x4::splat(0);
+    let mut high = u32x4::splat(0);
+    for i in 0..8 {
+        (low, high) = add_more(low, high, &samples[32 * i..32 * i + 32]);
+    }
+    both_halves(low, high)
+}
+
 /// The square of a sample.
 fn square(sample: i16) -> u32
     ensures value { result ≡ square_of sample }
@@ -106,7 +121,7 @@ fn square(sample: i16) -> u32
 }
 
 /// The sum of the squares of a few samples, one by one.
-pub(crate) fn few_squares(samples: &[i16]) -> u64
+fn few_squares(samples: &[i16]) -> u64
     requires { length samples.now ≤ 256 }
     ensures { result ≡ sum_by square_of samples.now }
 {
@@ -115,4 +130,29 @@ pub(crate) fn few_squares(samples: &[i16]) -> u64
         sum += u64::from(square(*s));
     }
     sum
+}
+
+/// The sum of the squares of whole chunks of 256 samples.
+fn chunks_squares(samples: &[i16], chunks: usize) -> u64
+    requires few { length samples.now ≤ 2 ^ 32 }
+    requires within { 256 * chunks ≤ length samples.now }
+    requires fit { AreSamples samples.now }
+    ensures value { result ≡ sum_by square_of (take (256 * chunks) samples.now) }
+    ensures bound { result ≤ 2 ^ 62 }
+{
+    let mut sum = 0;
+    for i in 0..chunks {
+        sum += chunk_squares(&samples[256 * i..256 * i + 256]);
+    }
+    sum
+}
+
+/// The sum of the squares.
+pub(crate) fn sum_of_squares(samples: &[i16]) -> u64
+    requires { length samples.now ≤ 2 ^ 32 }
+    ensures { result ≡ sum_by square_of samples.now }
+{
+    all_fit(samples);
+    let chunks = samples.len() / 256;
+    chunks_squares(samples, chunks) + few_squares(&samples[256 * chunks..])
 }

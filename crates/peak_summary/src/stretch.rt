@@ -1,8 +1,9 @@
 // The summary of a stretch of samples, and of two that follow one another.
-ghost use Rattle.std.specs.Prelude.{◌≡◌, ◌≤◌, ◌^◌, ◌+◌, ◌++◌, length, List, ℤ};
+ghost use Rattle.std.specs.Prelude.{◌≡◌, ◌≤◌, ◌^◌, ◌+◌, ◌++◌, length, List, ℤ, fold};
+ghost use Rattle.std.specs.Int.{int_min, int_max};
 ghost use Rattle.peak_summary.specs.Peaks.{summary_of, scanned, joined, AreSamples};
 
-use super::chunks::measure_all;
+use super::squares::sum_of_squares;
 
 /// What is known of a stretch of samples. A summary of nothing has the count 0.
 #[derive(Clone, Copy, Debug, PartialEq, Eq)]
@@ -34,17 +35,31 @@ pub fn all_fit(samples: &[i16])
     }
 }
 
+/// The least and the greatest of the samples and a first one.
+fn extremes(first: i16, samples: &[i16]) -> (i16, i16)
+    ensures min { result.0 ≡ fold int_min first samples.now }
+    ensures max { result.1 ≡ fold int_max first samples.now }
+{
+    let mut min = first;
+    let mut max = first;
+    for s in samples {
+        min = min.min(*s);
+        max = max.max(*s);
+    }
+    (min, max)
+}
+
 // As `of`, whose other clause is a law on what this one says.
 fn measured(samples: &[i16]) -> Summary
     requires { length samples.now ≤ 2 ^ 32 }
     ensures { result ≡ summary_of samples.now }
 {
     let first = if samples.is_empty() { 0 } else { samples[0] };
-    let measure = measure_all(first, samples);
+    let (min, max) = extremes(first, samples);
     Summary {
-        min: measure.min,
-        max: measure.max,
-        squares: measure.squares,
+        min,
+        max,
+        squares: sum_of_squares(samples),
         count: samples.len() as u64,
     }
 }

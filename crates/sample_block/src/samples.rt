@@ -5,7 +5,7 @@ ghost use Rattle.peak_summary.specs.Peaks.{frame_count, frame_of};
 ghost use Rattle.sample_block.specs.Faults.{samples_in};
 
 use byteorder::{ByteOrder, LittleEndian};
-use peak_summary::{Summary, of, of_bytes};
+use peak_summary::{Summary, of};
 use std::alloc::AllocError;
 
 /// The samples from a place on.
@@ -30,8 +30,8 @@ fn read_frame<'a>(bytes: &[u8], len: usize, i: usize, room: &'a mut [i16; 256]) 
     samples
 }
 
-/// The summary of the samples of frame `i` of 256, which may be short, in a file of `len` samples.
-fn last_frame(bytes: &[u8], len: usize, i: usize) -> Summary
+/// The summary of the samples of frame `i` of 256, in a file of `len` samples.
+pub(crate) fn short_frame(bytes: &[u8], len: usize, i: usize) -> Summary
     requires few { len ≤ MAX_BLOCK_SAMPLES }
     requires whole { 16 + 2 * len ≤ length bytes.now }
     requires within { i < frame_count 256 len }
@@ -39,20 +39,6 @@ fn last_frame(bytes: &[u8], len: usize, i: usize) -> Summary
 {
     let mut room = [0i16; 256];
     of(read_frame(bytes, len, i, &mut room))
-}
-
-/// The summary of the samples of frame `i` of 256, in a file of `len` samples. A whole frame is summed as its bytes are
-/// read.
-pub(crate) fn short_frame(bytes: &[u8], len: usize, i: usize) -> Summary
-    requires few { len ≤ MAX_BLOCK_SAMPLES }
-    requires whole { 16 + 2 * len ≤ length bytes.now }
-    requires within { i < frame_count 256 len }
-    ensures { result ≡ frame_of 256 (samples_in bytes.now 16 len) i }
-{
-    if len < 256 * i + 256 {
-        return last_frame(bytes, len, i);
-    }
-    of_bytes(&bytes[16 + 512 * i..528 + 512 * i])
 }
 
 /// Appends the samples of frame `i` of 256, and returns their summary. The file has `len` samples.

@@ -4,14 +4,14 @@ ghost use Rattle.std.specs.Prelude.{vec_len, IsOk};
 ghost use Rattle.std.specs.Prelude.{OnOk, OnErr};
 ghost use Rattle.std.specs.List.{flat_map};
 ghost use Rattle.pcm_base.specs.declared.limits.TheConstants.{MAX_BLOCK_SAMPLES};
-ghost use Rattle.peak_summary.specs.Peaks.{frame_count, frames_of, summary_of};
+ghost use Rattle.peak_summary.specs.Peaks.{frame_count, frames_of};
 ghost use Rattle.sample_block.specs.Spelling.{IsBlock, IsSpelled, spelling, size_of, field_bytes, frame_fields};
 ghost use Rattle.sample_block.specs.Spelling.{header_fields, body_fields, sample_bytes};
 
 use super::levels::{LONG_FRAME, MAX_LONG_FRAMES, MAX_SHORT_FRAMES};
 use byteorder::{ByteOrder, LittleEndian};
 use pcm_base::NoMemory;
-use peak_summary::{NOTHING, Summary, all_fit, fill_long, of, write_summed};
+use peak_summary::{NOTHING, Summary, all_fit, fill_long, of};
 
 /// The size in bytes of the file of a block of `count` samples, at most 262,144.
 pub fn file_size(count: usize) -> usize
@@ -72,22 +72,7 @@ fn frame_samples(samples: &[i16], i: usize) -> &[i16]
     &samples[256 * i..256 * i + count]
 }
 
-/// The samples of one frame of 256, which may be short, and their summary. Those of a whole frame are summed as they are
-/// written.
-fn write_part(part: &[i16], out: &mut [u8]) -> Summary
-    requires few { length part.now ≤ 256 }
-    requires room { length out.old ≡ 2 * length part.now }
-    ensures written { out.new ≡ flat_map sample_bytes part.now }
-    ensures summary { result ≡ summary_of part.now }
-{
-    if part.len() == 256 {
-        return write_summed(part, out);
-    }
-    LittleEndian::write_i16_into(part, out);
-    of(part)
-}
-
-/// The samples, and their frames of 256.
+/// The samples, and their frames of 256. Those of a frame are written and then summed, while they are near.
 fn write_samples(samples: &[i16], out: &mut [u8], short: &mut [Summary])
     requires few { length samples.now ≤ MAX_BLOCK_SAMPLES }
     requires room { length out.old ≡ 2 * length samples.now }
@@ -97,7 +82,8 @@ fn write_samples(samples: &[i16], out: &mut [u8], short: &mut [Summary])
 {
     for i in 0..short.len() {
         let part = frame_samples(samples, i);
-        short[i] = write_part(part, &mut out[512 * i..512 * i + 2 * part.len()]);
+        LittleEndian::write_i16_into(part, &mut out[512 * i..512 * i + 2 * part.len()]);
+        short[i] = of(part);
     }
 }
 

@@ -15,8 +15,8 @@ use Rattle.peak_summary.specs.declared.stretch.Summary.{Summary}
 use Rattle.sample_block.specs.Spelling.{sample_bytes}
 use Rattle.sample_block.proofs.writing.write_samples.Goals as goal
 
-pub slice_bounds-write_part-end : goal.slice_bounds-write_part-end
-slice_bounds-write_part-end c = omega (arith, c.frame_samples-part.ensures.count, c.requires, c.loop-i.auto.out)
+pub slice_bounds-write_i16_into-end : goal.slice_bounds-write_i16_into-end
+slice_bounds-write_i16_into-end c = omega (arith, c.frame_samples-part.ensures.count, c.requires, c.loop-i.auto.out)
 
 put_long : (i k : ℕ) (out dst : List ℕ) → k ≡ length dst → i + k ≤ length out
     → length (put_mid i k out dst) ≡ length out
@@ -74,22 +74,22 @@ loop-i-preserved c =
     let n : ℕ = length c.frame_samples-part.result.now in
     let all : ℕ = length c.args.samples.now in
     record {
-      written = bytes_put i (512 * i + 2 * n - 512 * i) n all c.loop-i.out c.write_part.new.out
+      written = bytes_put i (512 * i + 2 * n - 512 * i) n all c.loop-i.out c.write_i16_into.new.dst
           c.frame_samples-part.ensures.count (omega (arith, c.requires.count, c.loop-i-test.true))
           (omega (arith, c.requires.room, c.loop-i.auto.out)) (omega (
             arith,
-            c.write_part.auto.out,
+            c.write_i16_into.auto.dst,
             length-take (512 * i + 2 * n - 512 * i) (drop (512 * i) c.loop-i.out),
             length-drop (512 * i) c.loop-i.out,
             c.requires.room,
             c.loop-i.auto.out,
             c.frame_samples-part.ensures.count,
           )) (omega arith)
-          ∙ ap (λ (ys : List ℕ). ys ++ c.write_part.new.out) c.loop-i.invariant.written
+          ∙ ap (λ (ys : List ℕ). ys ++ c.write_i16_into.new.dst) c.loop-i.invariant.written
           ∙ ap (λ (ys : List ℕ). flat_map sample_bytes (take (256 * i) c.args.samples.now) ++ ys)
-          c.write_part.ensures.written
+          c.write_i16_into.ensures
           ∙ samples_more c.args.samples.now i c.frame_samples-part.result.now c.frame_samples-part.ensures.value;
-      stored = frame_more c.args.samples.now c.loop-i.short i c.write_part.result c.frame_samples-part.result.now
+      stored = frame_more c.args.samples.now c.loop-i.short i c.of.result c.frame_samples-part.result.now
           (omega (arith, c.loop-i-test.true, c.loop-i.auto.short)) c.frame_samples-part.ensures.value
-          c.write_part.ensures.summary c.loop-i.invariant.stored;
+          c.of.ensures.exact c.loop-i.invariant.stored;
     }
